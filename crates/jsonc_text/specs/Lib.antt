@@ -1,0 +1,16 @@
+pub mod Options
+pub mod Text
+pub mod Gaps
+pub mod Letters
+pub mod Words
+pub mod Numbers
+pub mod Strings
+pub mod Lexemes
+pub mod Plain
+pub mod Grammar
+pub mod Places
+pub mod OptionsOf
+pub mod Messages
+pub mod Faults
+pub mod Tokens
+pub mod Scanner

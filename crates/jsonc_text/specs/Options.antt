@@ -1,0 +1,26 @@
+-- What a text may hold beyond JSON (RFC 8259). Most of it is JSON5's.
+use Rattle.std.specs.Prelude.{Bool, true, false}
+
+pub record Options : Type 0 where
+  pub single_quoted_strings : Bool
+  pub hexadecimal_numbers : Bool
+  pub unary_plus_numbers : Bool
+  pub bare_decimal_points : Bool
+  pub non_finite_numbers : Bool
+  pub extended_escapes : Bool
+  pub comments : Bool
+  pub loose_names : Bool
+  pub trailing_commas : Bool
+  pub missing_commas : Bool
+
+-- all of it
+abbrev pub all_on : Options
+all_on = record { single_quoted_strings = true; hexadecimal_numbers = true; unary_plus_numbers = true; bare_decimal_points = true; non_finite_numbers = true; extended_escapes = true; comments = true; loose_names = true; trailing_commas = true; missing_commas = true }
+
+-- nothing of it: JSON, save that the blanks are more and a string may hold control characters
+abbrev pub plain_json : Options
+plain_json = record { single_quoted_strings = false; hexadecimal_numbers = false; unary_plus_numbers = false; bare_decimal_points = false; non_finite_numbers = false; extended_escapes = false; comments = false; loose_names = false; trailing_commas = false; missing_commas = false }
+
+-- o without missing commas
+abbrev pub with_commas : Options → Options
+with_commas o = record o { missing_commas = false }

@@ -1,0 +1,233 @@
+//! What can be wrong with a text, and where.
+ghost use Rattle.std.specs.Prelude.{◌≡◌, ◌++◌, Some};
+ghost use Rattle.std.specs.Fmt.{decimal};
+ghost use Rattle.std.specs.Prelude.{codes};
+ghost use Rattle.jsonc_text.specs.Messages.{string_kind_text, kind_text, surrogate_text, error_text};
+
+use crate::common::Range;
+use std::fmt;
+
+/// Why an escape is no character.
+#[derive(Clone, Copy, Debug, PartialEq, Eq, Drop)]
+pub enum SurrogateFault {
+    UnpairedHighSurrogate,
+    HighSurrogateNotFollowedByLowSurrogate,
+    UnpairedLowSurrogate,
+}
+
+impl SurrogateFault {
+    fn text(&self) -> &'static str
+        ensures { result.now ≡ surrogate_text self.now }
+    {
+        match self {
+            SurrogateFault::UnpairedHighSurrogate => "unpaired high surrogate",
+            SurrogateFault::HighSurrogateNotFollowedByLowSurrogate => {
+                "high surrogate not followed by low surrogate"
+            }
+            SurrogateFault::UnpairedLowSurrogate => "unpaired low surrogate",
+        }
+    }
+}
+
+/// What is wrong with a string.
+#[derive(Clone, Copy, Debug, PartialEq, Eq, Drop)]
+pub enum ParseStringErrorKind {
+    InvalidEscapeInSingleQuoteString,
+    InvalidEscapeInDoubleQuoteString,
+    ExpectedFourHexDigits,
+    ExpectedTwoHexDigits,
+    InvalidUnicodeEscapeSequence([u8; 4], SurrogateFault),
+    InvalidEscape,
+    UnterminatedStringLiteral,
+    OutOfMemory,
+}
+
+impl fmt::Display for ParseStringErrorKind {
+    ghost output = { λ k. Some (string_kind_text k) };
+
+    fn fmt<W: fmt::Write>(&self, f: &mut fmt::Formatter<W>) -> fmt::Result {
+        match self {
+            ParseStringErrorKind::InvalidEscapeInSingleQuoteString => f.write_str(
+                "Invalid escape in single quote string",
+            ),
+            ParseStringErrorKind::InvalidEscapeInDoubleQuoteString => f.write_str(
+                "Invalid escape in double quote string",
+            ),
+            ParseStringErrorKind::ExpectedFourHexDigits => f.write_str("Expected four hex digits"),
+            ParseStringErrorKind::ExpectedTwoHexDigits => f.write_str("Expected two hex digits"),
+            ParseStringErrorKind::InvalidUnicodeEscapeSequence(digits, fault) => {
+                let [a, b, c, d] = *digits;
+                let digits = (a as char, b as char, c as char, d as char);
+                let reason = fault.text();
+                write!(
+                    f,
+                    "Invalid unicode escape sequence. '{}{}{}{} ({reason})' is not a valid UTF8 character",
+                    digits.0, digits.1, digits.2, digits.3
+                )
+            }
+            ParseStringErrorKind::InvalidEscape => f.write_str("Invalid escape"),
+            ParseStringErrorKind::UnterminatedStringLiteral => f.write_str(
+                "Unterminated string literal",
+            ),
+            ParseStringErrorKind::OutOfMemory => f.write_str("Out of memory"),
+        }
+    }
+}
+
+/// What is wrong with a text.
+#[derive(Clone, Copy, Debug, PartialEq, Eq, Drop)]
+pub enum ParseErrorKind {
+    BareDecimalPointNumbersNotAllowed,
+    CommentsNotAllowed,
+    ExpectedColonAfterObjectKey,
+    ExpectedObjectValue,
+    ExpectedDigit,
+    ExpectedDigitFollowingNegativeSign,
+    ExpectedPlusMinusOrDigitInNumberLiteral,
+    ExpectedStringObjectProperty,
+    HexadecimalNumbersNotAllowed,
+    ExpectedComma,
+    MultipleRootJsonValues,
+    NonFiniteNumbersNotAllowed,
+    SingleQuotedStringsNotAllowed,
+    String(ParseStringErrorKind),
+    TrailingCommasNotAllowed,
+    UnaryPlusNumbersNotAllowed,
+    UnexpectedCloseBrace,
+    UnexpectedCloseBracket,
+    UnexpectedColon,
+    UnexpectedComma,
+    UnexpectedToken,
+    UnexpectedTokenInObject,
+    UnexpectedWord,
+    UnterminatedArray,
+    UnterminatedCommentBlock,
+    UnterminatedObject,
+    NestingDepthExceeded,
+    OutOfMemory,
+}
+
+impl fmt::Display for ParseErrorKind {
+    ghost output = { λ k. Some (kind_text k) };
+
+    fn fmt<W: fmt::Write>(&self, f: &mut fmt::Formatter<W>) -> fmt::Result {
+        match self {
+            ParseErrorKind::BareDecimalPointNumbersNotAllowed => f.write_str(
+                "Leading or trailing decimal points on numbers are not allowed",
+            ),
+            ParseErrorKind::CommentsNotAllowed => f.write_str("Comments are not allowed"),
+            ParseErrorKind::ExpectedColonAfterObjectKey => f.write_str(
+                "Expected colon after the string or word in object property",
+            ),
+            ParseErrorKind::ExpectedObjectValue => f.write_str(
+                "Expected value after colon in object property",
+            ),
+            ParseErrorKind::ExpectedDigit => f.write_str("Expected digit"),
+            ParseErrorKind::ExpectedDigitFollowingNegativeSign => f.write_str(
+                "Expected digit following negative sign",
+            ),
+            ParseErrorKind::ExpectedPlusMinusOrDigitInNumberLiteral => f.write_str(
+                "Expected plus, minus, or digit in number literal",
+            ),
+            ParseErrorKind::ExpectedStringObjectProperty => f.write_str(
+                "Expected string for object property",
+            ),
+            ParseErrorKind::HexadecimalNumbersNotAllowed => f.write_str(
+                "Hexadecimal numbers are not allowed",
+            ),
+            ParseErrorKind::ExpectedComma => f.write_str("Expected comma"),
+            ParseErrorKind::MultipleRootJsonValues => f.write_str(
+                "Text cannot contain more than one JSON value",
+            ),
+            ParseErrorKind::NonFiniteNumbersNotAllowed => f.write_str(
+                "Infinity and NaN are not allowed",
+            ),
+            ParseErrorKind::SingleQuotedStringsNotAllowed => f.write_str(
+                "Single-quoted strings are not allowed",
+            ),
+            ParseErrorKind::String(kind) => kind.fmt(f),
+            ParseErrorKind::TrailingCommasNotAllowed => f.write_str(
+                "Trailing commas are not allowed",
+            ),
+            ParseErrorKind::UnaryPlusNumbersNotAllowed => f.write_str(
+                "Unary plus on numbers is not allowed",
+            ),
+            ParseErrorKind::UnexpectedCloseBrace => f.write_str("Unexpected close brace"),
+            ParseErrorKind::UnexpectedCloseBracket => f.write_str("Unexpected close bracket"),
+            ParseErrorKind::UnexpectedColon => f.write_str("Unexpected colon"),
+            ParseErrorKind::UnexpectedComma => f.write_str("Unexpected comma"),
+            ParseErrorKind::UnexpectedToken => f.write_str("Unexpected token"),
+            ParseErrorKind::UnexpectedTokenInObject => f.write_str("Unexpected token in object"),
+            ParseErrorKind::UnexpectedWord => f.write_str("Unexpected word"),
+            ParseErrorKind::UnterminatedArray => f.write_str("Unterminated array"),
+            ParseErrorKind::UnterminatedCommentBlock => f.write_str("Unterminated comment block"),
+            ParseErrorKind::UnterminatedObject => f.write_str("Unterminated object"),
+            ParseErrorKind::NestingDepthExceeded => f.write_str("Maximum nesting depth exceeded"),
+            ParseErrorKind::OutOfMemory => f.write_str("Out of memory"),
+        }
+    }
+}
+
+/// A fault of a text, and where it is.
+#[derive(Debug, Drop)]
+pub struct ParseError {
+    range: Range,
+    line_display: usize,
+    column_display: usize,
+    kind: ParseErrorKind,
+}
+
+impl fmt::Display for ParseError {
+    ghost output = { λ e. Some (error_text e) };
+
+    fn fmt<W: fmt::Write>(&self, f: &mut fmt::Formatter<W>) -> fmt::Result {
+        let kind = self.kind;
+        let line = self.line_display;
+        let column = self.column_display;
+        write!(f, "{kind} on line {line} column {column}")
+    }
+}
+
+impl ParseError {
+    ghost use Rattle.jsonc_text.specs.Faults.{range_of, line_of, column_of, kind_of, IsFault, IsOutOfMemory};
+
+    /// The bytes of the text that the fault is told of.
+    pub fn range(&self) -> Range
+        ensures { result ≡ range_of self.now }
+    {
+        self.range
+    }
+
+    /// The line of the range's start, counted from 1.
+    pub fn line_display(&self) -> usize
+        ensures { result ≡ line_of self.now }
+    {
+        self.line_display
+    }
+
+    /// The column of the range's start in characters, counted from 1.
+    pub fn column_display(&self) -> usize
+        ensures { result ≡ column_of self.now }
+    {
+        self.column_display
+    }
+
+    /// What is wrong there.
+    pub fn kind(&self) -> &ParseErrorKind
+        ensures { result.now ≡ kind_of self.now }
+    {
+        &self.kind
+    }
+
+    /// Want of memory, which is told of no bytes.
+    pub fn out_of_memory() -> ParseError
+        ensures { IsOutOfMemory result }
+    {
+        ParseError {
+            range: Range { start: 0, end: 0 },
+            line_display: 1,
+            column_display: 1,
+            kind: ParseErrorKind::OutOfMemory,
+        }
+    }
+}
