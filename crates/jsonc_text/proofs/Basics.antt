@@ -55,6 +55,10 @@ pub no_front : (p : ℕ → Bool) (s r : List ℕ) {t : List ℕ} → t ≡ s ++
 no_front p [] r e h = refl
 no_front p (c ∷ s) r e h = rw e at h
 
+pub no_starts : (p : ℕ → Bool) (n : Option ℕ) → IsTrue (no p n) → IsTrue (starts p n) → ⊥
+no_starts p None g h = cc
+no_starts p (Some c) g h = clash (p c) g h
+
 pub starts_also : (p q : ℕ → Bool) → ((c : ℕ) → IsTrue (p c) → IsTrue (q c)) → (n : Option ℕ) → IsTrue (starts p n) → IsTrue (starts q n)
 starts_also p q f None h = h
 starts_also p q f (Some c) h = f c h

@@ -11,3 +11,5 @@ pub mod UniqueLexemes
 pub mod UniqueValues
 pub mod Nesting
 pub mod BlockComments
+pub mod NumberFrames
+pub mod SameOptions

@@ -1,6 +1,6 @@
 //! Laws of the definitions: each is the contract of a function that does nothing.
 ghost use Rattle.std.specs.Prelude.{◌≡◌, ◌≤◌, ◌↔◌, ◌++◌, ◌∷◌, List, ℕ, Option};
-ghost use Rattle.jsonc_text.specs.Options.{Options};
+ghost use Rattle.jsonc_text.specs.Options.{Options, AgreeOnLexemes};
 ghost use Rattle.jsonc_text.specs.Gaps.{BlockComment, HasNoEndInside};
 ghost use Rattle.jsonc_text.specs.Numbers.{Number, NumberLit, MayFollow};
 ghost use Rattle.jsonc_text.specs.Strings.{Pieces, Decodes};
@@ -37,5 +37,17 @@ pub fn block_comment_ends_first()
 pub fn strings_end_at_their_quote()
     ensures anywhere { (o : Options) (q : ℕ) (s v r : List ℕ) → Decodes o q s v ↔ Pieces o q (s ++ q ∷ r) v (q ∷ r) }
     ensures text { (o : Options) (q : ℕ) (t v r : List ℕ) → Pieces o q t v (q ∷ r) → (s : List ℕ) × (t ≡ s ++ q ∷ r) × Decodes o q s v }
+{
+}
+
+/// A number at the front of a text is a text that is a number by itself, before what may follow that text.
+pub fn numbers_end_at_their_followers()
+    ensures { (o : Options) (s r : List ℕ) → Number o (s ++ r) r ↔ NumberLit o s × MayFollow s r }
+{
+}
+
+/// Options that agree on what lexemes look at have the same lexemes.
+pub fn lexemes_look_at_six_options()
+    ensures { (o p : Options) (w : Scanned) (t r : List ℕ) → AgreeOnLexemes o p → IsScanned o w t r → IsScanned p w t r }
 {
 }
