@@ -13,3 +13,7 @@ pub mod Nesting
 pub mod BlockComments
 pub mod NumberFrames
 pub mod SameOptions
+pub mod UniqueTokens
+pub mod Rows
+pub mod RowsRefused
+pub mod RowsPlaces

@@ -112,7 +112,7 @@ module _ (o : Options) where
   name_begins {name} {t} {r} (inl l) = item_begins t (lexeme_begins o (LexemeKind.string name) t r tt l)
   name_begins {name} {t} {r} (inr l) = item_begins t (lexeme_begins o l.2 t r (name_is_literal l.2 l.3) l.4)
 
-  properties_begin : {ms : Members} {t r : List ℕ} → AreProperties o t ms r → IsTrue (starts begins_item (next t))
+  pub properties_begin : {ms : Members} {t r : List ℕ} → AreProperties o t ms r → IsTrue (starts begins_item (next t))
   properties_begin (last_property (named n g h v) c) = name_begins n
   properties_begin (property (named n g h v) s e) = name_begins n
 

@@ -9,6 +9,8 @@ pub mod Lexemes
 pub mod Plain
 pub mod Grammar
 pub mod Places
+pub mod Laws
+pub mod Rows
 pub mod OptionsOf
 pub mod Messages
 pub mod Faults
