@@ -1,8 +1,8 @@
 -- With which characters a lexeme of each kind begins.
-use Rattle.std.proofs.Common.{ℕ, ◌≡◌, ◌<◌, ◌≤◌, Bool, true, false, not, ◌||◌, ◌&&◌, ◌==◌, refl, List, [], ◌∷◌, ◌++◌, Option, Some, None, IsTrue, arith, inl, inr, ◌⊎◌, nat_lt, codes}
+use Rattle.std.proofs.Common.{ℕ, ◌≡◌, ◌<◌, ◌≤◌, Bool, true, false, not, ◌||◌, ◌&&◌, ◌==◌, refl, List, ◌++◌, Option, IsTrue, arith, inl, inr}
 use Rattle.std.specs.Int.{is_in_range}
 use Rattle.jsonc_text.specs.Options.{Options}
-use Rattle.jsonc_text.specs.Text.{next, no, starts, is_digit, is_ascii_letter}
+use Rattle.jsonc_text.specs.Text.{next, starts, is_digit, is_ascii_letter}
 use Rattle.jsonc_text.specs.Gaps.{is_blank}
 use Rattle.jsonc_text.specs.Letters.{is_wide_letter}
 use Rattle.jsonc_text.specs.Words.{Keyword, IsKeyword, WordLit, begins_word, boolean, null}

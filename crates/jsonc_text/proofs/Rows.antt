@@ -1,22 +1,18 @@
 -- Worked rows on lexemes and documents.
-use Rattle.std.proofs.Common.{ℕ, ◌≡◌, ◌≢◌, ◌∙◌, sym, Bool, true, false, not, ◌==◌, refl, List, [], ◌∷◌, ◌++◌, Option, Some, None, IsTrue, codes, ap, drop, inl, inr}
+use Rattle.std.proofs.Common.{ℕ, ◌≡◌, Bool, true, false, refl, List, [], ◌∷◌, ◌++◌, Some, IsTrue, codes, ap, drop, inl, inr}
 use Rattle.jsonc_text.specs.Options.{Options, all_on}
-use Rattle.jsonc_text.specs.Text.{next, no, starts, Many, stop, step, AllOf, all_of}
+use Rattle.jsonc_text.specs.Text.{Many, stop, step, all_of}
 use Rattle.jsonc_text.specs.Gaps.{Gap, IsComment, LineComment, BlockComment, UpToBlockEnd}
 use Rattle.jsonc_text.specs.Letters.{is_wide_letter}
-use Rattle.jsonc_text.specs.Words.{Keyword, IsKeyword, WordLit, EndsWord, is_in_word}
+use Rattle.jsonc_text.specs.Words.{Keyword, IsKeyword}
 use Rattle.jsonc_text.specs.Numbers.{Sign, Whole, Fraction, Exponent, Unsigned, Number}
 use Rattle.jsonc_text.specs.Strings.{Piece, Pieces, Decodes}
 use Rattle.jsonc_text.specs.Lexemes.{LexemeKind, Lexeme, is_punctuation}
-use Rattle.jsonc_text.specs.Plain.{Plain, Items, no_items, item, Members, no_members, member}
-use Rattle.jsonc_text.specs.Grammar.{IsDocument, IsValue, AreElements, AreProperties, IsProperty, IsName, Separates, Closes}
+use Rattle.jsonc_text.specs.Grammar.{IsDocument, IsValue, AreElements, AreProperties, IsProperty, Separates, Closes}
 use Rattle.jsonc_text.specs.Rows.{five_five, infinity_x, clef_escaped, low_escaped}
 use Rattle.jsonc_text.proofs.Basics.{clash, apart, heads, tails}
-use Rattle.jsonc_text.proofs.UniqueGaps.{many_unique, gap_unique}
-use Rattle.jsonc_text.proofs.UniqueWords.{word_run, ends_word}
 use Rattle.jsonc_text.proofs.UniqueLexemes.{lexeme_unique}
-use Rattle.jsonc_text.proofs.UniqueValues.{not_gap, gap_after, no_item_at, no_literal, value_begins, elements_begin, properties_begin, value_unique}
-use Rattle.jsonc_text.proofs.Begins.{begins_item, string_begins, keyword_begins, word_begins}
+use Rattle.jsonc_text.proofs.Begins.{string_begins, keyword_begins, word_begins}
 
 no_tail : {c : ℕ} {t : List ℕ} → c ∷ t ≡ [] → ⊥
 no_tail e = cc

@@ -1,5 +1,5 @@
 -- Worked rows on places.
-use Rattle.std.proofs.Common.{ℕ, ◌≡◌, refl, List, [], ◌∷◌, ◌++◌, codes}
+use Rattle.std.proofs.Common.{refl, [], ◌∷◌, ◌++◌, codes}
 use lib.Utf8.{encode}
 use Rattle.jsonc_text.specs.Places.{LineColumn}
 use Rattle.jsonc_text.specs.Rows.{accented, after_carriage_return}

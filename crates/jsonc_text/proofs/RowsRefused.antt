@@ -1,7 +1,7 @@
 -- Worked rows: texts that are no documents.
-use Rattle.std.proofs.Common.{ℕ, ◌≡◌, ◌∙◌, sym, Bool, true, false, not, ◌==◌, refl, List, [], ◌∷◌, ◌++◌, Option, Some, None, IsTrue, codes, inl, inr}
+use Rattle.std.proofs.Common.{ℕ, ◌≡◌, true, false, not, refl, List, [], ◌∷◌, ◌++◌, Option, Some, None, IsTrue, codes, inl, inr}
 use Rattle.jsonc_text.specs.Options.{Options}
-use Rattle.jsonc_text.specs.Text.{next, no, starts, Many, stop, step}
+use Rattle.jsonc_text.specs.Text.{next, starts, Many, stop, step}
 use Rattle.jsonc_text.specs.Gaps.{Gap}
 use Rattle.jsonc_text.specs.Letters.{is_wide_letter}
 use Rattle.jsonc_text.specs.Words.{WordLit, EndsWord, is_in_word}

@@ -1,7 +1,7 @@
 -- A text has at most one list of lexemes and comments with their places, and so of gaps.
-use Rattle.std.proofs.Common.{ℕ, ◌+◌, ◌≡◌, ◌∙◌, sym, ap, Bool, true, false, not, cond, ◌||◌, ◌==◌, refl, List, [], ◌∷◌, ◌++◌, IsTrue, arith, inl, inr}
+use Rattle.std.proofs.Common.{ℕ, ◌≡◌, ◌∙◌, sym, ap, Bool, true, false, not, cond, ◌||◌, ◌==◌, refl, List, [], ◌∷◌, IsTrue, inl, inr}
 use Rattle.jsonc_text.specs.Options.{Options}
-use Rattle.jsonc_text.specs.Text.{next, no, starts, byte_length}
+use Rattle.jsonc_text.specs.Text.{next, starts, byte_length}
 use Rattle.jsonc_text.specs.Gaps.{is_blank}
 use Rattle.jsonc_text.specs.Lexemes.{LexemeKind, Lexeme, Scanned, lexeme, line_comment, block_comment, IsScanned, is_punctuation}
 use Rattle.jsonc_text.specs.Places.{Placed, placed_at, AreTokens, no_more, blank, one, CommentGap, Gaps, gaps_of}

@@ -1,10 +1,10 @@
 -- A word and a keyword end at one place, and no word is a keyword.
-use Rattle.std.proofs.Common.{ℕ, ◌≡◌, ◌∙◌, ◌<◌, sym, ap, Bool, true, false, not, ◌||◌, ◌&&◌, ◌==◌, refl, List, [], ◌∷◌, ◌++◌, append_assoc, Option, Some, None, IsTrue, arith, inl, inr, ◌⊎◌, nat_lt, codes}
+use Rattle.std.proofs.Common.{ℕ, ◌≡◌, ◌∙◌, ◌<◌, sym, ap, Bool, true, false, not, ◌||◌, ◌&&◌, ◌==◌, refl, List, [], ◌∷◌, ◌++◌, append_assoc, Option, Some, None, IsTrue, arith, inl, inr, nat_lt}
 use Rattle.jsonc_text.specs.Options.{Options}
-use Rattle.jsonc_text.specs.Text.{next, no, end_or, Many, stop, step}
+use Rattle.jsonc_text.specs.Text.{next, no, Many, stop, step}
 use Rattle.jsonc_text.specs.Gaps.{is_blank}
 use Rattle.jsonc_text.specs.Letters.{is_wide_letter}
-use Rattle.jsonc_text.specs.Words.{Keyword, IsKeyword, WordLit, EndsWord, EndsThere, EndsWhole, is_in_word, begins_word, goes_on, keyword_text, boolean, null}
+use Rattle.jsonc_text.specs.Words.{Keyword, IsKeyword, WordLit, EndsWord, is_in_word, goes_on, keyword_text, boolean, null}
 use Rattle.jsonc_text.proofs.Basics.{clash, or_cases, and_both, test_eq, apart, tails, text_same, no_front}
 use Rattle.jsonc_text.proofs.UniqueGaps.{many_unique}
 use Rattle.jsonc_text.proofs.WideBlanks.{blank_not_wide}

@@ -1,5 +1,5 @@
 -- Laws of the definitions: what is said of each text, option or piece.
-use Rattle.std.specs.Prelude.{ℕ, ◌≡◌, ◌↔◌, List, [], ◌∷◌, ◌++◌, Option}
+use Rattle.std.specs.Prelude.{ℕ, ◌≡◌, ◌↔◌, List, ◌∷◌, ◌++◌, Option}
 use Rattle.jsonc_text.specs.Options.{Options}
 use Rattle.jsonc_text.specs.Strings.{Pieces, Decodes}
 use Rattle.jsonc_text.specs.Lexemes.{Scanned, IsScanned}

@@ -1,5 +1,5 @@
 -- The values and texts of worked rows.
-use Rattle.std.specs.Prelude.{ℕ, List, [], ◌∷◌, ◌++◌, codes}
+use Rattle.std.specs.Prelude.{ℕ, List, ◌∷◌, ◌++◌, codes}
 use Rattle.jsonc_text.specs.Plain.{Plain, item, no_items, member, no_members}
 
 -- an array of the numbers `5.` and `.5`
