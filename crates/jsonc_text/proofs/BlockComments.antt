@@ -46,6 +46,7 @@ no_front_end c (d ∷ s) r n = decide (c == 0x2A && d == 0x2F) (λ h. let k = an
     decide : (b : Bool) → (IsTrue b → ⊥) → IsTrue (not b)
     decide true f = absurd (f refl)
     decide false f = refl
+
     ends : c ≡ 0x2A → d ≡ 0x2F → ⊥
     ends e f =
         let k : c ∷ d ∷ (s ++ 0x2A ∷ 0x2F ∷ []) ≡ 0x2A ∷ 0x2F ∷ (s ++ 0x2A ∷ 0x2F ∷ []) = cc in

@@ -31,12 +31,15 @@ point_five : Lexeme all_on (LexemeKind.number (codes ".5")) (codes ".5]") (codes
 point_five = (refl, (false, codes ".5]", Sign.none, Unsigned.bare_point refl (all_of refl stop refl) (Exponent.none refl)))
 
 pub five_five_document : IsDocument all_on (codes "[5..5]") (Some five_five)
-five_five_document =
-    (codes "[5..5]", [], Gap.none,
-     IsValue.array Gap.none
-       (AreElements.element (IsValue.literal (LexemeKind.number (codes "5.")) five_point refl) (Separates.no_comma refl Gap.none)
-         (AreElements.last_element (IsValue.literal (LexemeKind.number (codes ".5")) point_five refl) (Closes.plain Gap.none))),
-     Gap.none)
+five_five_document = (
+  codes "[5..5]",
+  [],
+  Gap.none,
+  IsValue.array Gap.none
+      (AreElements.element (IsValue.literal (LexemeKind.number (codes "5.")) five_point refl) (Separates.no_comma refl Gap.none)
+      (AreElements.last_element (IsValue.literal (LexemeKind.number (codes ".5")) point_five refl) (Closes.plain Gap.none))),
+  Gap.none,
+)
 
 -- `01` is two numbers
 pub zero_first : (o : Options) → Lexeme o (LexemeKind.number (codes "0")) (codes "01") (codes "1")
@@ -104,24 +107,31 @@ no_keyword_i Keyword.null u h = apart refl h.0
 
 infinity_word : Lexeme all_on (LexemeKind.word (codes "Infinity-x")) (codes "Infinity-x: 1}") (codes ": 1}")
 unfolding is_wide_letter
-infinity_word = (refl, record {
+infinity_word = (
+  refl,
+  record {
     begins = refl;
     goes_on = step refl (step refl (step refl (step refl (step refl (step refl (step refl (step refl (step refl (step refl stop)))))))));
     ends = refl;
     no_keyword = no_keyword_i;
-    no_number = λ p. (λ h. no_tail (ap (λ l. drop 8 l) h), λ h. apart refl h) })
+    no_number = λ p. (λ h. no_tail (ap (λ l. drop 8 l) h), λ h. apart refl h);
+  },
+)
 
 one : Lexeme all_on (LexemeKind.number (codes "1")) (codes "1}") (codes "}")
 one = (refl, (false, codes "1}", Sign.none, Unsigned.decimal (Whole.digits refl stop refl) (Fraction.none refl) (Exponent.none refl)))
 
 pub infinity_document : IsDocument all_on (codes "{Infinity-x: 1}") (Some infinity_x)
-infinity_document =
-    (codes "{Infinity-x: 1}", [], Gap.none,
-     IsValue.object Gap.none
-       (AreProperties.last_property
-         (IsProperty.named (inr (refl, refl, LexemeKind.word (codes "Infinity-x"), refl, infinity_word)) Gap.none (Gap.blank refl Gap.none) (IsValue.literal (LexemeKind.number (codes "1")) one refl))
-         (Closes.plain Gap.none)),
-     Gap.none)
+infinity_document = (
+  codes "{Infinity-x: 1}",
+  [],
+  Gap.none,
+  IsValue.object Gap.none
+      (AreProperties.last_property
+      (IsProperty.named (inr (refl, refl, LexemeKind.word (codes "Infinity-x"), refl, infinity_word)) Gap.none (Gap.blank refl Gap.none) (IsValue.literal (LexemeKind.number (codes "1")) one refl))
+      (Closes.plain Gap.none)),
+  Gap.none,
+)
 
 -- the escape of U+1D11E by a pair
 pub clef_decodes : (o : Options) → Decodes o 0x22 clef_escaped (0x1D11E ∷ [])

@@ -22,11 +22,23 @@ literal_no_blank c h = each (is_blank c) (c == 0x2F) (is_punctuation c) h
 
 mark_no_blank : (c : ℕ) → IsTrue (is_punctuation c) → IsTrue (not_blank c)
 mark_no_blank c h =
-    elim (or_cases _ (c == 0x3A) h) [ inr e ↦ rw (test_eq c 0x3A e) refl | inl h ↦
-    elim (or_cases _ (c == 0x2C) h) [ inr e ↦ rw (test_eq c 0x2C e) refl | inl h ↦
-    elim (or_cases _ (c == 0x5D) h) [ inr e ↦ rw (test_eq c 0x5D e) refl | inl h ↦
-    elim (or_cases _ (c == 0x5B) h) [ inr e ↦ rw (test_eq c 0x5B e) refl | inl h ↦
-    elim (or_cases (c == 0x7B) (c == 0x7D) h) [ inr e ↦ rw (test_eq c 0x7D e) refl | inl e ↦ rw (test_eq c 0x7B e) refl ] ] ] ] ]
+    elim (or_cases _ (c == 0x3A) h) [
+      | inr e ↦ rw (test_eq c 0x3A e) refl
+      | inl h ↦
+          elim (or_cases _ (c == 0x2C) h) [
+            | inr e ↦ rw (test_eq c 0x2C e) refl
+            | inl h ↦
+                elim (or_cases _ (c == 0x5D) h) [
+                  | inr e ↦ rw (test_eq c 0x5D e) refl
+                  | inl h ↦
+                      elim (or_cases _ (c == 0x5B) h) [
+                        | inr e ↦ rw (test_eq c 0x5B e) refl
+                        | inl h ↦
+                            elim (or_cases (c == 0x7B) (c == 0x7D) h) [ inr e ↦ rw (test_eq c 0x7D e) refl | inl e ↦ rw (test_eq c 0x7B e) refl ]
+                      ]
+                ]
+          ]
+    ]
 
 slash_no_blank : (c : ℕ) → IsTrue (c == 0x2F) → IsTrue (not_blank c)
 slash_no_blank c h = rw (test_eq c 0x2F h) refl

@@ -18,12 +18,27 @@ above c h = grind arith
 follower_outside : (c : ℕ) → IsTrue (c == 0x3A || c == 0x20 || c == 0x09 || c == 0x0A || c == 0x0C || c == 0x0D || (nat_lt 0x7F c && is_blank c)) → IsTrue (not (is_in_word c))
 unfolding is_wide_letter
 follower_outside c b =
-    elim (or_cases _ (nat_lt 0x7F c && is_blank c) b) [ inr e ↦ past c (and_both (nat_lt 0x7F c) (is_blank c) e) | inl b ↦
-    elim (or_cases _ (c == 0x0D) b) [ inr e ↦ rw (test_eq c 0x0D e) refl | inl b ↦
-    elim (or_cases _ (c == 0x0C) b) [ inr e ↦ rw (test_eq c 0x0C e) refl | inl b ↦
-    elim (or_cases _ (c == 0x0A) b) [ inr e ↦ rw (test_eq c 0x0A e) refl | inl b ↦
-    elim (or_cases _ (c == 0x09) b) [ inr e ↦ rw (test_eq c 0x09 e) refl | inl b ↦
-    elim (or_cases (c == 0x3A) (c == 0x20) b) [ inr e ↦ rw (test_eq c 0x20 e) refl | inl e ↦ rw (test_eq c 0x3A e) refl ] ] ] ] ] ]
+    elim (or_cases _ (nat_lt 0x7F c && is_blank c) b) [
+      | inr e ↦ past c (and_both (nat_lt 0x7F c) (is_blank c) e)
+      | inl b ↦
+          elim (or_cases _ (c == 0x0D) b) [
+            | inr e ↦ rw (test_eq c 0x0D e) refl
+            | inl b ↦
+                elim (or_cases _ (c == 0x0C) b) [
+                  | inr e ↦ rw (test_eq c 0x0C e) refl
+                  | inl b ↦
+                      elim (or_cases _ (c == 0x0A) b) [
+                        | inr e ↦ rw (test_eq c 0x0A e) refl
+                        | inl b ↦
+                            elim (or_cases _ (c == 0x09) b) [
+                              | inr e ↦ rw (test_eq c 0x09 e) refl
+                              | inl b ↦
+                                  elim (or_cases (c == 0x3A) (c == 0x20) b) [ inr e ↦ rw (test_eq c 0x20 e) refl | inl e ↦ rw (test_eq c 0x3A e) refl ]
+                            ]
+                      ]
+                ]
+          ]
+    ]
   where
     past : (c : ℕ) → IsTrue (nat_lt 0x7F c) × IsTrue (is_blank c) → IsTrue (not (is_in_word c))
     past c h = wide_outside c (above c h.0) (blank_not_wide c h.1)
