@@ -17,3 +17,5 @@ pub mod UniqueTokens
 pub mod Rows
 pub mod RowsRefused
 pub mod RowsPlaces
+pub mod Alone
+pub mod WiderOptions
