@@ -1,1 +1,4 @@
+pub mod Ascii
+pub mod Cuts
 pub mod FaultLemmas
+pub mod Steps
