@@ -7,6 +7,7 @@ mod chars;
 pub mod common;
 pub mod errors;
 pub mod laws;
+mod line;
 pub mod options;
 pub mod scanner;
 pub mod tokens;
