@@ -1,1 +1,17 @@
+pub mod Ascii
+pub mod Cuts
 pub mod FaultLemmas
+pub mod Lines
+pub mod Steps
+pub mod Basics
+pub mod UniqueGaps
+pub mod WideBlanks
+pub mod UniqueNumbers
+pub mod StringFrames
+pub mod UniqueStrings
+pub mod UniqueWords
+pub mod Begins
+pub mod UniqueLexemes
+pub mod UniqueValues
+pub mod Nesting
+pub mod BlockComments
