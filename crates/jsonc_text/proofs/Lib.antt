@@ -3,3 +3,4 @@ pub mod Cuts
 pub mod FaultLemmas
 pub mod Lines
 pub mod Steps
+pub mod TokenTexts

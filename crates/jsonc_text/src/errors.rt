@@ -6,10 +6,11 @@ ghost use Rattle.jsonc_text.specs.Messages.{string_kind_text, kind_text, surroga
 
 use crate::common::Range;
 use crate::line::line_and_column;
+use std::error::Error;
 use std::fmt;
 
 /// Why an escape is no character.
-#[derive(Clone, Copy, Debug, PartialEq, Eq, Drop)]
+#[derive(Clone, Copy, Debug, PartialEq, Eq, Hash, Drop)]
 pub enum SurrogateFault {
     UnpairedHighSurrogate,
     HighSurrogateNotFollowedByLowSurrogate,
@@ -31,7 +32,7 @@ impl SurrogateFault {
 }
 
 /// What is wrong with a string.
-#[derive(Clone, Copy, Debug, PartialEq, Eq, Drop)]
+#[derive(Clone, Copy, Debug, PartialEq, Eq, Hash, Drop)]
 pub enum ParseStringErrorKind {
     InvalidEscapeInSingleQuoteString,
     InvalidEscapeInDoubleQuoteString,
@@ -74,6 +75,8 @@ impl fmt::Display for ParseStringErrorKind {
         }
     }
 }
+
+impl Error for ParseStringErrorKind {}
 
 /// What is wrong with a text.
 #[derive(Clone, Copy, Debug, PartialEq, Eq, Drop)]
@@ -188,6 +191,8 @@ impl fmt::Display for ParseError {
         write!(f, "{kind} on line {line} column {column}")
     }
 }
+
+impl Error for ParseError {}
 
 impl ParseError {
     ghost use Rattle.jsonc_text.specs.Faults.{range_of, line_of, column_of, kind_of, IsFault, IsOutOfMemory};
