@@ -1,5 +1,5 @@
 -- Blanks (RFC 8259, 2; JSON5, 8), comments (JSON5, 7) and the gaps that they make.
-use Rattle.std.specs.Prelude.{ℕ, Bool, false, not, ◌&&◌, ◌||◌, ◌==◌, List, [], ◌∷◌, IsTrue, ◌⊎◌, nat_lt}
+use Rattle.std.specs.Prelude.{ℕ, ◌≡◌, ◌++◌, Bool, false, not, ◌&&◌, ◌||◌, ◌==◌, List, [], ◌∷◌, IsTrue, ◌⊎◌, nat_lt}
 use Rattle.jsonc_text.specs.Options.{Options}
 use Rattle.jsonc_text.specs.Text.{next, no, Many, is_line_end}
 
@@ -30,6 +30,10 @@ pub data UpToBlockEnd : List ℕ → List ℕ → Type 0 where
 -- `/*`, and all up to and with the first `*/` that begins after it
 pub data BlockComment : List ℕ → List ℕ → Type 0 where
   block : {t r : List ℕ} → UpToBlockEnd t r → BlockComment (0x2F ∷ 0x2A ∷ t) r
+
+-- no `*/` stands in s and the `*/` after it but that one
+abbrev pub HasNoEndInside : List ℕ → Type 0
+HasNoEndInside s = (a b : List ℕ) → s ++ 0x2A ∷ 0x2F ∷ [] ≡ a ++ 0x2A ∷ 0x2F ∷ b → b ≡ []
 
 abbrev pub IsComment : List ℕ → List ℕ → Type 0
 IsComment t r = LineComment t r ⊎ BlockComment t r
