@@ -1,12 +1,15 @@
 pub mod Ascii
 pub mod Basics
 pub mod Begins
+pub mod Between
 pub mod BlockComments
+pub mod ByteRuns
 pub mod Cuts
 pub mod FaultLemmas
 pub mod Lines
 pub mod Nesting
 pub mod NumberFrames
+pub mod Reading
 pub mod SameOptions
 pub mod Steps
 pub mod StringFrames
@@ -18,3 +21,4 @@ pub mod UniqueStrings
 pub mod UniqueValues
 pub mod UniqueWords
 pub mod WideBlanks
+pub mod Words
