@@ -1,4 +1,4 @@
-//! The tokens of a text.
+//! The tokens of a text, which lend their text from it.
 ghost use Rattle.std.specs.Prelude.{◌≡◌, IfOk, OnErr, chars};
 ghost use Rattle.std.specs.Ordering.{on};
 ghost use Rattle.std.specs.Cmp.Rules.{comparing};
@@ -66,6 +66,7 @@ impl<'a, A: Allocator> Token<'a, A> {
         }
     }
 
+    /// A number for what kind of token it is, the punctuation being of one kind and the keywords of another.
     fn class(&self) -> u8
         ensures { result ≡ scanned_class (scanned_of self.now) }
     {
