@@ -10,6 +10,7 @@ pub mod Lines
 pub mod Nesting
 pub mod NumberFrames
 pub mod Reading
+pub mod Runs
 pub mod SameOptions
 pub mod Steps
 pub mod StringFrames

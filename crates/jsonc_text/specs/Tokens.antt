@@ -2,7 +2,7 @@
 use Rattle.std.specs.Prelude.{ℕ, List, [], ◌∷◌, Bool, ◌==◌, chars}
 use Rattle.std.specs.Ordering.{on, eq_of_both}
 use Rattle.std.specs.Cmp.Lexicographic.{pointwise}
-use Rattle.std.specs.Cow.{cow_str_bytes}
+use Rattle.std.specs.Cow.{cow_str_bytes, IsOwnedStr}
 use Rattle.jsonc_text.specs.declared.tokens.Token.{Token}
 use Rattle.jsonc_text.specs.declared.tokens.Token.TheVariants.{OpenBrace, CloseBrace, OpenBracket, CloseBracket, Comma, Colon, String, Word, Boolean, Number, Null, CommentLine, CommentBlock}
 use Rattle.jsonc_text.specs.Lexemes.{Scanned, lexeme, line_comment, block_comment, LexemeKind, punctuation, string, word, number, keyword}
@@ -55,3 +55,8 @@ module _ {A : Type 0} where
   scanned_of Null = lexeme (keyword null)
   scanned_of (CommentLine s) = line_comment (chars s.now)
   scanned_of (CommentBlock s) = block_comment (chars s.now)
+
+  -- it is a string that owns its text
+  abbrev pub IsOwned : Token A → Type 0
+  IsOwned (String s) = IsOwnedStr s
+  IsOwned _ = ⊥
