@@ -1,5 +1,5 @@
 -- Tests of a character and of what follows, and lists by their first elements.
-use Rattle.std.proofs.Common.{ℕ, ◌≡◌, ◌∙◌, ◌≤◌, sym, ap, Bool, true, false, not, ◌||◌, ◌&&◌, ◌==◌, refl, List, [], ◌∷◌, ◌++◌, Option, Some, None, IsTrue, arith, inl, inr, ◌⊎◌}
+use Rattle.std.proofs.Common.{ℕ, ◌≡◌, ◌∙◌, sym, ap, Bool, true, false, not, ◌||◌, ◌&&◌, ◌==◌, refl, List, [], ◌∷◌, ◌++◌, Option, Some, None, IsTrue, arith, inl, inr, ◌⊎◌}
 use Rattle.std.proofs.lemmas.List.{append_cancel_right}
 use Rattle.jsonc_text.specs.Text.{next, no, starts}
 

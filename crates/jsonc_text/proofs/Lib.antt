@@ -10,6 +10,9 @@ pub mod Lines
 pub mod Nesting
 pub mod NumberFrames
 pub mod Reading
+pub mod Rows
+pub mod RowsPlaces
+pub mod RowsRefused
 pub mod Runs
 pub mod SameOptions
 pub mod Steps
@@ -19,6 +22,7 @@ pub mod UniqueGaps
 pub mod UniqueLexemes
 pub mod UniqueNumbers
 pub mod UniqueStrings
+pub mod UniqueTokens
 pub mod UniqueValues
 pub mod UniqueWords
 pub mod WideBlanks

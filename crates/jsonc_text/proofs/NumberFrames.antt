@@ -1,12 +1,11 @@
 -- The text of a number is a number by itself, and ends the same before whatever may follow it.
-use Rattle.std.proofs.Common.{ℕ, ◌≡◌, ◌∙◌, sym, ap, refl, Bool, true, false, not, List, [], ◌∷◌, ◌++◌, append_assoc, append-nil, Option, Some, None, IsTrue, ◌==◌, codes}
+use Rattle.std.proofs.Common.{ℕ, ◌≡◌, ◌∙◌, sym, ap, refl, Bool, true, false, not, List, [], ◌∷◌, ◌++◌, IsTrue, codes}
 use Rattle.jsonc_text.specs.Options.{Options, all_on}
-use Rattle.jsonc_text.specs.Text.{next, no, starts, Many, stop, step, AllOf, all_of, is_digit, is_hex_digit}
-use Rattle.jsonc_text.specs.Words.{goes_on, EndsThere, EndsWhole}
+use Rattle.jsonc_text.specs.Text.{next, starts, Many, stop, step, AllOf, all_of, is_digit, is_hex_digit}
 use Rattle.jsonc_text.specs.Numbers.{Sign, Whole, Fraction, Exponent, Unsigned, Number, NumberLit, MayFollow, EndsName, is_x, is_e, is_sign, is_point}
 use Rattle.jsonc_text.proofs.Basics.{clash, no_starts, apart, heads, tails, front_same, no_front, starts_front}
 use Rattle.jsonc_text.proofs.UniqueGaps.{all_starts}
-use Rattle.jsonc_text.proofs.UniqueNumbers.{whole_unique, whole_begins, all_no, hex_no_decimal, unsigned_begins}
+use Rattle.jsonc_text.proofs.UniqueNumbers.{whole_unique, whole_begins, hex_no_decimal, unsigned_begins}
 
 -- what stands at the front of t, with less after it: r is taken off
 pub record Cut (R : List ℕ → List ℕ → Type 0) (t x r : List ℕ) : Type 0 where

@@ -1,5 +1,5 @@
 -- Options that agree on what lexemes look at have the same lexemes.
-use Rattle.std.proofs.Common.{ℕ, ◌≡◌, sym, Bool, List, Option, IsTrue, ◌==◌, ◌||◌, ◌&&◌}
+use Rattle.std.proofs.Common.{ℕ, ◌≡◌, sym, Bool, List, Option, IsTrue}
 use Rattle.jsonc_text.specs.Options.{Options, AgreeOnLexemes}
 use Rattle.jsonc_text.specs.Words.{WordLit}
 use Rattle.jsonc_text.specs.Numbers.{Sign, Fraction, Unsigned, Number}

@@ -12,6 +12,8 @@ pub mod Reads
 pub mod Plain
 pub mod Grammar
 pub mod Places
+pub mod Laws
+pub mod Rows
 pub mod OptionsOf
 pub mod Messages
 pub mod Faults
