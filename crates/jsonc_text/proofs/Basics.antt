@@ -1,5 +1,5 @@
 -- Tests of a character and of what follows, and lists by their first elements.
-use Rattle.std.proofs.Common.{ℕ, ◌≡◌, ◌∙◌, ◌≤◌, sym, ap, Bool, true, false, not, ◌||◌, ◌&&◌, ◌==◌, refl, List, [], ◌∷◌, ◌++◌, Option, Some, None, IsTrue, arith, inl, inr, ◌⊎◌}
+use Rattle.std.proofs.Common.{ℕ, ◌≡◌, ◌∙◌, sym, ap, Bool, true, false, not, ◌||◌, ◌&&◌, ◌==◌, refl, List, [], ◌∷◌, ◌++◌, Option, Some, None, IsTrue, arith, inl, inr, ◌⊎◌}
 use Rattle.std.proofs.lemmas.List.{append_cancel_right}
 use Rattle.jsonc_text.specs.Text.{next, no, starts}
 
@@ -54,6 +54,10 @@ starts_front p (c ∷ s) r e h = rw e h
 pub no_front : (p : ℕ → Bool) (s r : List ℕ) {t : List ℕ} → t ≡ s ++ r → IsTrue (no p (next t)) → IsTrue (no p (next s))
 no_front p [] r e h = refl
 no_front p (c ∷ s) r e h = rw e at h
+
+pub no_starts : (p : ℕ → Bool) (n : Option ℕ) → IsTrue (no p n) → IsTrue (starts p n) → ⊥
+no_starts p None g h = cc
+no_starts p (Some c) g h = clash (p c) g h
 
 pub starts_also : (p q : ℕ → Bool) → ((c : ℕ) → IsTrue (p c) → IsTrue (q c)) → (n : Option ℕ) → IsTrue (starts p n) → IsTrue (starts q n)
 starts_also p q f None h = h

@@ -1,8 +1,8 @@
 -- With which characters a lexeme of each kind begins.
-use Rattle.std.proofs.Common.{ℕ, ◌≡◌, ◌<◌, ◌≤◌, Bool, true, false, not, ◌||◌, ◌&&◌, ◌==◌, refl, List, [], ◌∷◌, ◌++◌, Option, Some, None, IsTrue, arith, inl, inr, ◌⊎◌, nat_lt, codes}
+use Rattle.std.proofs.Common.{ℕ, ◌≡◌, ◌<◌, ◌≤◌, Bool, true, false, not, ◌||◌, ◌&&◌, ◌==◌, refl, List, ◌++◌, Option, IsTrue, arith, inl, inr}
 use Rattle.std.specs.Int.{is_in_range}
 use Rattle.jsonc_text.specs.Options.{Options}
-use Rattle.jsonc_text.specs.Text.{next, no, starts, is_digit, is_ascii_letter}
+use Rattle.jsonc_text.specs.Text.{next, starts, is_digit, is_ascii_letter}
 use Rattle.jsonc_text.specs.Gaps.{is_blank}
 use Rattle.jsonc_text.specs.Letters.{is_wide_letter}
 use Rattle.jsonc_text.specs.Words.{Keyword, IsKeyword, WordLit, begins_word, boolean, null}
@@ -127,8 +127,10 @@ keyword_literal c h = ascii_literal c (low c h) (high c h) (other c h)
   where
     low : (c : ℕ) → IsTrue (begins_keyword c) → 0x21 ≤ c
     low c h = grind arith
+
     high : (c : ℕ) → IsTrue (begins_keyword c) → c < 0x80
     high c h = grind arith
+
     other : (c : ℕ) → IsTrue (begins_keyword c) → IsTrue (not (c == 0x2F || is_punctuation c))
     other c h = grind arith
 
@@ -137,6 +139,7 @@ range_literal lo hi c h = (low lo hi c h, high lo hi c h)
   where
     low : (lo hi c : ℕ) → IsTrue (is_in_range lo hi c) → lo ≤ c
     low lo hi c h = grind arith
+
     high : (lo hi c : ℕ) → IsTrue (is_in_range lo hi c) → c ≤ hi
     high lo hi c h = grind arith
 
@@ -155,24 +158,40 @@ digit_literal c h = let r = range_literal 0x30 0x39 c h in ascii_literal c (omeg
 letter_literal : (c : ℕ) → IsTrue (is_ascii_letter c) → IsTrue (begins_literal c)
 letter_literal c h =
     elim (or_cases (is_in_range 0x41 0x5A c) (is_in_range 0x61 0x7A c) h) [
-      inl e ↦ (let r = range_literal 0x41 0x5A c e in ascii_literal c (omega (arith, r.0)) (omega (arith, r.1)) (upper_no_punctuation c r.0 r.1))
-    | inr e ↦ (let r = range_literal 0x61 0x7A c e in ascii_literal c (omega (arith, r.0)) (omega (arith, r.1)) (lower_no_punctuation c r.0 r.1)) ]
+      | inl e ↦ (let r = range_literal 0x41 0x5A c e in ascii_literal c (omega (arith, r.0)) (omega (arith, r.1)) (upper_no_punctuation c r.0 r.1))
+      | inr e ↦ (let r = range_literal 0x61 0x7A c e in ascii_literal c (omega (arith, r.0)) (omega (arith, r.1)) (lower_no_punctuation c r.0 r.1))
+    ]
 
 number_literal : (c : ℕ) → IsTrue (begins_number c) → IsTrue (begins_literal c)
 number_literal c h =
-    elim (or_cases _ (c == 0x4E) h) [ inr e ↦ rw (test_eq c 0x4E e) refl | inl h ↦
-    elim (or_cases _ (c == 0x49) h) [ inr e ↦ rw (test_eq c 0x49 e) refl | inl h ↦
-    elim (or_cases _ (c == 0x2E) h) [ inr e ↦ rw (test_eq c 0x2E e) refl | inl h ↦
-    elim (or_cases _ (c == 0x2D) h) [ inr e ↦ rw (test_eq c 0x2D e) refl | inl h ↦
-    elim (or_cases (is_digit c) (c == 0x2B) h) [ inr e ↦ rw (test_eq c 0x2B e) refl | inl e ↦ digit_literal c e ] ] ] ] ]
+    elim (or_cases _ (c == 0x4E) h) [
+      | inr e ↦ rw (test_eq c 0x4E e) refl
+      | inl h ↦
+          elim (or_cases _ (c == 0x49) h) [
+            | inr e ↦ rw (test_eq c 0x49 e) refl
+            | inl h ↦
+                elim (or_cases _ (c == 0x2E) h) [
+                  | inr e ↦ rw (test_eq c 0x2E e) refl
+                  | inl h ↦
+                      elim (or_cases _ (c == 0x2D) h) [
+                        | inr e ↦ rw (test_eq c 0x2D e) refl
+                        | inl h ↦
+                            elim (or_cases (is_digit c) (c == 0x2B) h) [ inr e ↦ rw (test_eq c 0x2B e) refl | inl e ↦ digit_literal c e ]
+                      ]
+                ]
+          ]
+    ]
 
 abbrev ascii_word : ℕ → Bool
 ascii_word c = is_ascii_letter c || c == 0x5F || c == 0x24
 
 ascii_word_literal : (c : ℕ) → IsTrue (ascii_word c) → IsTrue (begins_literal c)
 ascii_word_literal c h =
-    elim (or_cases _ (c == 0x24) h) [ inr e ↦ rw (test_eq c 0x24 e) refl | inl h ↦
-    elim (or_cases (is_ascii_letter c) (c == 0x5F) h) [ inr e ↦ rw (test_eq c 0x5F e) refl | inl e ↦ letter_literal c e ] ]
+    elim (or_cases _ (c == 0x24) h) [
+      | inr e ↦ rw (test_eq c 0x24 e) refl
+      | inl h ↦
+          elim (or_cases (is_ascii_letter c) (c == 0x5F) h) [ inr e ↦ rw (test_eq c 0x5F e) refl | inl e ↦ letter_literal c e ]
+    ]
 
 wide_literal : (c : ℕ) → IsTrue (is_wide_letter c) → IsTrue (begins_literal c)
 wide_literal c w = all (is_blank c) (c == 0x2F) (is_punctuation c) blank mark
@@ -180,13 +199,17 @@ wide_literal c w = all (is_blank c) (c == 0x2F) (is_punctuation c) blank mark
     all : (x y z : Bool) → IsTrue (not x) → IsTrue (not (y || z)) → IsTrue (not ((x || y) || z))
     all true y z h k = cc
     all false y z h k = k
+
     blank_at : (b : Bool) → (IsTrue b → IsTrue (not (is_wide_letter c))) → IsTrue (not b)
     blank_at true f = absurd (clash (is_wide_letter c) (f refl) w)
     blank_at false f = refl
+
     blank : IsTrue (not (is_blank c))
     blank = blank_at (is_blank c) (blank_not_wide c)
+
     high : (d : ℕ) → 0x7F < d → IsTrue (not (d == 0x2F || is_punctuation d))
     high d l = grind arith
+
     mark : IsTrue (not (c == 0x2F || is_punctuation c))
     mark = high c (wide_past_ascii c w)
 

@@ -1,7 +1,7 @@
 -- A block comment ends at the first `*/` after its opening.
-use Rattle.std.proofs.Common.{ℕ, suc, ◌+◌, ◌≡◌, ◌∙◌, sym, ap, Bool, true, false, not, ◌&&◌, ◌==◌, refl, List, [], ◌∷◌, ◌++◌, length, length-append, IsTrue, arith}
+use Rattle.std.proofs.Common.{ℕ, ◌≡◌, ap, Bool, true, false, not, ◌&&◌, ◌==◌, refl, List, [], ◌∷◌, ◌++◌, length, length-append, IsTrue, arith}
 use Rattle.jsonc_text.specs.Gaps.{ends_block, UpToBlockEnd, here, later, BlockComment, block, HasNoEndInside}
-use Rattle.jsonc_text.proofs.Basics.{clash, and_both, test_eq, eq_test, heads, tails, front_same}
+use Rattle.jsonc_text.proofs.Basics.{clash, and_both, test_eq, heads, tails, front_same}
 
 no_more : (b : List ℕ) → length b ≡ 0 → b ≡ []
 no_more [] e = refl
@@ -46,6 +46,7 @@ no_front_end c (d ∷ s) r n = decide (c == 0x2A && d == 0x2F) (λ h. let k = an
     decide : (b : Bool) → (IsTrue b → ⊥) → IsTrue (not b)
     decide true f = absurd (f refl)
     decide false f = refl
+
     ends : c ≡ 0x2A → d ≡ 0x2F → ⊥
     ends e f =
         let k : c ∷ d ∷ (s ++ 0x2A ∷ 0x2F ∷ []) ≡ 0x2A ∷ 0x2F ∷ (s ++ 0x2A ∷ 0x2F ∷ []) = cc in

@@ -42,7 +42,8 @@ one_more {q = q} {r = r} f g e =
     record {
       text = f.text ++ g.text;
       split = f.split ∙ ap (λ x. f.text ++ x) g.split ∙ sym (append_assoc f.text g.text (q ∷ r));
-      anywhere = λ x. rw (append_assoc f.text g.text (q ∷ x)) (piece (f.elsewhere (g.text ++ q ∷ x) (ap next g.split ∙ same_next g.text q r x)) (g.anywhere x) e) }
+      anywhere = λ x. rw (append_assoc f.text g.text (q ∷ x)) (piece (f.elsewhere (g.text ++ q ∷ x) (ap next g.split ∙ same_next g.text q r x)) (g.anywhere x) e);
+    }
 
 pub pieces_frame : {o : Options} {q : ℕ} {t v x r : List ℕ} → Pieces o q t v x → x ≡ q ∷ r → StringFrame o q t v r
 pieces_frame {o} {q} {t} {r = r} done e = record { text = []; split = e; anywhere = λ x. done }

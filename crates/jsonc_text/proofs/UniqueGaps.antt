@@ -1,8 +1,8 @@
 -- A run of characters, a comment and a gap end at one place.
-use Rattle.std.proofs.Common.{ℕ, ◌≡◌, Bool, true, false, not, ◌||◌, ◌&&◌, ◌==◌, refl, List, [], ◌∷◌, ◌++◌, IsTrue, arith, inl, inr, ◌⊎◌}
+use Rattle.std.proofs.Common.{ℕ, ◌≡◌, Bool, true, not, ◌||◌, ◌==◌, refl, List, ◌∷◌, IsTrue, arith, inl, inr}
 use Rattle.jsonc_text.specs.Options.{Options}
 use Rattle.jsonc_text.specs.Text.{next, no, starts, Many, stop, step, AllOf, all_of}
-use Rattle.jsonc_text.specs.Gaps.{is_blank, is_in_line, ends_block, UpToBlockEnd, here, later, LineComment, line, BlockComment, block, IsComment, Gap, none, blank, comment}
+use Rattle.jsonc_text.specs.Gaps.{is_blank, UpToBlockEnd, here, later, LineComment, line, BlockComment, block, IsComment, Gap, none, blank, comment}
 use Rattle.jsonc_text.proofs.Basics.{clash}
 
 pub many_unique : {p : ℕ → Bool} {t r s : List ℕ} → Many p t r → Many p t s → IsTrue (no p (next r)) → IsTrue (no p (next s)) → r ≡ s

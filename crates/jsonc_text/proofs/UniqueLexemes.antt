@@ -1,9 +1,9 @@
 -- At every place stands at most one lexeme or comment.
-use Rattle.std.proofs.Common.{ℕ, ◌≡◌, ◌∙◌, sym, ap, Bool, true, false, not, refl, List, [], ◌∷◌, ◌++◌, Option, Some, None, IsTrue, ◌==◌, arith, inl, inr, codes}
+use Rattle.std.proofs.Common.{ℕ, ◌≡◌, ◌∙◌, sym, ap, Bool, false, not, refl, List, ◌∷◌, ◌++◌, Option, Some, None, IsTrue, ◌==◌, arith, inl, inr, codes}
 use Rattle.jsonc_text.specs.Options.{Options}
 use Rattle.jsonc_text.specs.Text.{next, no, starts, Many, stop, step}
-use Rattle.jsonc_text.specs.Gaps.{LineComment, BlockComment, IsComment}
-use Rattle.jsonc_text.specs.Words.{Keyword, WordLit, EndsWhole, is_in_word, begins_word}
+use Rattle.jsonc_text.specs.Gaps.{IsComment}
+use Rattle.jsonc_text.specs.Words.{WordLit, EndsWhole, is_in_word, begins_word}
 use Rattle.jsonc_text.specs.Numbers.{Number, Sign, Unsigned, Whole}
 use Rattle.jsonc_text.specs.Lexemes.{LexemeKind, Lexeme, Scanned, lexeme, line_comment, block_comment, IsScanned, is_punctuation}
 use Rattle.jsonc_text.proofs.Basics.{clash, no_both, starts_also, Apart, heads, tails, front_same, text_same}

@@ -1,9 +1,9 @@
 -- A number ends at one place.
-use Rattle.std.proofs.Common.{ℕ, ◌≡◌, ◌∙◌, sym, Bool, true, false, not, ◌||◌, ◌&&◌, ◌==◌, refl, List, [], ◌∷◌, ◌++◌, Option, Some, None, IsTrue, arith, codes}
+use Rattle.std.proofs.Common.{ℕ, ◌≡◌, sym, Bool, true, not, refl, List, ◌∷◌, Option, Some, None, IsTrue, arith}
 use Rattle.std.specs.Int.{is_in_range}
 use Rattle.jsonc_text.specs.Options.{Options}
-use Rattle.jsonc_text.specs.Text.{next, no, starts, AllOf, all_of, is_digit, is_hex_digit}
-use Rattle.jsonc_text.specs.Numbers.{Sign, Whole, Fraction, Exponent, Unsigned, Number, is_x, is_e, is_sign, is_point}
+use Rattle.jsonc_text.specs.Text.{next, no, starts, AllOf, all_of, is_digit}
+use Rattle.jsonc_text.specs.Numbers.{Sign, Whole, Fraction, Exponent, Unsigned, Number, is_x, is_e, is_sign}
 use Rattle.jsonc_text.proofs.Basics.{clash}
 use Rattle.jsonc_text.proofs.UniqueGaps.{many_unique, all_unique, all_starts}
 

@@ -1,10 +1,9 @@
 -- A string stands for one text, and ends at one place.
-use Rattle.std.proofs.Common.{ℕ, ◌≡◌, ◌≢◌, ◌∙◌, sym, ap, Bool, true, false, not, ◌||◌, ◌&&◌, ◌==◌, refl, List, [], ◌∷◌, ◌++◌, Option, Some, None, IsTrue, arith, inl, inr, ◌⊎◌}
+use Rattle.std.proofs.Common.{ℕ, ◌≡◌, ◌≢◌, ◌∙◌, sym, ap, not, refl, List, [], ◌∷◌, ◌++◌, IsTrue, arith}
 use Rattle.jsonc_text.specs.Options.{Options}
-use Rattle.jsonc_text.specs.Text.{next, no, is_digit}
-use Rattle.jsonc_text.specs.Strings.{Meaning, meaning, Piece, itself, plain, unit, pair, other, zero, byte, line, lone_cr, cr_lf, Pieces, done, piece, IsString, IsQuote, is_high_surrogate, is_surrogate, hex4, Decodes}
+use Rattle.jsonc_text.specs.Strings.{Meaning, Piece, itself, plain, unit, pair, other, zero, byte, line, lone_cr, cr_lf, Pieces, done, piece, IsString, IsQuote, is_high_surrogate, is_surrogate, hex4, Decodes}
 use Rattle.jsonc_text.proofs.StringFrames.{pieces_of_decodes}
-use Rattle.jsonc_text.proofs.Basics.{clash, heads, tails}
+use Rattle.jsonc_text.proofs.Basics.{heads, tails}
 
 surrogate : (n : ℕ) → IsTrue (not (is_surrogate n)) → IsTrue (is_high_surrogate n) → ⊥
 surrogate n a b = grind arith

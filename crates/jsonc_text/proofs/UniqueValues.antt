@@ -1,15 +1,14 @@
 -- A text has at most one value.
-use Rattle.std.proofs.Common.{ℕ, ◌≡◌, ◌≢◌, ◌∙◌, sym, ap, subst, Bool, true, false, not, ◌||◌, ◌&&◌, ◌==◌, refl, List, [], ◌∷◌, ◌++◌, Option, Some, None, IsTrue, arith, inl, inr, ◌⊎◌}
+use Rattle.std.proofs.Common.{ℕ, ◌≡◌, ◌∙◌, sym, ap, false, not, ◌==◌, refl, List, [], ◌∷◌, Option, Some, None, IsTrue, arith, inl, inr, ◌⊎◌}
 use Rattle.jsonc_text.specs.Options.{Options}
 use Rattle.jsonc_text.specs.Text.{next, no, starts}
 use Rattle.jsonc_text.specs.Gaps.{Gap}
 use Rattle.jsonc_text.specs.Lexemes.{LexemeKind, Lexeme, is_punctuation}
-use Rattle.jsonc_text.specs.Plain.{Plain, Items, no_items, item, Members, no_members, member}
-use Rattle.jsonc_text.specs.Words.{Keyword}
-use Rattle.jsonc_text.specs.Grammar.{IsValue, AreElements, AreProperties, IsProperty, IsName, IsLooseName, IsDocument, literal_value, may_name, literal, empty_array, array, empty_object, object, last_element, element, last_property, property, named, Separates, comma, no_comma, Closes, plain, trailing_comma}
-use Rattle.jsonc_text.proofs.Basics.{clash, tails, apart, front_same}
+use Rattle.jsonc_text.specs.Plain.{Plain, Items, item, Members, member}
+use Rattle.jsonc_text.specs.Grammar.{IsValue, AreElements, AreProperties, IsProperty, IsName, IsDocument, literal_value, may_name, literal, empty_array, array, empty_object, object, last_element, element, last_property, property, named, Separates, comma, no_comma, Closes, plain, trailing_comma}
+use Rattle.jsonc_text.proofs.Basics.{tails, apart, front_same}
 use Rattle.jsonc_text.proofs.UniqueGaps.{begins_gap, gap_unique}
-use Rattle.jsonc_text.proofs.Begins.{begins_literal, begins_item, IsLiteral, lexeme_begins, literal_no_punctuation}
+use Rattle.jsonc_text.proofs.Begins.{begins_literal, begins_item, IsLiteral, lexeme_begins}
 use Rattle.jsonc_text.proofs.UniqueLexemes.{lexeme_unique}
 
 value_is_literal : (k : LexemeKind) {v : Plain} → literal_value k ≡ Some v → IsLiteral k
@@ -112,7 +111,7 @@ module _ (o : Options) where
   name_begins {name} {t} {r} (inl l) = item_begins t (lexeme_begins o (LexemeKind.string name) t r tt l)
   name_begins {name} {t} {r} (inr l) = item_begins t (lexeme_begins o l.2 t r (name_is_literal l.2 l.3) l.4)
 
-  properties_begin : {ms : Members} {t r : List ℕ} → AreProperties o t ms r → IsTrue (starts begins_item (next t))
+  pub properties_begin : {ms : Members} {t r : List ℕ} → AreProperties o t ms r → IsTrue (starts begins_item (next t))
   properties_begin (last_property (named n g h v) c) = name_begins n
   properties_begin (property (named n g h v) s e) = name_begins n
 

@@ -1,10 +1,10 @@
 -- A word and a keyword end at one place, and no word is a keyword.
-use Rattle.std.proofs.Common.{ℕ, ◌≡◌, ◌∙◌, ◌<◌, sym, ap, Bool, true, false, not, ◌||◌, ◌&&◌, ◌==◌, refl, List, [], ◌∷◌, ◌++◌, append_assoc, Option, Some, None, IsTrue, arith, inl, inr, ◌⊎◌, nat_lt, codes}
+use Rattle.std.proofs.Common.{ℕ, ◌≡◌, ◌∙◌, ◌<◌, sym, ap, Bool, true, false, not, ◌||◌, ◌&&◌, ◌==◌, refl, List, [], ◌∷◌, ◌++◌, append_assoc, Option, Some, None, IsTrue, arith, inl, inr, nat_lt}
 use Rattle.jsonc_text.specs.Options.{Options}
-use Rattle.jsonc_text.specs.Text.{next, no, end_or, Many, stop, step}
+use Rattle.jsonc_text.specs.Text.{next, no, Many, stop, step}
 use Rattle.jsonc_text.specs.Gaps.{is_blank}
 use Rattle.jsonc_text.specs.Letters.{is_wide_letter}
-use Rattle.jsonc_text.specs.Words.{Keyword, IsKeyword, WordLit, EndsWord, EndsThere, EndsWhole, is_in_word, begins_word, goes_on, keyword_text, boolean, null}
+use Rattle.jsonc_text.specs.Words.{Keyword, IsKeyword, WordLit, EndsWord, is_in_word, goes_on, keyword_text, boolean, null}
 use Rattle.jsonc_text.proofs.Basics.{clash, or_cases, and_both, test_eq, apart, tails, text_same, no_front}
 use Rattle.jsonc_text.proofs.UniqueGaps.{many_unique}
 use Rattle.jsonc_text.proofs.WideBlanks.{blank_not_wide}
@@ -18,12 +18,27 @@ above c h = grind arith
 follower_outside : (c : ℕ) → IsTrue (c == 0x3A || c == 0x20 || c == 0x09 || c == 0x0A || c == 0x0C || c == 0x0D || (nat_lt 0x7F c && is_blank c)) → IsTrue (not (is_in_word c))
 unfolding is_wide_letter
 follower_outside c b =
-    elim (or_cases _ (nat_lt 0x7F c && is_blank c) b) [ inr e ↦ past c (and_both (nat_lt 0x7F c) (is_blank c) e) | inl b ↦
-    elim (or_cases _ (c == 0x0D) b) [ inr e ↦ rw (test_eq c 0x0D e) refl | inl b ↦
-    elim (or_cases _ (c == 0x0C) b) [ inr e ↦ rw (test_eq c 0x0C e) refl | inl b ↦
-    elim (or_cases _ (c == 0x0A) b) [ inr e ↦ rw (test_eq c 0x0A e) refl | inl b ↦
-    elim (or_cases _ (c == 0x09) b) [ inr e ↦ rw (test_eq c 0x09 e) refl | inl b ↦
-    elim (or_cases (c == 0x3A) (c == 0x20) b) [ inr e ↦ rw (test_eq c 0x20 e) refl | inl e ↦ rw (test_eq c 0x3A e) refl ] ] ] ] ] ]
+    elim (or_cases _ (nat_lt 0x7F c && is_blank c) b) [
+      | inr e ↦ past c (and_both (nat_lt 0x7F c) (is_blank c) e)
+      | inl b ↦
+          elim (or_cases _ (c == 0x0D) b) [
+            | inr e ↦ rw (test_eq c 0x0D e) refl
+            | inl b ↦
+                elim (or_cases _ (c == 0x0C) b) [
+                  | inr e ↦ rw (test_eq c 0x0C e) refl
+                  | inl b ↦
+                      elim (or_cases _ (c == 0x0A) b) [
+                        | inr e ↦ rw (test_eq c 0x0A e) refl
+                        | inl b ↦
+                            elim (or_cases _ (c == 0x09) b) [
+                              | inr e ↦ rw (test_eq c 0x09 e) refl
+                              | inl b ↦
+                                  elim (or_cases (c == 0x3A) (c == 0x20) b) [ inr e ↦ rw (test_eq c 0x20 e) refl | inl e ↦ rw (test_eq c 0x3A e) refl ]
+                            ]
+                      ]
+                ]
+          ]
+    ]
   where
     past : (c : ℕ) → IsTrue (nat_lt 0x7F c) × IsTrue (is_blank c) → IsTrue (not (is_in_word c))
     past c h = wide_outside c (above c h.0) (blank_not_wide c h.1)

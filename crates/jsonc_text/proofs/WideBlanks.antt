@@ -1,5 +1,5 @@
 -- No blank past ASCII is a letter or digit.
-use Rattle.std.proofs.Common.{ℕ, zero, suc, ◌≡◌, ◌<◌, ◌≤◌, ◌+◌, Bool, true, false, refl, not, ◌||◌, ◌&&◌, ◌==◌, nat_lt, IsTrue, List, [], ◌∷◌, arith, inl, inr, ◌⊎◌, ◌∙◌, sym, ap}
+use Rattle.std.proofs.Common.{ℕ, zero, suc, ◌≡◌, ◌<◌, ◌≤◌, ◌+◌, Bool, true, false, refl, not, ◌||◌, ◌&&◌, ◌==◌, nat_lt, IsTrue, List, [], ◌∷◌, arith, inl, inr}
 use Rattle.std.specs.List.{list_all}
 use Rattle.std.proofs.lemmas.Bool.{cases_lt}
 use Rattle.ucd_table.specs.Rows.{in_ranges, value_in}
@@ -30,8 +30,9 @@ unfolding among upto
 in_upto zero lo c a b = absurd (omega arith)
 in_upto (suc n) lo c a b =
     elim (cases_lt lo c) [
-      inl h ↦ or_right (c == lo) (among (upto n (suc lo)) c) (in_upto n (suc lo) c h (omega arith))
-    | inr h ↦ or_left (c == lo) (among (upto n (suc lo)) c) (eq_test c lo (omega arith)) ]
+      | inl h ↦ or_right (c == lo) (among (upto n (suc lo)) c) (in_upto n (suc lo) c h (omega arith))
+      | inr h ↦ or_left (c == lo) (among (upto n (suc lo)) c) (eq_test c lo (omega arith))
+    ]
 
 all_fail : (p : ℕ → Bool) (ds : List ℕ) (c : ℕ) → list_all (λ d. not (p d)) ds ≡ true → IsTrue (among ds c) → IsTrue (not (p c))
 unfolding among
@@ -39,8 +40,9 @@ all_fail p [] c a m = cc
 all_fail p (d ∷ ds) c a m =
     let b = and_both (not (p d)) (list_all (λ d. not (p d)) ds) a in
     elim (or_cases (c == d) (among ds c) m) [
-      inl e ↦ rw (test_eq c d e) b.0
-    | inr n ↦ all_fail p ds c b.1 n ]
+      | inl e ↦ rw (test_eq c d e) b.0
+      | inr n ↦ all_fail p ds c b.1 n
+    ]
 
 none_wide_range : list_all (λ c. not (is_wide_letter c)) (upto 11 0x2000) ≡ true
 unfolding upto is_wide_letter is_alphabetic general_category in_ranges value_in alphabetic_ranges general_category_rows
@@ -61,6 +63,7 @@ range_not_wide c h = all_fail is_wide_letter (upto 11 0x2000) c none_wide_range 
   where
     low : (c : ℕ) → IsTrue (nat_lt 0x1FFF c && nat_lt c 0x200B) → 0x2000 ≤ c
     low c h = grind arith
+
     high : (c : ℕ) → IsTrue (nat_lt 0x1FFF c && nat_lt c 0x200B) → c < 0x2000 + 11
     high c h = grind arith
 
@@ -74,12 +77,36 @@ small c h = grind arith
 pub blank_not_wide : (c : ℕ) → IsTrue (is_blank c) → IsTrue (not (is_wide_letter c))
 unfolding among one_by_one
 blank_not_wide c b =
-    elim (or_cases _ (c == 0x3000) b) [ inr e ↦ one_not_wide 0x3000 c refl e | inl b ↦
-    elim (or_cases _ (c == 0x205F) b) [ inr e ↦ one_not_wide 0x205F c refl e | inl b ↦
-    elim (or_cases _ (c == 0x202F) b) [ inr e ↦ one_not_wide 0x202F c refl e | inl b ↦
-    elim (or_cases _ (c == 0x2029) b) [ inr e ↦ one_not_wide 0x2029 c refl e | inl b ↦
-    elim (or_cases _ (c == 0x2028) b) [ inr e ↦ one_not_wide 0x2028 c refl e | inl b ↦
-    elim (or_cases _ (nat_lt 0x1FFF c && nat_lt c 0x200B) b) [ inr e ↦ range_not_wide c e | inl b ↦
-    elim (or_cases _ (c == 0x1680) b) [ inr e ↦ one_not_wide 0x1680 c refl e | inl b ↦
-    elim (or_cases _ (c == 0xA0) b) [ inr e ↦ one_not_wide 0xA0 c refl e | inl b ↦
-    elim (or_cases _ (c == 0x85) b) [ inr e ↦ one_not_wide 0x85 c refl e | inl b ↦ ascii_not_wide c (small c b) ] ] ] ] ] ] ] ] ]
+    elim (or_cases _ (c == 0x3000) b) [
+      | inr e ↦ one_not_wide 0x3000 c refl e
+      | inl b ↦
+          elim (or_cases _ (c == 0x205F) b) [
+            | inr e ↦ one_not_wide 0x205F c refl e
+            | inl b ↦
+                elim (or_cases _ (c == 0x202F) b) [
+                  | inr e ↦ one_not_wide 0x202F c refl e
+                  | inl b ↦
+                      elim (or_cases _ (c == 0x2029) b) [
+                        | inr e ↦ one_not_wide 0x2029 c refl e
+                        | inl b ↦
+                            elim (or_cases _ (c == 0x2028) b) [
+                              | inr e ↦ one_not_wide 0x2028 c refl e
+                              | inl b ↦
+                                  elim (or_cases _ (nat_lt 0x1FFF c && nat_lt c 0x200B) b) [
+                                    | inr e ↦ range_not_wide c e
+                                    | inl b ↦
+                                        elim (or_cases _ (c == 0x1680) b) [
+                                          | inr e ↦ one_not_wide 0x1680 c refl e
+                                          | inl b ↦
+                                              elim (or_cases _ (c == 0xA0) b) [
+                                                | inr e ↦ one_not_wide 0xA0 c refl e
+                                                | inl b ↦
+                                                    elim (or_cases _ (c == 0x85) b) [ inr e ↦ one_not_wide 0x85 c refl e | inl b ↦ ascii_not_wide c (small c b) ]
+                                              ]
+                                        ]
+                                  ]
+                            ]
+                      ]
+                ]
+          ]
+    ]

@@ -1,5 +1,5 @@
 -- Numbers: those of RFC 8259, 6 and, each under its option, of JSON5, 6. Each part ends where its digits end, and says what may not follow it.
-use Rattle.std.specs.Prelude.{ℕ, ◌≡◌, Bool, true, false, ◌||◌, ◌==◌, Option, List, [], ◌∷◌, ◌++◌, IsTrue, codes}
+use Rattle.std.specs.Prelude.{ℕ, Bool, true, false, ◌||◌, ◌==◌, Option, List, [], ◌∷◌, ◌++◌, IsTrue, codes}
 use Rattle.std.specs.Int.{is_in_range}
 use Rattle.jsonc_text.specs.Options.{Options, all_on}
 use Rattle.jsonc_text.specs.Text.{next, no, Many, AllOf, is_digit, is_hex_digit}

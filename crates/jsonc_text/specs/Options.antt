@@ -1,5 +1,5 @@
 -- What a text may hold beyond JSON (RFC 8259). Most of it is JSON5's.
-use Rattle.std.specs.Prelude.{Bool, true, false}
+use Rattle.std.specs.Prelude.{◌≡◌, Bool, true, false}
 
 pub record Options : Type 0 where
   pub single_quoted_strings : Bool
@@ -24,3 +24,12 @@ plain_json = record { single_quoted_strings = false; hexadecimal_numbers = false
 -- o without missing commas
 abbrev pub with_commas : Options → Options
 with_commas o = record o { missing_commas = false }
+
+-- o and p agree on the six options that lexemes look at
+pub record AgreeOnLexemes (o p : Options) : Type 0 where
+  pub single_quoted_strings : o.single_quoted_strings ≡ p.single_quoted_strings
+  pub hexadecimal_numbers : o.hexadecimal_numbers ≡ p.hexadecimal_numbers
+  pub unary_plus_numbers : o.unary_plus_numbers ≡ p.unary_plus_numbers
+  pub bare_decimal_points : o.bare_decimal_points ≡ p.bare_decimal_points
+  pub non_finite_numbers : o.non_finite_numbers ≡ p.non_finite_numbers
+  pub extended_escapes : o.extended_escapes ≡ p.extended_escapes

@@ -1,7 +1,7 @@
 -- A text is a list of characters, each a code point: of a `&str` s it is `chars s.now`.
 -- A relation on two texts t and r says what stands at the front of t, and that r is what follows it.
 use Rattle.std.specs.Char.{is_ascii_digit, is_ascii_hexdigit, is_ascii_alphabetic}
-use Rattle.std.specs.Prelude.{ℕ, ◌≡◌, ◌≤◌, Bool, true, false, not, ◌||◌, Option, Some, None, List, [], ◌∷◌, length, encode_utf8_all, chars, drop, IsCharBoundary, IsTrue, ◌==◌}
+use Rattle.std.specs.Prelude.{ℕ, ◌≤◌, Bool, true, false, not, ◌||◌, Option, Some, None, List, [], ◌∷◌, length, encode_utf8_all, chars, drop, IsCharBoundary, IsTrue, ◌==◌}
 
 -- the character after a piece, or none at the end: the first character of what follows
 abbrev pub next : List ℕ → Option ℕ

@@ -1,5 +1,5 @@
 -- Keywords (RFC 8259, 3) and words (after JSON5, 3; wider).
-use Rattle.std.specs.Prelude.{ℕ, ◌≡◌, ◌≢◌, Bool, true, false, not, ◌&&◌, ◌||◌, ◌==◌, Option, List, [], ◌∷◌, ◌++◌, IsTrue, codes, nat_lt}
+use Rattle.std.specs.Prelude.{ℕ, ◌≡◌, ◌≢◌, Bool, true, false, ◌&&◌, ◌||◌, ◌==◌, Option, List, [], ◌++◌, IsTrue, codes, nat_lt}
 use Rattle.jsonc_text.specs.Options.{Options}
 use Rattle.jsonc_text.specs.Text.{next, no, starts, end_or, Many, is_digit, is_ascii_letter}
 use Rattle.jsonc_text.specs.Gaps.{is_blank}

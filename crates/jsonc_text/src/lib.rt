@@ -4,10 +4,18 @@
 #![tactic(auto)]
 
 mod chars;
+mod comment;
 pub mod common;
 pub mod errors;
+mod faults;
 pub mod laws;
+mod lexeme;
 mod line;
+mod number;
 pub mod options;
+mod reads;
+mod runs;
 pub mod scanner;
+mod string;
 pub mod tokens;
+mod word;
