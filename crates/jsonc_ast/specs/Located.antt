@@ -1,5 +1,5 @@
 -- Values with the place of each of their nodes, and the texts that they stand in.
-use Rattle.std.specs.Prelude.{ℕ, ◌+◌, ◌≡◌, List, [], ◌∷◌, Option, Some, None, length}
+use Rattle.std.specs.Prelude.{ℕ, ◌+◌, ◌-◌, ◌≤◌, ◌≡◌, List, [], ◌∷◌, Option, Some, None, length}
 use Rattle.jsonc_text.specs.declared.common.Range.{Range}
 use Rattle.jsonc_text.specs.Options.{Options}
 use Rattle.jsonc_text.specs.Text.{rest, Spans}
@@ -74,18 +74,16 @@ Colon o t r = (u : List ℕ) × Gap o t (0x3A ∷ u) × Gap o u r
 abbrev pub IsLeaf : Options → Plain → List ℕ → List ℕ → Type 0
 IsLeaf o v t r = (k : LexemeKind) × Lexeme o k t r × (literal_value k ≡ Some v)
 
--- t is the name, and then r
-abbrev pub Names : Options → List ℕ → List ℕ → List ℕ → Type 0
-Names o name t r = IsName o t name r
-
--- a container's bracket stands in its first byte
-abbrev pub Begins : List ℕ → ℕ → Range → Type 0
-Begins bytes bracket r = Between bytes (One bracket) r.start (r.start + 1) × Spans bytes r.start r.end
+-- a container begins with one bracket, and ends with the other
+pub record Brackets (bytes : List ℕ) (opening closing : ℕ) (r : Range) : Type 0 where
+  pub opens : Between bytes (One opening) r.start (r.start + 1)
+  pub closes : Between bytes (One closing) (r.end - 1) r.end
+  pub order : r.start + 1 ≤ r.end - 1
 
 -- a property in the range r begins with its name, and ends with its value in the range v
 pub record IsNamed (o : Options) (bytes : List ℕ) (n : LocatedName) (r v : Range) : Type 0 where
   pub begins : n.range.start ≡ r.start
-  pub name : In bytes (Names o n.name) n.range
+  pub name : In bytes (λ t r. IsName o t n.name r) n.range
   pub colon : Between bytes (Colon o) n.range.end v.start
   pub ends : v.end ≡ r.end
 
@@ -93,8 +91,8 @@ pub record IsNamed (o : Options) (bytes : List ℕ) (n : LocatedName) (r v : Ran
 abbrev mutual
   pub IsLocated : Options → List ℕ → Located → Type 0
   IsLocated o bytes (leaf_at r v) = In bytes (IsLeaf o v) r
-  IsLocated o bytes (array_at r xs) = Begins bytes 0x5B r × AreItems o bytes (r.start + 1) xs r.end
-  IsLocated o bytes (object_at r ms) = Begins bytes 0x7B r × AreMembers o bytes (r.start + 1) ms r.end
+  IsLocated o bytes (array_at r xs) = Brackets bytes 0x5B 0x5D r × AreItems o bytes (r.start + 1) xs r.end
+  IsLocated o bytes (object_at r ms) = Brackets bytes 0x7B 0x7D r × AreMembers o bytes (r.start + 1) ms r.end
 
   -- from the place after a `[` to the place after its `]`
   pub AreItems : Options → List ℕ → ℕ → LocatedItems → ℕ → Type 0
