@@ -1,2 +1,5 @@
 pub mod Located
 pub mod Views
+pub mod Scanned
+pub mod Containers
+pub mod Context

@@ -2,3 +2,6 @@
 #![tactic(auto)]
 
 pub mod ast;
+pub mod collect;
+mod container;
+mod context;
