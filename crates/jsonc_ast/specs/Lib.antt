@@ -3,3 +3,4 @@ pub mod Views
 pub mod Scanned
 pub mod Containers
 pub mod Context
+pub mod Reads

@@ -1,8 +1,9 @@
 -- What a token may be.
-use Rattle.std.specs.Prelude.{Bool, true, false, ◌||◌, ◌==◌, Option, None, Some, if◌then◌else◌}
+use Rattle.std.specs.Prelude.{ℕ, List, Bool, true, false, ◌||◌, ◌==◌, Option, None, Some, if◌then◌else◌}
 use Rattle.jsonc_text.specs.declared.errors.ParseErrorKind.{ParseErrorKind}
 use Rattle.jsonc_text.specs.declared.errors.ParseErrorKind.TheVariants as kind
 use Rattle.jsonc_text.specs.Lexemes.{Scanned, lexeme, line_comment, block_comment, LexemeKind}
+use Rattle.jsonc_text.specs.Words.{keyword_text}
 use Rattle.jsonc_text.specs.Plain.{Plain}
 use Rattle.jsonc_text.specs.Grammar.{literal_value}
 
@@ -46,3 +47,13 @@ unexpected_kind (lexeme (LexemeKind.number s)) = kind.UnexpectedToken
 unexpected_kind (lexeme (LexemeKind.keyword k)) = kind.UnexpectedToken
 unexpected_kind (line_comment s) = kind.UnexpectedToken
 unexpected_kind (block_comment s) = kind.UnexpectedToken
+
+-- the text of a token that may be a name without quotes
+abbrev pub loose_text : Scanned → Option (List ℕ)
+loose_text (lexeme (LexemeKind.word s)) = Some s
+loose_text (lexeme (LexemeKind.number s)) = Some s
+loose_text (lexeme (LexemeKind.keyword k)) = Some (keyword_text k)
+loose_text (lexeme (LexemeKind.string v)) = None
+loose_text (lexeme (LexemeKind.punctuation c)) = None
+loose_text (line_comment s) = None
+loose_text (block_comment s) = None

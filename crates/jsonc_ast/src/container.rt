@@ -1,10 +1,10 @@
 //! What a token is to a parser.
-ghost use Rattle.std.specs.Prelude.{◌≡◌, ◌≢◌, ◌↔◌, IsTrue};
+ghost use Rattle.std.specs.Prelude.{◌≡◌, ◌≢◌, ◌↔◌, IsTrue, chars, option_map};
 ghost use Rattle.jsonc_text.specs.Lexemes.{lexeme, punctuation};
 ghost use Rattle.jsonc_text.specs.Tokens.{scanned_of};
 ghost use Rattle.jsonc_text.specs.Places.{is_comment as is_a_comment};
 ghost use Rattle.jsonc_ast.specs.Containers.{closing, unterminated_kind, begins, misplaced_kind};
-ghost use Rattle.jsonc_ast.specs.Scanned.{begins_value, begins_name, unexpected_kind};
+ghost use Rattle.jsonc_ast.specs.Scanned.{begins_value, begins_name, unexpected_kind, loose_text};
 
 use jsonc_text::errors::ParseErrorKind;
 use jsonc_text::tokens::Token;
@@ -128,4 +128,18 @@ pub fn is_colon<'a, A: Allocator>(token: &Token<'a, A>) -> bool
     ensures { IsTrue result ↔ (scanned_of token.now ≡ lexeme (punctuation 0x3A)) }
 {
     matches!(token, Token::Colon)
+}
+
+/// The text of a token that may be a name without quotes.
+pub fn loose_name<'a, A: Allocator>(token: &Token<'a, A>) -> Option<&'a str>
+    ensures { option_map (λ s. chars s.now) result ≡ loose_text (scanned_of token.now) }
+{
+    match token {
+        Token::Word(text) => Some(*text),
+        Token::Number(text) => Some(*text),
+        Token::Boolean(true) => Some("true"),
+        Token::Boolean(false) => Some("false"),
+        Token::Null => Some("null"),
+        _ => None,
+    }
 }

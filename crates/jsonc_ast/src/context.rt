@@ -4,8 +4,9 @@ ghost use Rattle.std.specs.Str.{is_utf8};
 ghost use Rattle.jsonc_text.specs.OptionsOf.{parse_options};
 ghost use Rattle.jsonc_text.specs.Scanner.{options_of};
 
+use crate::ast::{ObjectPropName, StringLit, WordLit};
 use crate::collect::{CollectOptions, CommentCollectionStrategy};
-use crate::container::{Container, is_comma, is_comment};
+use crate::container::{Container, is_colon, is_comma, is_comment, loose_name};
 use jsonc_text::common::Range;
 use jsonc_text::errors::{ParseError, ParseErrorKind};
 use jsonc_text::options::ParseOptions;
@@ -31,13 +32,14 @@ impl<'a, A: Allocator + Copy> Context<'a, A> {
     ghost use Rattle.std.specs.Prelude.{◌≡◌, ◌≢◌, ◌≤◌, IfOk, IfErr, OnOk, IsTrue};
     ghost use Rattle.jsonc_text.specs.Faults.{IsFault, IsOutOfMemory, range_of, kind_of};
     ghost use Rattle.jsonc_text.specs.Gaps.{Gap};
-    ghost use Rattle.jsonc_text.specs.Grammar.{Separates, Closes};
+    ghost use Rattle.jsonc_text.specs.Grammar.{Separates, Closes, IsName};
     ghost use Rattle.jsonc_text.specs.Places.{is_comment as is_a_comment};
     ghost use Rattle.jsonc_text.specs.Text.{Spans};
     ghost use Rattle.jsonc_text.specs.Tokens.{scanned_of};
     ghost use Rattle.jsonc_ast.specs.Containers.{closing};
     ghost use Rattle.jsonc_ast.specs.Context.{text_in, options_in, token_start, token_end, token_range, tokens_asked, Keeps, Finds, Leads, IsToken, IsNoComment};
-    ghost use Rattle.jsonc_ast.specs.Located.{Ends, TrailingComma};
+    ghost use Rattle.jsonc_ast.specs.Located.{Between, In, Ends, TrailingComma};
+    ghost use Rattle.jsonc_ast.specs.Views.{name_at};
 
     /// A parser at the start of a text.
     pub fn new(
@@ -256,5 +258,41 @@ impl<'a, A: Allocator + Copy> Context<'a, A> {
             return Err(self.missing_comma(container, &token, end));
         }
         Ok(Some(token))
+    }
+    /// The name that the last token is, where the options allow it.
+    pub fn name(&self, token: Token<'a, A>) -> Result<ObjectPropName<'a, A>, ParseError>
+        requires { IsToken self.now token }
+        ensures name { IfOk result (λ n. In (text_in self.now) (λ t r. IsName (options_in self.now) t (name_at n).name r) (token_range self.now)) }
+        ensures range { IfOk result (λ n. (name_at n).range ≡ token_range self.now) }
+        ensures fault { IfErr result (IsFault (text_in self.now)) }
+    {
+        let range = self.range();
+        match token {
+            Token::String(value) => Ok(ObjectPropName::String(StringLit { range, value })),
+            token => {
+                let Some(value) = loose_name(&token) else {
+                    return Err(self.fault_here(ParseErrorKind::UnexpectedTokenInObject));
+                };
+                if !self.options.allow_loose_object_property_names {
+                    return Err(self.fault_here(ParseErrorKind::ExpectedStringObjectProperty));
+                }
+                Ok(ObjectPropName::Word(WordLit { range, value }))
+            }
+        }
+    }
+
+    /// Passes a gap and the colon after it.
+    pub fn pass_colon(&mut self) -> Result<(), ParseError>
+        ensures kept { Keeps self.old self.new }
+        ensures found { OnOk result (Between (text_in self.old) (Ends (options_in self.old) 0x3A) (token_end self.old) (token_end self.new)) }
+        ensures fault { IfErr result (IsFault (text_in self.old)) }
+    {
+        let Some(token) = self.scan()? else {
+            return Err(self.fault_here(ParseErrorKind::ExpectedColonAfterObjectKey));
+        };
+        if !is_colon(&token) {
+            return Err(self.fault_here(ParseErrorKind::ExpectedColonAfterObjectKey));
+        }
+        Ok(())
     }
 }

@@ -5,3 +5,6 @@ pub mod ast;
 pub mod collect;
 mod container;
 mod context;
+mod values;
+
+pub use values::parse_to_ast;

@@ -1,5 +1,5 @@
 //! Values read by recursive descent.
-ghost use Rattle.std.specs.Prelude.{◌≡◌, ◌+◌, ◌≤◌, IfOk, IfErr, OnOk, IfSome, option_map};
+ghost use Rattle.std.specs.Prelude.{◌≡◌, ◌+◌, ◌≤◌, IfOk, IfErr, OnOk, IfSome, option_map, is_some, chars};
 ghost use Rattle.jsonc_text.specs.Faults.{IsFault};
 ghost use Rattle.jsonc_text.specs.Grammar.{IsDocument};
 ghost use Rattle.jsonc_text.specs.OptionsOf.{parse_options};
@@ -40,7 +40,7 @@ fn parse_leaf<'a, A: Allocator + Copy>(
     context: &Context<'a, A>,
     token: Token<'a, A>,
 ) -> Result<Value<'a, A>, ParseError>
-    requires { IsToken context.now token.entry }
+    requires { IsToken context.now token }
     ensures found { IfOk result (λ v. Reads context.now context.now (located v)) }
     ensures within { IfOk result (λ v. around (plain v) ≡ 0) }
     ensures fault { IfErr result (IsFault (text_in context.now)) }
@@ -59,7 +59,7 @@ fn parse_value<'a, A: Allocator + Copy>(
     token: Token<'a, A>,
     count: usize,
 ) -> Result<Value<'a, A>, ParseError>
-    requires token { IsToken context.old token.entry }
+    requires token { IsToken context.old token }
     requires around { count ≤ 512 }
     ensures kept { OnOk result (Keeps context.old context.new) }
     ensures found { IfOk result (λ v. Reads context.old context.new (located v)) }
@@ -133,7 +133,7 @@ fn parse_property<'a, A: Allocator + Copy>(
     token: Token<'a, A>,
     count: usize,
 ) -> Result<ObjectProp<'a, A>, ParseError>
-    requires token { IsToken context.old token.entry }
+    requires token { IsToken context.old token }
     requires around { count ≤ 513 }
     ensures kept { OnOk result (Keeps context.old context.new) }
     ensures found { IfOk result (λ p. ReadsMember context.old context.new (member_of p)) }
@@ -150,4 +150,38 @@ fn parse_property<'a, A: Allocator + Copy>(
     };
     let value = parse_value(context, token, count + 1)?;
     Ok(property_of(Range::new(start, context.scanner.token_end()), name, value))
+}
+
+/// Parses a text to its value, with the range of each node.
+///
+/// Places are bytes of the text. The value is none where the text holds blanks and comments alone.
+/// A value that more than 512 containers and properties are around is refused. The error says what
+/// is wrong, in which bytes, and in which line and column; want of memory is an error too.
+pub fn parse_to_ast<'a, A: Allocator + Copy>(
+    alloc: A,
+    text: &'a str,
+    collect: &CollectOptions,
+    options: &ParseOptions,
+) -> Result<ParseResult<'a, A>, ParseError>
+    ensures accepted { IfOk result (λ parsed. IsDocument (parse_options options.now) (chars text.now) (option_map plain parsed.value)) }
+    ensures located { IfOk result (λ parsed. IsLocatedDocument (parse_options options.now) text.now (option_map located parsed.value)) }
+    ensures within { IfOk result (λ parsed. IfSome parsed.value (λ v. around (plain v) ≤ 512)) }
+    ensures tokens { IfOk result (λ parsed. is_some parsed.tokens ≡ collect.now.tokens) }
+    ensures fault { IfErr result (IsFault text.now) }
+{
+    let mut context = Context::new(alloc, text, collect, options);
+    let Some(token) = context.scan()? else {
+        return Ok(ParseResult {
+            value: None,
+            tokens: context.tokens,
+        });
+    };
+    let value = parse_value(&mut context, token, 0)?;
+    let None = context.scan()? else {
+        return Err(context.fault_here(ParseErrorKind::MultipleRootJsonValues));
+    };
+    Ok(ParseResult {
+        value: Some(value),
+        tokens: context.tokens,
+    })
 }
