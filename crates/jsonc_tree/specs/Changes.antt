@@ -51,9 +51,13 @@ pub record MakesRoom (old new : List Node) : Type 0 where
   pub children : (n : ℕ) → children_at new n ≡ children_at old n
   pub room : (n : ℕ) → room_at old n ≤ room_at new n
 
--- the first `count` nodes are as they were, but for their room; there may be new ones
-pub record Keeps (count : ℕ) (old new : List Node) : Type 0 where
-  pub len : length old ≤ length new
-  pub content : (n : ℕ) → n < count → content_at new n ≡ content_at old n
-  pub parent : (n : ℕ) → n < count → parent_at new n ≡ parent_at old n
-  pub children : (n : ℕ) → n < count → children_at new n ≡ children_at old n
+-- there is one more node, the container's last child, without children
+pub record Pushes (old new : List Node) (c : ℕ) (content : Content) : Type 0 where
+  pub len : length new ≡ length old + 1
+  pub last : content_at new (length old) ≡ content
+  pub bare : children_at new (length old) ≡ []
+  pub parent : parent_at new (length old) ≡ Some c
+  pub children : children_at new c ≡ children_at old c ++ length old ∷ []
+  pub contents : (m : ℕ) → m < length old → content_at new m ≡ content_at old m
+  pub parents : (m : ℕ) → m < length old → parent_at new m ≡ parent_at old m
+  pub others : (m : ℕ) → m < length old → m ≢ c → children_at new m ≡ children_at old m

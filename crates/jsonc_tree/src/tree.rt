@@ -4,7 +4,7 @@ ghost use Rattle.std.specs.Prelude.{◌≡◌, ◌≢◌, ℕ, string_bytes, IsT
 ghost use Rattle.std.specs.List.{splice};
 ghost use Rattle.jsonc_tree.specs.Content.{has_text, is_container, root, with_text};
 ghost use Rattle.jsonc_tree.specs.Tree.{node_at, children_at, content_at, is_container_at, parent_at, room_at, IsOver, IsTree};
-ghost use Rattle.jsonc_tree.specs.Changes.{Adds, Appends, CanJoin, MakesRoom, Splices};
+ghost use Rattle.jsonc_tree.specs.Changes.{Adds, Appends, CanJoin, MakesRoom, Pushes, Splices};
 ghost use Rattle.jsonc_tree.specs.Stored.{content_of, nodes_of, places_of, linked, placed, unplaced, IsStored};
 
 use crate::node::{Kind, Node};
@@ -183,6 +183,7 @@ impl<A: Allocator> Tree<A> {
         ensures room { OnOk result (additional ≤ room_at self.new.nodes container) }
         ensures kept { MakesRoom self.old.nodes self.new.nodes }
         ensures spare { self.old.room ≤ self.new.room }
+        ensures tree { IsTree self.new.nodes }
     {
         reserve_at(&mut self.nodes, container, additional)
     }
@@ -197,8 +198,26 @@ impl<A: Allocator> Tree<A> {
         requires join { CanJoin self.old.nodes container from to new.now }
         ensures splices { Splices self.old.nodes self.new.nodes container from to new.now }
         ensures spare { self.old.room ≤ self.new.room }
+        ensures tree { IsTree self.new.nodes }
     {
         splice_nodes(&mut self.nodes, container, from, to, new);
+    }
+
+    /// Makes a node without a parent the last child of a container that has room for it.
+    pub fn append(&mut self, container: usize, node: usize)
+        requires there { container < length self.old.nodes }
+        requires container { IsTrue (is_container_at self.old.nodes container) }
+        requires room { 1 ≤ room_at self.old.nodes container }
+        requires node { node < length self.old.nodes }
+        requires not_root { node ≢ 0 }
+        requires alone { parent_at self.old.nodes node ≡ None }
+        requires not_over { IsOver self.old.nodes node container → ⊥ }
+        ensures appends { Appends self.old.nodes self.new.nodes container node }
+        ensures spare { self.old.room ≤ self.new.room }
+        ensures tree { IsTree self.new.nodes }
+    {
+        let count = self.child_count(container);
+        self.splice(container, count, count, &[node]);
     }
 
     /// Gives a leaf that keeps a text another one: a string, word, number, whitespace or comment.
@@ -228,7 +247,9 @@ fn bare_node<A: Allocator>(kind: Kind<A>, children: Vec<usize, A>) -> Node<A>
 impl<A: Allocator + Clone> Tree<A> {
     /// A document with nothing in its root.
     pub fn new(alloc: A) -> Result<Self, AllocError>
-        ensures { IfOk result (λ t. (length t.nodes ≡ 1) × (content_at t.nodes 0 ≡ root) × (parent_at t.nodes 0 ≡ None) × (children_at t.nodes 0 ≡ [])) }
+        ensures one { IfOk result (λ t. length t.nodes ≡ 1) }
+        ensures bare { IfOk result (λ t. children_at t.nodes 0 ≡ []) }
+        ensures tree { IfOk result (λ t. IsTree t.nodes) }
     {
         let children = Vec::new(alloc.clone()?);
         let mut nodes = Vec::new(alloc);
@@ -243,10 +264,28 @@ impl<A: Allocator + Clone> Tree<A> {
         ensures number { IfOk result (λ n. n ≡ length self.old.nodes) }
         ensures added { OnOk result (Adds self.old.nodes self.new.nodes (content_of kind)) }
         ensures err { OnErr result (self.new.nodes ≡ self.old.nodes) }
+        ensures tree { IsTree self.new.nodes }
     {
         let number = self.nodes.len();
         let children = Vec::new(self.nodes.allocator().clone()?);
         self.nodes.push(bare_node(kind, children))?;
         Ok(number)
+    }
+
+    /// Adds a node as a container's last child, and answers its number.
+    ///
+    /// A refusal leaves every node as it was, though the container may have more room.
+    pub fn push_child(&mut self, container: usize, kind: Kind<A>) -> Result<usize, AllocError>
+        requires there { container < length self.old.nodes }
+        requires container { IsTrue (is_container_at self.old.nodes container) }
+        ensures number { IfOk result (λ n. n ≡ length self.old.nodes) }
+        ensures pushed { OnOk result (Pushes self.old.nodes self.new.nodes container (content_of kind)) }
+        ensures err { OnErr result (MakesRoom self.old.nodes self.new.nodes) }
+        ensures tree { IsTree self.new.nodes }
+    {
+        self.reserve(container, 1)?;
+        let node = self.add(kind)?;
+        self.append(container, node);
+        Ok(node)
     }
 }
