@@ -1,12 +1,12 @@
 -- A node becomes a container's last child.
-use Rattle.std.proofs.Common.{◌≡◌, ◌≢◌, ℕ, false, cond, ◌||◌, ◌<◌, ◌≤◌, List, [], ◌∷◌, ◌++◌, length, slice_range, slice_index, None, Some, inl, inr, refl, sym, ap, subst, ◌∙◌, arith, eq-eqb}
+use Rattle.std.proofs.Common.{true, ◌≡◌, ◌≢◌, ℕ, false, cond, ◌||◌, ◌<◌, ◌≤◌, List, [], ◌∷◌, ◌++◌, length, slice_range, slice_index, None, Some, inl, inr, refl, sym, ap, subst, ◌∙◌, arith, eq-eqb}
 use Rattle.std.proofs.lemmas.Bool.{cases_eq, ne_eqb}
 use Rattle.std.proofs.lemmas.List.{take_all, drop_all, nil_from_length}
 use Rattle.std.proofs.lemmas.List.Edits.{length-between}
 use Rattle.std.specs.List.{splice}
-use Rattle.jsonc_tree.specs.Content.{Content}
-use Rattle.jsonc_tree.specs.Tree.{Node, node_at, content_at, children_at, parent_at, is_in, IsTree, IsOver, itself, above}
-use Rattle.jsonc_tree.specs.Changes.{CanJoin, Splices, Appends, Adds, MakesRoom, Pushes}
+use Rattle.jsonc_tree.specs.Content.{Content, is_container}
+use Rattle.jsonc_tree.specs.Tree.{is_container_at, Node, children_at, parent_at, is_in, IsTree, IsOver, itself, above}
+use Rattle.jsonc_tree.specs.Changes.{CanAppend, CanJoin, Splices, Appends, Adds, MakesRoom}
 
 -- a node is not over another that has no parent
 pub not_over_alone : (ns : List Node) (n c : ℕ) → parent_at ns c ≡ None → n ≢ c → IsOver ns n c → ⊥
@@ -54,19 +54,29 @@ Appends-splice old new c k n e splices =
       room = omega (arith, splices.room);
     }
 
--- room, then a new node, then an append
-pub Pushes-from : (old roomed added new : List Node) (c : ℕ) (content : Content) → c < length old → MakesRoom old roomed → Adds roomed added content → Appends added new c (length roomed) → Pushes old new c content
-Pushes-from old roomed added new c content at room adds appends =
-    let same : length roomed ≡ length old = room.len in
-    let ne : length old ≢ c = λ e. omega (arith, at, e) in
-    let kept : (m : ℕ) → m < length old → node_at added m ≡ node_at roomed m = λ m h. adds.rest m (omega arith) in
-    record {
-      len = omega (arith, appends.len, adds.len, same);
-      last = appends.content (length old) ∙ ap (content_at added) (sym same) ∙ adds.last;
-      bare = appends.others (length old) ne ∙ ap (children_at added) (sym same) ∙ adds.bare.1;
-      parent = ap (parent_at new) (sym same) ∙ appends.parent;
-      children = appends.children ∙ ap (λ l. l ++ length roomed ∷ []) (ap (λ (n : Node). n.children) (kept c at) ∙ room.children c) ∙ ap (λ m. children_at old c ++ m ∷ []) same;
-      contents = λ m h. appends.content m ∙ ap (λ (n : Node). n.content) (kept m h) ∙ room.content m;
-      parents = λ m h. appends.parents m (λ e. omega (arith, h, e, same)) ∙ ap (λ (n : Node). n.parent) (kept m h) ∙ room.parent m;
-      others = λ m h apart. appends.others m apart ∙ ap (λ (n : Node). n.children) (kept m h) ∙ room.children m;
-    }
+-- more room puts no node over another
+IsOver-room : (a b : List Node) (n c : ℕ) → MakesRoom a b → IsOver b n c → IsOver a n c
+IsOver-room a b n _ room itself = itself
+IsOver-room a b n c room (above {c = p} said r) = above (sym (room.parent c) ∙ said) (IsOver-room a b n p room r)
+
+-- what can be appended still can where there is more room
+pub CanAppend-room : (a b : List Node) (c n : ℕ) → MakesRoom a b → CanAppend a c n → CanAppend b c n
+CanAppend-room a b c n room can = record {
+  container = omega (arith, can.container, room.len);
+  holds = ap is_container (room.content c) ∙ can.holds;
+  node = omega (arith, can.node, room.len);
+  not_root = can.not_root;
+  alone = room.parent n ∙ can.alone;
+  not_over = λ over. can.not_over (IsOver-room a b n c room over);
+}
+
+-- a node that was just added can be appended to any container
+pub CanAppend-adds : (a b : List Node) (content : Content) (c : ℕ) → IsTree b → c < length a → is_container_at a c ≡ true → Adds a b content → CanAppend b c (length a)
+CanAppend-adds a b content c tree at holds adds = record {
+  container = omega (arith, adds.len);
+  holds = ap (λ (n : Node). is_container n.content) (adds.rest c at) ∙ holds;
+  node = omega (arith, adds.len);
+  not_root = λ e. omega (arith, at, e);
+  alone = adds.bare.0;
+  not_over = not_over_bare b tree (length a) c (ap length adds.bare.1) (λ e. omega (arith, at, e));
+}

@@ -1,8 +1,8 @@
 -- How a builder knows the ordered tree that it has built.
-use Rattle.std.proofs.Common.{◌≡◌, ◌≢◌, ℕ, ◌<◌, ◌≤◌, List, [], ◌∷◌, ◌++◌, length, get_or, None, Some, refl, sym, ap, subst, ◌∙◌, arith}
-use Rattle.jsonc_tree.specs.Content.{Content, root}
+use Rattle.std.proofs.Common.{true, ◌≡◌, ◌≢◌, ℕ, ◌<◌, ◌≤◌, List, [], ◌∷◌, ◌++◌, length, get_or, None, Some, refl, sym, ap, subst, ◌∙◌, arith}
+use Rattle.jsonc_tree.specs.Content.{Content, root, is_container}
 use Rattle.jsonc_tree.specs.Tree.{Node, content_at, children_at, parent_at, IsTree, IsOver, itself}
-use Rattle.jsonc_tree.specs.Changes.{Appends, Adds, MakesRoom, Pushes}
+use Rattle.jsonc_tree.specs.Changes.{Appends, CanAppend, Adds, MakesRoom, Pushes}
 use Rattle.jsonc_tree.specs.OrderedTree.{OrderedTree, none, more, followed_by, Shows, shows_none, shows_more, ordered_tree}
 use Rattle.jsonc_tree.specs.Building.{Keeps, Builds}
 use Rattle.jsonc_tree.proofs.Order.{not_over_parent}
@@ -183,3 +183,14 @@ Builds-room a b c n content below built room tree = record {
 pub Builds-ordered_tree : (a b : List Node) (n : ℕ) (content : Content) (below : OrderedTree) → Builds a b n content below → ordered_tree b n ≡ more content below none
 Builds-ordered_tree a b n content below built =
     Shows-unique b (n ∷ []) (ordered_tree b n) (more content below none) (Shows-ordered_tree b built.tree n built.there) (Shows-one b n content below built.is built.shows)
+
+-- what was built apart can be appended
+pub CanAppend-built : (a b c : List Node) (n m : ℕ) (content other : Content) (below inner : OrderedTree) → is_container content ≡ true → Builds a b n content below → Builds b c m other inner → CanAppend c n m
+CanAppend-built a b c n m content other below inner holds built part = record {
+  container = omega (arith, built.there, part.keeps.len);
+  holds = ap is_container (part.keeps.content n built.there ∙ built.is) ∙ holds;
+  node = part.there;
+  not_root = λ e. omega (arith, e, part.later, built.tree.first);
+  alone = part.alone;
+  not_over = not_over_alone c m n (part.keeps.parent n built.there ∙ built.alone) (λ e. omega (arith, e, built.there, part.later));
+}

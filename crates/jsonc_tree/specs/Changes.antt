@@ -2,7 +2,7 @@
 use Rattle.std.specs.Prelude.{◌≡◌, ◌≢◌, ℕ, ◌+◌, ◌-◌, ◌≤◌, ◌<◌, ◌⊎◌, true, List, [], ◌∷◌, ◌++◌, length, Some, None, slice_index, slice_range, if◌then◌else◌}
 use Rattle.std.specs.List.{splice}
 use Rattle.jsonc_tree.specs.Content.{Content}
-use Rattle.jsonc_tree.specs.Tree.{Node, node_at, content_at, parent_at, children_at, room_at, is_in, IsOver}
+use Rattle.jsonc_tree.specs.Tree.{Node, node_at, content_at, parent_at, children_at, room_at, is_container_at, is_in, IsOver}
 
 -- no number stands twice in the list
 abbrev pub EachOnce : List ℕ → Type 0
@@ -25,6 +25,16 @@ pub record CanJoin (ns : List Node) (c i j : ℕ) (xs : List ℕ) : Type 0 where
   pub once : EachOnce xs
   pub free : (k : ℕ) → k < length xs → (parent_at ns (slice_index xs k) ≡ None) ⊎ (is_in (slice_index xs k) (slice_range (children_at ns c) i j) ≡ true)
   pub not_over : (k : ℕ) → k < length xs → IsOver ns (slice_index xs k) c → ⊥
+
+-- What an append asks of the container and the node: both are there, the one is a container, and the other, which isn't the root, has no parent and is not
+-- over the container.
+pub record CanAppend (ns : List Node) (c n : ℕ) : Type 0 where
+  pub container : c < length ns
+  pub holds : is_container_at ns c ≡ true
+  pub node : n < length ns
+  pub not_root : n ≢ 0
+  pub alone : parent_at ns n ≡ None
+  pub not_over : IsOver ns n c → ⊥
 
 -- the new nodes are the old ones, but that this one is the container's last child
 pub record Appends (old new : List Node) (c n : ℕ) : Type 0 where

@@ -4,7 +4,7 @@ ghost use Rattle.std.specs.Prelude.{◌≡◌, ◌≢◌, ℕ, string_bytes, IsT
 ghost use Rattle.std.specs.List.{splice};
 ghost use Rattle.jsonc_tree.specs.Content.{has_text, is_container, root, with_text};
 ghost use Rattle.jsonc_tree.specs.Tree.{node_at, children_at, content_at, is_container_at, parent_at, room_at, IsOver, IsTree};
-ghost use Rattle.jsonc_tree.specs.Changes.{Adds, Appends, CanJoin, MakesRoom, Pushes, Splices};
+ghost use Rattle.jsonc_tree.specs.Changes.{Adds, Appends, CanAppend, CanJoin, MakesRoom, Pushes, Splices};
 ghost use Rattle.jsonc_tree.specs.Stored.{content_of, nodes_of, places_of, linked, placed, unplaced, IsStored};
 
 use crate::node::{Kind, Node};
@@ -205,19 +205,28 @@ impl<A: Allocator> Tree<A> {
 
     /// Makes a node without a parent the last child of a container that has room for it.
     pub fn append(&mut self, container: usize, node: usize)
-        requires there { container < length self.old.nodes }
-        requires container { IsTrue (is_container_at self.old.nodes container) }
+        requires can { CanAppend self.old.nodes container node }
         requires room { 1 ≤ room_at self.old.nodes container }
-        requires node { node < length self.old.nodes }
-        requires not_root { node ≢ 0 }
-        requires alone { parent_at self.old.nodes node ≡ None }
-        requires not_over { IsOver self.old.nodes node container → ⊥ }
         ensures appends { Appends self.old.nodes self.new.nodes container node }
         ensures spare { self.old.room ≤ self.new.room }
         ensures tree { IsTree self.new.nodes }
     {
         let count = self.child_count(container);
         self.splice(container, count, count, &[node]);
+    }
+
+    /// Makes a node without a parent the last child of a container.
+    ///
+    /// A refusal leaves every node as it was, though the container may have more room.
+    pub fn attach(&mut self, container: usize, node: usize) -> Result<(), AllocError>
+        requires { CanAppend self.old.nodes container node }
+        ensures appends { OnOk result (Appends self.old.nodes self.new.nodes container node) }
+        ensures err { OnErr result (MakesRoom self.old.nodes self.new.nodes) }
+        ensures tree { IsTree self.new.nodes }
+    {
+        self.reserve(container, 1)?;
+        self.append(container, node);
+        Ok(())
     }
 
     /// Gives a leaf that keeps a text another one: a string, word, number, whitespace or comment.
@@ -266,7 +275,7 @@ impl<A: Allocator + Clone> Tree<A> {
         ensures err { OnErr result (self.new.nodes ≡ self.old.nodes) }
         ensures tree { IsTree self.new.nodes }
     {
-        let number = self.nodes.len();
+        let number = self.len();
         let children = Vec::new(self.nodes.allocator().clone()?);
         self.nodes.push(bare_node(kind, children))?;
         Ok(number)
@@ -284,8 +293,8 @@ impl<A: Allocator + Clone> Tree<A> {
         ensures tree { IsTree self.new.nodes }
     {
         self.reserve(container, 1)?;
-        let node = self.add(kind)?;
-        self.append(container, node);
-        Ok(node)
+        let child = self.add(kind)?;
+        self.append(container, child);
+        Ok(child)
     }
 }

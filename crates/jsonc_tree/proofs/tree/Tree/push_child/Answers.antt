@@ -1,11 +1,12 @@
-use Rattle.std.proofs.Common.{◌≡◌, [], length, ap, ◌∙◌, arith}
-use Rattle.jsonc_tree.specs.Tree.{children_at}
-use Rattle.jsonc_tree.proofs.Appending.{not_over_bare}
+use Rattle.std.proofs.Common.{ap, subst, sym, ◌∙◌, arith}
+use Rattle.jsonc_tree.specs.Content.{is_container}
+use Rattle.jsonc_tree.specs.Stored.{content_of}
+use Rattle.jsonc_tree.specs.Changes.{CanAppend}
+use Rattle.jsonc_tree.proofs.Appending.{CanAppend-adds}
 use Rattle.jsonc_tree.proofs.tree.Tree.push_child.Goals as goal
 
-pub append-requires-clause-not_over : goal.append-requires-clause-not_over
-append-requires-clause-not_over g c =
-    let added = c.in_ok-node.ensures.added in
-    let number = c.in_ok-node.ensures.number in
-    let bare : children_at c.add.new.self.nodes c.in_ok-node.node ≡ [] = ap (children_at c.add.new.self.nodes) number ∙ added.bare.1 in
-    not_over_bare c.add.new.self.nodes c.add.ensures.tree c.in_ok-node.node c.args.container (ap length bare) (λ e. omega (arith, number, e, c.in_ok-reserve.ensures.kept.len, c.requires.there))
+pub append-requires-clause-can : goal.append-requires-clause-can
+append-requires-clause-can g c =
+    let room = c.in_ok-reserve.ensures.kept in
+    let can = CanAppend-adds c.reserve.new.self.nodes c.add.new.self.nodes (content_of c.args.kind) c.args.container c.add.ensures.tree (omega (arith, c.requires.there, room.len)) (ap is_container (room.content c.args.container) ∙ c.requires.container) c.in_ok-child.ensures.added in
+    subst (λ n. CanAppend c.add.new.self.nodes c.args.container n) (sym c.in_ok-child.ensures.number) can
