@@ -18,8 +18,9 @@ pub not_over_bare : (ns : List Node) → IsTree ns → (n c : ℕ) → length (c
 not_over_bare ns tree n _ bare ne itself = ne refl
 not_over_bare ns tree n c bare ne (above {c = p} said r) =
     elim (cases_eq n p) [
-      inl e ↦ omega (arith, tree.within c p said, bare, ap (λ k. length (children_at ns k)) e)
-    | inr apart ↦ not_over_bare ns tree n p bare apart r ]
+      | inl e ↦ omega (arith, tree.within c p said, bare, ap (λ k. length (children_at ns k)) e)
+      | inr apart ↦ not_over_bare ns tree n p bare apart r
+    ]
 
 -- one node may join where it has no parent, is not the root and not over the container
 pub CanJoin-one : (ns : List Node) (n c i j : ℕ) → n < length ns → n ≢ 0 → parent_at ns n ≡ None → (IsOver ns n c → ⊥) → CanJoin ns c i j (n ∷ [])

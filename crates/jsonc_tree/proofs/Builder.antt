@@ -6,7 +6,7 @@ use Rattle.jsonc_tree.specs.Changes.{Appends, CanAppend, Adds, MakesRoom, Pushes
 use Rattle.jsonc_tree.specs.OrderedTree.{OrderedTree, none, more, followed_by, Shows, shows_none, shows_more, ordered_tree}
 use Rattle.jsonc_tree.specs.Building.{Keeps, Builds}
 use Rattle.jsonc_tree.proofs.Order.{not_over_parent}
-use Rattle.jsonc_tree.proofs.Local.{over_up}
+use Rattle.jsonc_tree.proofs.Over.{over_up}
 use Rattle.jsonc_tree.proofs.OrderedTrees.{Shows-ordered_tree, Shows-unique}
 use Rattle.jsonc_tree.proofs.Rows.{Shows-append, Shows-kept}
 use Rattle.jsonc_tree.proofs.Appending.{not_over_alone}
@@ -154,7 +154,7 @@ Builds-appends a b c d n m content other below inner built part appends tree =
 pub Builds-pushes : (a b c : List Node) (n : ℕ) (content other : Content) (below : OrderedTree) → Builds a b n content below → Pushes b c n other → IsTree c → Builds a c n content (followed_by below (more other none none))
 Builds-pushes a b c n content other below built pushes tree =
     let not_child : (m k : ℕ) → k < length (children_at b m) → get_or (children_at b m) k 0 ≢ n = λ m k h e.
-        let wrong : None ≡ Some m = sym built.alone ∙ ap (parent_at b) (sym e) ∙ built.tree.named m k h in cc in
+    let wrong : None ≡ Some m = sym built.alone ∙ ap (parent_at b) (sym e) ∙ built.tree.named m k h in cc in
     let old : Shows c (children_at b n) below = Shows-kept b c (λ m. (m < length b) × (m ≢ n)) (λ m k at h. (built.tree.there m k h, not_child m k h)) (λ m at. pushes.contents m at.0) (λ m at. pushes.others m at.0 at.1) (children_at b n) below (λ k h. (built.tree.there n k h, not_child n k h)) built.shows in
     let new : Shows c (length b ∷ []) (more other none none) = Shows-one c (length b) other none pushes.last (Shows-bare c (length b) pushes.bare) in
     record {

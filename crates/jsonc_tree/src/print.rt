@@ -4,7 +4,7 @@ ghost use Rattle.std.specs.Prelude.{◌≡◌, ◌<◌, Some, length, vec_len};
 ghost use Rattle.std.specs.Fmt.{WritesOnOk};
 ghost use Rattle.jsonc_tree.specs.Content.{text_of};
 ghost use Rattle.jsonc_tree.specs.OrderedTree.{ordered_tree, printed};
-ghost use Rattle.jsonc_tree.specs.Stored.{content_of, nodes_of, IsStored};
+ghost use Rattle.jsonc_tree.specs.Stored.{content_of, nodes_in, IsStored};
 
 use crate::node::{CstNewlineKind, Kind, Node};
 use crate::tree::Tree;
@@ -41,7 +41,7 @@ fn write_below<A: Allocator, W: fmt::Write>(
 ) -> fmt::Result
     requires stored { IsStored nodes.now.items }
     requires there { end < vec_len nodes.now }
-    ensures { WritesOnOk W.write_str_gives f.old result (printed (ordered_tree (nodes_of nodes.now.items) end)) f.new }
+    ensures { WritesOnOk W.write_str_gives f.old result (printed (ordered_tree (nodes_in nodes.now) end)) f.new }
 {
     let mut next = Some(end);
     while let Some(n) = next {

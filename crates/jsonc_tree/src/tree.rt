@@ -1,11 +1,14 @@
 //! The nodes of a document, and their changes.
 
-ghost use Rattle.std.specs.Prelude.{◌≡◌, ◌≢◌, ℕ, string_bytes, IsTrue, ◌+◌, ◌-◌, ◌<◌, ◌≤◌, [], ◌∷◌, length, drop, slice_index, slice_range, slice_set, None, Some, vec_capacity, vec_len, IfOk, OnErr, OnOk};
+ghost use Rattle.std.specs.Prelude.{◌≡◌, string_bytes, IsTrue, ◌+◌, ◌-◌, ◌<◌, ◌≤◌, []};
+ghost use Rattle.std.specs.Prelude.{length, slice_set, None, Some, vec_capacity, vec_len, IfOk, OnErr, OnOk};
 ghost use Rattle.std.specs.List.{splice};
-ghost use Rattle.jsonc_tree.specs.Content.{has_text, is_container, root, with_text};
-ghost use Rattle.jsonc_tree.specs.Tree.{node_at, children_at, content_at, is_container_at, parent_at, room_at, IsOver, IsTree};
-ghost use Rattle.jsonc_tree.specs.Changes.{Adds, Appends, CanAppend, CanJoin, MakesRoom, Pushes, Splices};
-ghost use Rattle.jsonc_tree.specs.Stored.{content_of, nodes_of, places_of, linked, placed, unplaced, IsStored};
+ghost use Rattle.jsonc_tree.specs.Content.{has_text};
+ghost use Rattle.jsonc_tree.specs.Tree.{children_at, content_at, is_container_at, room_at, IsTree};
+ghost use Rattle.jsonc_tree.specs.Changes.{Adds, Appends, CanAppend, CanJoin};
+ghost use Rattle.jsonc_tree.specs.Changes.{MakesRoom, Pushes, Rewrites, Splices};
+ghost use Rattle.jsonc_tree.specs.Stored.{content_of, nodes_in, places_in, linked, placed, unplaced, IsStored};
+ghost use Rattle.jsonc_tree.specs.Stored.{parent_set, room_set, text_set, stretch, tail, Refills, ChildrenThere};
 
 use crate::node::{Kind, Node};
 use crate::walk::{child_of, count_of};
@@ -43,8 +46,8 @@ fn set_link<A: Allocator>(
     place: usize,
 )
     requires { n < vec_len nodes.old }
-    ensures nodes { nodes_of nodes.new.items ≡ slice_set (nodes_of nodes.old.items) n (record (node_at (nodes_of nodes.old.items) n) { parent = parent }) }
-    ensures places { places_of nodes.new.items ≡ slice_set (places_of nodes.old.items) n place }
+    ensures nodes { nodes_in nodes.new ≡ parent_set (nodes_in nodes.old) n parent }
+    ensures places { places_in nodes.new ≡ slice_set (places_in nodes.old) n place }
     ensures len { vec_len nodes.new ≡ vec_len nodes.old }
     ensures capacity { vec_capacity nodes.new ≡ vec_capacity nodes.old }
 {
@@ -74,11 +77,11 @@ fn replace_children<A: Allocator>(
 )
     requires there { c < vec_len nodes.old }
     requires order { from ≤ to }
-    requires within { to ≤ length (node_at (nodes_of nodes.old.items) c).children }
-    requires room { length new.now ≤ (node_at (nodes_of nodes.old.items) c).room + (to - from) }
+    requires within { to ≤ length (children_at (nodes_in nodes.old) c) }
+    requires room { length new.now ≤ room_at (nodes_in nodes.old) c + (to - from) }
     ensures len { vec_len nodes.new ≡ vec_len nodes.old }
-    ensures nodes { (more : ℕ) × ((node_at (nodes_of nodes.old.items) c).room + (to - from) ≤ more + length new.now) × (nodes_of nodes.new.items ≡ slice_set (nodes_of nodes.old.items) c (record (node_at (nodes_of nodes.old.items) c) { children = splice (node_at (nodes_of nodes.old.items) c).children from to new.now; room = more })) }
-    ensures places { places_of nodes.new.items ≡ places_of nodes.old.items }
+    ensures nodes { Refills (nodes_in nodes.old) (nodes_in nodes.new) c from to new.now }
+    ensures places { places_in nodes.new ≡ places_in nodes.old }
     ensures capacity { vec_capacity nodes.new ≡ vec_capacity nodes.old }
 {
     replace_stretch(&mut nodes[c].children, from, to, new);
@@ -87,10 +90,10 @@ fn replace_children<A: Allocator>(
 fn unlink_run<A: Allocator>(nodes: &mut Vec<Node<A>, A>, c: usize, from: usize, to: usize)
     requires there { c < vec_len nodes.old }
     requires order { from ≤ to }
-    requires within { to ≤ length (children_at (nodes_of nodes.old.items) c) }
-    requires known { (k : ℕ) → k < length (children_at (nodes_of nodes.old.items) c) → slice_index (children_at (nodes_of nodes.old.items) c) k < vec_len nodes.old }
-    ensures nodes { nodes_of nodes.new.items ≡ linked (nodes_of nodes.old.items) None (slice_range (children_at (nodes_of nodes.old.items) c) from to) }
-    ensures places { places_of nodes.new.items ≡ unplaced (places_of nodes.old.items) (slice_range (children_at (nodes_of nodes.old.items) c) from to) }
+    requires within { to ≤ length (children_at (nodes_in nodes.old) c) }
+    requires known { ChildrenThere (nodes_in nodes.old) c (vec_len nodes.old) }
+    ensures nodes { nodes_in nodes.new ≡ linked (nodes_in nodes.old) None (stretch nodes.old c from to) }
+    ensures places { places_in nodes.new ≡ unplaced (places_in nodes.old) (stretch nodes.old c from to) }
     ensures len { vec_len nodes.new ≡ vec_len nodes.old }
     ensures capacity { vec_capacity nodes.new ≡ vec_capacity nodes.old }
 {
@@ -102,10 +105,10 @@ fn unlink_run<A: Allocator>(nodes: &mut Vec<Node<A>, A>, c: usize, from: usize, 
 
 fn link_run<A: Allocator>(nodes: &mut Vec<Node<A>, A>, c: usize, from: usize)
     requires there { c < vec_len nodes.old }
-    requires within { from ≤ length (children_at (nodes_of nodes.old.items) c) }
-    requires known { (k : ℕ) → k < length (children_at (nodes_of nodes.old.items) c) → slice_index (children_at (nodes_of nodes.old.items) c) k < vec_len nodes.old }
-    ensures nodes { nodes_of nodes.new.items ≡ linked (nodes_of nodes.old.items) (Some c) (drop from (children_at (nodes_of nodes.old.items) c)) }
-    ensures places { places_of nodes.new.items ≡ placed (places_of nodes.old.items) from (drop from (children_at (nodes_of nodes.old.items) c)) }
+    requires within { from ≤ length (children_at (nodes_in nodes.old) c) }
+    requires known { ChildrenThere (nodes_in nodes.old) c (vec_len nodes.old) }
+    ensures nodes { nodes_in nodes.new ≡ linked (nodes_in nodes.old) (Some c) (tail nodes.old c from) }
+    ensures places { places_in nodes.new ≡ placed (places_in nodes.old) from (tail nodes.old c from) }
     ensures len { vec_len nodes.new ≡ vec_len nodes.old }
     ensures capacity { vec_capacity nodes.new ≡ vec_capacity nodes.old }
 {
@@ -124,12 +127,12 @@ fn splice_nodes<A: Allocator>(
 )
     requires stored { IsStored nodes.old.items }
     requires there { c < vec_len nodes.old }
-    requires container { IsTrue (is_container_at (nodes_of nodes.old.items) c) }
+    requires container { IsTrue (is_container_at (nodes_in nodes.old) c) }
     requires order { from ≤ to }
-    requires within { to ≤ length (children_at (nodes_of nodes.old.items) c) }
-    requires room { length new.now ≤ room_at (nodes_of nodes.old.items) c + (to - from) }
-    requires join { CanJoin (nodes_of nodes.old.items) c from to new.now }
-    ensures splices { Splices (nodes_of nodes.old.items) (nodes_of nodes.new.items) c from to new.now }
+    requires within { to ≤ length (children_at (nodes_in nodes.old) c) }
+    requires room { length new.now ≤ room_at (nodes_in nodes.old) c + (to - from) }
+    requires join { CanJoin (nodes_in nodes.old) c from to new.now }
+    ensures splices { Splices (nodes_in nodes.old) (nodes_in nodes.new) c from to new.now }
     ensures stored { IsStored nodes.new.items }
     ensures len { vec_len nodes.new ≡ vec_len nodes.old }
     ensures capacity { vec_capacity nodes.new ≡ vec_capacity nodes.old }
@@ -145,10 +148,10 @@ fn reserve_at<A: Allocator>(
     additional: usize,
 ) -> Result<(), AllocError>
     requires { c < vec_len nodes.old }
-    ensures room { OnOk result (additional ≤ room_at (nodes_of nodes.new.items) c) }
-    ensures nodes { nodes_of nodes.new.items ≡ slice_set (nodes_of nodes.old.items) c (record (node_at (nodes_of nodes.old.items) c) { room = room_at (nodes_of nodes.new.items) c }) }
-    ensures places { places_of nodes.new.items ≡ places_of nodes.old.items }
-    ensures more { room_at (nodes_of nodes.old.items) c ≤ room_at (nodes_of nodes.new.items) c }
+    ensures room { OnOk result (additional ≤ room_at (nodes_in nodes.new) c) }
+    ensures nodes { nodes_in nodes.new ≡ room_set (nodes_in nodes.old) c (room_at (nodes_in nodes.new) c) }
+    ensures places { places_in nodes.new ≡ places_in nodes.old }
+    ensures more { room_at (nodes_in nodes.old) c ≤ room_at (nodes_in nodes.new) c }
     ensures len { vec_len nodes.new ≡ vec_len nodes.old }
     ensures capacity { vec_capacity nodes.new ≡ vec_capacity nodes.old }
 {
@@ -157,9 +160,9 @@ fn reserve_at<A: Allocator>(
 
 fn set_text_at<A: Allocator>(nodes: &mut Vec<Node<A>, A>, n: usize, text: String<A>)
     requires there { n < vec_len nodes.old }
-    requires leaf { IsTrue (has_text (content_at (nodes_of nodes.old.items) n)) }
-    ensures nodes { nodes_of nodes.new.items ≡ slice_set (nodes_of nodes.old.items) n (record (node_at (nodes_of nodes.old.items) n) { content = with_text (content_at (nodes_of nodes.old.items) n) (string_bytes text) }) }
-    ensures places { places_of nodes.new.items ≡ places_of nodes.old.items }
+    requires leaf { IsTrue (has_text (content_at (nodes_in nodes.old) n)) }
+    ensures nodes { nodes_in nodes.new ≡ text_set (nodes_in nodes.old) n (string_bytes text) }
+    ensures places { places_in nodes.new ≡ places_in nodes.old }
     ensures len { vec_len nodes.new ≡ vec_len nodes.old }
     ensures capacity { vec_capacity nodes.new ≡ vec_capacity nodes.old }
 {
@@ -188,7 +191,9 @@ impl<A: Allocator> Tree<A> {
         reserve_at(&mut self.nodes, container, additional)
     }
 
-    /// Puts the nodes `new` in the place of the container's children from `from` up to `to`, which are left without a parent.
+    /// Puts nodes in the place of the container's children from `from` up to `to`.
+    ///
+    /// What gives way is left without a parent. The nodes that are put in have none, or are among those that give way.
     pub fn splice(&mut self, container: usize, from: usize, to: usize, new: &[usize])
         requires there { container < length self.old.nodes }
         requires container { IsTrue (is_container_at self.old.nodes container) }
@@ -233,7 +238,9 @@ impl<A: Allocator> Tree<A> {
     pub fn set_text(&mut self, leaf: usize, text: String<A>)
         requires there { leaf < length self.old.nodes }
         requires leaf { IsTrue (has_text (content_at self.old.nodes leaf)) }
-        ensures { self.new ≡ record self.old { nodes = slice_set self.old.nodes leaf (record (node_at self.old.nodes leaf) { content = with_text (content_at self.old.nodes leaf) (string_bytes text) }) } }
+        ensures rewrites { Rewrites self.old.nodes self.new.nodes leaf (string_bytes text) }
+        ensures spare { self.old.room ≤ self.new.room }
+        ensures tree { IsTree self.new.nodes }
     {
         set_text_at(&mut self.nodes, leaf, text);
     }
@@ -288,7 +295,7 @@ impl<A: Allocator + Clone> Tree<A> {
         requires there { container < length self.old.nodes }
         requires container { IsTrue (is_container_at self.old.nodes container) }
         ensures number { IfOk result (λ n. n ≡ length self.old.nodes) }
-        ensures pushed { OnOk result (Pushes self.old.nodes self.new.nodes container (content_of kind)) }
+        ensures pushes { OnOk result (Pushes self.old.nodes self.new.nodes container (content_of kind)) }
         ensures err { OnErr result (MakesRoom self.old.nodes self.new.nodes) }
         ensures tree { IsTree self.new.nodes }
     {
