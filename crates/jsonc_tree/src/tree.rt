@@ -39,6 +39,7 @@ impl<A: Allocator> Model for Tree<A> {
     ghost invariant = { λ t. IsStored t.nodes.items };
 }
 
+// Gives a node this parent and this place.
 fn set_link<A: Allocator>(
     nodes: &mut Vec<Node<A>, A>,
     n: usize,
@@ -56,6 +57,7 @@ fn set_link<A: Allocator>(
     node.place = place;
 }
 
+// Puts numbers in the place of a stretch of a list that has room for them.
 fn replace_stretch<A: Allocator>(list: &mut Vec<usize, A>, from: usize, to: usize, new: &[usize])
     requires order { from ≤ to }
     requires within { to ≤ vec_len list.old }
@@ -68,6 +70,7 @@ fn replace_stretch<A: Allocator>(list: &mut Vec<usize, A>, from: usize, to: usiz
     list[from..].rotate_right(new.len());
 }
 
+// Puts numbers in the place of a stretch of the children of `c`, and leaves every link as it was.
 fn replace_children<A: Allocator>(
     nodes: &mut Vec<Node<A>, A>,
     c: usize,
@@ -87,7 +90,8 @@ fn replace_children<A: Allocator>(
     replace_stretch(&mut nodes[c].children, from, to, new);
 }
 
-fn unlink_run<A: Allocator>(nodes: &mut Vec<Node<A>, A>, c: usize, from: usize, to: usize)
+// Leaves a stretch of the children of `c` without parent and place.
+fn unlink_stretch<A: Allocator>(nodes: &mut Vec<Node<A>, A>, c: usize, from: usize, to: usize)
     requires there { c < vec_len nodes.old }
     requires order { from ≤ to }
     requires within { to ≤ length (children_at (nodes_in nodes.old) c) }
@@ -103,7 +107,8 @@ fn unlink_run<A: Allocator>(nodes: &mut Vec<Node<A>, A>, c: usize, from: usize, 
     }
 }
 
-fn link_run<A: Allocator>(nodes: &mut Vec<Node<A>, A>, c: usize, from: usize)
+// Gives the children of `c` from a place on their parent and place.
+fn link_tail<A: Allocator>(nodes: &mut Vec<Node<A>, A>, c: usize, from: usize)
     requires there { c < vec_len nodes.old }
     requires within { from ≤ length (children_at (nodes_in nodes.old) c) }
     requires known { ChildrenThere (nodes_in nodes.old) c (vec_len nodes.old) }
@@ -118,6 +123,7 @@ fn link_run<A: Allocator>(nodes: &mut Vec<Node<A>, A>, c: usize, from: usize)
     }
 }
 
+// The whole splice: what gives way is unlinked, the list changes, and all from `from` on is linked.
 fn splice_nodes<A: Allocator>(
     nodes: &mut Vec<Node<A>, A>,
     c: usize,
@@ -137,11 +143,12 @@ fn splice_nodes<A: Allocator>(
     ensures len { vec_len nodes.new ≡ vec_len nodes.old }
     ensures capacity { vec_capacity nodes.new ≡ vec_capacity nodes.old }
 {
-    unlink_run(nodes, c, from, to);
+    unlink_stretch(nodes, c, from, to);
     replace_children(nodes, c, from, to, new);
-    link_run(nodes, c, from);
+    link_tail(nodes, c, from);
 }
 
+// Makes room for more children of `c`.
 fn reserve_at<A: Allocator>(
     nodes: &mut Vec<Node<A>, A>,
     c: usize,
@@ -158,6 +165,7 @@ fn reserve_at<A: Allocator>(
     nodes[c].children.reserve(additional)
 }
 
+// Gives a leaf another text.
 fn set_text_at<A: Allocator>(nodes: &mut Vec<Node<A>, A>, n: usize, text: String<A>)
     requires there { n < vec_len nodes.old }
     requires leaf { IsTrue (has_text (content_at (nodes_in nodes.old) n)) }
@@ -193,7 +201,8 @@ impl<A: Allocator> Tree<A> {
 
     /// Puts nodes in the place of the container's children from `from` up to `to`.
     ///
-    /// What gives way is left without a parent. The nodes that are put in have none, or are among those that give way.
+    /// What gives way is left without a parent. The nodes that are put in have none before, or are
+    /// among those that give way.
     pub fn splice(&mut self, container: usize, from: usize, to: usize, new: &[usize])
         requires there { container < length self.old.nodes }
         requires container { IsTrue (is_container_at self.old.nodes container) }
@@ -246,6 +255,7 @@ impl<A: Allocator> Tree<A> {
     }
 }
 
+// A node that is nobody's child.
 fn bare_node<A: Allocator>(kind: Kind<A>, children: Vec<usize, A>) -> Node<A>
     ensures kind { result.kind ≡ kind }
     ensures parent { result.parent ≡ None }
