@@ -1,0 +1,59 @@
+-- What the changes of a tree do to its nodes.
+use Rattle.std.specs.Prelude.{◌≡◌, ◌≢◌, ℕ, ◌+◌, ◌-◌, ◌≤◌, ◌<◌, ◌⊎◌, true, List, [], ◌∷◌, ◌++◌, length, Some, None, slice_index, slice_range, if◌then◌else◌}
+use Rattle.std.specs.List.{splice}
+use Rattle.jsonc_tree.specs.Content.{Content}
+use Rattle.jsonc_tree.specs.Tree.{Node, node_at, content_at, parent_at, children_at, room_at, is_in, IsOver}
+
+-- no number stands twice in the list
+abbrev pub EachOnce : List ℕ → Type 0
+EachOnce xs = (a b : ℕ) → a < length xs → b < length xs → slice_index xs a ≡ slice_index xs b → a ≡ b
+
+-- the new nodes are the old ones, but that the container's children from i up to j have given way to these
+pub record Splices (old new : List Node) (c i j : ℕ) (xs : List ℕ) : Type 0 where
+  pub len : length new ≡ length old
+  pub content : (n : ℕ) → content_at new n ≡ content_at old n
+  pub children : children_at new c ≡ splice (children_at old c) i j xs
+  pub room : room_at old c + (j - i) ≤ room_at new c + length xs
+  pub others : (n : ℕ) → n ≢ c → (children_at new n ≡ children_at old n) × (room_at new n ≡ room_at old n)
+  pub parents : (n : ℕ) → parent_at new n ≡ (if is_in n xs then Some c else (if is_in n (slice_range (children_at old c) i j) then None else parent_at old n))
+
+-- What a splice asks of the nodes that are put in: none is the root, none stands there twice, each has no parent or is among the children that give way, and
+-- none is over the container.
+pub record CanJoin (ns : List Node) (c i j : ℕ) (xs : List ℕ) : Type 0 where
+  pub there : (k : ℕ) → k < length xs → slice_index xs k < length ns
+  pub not_root : (k : ℕ) → k < length xs → slice_index xs k ≢ 0
+  pub once : EachOnce xs
+  pub free : (k : ℕ) → k < length xs → (parent_at ns (slice_index xs k) ≡ None) ⊎ (is_in (slice_index xs k) (slice_range (children_at ns c) i j) ≡ true)
+  pub not_over : (k : ℕ) → k < length xs → IsOver ns (slice_index xs k) c → ⊥
+
+-- the new nodes are the old ones, but that this one is the container's last child
+pub record Appends (old new : List Node) (c n : ℕ) : Type 0 where
+  pub len : length new ≡ length old
+  pub content : (m : ℕ) → content_at new m ≡ content_at old m
+  pub children : children_at new c ≡ children_at old c ++ n ∷ []
+  pub others : (m : ℕ) → m ≢ c → children_at new m ≡ children_at old m
+  pub parent : parent_at new n ≡ Some c
+  pub parents : (m : ℕ) → m ≢ n → parent_at new m ≡ parent_at old m
+  pub room : room_at old c ≤ room_at new c + 1
+
+-- there is one more node, without parent and children
+pub record Adds (old new : List Node) (content : Content) : Type 0 where
+  pub len : length new ≡ length old + 1
+  pub last : content_at new (length old) ≡ content
+  pub bare : (parent_at new (length old) ≡ None) × (children_at new (length old) ≡ [])
+  pub rest : (n : ℕ) → n < length old → node_at new n ≡ node_at old n
+
+-- the nodes are as they were, but that some may have more room
+pub record MakesRoom (old new : List Node) : Type 0 where
+  pub len : length new ≡ length old
+  pub content : (n : ℕ) → content_at new n ≡ content_at old n
+  pub parent : (n : ℕ) → parent_at new n ≡ parent_at old n
+  pub children : (n : ℕ) → children_at new n ≡ children_at old n
+  pub room : (n : ℕ) → room_at old n ≤ room_at new n
+
+-- the first `count` nodes are as they were, but for their room; there may be new ones
+pub record Keeps (count : ℕ) (old new : List Node) : Type 0 where
+  pub len : length old ≤ length new
+  pub content : (n : ℕ) → n < count → content_at new n ≡ content_at old n
+  pub parent : (n : ℕ) → n < count → parent_at new n ≡ parent_at old n
+  pub children : (n : ℕ) → n < count → children_at new n ≡ children_at old n
