@@ -5,7 +5,7 @@ use Rattle.std.proofs.lemmas.List.{append_assoc, append-nil}
 use Rattle.jsonc_tree.specs.Content.{Content}
 use Rattle.jsonc_tree.specs.Tree.{Node, children_at, content_at}
 use Rattle.jsonc_tree.specs.OrderedTree as ordered
-use Rattle.jsonc_tree.specs.OrderedTree.{OrderedTree, followed_by, Shows}
+use Rattle.jsonc_tree.specs.OrderedTree.{OrderedTree, followed_by, Shows, shows_none, shows_more}
 use Rattle.jsonc_layout.specs.Growth.{Pushes, AreFrom, none_from, one_from, Grows}
 
 from_append : {first end : ℕ} {xs ys : List ℕ} → AreFrom first end xs → AreFrom first end ys → AreFrom first end (xs ++ ys)
@@ -17,8 +17,8 @@ wider l m none_from = none_from
 wider l m (one_from a b g) = one_from (omega arith) (omega arith) (wider l m g)
 
 shows_append : {ns : List Node} {xs ys : List ℕ} {t u : OrderedTree} → Shows ns xs t → Shows ns ys u → Shows ns (xs ++ ys) (followed_by t u)
-shows_append Shows.none h = h
-shows_append (Shows.more b a) h = Shows.more b (shows_append a h)
+shows_append shows_none h = h
+shows_append (shows_more b a) h = shows_more b (shows_append a h)
 
 module _ (old new : List Node) (first : ℕ)
     (closed : (n : ℕ) → first ≤ n → n < length old → AreFrom first (length old) (children_at old n))
@@ -26,17 +26,17 @@ module _ (old new : List Node) (first : ℕ)
     (contents : (n : ℕ) → first ≤ n → n < length old → content_at new n ≡ content_at old n) where
   -- nodes that stay as they are stand for the same row
   shows_kept : {xs : List ℕ} {t : OrderedTree} → Shows old xs t → AreFrom first (length old) xs → Shows new xs t
-  shows_kept Shows.none none_from = Shows.none
-  shows_kept (Shows.more {n = n} {rest = xs} {below = b} {after = a} below after) (one_from l h g) =
+  shows_kept shows_none none_from = shows_none
+  shows_kept (shows_more {n = n} {rest = xs} {below = b} {after = a} below after) (one_from l h g) =
       subst (λ c. Shows new (n ∷ xs) (ordered.more c b a)) (contents n l h)
-        (Shows.more (subst (λ ks. Shows new ks b) (sym (kids n l h)) (shows_kept below (closed n l h))) (shows_kept after g))
+        (shows_more (subst (λ ks. Shows new ks b) (sym (kids n l h)) (shows_kept below (closed n l h))) (shows_kept after g))
 
 pub grows_none : (ns : List Node) (c : ℕ) → Grows ns ns c ordered.none
 grows_none ns c = record {
   len = omega arith;
   kids = [];
   children = sym (append-nil (children_at ns c));
-  shows = Shows.none;
+  shows = shows_none;
   new_kids = none_from;
   closed = λ n l h. absurd (omega arith);
   others = λ n l h. refl;
@@ -71,7 +71,7 @@ grows_below {a} {b} {d} {c} {content} {row} there push grown =
       len = omega (arith, push.len, grown.len);
       kids = n ∷ [];
       children = grown.others c (omega (arith, push.len)) (λ e. omega arith) ∙ push.children;
-      shows = subst (λ k. Shows d (n ∷ []) (ordered.more k row ordered.none)) own (Shows.more (subst (λ ks. Shows d ks row) (sym kids) grown.shows) Shows.none);
+      shows = subst (λ k. Shows d (n ∷ []) (ordered.more k row ordered.none)) own (shows_more (subst (λ ks. Shows d ks row) (sym kids) grown.shows) shows_none);
       new_kids = one_from (omega arith) (omega (arith, push.len, grown.len)) none_from;
       closed = λ m l h. elim (cases_eq m n) [
         | inl is ↦ subst (AreFrom n (length d)) (sym (ap (children_at d) is ∙ kids)) (wider (omega (arith, push.len)) (omega arith) grown.new_kids)

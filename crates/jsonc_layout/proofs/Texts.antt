@@ -1,18 +1,15 @@
 -- Stretches of a text and their characters.
-use Rattle.std.proofs.Common.{ℕ, suc, ◌+◌, ◌-◌, ◌<◌, ◌≤◌, ◌≡◌, ◌∙◌, sym, ap, refl, List, [], ◌∷◌, ◌++◌, length, drop, take, arith, IsUtf8, chars, IsTrue, Bool, IsCharBoundary, encode_utf8, encode_utf8_all, Option, Some, None, IfSome, MatchOption, slice_range, length-append}
+use Rattle.std.proofs.Common.{ℕ, suc, ◌+◌, ◌-◌, ◌<◌, ◌≤◌, ◌≡◌, ◌∙◌, sym, ap, subst, refl, List, [], ◌∷◌, ◌++◌, length, drop, take, arith, IsUtf8, chars, IsTrue, Bool, IsCharBoundary, encode_utf8, encode_utf8_all, Option, Some, None, IfSome, MatchOption, slice_range, length-append}
 use Rattle.std.proofs.lemmas.Str.{chars_past_char, IsUtf8-drop, IsUtf8-between, drop_past_char, IsCharBoundary-past_char, chars-append, encodes-chars, chars-nil, len_utf8_bounds}
-use Rattle.std.proofs.lemmas.List.{append_cancel_right, take-append-drop}
+use Rattle.std.proofs.lemmas.List.{append_cancel_right}
+use Rattle.std.proofs.lemmas.List.Folds.{drop_split}
 use Rattle.std.specs.Char.{len_utf8}
 use Rattle.jsonc_text.specs.Text.{rest, next, no, Many, stop, step, Spans}
 use Rattle.jsonc_layout.specs.Leaves.{Steps}
 
--- a stretch and what follows it
-drop_stretch : (bytes : List ℕ) (i j : ℕ) → i ≤ j → drop i bytes ≡ slice_range bytes i j ++ drop j bytes
-drop_stretch bytes i j h = ?
-
 pub rest_stretch : (bytes : List ℕ) (i j : ℕ) → IsUtf8 bytes → Spans bytes i j → rest bytes i ≡ chars (slice_range bytes i j) ++ rest bytes j
 rest_stretch bytes i j u s =
-    ap chars (drop_stretch bytes i j s.order) ∙ chars-append (slice_range bytes i j) (drop j bytes) (IsUtf8-between bytes i j u s.order s.from s.to)
+    ap chars (drop_split bytes i j s.order) ∙ chars-append (slice_range bytes i j) (drop j bytes) (IsUtf8-between bytes i j u s.order s.from s.to)
 
 -- the characters of a stretch are those that stand before its end
 pub stretch_chars : (bytes : List ℕ) (i j : ℕ) (s : List ℕ) → IsUtf8 bytes → Spans bytes i j → rest bytes i ≡ s ++ rest bytes j → chars (slice_range bytes i j) ≡ s
@@ -45,4 +42,12 @@ many_short (step e g) = omega (arith, many_short g)
 
 -- what passes before r, alone
 pub many_alone : {p : ℕ → Bool} {t r : List ℕ} (s : List ℕ) → Many p t r → t ≡ s ++ r → Many p s []
-many_alone {p} {t} {r} s many e = ?
+many_alone {p} {t} {r} [] many e = stop
+many_alone {p} {t} {r} (c ∷ s) many e = first many e
+  where
+    first : {u : List ℕ} → Many p u r → u ≡ c ∷ (s ++ r) → Many p (c ∷ s) []
+    first stop e = absurd (omega (arith, ap length e, length-append s r))
+    first (step {c = d} {t = v} h g) e =
+        let same : d ≡ c = cc in
+        let tail : v ≡ s ++ r = cc in
+        step (subst (λ x. IsTrue (p x)) same h) (many_alone s g tail)

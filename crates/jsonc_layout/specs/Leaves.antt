@@ -20,7 +20,7 @@ pub data GapLeaf : Content → List ℕ → List ℕ → Type 0 where
   line_feed : {r : List ℕ} → GapLeaf (newline LineFeed) (0x0A ∷ r) r
   cr_lf : {r : List ℕ} → GapLeaf (newline CarriageReturnLineFeed) (0x0D ∷ 0x0A ∷ r) r
   cr : {r : List ℕ} → IsTrue (no (λ c. c == 0x0A) (next r)) → GapLeaf (newline CarriageReturn) (0x0D ∷ r) r
-  blanks : {s t r bytes : List ℕ} → bytes ≡ encode_utf8_all s → AllOf is_inner_blank t r → t ≡ s ++ r → GapLeaf (whitespace bytes) t r
+  blanks : {t r bytes : List ℕ} (s : List ℕ) → bytes ≡ encode_utf8_all s → AllOf is_inner_blank t r → t ≡ s ++ r → GapLeaf (whitespace bytes) t r
   mark : {c : ℕ} {r : List ℕ} → IsTrue (is_punctuation c) → GapLeaf (token c) (c ∷ r) r
 
 -- t is the leaves of the row, in order, and then r
