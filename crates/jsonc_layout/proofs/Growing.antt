@@ -1,9 +1,9 @@
 -- Adding to a container, step by step.
-use Rattle.std.proofs.Common.{ℕ, suc, ◌+◌, ◌<◌, ◌≤◌, ◌≡◌, ◌≢◌, ◌⊎◌, inl, inr, ◌∙◌, sym, ap, subst, refl, List, [], ◌∷◌, ◌++◌, length, arith}
+use Rattle.std.proofs.Common.{ℕ, suc, ◌+◌, ◌<◌, ◌≤◌, ◌≡◌, ◌≢◌, ◌⊎◌, inl, inr, ◌∙◌, sym, ap, subst, refl, List, [], ◌∷◌, ◌++◌, length, arith, IsTrue}
 use Rattle.std.proofs.lemmas.Bool.{cases_lt, cases_eq}
 use Rattle.std.proofs.lemmas.List.{append_assoc, append-nil}
-use Rattle.jsonc_tree.specs.Content.{Content}
-use Rattle.jsonc_tree.specs.Tree.{Node, children_at, content_at}
+use Rattle.jsonc_tree.specs.Content.{Content, is_container}
+use Rattle.jsonc_tree.specs.Tree.{Node, children_at, content_at, is_container_at}
 use Rattle.jsonc_tree.specs.OrderedTree as ordered
 use Rattle.jsonc_tree.specs.OrderedTree.{OrderedTree, followed_by, Shows, shows_none, shows_more}
 use Rattle.jsonc_layout.specs.Growth.{Pushes, AreFrom, none_from, one_from, Grows}
@@ -84,3 +84,7 @@ grows_below {a} {b} {d} {c} {content} {row} there push grown =
 -- a new leaf
 pub grows_leaf : {a b : List Node} {c : ℕ} {content : Content} → c < length a → Pushes a b c content → Grows a b c (ordered.more content ordered.none ordered.none)
 grows_leaf {a} {b} there push = grows_below there push (grows_none b (length a))
+
+-- the container stays one
+pub container_kept : {a b : List Node} {c : ℕ} {row : OrderedTree} → c < length a → IsTrue (is_container_at a c) → Grows a b c row → IsTrue (is_container_at b c)
+container_kept {a} {b} {c} there h grown = ap is_container (grown.contents c there) ∙ h

@@ -1,3 +1,4 @@
 pub mod Texts
 pub mod Growing
 pub mod Pushing
+pub mod GapLeaves

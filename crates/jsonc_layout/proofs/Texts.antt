@@ -42,12 +42,19 @@ many_short (step e g) = omega (arith, many_short g)
 
 -- what passes before r, alone
 pub many_alone : {p : ℕ → Bool} {t r : List ℕ} (s : List ℕ) → Many p t r → t ≡ s ++ r → Many p s []
-many_alone {p} {t} {r} [] many e = stop
-many_alone {p} {t} {r} (c ∷ s) many e = first many e
-  where
-    first : {u : List ℕ} → Many p u r → u ≡ c ∷ (s ++ r) → Many p (c ∷ s) []
-    first stop e = absurd (omega (arith, ap length e, length-append s r))
-    first (step {c = d} {t = v} h g) e =
-        let same : d ≡ c = cc in
-        let tail : v ≡ s ++ r = cc in
-        step (subst (λ x. IsTrue (p x)) same h) (many_alone s g tail)
+many_alone [] many e = stop
+many_alone {r = r} (c ∷ s) stop e = absurd (omega (arith, ap length e, length-append s r))
+many_alone {p} {r = r} (c ∷ s) (step {c = d} {t = v} h g) e =
+    let same : d ≡ c = cc in
+    let tail : v ≡ s ++ r = cc in
+    step (subst (λ x. IsTrue (p x)) same h) (many_alone s g tail)
+
+-- what passes to the end passes from any character on
+pub many_after : {p : ℕ → Bool} {r : List ℕ} (s : List ℕ) {t : List ℕ} → Many p t [] → t ≡ s ++ r → Many p r []
+many_after {p} [] many e = subst (λ x. Many p x []) e many
+many_after (c ∷ s) stop e = absurd (let wrong : [] ≡ c ∷ (s ++ _) = e in cc)
+many_after {r = r} (c ∷ s) (step {c = d} {t = v} h g) e = let tail : v ≡ s ++ r = cc in many_after s g tail
+
+pub first_passes : {p : ℕ → Bool} {t : List ℕ} (c : ℕ) (u : List ℕ) → Many p t [] → t ≡ c ∷ u → IsTrue (p c)
+first_passes c u stop e = absurd (let wrong : [] ≡ c ∷ u = e in cc)
+first_passes {p} c u (step {c = d} {t = v} h g) e = let same : d ≡ c = cc in subst (λ x. IsTrue (p x)) same h

