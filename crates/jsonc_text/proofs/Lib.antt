@@ -1,1 +1,5 @@
+pub mod Ascii
+pub mod Cuts
 pub mod FaultLemmas
+pub mod Lines
+pub mod Steps

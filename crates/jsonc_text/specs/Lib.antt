@@ -1,5 +1,6 @@
 pub mod Options
 pub mod Text
+pub mod Chars
 pub mod Gaps
 pub mod Letters
 pub mod Words

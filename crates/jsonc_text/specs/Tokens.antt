@@ -1,9 +1,9 @@
 -- What a token stands for.
-use Rattle.std.specs.Prelude.{ℕ, List, chars, codes}
+use Rattle.std.specs.Prelude.{chars}
 use Rattle.std.specs.Cow.{cow_str_bytes}
 use Rattle.jsonc_text.specs.declared.tokens.Token.{Token}
 use Rattle.jsonc_text.specs.declared.tokens.Token.TheVariants.{OpenBrace, CloseBrace, OpenBracket, CloseBracket, Comma, Colon, String, Word, Boolean, Number, Null, CommentLine, CommentBlock}
-use Rattle.jsonc_text.specs.Lexemes.{Scanned, lexeme, line_comment, block_comment, LexemeKind, punctuation, string, word, number, keyword}
+use Rattle.jsonc_text.specs.Lexemes.{Scanned, lexeme, line_comment, block_comment, punctuation, string, word, number, keyword}
 use Rattle.jsonc_text.specs.Words.{boolean, null}
 
 module _ {A : Type 0} where

@@ -1,10 +1,11 @@
 //! What can be wrong with a text, and where.
-ghost use Rattle.std.specs.Prelude.{◌≡◌, ◌++◌, Some};
+ghost use Rattle.std.specs.Prelude.{◌≡◌, ◌≢◌, ◌++◌, Some};
 ghost use Rattle.std.specs.Fmt.{decimal};
 ghost use Rattle.std.specs.Prelude.{codes};
 ghost use Rattle.jsonc_text.specs.Messages.{string_kind_text, kind_text, surrogate_text, error_text};
 
 use crate::common::Range;
+use crate::line::line_and_column;
 use std::fmt;
 
 /// Why an escape is no character.
@@ -190,6 +191,24 @@ impl fmt::Display for ParseError {
 
 impl ParseError {
     ghost use Rattle.jsonc_text.specs.Faults.{range_of, line_of, column_of, kind_of, IsFault, IsOutOfMemory};
+    ghost use Rattle.jsonc_text.specs.Text.{Spans};
+
+    /// A fault of a text, told of these bytes of it.
+    pub fn new(range: Range, kind: ParseErrorKind, text: &str) -> ParseError
+        requires range { Spans text.now range.start range.end }
+        requires kind { kind ≢ ParseErrorKind.OutOfMemory }
+        ensures fault { IsFault text.now result }
+        ensures range { range_of result ≡ range }
+        ensures kind { kind_of result ≡ kind }
+    {
+        let at = line_and_column(text, range.start);
+        ParseError {
+            range,
+            line_display: at.line,
+            column_display: at.column,
+            kind,
+        }
+    }
 
     /// The bytes of the text that the fault is told of.
     pub fn range(&self) -> Range

@@ -3,9 +3,11 @@
 //! The definitions of `specs/` say what the lexemes of a text are, which texts are documents, and which values they have; every crate of this repository speaks of texts by them.
 #![tactic(auto)]
 
+mod chars;
 pub mod common;
 pub mod errors;
 pub mod laws;
+mod line;
 pub mod options;
 pub mod scanner;
 pub mod tokens;
