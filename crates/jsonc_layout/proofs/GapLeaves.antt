@@ -13,32 +13,34 @@ use Rattle.jsonc_tree.specs.OrderedTree as ordered
 use Rattle.jsonc_tree.specs.OrderedTree.{OrderedTree, followed_by, printed}
 use Rattle.jsonc_tree.proofs.OrderedTrees.{printed-more}
 use Rattle.jsonc_tree.specs.declared.node.CstNewlineKind.TheVariants.{LineFeed, CarriageReturnLineFeed, CarriageReturn}
-use Rattle.jsonc_layout.specs.Leaves.{GapLeaf, line_feed, cr_lf, cr, blanks, mark, Fills, end, leaf, Steps, LeafAt, is_inner_blank, is_filling}
-use Rattle.jsonc_layout.proofs.Texts.{rest_stretch, many_after}
+use Rattle.jsonc_text.specs.Chars.{Steps}
+use Rattle.jsonc_layout.specs.Leaves.{GapLeaf, line_feed, cr_lf, cr, blanks, mark, Fills, end, leaf, LeafAt, is_inner_blank, is_filling}
+use Rattle.jsonc_layout.proofs.Texts.{many_after}
+use Rattle.jsonc_text.proofs.Cuts.{chars_between}
 
 pub cr_lf_at : (bytes : List ℕ) (i c : ℕ) → Steps bytes i c (i + len_utf8 c) → c ≡ 10 → GapLeaf (newline CarriageReturnLineFeed) (13 ∷ rest bytes i) (rest bytes (i + 1))
 cr_lf_at bytes i c s e =
-    let stands : rest bytes i ≡ 10 ∷ rest bytes (i + 1) = s.stands ∙ ap (λ d. d ∷ rest bytes (i + len_utf8 d)) e in
+    let stands : rest bytes i ≡ 10 ∷ rest bytes (i + 1) = s.0 ∙ ap (λ d. d ∷ rest bytes (i + len_utf8 d)) e in
     rw stands cr_lf
 
 pub cr_at_end : (bytes : List ℕ) (i : ℕ) → rest bytes i ≡ [] → GapLeaf (newline CarriageReturn) (13 ∷ rest bytes i) (rest bytes i)
 cr_at_end bytes i e = cr (rw e refl)
 
 pub cr_before : (bytes : List ℕ) (i c j : ℕ) → Steps bytes i c j → c ≢ 10 → GapLeaf (newline CarriageReturn) (13 ∷ rest bytes i) (rest bytes i)
-cr_before bytes i c j s e = cr (rw s.stands (ap not (ne_eqb c 10 e)))
+cr_before bytes i c j s e = cr (rw s.0 (ap not (ne_eqb c 10 e)))
 
 pub mark_at : (bytes : List ℕ) (i c w : ℕ) → Steps bytes i c (i + len_utf8 c) → w ≡ len_utf8 c → IsTrue (is_punctuation c) → LeafAt bytes (token c) i (i + w)
-mark_at bytes i c w s e h = rw e (record { order = s.order; boundary = s.boundary; leaf = rw s.stands (mark h) })
+mark_at bytes i c w s e h = rw e (record { order = omega (arith, len_utf8_bounds c); boundary = s.1; leaf = rw s.0 (mark h) })
 
 pub feed_at : (bytes : List ℕ) (i c w : ℕ) → Steps bytes i c (i + len_utf8 c) → w ≡ len_utf8 c → c ≡ 10 → LeafAt bytes (newline LineFeed) i (i + w)
 feed_at bytes i c w s e h =
-    let stands : rest bytes i ≡ 10 ∷ rest bytes (i + len_utf8 c) = s.stands ∙ ap (λ d. d ∷ rest bytes (i + len_utf8 c)) h in
-    rw e (record { order = s.order; boundary = s.boundary; leaf = rw stands line_feed })
+    let stands : rest bytes i ≡ 10 ∷ rest bytes (i + len_utf8 c) = s.0 ∙ ap (λ d. d ∷ rest bytes (i + len_utf8 c)) h in
+    rw e (record { order = omega (arith, len_utf8_bounds c); boundary = s.1; leaf = rw stands line_feed })
 
 pub return_at : (bytes : List ℕ) (i c w j : ℕ) (content : Content) → Steps bytes i c (i + len_utf8 c) → w ≡ len_utf8 c → c ≡ 13 → i + w ≤ j → IsCharBoundary bytes j → GapLeaf content (13 ∷ rest bytes (i + w)) (rest bytes j) → LeafAt bytes content i j
 return_at bytes i c w j content s e h le boundary one =
-    let stands : rest bytes i ≡ 13 ∷ rest bytes (i + w) = s.stands ∙ ap (λ d. d ∷ rest bytes (i + len_utf8 c)) h ∙ ap (λ x. 13 ∷ rest bytes (i + x)) (sym e) in
-    record { order = omega (arith, s.order); boundary = boundary; leaf = rw stands one }
+    let stands : rest bytes i ≡ 13 ∷ rest bytes (i + w) = s.0 ∙ ap (λ d. d ∷ rest bytes (i + len_utf8 c)) h ∙ ap (λ x. 13 ∷ rest bytes (i + x)) (sym e) in
+    record { order = omega (arith, len_utf8_bounds c); boundary = boundary; leaf = rw stands one }
 
 inner_from : (a b x y : Bool) → (a || b) ≡ true → b ≡ false → x ≡ false → y ≡ false → (a && not (x || y)) ≡ true
 inner_from true b false false h k e f = refl
@@ -55,11 +57,11 @@ blanks_at bytes i c w j s u b one e filling marks feed return le boundary run al
     let long : i ≤ j = omega (arith, len_utf8_bounds c) in
     let spans : Spans bytes i j = record { from = b; to = boundary; order = long } in
     let inner : IsTrue (is_inner_blank c) = inner_from (is_blank c) (is_punctuation c) (c == 10) (c == 13) filling marks (ne_eqb c 10 feed) (ne_eqb c 13 return) in
-    let stands : rest bytes i ≡ c ∷ rest bytes (i + w) = one.stands ∙ ap (λ x. c ∷ rest bytes (i + x)) (sym e) in
+    let stands : rest bytes i ≡ c ∷ rest bytes (i + w) = one.0 ∙ ap (λ x. c ∷ rest bytes (i + x)) (sym e) in
     record {
-      order = omega (arith, one.order);
+      order = omega (arith, len_utf8_bounds c);
       boundary = boundary;
-      leaf = blanks (chars (slice_range bytes i j)) (same ∙ sym (encodes-chars (slice_range bytes i j) (IsUtf8-between bytes i j u long b boundary))) (rw stands (all_of inner run all)) (rest_stretch bytes i j u spans);
+      leaf = blanks (chars (slice_range bytes i j)) (same ∙ sym (encodes-chars (slice_range bytes i j) (IsUtf8-between bytes i j u long b boundary))) (rw stands (all_of inner run all)) (chars_between bytes i j u spans);
     }
 
 -- a leaf's text is the characters that it stands for

@@ -28,12 +28,6 @@ pub data Fills : List ℕ → OrderedTree → List ℕ → Type 0 where
   end : {r : List ℕ} → Fills r none r
   leaf : {content : Content} {t u r : List ℕ} {after : OrderedTree} → GapLeaf content t u → Fills u after r → Fills t (more content none after) r
 
--- the character c stands at a place of a text, from i up to j
-pub record Steps (bytes : List ℕ) (i c j : ℕ) : Type 0 where
-  pub order : i < j
-  pub boundary : IsCharBoundary bytes j
-  pub stands : rest bytes i ≡ c ∷ rest bytes j
-
 -- a leaf stands in a text from the place i up to the place j
 pub record LeafAt (bytes : List ℕ) (content : Content) (i j : ℕ) : Type 0 where
   pub order : i < j

@@ -2,20 +2,21 @@
 ghost use Rattle.std.specs.Prelude.{◌≡◌, ◌+◌, ◌<◌, ◌≤◌, ℕ, [], ◌∷◌, IfNone, IfOk, IfSome, IsCharBoundary, IsTrue, OnOk, length};
 ghost use Rattle.std.specs.Char.{len_utf8};
 ghost use Rattle.jsonc_text.specs.Text.{Many, next, no, rest};
+ghost use Rattle.jsonc_text.specs.Chars.{Steps};
 ghost use Rattle.jsonc_text.specs.Lexemes.{is_punctuation};
 ghost use Rattle.jsonc_tree.specs.Content.{newline};
 ghost use Rattle.jsonc_tree.specs.OrderedTree.{OrderedTree};
 ghost use Rattle.jsonc_tree.specs.Stored.{content_of};
 ghost use Rattle.jsonc_tree.specs.Tree.{is_container_at};
 ghost use Rattle.jsonc_layout.specs.Growth.{Grows};
-ghost use Rattle.jsonc_layout.specs.Leaves.{Fills, GapLeaf, LeafAt, Steps, is_filling, is_inner_blank};
+ghost use Rattle.jsonc_layout.specs.Leaves.{Fills, GapLeaf, LeafAt, is_filling, is_inner_blank};
 
 use crate::push::push_child;
 use jsonc_tree::{CstNewlineKind, Kind, Tree};
 use std::alloc::{AllocError, Allocator};
 
 // The character at a place, or none at the end.
-fn char_at(text: &str, place: usize) -> Option<char>
+pub(crate) fn char_at(text: &str, place: usize) -> Option<char>
     requires { IsCharBoundary text.now place }
     ensures none { IfNone result (rest text.now place ≡ []) }
     ensures some { IfSome result (λ c. Steps text.now place c (place + len_utf8 c)) }

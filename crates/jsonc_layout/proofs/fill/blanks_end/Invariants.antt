@@ -1,6 +1,7 @@
 use Rattle.std.proofs.Common.{ℕ, ◌+◌, ◌-◌, ◌<◌, ◌≤◌, ◌≡◌, List, IsTrue, IsCharBoundary, length}
 use Rattle.jsonc_text.specs.Text.{rest, next, no, Many}
-use Rattle.jsonc_layout.specs.Leaves.{Steps, is_inner_blank}
+use Rattle.jsonc_text.specs.Chars.{Steps}
+use Rattle.jsonc_layout.specs.Leaves.{is_inner_blank}
 use Rattle.jsonc_layout.proofs.fill.blanks_end.Given as goal
 
 -- blanks so far, and what the length says of the blank at the place

@@ -1,7 +1,7 @@
 use Rattle.std.proofs.Common.{◌≡◌, ◌++◌, ◌+◌, ◌∙◌, sym, encode_utf8}
 use Rattle.std.specs.Char.{len_utf8}
-use Rattle.jsonc_layout.specs.Leaves.{Steps}
-use Rattle.jsonc_layout.proofs.Texts.{some_of_match, steps_char}
+use Rattle.jsonc_text.specs.Chars.{Steps}
+use Rattle.jsonc_text.proofs.Steps.{some_of_match, steps_char}
 use Rattle.jsonc_layout.proofs.fill.char_at.Goals as goal
 
 pub returns-clause-some : goal.returns-clause-some

@@ -20,7 +20,7 @@ leaves-init g c = record {
 }
 
 pub leaf_at-requires-clause-filling : goal.leaf_at-requires-clause-filling
-leaf_at-requires-clause-filling g c = first_passes c.in-Some.c _ c.leaves.invariant.left c.in-Some.ensures.some.stands
+leaf_at-requires-clause-filling g c = first_passes c.in-Some.c _ c.leaves.invariant.left c.in-Some.ensures.some.0
 
 pub push_child-requires-clause-there : goal.push_child-requires-clause-there
 push_child-requires-clause-there g c = omega (arith, c.requires.there, c.leaves.invariant.grows.len)

@@ -20,4 +20,4 @@ returns g c =
     let ends = c.blanks_end-end.ensures in
     blanks_at c.args.text.now c.args.place c.args.c c.len_utf8.result c.blanks_end-end.result _ c.utf8.text c.requires.place c.requires.stands c.len_utf8.ensures.value
       c.requires.filling (sym c.is_punctuation.ensures ∙ c.if-is_punctuation.false) c.if-c-eq10.false c.if-c-eq13.false
-      ends.order ends.place ends.blanks ends.all (c.in_ok-blanks.ensures ∙ c.range.ensures.value)
+      ends.order ends.place ends.blanks ends.all (c.in_ok-blanks.ensures.ok ∙ c.range.ensures.value)
