@@ -68,7 +68,7 @@ properties_more {old} {now} {mid} {c = c} {text = text} {start = start} {end = e
     record {
       row = followed_by (followed_by so_far.row fill) (more Content.property below none);
       grows = grows_append there (grows_append there so_far.grows filled) (grows_below below_mid push grown);
-      lies = so_far.lies.2;
+      lies = so_far.lies.4;
       whole = λ rest h. subst (MembersLaid text start ms end) (regroup so_far.row fill Content.property below rest) (so_far.whole (followed_by fill (more Content.property below rest)) (a_property f l h));
     }
 

@@ -37,8 +37,8 @@ module _ (o : Options) (plain : o.comments ≡ false) where
   colon_fills h = many_append (then_one 0x3A refl h.1) (gap_fills h.2)
 
   module _ (bytes : List ℕ) where
-    fills_by : {R : List ℕ → List ℕ → Type 0} {i j : ℕ} → ({t r : List ℕ} → R t r → Many is_filling t r) → Between bytes R i j → IsFillable bytes i j
-    fills_by f h = record { spans = h.spans; stands = f h.stands }
+    fills_by : {R : List ℕ → List ℕ → Type 0} {i j : ℕ} → ((t r : List ℕ) → R t r → Many is_filling t r) → Between bytes R i j → IsFillable bytes i j
+    fills_by f h = record { spans = h.spans; stands = f _ _ h.stands }
 
     fills_join : {i j k : ℕ} → IsFillable bytes i j → IsFillable bytes j k → IsFillable bytes i k
     fills_join a b = record {
@@ -52,25 +52,25 @@ module _ (o : Options) (plain : o.comments ≡ false) where
     mutual
       pub can_lay : (x : Located) → IsLocated o bytes x → CanLay bytes x
       can_lay (leaf_at r v) h = h.spans
-      can_lay (array_at r xs) h = can_items xs (one_fills 0x5B refl h.0.opens) h.1
-      can_lay (object_at r ms) h = can_members ms (one_fills 0x7B refl h.0.opens) h.1
+      can_lay (array_at r xs) h = can_items r.end xs (one_fills 0x5B refl h.0.opens) h.1
+      can_lay (object_at r ms) h = can_members r.end ms (one_fills 0x7B refl h.0.opens) h.1
 
-      can_items : {k i j : ℕ} (xs : LocatedItems) → IsFillable bytes k i → AreItems o bytes i xs j → CanLayItems bytes k xs j
-      can_items no_items_at before h = fills_join before (fills_by (then_one 0x5D refl) h)
-      can_items (item_at x xs) before h = (fills_join before (fills_by gap_fills h.0), can_lay x h.1, can_further xs h.2)
+      can_items : {k i : ℕ} (j : ℕ) (xs : LocatedItems) → IsFillable bytes k i → AreItems o bytes i xs j → CanLayItems bytes k xs j
+      can_items j no_items_at before h = fills_join before (fills_by (λ t r. then_one 0x5D refl) h)
+      can_items j (item_at x xs) before h = (fills_join before (fills_by (λ t r. gap_fills) h.0), can_lay x h.1, can_further (range_at x).end j xs h.2)
 
-      can_further : {i j : ℕ} (xs : LocatedItems) → AreFurtherItems o bytes i xs j → CanLayItems bytes i xs j
-      can_further no_items_at h = fills_by (closes_fills 0x5D refl) h
-      can_further (item_at x xs) h = (fills_by separates_fills h.0, can_lay x h.1, can_further xs h.2)
+      can_further : (i j : ℕ) (xs : LocatedItems) → AreFurtherItems o bytes i xs j → CanLayItems bytes i xs j
+      can_further i j no_items_at h = fills_by (λ t r. closes_fills 0x5D refl) h
+      can_further i j (item_at x xs) h = (fills_by (λ t r. separates_fills) h.0, can_lay x h.1, can_further (range_at x).end j xs h.2)
 
-      can_members : {k i j : ℕ} (ms : LocatedMembers) → IsFillable bytes k i → AreMembers o bytes i ms j → CanLayMembers bytes k ms j
-      can_members no_members_at before h = fills_join before (fills_by (then_one 0x7D refl) h)
-      can_members (member_at r n x ms) before h = (fills_join before (fills_by gap_fills h.0), (h.1.name.spans, fills_by colon_fills h.1.colon, can_lay x h.2), can_further_members ms h.3)
+      can_members : {k i : ℕ} (j : ℕ) (ms : LocatedMembers) → IsFillable bytes k i → AreMembers o bytes i ms j → CanLayMembers bytes k ms j
+      can_members j no_members_at before h = fills_join before (fills_by (λ t r. then_one 0x7D refl) h)
+      can_members j (member_at r n x ms) before h = (fills_join before (fills_by (λ t r. gap_fills) h.0), h.1.name.spans, fills_by (λ t r. colon_fills) h.1.colon, can_lay x h.2, can_further_members r.end j ms h.3)
 
-      can_further_members : {i j : ℕ} (ms : LocatedMembers) → AreFurtherMembers o bytes i ms j → CanLayMembers bytes i ms j
-      can_further_members no_members_at h = fills_by (closes_fills 0x7D refl) h
-      can_further_members (member_at r n x ms) h = (fills_by separates_fills h.0, (h.1.name.spans, fills_by colon_fills h.1.colon, can_lay x h.2), can_further_members ms h.3)
+      can_further_members : (i j : ℕ) (ms : LocatedMembers) → AreFurtherMembers o bytes i ms j → CanLayMembers bytes i ms j
+      can_further_members i j no_members_at h = fills_by (λ t r. closes_fills 0x7D refl) h
+      can_further_members i j (member_at r n x ms) h = (fills_by (λ t r. separates_fills) h.0, h.1.name.spans, fills_by (λ t r. colon_fills) h.1.colon, can_lay x h.2, can_further_members r.end j ms h.3)
 
     pub can_lay_document : (x : Option Located) → IsLocatedDocument o bytes x → CanLayDocument bytes x
-    can_lay_document None h = fills_by gap_fills h
-    can_lay_document (Some x) h = (fills_by gap_fills h.0, can_lay x h.1, fills_by gap_fills h.2)
+    can_lay_document None h = fills_by (λ t r. gap_fills) h
+    can_lay_document (Some x) h = (fills_by (λ t r. gap_fills) h.0, can_lay x h.1, fills_by (λ t r. gap_fills) h.2)

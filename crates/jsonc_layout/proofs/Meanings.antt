@@ -1,5 +1,5 @@
 -- A located value that is laid out prints its text, and has its value.
-use Rattle.std.proofs.Common.{ℕ, suc, ◌+◌, ◌≤◌, ◌≡◌, ◌∙◌, sym, ap, subst, refl, arith, Bool, true, false, not, ◌⊎◌, inl, inr, List, [], ◌∷◌, ◌++◌, length, IsTrue, ◌||◌, ◌&&◌, ◌==◌, Option, Some, None, option_map, IsUtf8, chars, codes, encode_utf8_all, slice_range, drop}
+use Rattle.std.proofs.Common.{ℕ, suc, ◌+◌, ◌-◌, ◌≤◌, ◌≡◌, ◌∙◌, sym, ap, subst, refl, arith, Bool, true, false, not, ◌⊎◌, inl, inr, List, [], ◌∷◌, ◌++◌, length, IsTrue, ◌||◌, ◌&&◌, ◌==◌, Option, Some, None, option_map, IsUtf8, chars, codes, encode_utf8_all, slice_range, drop}
 use Rattle.std.proofs.lemmas.List.{append_assoc, append-nil, append_cancel_right, take_all}
 use Rattle.std.proofs.lemmas.List.Folds.{drop_split}
 use Rattle.std.proofs.lemmas.Str.{IsUtf8-between}
@@ -17,7 +17,6 @@ use Rattle.jsonc_text.specs.Grammar.{literal_value, IsName}
 use Rattle.jsonc_text.proofs.Cuts.{slice_chars, slice_encodes}
 use Rattle.jsonc_tree.specs.Content.{Content, text_of}
 use Rattle.jsonc_tree.specs.OrderedTree.{OrderedTree, none, more, followed_by, printed}
-use Rattle.jsonc_tree.specs.Values
 use Rattle.jsonc_tree.proofs.OrderedTrees.{printed-more, printed-followed_by}
 use Rattle.jsonc_ast.specs.Located.{Located, LocatedItems, LocatedMembers, LocatedName, Between, In, IsLeaf, leaf_at, array_at, object_at, no_items_at, item_at, no_members_at, member_at, range_at, value_at, items_at, members_at, IsLocated, AreItems, AreFurtherItems, AreMembers, AreFurtherMembers, IsNamed, IsLocatedDocument}
 use Rattle.jsonc_layout.specs.Leaves as leaves
@@ -37,16 +36,16 @@ LeafText o Plain.null t r = t ≡ keyword_text words.null ++ r
 LeafText o (Plain.array vs) t r = Unit {0}
 LeafText o (Plain.object ms) t r = Unit {0}
 
-text_by : (o : Options) (k : LexemeKind) {v : Plain} {t r : List ℕ} → Lexeme o k t r → literal_value k ≡ Some v → LeafText o v t r
-text_by o (lexemes.string s) {v} {t} {r} h e = let same : Plain.string s ≡ v = cc in subst (λ x. LeafText o x t r) same h
-text_by o (lexemes.number s) {v} {t} {r} h e = let same : Plain.number s ≡ v = cc in subst (λ x. LeafText o x t r) same h.0
-text_by o (lexemes.word s) h e = absurd (let wrong : None ≡ Some _ = e in cc)
-text_by o (lexemes.keyword (words.boolean b)) {v} {t} {r} h e = let same : Plain.boolean b ≡ v = cc in subst (λ x. LeafText o x t r) same h.0
-text_by o (lexemes.keyword words.null) {v} {t} {r} h e = let same : Plain.null ≡ v = cc in subst (λ x. LeafText o x t r) same h.0
-text_by o (lexemes.punctuation c) h e = absurd (let wrong : None ≡ Some _ = e in cc)
+text_by : (o : Options) (t r : List ℕ) (k : LexemeKind) {v : Plain} → Lexeme o k t r → literal_value k ≡ Some v → LeafText o v t r
+text_by o t r (lexemes.string s) {v} h e = let same : Plain.string s ≡ v = cc in subst (λ x. LeafText o x t r) same h
+text_by o t r (lexemes.number s) {v} h e = let same : Plain.number s ≡ v = cc in subst (λ x. LeafText o x t r) same h.0
+text_by o t r (lexemes.word s) h e = absurd (let wrong : None ≡ Some _ = e in cc)
+text_by o t r (lexemes.keyword (words.boolean b)) {v} h e = let same : Plain.boolean b ≡ v = cc in subst (λ x. LeafText o x t r) same h.0
+text_by o t r (lexemes.keyword words.null) {v} h e = let same : Plain.null ≡ v = cc in subst (λ x. LeafText o x t r) same h.0
+text_by o t r (lexemes.punctuation c) h e = absurd (let wrong : None ≡ Some _ = e in cc)
 
 leaf_text : (o : Options) (bytes : List ℕ) (r : Range) (v : Plain) → In bytes (IsLeaf o v) r → LeafText o v (rest bytes r.start) (rest bytes r.end)
-leaf_text o bytes r v h = text_by o h.stands.0 h.stands.1 h.stands.2
+leaf_text o bytes r v h = text_by o (rest bytes r.start) (rest bytes r.end) h.stands.0 h.stands.1 h.stands.2
 
 keyword_bytes : (k : Keyword) → encode_utf8_all (keyword_text k) ≡ keyword_text k
 unfolding encode
@@ -63,26 +62,26 @@ abbrev AllItems : Options → List ℕ → LocatedItems → Type 0
 AllItems o bytes no_items_at = Unit {0}
 AllItems o bytes (item_at x xs) = IsLocated o bytes x × AllItems o bytes xs
 
-further_items : (o : Options) (bytes : List ℕ) {i j : ℕ} (xs : LocatedItems) → AreFurtherItems o bytes i xs j → AllItems o bytes xs
-further_items o bytes no_items_at h = tt
-further_items o bytes (item_at x xs) h = (h.1, further_items o bytes xs h.2)
+further_items : (o : Options) (bytes : List ℕ) (i j : ℕ) (xs : LocatedItems) → AreFurtherItems o bytes i xs j → AllItems o bytes xs
+further_items o bytes i j no_items_at h = tt
+further_items o bytes i j (item_at x xs) h = (h.1, further_items o bytes (range_at x).end j xs h.2)
 
-all_items : (o : Options) (bytes : List ℕ) {i j : ℕ} (xs : LocatedItems) → AreItems o bytes i xs j → AllItems o bytes xs
-all_items o bytes no_items_at h = tt
-all_items o bytes (item_at x xs) h = (h.1, further_items o bytes xs h.2)
+all_items : (o : Options) (bytes : List ℕ) (i j : ℕ) (xs : LocatedItems) → AreItems o bytes i xs j → AllItems o bytes xs
+all_items o bytes i j no_items_at h = tt
+all_items o bytes i j (item_at x xs) h = (h.1, further_items o bytes (range_at x).end j xs h.2)
 
 -- every property is named and located
 abbrev AllMembers : Options → List ℕ → LocatedMembers → Type 0
 AllMembers o bytes no_members_at = Unit {0}
 AllMembers o bytes (member_at r n x ms) = IsNamed o bytes n r (range_at x) × IsLocated o bytes x × AllMembers o bytes ms
 
-further_members : (o : Options) (bytes : List ℕ) {i j : ℕ} (ms : LocatedMembers) → AreFurtherMembers o bytes i ms j → AllMembers o bytes ms
-further_members o bytes no_members_at h = tt
-further_members o bytes (member_at r n x ms) h = (h.1, h.2, further_members o bytes ms h.3)
+further_members : (o : Options) (bytes : List ℕ) (i j : ℕ) (ms : LocatedMembers) → AreFurtherMembers o bytes i ms j → AllMembers o bytes ms
+further_members o bytes i j no_members_at h = tt
+further_members o bytes i j (member_at r n x ms) h = (h.1, h.2, further_members o bytes r.end j ms h.3)
 
-all_members : (o : Options) (bytes : List ℕ) {i j : ℕ} (ms : LocatedMembers) → AreMembers o bytes i ms j → AllMembers o bytes ms
-all_members o bytes no_members_at h = tt
-all_members o bytes (member_at r n x ms) h = (h.1, h.2, further_members o bytes ms h.3)
+all_members : (o : Options) (bytes : List ℕ) (i j : ℕ) (ms : LocatedMembers) → AreMembers o bytes i ms j → AllMembers o bytes ms
+all_members o bytes i j no_members_at h = tt
+all_members o bytes i j (member_at r n x ms) h = (h.1, h.2, further_members o bytes r.end j ms h.3)
 
 -- a row prints the text between two places
 pub record Prints (bytes : List ℕ) (i j : ℕ) (row : OrderedTree) : Type 0 where
@@ -130,8 +129,8 @@ module _ (bytes : List ℕ) (u : IsUtf8 bytes) where
           prints_leaf bytes s (keyword_printed b ∙ sym (slice_encodes bytes (keyword_text (words.boolean b)) r.start r.end u s.from s.to (leaf_text o bytes r (Plain.boolean b) h) ∙ keyword_bytes (words.boolean b)))
       laid_prints (laid.null_leaf {r = r} s) h =
           prints_leaf bytes s (sym (slice_encodes bytes (keyword_text words.null) r.start r.end u s.from s.to (leaf_text o bytes r Plain.null h) ∙ keyword_bytes words.null))
-      laid_prints (laid.array_node {xs = xs} items) h = let inside = items_print items (all_items o bytes xs h.1) in prints_one bytes inside.spans inside.text
-      laid_prints (laid.object_node {ms = ms} members) h = let inside = members_print members (all_members o bytes ms h.1) in prints_one bytes inside.spans inside.text
+      laid_prints (laid.array_node {xs = xs} items) h = let inside = items_print items (all_items o bytes _ _ xs h.1) in prints_one bytes inside.spans inside.text
+      laid_prints (laid.object_node {ms = ms} members) h = let inside = members_print members (all_members o bytes _ _ ms h.1) in prints_one bytes inside.spans inside.text
 
       items_print : {i j : ℕ} {xs : LocatedItems} {row : OrderedTree} → ItemsLaid bytes i xs j row → AllItems o bytes xs → Prints bytes i j row
       items_print (laid.no_element f) h = prints_fill f
@@ -158,28 +157,28 @@ passed (leaves.mark h) = refl
 
 fill_has_none : {t r : List ℕ} {row : OrderedTree} → Fills t row r → HasNoValue row
 fill_has_none leaves.end = values.end
-fill_has_none (leaves.leaf one more) = values.pass (passed one) (fill_has_none more)
+fill_has_none (leaves.leaf one tail) = values.pass (passed one) (fill_has_none tail)
 
 module _ (o : Options) where
   items_fill : {t r : List ℕ} {row : OrderedTree} → Fills t row r → ItemsOf o row Items.no_items
   items_fill leaves.end = values.no_more_items
-  items_fill (leaves.leaf one more) = values.pass_to_items (passed one) (items_fill more)
+  items_fill (leaves.leaf one tail) = values.pass_to_items (passed one) (items_fill tail)
 
   items_pass : {t r : List ℕ} {row after : OrderedTree} {vs : Items} → Fills t row r → ItemsOf o after vs → ItemsOf o (followed_by row after) vs
   items_pass leaves.end h = h
-  items_pass (leaves.leaf one more) h = values.pass_to_items (passed one) (items_pass more h)
+  items_pass (leaves.leaf one tail) h = values.pass_to_items (passed one) (items_pass tail h)
 
   members_fill : {t r : List ℕ} {row : OrderedTree} → Fills t row r → MembersOf o row Members.no_members
   members_fill leaves.end = values.no_more_members
-  members_fill (leaves.leaf one more) = values.pass_to_members (passed one) (members_fill more)
+  members_fill (leaves.leaf one tail) = values.pass_to_members (passed one) (members_fill tail)
 
   members_pass : {t r : List ℕ} {row after : OrderedTree} {ms : Members} → Fills t row r → MembersOf o after ms → MembersOf o (followed_by row after) ms
   members_pass leaves.end h = h
-  members_pass (leaves.leaf one more) h = values.pass_to_members (passed one) (members_pass more h)
+  members_pass (leaves.leaf one tail) h = values.pass_to_members (passed one) (members_pass tail h)
 
   value_pass : {t r : List ℕ} {row after : OrderedTree} {v : Plain} → Fills t row r → HoldsValue o after v → HoldsValue o (followed_by row after) v
   value_pass leaves.end h = h
-  value_pass (leaves.leaf one more) h = values.pass_to_value (passed one) (value_pass more h)
+  value_pass (leaves.leaf one tail) h = values.pass_to_value (passed one) (value_pass tail h)
 
 quote_tests : (o : Options) (q : ℕ) → IsTrue (q == 0x22 || (q == 0x27 && o.single_quoted_strings)) → IsTrue (is_quote q)
 quote_tests o q h = either (q == 0x22) (q == 0x27) o.single_quoted_strings h
@@ -195,17 +194,14 @@ module _ (o : Options) (plain : o.loose_names ≡ false) (bytes : List ℕ) (u :
       (h.0, h.1, h.2, slice_chars bytes ((h.0 ∷ h.1) ++ h.0 ∷ []) i j u s.from s.to (h.3 ∙ sym (append_assoc (h.0 ∷ h.1) (h.0 ∷ []) (rest bytes j))), h.4)
 
   -- a string begins with a quote
-  quote_first : {i : ℕ} {v r : List ℕ} → IsString o (rest bytes i) v r → IsTrue (is_quote_at bytes i)
-  quote_first {i} {v} {r} h = ap (λ t. starts is_quote (next t)) h.3 ∙ quote_tests o h.0 h.2
+  quote_first : (i : ℕ) (v r : List ℕ) → IsString o (rest bytes i) v r → IsTrue (is_quote_at bytes i)
+  quote_first i v r h = ap (λ t. starts is_quote (next t)) h.3 ∙ quote_tests o h.0 h.2
 
-  name_is : {r : Range} {content : Content} {name : List ℕ} → NameLaid bytes r content → In bytes (λ t w. IsName o t name w) r → values.IsNameLeaf o content name
-  name_is {r} {content} {name} l h = by l h.stands
-    where
-      by : NameLaid bytes r content → IsName o (rest bytes r.start) name (rest bytes r.end) → values.IsNameLeaf o content name
-      by (laid.quoted_name e q) (inl s) = subst (λ b. IsString o (chars b) name []) (sym e) (string_alone h.spans s)
-      by (laid.quoted_name e q) (inr s) = absurd (let wrong : true ≡ false = sym s.0 ∙ plain in cc)
-      by (laid.word_name e q) (inl s) = absurd (let wrong : true ≡ false = sym (quote_first {r.start} {name} {rest bytes r.end} s) ∙ q in cc)
-      by (laid.word_name e q) (inr s) = absurd (let wrong : true ≡ false = sym s.0 ∙ plain in cc)
+  name_by : (r : Range) (name : List ℕ) {content : Content} → Spans bytes r.start r.end → NameLaid bytes r content → IsName o (rest bytes r.start) name (rest bytes r.end) → values.IsNameLeaf o content name
+  name_by r name s (laid.quoted_name e q) (inl h) = subst (λ b. IsString o (chars b) name []) (sym e) (string_alone s h)
+  name_by r name s (laid.quoted_name e q) (inr h) = absurd (let wrong : true ≡ false = sym h.0 ∙ plain in cc)
+  name_by r name s (laid.word_name e q) (inl h) = absurd (let wrong : true ≡ false = sym (quote_first r.start name (rest bytes r.end) h) ∙ q in cc)
+  name_by r name s (laid.word_name e q) (inr h) = absurd (let wrong : true ≡ false = sym h.0 ∙ plain in cc)
 
   mutual
     pub laid_value : {x : Located} {content : Content} {below : OrderedTree} → Laid bytes x content below → IsLocated o bytes x → ValueOf o content below (value_at x)
@@ -214,8 +210,8 @@ module _ (o : Options) (plain : o.loose_names ≡ false) (bytes : List ℕ) (u :
         subst (λ x. ValueOf o (Content.number n) none (Plain.number x)) (ap chars e ∙ slice_chars bytes v r.start r.end u s.from s.to (leaf_text o bytes r (Plain.number v) h)) values.number
     laid_value (laid.boolean_leaf s) h = values.boolean
     laid_value (laid.null_leaf s) h = values.null
-    laid_value (laid.array_node {xs = xs} items) h = values.array (laid_items items (all_items o bytes xs h.1))
-    laid_value (laid.object_node {ms = ms} members) h = values.object (laid_members members (all_members o bytes ms h.1))
+    laid_value (laid.array_node {xs = xs} items) h = values.array (laid_items items (all_items o bytes _ _ xs h.1))
+    laid_value (laid.object_node {ms = ms} members) h = values.object (laid_members members (all_members o bytes _ _ ms h.1))
 
     laid_items : {i j : ℕ} {xs : LocatedItems} {row : OrderedTree} → ItemsLaid bytes i xs j row → AllItems o bytes xs → ItemsOf o row (items_at xs)
     laid_items (laid.no_element f) h = items_fill o f.fills
@@ -226,7 +222,7 @@ module _ (o : Options) (plain : o.loose_names ≡ false) (bytes : List ℕ) (u :
     laid_members (laid.a_property f p rest) h = members_pass o f.fills (values.one_member (laid_property p h.0 h.1) (laid_members rest h.2))
 
     laid_property : {n : LocatedName} {x : Located} {row : OrderedTree} {r : Range} → PropertyLaid bytes n x row → IsNamed o bytes n r (range_at x) → IsLocated o bytes x → PropertyOf o row n.name (value_at x)
-    laid_property (laid.name_and_value s name f x) named h = values.name_of (name_is name named.name) (value_pass o f.fills (values.value_of (laid_value x h) values.end))
+    laid_property (laid.name_and_value {n = n} s name f x) named h = values.name_of (name_by n.range n.name s name named.name.stands) (value_pass o f.fills (values.value_of (laid_value x h) values.end))
 
   -- a document that is laid out has its value
   pub document_value : (x : Option Located) (tree : OrderedTree) → DocumentLaid bytes x tree → IsLocatedDocument o bytes x → DocumentValueOf o tree (option_map value_at x)
@@ -238,7 +234,7 @@ pub document_prints : (o : Options) (bytes : List ℕ) → IsUtf8 bytes → (x :
 document_prints o bytes u x tree l h = whole x l h
   where
     under_root : (row : OrderedTree) → Prints bytes 0 (length bytes) row → printed (more Content.root row none) ≡ bytes
-    under_root row p = printed-more Content.root row none ∙ append-nil (printed row) ∙ p.text ∙ take_all (length bytes) bytes (omega arith)
+    under_root row p = printed-more Content.root row none ∙ append-nil (printed row) ∙ p.text ∙ take_all (length bytes - 0) bytes (omega arith)
 
     whole : (x : Option Located) → DocumentLaid bytes x tree → IsLocatedDocument o bytes x → printed tree ≡ bytes
     whole None l h = ap printed l.1 ∙ under_root l.0 (prints_fill bytes u l.2)

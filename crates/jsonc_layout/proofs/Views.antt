@@ -18,7 +18,7 @@ use Rattle.jsonc_ast.specs.declared.ast.ObjectProp.{ObjectProp}
 pub view-Array : {A : Type 0} (a : Array A) → located (value.Array a) ≡ array_at a.range (items_located a.elements.items)
 view-Array a = search (rules, the_lemmas)
 
-pub view-Object : {A : Type 0} (o : Object A) → located (value.Object o) ≡ object_at o.range (members_located (object_parts.out-Object A o).properties.items)
+pub view-Object : {A : Type 0} (o : Object A) → located (value.Object o) ≡ object_at (object_parts.out-Object A o).range (members_located (object_parts.out-Object A o).properties.items)
 view-Object o = search (rules, the_lemmas)
 
 pub view-StringLit : {A : Type 0} (s : StringLit A) → located (value.StringLit s) ≡ leaf_at s.range (string (chars (cow_str_bytes s.value)))

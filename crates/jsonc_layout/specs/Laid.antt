@@ -77,10 +77,11 @@ abbrev mutual
 
   pub CanLayMembers : List ℕ → ℕ → LocatedMembers → ℕ → Type 0
   CanLayMembers bytes i no_members_at j = IsFillable bytes i j
-  CanLayMembers bytes i (member_at r n x ms) j = IsFillable bytes i r.start × CanLayProperty bytes n x × CanLayMembers bytes r.end ms j
+  CanLayMembers bytes i (member_at r n x ms) j = IsFillable bytes i r.start × Spans bytes n.range.start n.range.end × IsFillable bytes n.range.end (range_at x).start × CanLay bytes x × CanLayMembers bytes r.end ms j
 
-  pub CanLayProperty : List ℕ → LocatedName → Located → Type 0
-  CanLayProperty bytes n x = Spans bytes n.range.start n.range.end × IsFillable bytes n.range.end (range_at x).start × CanLay bytes x
+-- the same of a property's name and value
+abbrev pub CanLayProperty : List ℕ → LocatedName → Located → Type 0
+CanLayProperty bytes n x = Spans bytes n.range.start n.range.end × IsFillable bytes n.range.end (range_at x).start × CanLay bytes x
 
 abbrev pub CanLayDocument : List ℕ → Option Located → Type 0
 CanLayDocument bytes None = IsFillable bytes 0 (length bytes)
