@@ -6,3 +6,5 @@ pub mod calls;
 pub mod command;
 pub mod engine;
 pub mod fault;
+#[cfg(test)]
+mod tests;
