@@ -27,9 +27,11 @@ fn make_buffer<A: Allocator>(alloc: A) -> Result<Vec<u8, A>, AllocError>
 /// All that the source has left.
 fn read_whole<A: Allocator + Copy, S: Source>(alloc: A, source: &mut S) -> Result<Vec<u8, A>, Fault>
     ensures bytes { IfOk result (λ read. IfSome (S.remaining source.old) (λ input. read.items ≡ input)) }
-    ensures failed { IsErrOf result Fault.Read → S.failed_reads source.new ≡ one_more (S.failed_reads source.old) }
+    ensures failed { IsErrOf result Fault.Read
+        → S.failed_reads source.new ≡ one_more (S.failed_reads source.old) }
     ensures kept { OnOk result (S.failed_reads source.new ≡ S.failed_reads source.old) }
-    ensures causes { OnErr result (¬ (IsErrOf result Fault.Read) → IsErrOf result (Fault.Edit EditError.OutOfMemory)) }
+    ensures causes { OnErr result (¬ (IsErrOf result Fault.Read)
+        → IsErrOf result (Fault.Edit EditError.OutOfMemory)) }
 {
     let mut room = make_buffer(alloc)?;
     let buffer = room.as_mut_slice();
@@ -82,6 +84,8 @@ fn plain_options() -> ParseOptions
 }
 
 /// What the command writes, given the bytes of the input, or `None` where it writes nothing.
+///
+/// The bytes may be refused as `Fault::NotUtf8` or `Fault::Input`, and memory for what is written as `Fault::Edit`.
 pub fn run_on<A: Allocator + Copy>(
     alloc: A,
     command: Command,
@@ -110,6 +114,9 @@ pub fn run_on<A: Allocator + Copy>(
 }
 
 /// Does what the words ask: reads the source to its end, and writes what the command makes of it to the sink.
+///
+/// Words that name no command are `Fault::Usage`, failed calls `Fault::Read` and `Fault::Write`; else the faults
+/// are those of `run_on`.
 pub fn engine<A: Allocator + Copy, S: Source, K: Sink>(
     alloc: A,
     words: &[&str],

@@ -76,7 +76,7 @@ impl<T: Drop> From<AllocFailed<T>> for Fault {
     ghost from_gives = { λ _ fault. fault ≡ Edit OutOfMemory };
 
     fn from(_error: AllocFailed<T>) -> Fault {
-        Fault::Edit(EditError::OutOfMemory)
+        Fault::from(AllocError)
     }
 }
 
