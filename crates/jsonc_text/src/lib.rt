@@ -17,5 +17,7 @@ mod reads;
 mod runs;
 pub mod scanner;
 mod string;
+#[cfg(test)]
+mod tests;
 pub mod tokens;
 mod word;
