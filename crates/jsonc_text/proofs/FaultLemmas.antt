@@ -1,9 +1,8 @@
 -- Want of memory is a fault of every text.
-use Rattle.std.proofs.Common.{ℕ, ◌≡◌, ◌≤◌, List, [], refl, arith, IsUtf8, chars}
+use Rattle.std.proofs.Common.{ℕ, List, [], refl, arith, IsUtf8, chars}
 use Rattle.std.proofs.lemmas.Str.{IsCharBoundary-start}
 use Rattle.jsonc_text.specs.declared.errors.ParseError.{ParseError}
-use Rattle.jsonc_text.specs.Faults.{IsFault, IsOutOfMemory, nowhere, range_of, line_of, column_of}
-use Rattle.jsonc_text.specs.Text.{Spans}
+use Rattle.jsonc_text.specs.Faults.{IsFault, IsOutOfMemory}
 use Rattle.jsonc_text.specs.Places.{LineColumn}
 
 pub first_place : (t : List ℕ) → LineColumn t 0 1 1

@@ -1,5 +1,5 @@
 -- What the structs of options stand for.
-use Rattle.std.specs.Prelude.{Bool, true}
+use Rattle.std.specs.Prelude.{true}
 use Rattle.jsonc_text.specs.declared.options.ParseOptions.{ParseOptions}
 use Rattle.jsonc_text.specs.declared.options.ScannerOptions.{ScannerOptions}
 use Rattle.jsonc_text.specs.Options.{Options}

@@ -3,9 +3,21 @@
 //! The definitions of `specs/` say what the lexemes of a text are, which texts are documents, and which values they have; every crate of this repository speaks of texts by them.
 #![tactic(auto)]
 
+mod chars;
+mod comment;
 pub mod common;
 pub mod errors;
+mod faults;
 pub mod laws;
+mod lexeme;
+mod line;
+mod number;
 pub mod options;
+mod reads;
+mod runs;
 pub mod scanner;
+mod string;
+#[cfg(test)]
+mod tests;
 pub mod tokens;
+mod word;

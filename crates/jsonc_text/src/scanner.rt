@@ -1,8 +1,11 @@
 //! Turning a text into tokens.
-ghost use Rattle.std.specs.Prelude.{◌≡◌, ◌≤◌, IsCharBoundary, IfOk, IfErr, OnErr, None, option_map};
+ghost use Rattle.std.specs.Prelude.{◌≡◌, ◌≢◌, ◌≤◌, IsCharBoundary, IfOk, IfErr, OnErr, None, option_map};
 
-use crate::errors::ParseError;
+use crate::chars::blanks_end;
+use crate::errors::{ParseError, ParseErrorKind};
+use crate::lexeme::token_of;
 use crate::options::{ParseOptions, ScannerOptions};
+use crate::reads::read_lexeme;
 use crate::tokens::Token;
 use std::alloc::Allocator;
 
@@ -82,20 +85,31 @@ impl<'a, A: Allocator> Scanner<'a, A> {
 }
 
 impl<'a, A: Allocator + Copy> Scanner<'a, A> {
-    ghost use Rattle.jsonc_text.specs.Faults.{IsFault};
+    ghost use Rattle.jsonc_text.specs.Faults.{IsFault, kind_of};
     ghost use Rattle.jsonc_text.specs.Scanner.{text_of, token_of, PassesBlanks, StandsAt};
     ghost use Rattle.jsonc_text.specs.Tokens.{scanned_of};
 
     /// Moves to the next token, and answers it; or none at the end of the text.
+    ///
+    /// After an error the last token is what it was, and the scanner stands where the refused one begins.
     pub fn scan(&mut self) -> Result<Option<Token<'a, A>>, ParseError>
         ensures blanks { PassesBlanks self.old self.new }
         ensures found { IfOk result (StandsAt self.new) }
         ensures token { IfOk result (λ found. token_of self.new ≡ option_map scanned_of found) }
         ensures fault { IfErr result (IsFault (text_of self.new)) }
+        ensures no_memory { IfErr result (λ e. kind_of e ≢ ParseErrorKind.OutOfMemory) }
         ensures refused { OnErr result (token_of self.new ≡ token_of self.old) }
     {
-        let _ = self.file_text.as_bytes();
-        self.token_start = self.byte_index;
-        Err(ParseError::out_of_memory())
+        let start = blanks_end(self.file_text, self.byte_index);
+        self.byte_index = start;
+        self.token_start = start;
+        if start == self.file_text.len() {
+            self.current_token = None;
+            return Ok(None);
+        }
+        let read = read_lexeme(self.file_text, start, &self.options)?;
+        self.byte_index = read.end;
+        self.current_token = Some(token_of(read.lexeme));
+        Ok(Some(token_of(read.lexeme)))
     }
 }

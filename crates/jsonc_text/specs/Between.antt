@@ -1,0 +1,63 @@
+-- What stands between two places of a text.
+use Rattle.std.specs.Prelude.{ℕ, ◌+◌, ◌≡◌, ◌≤◌, ◌<◌, Bool, List, ◌++◌, IsCharBoundary, IsTrue, ◌==◌, ◌||◌, ◌&&◌, nat_lt, not, chars, slice_range}
+use Rattle.jsonc_text.specs.Gaps.{is_blank, HasNoEndInside}
+use Rattle.jsonc_text.specs.Text.{rest, next, no, starts, Many}
+use Rattle.jsonc_text.specs.Chars.{Steps}
+use Rattle.jsonc_text.specs.Words.{EndsThere, EndsWhole, EndsWord, begins_word, is_in_word}
+
+-- from one place to another stands a piece such as R says
+pub record Between (R : List ℕ → List ℕ → Type 0) (bytes : List ℕ) (start end : ℕ) : Type 0 where
+  pub boundary : IsCharBoundary bytes end
+  pub order : start < end
+  pub piece : R (rest bytes start) (rest bytes end)
+
+-- the same, where the piece may be empty
+pub record Reaches (R : List ℕ → List ℕ → Type 0) (bytes : List ℕ) (start end : ℕ) : Type 0 where
+  pub boundary : IsCharBoundary bytes end
+  pub order : start ≤ end
+  pub piece : R (rest bytes start) (rest bytes end)
+
+-- a character of one byte that passes the test stands at a place
+abbrev pub HasAt : (ℕ → Bool) → List ℕ → ℕ → Type 0
+HasAt p bytes place = (c : ℕ) × IsTrue (p c) × Steps bytes place c (place + 1)
+
+-- no character that passes the test stands at a place
+abbrev pub LacksAt : (ℕ → Bool) → List ℕ → ℕ → Type 0
+LacksAt p bytes place = IsTrue (no p (next (rest bytes place)))
+
+-- t is the text s, which ends there as a keyword does, and then r
+abbrev pub IsAlone : List ℕ → List ℕ → List ℕ → Type 0
+IsAlone s t r = (t ≡ s ++ r) × EndsThere (next r)
+
+-- the same, which ends there as an unsigned `Infinity` or `NaN` does
+abbrev pub IsWhole : List ℕ → List ℕ → List ℕ → Type 0
+IsWhole s t r = (t ≡ s ++ r) × EndsWhole (next r)
+
+-- t is characters of a word, and then r, before which a word may end
+pub record PassesWord (t r : List ℕ) : Type 0 where
+  pub begins : IsTrue (starts begins_word (next t))
+  pub goes_on : Many is_in_word t r
+  pub ends : EndsWord (next r)
+
+-- a character that may stand after a word
+abbrev pub may_follow_word : ℕ → Bool
+may_follow_word c = c == 0x3A || c == 0x20 || c == 0x09 || c == 0x0A || c == 0x0C || c == 0x0D || (nat_lt 0x7F c && is_blank c)
+
+-- neither of two characters
+abbrev pub is_neither : ℕ → ℕ → ℕ → Bool
+is_neither a b c = not (c == a || c == b)
+
+-- a string in the quotes q without a backslash begins at a place, and its closing quote stands at another
+pub record IsClosed (q : ℕ) (bytes : List ℕ) (start close : ℕ) : Type 0 where
+  pub boundary : IsCharBoundary bytes close
+  pub order : start < close
+  pub plain : Many (is_neither q 0x5C) (rest bytes (start + 1)) (rest bytes close)
+  pub quote : Steps bytes close q (close + 1)
+
+-- the text of a block comment begins at a place, and its `*/` stands at another
+pub record HoldsBlock (bytes : List ℕ) (start close : ℕ) : Type 0 where
+  pub boundary : IsCharBoundary bytes close
+  pub order : start ≤ close
+  pub text : HasNoEndInside (chars (slice_range bytes start close))
+  pub star : Steps bytes close 0x2A (close + 1)
+  pub slash : Steps bytes (close + 1) 0x2F (close + 2)

@@ -1,0 +1,29 @@
+-- What a lexeme stands for, and where it was read.
+use Rattle.std.specs.Prelude.{ℕ, List, chars}
+use Rattle.jsonc_text.specs.declared.lexeme.Lexeme.{Lexeme}
+use Rattle.jsonc_text.specs.declared.lexeme.Lexeme.TheVariants.{OpenBrace, CloseBrace, OpenBracket, CloseBracket, Comma, Colon, String, Word, Boolean, Number, Null, CommentLine, CommentBlock}
+use Rattle.jsonc_text.specs.declared.lexeme.Read.{Read}
+use Rattle.jsonc_text.specs.Options.{Options}
+use Rattle.jsonc_text.specs.Lexemes.{Scanned, lexeme, line_comment, block_comment, punctuation, string, word, number, keyword, IsScanned}
+use Rattle.jsonc_text.specs.Words.{boolean, null}
+use Rattle.jsonc_text.specs.Between.{Between}
+
+-- a string without escapes stands for its text
+abbrev pub what_of : Lexeme → Scanned
+what_of OpenBrace = lexeme (punctuation 0x7B)
+what_of CloseBrace = lexeme (punctuation 0x7D)
+what_of OpenBracket = lexeme (punctuation 0x5B)
+what_of CloseBracket = lexeme (punctuation 0x5D)
+what_of Comma = lexeme (punctuation 0x2C)
+what_of Colon = lexeme (punctuation 0x3A)
+what_of (String s) = lexeme (string (chars s.now))
+what_of (Word s) = lexeme (word (chars s.now))
+what_of (Boolean b) = lexeme (keyword (boolean b))
+what_of (Number s) = lexeme (number (chars s.now))
+what_of Null = lexeme (keyword null)
+what_of (CommentLine s) = line_comment (chars s.now)
+what_of (CommentBlock s) = block_comment (chars s.now)
+
+-- the lexeme or comment stands at a place, and ends where it was read to
+abbrev pub IsRead : Options → List ℕ → ℕ → Read → Type 0
+IsRead o bytes start read = Between (IsScanned o (what_of read.lexeme)) bytes start read.end
