@@ -14,7 +14,7 @@ pub mod Reading
 pub mod Rows
 pub mod RowsPlaces
 pub mod RowsRefused
-pub mod Runs
+pub mod CharRuns
 pub mod SameOptions
 pub mod Steps
 pub mod StringFrames
