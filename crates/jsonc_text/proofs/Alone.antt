@@ -1,13 +1,14 @@
 -- A lexeme or comment at the front of a text is one by itself, and one by itself is one before what it can end before.
-use Rattle.std.proofs.Common.{ℕ, ◌≡◌, ◌∙◌, sym, ap, refl, List, [], ◌∷◌, ◌++◌, append_assoc, append-nil, IsTrue}
+use Rattle.std.proofs.Common.{ℕ, ◌≡◌, ◌∙◌, sym, ap, refl, Bool, true, List, [], ◌∷◌, ◌++◌, append_assoc, append-nil, IsTrue}
 use Rattle.jsonc_text.specs.Options.{Options}
-use Rattle.jsonc_text.specs.Text.{next, no, Many}
+use Rattle.jsonc_text.specs.Text.{next, no, starts, Many}
 use Rattle.jsonc_text.specs.Gaps.{LineComment, line, BlockComment, is_in_line}
 use Rattle.jsonc_text.specs.Words.{keyword_text, WordLit, EndsWord}
 use Rattle.jsonc_text.specs.Strings.{IsString}
 use Rattle.jsonc_text.specs.Lexemes.{LexemeKind, Scanned, lexeme, line_comment, block_comment, IsScanned, CanEndBefore}
-use Rattle.jsonc_text.proofs.Basics.{front_same}
+use Rattle.jsonc_text.proofs.Basics.{clash, front_same}
 use Rattle.jsonc_text.proofs.UniqueWords.{many_more}
+use Rattle.jsonc_text.proofs.UniqueTokens.{not_blank, scanned_no_blank}
 use Rattle.jsonc_text.proofs.BlockComments.{first_end, block_of}
 use Rattle.jsonc_text.proofs.NumberFrames.{many_cut, number_whole, number_follows, number_there}
 
@@ -71,11 +72,22 @@ scanned_before o (line_comment c) s r (l, e) h = (line_before r refl l h, before
 scanned_before o (block_comment c) s r (b, e) h = block_before s c r e b
 
 -- what stands at the front of a text, and its text
-pub scanned_text : (o : Options) (w : Scanned) (t r : List ℕ) → IsScanned o w t r → (s : List ℕ) × (t ≡ s ++ r)
-scanned_text o (lexeme (LexemeKind.string v)) t r (q, x, h, e, d) = ((q ∷ x) ++ q ∷ [], e ∙ sym (append_assoc (q ∷ x) (q ∷ []) r))
-scanned_text o (lexeme (LexemeKind.number n)) t r (e, x) = (n, e)
-scanned_text o (lexeme (LexemeKind.word n)) t r (e, w) = (n, e)
-scanned_text o (lexeme (LexemeKind.keyword k)) t r (e, h) = (keyword_text k, e)
-scanned_text o (lexeme (LexemeKind.punctuation c)) t r (h, e) = (c ∷ [], e)
-scanned_text o (line_comment c) t r (l, e) = (0x2F ∷ 0x2F ∷ c, e)
-scanned_text o (block_comment c) t r (b, e) = ((0x2F ∷ 0x2A ∷ c) ++ 0x2A ∷ 0x2F ∷ [], e ∙ sym (append_assoc (0x2F ∷ 0x2A ∷ c) (0x2A ∷ 0x2F ∷ []) r))
+pub own_text : (o : Options) (w : Scanned) (t r : List ℕ) → IsScanned o w t r → (s : List ℕ) × (t ≡ s ++ r)
+own_text o (lexeme (LexemeKind.string v)) t r (q, x, h, e, d) = ((q ∷ x) ++ q ∷ [], e ∙ sym (append_assoc (q ∷ x) (q ∷ []) r))
+own_text o (lexeme (LexemeKind.number n)) t r (e, x) = (n, e)
+own_text o (lexeme (LexemeKind.word n)) t r (e, w) = (n, e)
+own_text o (lexeme (LexemeKind.keyword k)) t r (e, h) = (keyword_text k, e)
+own_text o (lexeme (LexemeKind.punctuation c)) t r (h, e) = (c ∷ [], e)
+own_text o (line_comment c) t r (l, e) = (0x2F ∷ 0x2F ∷ c, e)
+own_text o (block_comment c) t r (b, e) = ((0x2F ∷ 0x2A ∷ c) ++ 0x2A ∷ 0x2F ∷ [], e ∙ sym (append_assoc (0x2F ∷ 0x2A ∷ c) (0x2A ∷ 0x2F ∷ []) r))
+
+nonempty : (p : ℕ → Bool) (s : List ℕ) → IsTrue (starts p (next s)) → (c : ℕ) × (u : List ℕ) × (s ≡ c ∷ u)
+nonempty p [] h = absurd (clash true h refl)
+nonempty p (c ∷ u) h = (c, u, refl)
+
+pub some_text : (o : Options) (w : Scanned) (t r : List ℕ) → IsScanned o w t r → (c : ℕ) × (s : List ℕ) × (t ≡ (c ∷ s) ++ r)
+some_text o w t r x =
+    let k = own_text o w t r x in
+    let a = scanned_alone o w k.0 r (rw k.1 at x) in
+    let n = nonempty not_blank k.0 (scanned_no_blank o w k.0 [] a.0) in
+    (n.0, n.1, k.1 ∙ ap (λ y. y ++ r) n.2)

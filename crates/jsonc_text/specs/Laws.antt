@@ -39,6 +39,14 @@ BeginsWithNo o k t = (r : List ℕ) → Lexeme o k t r → ⊥
 abbrev pub StandsAlone : Options → Scanned → List ℕ → List ℕ → Type 0
 StandsAlone o w s r = IsScanned o w (s ++ r) r ↔ IsScanned o w s [] × CanEndBefore w s r
 
+-- this lexeme or comment at the front of t holds at least one character, and what follows it is the rest of t
+abbrev pub HoldsSome : Options → Scanned → List ℕ → Type 0
+HoldsSome o w t = (r : List ℕ) → IsScanned o w t r → (c : ℕ) × (s : List ℕ) × (t ≡ (c ∷ s) ++ r)
+
+-- the text s between quotes q stands for no two strings
+abbrev pub DecodesToOne : Options → ℕ → List ℕ → Type 0
+DecodesToOne o q s = (v w : List ℕ) → Decodes o q s v → Decodes o q s w → v ≡ w
+
 -- `/*`, s, `*/`, and then r
 abbrev pub in_block : List ℕ → List ℕ → List ℕ
 in_block s r = (0x2F ∷ 0x2A ∷ s) ++ 0x2A ∷ 0x2F ∷ r

@@ -3,14 +3,15 @@ ghost use Rattle.std.specs.Prelude.{◌≡◌, ◌≤◌, ◌↔◌, ◌++◌, �
 ghost use Rattle.jsonc_text.specs.Options.{Options, AgreeOnLexemes, AllowsMore, with_commas, all_on};
 ghost use Rattle.jsonc_text.specs.Gaps.{BlockComment, HasNoEndInside, IsComment};
 ghost use Rattle.jsonc_text.specs.Numbers.{Number, NumberLit, MayFollow};
-ghost use Rattle.jsonc_text.specs.Strings.{Decodes};
+ghost use Rattle.jsonc_text.specs.Strings.{Decodes, IsQuote};
 ghost use Rattle.jsonc_text.specs.Lexemes.{LexemeKind, Lexeme, number, word, Scanned};
 ghost use Rattle.jsonc_text.specs.Grammar.{IsDocument};
 ghost use Rattle.jsonc_text.specs.Places.{LineColumn};
 ghost use Rattle.jsonc_text.specs.Plain.{Plain, depth, around};
 ghost use Rattle.jsonc_text.specs.Laws.{HasOneValue, BeginsWithOneLexeme, BeginsWithNo};
 ghost use Rattle.jsonc_text.specs.Laws.{HasOneTokenList, HasOneGapList, HasLexemesOf, HasDocumentsOf};
-ghost use Rattle.jsonc_text.specs.Laws.{in_block, DecodesAnywhere, AreDecodedText, StandsAlone};
+ghost use Rattle.jsonc_text.specs.Laws.{in_block, DecodesToOne, DecodesAnywhere, AreDecodedText};
+ghost use Rattle.jsonc_text.specs.Laws.{HoldsSome, StandsAlone};
 ghost use Rattle.jsonc_text.specs.Rows.{five_five, true_keyword, infinity_x, clef_escaped};
 ghost use Rattle.jsonc_text.specs.Rows.{low_escaped, accented, after_carriage_return};
 
@@ -41,9 +42,10 @@ pub fn block_comment_ends_first()
     ensures first { (s r : List ℕ) → BlockComment (in_block s r) r ↔ HasNoEndInside s }
 {}
 
-/// What stands between two quotes stands for the same string whatever follows the second, and
-/// pieces that stand before a quote are such a text.
+/// What stands between two quotes stands for one string, the same whatever follows the second
+/// quote; and pieces that stand before a quote are such a text.
 pub fn strings_end_at_their_quote()
+    ensures one { (o : Options) (q : ℕ) (s : List ℕ) → IsQuote o q → DecodesToOne o q s }
     ensures anywhere { (o : Options) (q : ℕ) (s v : List ℕ) → DecodesAnywhere o q s v }
     ensures text { (o : Options) (q : ℕ) (t v : List ℕ) → AreDecodedText o q t v }
 {}
@@ -53,9 +55,11 @@ pub fn numbers_end_at_their_followers()
     ensures { (o : Options) (s r : List ℕ) → Number o (s ++ r) r ↔ NumberLit o s × MayFollow s r }
 {}
 
-/// A lexeme or comment at the front of a text is one by itself, before what it can end before.
+/// A lexeme or comment holds at least one character; and at the front of a text it is one by
+/// itself, before what it can end before.
 pub fn lexemes_stand_alone()
-    ensures { (o : Options) (w : Scanned) (s r : List ℕ) → StandsAlone o w s r }
+    ensures some { (o : Options) (w : Scanned) (t : List ℕ) → HoldsSome o w t }
+    ensures alone { (o : Options) (w : Scanned) (s r : List ℕ) → StandsAlone o w s r }
 {}
 
 /// Lexemes look at six options: single quotes, hexadecimal, plus, bare points, `Infinity` and
