@@ -39,7 +39,7 @@ BeginsWithNo o k t = (r : List ℕ) → Lexeme o k t r → ⊥
 abbrev pub StandsAlone : Options → Scanned → List ℕ → List ℕ → Type 0
 StandsAlone o w s r = IsScanned o w (s ++ r) r ↔ IsScanned o w s [] × CanEndBefore w s r
 
--- this lexeme or comment at the front of t holds at least one character, and what follows it is the rest of t
+-- this lexeme or comment at the front of t holds at least one character of it
 abbrev pub HoldsSome : Options → Scanned → List ℕ → Type 0
 HoldsSome o w t = (r : List ℕ) → IsScanned o w t r → (c : ℕ) × (s : List ℕ) × (t ≡ (c ∷ s) ++ r)
 
