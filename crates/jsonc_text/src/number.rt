@@ -7,7 +7,7 @@ ghost use Rattle.jsonc_text.specs.Options.{Options};
 ghost use Rattle.jsonc_text.specs.Numbers.{Whole, Fraction, Exponent, Unsigned, Number};
 ghost use Rattle.jsonc_text.specs.Chars.{Steps};
 ghost use Rattle.jsonc_text.specs.OptionsOf.{parse_options};
-ghost use Rattle.jsonc_text.specs.Reads.{IsRead, IsReadName, IsSignedName, IsUnsigned};
+ghost use Rattle.jsonc_text.specs.Reads.{HasName, IsRead, IsReadName, IsSignedName, IsUnsigned, NoNames, NoUnsigned};
 ghost use Rattle.jsonc_text.specs.Refusals.{IsTextFault, IsTold};
 ghost use Rattle.jsonc_text.specs.Text.{Spans, AllOf, is_digit, is_hex_digit, rest};
 ghost use Rattle.std.specs.Prelude.{IsCharBoundary, length};
@@ -152,6 +152,7 @@ fn decimal_end(
     requires sign { Spans text.now number start }
     requires whole { Between Whole text.now start whole }
     ensures found { IfOk result (IsUnsigned (parse_options options.now) text.now start) }
+    ensures none { IfErr result (λ _. NoUnsigned (parse_options options.now) text.now start) }
     ensures fault { IfErr result (IsTextFault text.now) }
 {
     let fraction = fraction_end(text, number, whole, options)?;
@@ -170,6 +171,7 @@ fn hexadecimal_end(
     requires zero { Steps text.now start 0x30 (start + 1) }
     requires x { HasAt (λ c. c == 0x78 || c == 0x58) text.now (start + 1) }
     ensures found { IfOk result (IsUnsigned (parse_options options.now) text.now start) }
+    ensures none { IfErr result (λ _. NoUnsigned (parse_options options.now) text.now start) }
     ensures fault { IfErr result (IsTextFault text.now) }
 {
     if !options.allow_hexadecimal_numbers {
@@ -189,8 +191,10 @@ fn bare_end(
     start: usize,
     options: &ParseOptions,
 ) -> Result<usize, ParseError>
-    requires { Spans text.now number start }
+    requires spans { Spans text.now number start }
+    requires digit { LacksAt is_digit text.now start }
     ensures found { IfOk result (IsUnsigned (parse_options options.now) text.now start) }
+    ensures none { IfErr result (λ _. NoNames text.now start → NoUnsigned (parse_options options.now) text.now start) }
     ensures fault { IfErr result (IsTextFault text.now) }
 {
     let missing = ParseErrorKind::ExpectedDigitFollowingNegativeSign;
@@ -220,6 +224,7 @@ fn finite_end(
 ) -> Result<usize, ParseError>
     requires { Spans text.now number start }
     ensures found { IfOk result (IsUnsigned (parse_options options.now) text.now start) }
+    ensures none { IfErr result (λ _. NoNames text.now start → NoUnsigned (parse_options options.now) text.now start) }
     ensures fault { IfErr result (IsTextFault text.now) }
 {
     if has_byte(text, start, b'0') {
@@ -238,6 +243,8 @@ fn finite_end(
 fn name_end(text: &str, start: usize) -> Option<usize>
     requires { IsCharBoundary text.now start }
     ensures found { IfSome result (IsSignedName text.now start) }
+    ensures none { IfNone result (NoNames text.now start) }
+    ensures begins { IfSome result (λ _. HasName text.now start) }
     ensures spans { IfSome result (Spans text.now start) }
 {
     if let Some(end) = keyword_end(text, start, "Infinity") {
@@ -253,6 +260,7 @@ fn name_end(text: &str, start: usize) -> Option<usize>
 fn signed_end(text: &str, sign: usize, options: &ParseOptions) -> Result<usize, ParseError>
     requires { Spans text.now sign (sign + 1) }
     ensures found { IfOk result (Between (Unsigned (parse_options options.now) true) text.now (sign + 1)) }
+    ensures none { IfErr result (λ _. NoneFrom (Unsigned (parse_options options.now) true) text.now (sign + 1)) }
     ensures fault { IfErr result (IsTextFault text.now) }
 {
     let Some(end) = name_end(text, sign + 1) else {
@@ -273,6 +281,7 @@ pub(crate) fn number_end(
 ) -> Result<usize, ParseError>
     requires { IsCharBoundary text.now start }
     ensures found { IfOk result (Between (Number (parse_options options.now)) text.now start) }
+    ensures none { IfErr result (λ _. NoNames text.now start → NoneFrom (Number (parse_options options.now)) text.now start) }
     ensures fault { IfErr result (IsTextFault text.now) }
 {
     if has_byte(text, start, b'-') {
@@ -296,6 +305,7 @@ pub(crate) fn read_number<'a>(
 ) -> Result<Read<'a>, ParseError>
     requires { IsCharBoundary text.now start }
     ensures found { IfOk result (IsRead (parse_options options.now) text.now start) }
+    ensures none { IfErr result (λ _. NoNames text.now start → NoneFrom (Number (parse_options options.now)) text.now start) }
     ensures fault { IfErr result (IsTextFault text.now) }
 {
     let end = number_end(text, start, options)?;
