@@ -9,6 +9,7 @@ pub mod Cuts
 pub mod FaultLemmas
 pub mod Lines
 pub mod Nesting
+pub mod NoNumbers
 pub mod NumberFrames
 pub mod Reading
 pub mod Rows

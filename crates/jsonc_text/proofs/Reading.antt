@@ -61,7 +61,7 @@ front_starts : (p : ℕ → Bool) (s r : List ℕ) {t : List ℕ} → t ≡ s ++
 front_starts p [] r e n h = absurd (no_starts p (next r) n (rw e at h))
 front_starts p (c ∷ s) r e n h = rw e at h
 
-no_also : (p q : ℕ → Bool) → ((c : ℕ) → IsTrue (p c) → IsTrue (q c)) → (n : Option ℕ) → IsTrue (no q n) → IsTrue (no p n)
+pub no_also : (p q : ℕ → Bool) → ((c : ℕ) → IsTrue (p c) → IsTrue (q c)) → (n : Option ℕ) → IsTrue (no q n) → IsTrue (no p n)
 no_also p q f None h = refl
 no_also p q f (Some c) h = go (p c) refl
   where

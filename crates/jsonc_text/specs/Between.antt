@@ -17,6 +17,10 @@ pub record Reaches (R : List ℕ → List ℕ → Type 0) (bytes : List ℕ) (st
   pub order : start ≤ end
   pub piece : R (rest bytes start) (rest bytes end)
 
+-- no piece such as R says stands at a place
+abbrev pub NoneFrom : (List ℕ → List ℕ → Type 0) → List ℕ → ℕ → Type 0
+NoneFrom R bytes start = (r : List ℕ) → R (rest bytes start) r → ⊥
+
 -- a character of one byte that passes the test stands at a place
 abbrev pub HasAt : (ℕ → Bool) → List ℕ → ℕ → Type 0
 HasAt p bytes place = (c : ℕ) × IsTrue (p c) × Steps bytes place c (place + 1)

@@ -1,12 +1,14 @@
 -- What a lexeme stands for, and where it was read.
-use Rattle.std.specs.Prelude.{ℕ, List, chars}
+use Rattle.std.specs.Prelude.{ℕ, Bool, true, List, chars, codes, IsTrue, ◌==◌, ◌||◌}
 use Rattle.jsonc_text.specs.declared.lexeme.Lexeme.{Lexeme}
 use Rattle.jsonc_text.specs.declared.lexeme.Lexeme.TheVariants.{OpenBrace, CloseBrace, OpenBracket, CloseBracket, Comma, Colon, String, Word, Boolean, Number, Null, CommentLine, CommentBlock}
 use Rattle.jsonc_text.specs.declared.lexeme.Read.{Read}
 use Rattle.jsonc_text.specs.Options.{Options}
 use Rattle.jsonc_text.specs.Lexemes.{Scanned, lexeme, line_comment, block_comment, punctuation, string, word, number, keyword, IsScanned}
 use Rattle.jsonc_text.specs.Words.{boolean, null}
-use Rattle.jsonc_text.specs.Between.{Between}
+use Rattle.jsonc_text.specs.Between.{Between, NoneFrom, IsWhole, IsAlone}
+use Rattle.jsonc_text.specs.Numbers.{Unsigned}
+use Rattle.jsonc_text.specs.Text.{rest, next, starts}
 
 -- a string without escapes stands for its text
 abbrev pub what_of : Lexeme → Scanned
@@ -27,3 +29,35 @@ what_of (CommentBlock s) = block_comment (chars s.now)
 -- the lexeme or comment stands at a place, and ends where it was read to
 abbrev pub IsRead : Options → List ℕ → ℕ → Read → Type 0
 IsRead o bytes start read = Between (IsScanned o (what_of read.lexeme)) bytes start read.end
+
+-- under all options
+abbrev pub IsReadAnyhow : List ℕ → ℕ → Read → Type 0
+IsReadAnyhow bytes start read = (o : Options) → IsRead o bytes start read
+
+-- under all options that allow `Infinity` and `NaN`
+abbrev pub IsReadName : List ℕ → ℕ → Read → Type 0
+IsReadName bytes start read = (o : Options) → IsTrue o.non_finite_numbers → IsRead o bytes start read
+
+-- a number without its sign, with a sign before it or not
+abbrev pub IsUnsigned : Options → List ℕ → ℕ → ℕ → Type 0
+IsUnsigned o bytes start end = (signed : Bool) → Between (Unsigned o signed) bytes start end
+
+-- `Infinity` or `NaN` after a sign, under all options that allow them
+abbrev pub IsSignedName : List ℕ → ℕ → ℕ → Type 0
+IsSignedName bytes start end = (o : Options) → IsTrue o.non_finite_numbers → Between (Unsigned o true) bytes start end
+
+-- neither `Infinity` nor `NaN` stands at a place as a number
+abbrev pub NoName : Options → List ℕ → ℕ → Type 0
+NoName o bytes start = IsTrue o.non_finite_numbers → NoneFrom (IsWhole (codes "Infinity")) bytes start × NoneFrom (IsWhole (codes "NaN")) bytes start
+
+-- no number without its sign stands at a place
+abbrev pub NoUnsigned : Options → List ℕ → ℕ → Type 0
+NoUnsigned o bytes start = (signed : Bool) → NoneFrom (Unsigned o signed) bytes start
+
+-- neither `Infinity` nor `NaN` stands at a place and ends there
+abbrev pub NoNames : List ℕ → ℕ → Type 0
+NoNames bytes start = NoneFrom (IsAlone (codes "Infinity")) bytes start × NoneFrom (IsAlone (codes "NaN")) bytes start
+
+-- an `I` or an `N` stands at a place
+abbrev pub HasName : List ℕ → ℕ → Type 0
+HasName bytes start = IsTrue (starts (λ c. c == 0x49 || c == 0x4E) (next (rest bytes start)))

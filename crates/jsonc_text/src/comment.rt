@@ -2,20 +2,20 @@
 ghost use Rattle.std.specs.Prelude.{◌+◌, IsCharBoundary, IfOk, IfErr};
 ghost use Rattle.jsonc_text.specs.Chars.{Steps};
 ghost use Rattle.jsonc_text.specs.Options.{Options};
-ghost use Rattle.jsonc_text.specs.Reads.{IsRead};
+ghost use Rattle.jsonc_text.specs.Reads.{IsReadAnyhow};
 ghost use Rattle.jsonc_text.specs.Refusals.{IsTextFault};
 
 use crate::chars::has_byte;
 use crate::errors::{ParseError, ParseErrorKind};
 use crate::faults::fault;
 use crate::lexeme::{Lexeme, Read};
-use crate::runs::{block_close, stop_place};
+use crate::stops::{block_close, stop_place};
 
 /// The comment at a place, where a `/` stands.
 pub(crate) fn read_comment<'a>(text: &'a str, start: usize) -> Result<Read<'a>, ParseError>
     requires boundary { IsCharBoundary text.now start }
     requires slash { Steps text.now start 0x2F (start + 1) }
-    ensures found { IfOk result (λ read. (o : Options) → IsRead o text.now start read) }
+    ensures found { IfOk result (IsReadAnyhow text.now start) }
     ensures fault { IfErr result (IsTextFault text.now) }
 {
     if has_byte(text, start + 1, b'/') {

@@ -14,8 +14,8 @@ mod line;
 mod number;
 pub mod options;
 mod reads;
-mod runs;
 pub mod scanner;
+mod stops;
 mod string;
 #[cfg(test)]
 mod tests;

@@ -2,12 +2,12 @@
 //!
 //! A number commits: what begins as one is that number or a fault, never a shorter number.
 ghost use Rattle.std.specs.Prelude.{◌≡◌, ◌+◌, ◌<◌, ◌≤◌, ◌||◌, ◌==◌, IsTrue, false, IfOk, IfErr, IfSome, IfNone, Bool, true, List, ℕ, codes};
-ghost use Rattle.jsonc_text.specs.Between.{Between, Reaches, HasAt, LacksAt, IsWhole};
+ghost use Rattle.jsonc_text.specs.Between.{Between, Reaches, HasAt, LacksAt, NoneFrom, IsWhole};
 ghost use Rattle.jsonc_text.specs.Options.{Options};
 ghost use Rattle.jsonc_text.specs.Numbers.{Whole, Fraction, Exponent, Unsigned, Number};
 ghost use Rattle.jsonc_text.specs.Chars.{Steps};
 ghost use Rattle.jsonc_text.specs.OptionsOf.{parse_options};
-ghost use Rattle.jsonc_text.specs.Reads.{IsRead};
+ghost use Rattle.jsonc_text.specs.Reads.{HasName, IsRead, IsReadName, IsSignedName, IsUnsigned, NoNames, NoUnsigned};
 ghost use Rattle.jsonc_text.specs.Refusals.{IsTextFault, IsTold};
 ghost use Rattle.jsonc_text.specs.Text.{Spans, AllOf, is_digit, is_hex_digit, rest};
 ghost use Rattle.std.specs.Prelude.{IsCharBoundary, length};
@@ -92,7 +92,7 @@ fn some_hex_digits_end(text: &str, start: usize) -> Option<usize>
 fn exponent_end(text: &str, start: usize) -> Result<usize, ParseError>
     requires { IsCharBoundary text.now start }
     ensures found { IfOk result (Reaches Exponent text.now start) }
-    ensures none { IfErr result (λ _. (r : List ℕ) → Exponent (rest text.now start) r → ⊥) }
+    ensures none { IfErr result (λ _. NoneFrom Exponent text.now start) }
     ensures fault { IfErr result (IsTextFault text.now) }
 {
     if !has_either(text, start, b'e', b'E') {
@@ -122,7 +122,7 @@ fn fraction_end(
 ) -> Result<usize, ParseError>
     requires { Spans text.now number start }
     ensures found { IfOk result (Reaches (Fraction (parse_options options.now)) text.now start) }
-    ensures none { IfErr result (λ _. (r : List ℕ) → Fraction (parse_options options.now) (rest text.now start) r → ⊥) }
+    ensures none { IfErr result (λ _. NoneFrom (Fraction (parse_options options.now)) text.now start) }
     ensures fault { IfErr result (IsTextFault text.now) }
     ensures told { IfErr result (IsTold number (start + 1) ParseErrorKind.BareDecimalPointNumbersNotAllowed) }
 {
@@ -151,7 +151,8 @@ fn decimal_end(
 ) -> Result<usize, ParseError>
     requires sign { Spans text.now number start }
     requires whole { Between Whole text.now start whole }
-    ensures found { IfOk result (λ end. (signed : Bool) → Between (Unsigned (parse_options options.now) signed) text.now start end) }
+    ensures found { IfOk result (IsUnsigned (parse_options options.now) text.now start) }
+    ensures none { IfErr result (λ _. NoUnsigned (parse_options options.now) text.now start) }
     ensures fault { IfErr result (IsTextFault text.now) }
 {
     let fraction = fraction_end(text, number, whole, options)?;
@@ -169,7 +170,8 @@ fn hexadecimal_end(
     requires sign { Spans text.now number start }
     requires zero { Steps text.now start 0x30 (start + 1) }
     requires x { HasAt (λ c. c == 0x78 || c == 0x58) text.now (start + 1) }
-    ensures found { IfOk result (λ end. (signed : Bool) → Between (Unsigned (parse_options options.now) signed) text.now start end) }
+    ensures found { IfOk result (IsUnsigned (parse_options options.now) text.now start) }
+    ensures none { IfErr result (λ _. NoUnsigned (parse_options options.now) text.now start) }
     ensures fault { IfErr result (IsTextFault text.now) }
 {
     if !options.allow_hexadecimal_numbers {
@@ -189,8 +191,10 @@ fn bare_end(
     start: usize,
     options: &ParseOptions,
 ) -> Result<usize, ParseError>
-    requires { Spans text.now number start }
-    ensures found { IfOk result (λ end. (signed : Bool) → Between (Unsigned (parse_options options.now) signed) text.now start end) }
+    requires spans { Spans text.now number start }
+    requires digit { LacksAt is_digit text.now start }
+    ensures found { IfOk result (IsUnsigned (parse_options options.now) text.now start) }
+    ensures none { IfErr result (λ _. NoNames text.now start → NoUnsigned (parse_options options.now) text.now start) }
     ensures fault { IfErr result (IsTextFault text.now) }
 {
     let missing = ParseErrorKind::ExpectedDigitFollowingNegativeSign;
@@ -219,7 +223,8 @@ fn finite_end(
     options: &ParseOptions,
 ) -> Result<usize, ParseError>
     requires { Spans text.now number start }
-    ensures found { IfOk result (λ end. (signed : Bool) → Between (Unsigned (parse_options options.now) signed) text.now start end) }
+    ensures found { IfOk result (IsUnsigned (parse_options options.now) text.now start) }
+    ensures none { IfErr result (λ _. NoNames text.now start → NoUnsigned (parse_options options.now) text.now start) }
     ensures fault { IfErr result (IsTextFault text.now) }
 {
     if has_byte(text, start, b'0') {
@@ -237,7 +242,9 @@ fn finite_end(
 /// The place after `Infinity` or `NaN` at a place, or none.
 fn name_end(text: &str, start: usize) -> Option<usize>
     requires { IsCharBoundary text.now start }
-    ensures found { IfSome result (λ end. (o : Options) → IsTrue o.non_finite_numbers → Between (Unsigned o true) text.now start end) }
+    ensures found { IfSome result (IsSignedName text.now start) }
+    ensures none { IfNone result (NoNames text.now start) }
+    ensures begins { IfSome result (λ _. HasName text.now start) }
     ensures spans { IfSome result (Spans text.now start) }
 {
     if let Some(end) = keyword_end(text, start, "Infinity") {
@@ -253,6 +260,7 @@ fn name_end(text: &str, start: usize) -> Option<usize>
 fn signed_end(text: &str, sign: usize, options: &ParseOptions) -> Result<usize, ParseError>
     requires { Spans text.now sign (sign + 1) }
     ensures found { IfOk result (Between (Unsigned (parse_options options.now) true) text.now (sign + 1)) }
+    ensures none { IfErr result (λ _. NoneFrom (Unsigned (parse_options options.now) true) text.now (sign + 1)) }
     ensures fault { IfErr result (IsTextFault text.now) }
 {
     let Some(end) = name_end(text, sign + 1) else {
@@ -273,6 +281,7 @@ pub(crate) fn number_end(
 ) -> Result<usize, ParseError>
     requires { IsCharBoundary text.now start }
     ensures found { IfOk result (Between (Number (parse_options options.now)) text.now start) }
+    ensures none { IfErr result (λ _. NoNames text.now start → NoneFrom (Number (parse_options options.now)) text.now start) }
     ensures fault { IfErr result (IsTextFault text.now) }
 {
     if has_byte(text, start, b'-') {
@@ -296,6 +305,7 @@ pub(crate) fn read_number<'a>(
 ) -> Result<Read<'a>, ParseError>
     requires { IsCharBoundary text.now start }
     ensures found { IfOk result (IsRead (parse_options options.now) text.now start) }
+    ensures none { IfErr result (λ _. NoNames text.now start → NoneFrom (Number (parse_options options.now)) text.now start) }
     ensures fault { IfErr result (IsTextFault text.now) }
 {
     let end = number_end(text, start, options)?;
@@ -309,7 +319,7 @@ fn whole_end(text: &str, start: usize, name: &str) -> Option<usize>
     requires ascii { IsAscii name.now }
     requires nonempty { 0 < length name.now }
     ensures found { IfSome result (Between (IsWhole name.now) text.now start) }
-    ensures none { IfNone result ((r : List ℕ) → IsWhole name.now (rest text.now start) r → ⊥) }
+    ensures none { IfNone result (NoneFrom (IsWhole name.now) text.now start) }
 {
     let Some(end) = keyword_end(text, start, name) else {
         return None;
@@ -323,9 +333,9 @@ fn whole_end(text: &str, start: usize, name: &str) -> Option<usize>
 /// The number `Infinity` or `NaN` at a place, or none.
 pub(crate) fn read_name<'a>(text: &'a str, start: usize) -> Option<Read<'a>>
     requires { IsCharBoundary text.now start }
-    ensures found { IfSome result (λ read. (o : Options) → IsTrue o.non_finite_numbers → IsRead o text.now start read) }
-    ensures infinity { IfNone result ((r : List ℕ) → IsWhole (codes "Infinity") (rest text.now start) r → ⊥) }
-    ensures nan { IfNone result ((r : List ℕ) → IsWhole (codes "NaN") (rest text.now start) r → ⊥) }
+    ensures found { IfSome result (IsReadName text.now start) }
+    ensures infinity { IfNone result (NoneFrom (IsWhole (codes "Infinity")) text.now start) }
+    ensures nan { IfNone result (NoneFrom (IsWhole (codes "NaN")) text.now start) }
 {
     if let Some(end) = whole_end(text, start, "Infinity") {
         let lexeme = Lexeme::Number(&text[start..end]);

@@ -1,10 +1,10 @@
 //! Reading the lexeme or comment at a place.
 ghost use Rattle.std.specs.Prelude.{◌≡◌, IsCharBoundary, IfOk, IfErr, IfSome, IfNone, List, ℕ};
-ghost use Rattle.jsonc_text.specs.Between.{LacksAt};
+ghost use Rattle.jsonc_text.specs.Between.{LacksAt, NoneFrom};
 ghost use Rattle.jsonc_text.specs.Lexemes.{is_punctuation};
 ghost use Rattle.jsonc_text.specs.Options.{Options};
 ghost use Rattle.jsonc_text.specs.OptionsOf.{parse_options};
-ghost use Rattle.jsonc_text.specs.Reads.{IsRead};
+ghost use Rattle.jsonc_text.specs.Reads.{IsRead, IsReadAnyhow};
 ghost use Rattle.jsonc_text.specs.Refusals.{IsTextFault};
 ghost use Rattle.jsonc_text.specs.Text.{rest};
 ghost use Rattle.jsonc_text.specs.Words.{Keyword, IsKeyword};
@@ -57,7 +57,7 @@ pub(crate) fn read_lexeme<'a>(
 /// The punctuation at a place, or none.
 fn read_punctuation<'a>(text: &'a str, start: usize) -> Option<Read<'a>>
     requires { IsCharBoundary text.now start }
-    ensures found { IfSome result (λ read. (o : Options) → IsRead o text.now start read) }
+    ensures found { IfSome result (IsReadAnyhow text.now start) }
     ensures none { IfNone result (LacksAt is_punctuation text.now start) }
 {
     let bytes = text.as_bytes();
@@ -95,7 +95,7 @@ fn read_name_or_word<'a>(
     options: &ParseOptions,
 ) -> Result<Read<'a>, ParseError>
     requires boundary { IsCharBoundary text.now start }
-    requires keyword { (k : Keyword) (r : List ℕ) → IsKeyword k (rest text.now start) r → ⊥ }
+    requires keyword { (k : Keyword) → NoneFrom (IsKeyword k) text.now start }
     ensures found { IfOk result (IsRead (parse_options options.now) text.now start) }
     ensures fault { IfErr result (IsTextFault text.now) }
 {

@@ -86,7 +86,7 @@ impl<'a, A: Allocator> Scanner<'a, A> {
 
 impl<'a, A: Allocator + Copy> Scanner<'a, A> {
     ghost use Rattle.jsonc_text.specs.Faults.{IsFault, kind_of};
-    ghost use Rattle.jsonc_text.specs.Scanner.{text_of, token_of, PassesBlanks, StandsAt};
+    ghost use Rattle.jsonc_text.specs.Scanner.{text_of, start_of, end_of, token_of, PassesBlanks, StandsAt};
     ghost use Rattle.jsonc_text.specs.Tokens.{scanned_of};
 
     /// Moves to the next token, and answers it; or none at the end of the text.
@@ -99,6 +99,7 @@ impl<'a, A: Allocator + Copy> Scanner<'a, A> {
         ensures fault { IfErr result (IsFault (text_of self.new)) }
         ensures no_memory { IfErr result (λ e. kind_of e ≢ ParseErrorKind.OutOfMemory) }
         ensures refused { OnErr result (token_of self.new ≡ token_of self.old) }
+        ensures stays { OnErr result (end_of self.new ≡ start_of self.new) }
     {
         let start = blanks_end(self.file_text, self.byte_index);
         self.byte_index = start;

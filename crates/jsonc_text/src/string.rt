@@ -12,7 +12,7 @@ use crate::errors::{ParseError, ParseErrorKind, ParseStringErrorKind};
 use crate::faults::fault;
 use crate::lexeme::{Lexeme, Read};
 use crate::options::ParseOptions;
-use crate::runs::stop_place;
+use crate::stops::stop_place;
 
 /// The place of the quote that closes the string whose opening quote stands at a place.
 fn close_place(text: &str, start: usize, quote: u8) -> Result<usize, ParseError>

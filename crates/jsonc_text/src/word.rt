@@ -1,12 +1,12 @@
 //! Where keywords (RFC 8259, 3) and words (after JSON5, 3) end.
 ghost use Rattle.std.specs.Prelude.{◌≡◌, ◌↔◌, ◌+◌, ◌++◌, ◌<◌, ◌≤◌, length, drop, take, IsTrue, false, IfOk, IfErr, IfSome, IfNone, IsCharBoundary, List, ℕ, codes};
 ghost use Rattle.std.specs.Str.{IsAscii};
-ghost use Rattle.jsonc_text.specs.Between.{Between, LacksAt, IsAlone, IsWhole, PassesWord, may_follow_word};
+ghost use Rattle.jsonc_text.specs.Between.{Between, LacksAt, NoneFrom, IsAlone, PassesWord, may_follow_word};
 ghost use Rattle.jsonc_text.specs.Chars.{Steps};
 ghost use Rattle.jsonc_text.specs.Letters.{is_wide_letter};
 ghost use Rattle.jsonc_text.specs.Options.{Options};
 ghost use Rattle.jsonc_text.specs.OptionsOf.{parse_options};
-ghost use Rattle.jsonc_text.specs.Reads.{IsRead};
+ghost use Rattle.jsonc_text.specs.Reads.{IsRead, IsReadAnyhow, NoName};
 ghost use Rattle.jsonc_text.specs.Refusals.{IsTextFault};
 ghost use Rattle.jsonc_text.specs.Text.{rest, next, Many, Spans};
 ghost use Rattle.jsonc_text.specs.Words.{goes_on, is_in_word, begins_word, EndsWord, Keyword, IsKeyword};
@@ -74,7 +74,7 @@ pub(crate) fn keyword_end(text: &str, start: usize, word: &str) -> Option<usize>
     requires ascii { IsAscii word.now }
     requires nonempty { 0 < length word.now }
     ensures found { IfSome result (Between (IsAlone word.now) text.now start) }
-    ensures none { IfNone result ((r : List ℕ) → IsAlone word.now (rest text.now start) r → ⊥) }
+    ensures none { IfNone result (NoneFrom (IsAlone word.now) text.now start) }
 {
     if !has_text(text, start, word) {
         return None;
@@ -161,7 +161,7 @@ fn ends_word(text: &str, place: usize) -> bool
 pub(crate) fn word_end(text: &str, start: usize) -> Result<usize, ParseError>
     requires { IsCharBoundary text.now start }
     ensures found { IfOk result (Between PassesWord text.now start) }
-    ensures none { IfErr result (λ _. (r : List ℕ) → PassesWord (rest text.now start) r → ⊥) }
+    ensures none { IfErr result (λ _. NoneFrom PassesWord text.now start) }
     ensures fault { IfErr result (IsTextFault text.now) }
     ensures kind { IfErr result (λ e. kind_of e ≡ ParseErrorKind.UnexpectedToken) }
 {
@@ -178,8 +178,8 @@ pub(crate) fn word_end(text: &str, start: usize) -> Result<usize, ParseError>
 /// The keyword at a place, or none.
 pub(crate) fn read_keyword<'a>(text: &'a str, start: usize) -> Option<Read<'a>>
     requires { IsCharBoundary text.now start }
-    ensures found { IfSome result (λ read. (o : Options) → IsRead o text.now start read) }
-    ensures none { IfNone result ((k : Keyword) (r : List ℕ) → IsKeyword k (rest text.now start) r → ⊥) }
+    ensures found { IfSome result (IsReadAnyhow text.now start) }
+    ensures none { IfNone result ((k : Keyword) → NoneFrom (IsKeyword k) text.now start) }
 {
     if let Some(end) = keyword_end(text, start, "true") {
         let lexeme = Lexeme::Boolean(true);
@@ -205,9 +205,8 @@ pub(crate) fn read_word<'a>(
     options: &ParseOptions,
 ) -> Result<Read<'a>, ParseError>
     requires boundary { IsCharBoundary text.now start }
-    requires keyword { (k : Keyword) (r : List ℕ) → IsKeyword k (rest text.now start) r → ⊥ }
-    requires infinity { IsTrue options.now.allow_non_finite_numbers → (r : List ℕ) → IsWhole (codes "Infinity") (rest text.now start) r → ⊥ }
-    requires nan { IsTrue options.now.allow_non_finite_numbers → (r : List ℕ) → IsWhole (codes "NaN") (rest text.now start) r → ⊥ }
+    requires keyword { (k : Keyword) → NoneFrom (IsKeyword k) text.now start }
+    requires name { NoName (parse_options options.now) text.now start }
     ensures found { IfOk result (IsRead (parse_options options.now) text.now start) }
     ensures fault { IfErr result (IsTextFault text.now) }
 {

@@ -2,7 +2,7 @@ use Rattle.std.proofs.Common.{ap, not}
 use Rattle.jsonc_text.specs.Between.{is_neither}
 use Rattle.jsonc_text.proofs.Steps.{no_at_end}
 use Rattle.jsonc_text.proofs.ByteRuns.{pass_none, pass_more, many_bytes, stop_boundary, stop_lacks, wide_neither, at_end}
-use Rattle.jsonc_text.proofs.runs.stop_place.Goals as goal
+use Rattle.jsonc_text.proofs.stops.stop_place.Goals as goal
 
 pub loop-place-init : goal.loop-place-init
 loop-place-init c = (c.as_bytes-bytes.ensures.value, pass_none (is_neither c.args.first c.args.second) _ _ c.requires.boundary)

@@ -1,6 +1,6 @@
 use Rattle.std.proofs.Common.{◌-◌, ◌≡◌, length}
 use Rattle.jsonc_text.proofs.ByteRuns.{NoClose}
-use Rattle.jsonc_text.proofs.runs.block_close.Given as goal
+use Rattle.jsonc_text.proofs.stops.block_close.Given as goal
 
 abbrev pub invariant-loop-place : goal.invariant-loop-place
 invariant-loop-place l = (l.bytes ≡ l.text) × NoClose l.text l.start l.place

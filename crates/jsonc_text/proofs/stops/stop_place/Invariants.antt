@@ -1,7 +1,7 @@
 use Rattle.std.proofs.Common.{◌-◌, ◌≡◌, length}
 use Rattle.jsonc_text.specs.Between.{is_neither}
 use Rattle.jsonc_text.proofs.ByteRuns.{BytesPass}
-use Rattle.jsonc_text.proofs.runs.stop_place.Given as goal
+use Rattle.jsonc_text.proofs.stops.stop_place.Given as goal
 
 abbrev pub invariant-loop-place : goal.invariant-loop-place
 invariant-loop-place l = (l.bytes ≡ l.text) × BytesPass (is_neither l.first l.second) l.text l.start l.place

@@ -1,5 +1,5 @@
 use Rattle.jsonc_text.proofs.ByteRuns.{block_found}
-use Rattle.jsonc_text.proofs.runs.block_close.Goals as goal
+use Rattle.jsonc_text.proofs.stops.block_close.Goals as goal
 
 pub returns-then-bytes-place : goal.returns-then-bytes-place
 returns-then-bytes-place c =
