@@ -84,8 +84,8 @@ module _ {A : Type 0} where
       let bytes = text_in old in
       let utf8 : IsUtf8 bytes = IsUtf8-from_is_utf8 bytes old.utf8 in
       let closing : Between bytes (One 0x7D) (token_start now) (token_end now) = subst (λ b. Between b (One 0x7D) (token_start now) (token_end now)) inv.kept.text (subst (AtHand 0x7D now) is inv.hand) in
-      let one : token_start old + 1 ≡ token_end old = one_byte bytes 0x7B _ _ utf8 refl opening in
-      let other : token_start now + 1 ≡ token_end now = one_byte bytes 0x7D _ _ utf8 refl closing in
+      let one : token_start old + 1 ≡ token_end old = one_byte bytes 0x7B _ _ utf8 (omega arith) opening in
+      let other : token_start now + 1 ≡ token_end now = one_byte bytes 0x7D _ _ utf8 (omega arith) closing in
       let after : token_end old ≡ r.start + 1 = omega (arith, one, first) in
       record {
         value = (
