@@ -1,5 +1,5 @@
 -- Names without quotes.
-use Rattle.std.proofs.Common.{ℕ, ◌≡◌, ◌∙◌, ◌++◌, sym, ap, subst, refl, true, List, Option, Some, None, option_map, IsTrue, chars, inl, inr, Bool, codes, rules}
+use Rattle.std.proofs.Common.{ℕ, ◌≡◌, ◌∙◌, ◌++◌, sym, ap, subst, refl, true, List, Some, None, IsTrue, chars, inl, inr, Bool, codes, rules}
 use Rattle.std.proofs.lemmas.Str.{chars-IsAscii}
 use Rattle.jsonc_text.specs.Words.{Keyword, keyword_text}
 use Rattle.jsonc_text.specs.declared.tokens.Token.TheVariants.{Boolean}
@@ -7,7 +7,7 @@ use Rattle.jsonc_text.specs.declared.tokens.Token.{Token}
 use Rattle.jsonc_text.specs.Options.{Options}
 use Rattle.jsonc_text.specs.Grammar.{IsName, IsLooseName}
 use Rattle.jsonc_text.specs.Lexemes.{Scanned, lexeme, line_comment, block_comment, LexemeKind, string, IsScanned}
-use Rattle.jsonc_text.specs.Scanner.{start_of, end_of, StandsAt}
+use Rattle.jsonc_text.specs.Scanner.{start_of, end_of}
 use Rattle.jsonc_text.specs.Tokens.{scanned_of}
 use Rattle.jsonc_ast.specs.declared.context.Context.{Context}
 use Rattle.jsonc_ast.specs.Context.{text_in, options_in, token_range, IsToken}

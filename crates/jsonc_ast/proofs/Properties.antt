@@ -1,18 +1,16 @@
 -- A parser among the properties of an object.
-use Rattle.std.proofs.Common.{ℕ, suc, max, ◌+◌, ◌-◌, ◌<◌, ◌≤◌, ◌≡◌, ◌∙◌, sym, ap, subst, refl, arith, List, [], ◌∷◌, ◌++◌, length, Option, Some, None, IsUtf8, IsCharBoundary}
+use Rattle.std.proofs.Common.{ℕ, suc, max, ◌+◌, ◌≤◌, ◌≡◌, sym, subst, arith, List, [], ◌∷◌, ◌++◌, Option, Some, None, IsUtf8}
 use Rattle.std.proofs.lemmas.Str.{IsUtf8-from_is_utf8}
 use Rattle.jsonc_text.specs.declared.common.Range.{Range}
 use Rattle.jsonc_text.specs.declared.tokens.Token.{Token}
-use Rattle.jsonc_text.specs.Options.{Options}
-use Rattle.jsonc_text.specs.Text.{Spans}
 use Rattle.jsonc_text.specs.Gaps.{Gap}
 use Rattle.jsonc_text.specs.Grammar.{Separates, Closes}
-use Rattle.jsonc_text.specs.Plain.{around, items_around, members_around}
+use Rattle.jsonc_text.specs.Plain.{around, members_around}
 use Rattle.jsonc_ast.specs.declared.context.Context.{Context}
-use Rattle.jsonc_ast.specs.Context.{text_in, options_in, token_start, token_end, Keeps, Passes, IsBracket, Leads, IsToken}
-use Rattle.jsonc_ast.specs.Located.{Located, array_at, object_at, range_at, value_at, items_at, members_at, Between, One, Ends, Brackets, IsLocated, IsNamed, AreItems, AreMembers}
+use Rattle.jsonc_ast.specs.Context.{text_in, options_in, token_start, token_end, Keeps, IsBracket, Leads}
+use Rattle.jsonc_ast.specs.Located.{object_at, range_at, value_at, members_at, Between, One, Ends, IsLocated, IsNamed, AreMembers}
 use Rattle.jsonc_ast.specs.Reads.{Reads, ReadsMember}
-use Rattle.jsonc_ast.specs.Views.{items_of, members_of, LocatedMember}
+use Rattle.jsonc_ast.specs.Views.{members_of, LocatedMember}
 use Rattle.jsonc_ast.proofs.Members as members
 use Rattle.jsonc_ast.proofs.Loops.{brackets, AtHand, leads_hand, leads_on}
 use Rattle.jsonc_ast.proofs.Scans.{moved, one_byte, kept_on}

@@ -4,9 +4,8 @@ use Rattle.jsonc_text.specs.declared.errors.ParseError.{ParseError}
 use Rattle.jsonc_text.specs.declared.scanner.Scanner.{Scanner}
 use Rattle.jsonc_text.specs.declared.tokens.Token.{Token}
 use Rattle.jsonc_text.specs.Options.{Options}
-use Rattle.jsonc_text.specs.OptionsOf.{parse_options}
 use Rattle.jsonc_text.specs.Gaps.{Gap, none}
-use Rattle.jsonc_text.specs.Grammar.{Separates, comma, no_comma, Closes, plain, trailing_comma}
+use Rattle.jsonc_text.specs.Grammar.{Separates, comma, no_comma, Closes, trailing_comma}
 use Rattle.jsonc_text.specs.Lexemes.{lexeme, punctuation, IsScanned}
 use Rattle.jsonc_text.specs.Places.{is_comment}
 use Rattle.jsonc_text.specs.Scanner.{text_of, start_of, end_of, options_of, PassesBlanks, StandsAt}

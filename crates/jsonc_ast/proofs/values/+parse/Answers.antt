@@ -1,6 +1,5 @@
-use Rattle.std.proofs.Common.{◌≡◌, ◌+◌, ◌≤◌, ◌∙◌, ap, sym, subst, arith, map}
+use Rattle.std.proofs.Common.{◌+◌, ◌≤◌, ◌∙◌, ap, sym, subst, arith, map}
 use Rattle.jsonc_text.specs.Plain.{around}
-use Rattle.jsonc_ast.specs.Context.{token_end}
 use Rattle.jsonc_ast.specs.Located.{value_at}
 use Rattle.jsonc_ast.specs.Reads.{Reads}
 use Rattle.jsonc_ast.specs.Views.{located, member_of}
