@@ -88,11 +88,11 @@ module _ {A : Type 0} where
     turn_so_far None held h =
         let both = kept_on old now mid kept kept_mid in
         elements.next_whole (options_in old) (text_in old) (token_end old) (token_start now) (token_end mid) xs x held read.starts value_old read.ends (token_end new)
-          (moved (λ p b. Between b (Closes p 0x5D) (token_end mid) (token_end new)) both.options both.text h.0)
+        (moved (λ p b. Between b (Closes p 0x5D) (token_end mid) (token_end new)) both.options both.text h.0)
     turn_so_far (Some t) held h =
         let both = kept_on old now mid kept kept_mid in
         elements.next_open (options_in old) (text_in old) (token_end old) (token_start now) (token_end mid) xs x held read.starts value_old read.ends (token_start new)
-          (moved (λ p b. Between b (Separates p) (token_end mid) (token_start new)) both.options both.text h.0)
+        (moved (λ p b. Between b (Separates p) (token_end mid) (token_start new)) both.options both.text h.0)
 
   -- one more element
   pub elements_turn : (old now mid new : Context A) (n next : Option (Token A)) (t : Token A) (x : Located) (xs ys : List Located) (count : ℕ) → Elements old now n xs count → n ≡ Some t

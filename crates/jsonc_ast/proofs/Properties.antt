@@ -53,11 +53,11 @@ module _ {A : Type 0} where
     turn_properties None held h =
         let both = kept_on old now mid kept kept_mid in
         members.next_whole (options_in old) (text_in old) (token_end old) (token_start now) (token_end mid) xs x held read.starts property_old read.ends (token_end new)
-          (moved (λ p b. Between b (Closes p 0x7D) (token_end mid) (token_end new)) both.options both.text h.0)
+        (moved (λ p b. Between b (Closes p 0x7D) (token_end mid) (token_end new)) both.options both.text h.0)
     turn_properties (Some t) held h =
         let both = kept_on old now mid kept kept_mid in
         members.next_open (options_in old) (text_in old) (token_end old) (token_start now) (token_end mid) xs x held read.starts property_old read.ends (token_start new)
-          (moved (λ p b. Between b (Separates p) (token_end mid) (token_start new)) both.options both.text h.0)
+        (moved (λ p b. Between b (Separates p) (token_end mid) (token_start new)) both.options both.text h.0)
 
   -- one more property
   pub properties_turn : (old now mid new : Context A) (n next : Option (Token A)) (t : Token A) (x : LocatedMember) (xs ys : List LocatedMember) (count : ℕ) → Properties old now n xs count → n ≡ Some t

@@ -51,9 +51,10 @@ module _ {A : Type 0} where
       → Between (text_in start) (Gap (options_in start)) (token_end start) (start_of t) × StandsAt t g
   scan_found start now s t f g is same h blanks at =
       let here = subst (λ b. Between b (Gap (options_in start)) (token_end now) (start_of s)) h.kept.text (passed (options_in start) now.scanner s blanks) in
-      let all = join (Gap (options_in start)) (λ t u r. gap_append) h.gap here in
-      (subst (λ x. Between (text_in start) (Gap (options_in start)) (token_end start) (start_of x)) (sym same) all,
-       subst (λ x. StandsAt x g) (sym same) (subst (StandsAt s) is at))
+      let all = join (Gap (options_in start)) (λ t u r. gap_append) h.gap here in (
+        subst (λ x. Between (text_in start) (Gap (options_in start)) (token_end start) (start_of x)) (sym same) all,
+        subst (λ x. StandsAt x g) (sym same) (subst (StandsAt s) is at),
+      )
 
   -- a comment after a gap
   pub passing_on : (start now new : Context A) (s : Scanner A) (f : Option (Token A)) (t : Token A) → f ≡ Some t → new.scanner ≡ s → tokens_asked new ≡ tokens_asked now

@@ -50,7 +50,11 @@ impl<'a, A: Allocator + Copy> Context<'a, A> {
         ensures start { token_end result ≡ 0 }
         ensures tokens { tokens_asked result ≡ collect.now.tokens }
     {
-        let tokens = if collect.tokens { Some(Vec::new(alloc)) } else { None };
+        let tokens = if collect.tokens {
+            Some(Vec::new(alloc))
+        } else {
+            None
+        };
         Context {
             scanner: Scanner::with_options(alloc, text, options.copied()),
             alloc,

@@ -11,8 +11,10 @@ ghost use Rattle.jsonc_ast.specs.Reads.{Reads, ReadsMember};
 ghost use Rattle.jsonc_ast.specs.Scanned.{leaf_value};
 ghost use Rattle.jsonc_ast.specs.Views.{located, member_of, plain, located_in, plain_in};
 
-use crate::ast::{BooleanLit, NullKeyword, NumberLit, ObjectProp, StringLit, Value};
-use crate::ast::{array_of, object_of, property_of, push_property, push_value};
+use crate::ast::{
+    BooleanLit, NullKeyword, NumberLit, ObjectProp, StringLit, Value, array_of, object_of,
+    property_of, push_property, push_value,
+};
 use crate::collect::{CollectOptions, ParseResult};
 use crate::container::{Container, unexpected};
 use crate::context::Context;

@@ -17,5 +17,5 @@ returns-clause-accepted g c =
     let start = c.new-context.ensures in
     let x = located c.in_ok-value.value in
     let whole = value_document c.new-context.result c.scan.new.self c.parse_value.new.context c.scan-2.new.self c.in_ok-token.field-0 c.in_ok-scan.field-0 x start.start
-      c.scan.ensures.kept c.in_ok-token.ensures.found c.in_ok-value.ensures.kept c.in_ok-value.ensures.found c.scan-2.ensures.kept c.in_ok-scan.ensures.found c.in-None.is in
+    c.scan.ensures.kept c.in_ok-token.ensures.found c.in_ok-value.ensures.kept c.in_ok-value.ensures.found c.scan-2.ensures.kept c.in_ok-scan.ensures.found c.in-None.is in
     located_document _ _ (Some x) (moved (λ p b. IsLocatedDocument p b (Some x)) start.options start.text whole)
