@@ -1,5 +1,5 @@
 -- What a scanner passes, as gaps between places.
-use Rattle.std.proofs.Common.{ℕ, ◌≡◌, ◌≤◌, ◌∙◌, subst, inl, inr, sym, ap, refl, arith, true, false, List, ◌∷◌, IsTrue, Option, Some, None, IsCharBoundary}
+use Rattle.std.proofs.Common.{ℕ, ◌≡◌, ◌∙◌, subst, inl, inr, refl, arith, true, List, IsTrue, Some, IsCharBoundary}
 use Rattle.jsonc_text.specs.declared.scanner.Scanner.{Scanner}
 use Rattle.jsonc_text.specs.declared.tokens.Token.{Token}
 use Rattle.jsonc_text.specs.Options.{Options}
@@ -53,7 +53,7 @@ module _ {A : Type 0} where
   pub stands : (bytes : List ℕ) (o : Options) (s : Scanner A) (t : Token A) → text_of s ≡ bytes → options_of s ≡ o → StandsAt s (Some t) → Between bytes (IsScanned o (scanned_of t)) (start_of s) (end_of s)
   stands bytes o s t e f h =
       subst (λ x. Between x (IsScanned o (scanned_of t)) (start_of s) (end_of s)) e
-        (subst (λ p. Between (text_of s) (IsScanned p (scanned_of t)) (start_of s) (end_of s)) f (record { spans = token_spans s; stands = h.1 }))
+      (subst (λ p. Between (text_of s) (IsScanned p (scanned_of t)) (start_of s) (end_of s)) f (record { spans = token_spans s; stands = h.1 }))
 
   -- a comment is passed
   pub comment_passed : (bytes : List ℕ) (o : Options) (i : ℕ) (old new : Scanner A) (t : Token A) → text_of old ≡ bytes → options_of old ≡ o → PassesBlanks old new

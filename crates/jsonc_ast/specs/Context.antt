@@ -6,8 +6,12 @@ use Rattle.jsonc_text.specs.Options.{Options}
 use Rattle.jsonc_text.specs.Places.{is_comment}
 use Rattle.jsonc_text.specs.Tokens.{scanned_of}
 use Rattle.jsonc_text.specs.Scanner.{text_of, start_of, end_of, options_of, StandsAt}
+use Rattle.jsonc_text.specs.Gaps.{Gap}
+use Rattle.jsonc_text.specs.Grammar.{IsName, Separates, Closes}
+use Rattle.jsonc_ast.specs.declared.container.Container.{Container}
 use Rattle.jsonc_ast.specs.declared.context.Context.{Context}
-use Rattle.jsonc_ast.specs.Located.{Between, One}
+use Rattle.jsonc_ast.specs.Containers.{closing}
+use Rattle.jsonc_ast.specs.Located.{LocatedName, Between, In, One, Ends, TrailingComma}
 
 module _ {A : Type 0} where
   -- the bytes of the whole text
@@ -58,7 +62,27 @@ module _ {A : Type 0} where
   abbrev pub IsBracket : ℕ → Context A → Type 0
   IsBracket bracket c = Between (text_in c) (One bracket) (token_start c) (token_end c)
 
-  -- a token, with what gap says before it; or none, the container's closing bracket, with what close says before it
+  -- a token, with what gap says before it; or none past a closing bracket, with what close says up to there
   abbrev pub Leads : (List ℕ → List ℕ → Type 0) → (List ℕ → List ℕ → Type 0) → ℕ → Context A → Context A → Option (Token A) → Type 0
   Leads gap close bracket old new None = Between (text_in old) close (token_end old) (token_end new) × IsBracket bracket new × (token_end old ≤ token_start new)
   Leads gap close bracket old new (Some t) = Passes gap old new × IsToken new t
+
+  -- after an opening bracket: the first item, or the closing bracket
+  abbrev pub LeadsToFirst : Container → Context A → Context A → Option (Token A) → Type 0
+  LeadsToFirst k old new = Leads (Gap (options_in old)) (Ends (options_in old) (closing k)) (closing k) old new
+
+  -- after an item: the next item, or the closing bracket
+  abbrev pub LeadsToNext : Container → Context A → Context A → Option (Token A) → Type 0
+  LeadsToNext k old new = Leads (Separates (options_in old)) (Closes (options_in old) (closing k)) (closing k) old new
+
+  -- the same after an item and a comma
+  abbrev pub LeadsAfterComma : Container → Context A → Context A → Option (Token A) → Type 0
+  LeadsAfterComma k old new = Leads (Gap (options_in old)) (TrailingComma (options_in old) (closing k)) (closing k) old new
+
+  -- a colon is the last token, after a gap
+  abbrev pub PassesColon : Context A → Context A → Type 0
+  PassesColon old new = Between (text_in old) (Ends (options_in old) 0x3A) (token_end old) (token_end new)
+
+  -- the last token is the name
+  abbrev pub IsNameHere : Context A → LocatedName → Type 0
+  IsNameHere c n = In (text_in c) (λ t r. IsName (options_in c) t n.name r) (token_range c)

@@ -1,7 +1,7 @@
 //! Values, and where they stand in their text.
-ghost use Rattle.std.specs.Prelude.{◌≡◌, ◌∷◌, ◌++◌, [], map, OnOk};
+ghost use Rattle.std.specs.Prelude.{◌≡◌, OnOk};
 ghost use Rattle.jsonc_ast.specs.Located.{array_at, object_at, range_at};
-ghost use Rattle.jsonc_ast.specs.Views.{located, object_located, items_located, member_of, members_located, name_at};
+ghost use Rattle.jsonc_ast.specs.Views.{located, object_located, items_located, member_of, members_located, name_at, Grown};
 
 use jsonc_text::common::{Range, Ranged};
 use std::alloc::{AllocError, Allocator};
@@ -120,7 +120,7 @@ pub fn push_value<'a, A: Allocator>(
     elements: &mut Vec<Value<'a, A>, A>,
     value: Value<'a, A>,
 ) -> Result<(), AllocError>
-    ensures { OnOk result (map located elements.new.items ≡ map located elements.old.items ++ located value.entry ∷ []) }
+    ensures { OnOk result (Grown located elements.old.items elements.new.items value.entry) }
 {
     elements.push(value)?;
     Ok(())
@@ -131,7 +131,7 @@ pub fn push_property<'a, A: Allocator>(
     properties: &mut Vec<ObjectProp<'a, A>, A>,
     property: ObjectProp<'a, A>,
 ) -> Result<(), AllocError>
-    ensures { OnOk result (map member_of properties.new.items ≡ map member_of properties.old.items ++ member_of property.entry ∷ []) }
+    ensures { OnOk result (Grown member_of properties.old.items properties.new.items property.entry) }
 {
     properties.push(property)?;
     Ok(())

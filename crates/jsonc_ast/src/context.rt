@@ -32,13 +32,10 @@ impl<'a, A: Allocator + Copy> Context<'a, A> {
     ghost use Rattle.std.specs.Prelude.{◌≡◌, ◌≢◌, ◌≤◌, IfOk, IfErr, OnOk, IsTrue};
     ghost use Rattle.jsonc_text.specs.Faults.{IsFault, IsOutOfMemory, range_of, kind_of};
     ghost use Rattle.jsonc_text.specs.Gaps.{Gap};
-    ghost use Rattle.jsonc_text.specs.Grammar.{Separates, Closes, IsName};
     ghost use Rattle.jsonc_text.specs.Places.{is_comment as is_a_comment};
     ghost use Rattle.jsonc_text.specs.Text.{Spans};
     ghost use Rattle.jsonc_text.specs.Tokens.{scanned_of};
-    ghost use Rattle.jsonc_ast.specs.Containers.{closing};
-    ghost use Rattle.jsonc_ast.specs.Context.{text_in, options_in, token_start, token_end, token_range, tokens_asked, Keeps, Finds, Leads, IsToken, IsNoComment};
-    ghost use Rattle.jsonc_ast.specs.Located.{Between, In, Ends, TrailingComma};
+    ghost use Rattle.jsonc_ast.specs.Context.{text_in, options_in, token_end, token_range, tokens_asked, Keeps, Finds, LeadsToFirst, LeadsAfterComma, LeadsToNext, PassesColon, IsToken, IsNameHere, IsNoComment};
     ghost use Rattle.jsonc_ast.specs.Views.{name_at};
 
     /// A parser at the start of a text.
@@ -53,7 +50,11 @@ impl<'a, A: Allocator + Copy> Context<'a, A> {
         ensures start { token_end result ≡ 0 }
         ensures tokens { tokens_asked result ≡ collect.now.tokens }
     {
-        let tokens = if collect.tokens { Some(Vec::new(alloc)) } else { None };
+        let tokens = if collect.tokens {
+            Some(Vec::new(alloc))
+        } else {
+            None
+        };
         Context {
             scanner: Scanner::with_options(alloc, text, options.copied()),
             alloc,
@@ -185,7 +186,7 @@ impl<'a, A: Allocator + Copy> Context<'a, A> {
     ) -> Result<Option<Token<'a, A>>, ParseError>
         requires { Spans (text_in self.old) start (token_end self.old) }
         ensures kept { Keeps self.old self.new }
-        ensures found { IfOk result (Leads (Gap (options_in self.old)) (Ends (options_in self.old) (closing container)) (closing container) self.old self.new) }
+        ensures found { IfOk result (LeadsToFirst container self.old self.new) }
         ensures fault { IfErr result (IsFault (text_in self.old)) }
     {
         let Some(token) = self.scan()? else {
@@ -205,7 +206,7 @@ impl<'a, A: Allocator + Copy> Context<'a, A> {
     ) -> Result<Option<Token<'a, A>>, ParseError>
         requires { Spans (text_in self.old) start (token_end self.old) }
         ensures kept { Keeps self.old self.new }
-        ensures found { IfOk result (Leads (Gap (options_in self.old)) (TrailingComma (options_in self.old) (closing container)) (closing container) self.old self.new) }
+        ensures found { IfOk result (LeadsAfterComma container self.old self.new) }
         ensures fault { IfErr result (IsFault (text_in self.old)) }
     {
         let comma = self.range();
@@ -241,7 +242,7 @@ impl<'a, A: Allocator + Copy> Context<'a, A> {
     ) -> Result<Option<Token<'a, A>>, ParseError>
         requires { Spans (text_in self.old) start (token_end self.old) }
         ensures kept { Keeps self.old self.new }
-        ensures found { IfOk result (Leads (Separates (options_in self.old)) (Closes (options_in self.old) (closing container)) (closing container) self.old self.new) }
+        ensures found { IfOk result (LeadsToNext container self.old self.new) }
         ensures fault { IfErr result (IsFault (text_in self.old)) }
     {
         let end = self.scanner.token_end();
@@ -262,7 +263,7 @@ impl<'a, A: Allocator + Copy> Context<'a, A> {
     /// The name that the last token is, where the options allow it.
     pub fn name(&self, token: Token<'a, A>) -> Result<ObjectPropName<'a, A>, ParseError>
         requires { IsToken self.now token }
-        ensures name { IfOk result (λ n. In (text_in self.now) (λ t r. IsName (options_in self.now) t (name_at n).name r) (token_range self.now)) }
+        ensures name { IfOk result (λ n. IsNameHere self.now (name_at n)) }
         ensures range { IfOk result (λ n. (name_at n).range ≡ token_range self.now) }
         ensures fault { IfErr result (IsFault (text_in self.now)) }
     {
@@ -284,7 +285,7 @@ impl<'a, A: Allocator + Copy> Context<'a, A> {
     /// Passes a gap and the colon after it.
     pub fn pass_colon(&mut self) -> Result<(), ParseError>
         ensures kept { Keeps self.old self.new }
-        ensures found { OnOk result (Between (text_in self.old) (Ends (options_in self.old) 0x3A) (token_end self.old) (token_end self.new)) }
+        ensures found { OnOk result (PassesColon self.old self.new) }
         ensures fault { IfErr result (IsFault (text_in self.old)) }
     {
         let Some(token) = self.scan()? else {

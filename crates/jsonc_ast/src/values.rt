@@ -9,10 +9,12 @@ ghost use Rattle.jsonc_ast.specs.Context.{text_in, options_in, token_start, toke
 ghost use Rattle.jsonc_ast.specs.Located.{leaf_at, range_at, value_at, IsLocatedDocument};
 ghost use Rattle.jsonc_ast.specs.Reads.{Reads, ReadsMember};
 ghost use Rattle.jsonc_ast.specs.Scanned.{leaf_value};
-ghost use Rattle.jsonc_ast.specs.Views.{located, member_of, plain};
+ghost use Rattle.jsonc_ast.specs.Views.{located, member_of, plain, located_in, plain_in};
 
-use crate::ast::{BooleanLit, NullKeyword, NumberLit, ObjectProp, StringLit, Value};
-use crate::ast::{array_of, object_of, property_of, push_property, push_value};
+use crate::ast::{
+    BooleanLit, NullKeyword, NumberLit, ObjectProp, StringLit, Value, array_of, object_of,
+    property_of, push_property, push_value,
+};
 use crate::collect::{CollectOptions, ParseResult};
 use crate::container::{Container, unexpected};
 use crate::context::Context;
@@ -163,10 +165,10 @@ pub fn parse_to_ast<'a, A: Allocator + Copy>(
     collect: &CollectOptions,
     options: &ParseOptions,
 ) -> Result<ParseResult<'a, A>, ParseError>
-    ensures accepted { IfOk result (λ parsed. IsDocument (parse_options options.now) (chars text.now) (option_map plain parsed.value)) }
-    ensures located { IfOk result (λ parsed. IsLocatedDocument (parse_options options.now) text.now (option_map located parsed.value)) }
-    ensures within { IfOk result (λ parsed. IfSome parsed.value (λ v. around (plain v) ≤ 512)) }
-    ensures tokens { IfOk result (λ parsed. is_some parsed.tokens ≡ collect.now.tokens) }
+    ensures accepted { IfOk result (λ r. IsDocument (parse_options options.now) (chars text.now) (plain_in r)) }
+    ensures located { IfOk result (λ r. IsLocatedDocument (parse_options options.now) text.now (located_in r)) }
+    ensures within { IfOk result (λ r. IfSome r.value (λ v. around (plain v) ≤ 512)) }
+    ensures tokens { IfOk result (λ r. is_some r.tokens ≡ collect.now.tokens) }
     ensures fault { IfErr result (IsFault text.now) }
 {
     let mut context = Context::new(alloc, text, collect, options);
