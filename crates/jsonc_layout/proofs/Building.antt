@@ -128,8 +128,5 @@ grows_into {b = b} {d = d} {row = row} n there e push grown = grows_below there 
 pub laid_as : {text : List ℕ} {x y : Located} {content : Content} {below : OrderedTree} → x ≡ y → Laid text y content below → Laid text x content below
 laid_as {text} {content = content} {below = below} e l = subst (λ z. Laid text z content below) (sym e) l
 
-pub can_lay_as : {text : List ℕ} {x y : Located} → x ≡ y → CanLay text x → CanLay text y
-can_lay_as {text} e h = subst (CanLay text) e h
-
-pub can_lay_property_as : {text : List ℕ} {n m : LocatedName} {x y : Located} → n ≡ m → x ≡ y → CanLayProperty text n x → CanLayProperty text m y
-can_lay_property_as {text} {m = m} {x = x} e f h = subst (λ z. CanLayProperty text m z) f (subst (λ k. CanLayProperty text k x) e h)
+pub can_lay_as : (text : List ℕ) {x y : Located} → x ≡ y → CanLay text x → CanLay text y
+can_lay_as text e h = subst (CanLay text) e h

@@ -5,11 +5,14 @@ use Rattle.jsonc_tree.specs.Tree.{is_container_at}
 use Rattle.jsonc_ast.specs.Located.{range_at, array_at, object_at}
 use Rattle.jsonc_ast.specs.Views.{located, member_of, items_located, members_located}
 use Rattle.jsonc_ast.specs.declared.ast.Object as object_parts
+use Rattle.jsonc_ast.specs.declared.ast.Value.{size-Value}
+use Rattle.jsonc_ast.specs.declared.ast.ObjectProp.{size-ObjectProp}
+use denote.Param.Weighed.{most}
 use Rattle.jsonc_layout.specs.Growth.{Grows}
 use Rattle.jsonc_layout.specs.Laid.{CanLay, CanLayItems, CanLayMembers, CanLayProperty, Laid, string_leaf, number_leaf, boolean_leaf, null_leaf, array_node, object_node, IsFillable}
 use Rattle.jsonc_layout.proofs.Growing.{grows_append, grows_leaf, container_kept}
-use Rattle.jsonc_layout.proofs.Building.{elements_start, elements_at, elements_more, elements_end, items_none_left, properties_start, properties_at, properties_more, properties_end, members_none_left, property_built, on_ok, pushed_there, pushed_container, grows_into, laid_as, can_lay_as, can_lay_property_as}
-use Rattle.jsonc_layout.proofs.Views.{view-Array, view-Object, view-StringLit, view-NumberLit, view-BooleanLit, view-NullKeyword, view-property}
+use Rattle.jsonc_layout.proofs.Building.{elements_start, elements_at, elements_more, elements_end, items_none_left, properties_start, properties_at, properties_more, properties_end, members_none_left, property_built, on_ok, pushed_there, pushed_container, grows_into, laid_as, can_lay_as}
+use Rattle.jsonc_layout.proofs.Views.{view-Array, view-Object, view-StringLit, view-NumberLit, view-BooleanLit, view-NullKeyword, view-property, size-Array, size-Object, size-element, size-member}
 use Rattle.jsonc_layout.proofs.build.+build.Goals as goal
 
 pub build_elements-loop-element-init : goal.build_elements-loop-element-init
@@ -37,7 +40,8 @@ build_elements-build_value-requires g t c κs within =
     let still_there : c.args.container < length c.fill_between.new.tree.nodes = omega (arith, there, so_far.grows.len, filled.1.len) in
     let still_container : IsTrue (is_container_at c.fill_between.new.tree.nodes c.args.container) = container_kept there container (grows_append there so_far.grows filled.1) in
     let lies : CanLay c.args.text.now (located c.element-item.result) = so_far.lies.1 in
-    search rules
+    let deep = size-element g.row.A.Denot c.args.elements.now c.loop-element.element-index c.element-item.result c.loop-element-test.true c.element-item.is in
+    (omega (arith, c.requires.0, deep), (within, (still_there, (still_container, lies))))
 
 pub build_elements-loop-element-preserved : goal.build_elements-loop-element-preserved
 build_elements-loop-element-preserved g t c =
@@ -89,7 +93,8 @@ build_properties-build_property-requires g t c κs within =
     let there : c.in_ok-node.node < length c.push_child.new.tree.nodes = pushed_there c.in_ok-node.node node.number node.pushes in
     let container : IsTrue (is_container_at c.push_child.new.tree.nodes c.in_ok-node.node) = pushed_container c.in_ok-node.node node.number node.pushes refl in
     let lies : CanLayProperty c.args.text.now (member_of c.property-item.result).name (member_of c.property-item.result).value = (so_far.lies.1, so_far.lies.2, so_far.lies.3) in
-    search rules
+    let deep = size-member g.row.A.Denot c.args.properties.now c.loop-property.property-index c.property-item.result c.loop-property-test.true c.property-item.is in
+    (omega (arith, c.requires.0, deep), (within, (there, (container, lies))))
 
 pub build_properties-loop-property-preserved : goal.build_properties-loop-property-preserved
 build_properties-loop-property-preserved g t c =
@@ -134,8 +139,11 @@ build_value-build_elements-requires g t c κs within =
     let there : c.in_ok-node-in-Array.node < length c.push_child-in-Array.new.tree.nodes = pushed_there c.in_ok-node-in-Array.node node.number node.pushes in
     let container : IsTrue (is_container_at c.push_child-in-Array.new.tree.nodes c.in_ok-node-in-Array.node) = pushed_container c.in_ok-node-in-Array.node node.number node.pushes refl in
     let before : CanLay c.args.text.now (located c.args.value.now) = assumption c.requires in
-    let lies : CanLayItems c.args.text.now a.range.start (items_located c.deref.result.now) a.range.end = can_lay_as is before in
-    search rules
+    let lies : CanLayItems c.args.text.now a.range.start (items_located c.deref.result.now) a.range.end = can_lay_as c.args.text.now is before in
+    let deep = size-Array g.row.A.Denot a in
+    let same = ap (λ x. size-Value g.row.A.Denot x) c.in-Array.is in
+    let inside = ap (λ xs. most (λ x. size-Value g.row.A.Denot x) xs) c.deref.ensures.value in
+    (omega (arith, c.requires.0, deep, same, inside), (within, (there, (container, lies))))
 
 pub build_value-build_properties-requires : goal.build_value-build_properties-requires
 build_value-build_properties-requires g t c κs within =
@@ -145,8 +153,11 @@ build_value-build_properties-requires g t c κs within =
     let there : c.in_ok-node-in-Object.node < length c.push_child-in-Object.new.tree.nodes = pushed_there c.in_ok-node-in-Object.node node.number node.pushes in
     let container : IsTrue (is_container_at c.push_child-in-Object.new.tree.nodes c.in_ok-node-in-Object.node) = pushed_container c.in_ok-node-in-Object.node node.number node.pushes refl in
     let before : CanLay c.args.text.now (located c.args.value.now) = assumption c.requires in
-    let lies : CanLayMembers c.args.text.now o.range.start (members_located c.deref-in-Object.result.now) o.range.end = can_lay_as is before in
-    search rules
+    let lies : CanLayMembers c.args.text.now o.range.start (members_located c.deref-in-Object.result.now) o.range.end = can_lay_as c.args.text.now is before in
+    let deep = size-Object g.row.A.Denot c.in-Object.object in
+    let same = ap (λ x. size-Value g.row.A.Denot x) c.in-Object.is in
+    let inside = ap (λ xs. most (λ x. size-ObjectProp g.row.A.Denot x) xs) c.deref-in-Object.ensures.value in
+    (omega (arith, c.requires.0, deep, same, inside), (within, (there, (container, lies))))
 
 pub build_value-returns-in_ok-push_child-in-StringLit : goal.build_value-returns-in_ok-push_child-in-StringLit
 build_value-returns-in_ok-push_child-in-StringLit g t c =
@@ -154,7 +165,7 @@ build_value-returns-in_ok-push_child-in-StringLit g t c =
     let is = ap located c.in-StringLit.is ∙ view-StringLit s in
     let there : c.args.container < length c.args.tree.now.nodes = assumption c.requires in
     let before : CanLay c.args.text.now (located c.args.value.now) = assumption c.requires in
-    (_, _, grows_leaf there c.in_ok-push_child-in-StringLit.ensures.pushes, laid_as is (string_leaf (can_lay_as is before) c.in_ok-text-in-StringLit.ensures))
+    (_, _, grows_leaf there c.in_ok-push_child-in-StringLit.ensures.pushes, laid_as is (string_leaf (can_lay_as c.args.text.now is before) c.in_ok-text-in-StringLit.ensures))
 
 pub build_value-returns-in_ok-push_child-in-NumberLit : goal.build_value-returns-in_ok-push_child-in-NumberLit
 build_value-returns-in_ok-push_child-in-NumberLit g t c =
@@ -162,21 +173,21 @@ build_value-returns-in_ok-push_child-in-NumberLit g t c =
     let is = ap located c.in-NumberLit.is ∙ view-NumberLit g.row.A.Denot s in
     let there : c.args.container < length c.args.tree.now.nodes = assumption c.requires in
     let before : CanLay c.args.text.now (located c.args.value.now) = assumption c.requires in
-    (_, _, grows_leaf there c.in_ok-push_child-in-NumberLit.ensures.pushes, laid_as is (number_leaf (can_lay_as is before) c.in_ok-text-in-NumberLit.ensures))
+    (_, _, grows_leaf there c.in_ok-push_child-in-NumberLit.ensures.pushes, laid_as is (number_leaf (can_lay_as c.args.text.now is before) c.in_ok-text-in-NumberLit.ensures))
 
 pub build_value-returns-in_ok-push_child-in-BooleanLit : goal.build_value-returns-in_ok-push_child-in-BooleanLit
 build_value-returns-in_ok-push_child-in-BooleanLit g t c =
     let is = ap located c.in-BooleanLit.is ∙ view-BooleanLit g.row.A.Denot c.in-BooleanLit.value in
     let there : c.args.container < length c.args.tree.now.nodes = assumption c.requires in
     let before : CanLay c.args.text.now (located c.args.value.now) = assumption c.requires in
-    (_, _, grows_leaf there c.in_ok-push_child-in-BooleanLit.ensures.pushes, laid_as is (boolean_leaf (can_lay_as is before)))
+    (_, _, grows_leaf there c.in_ok-push_child-in-BooleanLit.ensures.pushes, laid_as is (boolean_leaf (can_lay_as c.args.text.now is before)))
 
 pub build_value-returns-in_ok-push_child-in-NullKeyword : goal.build_value-returns-in_ok-push_child-in-NullKeyword
 build_value-returns-in_ok-push_child-in-NullKeyword g t c =
     let is = ap located c.in-NullKeyword.is ∙ view-NullKeyword g.row.A.Denot c.in-NullKeyword.field-0 in
     let there : c.args.container < length c.args.tree.now.nodes = assumption c.requires in
     let before : CanLay c.args.text.now (located c.args.value.now) = assumption c.requires in
-    (_, _, grows_leaf there c.in_ok-push_child-in-NullKeyword.ensures.pushes, laid_as is (null_leaf (can_lay_as is before)))
+    (_, _, grows_leaf there c.in_ok-push_child-in-NullKeyword.ensures.pushes, laid_as is (null_leaf (can_lay_as c.args.text.now is before)))
 
 pub build_value-returns-in_ok-node-in-Array : goal.build_value-returns-in_ok-node-in-Array
 build_value-returns-in_ok-node-in-Array g t c =
