@@ -4,8 +4,9 @@ use Rattle.std.proofs.lemmas.Bool.{cases_lt, cases_eq, ne_eqb}
 use Rattle.std.proofs.lemmas.List.{get_or_append_left, get_or_past, get_or-set_same, get_or-set_other, map-append, length_push}
 use Rattle.jsonc_tree.specs.Content.{Content, root, object, array, property, string, word, number, boolean, null, token, whitespace, newline, comment, is_container, with_text}
 use Rattle.jsonc_tree.specs.Tree as tree
-use Rattle.jsonc_tree.specs.Tree.{node_at, nowhere, children_at, parent_at, content_at, is_container_at, IsTreeBy, Rooted, top, under, place_among, place_under, place_at, IsTree}
-use Rattle.jsonc_tree.specs.Stored.{content_of, nodes_of, places_of, node_of, place_in, IsStored}
+use Rattle.jsonc_tree.specs.Tree.{room_at, node_at, nowhere, children_at, parent_at, content_at, is_container_at, IsTreeBy, Rooted, top, under, place_among, place_under, place_at, IsTree}
+use Rattle.jsonc_tree.specs.Changes.{Rewrites}
+use Rattle.jsonc_tree.specs.Stored.{text_set, content_of, nodes_of, places_of, node_of, place_in, IsStored}
 use Rattle.jsonc_tree.specs.declared.node.Node.{Node}
 
 module _ (ns ms : List tree.Node) (place other : ℕ → ℕ) (more : length ns ≤ length ms) (kids : (k : ℕ) → children_at ms k ≡ children_at ns k) (parents : (k : ℕ) → parent_at ms k ≡ parent_at ns k) (places : (k : ℕ) → other k ≡ place k) where
@@ -153,3 +154,16 @@ module _ {A : Type 0} where
   -- stored nodes are a tree
   pub IsStored-tree : (es : List (Node A)) → IsStored es → IsTree (nodes_of es)
   IsStored-tree es stored = IsTree-from (nodes_of es) (place_in es) stored
+
+-- what a write of a leaf's text leaves at each node
+pub Rewrites-set : (old new : List tree.Node) (n : ℕ) (s : List ℕ) → n < length old → new ≡ text_set old n s → Rewrites old new n s
+Rewrites-set old new n s h e =
+    let x : tree.Node = record (node_at old n) { content = with_text (content_at old n) s } in
+    record {
+      len = ap length e ∙ length-set old n x;
+      content = ap (λ l. content_at l n) e ∙ ap (λ (m : tree.Node). m.content) (get_or-set_same old n x nowhere h);
+      others = λ k ne. ap (λ l. content_at l k) e ∙ ap (λ (m : tree.Node). m.content) (get_or-set_other old n k x nowhere ne);
+      parent = λ k. ap (λ l. parent_at l k) e ∙ kept_kids (λ m. m.parent) old n k x h refl;
+      children = λ k. ap (λ l. children_at l k) e ∙ kept_kids (λ m. m.children) old n k x h refl;
+      room = λ k. omega (arith, ap (λ l. room_at l k) e, kept_kids (λ m. m.room) old n k x h refl);
+    }

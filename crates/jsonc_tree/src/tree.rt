@@ -1,11 +1,14 @@
 //! The nodes of a document, and their changes.
 
-ghost use Rattle.std.specs.Prelude.{◌≡◌, ◌≢◌, ℕ, string_bytes, IsTrue, ◌+◌, ◌-◌, ◌<◌, ◌≤◌, [], ◌∷◌, length, drop, slice_index, slice_range, slice_set, None, Some, vec_capacity, vec_len, IfOk, OnErr, OnOk};
+ghost use Rattle.std.specs.Prelude.{◌≡◌, string_bytes, IsTrue, ◌+◌, ◌-◌, ◌<◌, ◌≤◌, []};
+ghost use Rattle.std.specs.Prelude.{length, slice_set, None, Some, vec_capacity, vec_len, IfOk, OnErr, OnOk};
 ghost use Rattle.std.specs.List.{splice};
-ghost use Rattle.jsonc_tree.specs.Content.{has_text, is_container, root, with_text};
-ghost use Rattle.jsonc_tree.specs.Tree.{node_at, children_at, content_at, is_container_at, parent_at, room_at, IsOver, IsTree};
-ghost use Rattle.jsonc_tree.specs.Changes.{Adds, Appends, CanJoin, MakesRoom, Splices};
-ghost use Rattle.jsonc_tree.specs.Stored.{content_of, nodes_of, places_of, linked, placed, unplaced, IsStored};
+ghost use Rattle.jsonc_tree.specs.Content.{has_text};
+ghost use Rattle.jsonc_tree.specs.Tree.{children_at, content_at, is_container_at, room_at, IsTree};
+ghost use Rattle.jsonc_tree.specs.Changes.{Adds, Appends, CanAppend, CanJoin};
+ghost use Rattle.jsonc_tree.specs.Changes.{MakesRoom, Pushes, Rewrites, Splices};
+ghost use Rattle.jsonc_tree.specs.Stored.{content_of, nodes_in, places_in, linked, placed, unplaced, IsStored};
+ghost use Rattle.jsonc_tree.specs.Stored.{parent_set, room_set, text_set, stretch, tail, Refills, ChildrenThere};
 
 use crate::node::{Kind, Node};
 use crate::walk::{child_of, count_of};
@@ -36,6 +39,7 @@ impl<A: Allocator> Model for Tree<A> {
     ghost invariant = { λ t. IsStored t.nodes.items };
 }
 
+// Gives a node this parent and this place.
 fn set_link<A: Allocator>(
     nodes: &mut Vec<Node<A>, A>,
     n: usize,
@@ -43,8 +47,8 @@ fn set_link<A: Allocator>(
     place: usize,
 )
     requires { n < vec_len nodes.old }
-    ensures nodes { nodes_of nodes.new.items ≡ slice_set (nodes_of nodes.old.items) n (record (node_at (nodes_of nodes.old.items) n) { parent = parent }) }
-    ensures places { places_of nodes.new.items ≡ slice_set (places_of nodes.old.items) n place }
+    ensures nodes { nodes_in nodes.new ≡ parent_set (nodes_in nodes.old) n parent }
+    ensures places { places_in nodes.new ≡ slice_set (places_in nodes.old) n place }
     ensures len { vec_len nodes.new ≡ vec_len nodes.old }
     ensures capacity { vec_capacity nodes.new ≡ vec_capacity nodes.old }
 {
@@ -53,6 +57,7 @@ fn set_link<A: Allocator>(
     node.place = place;
 }
 
+// Puts numbers in the place of a stretch of a list that has room for them.
 fn replace_stretch<A: Allocator>(list: &mut Vec<usize, A>, from: usize, to: usize, new: &[usize])
     requires order { from ≤ to }
     requires within { to ≤ vec_len list.old }
@@ -65,6 +70,7 @@ fn replace_stretch<A: Allocator>(list: &mut Vec<usize, A>, from: usize, to: usiz
     list[from..].rotate_right(new.len());
 }
 
+// Puts numbers in the place of a stretch of the children of `c`, and leaves every link as it was.
 fn replace_children<A: Allocator>(
     nodes: &mut Vec<Node<A>, A>,
     c: usize,
@@ -74,23 +80,24 @@ fn replace_children<A: Allocator>(
 )
     requires there { c < vec_len nodes.old }
     requires order { from ≤ to }
-    requires within { to ≤ length (node_at (nodes_of nodes.old.items) c).children }
-    requires room { length new.now ≤ (node_at (nodes_of nodes.old.items) c).room + (to - from) }
+    requires within { to ≤ length (children_at (nodes_in nodes.old) c) }
+    requires room { length new.now ≤ room_at (nodes_in nodes.old) c + (to - from) }
     ensures len { vec_len nodes.new ≡ vec_len nodes.old }
-    ensures nodes { (more : ℕ) × ((node_at (nodes_of nodes.old.items) c).room + (to - from) ≤ more + length new.now) × (nodes_of nodes.new.items ≡ slice_set (nodes_of nodes.old.items) c (record (node_at (nodes_of nodes.old.items) c) { children = splice (node_at (nodes_of nodes.old.items) c).children from to new.now; room = more })) }
-    ensures places { places_of nodes.new.items ≡ places_of nodes.old.items }
+    ensures nodes { Refills (nodes_in nodes.old) (nodes_in nodes.new) c from to new.now }
+    ensures places { places_in nodes.new ≡ places_in nodes.old }
     ensures capacity { vec_capacity nodes.new ≡ vec_capacity nodes.old }
 {
     replace_stretch(&mut nodes[c].children, from, to, new);
 }
 
-fn unlink_run<A: Allocator>(nodes: &mut Vec<Node<A>, A>, c: usize, from: usize, to: usize)
+// Leaves a stretch of the children of `c` without parent and place.
+fn unlink_stretch<A: Allocator>(nodes: &mut Vec<Node<A>, A>, c: usize, from: usize, to: usize)
     requires there { c < vec_len nodes.old }
     requires order { from ≤ to }
-    requires within { to ≤ length (children_at (nodes_of nodes.old.items) c) }
-    requires known { (k : ℕ) → k < length (children_at (nodes_of nodes.old.items) c) → slice_index (children_at (nodes_of nodes.old.items) c) k < vec_len nodes.old }
-    ensures nodes { nodes_of nodes.new.items ≡ linked (nodes_of nodes.old.items) None (slice_range (children_at (nodes_of nodes.old.items) c) from to) }
-    ensures places { places_of nodes.new.items ≡ unplaced (places_of nodes.old.items) (slice_range (children_at (nodes_of nodes.old.items) c) from to) }
+    requires within { to ≤ length (children_at (nodes_in nodes.old) c) }
+    requires known { ChildrenThere (nodes_in nodes.old) c (vec_len nodes.old) }
+    ensures nodes { nodes_in nodes.new ≡ linked (nodes_in nodes.old) None (stretch nodes.old c from to) }
+    ensures places { places_in nodes.new ≡ unplaced (places_in nodes.old) (stretch nodes.old c from to) }
     ensures len { vec_len nodes.new ≡ vec_len nodes.old }
     ensures capacity { vec_capacity nodes.new ≡ vec_capacity nodes.old }
 {
@@ -100,12 +107,13 @@ fn unlink_run<A: Allocator>(nodes: &mut Vec<Node<A>, A>, c: usize, from: usize, 
     }
 }
 
-fn link_run<A: Allocator>(nodes: &mut Vec<Node<A>, A>, c: usize, from: usize)
+// Gives the children of `c` from a place on their parent and place.
+fn link_tail<A: Allocator>(nodes: &mut Vec<Node<A>, A>, c: usize, from: usize)
     requires there { c < vec_len nodes.old }
-    requires within { from ≤ length (children_at (nodes_of nodes.old.items) c) }
-    requires known { (k : ℕ) → k < length (children_at (nodes_of nodes.old.items) c) → slice_index (children_at (nodes_of nodes.old.items) c) k < vec_len nodes.old }
-    ensures nodes { nodes_of nodes.new.items ≡ linked (nodes_of nodes.old.items) (Some c) (drop from (children_at (nodes_of nodes.old.items) c)) }
-    ensures places { places_of nodes.new.items ≡ placed (places_of nodes.old.items) from (drop from (children_at (nodes_of nodes.old.items) c)) }
+    requires within { from ≤ length (children_at (nodes_in nodes.old) c) }
+    requires known { ChildrenThere (nodes_in nodes.old) c (vec_len nodes.old) }
+    ensures nodes { nodes_in nodes.new ≡ linked (nodes_in nodes.old) (Some c) (tail nodes.old c from) }
+    ensures places { places_in nodes.new ≡ placed (places_in nodes.old) from (tail nodes.old c from) }
     ensures len { vec_len nodes.new ≡ vec_len nodes.old }
     ensures capacity { vec_capacity nodes.new ≡ vec_capacity nodes.old }
 {
@@ -115,6 +123,7 @@ fn link_run<A: Allocator>(nodes: &mut Vec<Node<A>, A>, c: usize, from: usize)
     }
 }
 
+// The whole splice: what gives way is unlinked, the list changes, and all from `from` on is linked.
 fn splice_nodes<A: Allocator>(
     nodes: &mut Vec<Node<A>, A>,
     c: usize,
@@ -124,42 +133,44 @@ fn splice_nodes<A: Allocator>(
 )
     requires stored { IsStored nodes.old.items }
     requires there { c < vec_len nodes.old }
-    requires container { IsTrue (is_container_at (nodes_of nodes.old.items) c) }
+    requires container { IsTrue (is_container_at (nodes_in nodes.old) c) }
     requires order { from ≤ to }
-    requires within { to ≤ length (children_at (nodes_of nodes.old.items) c) }
-    requires room { length new.now ≤ room_at (nodes_of nodes.old.items) c + (to - from) }
-    requires join { CanJoin (nodes_of nodes.old.items) c from to new.now }
-    ensures splices { Splices (nodes_of nodes.old.items) (nodes_of nodes.new.items) c from to new.now }
+    requires within { to ≤ length (children_at (nodes_in nodes.old) c) }
+    requires room { length new.now ≤ room_at (nodes_in nodes.old) c + (to - from) }
+    requires join { CanJoin (nodes_in nodes.old) c from to new.now }
+    ensures splices { Splices (nodes_in nodes.old) (nodes_in nodes.new) c from to new.now }
     ensures stored { IsStored nodes.new.items }
     ensures len { vec_len nodes.new ≡ vec_len nodes.old }
     ensures capacity { vec_capacity nodes.new ≡ vec_capacity nodes.old }
 {
-    unlink_run(nodes, c, from, to);
+    unlink_stretch(nodes, c, from, to);
     replace_children(nodes, c, from, to, new);
-    link_run(nodes, c, from);
+    link_tail(nodes, c, from);
 }
 
+// Makes room for more children of `c`.
 fn reserve_at<A: Allocator>(
     nodes: &mut Vec<Node<A>, A>,
     c: usize,
     additional: usize,
 ) -> Result<(), AllocError>
     requires { c < vec_len nodes.old }
-    ensures room { OnOk result (additional ≤ room_at (nodes_of nodes.new.items) c) }
-    ensures nodes { nodes_of nodes.new.items ≡ slice_set (nodes_of nodes.old.items) c (record (node_at (nodes_of nodes.old.items) c) { room = room_at (nodes_of nodes.new.items) c }) }
-    ensures places { places_of nodes.new.items ≡ places_of nodes.old.items }
-    ensures more { room_at (nodes_of nodes.old.items) c ≤ room_at (nodes_of nodes.new.items) c }
+    ensures room { OnOk result (additional ≤ room_at (nodes_in nodes.new) c) }
+    ensures nodes { nodes_in nodes.new ≡ room_set (nodes_in nodes.old) c (room_at (nodes_in nodes.new) c) }
+    ensures places { places_in nodes.new ≡ places_in nodes.old }
+    ensures more { room_at (nodes_in nodes.old) c ≤ room_at (nodes_in nodes.new) c }
     ensures len { vec_len nodes.new ≡ vec_len nodes.old }
     ensures capacity { vec_capacity nodes.new ≡ vec_capacity nodes.old }
 {
     nodes[c].children.reserve(additional)
 }
 
+// Gives a leaf another text.
 fn set_text_at<A: Allocator>(nodes: &mut Vec<Node<A>, A>, n: usize, text: String<A>)
     requires there { n < vec_len nodes.old }
-    requires leaf { IsTrue (has_text (content_at (nodes_of nodes.old.items) n)) }
-    ensures nodes { nodes_of nodes.new.items ≡ slice_set (nodes_of nodes.old.items) n (record (node_at (nodes_of nodes.old.items) n) { content = with_text (content_at (nodes_of nodes.old.items) n) (string_bytes text) }) }
-    ensures places { places_of nodes.new.items ≡ places_of nodes.old.items }
+    requires leaf { IsTrue (has_text (content_at (nodes_in nodes.old) n)) }
+    ensures nodes { nodes_in nodes.new ≡ text_set (nodes_in nodes.old) n (string_bytes text) }
+    ensures places { places_in nodes.new ≡ places_in nodes.old }
     ensures len { vec_len nodes.new ≡ vec_len nodes.old }
     ensures capacity { vec_capacity nodes.new ≡ vec_capacity nodes.old }
 {
@@ -183,11 +194,15 @@ impl<A: Allocator> Tree<A> {
         ensures room { OnOk result (additional ≤ room_at self.new.nodes container) }
         ensures kept { MakesRoom self.old.nodes self.new.nodes }
         ensures spare { self.old.room ≤ self.new.room }
+        ensures tree { IsTree self.new.nodes }
     {
         reserve_at(&mut self.nodes, container, additional)
     }
 
-    /// Puts the nodes `new` in the place of the container's children from `from` up to `to`, which are left without a parent.
+    /// Puts nodes in the place of the container's children from `from` up to `to`.
+    ///
+    /// What gives way is left without a parent. The nodes that are put in have none before, or are
+    /// among those that give way.
     pub fn splice(&mut self, container: usize, from: usize, to: usize, new: &[usize])
         requires there { container < length self.old.nodes }
         requires container { IsTrue (is_container_at self.old.nodes container) }
@@ -197,20 +212,50 @@ impl<A: Allocator> Tree<A> {
         requires join { CanJoin self.old.nodes container from to new.now }
         ensures splices { Splices self.old.nodes self.new.nodes container from to new.now }
         ensures spare { self.old.room ≤ self.new.room }
+        ensures tree { IsTree self.new.nodes }
     {
         splice_nodes(&mut self.nodes, container, from, to, new);
+    }
+
+    /// Makes a node without a parent the last child of a container that has room for it.
+    pub fn append(&mut self, container: usize, node: usize)
+        requires can { CanAppend self.old.nodes container node }
+        requires room { 1 ≤ room_at self.old.nodes container }
+        ensures appends { Appends self.old.nodes self.new.nodes container node }
+        ensures spare { self.old.room ≤ self.new.room }
+        ensures tree { IsTree self.new.nodes }
+    {
+        let count = self.child_count(container);
+        self.splice(container, count, count, &[node]);
+    }
+
+    /// Makes a node without a parent the last child of a container.
+    ///
+    /// A refusal leaves every node as it was, though the container may have more room.
+    pub fn attach(&mut self, container: usize, node: usize) -> Result<(), AllocError>
+        requires { CanAppend self.old.nodes container node }
+        ensures appends { OnOk result (Appends self.old.nodes self.new.nodes container node) }
+        ensures err { OnErr result (MakesRoom self.old.nodes self.new.nodes) }
+        ensures tree { IsTree self.new.nodes }
+    {
+        self.reserve(container, 1)?;
+        self.append(container, node);
+        Ok(())
     }
 
     /// Gives a leaf that keeps a text another one: a string, word, number, whitespace or comment.
     pub fn set_text(&mut self, leaf: usize, text: String<A>)
         requires there { leaf < length self.old.nodes }
         requires leaf { IsTrue (has_text (content_at self.old.nodes leaf)) }
-        ensures { self.new ≡ record self.old { nodes = slice_set self.old.nodes leaf (record (node_at self.old.nodes leaf) { content = with_text (content_at self.old.nodes leaf) (string_bytes text) }) } }
+        ensures rewrites { Rewrites self.old.nodes self.new.nodes leaf (string_bytes text) }
+        ensures spare { self.old.room ≤ self.new.room }
+        ensures tree { IsTree self.new.nodes }
     {
         set_text_at(&mut self.nodes, leaf, text);
     }
 }
 
+// A node that is nobody's child.
 fn bare_node<A: Allocator>(kind: Kind<A>, children: Vec<usize, A>) -> Node<A>
     ensures kind { result.kind ≡ kind }
     ensures parent { result.parent ≡ None }
@@ -228,7 +273,9 @@ fn bare_node<A: Allocator>(kind: Kind<A>, children: Vec<usize, A>) -> Node<A>
 impl<A: Allocator + Clone> Tree<A> {
     /// A document with nothing in its root.
     pub fn new(alloc: A) -> Result<Self, AllocError>
-        ensures { IfOk result (λ t. (length t.nodes ≡ 1) × (content_at t.nodes 0 ≡ root) × (parent_at t.nodes 0 ≡ None) × (children_at t.nodes 0 ≡ [])) }
+        ensures one { IfOk result (λ t. length t.nodes ≡ 1) }
+        ensures bare { IfOk result (λ t. children_at t.nodes 0 ≡ []) }
+        ensures tree { IfOk result (λ t. IsTree t.nodes) }
     {
         let children = Vec::new(alloc.clone()?);
         let mut nodes = Vec::new(alloc);
@@ -243,10 +290,28 @@ impl<A: Allocator + Clone> Tree<A> {
         ensures number { IfOk result (λ n. n ≡ length self.old.nodes) }
         ensures added { OnOk result (Adds self.old.nodes self.new.nodes (content_of kind)) }
         ensures err { OnErr result (self.new.nodes ≡ self.old.nodes) }
+        ensures tree { IsTree self.new.nodes }
     {
-        let number = self.nodes.len();
+        let number = self.len();
         let children = Vec::new(self.nodes.allocator().clone()?);
         self.nodes.push(bare_node(kind, children))?;
         Ok(number)
+    }
+
+    /// Adds a node as a container's last child, and answers its number.
+    ///
+    /// A refusal leaves every node as it was, though the container may have more room.
+    pub fn push_child(&mut self, container: usize, kind: Kind<A>) -> Result<usize, AllocError>
+        requires there { container < length self.old.nodes }
+        requires container { IsTrue (is_container_at self.old.nodes container) }
+        ensures number { IfOk result (λ n. n ≡ length self.old.nodes) }
+        ensures pushes { OnOk result (Pushes self.old.nodes self.new.nodes container (content_of kind)) }
+        ensures err { OnErr result (MakesRoom self.old.nodes self.new.nodes) }
+        ensures tree { IsTree self.new.nodes }
+    {
+        self.reserve(container, 1)?;
+        let child = self.add(kind)?;
+        self.append(container, child);
+        Ok(child)
     }
 }

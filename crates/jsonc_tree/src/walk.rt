@@ -1,10 +1,10 @@
 //! Walks over a tree: up, across and in the order of the document.
 
-ghost use Rattle.std.specs.Prelude.{◌≡◌, ℕ, ◌+◌, ◌<◌, [], ◌∷◌, ◌++◌, length, slice_index, Some, MatchOption, IfSome, vec_len};
+ghost use Rattle.std.specs.Prelude.{◌≡◌, ◌<◌, ◌∷◌, length, slice_index, Some, IfSome, vec_len};
 ghost use Rattle.std.specs.Iterator.{YieldsFirst, item_count};
 ghost use Rattle.jsonc_tree.specs.Tree.{children_at, content_at, parent_at, place_at, IsOver};
-ghost use Rattle.jsonc_tree.specs.Order.{in_order, following, rest_at, upward};
-ghost use Rattle.jsonc_tree.specs.Stored.{content_of, nodes_of, IsStored};
+ghost use Rattle.jsonc_tree.specs.Order.{following, rest_at, upward};
+ghost use Rattle.jsonc_tree.specs.Stored.{content_of, nodes_in, IsStored};
 
 use crate::node::{Kind, Node};
 use crate::tree::Tree;
@@ -13,14 +13,14 @@ use std::marker::Model;
 
 fn kind_of<A: Allocator>(nodes: &Vec<Node<A>, A>, n: usize) -> &Kind<A>
     requires { n < vec_len nodes.now }
-    ensures { content_of result.now ≡ content_at (nodes_of nodes.now.items) n }
+    ensures { content_of result.now ≡ content_at (nodes_in nodes.now) n }
 {
     &nodes[n].kind
 }
 
 fn parent_of<A: Allocator>(nodes: &Vec<Node<A>, A>, n: usize) -> Option<usize>
     requires { n < vec_len nodes.now }
-    ensures { result ≡ parent_at (nodes_of nodes.now.items) n }
+    ensures { result ≡ parent_at (nodes_in nodes.now) n }
 {
     nodes[n].parent
 }
@@ -28,22 +28,22 @@ fn parent_of<A: Allocator>(nodes: &Vec<Node<A>, A>, n: usize) -> Option<usize>
 fn place_of<A: Allocator>(nodes: &Vec<Node<A>, A>, n: usize) -> usize
     requires stored { IsStored nodes.now.items }
     requires there { n < vec_len nodes.now }
-    ensures { result ≡ place_at (nodes_of nodes.now.items) n }
+    ensures { result ≡ place_at (nodes_in nodes.now) n }
 {
     nodes[n].place
 }
 
 pub(crate) fn count_of<A: Allocator>(nodes: &Vec<Node<A>, A>, c: usize) -> usize
     requires { c < vec_len nodes.now }
-    ensures { result ≡ length (children_at (nodes_of nodes.now.items) c) }
+    ensures { result ≡ length (children_at (nodes_in nodes.now) c) }
 {
     nodes[c].children.len()
 }
 
 pub(crate) fn child_of<A: Allocator>(nodes: &Vec<Node<A>, A>, c: usize, place: usize) -> usize
     requires there { c < vec_len nodes.now }
-    requires within { place < length (children_at (nodes_of nodes.now.items) c) }
-    ensures { result ≡ slice_index (children_at (nodes_of nodes.now.items) c) place }
+    requires within { place < length (children_at (nodes_in nodes.now) c) }
+    ensures { result ≡ slice_index (children_at (nodes_in nodes.now) c) place }
 {
     nodes[c].children[place]
 }
@@ -52,10 +52,10 @@ pub(crate) fn child_of<A: Allocator>(nodes: &Vec<Node<A>, A>, c: usize, place: u
 fn next_after<A: Allocator>(nodes: &Vec<Node<A>, A>, end: usize, n: usize) -> Option<usize>
     requires stored { IsStored nodes.now.items }
     requires there { n < vec_len nodes.now }
-    requires over { IsOver (nodes_of nodes.now.items) end n }
-    ensures next { MatchOption result (following (nodes_of nodes.now.items) end n ≡ []) (λ m. following (nodes_of nodes.now.items) end n ≡ in_order (nodes_of nodes.now.items) m ++ following (nodes_of nodes.now.items) end m) }
+    requires over { IsOver (nodes_in nodes.now) end n }
+    ensures next { following (nodes_in nodes.now) end n ≡ rest_at (nodes_in nodes.now) end result }
     ensures there { IfSome result (λ m. m < vec_len nodes.now) }
-    ensures over { IfSome result (λ m. IsOver (nodes_of nodes.now.items) end m) }
+    ensures over { IfSome result (λ m. IsOver (nodes_in nodes.now) end m) }
 {
     let mut at = n;
     while at != end {
@@ -80,10 +80,10 @@ pub(crate) fn node_after<A: Allocator>(
 ) -> Option<usize>
     requires stored { IsStored nodes.now.items }
     requires there { n < vec_len nodes.now }
-    requires over { IsOver (nodes_of nodes.now.items) end n }
-    ensures rest { rest_at (nodes_of nodes.now.items) end (Some n) ≡ n ∷ rest_at (nodes_of nodes.now.items) end result }
+    requires over { IsOver (nodes_in nodes.now) end n }
+    ensures rest { rest_at (nodes_in nodes.now) end (Some n) ≡ n ∷ rest_at (nodes_in nodes.now) end result }
     ensures there { IfSome result (λ m. m < vec_len nodes.now) }
-    ensures over { IfSome result (λ m. IsOver (nodes_of nodes.now.items) end m) }
+    ensures over { IfSome result (λ m. IsOver (nodes_in nodes.now) end m) }
 {
     if count_of(nodes, n) > 0 {
         return Some(child_of(nodes, n, 0));
@@ -134,7 +134,9 @@ impl<A: Allocator> Tree<A> {
         child_of(&self.nodes, node, place)
     }
 
-    /// The node after `node` in the order of the document, where a node comes before its children and the walk ends with what is below `end`.
+    /// The node after `node` in the order of the document, where a node comes before its children.
+    ///
+    /// The walk begins at `end` and ends with what is below it.
     pub fn next_in_order(&self, end: usize, node: usize) -> Option<usize>
         requires there { node < length self.now.nodes }
         requires over { IsOver self.now.nodes end node }

@@ -2,7 +2,7 @@ use Rattle.std.proofs.Common.{◌≡◌, Some, ap, ◌∙◌, arith, slice_index
 use Rattle.jsonc_tree.specs.Tree.{children_at}
 use Rattle.jsonc_tree.specs.Stored.{nodes_of}
 use Rattle.jsonc_tree.proofs.Views.{linked_step, placed_step, children_at-set}
-use Rattle.jsonc_tree.proofs.tree.link_run.Goals as goal
+use Rattle.jsonc_tree.proofs.tree.link_tail.Goals as goal
 
 pub set_link-requires : goal.set_link-requires
 set_link-requires g c =

@@ -2,7 +2,7 @@ use Rattle.std.proofs.Common.{◌≡◌, None, ap, ◌∙◌, arith, slice_index
 use Rattle.jsonc_tree.specs.Tree.{children_at}
 use Rattle.jsonc_tree.specs.Stored.{nodes_of}
 use Rattle.jsonc_tree.proofs.Views.{linked_step, unplaced_step, children_at-set}
-use Rattle.jsonc_tree.proofs.tree.unlink_run.Goals as goal
+use Rattle.jsonc_tree.proofs.tree.unlink_stretch.Goals as goal
 
 pub set_link-requires : goal.set_link-requires
 set_link-requires g c =
