@@ -1,5 +1,5 @@
 -- Values with the place of each of their nodes, and the texts that they stand in.
-use Rattle.std.specs.Prelude.{ℕ, ◌+◌, ◌-◌, ◌≤◌, ◌≡◌, List, [], ◌∷◌, Option, Some, None, length}
+use Rattle.std.specs.Prelude.{ℕ, ◌+◌, ◌-◌, ◌≤◌, ◌≡◌, List, [], ◌∷◌, Option, Some, None, length, IsTrue}
 use Rattle.jsonc_text.specs.declared.common.Range.{Range}
 use Rattle.jsonc_text.specs.Options.{Options}
 use Rattle.jsonc_text.specs.Text.{rest, Spans}
@@ -65,6 +65,10 @@ One c t r = t ≡ c ∷ r
 -- t is a gap and a closing bracket, and then r
 abbrev pub Ends : Options → ℕ → List ℕ → List ℕ → Type 0
 Ends o bracket t r = Gap o t (bracket ∷ r)
+
+-- the same with a comma before the bracket, where o allows it; the comma is passed already
+abbrev pub TrailingComma : Options → ℕ → List ℕ → List ℕ → Type 0
+TrailingComma o bracket t r = IsTrue o.trailing_commas × Gap o t (bracket ∷ r)
 
 -- t is what stands between a name and its value: a gap, `:` and a gap; and then r
 abbrev pub Colon : Options → List ℕ → List ℕ → Type 0

@@ -2,3 +2,9 @@
 #![tactic(auto)]
 
 pub mod ast;
+pub mod collect;
+mod container;
+mod context;
+mod values;
+
+pub use values::parse_to_ast;
