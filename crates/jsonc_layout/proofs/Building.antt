@@ -10,7 +10,8 @@ use Rattle.jsonc_ast.specs.Located.{Located, LocatedItems, LocatedMembers, Locat
 use Rattle.jsonc_ast.specs.Views.{located, member_of, items_located, members_located}
 use Rattle.jsonc_ast.specs.declared.ast.Value.{Value}
 use Rattle.jsonc_ast.specs.declared.ast.ObjectProp.{ObjectProp}
-use Rattle.jsonc_layout.specs.Growth.{Grows, Pushes}
+use Rattle.jsonc_tree.specs.Changes.{Pushes}
+use Rattle.jsonc_layout.specs.Growth.{Grows}
 use Rattle.jsonc_layout.specs.Laid.{FillsBetween, Laid, ItemsLaid, an_element, no_element, MembersLaid, a_property, no_property, PropertyLaid, NameLaid, name_and_value, CanLay, CanLayItems, CanLayMembers, CanLayProperty}
 use Rattle.jsonc_layout.proofs.Growing.{grows_none, grows_append, grows_below}
 use Rattle.jsonc_layout.proofs.Rows.{followed_assoc}

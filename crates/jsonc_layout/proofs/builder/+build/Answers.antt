@@ -13,7 +13,7 @@ use Rattle.jsonc_layout.specs.Laid.{CanLay, CanLayItems, CanLayMembers, CanLayPr
 use Rattle.jsonc_layout.proofs.Growing.{grows_append, grows_leaf, container_kept}
 use Rattle.jsonc_layout.proofs.Building.{elements_start, elements_at, elements_more, elements_end, items_none_left, properties_start, properties_at, properties_more, properties_end, members_none_left, property_built, on_ok, pushed_there, pushed_container, grows_into, laid_as, can_lay_as}
 use Rattle.jsonc_layout.proofs.Views.{view-Array, view-Object, view-StringLit, view-NumberLit, view-BooleanLit, view-NullKeyword, view-property, size-Array, size-Object, size-element, size-member}
-use Rattle.jsonc_layout.proofs.build.+build.Goals as goal
+use Rattle.jsonc_layout.proofs.builder.+build.Goals as goal
 
 pub build_elements-loop-element-init : goal.build_elements-loop-element-init
 build_elements-loop-element-init g t c =
@@ -90,8 +90,8 @@ pub build_properties-build_property-requires : goal.build_properties-build_prope
 build_properties-build_property-requires g t c κs within =
     let so_far = properties_at c.args.properties.now c.loop-property.property-index c.property-item.result c.loop-property-test.true c.property-item.is c.loop-property.invariant in
     let node = c.in_ok-node.ensures in
-    let there : c.in_ok-node.node < length c.push_child.new.tree.nodes = pushed_there c.in_ok-node.node node.number node.pushes in
-    let container : IsTrue (is_container_at c.push_child.new.tree.nodes c.in_ok-node.node) = pushed_container c.in_ok-node.node node.number node.pushes refl in
+    let there : c.in_ok-node.node < length c.push_child.new.self.nodes = pushed_there c.in_ok-node.node node.number node.pushes in
+    let container : IsTrue (is_container_at c.push_child.new.self.nodes c.in_ok-node.node) = pushed_container c.in_ok-node.node node.number node.pushes refl in
     let lies : CanLayProperty c.args.text.now (member_of c.property-item.result).name (member_of c.property-item.result).value = (so_far.lies.1, so_far.lies.2, so_far.lies.3) in
     let deep = size-member g.row.A.Denot c.args.properties.now c.loop-property.property-index c.property-item.result c.loop-property-test.true c.property-item.is in
     (omega (arith, c.requires.0, deep), (within, (there, (container, lies))))
@@ -104,7 +104,7 @@ build_properties-loop-property-preserved g t c =
     let built = c.in_ok-build_property.ensures in
     let there : c.args.container < length c.args.tree.now.nodes = assumption c.requires in
     properties_more there c.range-range.ensures so_far filled.1 filled.2 node.pushes
-      (subst (λ n. Grows c.push_child.new.tree.nodes c.build_property.new.tree.nodes n built.0) node.number built.1) built.2
+      (subst (λ n. Grows c.push_child.new.self.nodes c.build_property.new.tree.nodes n built.0) node.number built.1) built.2
 
 pub build_properties-fill_between-requires-2-clause-container : goal.build_properties-fill_between-requires-2-clause-container
 build_properties-fill_between-requires-2-clause-container g t c =
@@ -136,8 +136,8 @@ build_value-build_elements-requires g t c κs within =
     let a = c.in-Array.array in
     let node = c.in_ok-node-in-Array.ensures in
     let is : located c.args.value.now ≡ array_at a.range (items_located c.deref.result.now) = ap located c.in-Array.is ∙ view-Array a ∙ ap (λ xs. array_at a.range (items_located xs)) (sym c.deref.ensures.value) in
-    let there : c.in_ok-node-in-Array.node < length c.push_child-in-Array.new.tree.nodes = pushed_there c.in_ok-node-in-Array.node node.number node.pushes in
-    let container : IsTrue (is_container_at c.push_child-in-Array.new.tree.nodes c.in_ok-node-in-Array.node) = pushed_container c.in_ok-node-in-Array.node node.number node.pushes refl in
+    let there : c.in_ok-node-in-Array.node < length c.push_child-in-Array.new.self.nodes = pushed_there c.in_ok-node-in-Array.node node.number node.pushes in
+    let container : IsTrue (is_container_at c.push_child-in-Array.new.self.nodes c.in_ok-node-in-Array.node) = pushed_container c.in_ok-node-in-Array.node node.number node.pushes refl in
     let before : CanLay c.args.text.now (located c.args.value.now) = assumption c.requires in
     let lies : CanLayItems c.args.text.now a.range.start (items_located c.deref.result.now) a.range.end = can_lay_as c.args.text.now is before in
     let deep = size-Array g.row.A.Denot a in
@@ -150,8 +150,8 @@ build_value-build_properties-requires g t c κs within =
     let o = object_parts.out-Object g.row.A.Denot c.in-Object.object in
     let node = c.in_ok-node-in-Object.ensures in
     let is : located c.args.value.now ≡ object_at o.range (members_located c.deref-in-Object.result.now) = ap located c.in-Object.is ∙ view-Object c.in-Object.object ∙ ap (λ xs. object_at o.range (members_located xs)) (sym c.deref-in-Object.ensures.value) in
-    let there : c.in_ok-node-in-Object.node < length c.push_child-in-Object.new.tree.nodes = pushed_there c.in_ok-node-in-Object.node node.number node.pushes in
-    let container : IsTrue (is_container_at c.push_child-in-Object.new.tree.nodes c.in_ok-node-in-Object.node) = pushed_container c.in_ok-node-in-Object.node node.number node.pushes refl in
+    let there : c.in_ok-node-in-Object.node < length c.push_child-in-Object.new.self.nodes = pushed_there c.in_ok-node-in-Object.node node.number node.pushes in
+    let container : IsTrue (is_container_at c.push_child-in-Object.new.self.nodes c.in_ok-node-in-Object.node) = pushed_container c.in_ok-node-in-Object.node node.number node.pushes refl in
     let before : CanLay c.args.text.now (located c.args.value.now) = assumption c.requires in
     let lies : CanLayMembers c.args.text.now o.range.start (members_located c.deref-in-Object.result.now) o.range.end = can_lay_as c.args.text.now is before in
     let deep = size-Object g.row.A.Denot c.in-Object.object in
