@@ -1,10 +1,10 @@
 -- The elements of an array so far, and what is still to come.
-use Rattle.std.proofs.Common.{ℕ, suc, max, ◌+◌, ◌≤◌, ◌≡◌, ◌∙◌, sym, ap, subst, refl, arith, List, [], ◌∷◌, ◌++◌}
+use Rattle.std.proofs.Common.{ℕ, suc, max, ◌≡◌, ◌∙◌, sym, ap, subst, refl, arith, List, [], ◌∷◌, ◌++◌}
 use Rattle.jsonc_text.specs.Options.{Options}
 use Rattle.jsonc_text.specs.Gaps.{Gap}
 use Rattle.jsonc_text.specs.Grammar.{Separates, Closes}
 use Rattle.jsonc_text.specs.Plain.{around, items_around}
-use Rattle.jsonc_ast.specs.Located.{Located, LocatedItems, no_items_at, item_at, range_at, value_at, items_at, Between, Ends, IsLocated, AreItems, AreFurtherItems}
+use Rattle.jsonc_ast.specs.Located.{Located, LocatedItems, no_items_at, item_at, range_at, value_at, items_at, Between, IsLocated, AreItems, AreFurtherItems}
 use Rattle.jsonc_ast.specs.Views.{items_of}
 
 -- the elements so far, before those that follow

@@ -1,5 +1,5 @@
 -- What a scanner passes, as gaps between places.
-use Rattle.std.proofs.Common.{ℕ, ◌≡◌, ◌≤◌, ◌∙◌, subst, inl, inr, sym, ap, refl, arith, true, false, List, ◌∷◌, IsTrue, Option, Some, None, IsCharBoundary}
+use Rattle.std.proofs.Common.{ℕ, ◌≡◌, ◌∙◌, subst, inl, inr, refl, arith, true, List, IsTrue, Some, IsCharBoundary}
 use Rattle.jsonc_text.specs.declared.scanner.Scanner.{Scanner}
 use Rattle.jsonc_text.specs.declared.tokens.Token.{Token}
 use Rattle.jsonc_text.specs.Options.{Options}

@@ -1,11 +1,11 @@
 -- A located value stands for its plain value.
-use Rattle.std.proofs.Common.{ℕ, ◌+◌, ◌≡◌, ◌∙◌, sym, ap, arith, List, [], ◌∷◌, Option, Some, None, option_map, length, drop, chars}
+use Rattle.std.proofs.Common.{ℕ, ◌+◌, ◌≡◌, ◌∙◌, sym, ap, arith, List, [], ◌∷◌, Option, Some, None, option_map, length, chars}
 use Rattle.std.proofs.Math.ListN.{drop_of_length-le}
 use Rattle.std.proofs.lemmas.Str.{chars-nil}
 use Rattle.jsonc_text.specs.declared.common.Range.{Range}
 use Rattle.jsonc_text.specs.Options.{Options}
 use Rattle.jsonc_text.specs.Text.{rest}
-use Rattle.jsonc_text.specs.Plain.{Plain, Items, item, Members, member}
+use Rattle.jsonc_text.specs.Plain.{Plain, item, member}
 use Rattle.jsonc_text.specs.Grammar.{IsValue, literal, empty_array, array, empty_object, object, AreElements, last_element, element, AreProperties, last_property, property, IsProperty, named, IsDocument}
 use Rattle.jsonc_ast.specs.Located.{Located, leaf_at, array_at, object_at, LocatedItems, no_items_at, item_at, LocatedMembers, no_members_at, member_at, LocatedName, range_at, value_at, items_at, members_at, IsLocated, AreItems, AreFurtherItems, AreMembers, AreFurtherMembers, IsNamed, IsLocatedDocument}
 

@@ -6,3 +6,4 @@ pub mod Elements
 pub mod Members
 pub mod Loops
 pub mod Properties
+pub mod Leaves

@@ -1,10 +1,10 @@
 -- The properties of an object so far, and what is still to come.
-use Rattle.std.proofs.Common.{ℕ, suc, max, ◌+◌, ◌≤◌, ◌≡◌, ◌∙◌, sym, ap, subst, refl, arith, List, [], ◌∷◌, ◌++◌}
+use Rattle.std.proofs.Common.{ℕ, suc, max, ◌≡◌, ◌∙◌, sym, ap, subst, refl, arith, List, [], ◌∷◌, ◌++◌}
 use Rattle.jsonc_text.specs.Options.{Options}
 use Rattle.jsonc_text.specs.Gaps.{Gap}
 use Rattle.jsonc_text.specs.Grammar.{Separates, Closes}
 use Rattle.jsonc_text.specs.Plain.{around, members_around}
-use Rattle.jsonc_ast.specs.Located.{LocatedMembers, no_members_at, member_at, range_at, value_at, members_at, Between, Ends, IsNamed, IsLocated, AreMembers, AreFurtherMembers}
+use Rattle.jsonc_ast.specs.Located.{LocatedMembers, no_members_at, member_at, range_at, value_at, members_at, Between, IsNamed, IsLocated, AreMembers, AreFurtherMembers}
 use Rattle.jsonc_ast.specs.Views.{LocatedMember, members_of}
 
 -- the property m before others

@@ -1,11 +1,13 @@
 -- Names without quotes.
-use Rattle.std.proofs.Common.{ℕ, ◌≡◌, ◌∙◌, ◌++◌, sym, ap, subst, refl, true, List, Option, Some, None, option_map, IsTrue, chars, inl, inr}
-use Rattle.std.specs.Borrow.{Bor}
+use Rattle.std.proofs.Common.{ℕ, ◌≡◌, ◌∙◌, ◌++◌, sym, ap, subst, refl, true, List, Some, None, IsTrue, chars, inl, inr, Bool, codes, rules}
+use Rattle.std.proofs.lemmas.Str.{chars-IsAscii}
+use Rattle.jsonc_text.specs.Words.{Keyword, keyword_text}
+use Rattle.jsonc_text.specs.declared.tokens.Token.TheVariants.{Boolean}
 use Rattle.jsonc_text.specs.declared.tokens.Token.{Token}
 use Rattle.jsonc_text.specs.Options.{Options}
 use Rattle.jsonc_text.specs.Grammar.{IsName, IsLooseName}
 use Rattle.jsonc_text.specs.Lexemes.{Scanned, lexeme, line_comment, block_comment, LexemeKind, string, IsScanned}
-use Rattle.jsonc_text.specs.Scanner.{start_of, end_of, StandsAt}
+use Rattle.jsonc_text.specs.Scanner.{start_of, end_of}
 use Rattle.jsonc_text.specs.Tokens.{scanned_of}
 use Rattle.jsonc_ast.specs.declared.context.Context.{Context}
 use Rattle.jsonc_ast.specs.Context.{text_in, options_in, token_range, IsToken}
@@ -40,3 +42,15 @@ module _ {A : Type 0} (c : Context A) (t : Token A) (at : IsToken c t) (name : L
   pub string_name_here : scanned_of t ≡ lexeme (string name) → In (text_in c) (λ t r. IsName (options_in c) t name r) (token_range c)
   string_name_here e =
       change (λ t r. IsName (options_in c) t name r) (λ u r k. inl k) (subst (λ w. Between (text_in c) (IsScanned (options_in c) w) (start_of c.scanner) (end_of c.scanner)) e here)
+
+pub true_chars : chars (codes "true") ≡ codes "true"
+true_chars = chars-IsAscii (codes "true") (search rules)
+
+pub false_chars : chars (codes "false") ≡ codes "false"
+false_chars = chars-IsAscii (codes "false") (search rules)
+
+pub null_chars : chars (codes "null") ≡ codes "null"
+null_chars = chars-IsAscii (codes "null") (search rules)
+
+pub boolean_name : {A : Type 0} (t : Token A) (b c : Bool) → t ≡ Boolean b → b ≡ c → loose_text (scanned_of t) ≡ Some (keyword_text (Keyword.boolean c))
+boolean_name t b c e f = ap (λ t. loose_text (scanned_of t)) e ∙ ap (λ b. Some (keyword_text (Keyword.boolean b))) f

@@ -1,18 +1,16 @@
 -- A parser among the properties of an object.
-use Rattle.std.proofs.Common.{ℕ, suc, max, ◌+◌, ◌-◌, ◌<◌, ◌≤◌, ◌≡◌, ◌∙◌, sym, ap, subst, refl, arith, List, [], ◌∷◌, ◌++◌, length, Option, Some, None, IsUtf8, IsCharBoundary}
+use Rattle.std.proofs.Common.{ℕ, suc, max, ◌+◌, ◌≤◌, ◌≡◌, sym, subst, arith, List, [], ◌∷◌, ◌++◌, Option, Some, None, IsUtf8}
 use Rattle.std.proofs.lemmas.Str.{IsUtf8-from_is_utf8}
 use Rattle.jsonc_text.specs.declared.common.Range.{Range}
 use Rattle.jsonc_text.specs.declared.tokens.Token.{Token}
-use Rattle.jsonc_text.specs.Options.{Options}
-use Rattle.jsonc_text.specs.Text.{Spans}
 use Rattle.jsonc_text.specs.Gaps.{Gap}
 use Rattle.jsonc_text.specs.Grammar.{Separates, Closes}
-use Rattle.jsonc_text.specs.Plain.{around, items_around, members_around}
+use Rattle.jsonc_text.specs.Plain.{around, members_around}
 use Rattle.jsonc_ast.specs.declared.context.Context.{Context}
-use Rattle.jsonc_ast.specs.Context.{text_in, options_in, token_start, token_end, Keeps, Passes, IsBracket, Leads, IsToken}
-use Rattle.jsonc_ast.specs.Located.{Located, array_at, object_at, range_at, value_at, items_at, members_at, Between, One, Ends, Brackets, IsLocated, IsNamed, AreItems, AreMembers}
+use Rattle.jsonc_ast.specs.Context.{text_in, options_in, token_start, token_end, Keeps, IsBracket, Leads}
+use Rattle.jsonc_ast.specs.Located.{object_at, range_at, value_at, members_at, Between, One, Ends, IsLocated, IsNamed, AreMembers}
 use Rattle.jsonc_ast.specs.Reads.{Reads, ReadsMember}
-use Rattle.jsonc_ast.specs.Views.{items_of, members_of, LocatedMember}
+use Rattle.jsonc_ast.specs.Views.{members_of, LocatedMember}
 use Rattle.jsonc_ast.proofs.Members as members
 use Rattle.jsonc_ast.proofs.Loops.{brackets, AtHand, leads_hand, leads_on}
 use Rattle.jsonc_ast.proofs.Scans.{moved, one_byte, kept_on}
@@ -84,8 +82,8 @@ module _ {A : Type 0} where
       let bytes = text_in old in
       let utf8 : IsUtf8 bytes = IsUtf8-from_is_utf8 bytes old.utf8 in
       let closing : Between bytes (One 0x7D) (token_start now) (token_end now) = subst (λ b. Between b (One 0x7D) (token_start now) (token_end now)) inv.kept.text (subst (AtHand 0x7D now) is inv.hand) in
-      let one : token_start old + 1 ≡ token_end old = one_byte bytes 0x7B _ _ utf8 refl opening in
-      let other : token_start now + 1 ≡ token_end now = one_byte bytes 0x7D _ _ utf8 refl closing in
+      let one : token_start old + 1 ≡ token_end old = one_byte bytes 0x7B _ _ utf8 (omega arith) opening in
+      let other : token_start now + 1 ≡ token_end now = one_byte bytes 0x7D _ _ utf8 (omega arith) closing in
       let after : token_end old ≡ r.start + 1 = omega (arith, one, first) in
       record {
         value = (

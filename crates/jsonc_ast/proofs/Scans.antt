@@ -1,17 +1,17 @@
 -- A parser on its way from one token to the next.
-use Rattle.std.proofs.Common.{ℕ, ◌≡◌, ◌≤◌, ◌+◌, ◌∙◌, sym, ap, subst, refl, arith, true, List, [], ◌∷◌, Option, None, Some, Result, Ok, Err, IfOk, IsTrue, IsUtf8}
+use Rattle.std.proofs.Common.{ℕ, ◌≡◌, ◌≤◌, ◌<◌, ◌+◌, ◌++◌, length, ◌∙◌, sym, ap, subst, refl, arith, true, List, [], ◌∷◌, Option, None, Some, Result, Ok, Err, IfOk, IsTrue, IsUtf8}
 use Rattle.jsonc_text.specs.declared.errors.ParseError.{ParseError}
 use Rattle.jsonc_text.specs.declared.scanner.Scanner.{Scanner}
 use Rattle.jsonc_text.specs.declared.tokens.Token.{Token}
 use Rattle.jsonc_text.specs.Options.{Options}
-use Rattle.jsonc_text.specs.OptionsOf.{parse_options}
 use Rattle.jsonc_text.specs.Gaps.{Gap, none}
-use Rattle.jsonc_text.specs.Grammar.{Separates, comma, no_comma, Closes, plain, trailing_comma}
+use Rattle.jsonc_text.specs.Grammar.{Separates, comma, no_comma, Closes, trailing_comma}
 use Rattle.jsonc_text.specs.Lexemes.{lexeme, punctuation, IsScanned}
 use Rattle.jsonc_text.specs.Places.{is_comment}
 use Rattle.jsonc_text.specs.Scanner.{text_of, start_of, end_of, options_of, PassesBlanks, StandsAt}
 use Rattle.jsonc_text.specs.Text.{byte_length}
 use Rattle.jsonc_text.specs.Tokens.{scanned_of}
+use Rattle.std.proofs.lemmas.Str.{encode_ascii}
 use Rattle.jsonc_text.proofs.Cuts.{place_after}
 use Rattle.jsonc_ast.specs.declared.context.Context.{Context}
 use Rattle.jsonc_ast.specs.Context.{text_in, options_in, token_start, token_end, tokens_asked, Keeps, Passes, Finds, IsBracket, Leads, IsToken}
@@ -23,8 +23,13 @@ pub moved : {o p : Options} {bytes others : List ℕ} (P : Options → List ℕ 
 moved {o} {p} {bytes} {others} P e f h = subst (λ x. P x bytes) e (subst (λ y. P p y) f h)
 
 -- punctuation has one byte
-pub one_byte : (bytes : List ℕ) (c i j : ℕ) → IsUtf8 bytes → byte_length (c ∷ []) ≡ 1 → Between bytes (One c) i j → i + 1 ≡ j
-one_byte bytes c i j u e h = let after : j ≡ i + byte_length (c ∷ []) = place_after bytes (c ∷ []) i j u h.spans.from h.spans.to h.stands in omega arith
+ascii_length : (c : ℕ) → c < 128 → byte_length (c ∷ []) ≡ 1
+ascii_length c h = ap (λ s. length (s ++ [])) (encode_ascii c h)
+
+pub one_byte : (bytes : List ℕ) (c i j : ℕ) → IsUtf8 bytes → c < 128 → Between bytes (One c) i j → i + 1 ≡ j
+one_byte bytes c i j u small h =
+    let e : byte_length (c ∷ []) ≡ 1 = ascii_length c small in
+    let after : j ≡ i + byte_length (c ∷ []) = place_after bytes (c ∷ []) i j u h.spans.from h.spans.to h.stands in omega arith
 
 module _ {A : Type 0} where
   -- up to the last token stands a gap

@@ -1,5 +1,5 @@
 -- What a parser has read between two of its states.
-use Rattle.std.specs.Prelude.{ℕ, ◌≡◌, ◌≤◌, List}
+use Rattle.std.specs.Prelude.{◌≡◌, ◌≤◌}
 use Rattle.jsonc_ast.specs.declared.context.Context.{Context}
 use Rattle.jsonc_ast.specs.Context.{text_in, options_in, token_start, token_end}
 use Rattle.jsonc_ast.specs.Located.{Located, range_at, IsLocated, IsNamed}

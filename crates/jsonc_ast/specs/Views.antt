@@ -1,5 +1,5 @@
 -- What the values of `ast` stand for.
-use Rattle.std.specs.Prelude.{ℕ, List, [], ◌∷◌, map, chars}
+use Rattle.std.specs.Prelude.{List, [], ◌∷◌, map, chars}
 use Rattle.std.specs.Cow.{cow_str_bytes}
 use Rattle.jsonc_text.specs.declared.common.Range.{Range}
 use Rattle.jsonc_text.specs.Plain.{Plain, null, boolean, number, string}

@@ -1,4 +1,4 @@
-//! Places and ranges: positions of bytes in a text.
+//! Places and ranges: positions in a text, counted in bytes of UTF-8 from 0.
 ghost use Rattle.std.specs.Prelude.{◌≡◌, ◌+◌, ◌-◌, ◌≤◌, slice_range};
 ghost use Rattle.jsonc_text.specs.declared.common.Range.{Range};
 ghost use Rattle.jsonc_text.specs.Text.{Spans};
@@ -13,6 +13,7 @@ pub struct Range {
 }
 
 impl Range {
+    /// The range from one place up to, without, another.
     pub fn new(start: usize, end: usize) -> Range
         ensures start { result.start ≡ start }
         ensures end { result.end ≡ end }
@@ -29,10 +30,11 @@ impl Range {
     }
 }
 
-/// What has a range in a text.
+/// What covers a range of a text.
 pub trait Ranged {
     ghost range_of: { Self → Range };
 
+    /// The bytes of the text that it covers.
     fn range(&self) -> Range
         ensures { result ≡ range_of self.now };
 

@@ -1,4 +1,4 @@
-//! What can be wrong with a text, and where.
+//! What can be wrong with a text, and where. Each fault is told of a range of bytes and prints as one line, as `Expected comma on line 3 column 7`.
 ghost use Rattle.std.specs.Prelude.{◌≡◌, ◌≢◌, ◌++◌, Some};
 ghost use Rattle.std.specs.Fmt.{decimal};
 ghost use Rattle.std.specs.Prelude.{codes};
@@ -6,13 +6,17 @@ ghost use Rattle.jsonc_text.specs.Messages.{string_kind_text, kind_text, surroga
 
 use crate::common::Range;
 use crate::line::line_and_column;
+use std::error::Error;
 use std::fmt;
 
-/// Why an escape is no character.
-#[derive(Clone, Copy, Debug, PartialEq, Eq, Drop)]
+/// Why four hex digits after `\u` stand for no character.
+#[derive(Clone, Copy, Debug, PartialEq, Eq, Hash, Drop)]
 pub enum SurrogateFault {
+    /// The first half of a pair, which no `\u` follows.
     UnpairedHighSurrogate,
+    /// The first half of a pair, which `\u` and four digits of no second half follow.
     HighSurrogateNotFollowedByLowSurrogate,
+    /// The second half of a pair, which stands alone.
     UnpairedLowSurrogate,
 }
 
@@ -31,15 +35,23 @@ impl SurrogateFault {
 }
 
 /// What is wrong with a string.
-#[derive(Clone, Copy, Debug, PartialEq, Eq, Drop)]
+#[derive(Clone, Copy, Debug, PartialEq, Eq, Hash, Drop)]
 pub enum ParseStringErrorKind {
+    /// `\"` between single quotes, where only the escapes of JSON are taken.
     InvalidEscapeInSingleQuoteString,
+    /// `\'` between double quotes, where only the escapes of JSON are taken.
     InvalidEscapeInDoubleQuoteString,
+    /// `\u` without four hex digits after it.
     ExpectedFourHexDigits,
+    /// `\x` without two hex digits after it.
     ExpectedTwoHexDigits,
+    /// `\u` with four hex digits, these as they are written, that stand for no character, and why.
     InvalidUnicodeEscapeSequence([u8; 4], SurrogateFault),
+    /// A backslash before anything else that it may not stand before.
     InvalidEscape,
+    /// No closing quote before the end of the text.
     UnterminatedStringLiteral,
+    /// No memory for the decoded string.
     OutOfMemory,
 }
 
@@ -75,36 +87,66 @@ impl fmt::Display for ParseStringErrorKind {
     }
 }
 
+impl Error for ParseStringErrorKind {}
+
 /// What is wrong with a text.
 #[derive(Clone, Copy, Debug, PartialEq, Eq, Drop)]
 pub enum ParseErrorKind {
+    /// A number that begins or ends with its decimal point, where the options forbid it.
     BareDecimalPointNumbersNotAllowed,
+    /// A comment, where the options forbid it.
     CommentsNotAllowed,
+    /// No `:` after the name of a property.
     ExpectedColonAfterObjectKey,
+    /// The text ends after the `:` of a property.
     ExpectedObjectValue,
+    /// No digit after `0x`, `0X` or the sign of an exponent.
     ExpectedDigit,
+    /// No number after a sign, whichever of the two.
     ExpectedDigitFollowingNegativeSign,
+    /// No exponent after `e` or `E`.
     ExpectedPlusMinusOrDigitInNumberLiteral,
+    /// A name of a property that is no string, where the options forbid it.
     ExpectedStringObjectProperty,
+    /// A hexadecimal number, where the options forbid it.
     HexadecimalNumbersNotAllowed,
+    /// No comma between two neighbours, where the options ask for it.
     ExpectedComma,
+    /// More after the value of the text.
     MultipleRootJsonValues,
+    /// `Infinity` or `NaN` with a sign, where the options forbid it.
     NonFiniteNumbersNotAllowed,
+    /// A string in single quotes, where the options forbid it.
     SingleQuotedStringsNotAllowed,
+    /// A fault inside a string.
     String(ParseStringErrorKind),
+    /// A comma after the last element or property, where the options forbid it.
     TrailingCommasNotAllowed,
+    /// A number with a plus sign, where the options forbid it.
     UnaryPlusNumbersNotAllowed,
+    /// A `}` where a value must stand.
     UnexpectedCloseBrace,
+    /// A `]` where a value must stand.
     UnexpectedCloseBracket,
+    /// A `:` where a value must stand.
     UnexpectedColon,
+    /// A `,` where a value must stand.
     UnexpectedComma,
+    /// A character that begins no token, or a word before a character that may not follow it.
     UnexpectedToken,
+    /// Punctuation where the name of a property must stand.
     UnexpectedTokenInObject,
+    /// A word where a value must stand.
     UnexpectedWord,
+    /// The text ends inside an array.
     UnterminatedArray,
+    /// No `*/` before the end of the text.
     UnterminatedCommentBlock,
+    /// The text ends inside an object.
     UnterminatedObject,
+    /// Values nested deeper than is taken.
     NestingDepthExceeded,
+    /// Memory was refused. It is told of no bytes: range 0 to 0, line 1, column 1.
     OutOfMemory,
 }
 
@@ -189,11 +231,15 @@ impl fmt::Display for ParseError {
     }
 }
 
+impl Error for ParseError {}
+
 impl ParseError {
     ghost use Rattle.jsonc_text.specs.Faults.{range_of, line_of, column_of, kind_of, IsFault, IsOutOfMemory};
     ghost use Rattle.jsonc_text.specs.Text.{Spans};
 
-    /// A fault of a text, told of these bytes of it.
+    /// A fault of the text, told of these bytes of it: line and column are those of the range's start.
+    ///
+    /// It takes no memory, and time in proportion to the range's start.
     pub fn new(range: Range, kind: ParseErrorKind, text: &str) -> ParseError
         requires range { Spans text.now range.start range.end }
         requires kind { kind ≢ ParseErrorKind.OutOfMemory }

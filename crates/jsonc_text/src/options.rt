@@ -66,23 +66,12 @@ impl Default for ParseOptions {
     fn default() -> Self
         ensures { parse_options result ≡ all_on }
     {
-        ParseOptions {
-            allow_comments: true,
-            allow_loose_object_property_names: true,
-            allow_trailing_commas: true,
-            allow_missing_commas: true,
-            allow_single_quoted_strings: true,
-            allow_hexadecimal_numbers: true,
-            allow_unary_plus_numbers: true,
-            allow_bare_decimal_point_numbers: true,
-            allow_non_finite_numbers: true,
-            allow_extended_string_escapes: true,
-        }
+        ParseOptions::of_scanner(&ScannerOptions::default())
     }
 }
 
 impl ParseOptions {
-    /// The options of a parser that looks at these of a scanner, and takes all else.
+    /// A scanner's options, with all else on.
     pub fn of_scanner(options: &ScannerOptions) -> ParseOptions
         ensures { parse_options result ≡ scanner_options options.now }
     {

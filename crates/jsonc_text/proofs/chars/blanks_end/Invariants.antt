@@ -1,14 +1,13 @@
-use Rattle.std.proofs.Common.{ℕ, ◌+◌, ◌-◌, ◌<◌, ◌≤◌, ◌≡◌, List, IsTrue, IsCharBoundary, length}
-use Rattle.jsonc_text.specs.Text.{Many, rest, next, no}
+use Rattle.std.proofs.Common.{ℕ, ◌+◌, ◌-◌, ◌<◌, ◌≡◌, List, IsTrue, length}
+use Rattle.jsonc_text.specs.Text.{rest, next, no}
 use Rattle.jsonc_text.specs.Chars.{Steps}
 use Rattle.jsonc_text.specs.Gaps.{is_blank}
+use Rattle.jsonc_text.proofs.Runs.{Passes}
 use Rattle.jsonc_text.proofs.chars.blanks_end.Given as goal
 
 -- blanks so far, and what the length says of the blank at the place
 pub record Skips (text : List ℕ) (start place len : ℕ) : Type 0 where
-  pub boundary : IsCharBoundary text place
-  pub order : start ≤ place
-  pub blanks : Many is_blank (rest text start) (rest text place)
+  pub blanks : Passes is_blank text start place
   pub none : len ≡ 0 → IsTrue (no is_blank (next (rest text place)))
   pub some : 0 < len → (c : ℕ) × IsTrue (is_blank c) × Steps text place c (place + len)
 

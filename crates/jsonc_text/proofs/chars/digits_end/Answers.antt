@@ -1,25 +1,17 @@
-use Rattle.std.proofs.Common.{arith, sym, ◌∙◌}
-use Rattle.jsonc_text.specs.Text.{stop, is_digit}
-use Rattle.jsonc_text.proofs.Steps.{many_step, steps_ascii, no_at_end}
+use Rattle.std.proofs.Common.{sym, ◌∙◌}
+use Rattle.jsonc_text.specs.Text.{is_digit}
+use Rattle.jsonc_text.proofs.Steps.{no_at_end}
 use Rattle.jsonc_text.proofs.Ascii.{ascii_no, digit_small}
+use Rattle.jsonc_text.proofs.Runs.{passes_none, passes_ascii}
 use Rattle.jsonc_text.proofs.chars.digits_end.Goals as goal
 
 pub loop-place-init : goal.loop-place-init
-loop-place-init c = (c.as_bytes-bytes.ensures.value, record { boundary = c.requires; order = omega arith; digits = stop })
+loop-place-init c = (c.as_bytes-bytes.ensures.value, passes_none is_digit _ _ c.requires)
 
 pub loop-place-preserved : goal.loop-place-preserved
 loop-place-preserved c =
     let same = c.as_bytes-bytes.ensures.value in
-    let here = rw same at c.loop-place-test.true in
-    let digit = rw same at (sym c.is_ascii_digit.ensures.value ∙ c.if-is_ascii_digit.true) in
-    let small = digit_small _ digit in (
-      same,
-      record {
-        boundary = (steps_ascii _ _ c.utf8.text here small).1;
-        order = omega (arith, c.loop-place.invariant.1.order);
-        digits = many_step is_digit _ _ _ c.utf8.text here small digit c.loop-place.invariant.1.digits;
-      },
-    )
+    (same, passes_ascii is_digit _ _ _ digit_small c.utf8.text c.loop-place.invariant.1 (rw same at c.loop-place-test.true) (rw same at (sym c.is_ascii_digit.ensures.value ∙ c.if-is_ascii_digit.true)))
 
 pub returns-else-is_ascii_digit-clause-all : goal.returns-else-is_ascii_digit-clause-all
 returns-else-is_ascii_digit-clause-all c =
@@ -27,5 +19,4 @@ returns-else-is_ascii_digit-clause-all c =
     ascii_no is_digit digit_small _ _ c.utf8.text c.loop-place.invariant.1.boundary (rw same at c.loop-place-test.true) (rw same at (sym c.is_ascii_digit.ensures.value ∙ c.if-is_ascii_digit.false))
 
 pub returns-after-loop-place-clause-all : goal.returns-after-loop-place-clause-all
-returns-after-loop-place-clause-all c =
-    no_at_end is_digit c.args.text.now c.loop-place.place (rw c.as_bytes-bytes.ensures.value at c.loop-place-test.false)
+returns-after-loop-place-clause-all c = no_at_end is_digit c.args.text.now c.loop-place.place (rw c.as_bytes-bytes.ensures.value at c.loop-place-test.false)
