@@ -2,11 +2,13 @@
 use Rattle.std.proofs.Common.{ℕ, suc, ◌+◌, ◌<◌, ◌≤◌, ◌≡◌, ◌≢◌, ◌⊎◌, inl, inr, ◌∙◌, sym, ap, subst, refl, List, [], ◌∷◌, ◌++◌, length, arith, IsTrue}
 use Rattle.std.proofs.lemmas.Bool.{cases_lt, cases_eq}
 use Rattle.std.proofs.lemmas.List.{append_assoc, append-nil}
-use Rattle.jsonc_tree.specs.Content.{Content, is_container}
-use Rattle.jsonc_tree.specs.Tree.{Node, children_at, content_at, is_container_at}
+use Rattle.jsonc_tree.specs.Content.{Content, is_container, root}
+use Rattle.jsonc_tree.specs.Tree.{Node, children_at, content_at, is_container_at, IsTree}
 use Rattle.jsonc_tree.specs.OrderedTree as ordered
-use Rattle.jsonc_tree.specs.OrderedTree.{OrderedTree, followed_by, Shows, shows_none, shows_more}
-use Rattle.jsonc_layout.specs.Growth.{Pushes, AreFrom, none_from, one_from, Grows}
+use Rattle.jsonc_tree.specs.OrderedTree.{OrderedTree, followed_by, ordered_tree, Shows, shows_none, shows_more}
+use Rattle.jsonc_tree.proofs.OrderedTrees.{Shows-ordered_tree, Shows-unique}
+use Rattle.jsonc_tree.specs.Changes.{Pushes}
+use Rattle.jsonc_layout.specs.Growth.{AreFrom, none_from, one_from, Grows}
 
 from_append : {first end : ℕ} {xs ys : List ℕ} → AreFrom first end xs → AreFrom first end ys → AreFrom first end (xs ++ ys)
 from_append none_from h = h
@@ -88,3 +90,12 @@ grows_leaf {a} {b} there push = grows_below there push (grows_none b (length a))
 -- the container stays one
 pub container_kept : {a b : List Node} {c : ℕ} {row : OrderedTree} → c < length a → IsTrue (is_container_at a c) → Grows a b c row → IsTrue (is_container_at b c)
 container_kept {a} {b} {c} there h grown = ap is_container (grown.contents c there) ∙ h
+
+-- what a root without children has grown is its ordered tree
+pub grown_root : (old new : List Node) (row : OrderedTree) → length old ≡ 1 → children_at old 0 ≡ [] → IsTree new → Grows old new 0 row → ordered_tree new 0 ≡ ordered.more root row ordered.none
+grown_root old new row one bare tree grown =
+    let there : 0 < length new = omega (arith, one, grown.len) in
+    let kids : children_at new 0 ≡ grown.kids = grown.children ∙ ap (λ l. l ++ grown.kids) bare in
+    let shown : Shows new (0 ∷ []) (ordered.more (content_at new 0) row ordered.none) = shows_more (subst (λ ks. Shows new ks row) (sym kids) grown.shows) shows_none in
+    Shows-unique new (0 ∷ []) (ordered_tree new 0) (ordered.more (content_at new 0) row ordered.none) (Shows-ordered_tree new tree 0 there) shown
+    ∙ ap (λ c. ordered.more c row ordered.none) tree.root_first

@@ -22,8 +22,9 @@ use Rattle.jsonc_ast.specs.Located.{Located, LocatedItems, LocatedMembers, Locat
 use Rattle.jsonc_layout.specs.Leaves as leaves
 use Rattle.jsonc_layout.specs.Leaves.{Fills, GapLeaf}
 use Rattle.jsonc_layout.specs.Laid as laid
-use Rattle.jsonc_layout.specs.Laid.{bytes_in, is_quote, is_quote_at, FillsBetween, NameLaid, Laid, ItemsLaid, MembersLaid, PropertyLaid, DocumentLaid}
+use Rattle.jsonc_layout.specs.Laid.{bytes_in, is_quote, is_quote_at, FillsBetween, NameLaid, Laid, ItemsLaid, MembersLaid, PropertyLaid, RootLaid, DocumentLaid}
 use Rattle.jsonc_layout.proofs.GapLeaves.{fills_printed}
+use Rattle.jsonc_layout.proofs.Names.{loose_first}
 use Rattle.jsonc_tree.specs.Values.{HasNoValue, ValueOf, ItemsOf, MembersOf, PropertyOf, HoldsValue, DocumentValueOf, is_passed_over}
 use Rattle.jsonc_tree.specs.Values as values
 
@@ -188,7 +189,7 @@ quote_tests o q h = either (q == 0x22) (q == 0x27) o.single_quoted_strings h
     either false true c h = refl
     either false false c h = cc
 
-module _ (o : Options) (plain : o.loose_names ≡ false) (bytes : List ℕ) (u : IsUtf8 bytes) where
+module _ (o : Options) (bytes : List ℕ) (u : IsUtf8 bytes) where
   string_alone : {i j : ℕ} {v : List ℕ} → Spans bytes i j → IsString o (rest bytes i) v (rest bytes j) → IsString o (chars (slice_range bytes i j)) v []
   string_alone {i} {j} s h =
       (h.0, h.1, h.2, slice_chars bytes ((h.0 ∷ h.1) ++ h.0 ∷ []) i j u s.from s.to (h.3 ∙ sym (append_assoc (h.0 ∷ h.1) (h.0 ∷ []) (rest bytes j))), h.4)
@@ -199,9 +200,9 @@ module _ (o : Options) (plain : o.loose_names ≡ false) (bytes : List ℕ) (u :
 
   name_by : (r : Range) (name : List ℕ) {content : Content} → Spans bytes r.start r.end → NameLaid bytes r content → IsName o (rest bytes r.start) name (rest bytes r.end) → values.IsNameLeaf o content name
   name_by r name s (laid.quoted_name e q) (inl h) = subst (λ b. IsString o (chars b) name []) (sym e) (string_alone s h)
-  name_by r name s (laid.quoted_name e q) (inr h) = absurd (let wrong : true ≡ false = sym h.0 ∙ plain in cc)
+  name_by r name s (laid.quoted_name e q) (inr h) = absurd (let wrong : true ≡ false = sym q ∙ loose_first o h.2 (rest bytes r.start) (rest bytes r.end) h.3 h.4 in cc)
   name_by r name s (laid.word_name e q) (inl h) = absurd (let wrong : true ≡ false = sym (quote_first r.start name (rest bytes r.end) h) ∙ q in cc)
-  name_by r name s (laid.word_name e q) (inr h) = absurd (let wrong : true ≡ false = sym h.0 ∙ plain in cc)
+  name_by r name s (laid.word_name e q) (inr h) = (refl, sym (ap chars e ∙ slice_chars bytes name r.start r.end u s.from s.to h.1))
 
   mutual
     pub laid_value : {x : Located} {content : Content} {below : OrderedTree} → Laid bytes x content below → IsLocated o bytes x → ValueOf o content below (value_at x)
@@ -224,20 +225,21 @@ module _ (o : Options) (plain : o.loose_names ≡ false) (bytes : List ℕ) (u :
     laid_property : {n : LocatedName} {x : Located} {row : OrderedTree} {r : Range} → PropertyLaid bytes n x row → IsNamed o bytes n r (range_at x) → IsLocated o bytes x → PropertyOf o row n.name (value_at x)
     laid_property (laid.name_and_value {n = n} s name f x) named h = values.name_of (name_by n.range n.name s name named.name.stands) (value_pass o f.fills (values.value_of (laid_value x h) values.end))
 
+  root_value : (x : Option Located) (row : OrderedTree) → RootLaid bytes x row → IsLocatedDocument o bytes x → values.HoldsAtMostOne o row (option_map value_at x)
+  root_value None row l h = fill_has_none l.fills
+  root_value (Some x) row l h =
+      subst (λ r. HoldsValue o r (value_at x)) (sym l.4) (value_pass o l.5.fills (values.value_of (laid_value l.6 h.1) (fill_has_none l.7.fills)))
+
   -- a document that is laid out has its value
   pub document_value : (x : Option Located) (tree : OrderedTree) → DocumentLaid bytes x tree → IsLocatedDocument o bytes x → DocumentValueOf o tree (option_map value_at x)
-  document_value None tree l h = (l.0, l.1, fill_has_none l.2.fills)
-  document_value (Some x) tree l h = (followed_by l.0 (more l.3 l.2 l.1), l.4, value_pass o l.5.fills (values.value_of (laid_value l.6 h.1) (fill_has_none l.7.fills)))
+  document_value x tree l h = (l.0, l.1, root_value x l.0 l.2 h)
+
+root_prints : (o : Options) (bytes : List ℕ) → IsUtf8 bytes → (x : Option Located) (row : OrderedTree) → RootLaid bytes x row → IsLocatedDocument o bytes x → Prints bytes 0 (length bytes) row
+root_prints o bytes u None row l h = prints_fill bytes u l
+root_prints o bytes u (Some x) row l h =
+    subst (Prints bytes 0 (length bytes)) (sym l.4) (prints_append bytes (prints_fill bytes u l.5) (prints_append bytes (laid_prints bytes u o l.6 h.1) (prints_fill bytes u l.7)))
 
 -- and prints its text
 pub document_prints : (o : Options) (bytes : List ℕ) → IsUtf8 bytes → (x : Option Located) (tree : OrderedTree) → DocumentLaid bytes x tree → IsLocatedDocument o bytes x → printed tree ≡ bytes
-document_prints o bytes u x tree l h = whole x l h
-  where
-    under_root : (row : OrderedTree) → Prints bytes 0 (length bytes) row → printed (more Content.root row none) ≡ bytes
-    under_root row p = printed-more Content.root row none ∙ append-nil (printed row) ∙ p.text ∙ take_all (length bytes - 0) bytes (omega arith)
-
-    whole : (x : Option Located) → DocumentLaid bytes x tree → IsLocatedDocument o bytes x → printed tree ≡ bytes
-    whole None l h = ap printed l.1 ∙ under_root l.0 (prints_fill bytes u l.2)
-    whole (Some x) l h =
-        ap printed l.4
-        ∙ under_root (followed_by l.0 (more l.3 l.2 l.1)) (prints_append bytes (prints_fill bytes u l.5) (prints_append bytes (laid_prints bytes u o l.6 h.1) (prints_fill bytes u l.7)))
+document_prints o bytes u x tree l h =
+    ap printed l.1 ∙ printed-more Content.root l.0 none ∙ append-nil (printed l.0) ∙ (root_prints o bytes u x l.0 l.2 h).text ∙ take_all (length bytes - 0) bytes (omega arith)

@@ -1,5 +1,6 @@
 -- A located value, variant by variant.
-use Rattle.std.proofs.Common.{◌≡◌, rules, chars}
+use Rattle.std.proofs.Common.{ℕ, ◌≡◌, ◌<◌, ◌≤◌, ◌∙◌, sym, ap, rules, chars, List, length, get_or, arith}
+use denote.Param.Weighed.{most, at_most}
 use Rattle.std.specs.Cow.{cow_str_bytes}
 use Rattle.jsonc_text.specs.Plain.{null, boolean, number, string}
 use Rattle.jsonc_ast.specs.Located.{leaf_at, array_at, object_at}
@@ -8,12 +9,12 @@ use Rattle.jsonc_ast.specs.declared.ast.StringLit.{StringLit}
 use Rattle.jsonc_ast.specs.declared.ast.NumberLit.{NumberLit}
 use Rattle.jsonc_ast.specs.declared.ast.BooleanLit.{BooleanLit}
 use Rattle.jsonc_ast.specs.declared.ast.NullKeyword.{NullKeyword}
-use Rattle.jsonc_ast.specs.declared.ast.Value.{Value, the_lemmas}
+use Rattle.jsonc_ast.specs.declared.ast.Value.{Value, size-Value, the_lemmas}
 use Rattle.jsonc_ast.specs.declared.ast.Value as value
 use Rattle.jsonc_ast.specs.declared.ast.Array.{Array}
 use Rattle.jsonc_ast.specs.declared.ast.Object.{Object}
 use Rattle.jsonc_ast.specs.declared.ast.Object as object_parts
-use Rattle.jsonc_ast.specs.declared.ast.ObjectProp.{ObjectProp}
+use Rattle.jsonc_ast.specs.declared.ast.ObjectProp.{ObjectProp, size-ObjectProp}
 
 pub view-Array : {A : Type 0} (a : Array A) → located (value.Array a) ≡ array_at a.range (items_located a.elements.items)
 view-Array a = search (rules, the_lemmas)
@@ -35,3 +36,16 @@ view-NullKeyword A n = search (rules, the_lemmas)
 
 pub view-property : {A : Type 0} (p : ObjectProp A) → member_of p ≡ record { range = p.range; name = name_at p.name; value = located p.value }
 view-property p = search (rules, the_lemmas)
+
+-- what is inside is less deep
+pub size-Array : (A : Type 0) (a : Array A) → most (λ x. size-Value A x) a.elements.items < size-Value A (value.Array a)
+size-Array A a = search (rules, the_lemmas)
+
+pub size-Object : (A : Type 0) (o : Object A) → most (λ x. size-ObjectProp A x) (object_parts.out-Object A o).properties.items < size-Value A (value.Object o)
+size-Object A o = search (rules, the_lemmas)
+
+pub size-element : (A : Type 0) (vs : List (Value A)) (i : ℕ) (v : Value A) → i < length vs → v ≡ get_or vs i v → size-Value A v ≤ most (λ x. size-Value A x) vs
+size-element A vs i v h e = let within = at_most (λ x. size-Value A x) vs i v h in omega (arith, within, ap (λ x. size-Value A x) e)
+
+pub size-member : (A : Type 0) (ps : List (ObjectProp A)) (i : ℕ) (p : ObjectProp A) → i < length ps → p ≡ get_or ps i p → size-ObjectProp A p ≤ most (λ x. size-ObjectProp A x) ps
+size-member A ps i p h e = let within = at_most (λ x. size-ObjectProp A x) ps i p h in omega (arith, within, ap (λ x. size-ObjectProp A x) e)

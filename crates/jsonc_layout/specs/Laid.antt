@@ -1,11 +1,12 @@
 -- How a text and its syntax tree lie in an ordered tree: each value and name is a leaf with the text as written or a container, and what stands between them is leaves of its own.
 use Rattle.std.specs.Prelude.{ℕ, ◌≡◌, Bool, true, false, ◌||◌, ◌==◌, List, [], Option, Some, None, length, chars, slice_range}
 use Rattle.jsonc_text.specs.declared.common.Range.{Range}
+use Rattle.jsonc_text.specs.Options.{Options}
 use Rattle.jsonc_text.specs.Text.{next, starts, rest, Spans, Many}
 use Rattle.jsonc_text.specs.Plain.{Plain}
 use Rattle.jsonc_tree.specs.Content.{Content}
 use Rattle.jsonc_tree.specs.OrderedTree.{OrderedTree, none, more, followed_by}
-use Rattle.jsonc_ast.specs.Located.{Located, LocatedItems, LocatedMembers, LocatedName, Between, leaf_at, array_at, object_at, no_items_at, item_at, no_members_at, member_at, range_at}
+use Rattle.jsonc_ast.specs.Located.{Located, LocatedItems, LocatedMembers, LocatedName, Between, leaf_at, array_at, object_at, no_items_at, item_at, no_members_at, member_at, range_at, IsLocatedDocument}
 use Rattle.jsonc_layout.specs.Leaves.{Fills, is_filling}
 
 -- the bytes of a range
@@ -54,11 +55,15 @@ mutual
     name_and_value : {n : LocatedName} {x : Located} {row below : OrderedTree} {name content : Content} → Spans bytes n.range.start n.range.end → NameLaid bytes n.range name → FillsBetween bytes n.range.end (range_at x).start row → Laid bytes x content below → PropertyLaid bytes n x (more name none (followed_by row (more content below none)))
 
 -- the leaves of a text without a value; or those before the value, the value, and those after it
-abbrev pub DocumentLaid : List ℕ → Option Located → OrderedTree → Type 0
-DocumentLaid bytes None tree = (row : OrderedTree) × (tree ≡ more Content.root row none) × FillsBetween bytes 0 (length bytes) row
-DocumentLaid bytes (Some x) tree =
-    (before after below : OrderedTree) × (content : Content) × (tree ≡ more Content.root (followed_by before (more content below after)) none)
+abbrev pub RootLaid : List ℕ → Option Located → OrderedTree → Type 0
+RootLaid bytes None row = FillsBetween bytes 0 (length bytes) row
+RootLaid bytes (Some x) row =
+    (before after below : OrderedTree) × (content : Content) × (row ≡ followed_by before (more content below after))
     × FillsBetween bytes 0 (range_at x).start before × Laid bytes x content below × FillsBetween bytes (range_at x).end (length bytes) after
+
+-- they stand below a root
+abbrev pub DocumentLaid : List ℕ → Option Located → OrderedTree → Type 0
+DocumentLaid bytes x tree = (row : OrderedTree) × (tree ≡ more Content.root row none) × RootLaid bytes x row
 
 -- between two places of a text stand only blanks, brackets, commas and colons
 abbrev pub IsFillable : List ℕ → ℕ → ℕ → Type 0
@@ -86,3 +91,7 @@ CanLayProperty bytes n x = Spans bytes n.range.start n.range.end × IsFillable b
 abbrev pub CanLayDocument : List ℕ → Option Located → Type 0
 CanLayDocument bytes None = IsFillable bytes 0 (length bytes)
 CanLayDocument bytes (Some x) = IsFillable bytes 0 (range_at x).start × CanLay bytes x × IsFillable bytes (range_at x).end (length bytes)
+
+-- the text has this located value, or none, and no comments
+abbrev pub HasNoComments : List ℕ → Option Located → Type 0
+HasNoComments bytes x = (o : Options) × (o.comments ≡ false) × IsLocatedDocument o bytes x

@@ -11,7 +11,6 @@ ghost use Rattle.jsonc_tree.specs.Tree.{is_container_at};
 ghost use Rattle.jsonc_layout.specs.Growth.{Grows};
 ghost use Rattle.jsonc_layout.specs.Leaves.{Fills, GapLeaf, LeafAt, is_filling, is_inner_blank};
 
-use crate::push::push_child;
 use jsonc_tree::{CstNewlineKind, Kind, Tree};
 use std::alloc::{AllocError, Allocator};
 
@@ -124,7 +123,7 @@ pub(crate) fn fill<A: Allocator + Copy>(
     let mut place = 0;
     'leaves: while let Some(c) = char_at(text, place) {
         let (kind, end) = leaf_at(alloc, text, place, c)?;
-        push_child(tree, container, kind)?;
+        tree.push_child(container, kind)?;
         place = end;
     }
     Ok(())

@@ -1,6 +1,7 @@
 //! The tree of a text: from the text and its syntax tree, a [`Tree`](jsonc_tree::Tree) whose leaves are every byte of the text.
 #![tactic(auto)]
 
-mod build;
+mod builder;
 mod fill;
-mod push;
+
+pub use builder::build;

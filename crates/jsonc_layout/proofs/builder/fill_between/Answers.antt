@@ -4,7 +4,7 @@ use Rattle.jsonc_text.specs.Text.{Many}
 use Rattle.jsonc_text.proofs.Cuts.{chars_between}
 use Rattle.jsonc_layout.specs.Leaves.{Fills, is_filling}
 use Rattle.jsonc_layout.proofs.Texts.{many_alone}
-use Rattle.jsonc_layout.proofs.build.fill_between.Goals as goal
+use Rattle.jsonc_layout.proofs.builder.fill_between.Goals as goal
 
 pub fill-requires-clause-filling : goal.fill-requires-clause-filling
 fill-requires-clause-filling g c =

@@ -1,15 +1,17 @@
 //! From a syntax tree to the tree of its text.
-ghost use Rattle.std.specs.Prelude.{◌≡◌, ◌<◌, IfOk, IsTrue, OnOk, IsCharBoundary, length, slice_range, string_bytes};
+ghost use Rattle.std.specs.Prelude.{◌≡◌, ◌<◌, IfOk, IsTrue, OnOk, IsCharBoundary, length, option_map, slice_range, string_bytes};
+ghost use Rattle.jsonc_text.specs.Options.{Options};
 ghost use Rattle.jsonc_text.specs.Text.{Spans};
 ghost use Rattle.jsonc_tree.specs.Content.{Content};
-ghost use Rattle.jsonc_tree.specs.OrderedTree.{OrderedTree, more, none};
-ghost use Rattle.jsonc_tree.specs.Tree.{is_container_at};
-ghost use Rattle.jsonc_ast.specs.Views.{items_located, located, members_located, member_of};
+ghost use Rattle.jsonc_tree.specs.OrderedTree.{OrderedTree, more, none, ordered_tree, printed};
+ghost use Rattle.jsonc_tree.specs.Values.{DocumentValueOf};
+ghost use Rattle.jsonc_tree.specs.Tree.{is_container_at, IsTree};
+ghost use Rattle.jsonc_ast.specs.Located.{IsLocatedDocument};
+ghost use Rattle.jsonc_ast.specs.Views.{items_located, located, members_located, member_of, plain};
 ghost use Rattle.jsonc_layout.specs.Growth.{Grows};
-ghost use Rattle.jsonc_layout.specs.Laid.{CanLay, CanLayItems, CanLayMembers, CanLayProperty, FillsBetween, IsFillable, ItemsLaid, Laid, MembersLaid, NameLaid, PropertyLaid, is_quote_at};
+ghost use Rattle.jsonc_layout.specs.Laid.{CanLay, CanLayDocument, CanLayItems, CanLayMembers, CanLayProperty, DocumentLaid, FillsBetween, HasNoComments, IsFillable, ItemsLaid, Laid, MembersLaid, NameLaid, PropertyLaid, RootLaid, is_quote_at};
 
 use crate::fill::{char_at, fill};
-use crate::push::push_child;
 use jsonc_ast::ast::{ObjectProp, Value};
 use jsonc_text::common::{Range, Ranged};
 use jsonc_tree::{Kind, Tree};
@@ -66,10 +68,10 @@ fn build_name<A: Allocator + Copy>(
 {
     let name = written(alloc, text, range)?;
     if is_quote_at(text, range.start) {
-        push_child(tree, container, Kind::String(name))?;
+        tree.push_child(container, Kind::String(name))?;
         return Ok(());
     }
-    push_child(tree, container, Kind::Word(name))?;
+    tree.push_child(container, Kind::Word(name))?;
     Ok(())
 }
 
@@ -90,28 +92,28 @@ fn build_value<A: Allocator + Copy>(
     match value {
         Value::StringLit(value) => {
             let text = written(alloc, text, value.range)?;
-            push_child(tree, container, Kind::String(text))?;
+            tree.push_child(container, Kind::String(text))?;
             Ok(())
         }
         Value::NumberLit(value) => {
             let text = written(alloc, text, value.range)?;
-            push_child(tree, container, Kind::Number(text))?;
+            tree.push_child(container, Kind::Number(text))?;
             Ok(())
         }
         Value::BooleanLit(value) => {
-            push_child(tree, container, Kind::Boolean(value.value))?;
+            tree.push_child(container, Kind::Boolean(value.value))?;
             Ok(())
         }
         Value::NullKeyword(_) => {
-            push_child(tree, container, Kind::Null)?;
+            tree.push_child(container, Kind::Null)?;
             Ok(())
         }
         Value::Array(array) => {
-            let node = push_child(tree, container, Kind::Array)?;
+            let node = tree.push_child(container, Kind::Array)?;
             build_elements(tree, node, alloc, text, &array.elements, array.range)
         }
         Value::Object(object) => {
-            let node = push_child(tree, container, Kind::Object)?;
+            let node = tree.push_child(container, Kind::Object)?;
             build_properties(tree, node, alloc, text, &object.properties, object.range)
         }
     }
@@ -161,7 +163,7 @@ fn build_properties<A: Allocator + Copy>(
     for property in properties {
         let range = property.range();
         fill_between(tree, container, alloc, text, from, range.start)?;
-        let node = push_child(tree, container, Kind::Property)?;
+        let node = tree.push_child(container, Kind::Property)?;
         build_property(tree, node, alloc, text, property)?;
         from = range.end;
     }
@@ -187,4 +189,50 @@ fn build_property<A: Allocator + Copy>(
     build_name(tree, container, alloc, text, name)?;
     fill_between(tree, container, alloc, text, name.end, value.start)?;
     build_value(tree, container, alloc, text, &property.value)
+}
+
+// Adds the leaves of a text, and its value, if it has one, to the root.
+fn build_root<A: Allocator + Copy>(
+    tree: &mut Tree<A>,
+    alloc: A,
+    text: &str,
+    value: Option<&Value<'_, A>>,
+) -> Result<(), AllocError>
+    requires there { 0 < length tree.old.nodes }
+    requires container { IsTrue (is_container_at tree.old.nodes 0) }
+    requires lies { CanLayDocument text.now (option_map (λ v. located v.now) value) }
+    ensures { OnOk result ((row : OrderedTree) × Grows tree.old.nodes tree.new.nodes 0 row × RootLaid text.now (option_map (λ v. located v.now) value) row) }
+{
+    let Some(value) = value else {
+        fill_between(tree, 0, alloc, text, 0, text.len())?;
+        return Ok(());
+    };
+    let range = value.range();
+    fill_between(tree, 0, alloc, text, 0, range.start)?;
+    build_value(tree, 0, alloc, text, value)?;
+    fill_between(tree, 0, alloc, text, range.end, text.len())?;
+    Ok(())
+}
+
+/// The tree of a text without comments, from the text and its value.
+///
+/// Its leaves joined are the text. A string, number or word is a leaf with its text as written, `true`,
+/// `false` and `null` are leaves; arrays, objects and properties are containers. Between them each line
+/// end is a leaf, the blanks from one to the next are one, and so is each bracket, comma and colon.
+/// The only error is want of memory.
+pub fn build<A: Allocator + Copy>(
+    alloc: A,
+    text: &str,
+    value: Option<&Value<'_, A>>,
+) -> Result<Tree<A>, AllocError>
+    requires { HasNoComments text.now (option_map (λ v. located v.now) value) }
+    ensures laid { IfOk result (λ tree. DocumentLaid text.now (option_map (λ v. located v.now) value) (ordered_tree tree.nodes 0)) }
+    ensures printed { IfOk result (λ tree. printed (ordered_tree tree.nodes 0) ≡ text.now) }
+    ensures value { (o : Options) → IsLocatedDocument o text.now (option_map (λ v. located v.now) value) → IfOk result (λ tree. DocumentValueOf o (ordered_tree tree.nodes 0) (option_map (λ v. plain v.now) value)) }
+    ensures tree { IfOk result (λ tree. IsTree tree.nodes) }
+{
+    let mut tree = Tree::new(alloc)?;
+    build_root(&mut tree, alloc, text, value)?;
+    let _ = tree.len();
+    Ok(tree)
 }

@@ -1,7 +1,7 @@
 use Rattle.std.proofs.Common.{drop}
 use Rattle.jsonc_ast.specs.Views.{items_located, members_located}
 use Rattle.jsonc_layout.proofs.Building.{ElementsBuilt, PropertiesBuilt}
-use Rattle.jsonc_layout.proofs.build.+build.Given as goal
+use Rattle.jsonc_layout.proofs.builder.+build.Given as goal
 
 abbrev pub invariant-build_elements-loop-element : goal.invariant-build_elements-loop-element
 invariant-build_elements-loop-element g l =

@@ -1,0 +1,21 @@
+-- What a document is: its ordered tree, and what it prints.
+use Rattle.std.specs.Prelude.{ℕ, List, codes}
+use Rattle.jsonc_tree.specs.OrderedTree.{OrderedTree, ordered_tree, printed}
+use Rattle.jsonc_parser.specs.declared.cst.CstRootNode.{CstRootNode}
+use Rattle.jsonc_parser.specs.declared.cst.EditError.{EditError}
+use Rattle.jsonc_parser.specs.declared.cst.EditError.TheVariants.{OutOfMemory, MissingBrackets, MissingName, NoSuchPlace}
+
+abbrev pub edit_error_text : EditError → List ℕ
+edit_error_text OutOfMemory = codes "Out of memory"
+edit_error_text MissingBrackets = codes "Missing brackets"
+edit_error_text MissingName = codes "Missing name"
+edit_error_text NoSuchPlace = codes "No such place"
+
+module _ {A : Type 0} where
+  -- the ordered tree of a document
+  abbrev pub tree_of : CstRootNode A → OrderedTree
+  tree_of d = ordered_tree d.tree.nodes 0
+
+  -- the bytes that a document prints
+  abbrev pub printed_of : CstRootNode A → List ℕ
+  printed_of d = printed (tree_of d)

@@ -1,0 +1,102 @@
+//! The document: the tree of a text, in which every byte of it stands.
+ghost use Rattle.std.specs.Prelude.{◌≡◌, IfErr, IfOk, Option, Some, chars, false, string_bytes};
+ghost use Rattle.jsonc_text.specs.Faults.{IsFault};
+ghost use Rattle.jsonc_text.specs.Grammar.{IsDocument};
+ghost use Rattle.jsonc_text.specs.OptionsOf.{parse_options};
+ghost use Rattle.jsonc_text.specs.Plain.{Plain};
+ghost use Rattle.jsonc_tree.specs.Values.{DocumentValueOf};
+ghost use Rattle.jsonc_parser.specs.Document.{edit_error_text, printed_of, tree_of};
+
+use jsonc_ast::collect::{CollectOptions, CommentCollectionStrategy};
+use jsonc_ast::parse_to_ast;
+use jsonc_layout::build;
+use jsonc_text::errors::ParseError;
+use jsonc_text::options::ParseOptions;
+use jsonc_tree::Tree;
+use std::alloc::Allocator;
+use std::error::Error;
+use std::fmt;
+
+pub use jsonc_tree::CstNewlineKind;
+
+/// Why a document was not changed.
+#[derive(Clone, Copy, Debug, PartialEq, Eq, Drop)]
+pub enum EditError {
+    /// There was not enough memory.
+    OutOfMemory,
+    /// A container has lost a bracket.
+    MissingBrackets,
+    /// A property has lost its name.
+    MissingName,
+    /// There is no such place.
+    NoSuchPlace,
+}
+
+impl fmt::Display for EditError {
+    ghost output = { λ e. Some (edit_error_text e) };
+
+    fn fmt<W: fmt::Write>(&self, f: &mut fmt::Formatter<W>) -> fmt::Result {
+        match self {
+            EditError::OutOfMemory => f.write_str("Out of memory"),
+            EditError::MissingBrackets => f.write_str("Missing brackets"),
+            EditError::MissingName => f.write_str("Missing name"),
+            EditError::NoSuchPlace => f.write_str("No such place"),
+        }
+    }
+}
+
+impl Error for EditError {}
+
+/// A document: a text that keeps its every byte, blanks and commas too.
+#[derive(Drop)]
+pub struct CstRootNode<A: Allocator> {
+    tree: Tree<A>,
+    alloc: A,
+}
+
+impl<A: Allocator + Copy> CstRootNode<A> {
+    /// Reads a document from its text.
+    ///
+    /// The document prints as the text was written. The error says what is wrong with the text, in which
+    /// of its bytes, and in which line and column; want of memory is an error too. The options allow no
+    /// comments.
+    pub fn parse(
+        alloc: A,
+        text: &str,
+        options: &ParseOptions,
+    ) -> Result<CstRootNode<A>, ParseError>
+        requires { (parse_options options.now).comments ≡ false }
+        ensures printed { IfOk result (λ d. printed_of d ≡ text.now) }
+        ensures value { IfOk result (λ d. (w : Option Plain) × IsDocument (parse_options options.now) (chars text.now) w × DocumentValueOf (parse_options options.now) (tree_of d) w) }
+        ensures fault { IfErr result (IsFault text.now) }
+    {
+        let collect = CollectOptions {
+            comments: CommentCollectionStrategy::AsTokens,
+            tokens: false,
+        };
+        let parsed = parse_to_ast(alloc, text, &collect, options)?;
+        let Ok(tree) = build(alloc, text, parsed.value.as_ref()) else {
+            return Err(ParseError::out_of_memory());
+        };
+        Ok(CstRootNode { tree, alloc })
+    }
+
+    /// The document's text.
+    pub fn text(&self) -> Result<String<A>, EditError>
+        ensures { IfOk result (λ s. string_bytes s ≡ printed_of self.now) }
+    {
+        let Ok(text) = self.tree.to_string(self.alloc) else {
+            return Err(EditError::OutOfMemory);
+        };
+        Ok(text)
+    }
+}
+
+/// Writes the document as its text.
+impl<A: Allocator> fmt::Display for CstRootNode<A> {
+    ghost output = { λ d. Some (printed_of d) };
+
+    fn fmt<W: fmt::Write>(&self, f: &mut fmt::Formatter<W>) -> fmt::Result {
+        self.tree.fmt(f)
+    }
+}

@@ -1,0 +1,19 @@
+//! A parser for JSON with comments, and a document that keeps every byte of its text.
+//!
+//! [`cst::CstRootNode::parse`] reads a text into a document, which prints as the text was written;
+//! [`parse_to_ast`] reads it into values with their ranges. What a text may hold beyond JSON is said by
+//! [`ParseOptions`]; what is wrong with a text, and where, by [`errors::ParseError`].
+#![tactic(auto)]
+
+pub mod cst;
+
+pub use jsonc_ast::ast;
+pub use jsonc_text::common;
+pub use jsonc_text::errors;
+pub use jsonc_text::tokens;
+
+pub use jsonc_ast::collect::{CollectOptions, CommentCollectionStrategy, ParseResult};
+pub use jsonc_ast::parse_to_ast;
+pub use jsonc_text::errors::ParseStringErrorKind;
+pub use jsonc_text::options::{ParseOptions, ScannerOptions};
+pub use jsonc_text::scanner::Scanner;
