@@ -4,7 +4,7 @@ use Rattle.jsonc_text.specs.declared.lexeme.Lexeme.{Lexeme}
 use Rattle.jsonc_text.specs.declared.lexeme.Lexeme.TheVariants.{OpenBrace, CloseBrace, OpenBracket, CloseBracket, Comma, Colon, String, Word, Boolean, Number, Null, CommentLine, CommentBlock}
 use Rattle.jsonc_text.specs.declared.lexeme.Read.{Read}
 use Rattle.jsonc_text.specs.Options.{Options}
-use Rattle.jsonc_text.specs.Lexemes.{Scanned, lexeme, line_comment, block_comment, punctuation, string, word, number, keyword, IsScanned}
+use Rattle.jsonc_text.specs.Lexemes.{Scanned, lexeme, line_comment, block_comment, punctuation, string, word, number, keyword, Lexeme as IsLexeme, IsScanned}
 use Rattle.jsonc_text.specs.Words.{boolean, null}
 use Rattle.jsonc_text.specs.Between.{Between, NoneFrom, IsWhole, IsAlone}
 use Rattle.jsonc_text.specs.Numbers.{Unsigned}
@@ -61,3 +61,7 @@ NoNames bytes start = NoneFrom (IsAlone (codes "Infinity")) bytes start × NoneF
 -- an `I` or an `N` stands at a place
 abbrev pub HasName : List ℕ → ℕ → Type 0
 HasName bytes start = IsTrue (starts (λ c. c == 0x49 || c == 0x4E) (next (rest bytes start)))
+
+-- no word stands at a place
+abbrev pub NoWord : Options → List ℕ → ℕ → Type 0
+NoWord o bytes start = (s : List ℕ) → NoneFrom (IsLexeme o (word s)) bytes start

@@ -6,7 +6,7 @@ ghost use Rattle.jsonc_text.specs.Chars.{Steps};
 ghost use Rattle.jsonc_text.specs.Letters.{is_wide_letter};
 ghost use Rattle.jsonc_text.specs.Options.{Options};
 ghost use Rattle.jsonc_text.specs.OptionsOf.{parse_options};
-ghost use Rattle.jsonc_text.specs.Reads.{IsRead, IsReadAnyhow, NoName};
+ghost use Rattle.jsonc_text.specs.Reads.{IsRead, IsReadAnyhow, NoName, NoWord};
 ghost use Rattle.jsonc_text.specs.Refusals.{IsTextFault};
 ghost use Rattle.jsonc_text.specs.Text.{rest, next, Many, Spans};
 ghost use Rattle.jsonc_text.specs.Words.{goes_on, is_in_word, begins_word, EndsWord, Keyword, IsKeyword};
@@ -208,6 +208,7 @@ pub(crate) fn read_word<'a>(
     requires keyword { (k : Keyword) → NoneFrom (IsKeyword k) text.now start }
     requires name { NoName (parse_options options.now) text.now start }
     ensures found { IfOk result (IsRead (parse_options options.now) text.now start) }
+    ensures none { IfErr result (λ _. NoWord (parse_options options.now) text.now start) }
     ensures fault { IfErr result (IsTextFault text.now) }
 {
     let end = word_end(text, start)?;
