@@ -3,7 +3,6 @@ ghost use Rattle.std.specs.Prelude.{◌+◌, IsCharBoundary, IfOk, IfErr};
 ghost use Rattle.jsonc_text.specs.Between.{NoneFrom};
 ghost use Rattle.jsonc_text.specs.Chars.{Steps};
 ghost use Rattle.jsonc_text.specs.Gaps.{IsComment};
-ghost use Rattle.jsonc_text.specs.Options.{Options};
 ghost use Rattle.jsonc_text.specs.Reads.{IsReadAnyhow};
 ghost use Rattle.jsonc_text.specs.Refusals.{IsTextFault};
 

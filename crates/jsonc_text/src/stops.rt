@@ -1,5 +1,5 @@
 //! Runs of a text up to an ASCII character, a byte at a time: no byte of a wider character is one of ASCII.
-ghost use Rattle.std.specs.Prelude.{◌+◌, ◌<◌, ◌≡◌, IsCharBoundary, IfSome, IfNone};
+ghost use Rattle.std.specs.Prelude.{◌+◌, ◌<◌, IsCharBoundary, IfSome, IfNone};
 ghost use Rattle.jsonc_text.specs.Between.{Reaches, LacksAt, NoneFrom, is_neither, HoldsBlock};
 ghost use Rattle.jsonc_text.specs.Gaps.{UpToBlockEnd};
 ghost use Rattle.jsonc_text.specs.Text.{Many};
