@@ -152,7 +152,7 @@ no_block bytes i j u b held l r h =
     let tail = encode_utf8_all r in
     let k = length a in
     let all : drop i bytes ≡ a ++ 0x2A ∷ 0x2F ∷ tail =
-        sym (rest_encodes bytes i u b) ∙ ap encode_utf8_all parts ∙ encodes-append inside.0 (0x2A ∷ 0x2F ∷ r) ∙ ap (λ t. a ++ t) (marks r) in
+    sym (rest_encodes bytes i u b) ∙ ap encode_utf8_all parts ∙ encodes-append inside.0 (0x2A ∷ 0x2F ∷ r) ∙ ap (λ t. a ++ t) (marks r) in
     let count : length bytes - i ≡ k + (2 + length tail) = omega (arith, sym (length-drop i bytes) ∙ ap length all ∙ length-append a (0x2A ∷ 0x2F ∷ tail)) in
     let star : get_or bytes (i + k) 0 ≡ 0x2A = sym (get_or-drop i bytes k 0) ∙ ap (λ t. get_or t k 0) all ∙ get_or-append_seam a 0x2A (0x2F ∷ tail) 0 in
     let slash : get_or bytes (i + (k + 1)) 0 ≡ 0x2F = sym (get_or-drop i bytes (k + 1) 0) ∙ ap (λ t. get_or t (k + 1) 0) all ∙ get_or-append-add a (0x2A ∷ 0x2F ∷ tail) 1 0 in
