@@ -1,3 +1,4 @@
+pub mod Alone
 pub mod Ascii
 pub mod Basics
 pub mod Begins
@@ -14,7 +15,7 @@ pub mod Reading
 pub mod Rows
 pub mod RowsPlaces
 pub mod RowsRefused
-pub mod Runs
+pub mod CharRuns
 pub mod SameOptions
 pub mod Steps
 pub mod StringFrames
@@ -27,4 +28,5 @@ pub mod UniqueTokens
 pub mod UniqueValues
 pub mod UniqueWords
 pub mod WideBlanks
+pub mod WiderOptions
 pub mod Words

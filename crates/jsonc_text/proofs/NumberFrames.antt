@@ -16,7 +16,7 @@ pub record Cut (R : List ℕ → List ℕ → Type 0) (t x r : List ℕ) : Type 
 cut_one : {R S : List ℕ → List ℕ → Type 0} {t x r : List ℕ} (c : ℕ) → ((a : List ℕ) → R a x → S (c ∷ a) x) → Cut R t x r → Cut S (c ∷ t) x r
 cut_one c f k = record { text = c ∷ k.text; split = ap (λ x. c ∷ x) k.split; here = f k.text k.here }
 
-many_cut : {p : ℕ → Bool} {t u : List ℕ} (x r : List ℕ) → Many p t u → u ≡ x ++ r → Cut (Many p) t x r
+pub many_cut : {p : ℕ → Bool} {t u : List ℕ} (x r : List ℕ) → Many p t u → u ≡ x ++ r → Cut (Many p) t x r
 many_cut x r stop e = record { text = x; split = e; here = stop }
 many_cut x r (step {c = c} h g) e = cut_one c (λ a k. step h k) (many_cut x r g e)
 

@@ -130,3 +130,6 @@ same_string o {q} s u r x a e f h k =
 pub string_unique : {o : Options} {t v w r s : List ℕ} → IsString o t v r → IsString o t w s → (v ≡ w) × (r ≡ s)
 string_unique {o} {r = r} {s = s} (q, u, a, e, h) (x, y, b, f, k) =
     let p : x ≡ q = heads (sym f ∙ e) in same_string o u y r s a e (rw p at f) h (rw p at k)
+
+pub decodes_unique : (o : Options) {q : ℕ} (s : List ℕ) {v w : List ℕ} → IsQuote o q → Decodes o q s v → Decodes o q s w → v ≡ w
+decodes_unique o s a h k = (pieces_unique (no_backslash o a) h k refl refl).0

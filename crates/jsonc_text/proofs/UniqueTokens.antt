@@ -10,7 +10,7 @@ use Rattle.jsonc_text.proofs.UniqueGaps.{comment_begins}
 use Rattle.jsonc_text.proofs.Begins.{begins_literal, lexeme_begins}
 use Rattle.jsonc_text.proofs.UniqueLexemes.{scanned_unique}
 
-abbrev not_blank : ℕ → Bool
+abbrev pub not_blank : ℕ → Bool
 not_blank c = not (is_blank c)
 
 literal_no_blank : (c : ℕ) → IsTrue (begins_literal c) → IsTrue (not_blank c)

@@ -9,6 +9,7 @@ is_blank c =
     (nat_lt 0x08 c && nat_lt c 0x0E) || c == 0x20 || c == 0x85 || c == 0xA0 || c == 0x1680
     || (nat_lt 0x1FFF c && nat_lt c 0x200B) || c == 0x2028 || c == 0x2029 || c == 0x202F || c == 0x205F || c == 0x3000
 
+-- no LF or CR
 abbrev pub is_in_line : ℕ → Bool
 is_in_line c = not (is_line_end c)
 
@@ -35,6 +36,7 @@ pub data BlockComment : List ℕ → List ℕ → Type 0 where
 abbrev pub HasNoEndInside : List ℕ → Type 0
 HasNoEndInside s = (a b : List ℕ) → s ++ 0x2A ∷ 0x2F ∷ [] ≡ a ++ 0x2A ∷ 0x2F ∷ b → b ≡ []
 
+-- t is a comment, and then r
 abbrev pub IsComment : List ℕ → List ℕ → Type 0
 IsComment t r = LineComment t r ⊎ BlockComment t r
 

@@ -1,4 +1,4 @@
--- Which texts have which values.
+-- Which texts have which values (RFC 8259, 2 to 5; trailing commas and names without quotes after JSON5, 3 and 4).
 use Rattle.std.specs.Prelude.{ℕ, ◌≡◌, Bool, true, false, List, [], ◌∷◌, ◌++◌, Option, Some, None, IsTrue, ◌⊎◌}
 use Rattle.jsonc_text.specs.Options.{Options, with_commas}
 use Rattle.jsonc_text.specs.Gaps.{Gap}
@@ -27,6 +27,7 @@ may_name (LexemeKind.punctuation c) = false
 abbrev pub IsLooseName : Options → List ℕ → List ℕ → List ℕ → Type 0
 IsLooseName o t name r = IsTrue o.loose_names × (t ≡ name ++ r) × (k : LexemeKind) × IsTrue (may_name k) × Lexeme o k t r
 
+-- t is a name, a string or such a lexeme, and then r
 abbrev pub IsName : Options → List ℕ → List ℕ → List ℕ → Type 0
 IsName o t name r = Lexeme o (LexemeKind.string name) t r ⊎ IsLooseName o t name r
 
@@ -68,5 +69,6 @@ abbrev pub IsDocument : Options → List ℕ → Option Plain → Type 0
 IsDocument o t None = Gap o t []
 IsDocument o t (Some v) = (u r : List ℕ) × Gap o t u × IsValue o u v r × Gap o r []
 
+-- a document where a comma stands between all neighbours
 abbrev pub IsCommaSeparated : Options → List ℕ → Option Plain → Type 0
 IsCommaSeparated o = IsDocument (with_commas o)

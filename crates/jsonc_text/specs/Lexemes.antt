@@ -1,11 +1,11 @@
 -- The lexemes of a text (RFC 8259, 2).
 use Rattle.std.specs.Prelude.{ℕ, ◌≡◌, Bool, ◌||◌, ◌==◌, List, ◌∷◌, ◌++◌, IsTrue}
 use Rattle.jsonc_text.specs.Options.{Options}
-use Rattle.jsonc_text.specs.Text.{next}
-use Rattle.jsonc_text.specs.Gaps.{LineComment, BlockComment}
-use Rattle.jsonc_text.specs.Numbers.{Number}
+use Rattle.jsonc_text.specs.Text.{next, no}
+use Rattle.jsonc_text.specs.Gaps.{LineComment, BlockComment, is_in_line}
+use Rattle.jsonc_text.specs.Numbers.{Number, MayFollow}
 use Rattle.jsonc_text.specs.Strings.{IsString}
-use Rattle.jsonc_text.specs.Words.{Keyword, IsKeyword, WordLit}
+use Rattle.jsonc_text.specs.Words.{Keyword, IsKeyword, WordLit, EndsWord, EndsThere}
 
 -- a string with what it stands for, a number and a word with their text
 pub data LexemeKind : Type 0 where
@@ -38,3 +38,13 @@ abbrev pub IsScanned : Options → Scanned → List ℕ → List ℕ → Type 0
 IsScanned o (lexeme k) t r = Lexeme o k t r
 IsScanned o (line_comment s) t r = LineComment t r × (t ≡ (0x2F ∷ 0x2F ∷ s) ++ r)
 IsScanned o (block_comment s) t r = BlockComment t r × (t ≡ (0x2F ∷ 0x2A ∷ s) ++ 0x2A ∷ 0x2F ∷ r)
+
+-- a lexeme or comment with the text s ends where r follows
+abbrev pub CanEndBefore : Scanned → List ℕ → List ℕ → Type 0
+CanEndBefore (lexeme (string v)) s r = Unit {0}
+CanEndBefore (lexeme (number n)) s r = MayFollow s r
+CanEndBefore (lexeme (word n)) s r = EndsWord (next r)
+CanEndBefore (lexeme (keyword k)) s r = EndsThere (next r)
+CanEndBefore (lexeme (punctuation c)) s r = Unit {0}
+CanEndBefore (line_comment c) s r = IsTrue (no is_in_line (next r))
+CanEndBefore (block_comment c) s r = Unit {0}

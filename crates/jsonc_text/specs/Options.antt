@@ -1,5 +1,5 @@
 -- What a text may hold beyond JSON (RFC 8259). Most of it is JSON5's.
-use Rattle.std.specs.Prelude.{◌≡◌, Bool, true, false}
+use Rattle.std.specs.Prelude.{◌≡◌, Bool, true, false, IsTrue}
 
 pub record Options : Type 0 where
   pub single_quoted_strings : Bool
@@ -33,3 +33,11 @@ pub record AgreeOnLexemes (o p : Options) : Type 0 where
   pub bare_decimal_points : o.bare_decimal_points ≡ p.bare_decimal_points
   pub non_finite_numbers : o.non_finite_numbers ≡ p.non_finite_numbers
   pub extended_escapes : o.extended_escapes ≡ p.extended_escapes
+
+-- the same lexemes, and p allows around them what o allows, or more
+pub record AllowsMore (o p : Options) : Type 0 where
+  pub lexemes : AgreeOnLexemes o p
+  pub comments : IsTrue o.comments → IsTrue p.comments
+  pub loose_names : IsTrue o.loose_names → IsTrue p.loose_names
+  pub trailing_commas : IsTrue o.trailing_commas → IsTrue p.trailing_commas
+  pub missing_commas : IsTrue o.missing_commas → IsTrue p.missing_commas

@@ -28,6 +28,7 @@ pub record Placed : Type 0 where
   pub start : ℕ
   pub end : ℕ
 
+-- what stands at a place with the text s
 abbrev pub placed_at : Scanned → ℕ → List ℕ → Placed
 placed_at w at s = record { what = w; start = at; end = at + byte_length s }
 
@@ -37,6 +38,7 @@ pub data AreTokens (o : Options) : ℕ → List ℕ → List Placed → Type 0 w
   blank : {at c : ℕ} {t : List ℕ} {ts : List Placed} → IsTrue (is_blank c) → AreTokens o (at + byte_length (c ∷ [])) t ts → AreTokens o at (c ∷ t) ts
   one : (w : Scanned) (s : List ℕ) {at : ℕ} {t r : List ℕ} {ts : List Placed} → IsScanned o w t r → t ≡ s ++ r → AreTokens o (at + byte_length s) r ts → AreTokens o at t (placed_at w at s ∷ ts)
 
+-- it is no lexeme
 abbrev pub is_comment : Scanned → Bool
 is_comment (lexeme k) = false
 is_comment (line_comment s) = true
@@ -48,6 +50,7 @@ pub record CommentGap : Type 0 where
   pub end : ℕ
   pub comments : List Placed
 
+-- gs, and before them the gap with these two ends where it has comments
 abbrev pub noted : ℕ → ℕ → List Placed → List CommentGap → List CommentGap
 noted start end [] gs = gs
 noted start end (c ∷ cs) gs = record { start = start; end = end; comments = c ∷ cs } ∷ gs

@@ -1,5 +1,7 @@
 -- The values and texts of worked rows.
-use Rattle.std.specs.Prelude.{ℕ, List, ◌∷◌, ◌++◌, codes}
+use Rattle.std.specs.Prelude.{ℕ, List, ◌∷◌, ◌++◌, true, codes}
+use Rattle.jsonc_text.specs.Words.{boolean}
+use Rattle.jsonc_text.specs.Lexemes.{LexemeKind}
 use Rattle.jsonc_text.specs.Plain.{Plain, item, no_items, member, no_members}
 
 -- an array of the numbers `5.` and `.5`
@@ -9,6 +11,10 @@ five_five = Plain.array (item (Plain.number (codes "5.")) (item (Plain.number (c
 -- an object whose one name is `Infinity-x`
 abbrev pub infinity_x : Plain
 infinity_x = Plain.object (member (codes "Infinity-x") (Plain.number (codes "1")) no_members)
+
+-- the keyword `true`
+abbrev pub true_keyword : LexemeKind
+true_keyword = LexemeKind.keyword (boolean true)
 
 -- `\uD834\uDD1E`
 abbrev pub clef_escaped : List ℕ

@@ -1,19 +1,19 @@
 //! Laws of the definitions: each is the contract of a function that does nothing.
-ghost use Rattle.std.specs.Prelude.{◌≡◌, ◌≤◌, ◌↔◌, ◌++◌, ◌∷◌, [], List, ℕ, Option, Some, true, codes};
-ghost use Rattle.jsonc_text.specs.Options.{Options, AgreeOnLexemes, all_on};
+ghost use Rattle.std.specs.Prelude.{◌≡◌, ◌≤◌, ◌↔◌, ◌++◌, ◌∷◌, [], List, ℕ, Option, Some, codes};
+ghost use Rattle.jsonc_text.specs.Options.{Options, AgreeOnLexemes, AllowsMore, with_commas, all_on};
 ghost use Rattle.jsonc_text.specs.Gaps.{BlockComment, HasNoEndInside, IsComment};
-ghost use Rattle.jsonc_text.specs.Words.{Keyword};
 ghost use Rattle.jsonc_text.specs.Numbers.{Number, NumberLit, MayFollow};
-ghost use Rattle.jsonc_text.specs.Strings.{Pieces, Decodes};
-ghost use Rattle.jsonc_text.specs.Lexemes.{LexemeKind, Lexeme, number, word, keyword};
-ghost use Rattle.jsonc_text.specs.Words.{boolean};
+ghost use Rattle.jsonc_text.specs.Strings.{Decodes, IsQuote};
+ghost use Rattle.jsonc_text.specs.Lexemes.{LexemeKind, Lexeme, number, word, Scanned};
 ghost use Rattle.jsonc_text.specs.Grammar.{IsDocument};
 ghost use Rattle.jsonc_text.specs.Places.{LineColumn};
 ghost use Rattle.jsonc_text.specs.Plain.{Plain, depth, around};
-ghost use Rattle.jsonc_text.specs.Laws.{HasOneValue, BeginsWithOneLexeme, HasOneTokenList, HasOneGapList};
-ghost use Rattle.jsonc_text.specs.Laws.{HasLexemesOf, in_block, DecodesAnywhere, DecodesBefore};
-ghost use Rattle.jsonc_text.specs.Rows.{five_five, infinity_x, clef_escaped, low_escaped};
-ghost use Rattle.jsonc_text.specs.Rows.{accented, after_carriage_return};
+ghost use Rattle.jsonc_text.specs.Laws.{HasOneValue, BeginsWithOneLexeme, BeginsWithNo};
+ghost use Rattle.jsonc_text.specs.Laws.{HasOneTokenList, HasOneGapList, HasLexemesOf, HasDocumentsOf};
+ghost use Rattle.jsonc_text.specs.Laws.{in_block, DecodesToOne, DecodesAnywhere, AreDecodedText};
+ghost use Rattle.jsonc_text.specs.Laws.{HoldsSome, StandsAlone};
+ghost use Rattle.jsonc_text.specs.Rows.{five_five, true_keyword, infinity_x, clef_escaped};
+ghost use Rattle.jsonc_text.specs.Rows.{low_escaped, accented, after_carriage_return};
 
 /// A text has at most one value, whatever the options.
 pub fn one_value()
@@ -36,17 +36,18 @@ pub fn one_list_of_tokens()
     ensures gaps { (o : Options) (t : List ℕ) → HasOneGapList o t }
 {}
 
-/// A block comment is `/*`, a text and `*/`, and ends at the first `*/` that begins after its opening.
+/// A block comment is `/*`, a text and `*/`, and ends at the first `*/` after its opening.
 pub fn block_comment_ends_first()
     ensures text { (t r : List ℕ) → BlockComment t r → (s : List ℕ) × (t ≡ in_block s r) }
     ensures first { (s r : List ℕ) → BlockComment (in_block s r) r ↔ HasNoEndInside s }
 {}
 
-/// What stands between two quotes stands for the same string whatever follows the second, and
-/// pieces that stand before a quote are such a text.
+/// What stands between two quotes stands for one string, the same whatever follows the second
+/// quote; and pieces that stand before a quote are such a text.
 pub fn strings_end_at_their_quote()
+    ensures one { (o : Options) (q : ℕ) (s : List ℕ) → IsQuote o q → DecodesToOne o q s }
     ensures anywhere { (o : Options) (q : ℕ) (s v : List ℕ) → DecodesAnywhere o q s v }
-    ensures text { (o : Options) (q : ℕ) (t v r : List ℕ) → Pieces o q t v (q ∷ r) → DecodesBefore o q t v r }
+    ensures text { (o : Options) (q : ℕ) (t v : List ℕ) → AreDecodedText o q t v }
 {}
 
 /// A number at the front of a text is a number by itself, before what may follow it.
@@ -54,25 +55,39 @@ pub fn numbers_end_at_their_followers()
     ensures { (o : Options) (s r : List ℕ) → Number o (s ++ r) r ↔ NumberLit o s × MayFollow s r }
 {}
 
-/// Lexemes look at six options: single quotes, hexadecimal, plus, bare points, `Infinity` and `NaN`,
-/// and the extended escapes.
+/// A lexeme or comment holds at least one character; and at the front of a text it is one by
+/// itself, before what it can end before.
+pub fn lexemes_stand_alone()
+    ensures some { (o : Options) (w : Scanned) (t : List ℕ) → HoldsSome o w t }
+    ensures alone { (o : Options) (w : Scanned) (s r : List ℕ) → StandsAlone o w s r }
+{}
+
+/// Lexemes look at six options: single quotes, hexadecimal, plus, bare points, `Infinity` and
+/// `NaN`, and the extended escapes.
 pub fn lexemes_look_at_six_options()
     ensures { (o p : Options) → AgreeOnLexemes o p → HasLexemesOf p o }
 {}
 
-/// Worked rows: `[5..5]` has the elements `5.` and `.5`; `01` is `0` and then `1`; `1e` is no lexeme.
+/// A document stays one, of the same value, where more is allowed around the same lexemes; so a
+/// document with commas between all neighbours is one where they may be missing.
+pub fn documents_stay_where_more_is_allowed()
+    ensures more { (o p : Options) → AllowsMore o p → HasDocumentsOf p o }
+    ensures commas { (o : Options) → HasDocumentsOf o (with_commas o) }
+{}
+
+/// Worked rows: `[5..5]` has the elements `5.` and `.5`; `01` is `0` and then `1`; `1e` is none.
 pub fn worked_numbers()
     ensures five_five { IsDocument all_on (codes "[5..5]") (Some five_five) }
     ensures zero { (o : Options) → Lexeme o (number (codes "0")) (codes "01") (codes "1") }
-    ensures zero_one { (o : Options) (r : List ℕ) → Lexeme o (number (codes "01")) (codes "01") r → ⊥ }
-    ensures one_e { (o : Options) (k : LexemeKind) (r : List ℕ) → Lexeme o k (codes "1e") r → ⊥ }
+    ensures zero_one { (o : Options) → BeginsWithNo o (number (codes "01")) (codes "01") }
+    ensures one_e { (o : Options) (k : LexemeKind) → BeginsWithNo o k (codes "1e") }
 {}
 
 /// Worked rows: `true_` is `true` and then the word `_`, and no word; `Infinity-x` is a name.
 pub fn worked_words()
-    ensures keyword { (o : Options) → Lexeme o (keyword (boolean true)) (codes "true_") (codes "_") }
+    ensures keyword { (o : Options) → Lexeme o true_keyword (codes "true_") (codes "_") }
     ensures word { (o : Options) → Lexeme o (word (codes "_")) (codes "_") [] }
-    ensures no_word { (o : Options) (s r : List ℕ) → Lexeme o (word s) (codes "true_") r → ⊥ }
+    ensures no_word { (o : Options) (s : List ℕ) → BeginsWithNo o (word s) (codes "true_") }
     ensures infinity_x { IsDocument all_on (codes "{Infinity-x: 1}") (Some infinity_x) }
 {}
 
@@ -90,8 +105,8 @@ pub fn worked_refusals()
     ensures follower { (o : Options) (v : Option Plain) → IsDocument o (codes "{a/*c*/:1}") v → ⊥ }
 {}
 
-/// Worked rows: the `@` of `["é" @]`, at place 6, is in line 1 and column 6; a CR with no LF after it
-/// ends a line.
+/// Worked rows: the `@` of `["é" @]`, at place 6, is in line 1 and column 6; a CR with no LF after
+/// it ends a line.
 pub fn worked_places()
     ensures characters { LineColumn accented 6 1 6 }
     ensures line { LineColumn after_carriage_return 4 2 1 }

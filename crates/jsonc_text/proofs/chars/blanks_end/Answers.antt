@@ -1,5 +1,5 @@
 use Rattle.std.proofs.Common.{arith}
-use Rattle.jsonc_text.proofs.Runs.{passes_none, passes_more}
+use Rattle.jsonc_text.proofs.CharRuns.{passes_none, passes_more}
 use Rattle.jsonc_text.specs.Gaps.{is_blank}
 use Rattle.jsonc_text.proofs.chars.blanks_end.Goals as goal
 

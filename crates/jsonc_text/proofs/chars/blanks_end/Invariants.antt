@@ -2,7 +2,7 @@ use Rattle.std.proofs.Common.{ℕ, ◌+◌, ◌-◌, ◌<◌, ◌≡◌, List, I
 use Rattle.jsonc_text.specs.Text.{rest, next, no}
 use Rattle.jsonc_text.specs.Chars.{Steps}
 use Rattle.jsonc_text.specs.Gaps.{is_blank}
-use Rattle.jsonc_text.proofs.Runs.{Passes}
+use Rattle.jsonc_text.proofs.CharRuns.{Passes}
 use Rattle.jsonc_text.proofs.chars.blanks_end.Given as goal
 
 -- blanks so far, and what the length says of the blank at the place

@@ -1,6 +1,6 @@
 use Rattle.std.proofs.Common.{◌≡◌, ◌-◌, length}
 use Rattle.jsonc_text.specs.Text.{is_hex_digit}
-use Rattle.jsonc_text.proofs.Runs.{Passes}
+use Rattle.jsonc_text.proofs.CharRuns.{Passes}
 use Rattle.jsonc_text.proofs.chars.hex_digits_end.Given as goal
 
 abbrev pub invariant-loop-place : goal.invariant-loop-place

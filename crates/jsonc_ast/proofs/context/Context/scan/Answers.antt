@@ -1,0 +1,19 @@
+use Rattle.std.proofs.Common.{sym, ◌∙◌, refl}
+use Rattle.jsonc_ast.proofs.Scans.{passing_start, scan_found, passing_on}
+use Rattle.jsonc_ast.proofs.context.Context.scan.Goals as goal
+
+pub loop-token-init : goal.loop-token-init
+loop-token-init g c = passing_start c.args.self.now
+
+pub returns-in_default-clause-found : goal.returns-in_default-clause-found
+returns-in_default-clause-found g c =
+    scan_found c.args.self.now c.loop-token.self c.scan.new.self c.scan.new.self c.in_ok-token.field-0 _ c.in_default.is refl c.loop-token.invariant c.scan.ensures.blanks c.in_ok-token.ensures.found
+
+pub returns-then-not-is_comment-clause-found : goal.returns-then-not-is_comment-clause-found
+returns-then-not-is_comment-clause-found g c =
+    scan_found c.args.self.now c.loop-token.self c.scan.new.self c.collect.new.self.scanner c.in_ok-token.field-0 _ c.in-Some.is c.collect.ensures.scanner c.loop-token.invariant c.scan.ensures.blanks c.in_ok-token.ensures.found
+
+pub loop-token-preserved : goal.loop-token-preserved
+loop-token-preserved g c =
+    passing_on c.args.self.now c.loop-token.self c.pass_comment.new.self c.scan.new.self c.in_ok-token.field-0 c.in-Some.token c.in-Some.is c.pass_comment.ensures.scanner c.pass_comment.ensures.tokens
+      c.loop-token.invariant c.scan.ensures.blanks c.in_ok-token.ensures.found (sym c.is_comment.ensures ∙ c.if-not-is_comment.false) c.in_ok-pass_comment.ensures.allowed

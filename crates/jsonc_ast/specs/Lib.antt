@@ -1,0 +1,6 @@
+pub mod Located
+pub mod Views
+pub mod Scanned
+pub mod Containers
+pub mod Context
+pub mod Reads

@@ -1,0 +1,228 @@
+//! Values, and where they stand in their text.
+ghost use Rattle.std.specs.Prelude.{◌≡◌, ◌∷◌, ◌++◌, [], map, OnOk};
+ghost use Rattle.jsonc_ast.specs.Located.{array_at, object_at, range_at};
+ghost use Rattle.jsonc_ast.specs.Views.{located, object_located, items_located, member_of, members_located, name_at};
+
+use jsonc_text::common::{Range, Ranged};
+use std::alloc::{AllocError, Allocator};
+use std::borrow::CowStr;
+
+/// A text in quotes, as `"name"`.
+#[derive(PartialEq, Eq, Drop)]
+pub struct StringLit<'a, A: Allocator> {
+    pub range: Range,
+    /// What stands between the quotes, with its escapes decoded.
+    pub value: CowStr<'a, A>,
+}
+
+/// A name without quotes.
+#[derive(PartialEq, Eq, Drop)]
+pub struct WordLit<'a> {
+    pub range: Range,
+    pub value: &'a str,
+}
+
+/// A number, as `123` or `-1.2e+2`.
+#[derive(PartialEq, Eq, Drop)]
+pub struct NumberLit<'a> {
+    pub range: Range,
+    /// Its text.
+    pub value: &'a str,
+}
+
+/// `true` or `false`.
+#[derive(PartialEq, Eq, Drop)]
+pub struct BooleanLit {
+    pub range: Range,
+    pub value: bool,
+}
+
+/// `null`.
+#[derive(PartialEq, Eq, Drop)]
+pub struct NullKeyword {
+    pub range: Range,
+}
+
+/// The name of a property, with or without quotes.
+#[derive(PartialEq, Eq, Drop)]
+pub enum ObjectPropName<'a, A: Allocator> {
+    String(StringLit<'a, A>),
+    Word(WordLit<'a>),
+}
+
+/// A value.
+#[cycle(ast)]
+#[derive(PartialEq, Eq, Drop)]
+pub enum Value<'a, A: Allocator> {
+    StringLit(StringLit<'a, A>),
+    NumberLit(NumberLit<'a>),
+    BooleanLit(BooleanLit),
+    Object(Object<'a, A>),
+    Array(Array<'a, A>),
+    NullKeyword(NullKeyword),
+}
+
+/// An object, as `{ "name": 4 }`, from its `{` to its `}`.
+#[cycle(ast)]
+#[derive(PartialEq, Eq, Drop)]
+pub struct Object<'a, A: Allocator> {
+    pub range: Range,
+    pub properties: Vec<ObjectProp<'a, A>, A>,
+}
+
+/// A property of an object, from its name to its value.
+#[cycle(ast)]
+#[derive(PartialEq, Eq, Drop)]
+pub struct ObjectProp<'a, A: Allocator> {
+    pub range: Range,
+    pub name: ObjectPropName<'a, A>,
+    pub value: Value<'a, A>,
+}
+
+/// An array, as `[5, 6]`, from its `[` to its `]`.
+#[cycle(ast)]
+#[derive(PartialEq, Eq, Drop)]
+pub struct Array<'a, A: Allocator> {
+    pub range: Range,
+    pub elements: Vec<Value<'a, A>, A>,
+}
+
+/// An array of these elements.
+pub fn array_of<'a, A: Allocator>(range: Range, elements: Vec<Value<'a, A>, A>) -> Value<'a, A>
+    ensures { located result ≡ array_at range (items_located elements.entry.items) }
+{
+    Value::Array(Array { range, elements })
+}
+
+/// An object of these properties.
+pub fn object_of<'a, A: Allocator>(
+    range: Range,
+    properties: Vec<ObjectProp<'a, A>, A>,
+) -> Value<'a, A>
+    ensures { located result ≡ object_at range (members_located properties.entry.items) }
+{
+    Value::Object(Object { range, properties })
+}
+
+/// A property of this name and value.
+pub fn property_of<'a, A: Allocator>(
+    range: Range,
+    name: ObjectPropName<'a, A>,
+    value: Value<'a, A>,
+) -> ObjectProp<'a, A>
+    ensures { member_of result ≡ record { range = range; name = name_at name.entry; value = located value.entry } }
+{
+    ObjectProp { range, name, value }
+}
+
+/// One element more.
+pub fn push_value<'a, A: Allocator>(
+    elements: &mut Vec<Value<'a, A>, A>,
+    value: Value<'a, A>,
+) -> Result<(), AllocError>
+    ensures { OnOk result (map located elements.new.items ≡ map located elements.old.items ++ located value.entry ∷ []) }
+{
+    elements.push(value)?;
+    Ok(())
+}
+
+/// One property more.
+pub fn push_property<'a, A: Allocator>(
+    properties: &mut Vec<ObjectProp<'a, A>, A>,
+    property: ObjectProp<'a, A>,
+) -> Result<(), AllocError>
+    ensures { OnOk result (map member_of properties.new.items ≡ map member_of properties.old.items ++ member_of property.entry ∷ []) }
+{
+    properties.push(property)?;
+    Ok(())
+}
+
+impl<'a, A: Allocator> Ranged for StringLit<'a, A> {
+    ghost range_of = { λ x. x.range };
+
+    fn range(&self) -> Range {
+        self.range
+    }
+}
+
+impl<'a> Ranged for WordLit<'a> {
+    ghost range_of = { λ x. x.range };
+
+    fn range(&self) -> Range {
+        self.range
+    }
+}
+
+impl<'a> Ranged for NumberLit<'a> {
+    ghost range_of = { λ x. x.range };
+
+    fn range(&self) -> Range {
+        self.range
+    }
+}
+
+impl Ranged for BooleanLit {
+    ghost range_of = { λ x. x.range };
+
+    fn range(&self) -> Range {
+        self.range
+    }
+}
+
+impl Ranged for NullKeyword {
+    ghost range_of = { λ x. x.range };
+
+    fn range(&self) -> Range {
+        self.range
+    }
+}
+
+impl<'a, A: Allocator> Ranged for ObjectPropName<'a, A> {
+    ghost range_of = { λ x. (name_at x).range };
+
+    fn range(&self) -> Range {
+        match self {
+            ObjectPropName::String(name) => name.range,
+            ObjectPropName::Word(name) => name.range,
+        }
+    }
+}
+
+impl<'a, A: Allocator> Ranged for Array<'a, A> {
+    ghost range_of = { λ x. x.range };
+
+    fn range(&self) -> Range {
+        self.range
+    }
+}
+
+impl<'a, A: Allocator> Ranged for Object<'a, A> {
+    ghost range_of = { λ x. range_at (object_located x) };
+
+    fn range(&self) -> Range {
+        self.range
+    }
+}
+
+impl<'a, A: Allocator> Ranged for ObjectProp<'a, A> {
+    ghost range_of = { λ x. (member_of x).range };
+
+    fn range(&self) -> Range {
+        self.range
+    }
+}
+
+impl<'a, A: Allocator> Ranged for Value<'a, A> {
+    ghost range_of = { λ x. range_at (located x) };
+
+    fn range(&self) -> Range {
+        match self {
+            Value::StringLit(value) => value.range,
+            Value::NumberLit(value) => value.range,
+            Value::BooleanLit(value) => value.range,
+            Value::Object(value) => value.range,
+            Value::Array(value) => value.range,
+            Value::NullKeyword(value) => value.range,
+        }
+    }
+}

@@ -1,0 +1,6 @@
+pub mod Calls
+pub mod Command
+pub mod Fault
+pub mod Input
+pub mod Output
+pub mod Parser

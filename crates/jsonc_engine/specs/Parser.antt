@@ -1,0 +1,12 @@
+-- The words of the parser's contracts that the contracts of this crate use.
+pub use Rattle.jsonc_parser.specs.Document.{printed}
+pub use Rattle.jsonc_parser.specs.Messages.{edit_error_text}
+pub use Rattle.jsonc_parser.specs.declared.cst.EditError.{EditError}
+pub use Rattle.jsonc_parser.specs.declared.cst.EditError.TheVariants.{OutOfMemory}
+pub use Rattle.jsonc_text.specs.Faults.{IsFault}
+pub use Rattle.jsonc_text.specs.Grammar.{IsDocument}
+pub use Rattle.jsonc_text.specs.Messages.{error_text}
+pub use Rattle.jsonc_text.specs.Options.{plain_json}
+pub use Rattle.jsonc_text.specs.OptionsOf.{parse_options}
+pub use Rattle.jsonc_text.specs.Plain.{Plain}
+pub use Rattle.jsonc_text.specs.declared.errors.ParseError.{ParseError}

@@ -1,0 +1,122 @@
+//! Where the program's bytes come from and go to, with a count of the calls that failed.
+ghost use Rattle.std.specs.Prelude.{◌≡◌, ℕ, List, Option, OnOk};
+ghost use Rattle.std.specs.Io.{ReadsAtMost};
+ghost use Rattle.std.specs.Io.KnownBytes.{Appends, Keeps, ReadConsumes};
+ghost use Rattle.jsonc_engine.specs.Calls.{IsCounted};
+
+use std::io;
+use std::io::{Read, Write};
+
+/// Where input comes from.
+pub trait Source {
+    // The bytes that reads will give from here on, where they are known.
+    ghost remaining: { Self → Option (List ℕ) };
+
+    // How many reads failed, up to `u64::MAX`.
+    ghost failed_reads: { Self → ℕ };
+
+    /// Reads some bytes to the front of `buffer`, none only at the end.
+    fn read(&mut self, buffer: &mut [u8]) -> io::Result<usize>
+        ensures bound { ReadsAtMost result buffer.new }
+        ensures bytes { ReadConsumes (remaining self.old) (remaining self.new) result buffer.new }
+        ensures counted { IsCounted result (failed_reads self.old) (failed_reads self.new) };
+}
+
+/// Where output goes.
+pub trait Sink {
+    // The bytes that it holds, where they are known.
+    ghost contents: { Self → Option (List ℕ) };
+
+    // How many writes and flushes failed, up to `u64::MAX`.
+    ghost failed_writes: { Self → ℕ };
+
+    /// Writes all the bytes.
+    fn write(&mut self, bytes: &[u8]) -> io::Result<()>
+        ensures bytes { OnOk result (Appends (contents self.old) (contents self.new) bytes.now) }
+        ensures counted { IsCounted result (failed_writes self.old) (failed_writes self.new) };
+
+    /// Sees that what was written has left.
+    fn flush(&mut self) -> io::Result<()>
+        ensures bytes { OnOk result (Keeps (contents self.old) (contents self.new)) }
+        ensures counted { IsCounted result (failed_writes self.old) (failed_writes self.new) };
+}
+
+/// A reader, as a source.
+#[derive(Drop)]
+pub struct FromReader<R> {
+    pub reader: R,
+    /// How many reads failed, up to `u64::MAX`.
+    pub failed: u64,
+}
+
+impl<R: Read> FromReader<R> {
+    /// The reader as a source, of which no read has failed.
+    pub fn new(reader: R) -> FromReader<R>
+        ensures reader { result.reader ≡ reader }
+        ensures fresh { result.failed ≡ 0 }
+    {
+        FromReader { reader, failed: 0 }
+    }
+}
+
+impl<R: Read> Source for FromReader<R> {
+    ghost remaining = { λ s. R.remaining s.reader };
+
+    ghost failed_reads = { λ s. s.failed };
+
+    fn read(&mut self, buffer: &mut [u8]) -> io::Result<usize> {
+        match self.reader.read(buffer) {
+            Ok(count) => Ok(count),
+            Err(error) => {
+                self.failed = self.failed.saturating_add(1);
+                Err(error)
+            }
+        }
+    }
+}
+
+/// A writer, as a sink.
+#[derive(Drop)]
+pub struct ToWriter<W> {
+    pub writer: W,
+    /// How many writes and flushes failed, up to `u64::MAX`.
+    pub failed: u64,
+}
+
+impl<W: Write> ToWriter<W> {
+    /// The writer as a sink, of which no call has failed.
+    pub fn new(writer: W) -> ToWriter<W>
+        ensures writer { result.writer ≡ writer }
+        ensures fresh { result.failed ≡ 0 }
+    {
+        ToWriter { writer, failed: 0 }
+    }
+
+    /// Counts the call where it failed.
+    fn count<T>(&mut self, outcome: io::Result<T>) -> io::Result<T>
+        ensures outcome { result ≡ outcome }
+        ensures kept { self.new.writer ≡ self.old.writer }
+        ensures counted { IsCounted result self.old.failed self.new.failed }
+    {
+        if outcome.is_err() {
+            self.failed = self.failed.saturating_add(1);
+        }
+        outcome
+    }
+}
+
+impl<W: Write> Sink for ToWriter<W> {
+    ghost contents = { λ s. W.contents s.writer };
+
+    ghost failed_writes = { λ s. s.failed };
+
+    fn write(&mut self, bytes: &[u8]) -> io::Result<()> {
+        let outcome = self.writer.write_all(bytes);
+        self.count(outcome)
+    }
+
+    fn flush(&mut self) -> io::Result<()> {
+        let outcome = self.writer.flush();
+        self.count(outcome)
+    }
+}

@@ -1,0 +1,162 @@
+//! One run of the program, over any source and sink.
+ghost use Rattle.std.specs.Prelude.{◌≡◌, ◌↔◌, ◌<◌, None, vec_len, IfSome, IfOk, IfErr, OnOk, OnErr, IsErrOf, IsUtf8};
+ghost use Rattle.std.specs.Io.KnownBytes.{Appends};
+ghost use Rattle.jsonc_engine.specs.Calls.{one_more};
+ghost use Rattle.jsonc_engine.specs.Command.{Name};
+ghost use Rattle.jsonc_engine.specs.Fault.{EndsRun, IsFaultOn};
+ghost use Rattle.jsonc_engine.specs.Input.{IsInput};
+ghost use Rattle.jsonc_engine.specs.Output.{IsOutput};
+ghost use Rattle.jsonc_engine.specs.Parser.{IsFault, ParseError, parse_options, plain_json};
+
+use crate::calls::{Sink, Source};
+use crate::command::Command;
+use crate::fault::Fault;
+use jsonc_parser::ParseOptions;
+use jsonc_parser::cst::{CstRootNode, EditError};
+use std::alloc::{AllocError, Allocator};
+
+const BUFFER_LEN: usize = 65536;
+
+/// Room for one read.
+fn make_buffer<A: Allocator>(alloc: A) -> Result<Vec<u8, A>, AllocError>
+    ensures { IfOk result (λ buffer. 0 < vec_len buffer) }
+{
+    Vec::from_elem(alloc, 0u8, BUFFER_LEN)
+}
+
+/// All that the source has left.
+fn read_whole<A: Allocator + Copy, S: Source>(alloc: A, source: &mut S) -> Result<Vec<u8, A>, Fault>
+    ensures bytes { IfOk result (λ read. IfSome (S.remaining source.old) (λ input. read.items ≡ input)) }
+    ensures failed { IsErrOf result Fault.Read
+        → S.failed_reads source.new ≡ one_more (S.failed_reads source.old) }
+    ensures kept { OnOk result (S.failed_reads source.new ≡ S.failed_reads source.old) }
+    ensures causes { OnErr result (¬ (IsErrOf result Fault.Read)
+        → IsErrOf result (Fault.Edit EditError.OutOfMemory)) }
+{
+    let mut room = make_buffer(alloc)?;
+    let buffer = room.as_mut_slice();
+    let mut read = Vec::new(alloc);
+    for _ in 0..u64::MAX {
+        let Ok(count) = source.read(buffer) else {
+            return Err(Fault::Read);
+        };
+        if count == 0 {
+            return Ok(read);
+        }
+        read.extend_from_slice(&buffer[..count])?;
+    }
+    // So many bytes fit in no memory.
+    Err(Fault::Edit(EditError::OutOfMemory))
+}
+
+/// Writes all the bytes, and sees that they have left.
+fn write_whole<K: Sink>(sink: &mut K, bytes: &[u8]) -> Result<(), Fault>
+    ensures written { OnOk result (Appends (K.contents sink.old) (K.contents sink.new) bytes.now) }
+    ensures kept { OnOk result (K.failed_writes sink.new ≡ K.failed_writes sink.old) }
+    ensures cause { OnErr result (IsErrOf result Fault.Write) }
+    ensures failed { OnErr result (K.failed_writes sink.new ≡ one_more (K.failed_writes sink.old)) }
+{
+    let Ok(()) = sink.write(bytes) else {
+        return Err(Fault::Write);
+    };
+    let Ok(()) = sink.flush() else {
+        return Err(Fault::Write);
+    };
+    Ok(())
+}
+
+/// The options of plain JSON.
+fn plain_options() -> ParseOptions
+    ensures { parse_options result ≡ plain_json }
+{
+    ParseOptions {
+        allow_comments: false,
+        allow_loose_object_property_names: false,
+        allow_trailing_commas: false,
+        allow_missing_commas: false,
+        allow_single_quoted_strings: false,
+        allow_hexadecimal_numbers: false,
+        allow_unary_plus_numbers: false,
+        allow_bare_decimal_point_numbers: false,
+        allow_non_finite_numbers: false,
+        allow_extended_string_escapes: false,
+    }
+}
+
+/// What the command writes, given the bytes of the input, or `None` where it writes nothing.
+///
+/// The bytes may be refused as `Fault::NotUtf8` or `Fault::Input`, and memory for what is written as `Fault::Edit`.
+pub fn run_on<A: Allocator + Copy>(
+    alloc: A,
+    command: Command,
+    input: &[u8],
+) -> Result<Option<String<A>>, Fault>
+    ensures printed { IfOk result (λ output. command ≡ Command.Print → IsOutput output input.now) }
+    ensures checked { IfOk result (λ output. command ≡ Command.Check → output ≡ None) }
+    ensures accepted { OnOk result (IsInput input.now) }
+    ensures not_utf8 { IsErrOf result Fault.NotUtf8 ↔ ¬ (IsUtf8 input.now) }
+    ensures refused { IfErr result (IsFaultOn input.now) }
+{
+    let Ok(text) = str::from_utf8(input) else {
+        return Err(Fault::NotUtf8);
+    };
+    let document = match CstRootNode::parse(alloc, text, &plain_options()) {
+        Ok(document) => document,
+        Err(error) => return Err(Fault::Input(error)),
+    };
+    match command {
+        Command::Check => Ok(None),
+        Command::Print => match document.text() {
+            Ok(output) => Ok(Some(output)),
+            Err(_) => Err(Fault::Edit(EditError::OutOfMemory)),
+        },
+    }
+}
+
+/// Does what the words ask: reads the source to its end, and writes what the command makes of it to the sink.
+///
+/// Words that name no command are `Fault::Usage`, failed calls `Fault::Read` and `Fault::Write`; else the faults
+/// are those of `run_on`.
+pub fn engine<A: Allocator + Copy, S: Source, K: Sink>(
+    alloc: A,
+    words: &[&str],
+    source: &mut S,
+    sink: &mut K,
+) -> Result<(), Fault>
+    // Words that name no command are refused before anything is read, and no others.
+    ensures usage { IsErrOf result Fault.Usage ↔ ((command : Command) → ¬ (Name words.now command)) }
+    ensures unread { IsErrOf result Fault.Usage → source.new ≡ source.old }
+
+    // What a success wrote.
+    ensures printed { OnOk result (Name words.now Command.Print
+        → IfSome (S.remaining source.old) (Appends (K.contents sink.old) (K.contents sink.new))) }
+    ensures checked { OnOk result (Name words.now Command.Check → sink.new ≡ sink.old) }
+    ensures accepted { OnOk result (IfSome (S.remaining source.old) IsInput) }
+
+    // The cause that a refusal names holds, and it names no other.
+    ensures input { (error : ParseError) → IsErrOf result (Fault.Input error)
+        → IfSome (S.remaining source.old) (λ input. IsFault input error) }
+    ensures not_utf8 { IsErrOf result Fault.NotUtf8
+        → IfSome (S.remaining source.old) (λ input. ¬ (IsUtf8 input)) }
+    ensures read { IsErrOf result Fault.Read
+        → S.failed_reads source.new ≡ one_more (S.failed_reads source.old) }
+    ensures write { IsErrOf result Fault.Write
+        → K.failed_writes sink.new ≡ one_more (K.failed_writes sink.old) }
+    ensures causes { IfErr result EndsRun }
+
+    // A success met no failed call.
+    ensures no_failed_read { OnOk result (S.failed_reads source.new ≡ S.failed_reads source.old) }
+    ensures no_failed_write { OnOk result (K.failed_writes sink.new ≡ K.failed_writes sink.old) }
+
+    // Only a failed write leaves anything written.
+    ensures unwritten { OnErr result (¬ (IsErrOf result Fault.Write) → sink.new ≡ sink.old) }
+{
+    let Some(command) = Command::from_words(words) else {
+        return Err(Fault::Usage);
+    };
+    let input = read_whole(alloc, source)?;
+    match run_on(alloc, command, input.as_slice())? {
+        Some(output) => write_whole(sink, output.as_bytes()),
+        None => Ok(()),
+    }
+}

@@ -1,0 +1,89 @@
+//! Why a run of the program ended without success.
+ghost use Rattle.std.specs.Prelude.{◌≡◌, Some};
+ghost use Rattle.jsonc_engine.specs.Parser.{OutOfMemory};
+ghost use Rattle.jsonc_engine.specs.declared.fault.Fault.TheVariants.{Edit};
+
+use jsonc_parser::cst::EditError;
+use jsonc_parser::errors::ParseError;
+use std::alloc::{AllocError, AllocFailed};
+use std::error::Error;
+use std::fmt;
+
+/// Why a run ended without success. Its `Display` is the whole line that the program prints.
+#[derive(Debug, Drop)]
+pub enum Fault {
+    /// The input is no document.
+    Input(ParseError),
+    /// The command's JSON text is no document.
+    Argument(ParseError),
+    /// The command's JSON text has no value.
+    NoValue,
+    /// The command wants an object at the root.
+    NotObject,
+    /// The command wants an array at the root.
+    NotArray,
+    /// The document refused the edit, or, with `EditError::OutOfMemory`, memory ran out outside parsing.
+    Edit(EditError),
+    /// The input's bytes are not UTF-8.
+    NotUtf8,
+    /// A read failed.
+    Read,
+    /// A write failed.
+    Write,
+    /// The words name no command.
+    Usage,
+}
+
+impl Fault {
+    /// The status that the program ends with: 2 where the words name no command, else 1.
+    pub fn status(&self) -> u8
+        ensures usage { self.now ≡ Fault.Usage → result ≡ 2 }
+        ensures other { ¬ (self.now ≡ Fault.Usage) → result ≡ 1 }
+    {
+        match self {
+            Fault::Usage => 2,
+            _ => 1,
+        }
+    }
+}
+
+impl fmt::Display for Fault {
+    ghost use Rattle.jsonc_engine.specs.Fault.{fault_line};
+
+    ghost output = { λ f. Some (fault_line f) };
+
+    fn fmt<W: fmt::Write>(&self, f: &mut fmt::Formatter<W>) -> fmt::Result {
+        match self {
+            Fault::Input(error) => write!(f, "jsonc: {error}"),
+            Fault::Argument(error) => write!(f, "jsonc: argument: {error}"),
+            Fault::NoValue => f.write_str("jsonc: argument: no value"),
+            Fault::NotObject => f.write_str("jsonc: root value is not an object"),
+            Fault::NotArray => f.write_str("jsonc: root value is not an array"),
+            Fault::Edit(error) => write!(f, "jsonc: {error}"),
+            Fault::NotUtf8 => f.write_str("jsonc: input is not UTF-8"),
+            Fault::Read => f.write_str("jsonc: read failed"),
+            Fault::Write => f.write_str("jsonc: write failed"),
+            Fault::Usage => {
+                f.write_str("usage: jsonc check|print|set NAME JSON|append JSON|remove NAME|sort")
+            }
+        }
+    }
+}
+
+impl Error for Fault {}
+
+impl<T: Drop> From<AllocFailed<T>> for Fault {
+    ghost from_gives = { λ _ fault. fault ≡ Edit OutOfMemory };
+
+    fn from(_error: AllocFailed<T>) -> Fault {
+        Fault::from(AllocError)
+    }
+}
+
+impl From<AllocError> for Fault {
+    ghost from_gives = { λ _ fault. fault ≡ Edit OutOfMemory };
+
+    fn from(_error: AllocError) -> Fault {
+        Fault::Edit(EditError::OutOfMemory)
+    }
+}

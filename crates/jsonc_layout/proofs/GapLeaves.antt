@@ -1,0 +1,101 @@
+-- Leaves between values, and the text that they print.
+use Rattle.std.proofs.Common.{ℕ, ◌+◌, ◌<◌, ◌≤◌, ◌≡◌, ◌≢◌, ◌∙◌, sym, ap, subst, refl, Bool, true, false, not, ◌&&◌, ◌||◌, ◌==◌, nat_eq, List, [], ◌∷◌, ◌++◌, length, arith, IsTrue, IsUtf8, IsCharBoundary, chars, codes, encode_utf8, encode_utf8_all, slice_range}
+use Rattle.std.proofs.lemmas.List.{append_assoc, append-nil}
+use Rattle.std.proofs.lemmas.Bool.{ne_eqb}
+use Rattle.std.proofs.lemmas.Str.{encodes-chars, IsUtf8-between, len_utf8_ascii, len_utf8_bounds}
+use Rattle.std.specs.Char.{len_utf8}
+use lib.Utf8.{encode}
+use Rattle.jsonc_text.specs.Text.{rest, next, no, Many, AllOf, all_of, Spans, is_line_end}
+use Rattle.jsonc_text.specs.Gaps.{is_blank}
+use Rattle.jsonc_text.specs.Lexemes.{is_punctuation}
+use Rattle.jsonc_tree.specs.Content.{Content, text_of, token, whitespace, newline}
+use Rattle.jsonc_tree.specs.OrderedTree as ordered
+use Rattle.jsonc_tree.specs.OrderedTree.{OrderedTree, followed_by, printed}
+use Rattle.jsonc_tree.proofs.OrderedTrees.{printed-more}
+use Rattle.jsonc_tree.specs.declared.node.CstNewlineKind.TheVariants.{LineFeed, CarriageReturnLineFeed, CarriageReturn}
+use Rattle.jsonc_text.specs.Chars.{Steps}
+use Rattle.jsonc_layout.specs.Leaves.{GapLeaf, line_feed, cr_lf, cr, blanks, mark, Fills, end, leaf, LeafAt, is_inner_blank, is_filling}
+use Rattle.jsonc_layout.proofs.Texts.{many_after}
+use Rattle.jsonc_text.proofs.Cuts.{chars_between}
+
+pub cr_lf_at : (bytes : List ℕ) (i c : ℕ) → Steps bytes i c (i + len_utf8 c) → c ≡ 10 → GapLeaf (newline CarriageReturnLineFeed) (13 ∷ rest bytes i) (rest bytes (i + 1))
+cr_lf_at bytes i c s e =
+    let stands : rest bytes i ≡ 10 ∷ rest bytes (i + 1) = s.0 ∙ ap (λ d. d ∷ rest bytes (i + len_utf8 d)) e in
+    rw stands cr_lf
+
+pub cr_at_end : (bytes : List ℕ) (i : ℕ) → rest bytes i ≡ [] → GapLeaf (newline CarriageReturn) (13 ∷ rest bytes i) (rest bytes i)
+cr_at_end bytes i e = cr (rw e refl)
+
+pub cr_before : (bytes : List ℕ) (i c j : ℕ) → Steps bytes i c j → c ≢ 10 → GapLeaf (newline CarriageReturn) (13 ∷ rest bytes i) (rest bytes i)
+cr_before bytes i c j s e = cr (rw s.0 (ap not (ne_eqb c 10 e)))
+
+pub mark_at : (bytes : List ℕ) (i c w : ℕ) → Steps bytes i c (i + len_utf8 c) → w ≡ len_utf8 c → IsTrue (is_punctuation c) → LeafAt bytes (token c) i (i + w)
+mark_at bytes i c w s e h = rw e (record { order = omega (arith, len_utf8_bounds c); boundary = s.1; leaf = rw s.0 (mark h) })
+
+pub feed_at : (bytes : List ℕ) (i c w : ℕ) → Steps bytes i c (i + len_utf8 c) → w ≡ len_utf8 c → c ≡ 10 → LeafAt bytes (newline LineFeed) i (i + w)
+feed_at bytes i c w s e h =
+    let stands : rest bytes i ≡ 10 ∷ rest bytes (i + len_utf8 c) = s.0 ∙ ap (λ d. d ∷ rest bytes (i + len_utf8 c)) h in
+    rw e (record { order = omega (arith, len_utf8_bounds c); boundary = s.1; leaf = rw stands line_feed })
+
+pub return_at : (bytes : List ℕ) (i c w j : ℕ) (content : Content) → Steps bytes i c (i + len_utf8 c) → w ≡ len_utf8 c → c ≡ 13 → i + w ≤ j → IsCharBoundary bytes j → GapLeaf content (13 ∷ rest bytes (i + w)) (rest bytes j) → LeafAt bytes content i j
+return_at bytes i c w j content s e h le boundary one =
+    let stands : rest bytes i ≡ 13 ∷ rest bytes (i + w) = s.0 ∙ ap (λ d. d ∷ rest bytes (i + len_utf8 c)) h ∙ ap (λ x. 13 ∷ rest bytes (i + x)) (sym e) in
+    record { order = omega (arith, len_utf8_bounds c); boundary = boundary; leaf = rw stands one }
+
+inner_from : (a b x y : Bool) → (a || b) ≡ true → b ≡ false → x ≡ false → y ≡ false → (a && not (x || y)) ≡ true
+inner_from true b false false h k e f = refl
+inner_from true b true y h k e f = cc
+inner_from true b false true h k e f = cc
+inner_from false true x y h k e f = cc
+inner_from false false x y h k e f = h
+
+pub blanks_at : (bytes : List ℕ) (i c w j : ℕ) (s : List ℕ) → IsUtf8 bytes → IsCharBoundary bytes i → Steps bytes i c (i + len_utf8 c) → w ≡ len_utf8 c
+    → IsTrue (is_filling c) → is_punctuation c ≡ false → c ≢ 10 → c ≢ 13
+    → i + w ≤ j → IsCharBoundary bytes j → Many is_inner_blank (rest bytes (i + w)) (rest bytes j) → IsTrue (no is_inner_blank (next (rest bytes j)))
+    → s ≡ slice_range bytes i j → LeafAt bytes (whitespace s) i j
+blanks_at bytes i c w j s u b one e filling marks feed return le boundary run all same =
+    let long : i ≤ j = omega (arith, len_utf8_bounds c) in
+    let spans : Spans bytes i j = record { from = b; to = boundary; order = long } in
+    let inner : IsTrue (is_inner_blank c) = inner_from (is_blank c) (is_punctuation c) (c == 10) (c == 13) filling marks (ne_eqb c 10 feed) (ne_eqb c 13 return) in
+    let stands : rest bytes i ≡ c ∷ rest bytes (i + w) = one.0 ∙ ap (λ x. c ∷ rest bytes (i + x)) (sym e) in
+    record {
+      order = omega (arith, len_utf8_bounds c);
+      boundary = boundary;
+      leaf = blanks (chars (slice_range bytes i j)) (same ∙ sym (encodes-chars (slice_range bytes i j) (IsUtf8-between bytes i j u long b boundary))) (rw stands (all_of inner run all)) (chars_between bytes i j u spans);
+    }
+
+-- a leaf's text is the characters that it stands for
+pub leaf_text : {content : Content} {t r : List ℕ} → GapLeaf content t r → (s : List ℕ) × (t ≡ s ++ r) × (text_of content ≡ encode_utf8_all s)
+unfolding encode
+leaf_text line_feed = (10 ∷ [], refl, refl)
+leaf_text cr_lf = (13 ∷ 10 ∷ [], refl, refl)
+leaf_text (cr h) = (13 ∷ [], refl, refl)
+leaf_text (blanks s e all split) = (s, split, e)
+leaf_text (mark {c = c} h) = (c ∷ [], refl, sym (append-nil (encode_utf8 c)))
+
+pub fills_snoc : {content : Content} {t u r : List ℕ} {row : OrderedTree} → Fills t row u → GapLeaf content u r → Fills t (followed_by row (ordered.more content ordered.none ordered.none)) r
+fills_snoc end one = leaf one end
+fills_snoc (leaf first more) one = leaf first (fills_snoc more one)
+
+encodes_append : (s t : List ℕ) → encode_utf8_all (s ++ t) ≡ encode_utf8_all s ++ encode_utf8_all t
+encodes_append [] t = refl
+encodes_append (c ∷ s) t = ap (λ l. encode_utf8 c ++ l) (encodes_append s t) ∙ sym (append_assoc (encode_utf8 c) (encode_utf8_all s) (encode_utf8_all t))
+
+fills_text : {t r : List ℕ} {row : OrderedTree} → Fills t row r → (s : List ℕ) × (t ≡ s ++ r) × (printed row ≡ encode_utf8_all s)
+fills_text end = ([], refl, refl)
+fills_text {t} {r} {row = row} (leaf {content = content} {after = after} one more) =
+    let first = leaf_text one in
+    let last = fills_text more in
+    (first.0 ++ last.0,
+     first.1 ∙ ap (λ l. first.0 ++ l) last.1 ∙ sym (append_assoc first.0 last.0 r),
+     printed-more content ordered.none after ∙ ap (λ l. l ++ printed after) first.2 ∙ ap (λ l. encode_utf8_all first.0 ++ l) last.2 ∙ sym (encodes_append first.0 last.0))
+
+-- leaves that fill a text print it
+pub fills_printed : (text : List ℕ) (row : OrderedTree) → IsUtf8 text → Fills (chars text) row [] → printed row ≡ text
+fills_printed text row u f =
+    let whole = fills_text f in
+    whole.2 ∙ ap encode_utf8_all (sym (whole.1 ∙ append-nil whole.0)) ∙ encodes-chars text u
+
+-- what is left after a leaf passes as well
+pub passes_leaf : {p : ℕ → Bool} {content : Content} {t r : List ℕ} → GapLeaf content t r → Many p t [] → Many p r []
+passes_leaf one many = let text = leaf_text one in many_after text.0 many text.1

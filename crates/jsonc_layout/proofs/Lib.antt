@@ -1,0 +1,9 @@
+pub mod Texts
+pub mod Growing
+pub mod Pushing
+pub mod GapLeaves
+pub mod Rows
+pub mod Views
+pub mod Filling
+pub mod Meanings
+pub mod Building

@@ -1,0 +1,190 @@
+//! From a syntax tree to the tree of its text.
+ghost use Rattle.std.specs.Prelude.{◌≡◌, ◌<◌, IfOk, IsTrue, OnOk, IsCharBoundary, length, slice_range, string_bytes};
+ghost use Rattle.jsonc_text.specs.Text.{Spans};
+ghost use Rattle.jsonc_tree.specs.Content.{Content};
+ghost use Rattle.jsonc_tree.specs.OrderedTree.{OrderedTree, more, none};
+ghost use Rattle.jsonc_tree.specs.Tree.{is_container_at};
+ghost use Rattle.jsonc_ast.specs.Views.{items_located, located, members_located, member_of};
+ghost use Rattle.jsonc_layout.specs.Growth.{Grows};
+ghost use Rattle.jsonc_layout.specs.Laid.{CanLay, CanLayItems, CanLayMembers, CanLayProperty, FillsBetween, IsFillable, ItemsLaid, Laid, MembersLaid, NameLaid, PropertyLaid, is_quote_at};
+
+use crate::fill::{char_at, fill};
+use crate::push::push_child;
+use jsonc_ast::ast::{ObjectProp, Value};
+use jsonc_text::common::{Range, Ranged};
+use jsonc_tree::{Kind, Tree};
+use std::alloc::{AllocError, Allocator};
+
+// Adds the leaves between two places.
+fn fill_between<A: Allocator + Copy>(
+    tree: &mut Tree<A>,
+    container: usize,
+    alloc: A,
+    text: &str,
+    from: usize,
+    to: usize,
+) -> Result<(), AllocError>
+    requires there { container < length tree.old.nodes }
+    requires container { IsTrue (is_container_at tree.old.nodes container) }
+    requires fillable { IsFillable text.now from to }
+    ensures { OnOk result ((row : OrderedTree) × Grows tree.old.nodes tree.new.nodes container row × FillsBetween text.now from to row) }
+{
+    fill(tree, container, alloc, &text[from..to])
+}
+
+// The text in a range, as written.
+fn written<A: Allocator>(alloc: A, text: &str, range: Range) -> Result<String<A>, AllocError>
+    requires { Spans text.now range.start range.end }
+    ensures { IfOk result (λ s. string_bytes s ≡ slice_range text.now range.start range.end) }
+{
+    String::from_str(alloc, &text[range.start..range.end])
+}
+
+// Whether a quote stands at a place.
+fn is_quote_at(text: &str, place: usize) -> bool
+    requires { IsCharBoundary text.now place }
+    ensures { result ≡ is_quote_at text.now place }
+{
+    match char_at(text, place) {
+        Some(c) => (c == '"') | (c == '\''),
+        None => false,
+    }
+}
+
+// Adds a property's name: a string in quotes, or a word.
+fn build_name<A: Allocator + Copy>(
+    tree: &mut Tree<A>,
+    container: usize,
+    alloc: A,
+    text: &str,
+    range: Range,
+) -> Result<(), AllocError>
+    requires there { container < length tree.old.nodes }
+    requires container { IsTrue (is_container_at tree.old.nodes container) }
+    requires spans { Spans text.now range.start range.end }
+    ensures { OnOk result ((content : Content) × Grows tree.old.nodes tree.new.nodes container (more content none none) × NameLaid text.now range content) }
+{
+    let name = written(alloc, text, range)?;
+    if is_quote_at(text, range.start) {
+        push_child(tree, container, Kind::String(name))?;
+        return Ok(());
+    }
+    push_child(tree, container, Kind::Word(name))?;
+    Ok(())
+}
+
+// Adds a value.
+#[cycle(build)]
+fn build_value<A: Allocator + Copy>(
+    tree: &mut Tree<A>,
+    container: usize,
+    alloc: A,
+    text: &str,
+    value: &Value<'_, A>,
+) -> Result<(), AllocError>
+    requires there { container < length tree.old.nodes }
+    requires container { IsTrue (is_container_at tree.old.nodes container) }
+    requires lies { CanLay text.now (located value.now) }
+    ensures { OnOk result ((content : Content) × (below : OrderedTree) × Grows tree.old.nodes tree.new.nodes container (more content below none) × Laid text.now (located value.now) content below) }
+{
+    match value {
+        Value::StringLit(value) => {
+            let text = written(alloc, text, value.range)?;
+            push_child(tree, container, Kind::String(text))?;
+            Ok(())
+        }
+        Value::NumberLit(value) => {
+            let text = written(alloc, text, value.range)?;
+            push_child(tree, container, Kind::Number(text))?;
+            Ok(())
+        }
+        Value::BooleanLit(value) => {
+            push_child(tree, container, Kind::Boolean(value.value))?;
+            Ok(())
+        }
+        Value::NullKeyword(_) => {
+            push_child(tree, container, Kind::Null)?;
+            Ok(())
+        }
+        Value::Array(array) => {
+            let node = push_child(tree, container, Kind::Array)?;
+            build_elements(tree, node, alloc, text, &array.elements, array.range)
+        }
+        Value::Object(object) => {
+            let node = push_child(tree, container, Kind::Object)?;
+            build_properties(tree, node, alloc, text, &object.properties, object.range)
+        }
+    }
+}
+
+// Adds the elements of an array, and the leaves before, between and after them.
+#[cycle(build)]
+fn build_elements<A: Allocator + Copy>(
+    tree: &mut Tree<A>,
+    container: usize,
+    alloc: A,
+    text: &str,
+    elements: &[Value<'_, A>],
+    range: Range,
+) -> Result<(), AllocError>
+    requires there { container < length tree.old.nodes }
+    requires container { IsTrue (is_container_at tree.old.nodes container) }
+    requires lie { CanLayItems text.now range.start (items_located elements.now) range.end }
+    ensures { OnOk result ((row : OrderedTree) × Grows tree.old.nodes tree.new.nodes container row × ItemsLaid text.now range.start (items_located elements.now) range.end row) }
+{
+    let mut from = range.start;
+    for element in elements {
+        let range = element.range();
+        fill_between(tree, container, alloc, text, from, range.start)?;
+        build_value(tree, container, alloc, text, element)?;
+        from = range.end;
+    }
+    fill_between(tree, container, alloc, text, from, range.end)
+}
+
+// Adds the properties of an object, and the leaves before, between and after them.
+#[cycle(build)]
+fn build_properties<A: Allocator + Copy>(
+    tree: &mut Tree<A>,
+    container: usize,
+    alloc: A,
+    text: &str,
+    properties: &[ObjectProp<'_, A>],
+    range: Range,
+) -> Result<(), AllocError>
+    requires there { container < length tree.old.nodes }
+    requires container { IsTrue (is_container_at tree.old.nodes container) }
+    requires lie { CanLayMembers text.now range.start (members_located properties.now) range.end }
+    ensures { OnOk result ((row : OrderedTree) × Grows tree.old.nodes tree.new.nodes container row × MembersLaid text.now range.start (members_located properties.now) range.end row) }
+{
+    let mut from = range.start;
+    for property in properties {
+        let range = property.range();
+        fill_between(tree, container, alloc, text, from, range.start)?;
+        let node = push_child(tree, container, Kind::Property)?;
+        build_property(tree, node, alloc, text, property)?;
+        from = range.end;
+    }
+    fill_between(tree, container, alloc, text, from, range.end)
+}
+
+// Adds a property's name, its value, and the leaves between them.
+#[cycle(build)]
+fn build_property<A: Allocator + Copy>(
+    tree: &mut Tree<A>,
+    container: usize,
+    alloc: A,
+    text: &str,
+    property: &ObjectProp<'_, A>,
+) -> Result<(), AllocError>
+    requires there { container < length tree.old.nodes }
+    requires container { IsTrue (is_container_at tree.old.nodes container) }
+    requires lies { CanLayProperty text.now (member_of property.now).name (member_of property.now).value }
+    ensures { OnOk result ((row : OrderedTree) × Grows tree.old.nodes tree.new.nodes container row × PropertyLaid text.now (member_of property.now).name (member_of property.now).value row) }
+{
+    let name = property.name.range();
+    let value = property.value.range();
+    build_name(tree, container, alloc, text, name)?;
+    fill_between(tree, container, alloc, text, name.end, value.start)?;
+    build_value(tree, container, alloc, text, &property.value)
+}

@@ -1,0 +1,6 @@
+//! The tree of a text: from the text and its syntax tree, a [`Tree`](jsonc_tree::Tree) whose leaves are every byte of the text.
+#![tactic(auto)]
+
+mod build;
+mod fill;
+mod push;

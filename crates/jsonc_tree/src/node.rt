@@ -1,0 +1,72 @@
+//! What a node is.
+
+ghost use Rattle.std.specs.Prelude.{◌≡◌, IsTrue, string_bytes};
+ghost use Rattle.jsonc_tree.specs.Content.{has_text, is_container, with_text};
+ghost use Rattle.jsonc_tree.specs.Stored.{content_of};
+
+use std::alloc::Allocator;
+
+/// How a line ends.
+#[derive(Clone, Copy, PartialEq, Eq, Debug, Default)]
+pub enum CstNewlineKind {
+    #[default]
+    LineFeed,
+    CarriageReturnLineFeed,
+    CarriageReturn,
+}
+
+/// What a node is, a leaf with its text.
+///
+/// The text of a string has its quotes, that of a comment its marks.
+#[derive(Drop)]
+pub enum Kind<A: Allocator> {
+    Root,
+    Object,
+    Array,
+    Property,
+    String(String<A>),
+    Word(String<A>),
+    Number(String<A>),
+    Boolean(bool),
+    Null,
+    Token(char),
+    Whitespace(String<A>),
+    Newline(CstNewlineKind),
+    Comment(String<A>),
+}
+
+impl<A: Allocator> Kind<A> {
+    /// Whether a node of this kind may have children: the root, an object, an array or a property.
+    pub fn is_container(&self) -> bool
+        ensures { result ≡ is_container (content_of self.now) }
+    {
+        match self {
+            Kind::Root | Kind::Object | Kind::Array | Kind::Property => true,
+            _ => false,
+        }
+    }
+
+    /// Gives a leaf that keeps a text another one.
+    pub(crate) fn set_text(&mut self, text: String<A>)
+        requires { IsTrue (has_text (content_of self.old)) }
+        ensures { content_of self.new ≡ with_text (content_of self.old) (string_bytes text) }
+    {
+        match self {
+            Kind::String(s) => *s = text,
+            Kind::Word(s) => *s = text,
+            Kind::Number(s) => *s = text,
+            Kind::Whitespace(s) => *s = text,
+            Kind::Comment(s) => *s = text,
+            _ => unreachable!(),
+        }
+    }
+}
+
+// A node as it is stored: its place is that among its parent's children, or 0.
+#[derive(Drop)]
+pub(crate) struct Node<A: Allocator> {
+    pub(crate) kind: Kind<A>,
+    pub(crate) parent: Option<usize>,
+    pub(crate) place: usize,
+    pub(crate) children: Vec<usize, A>,
+}

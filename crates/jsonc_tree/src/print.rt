@@ -1,0 +1,108 @@
+//! Printing: the texts of the leaves in order.
+
+ghost use Rattle.std.specs.Prelude.{◌≡◌, ◌<◌, Some, length, vec_len};
+ghost use Rattle.std.specs.Fmt.{WritesOnOk};
+ghost use Rattle.jsonc_tree.specs.Content.{text_of};
+ghost use Rattle.jsonc_tree.specs.OrderedTree.{ordered_tree, printed};
+ghost use Rattle.jsonc_tree.specs.Stored.{content_of, nodes_in, IsStored};
+
+use crate::node::{CstNewlineKind, Kind, Node};
+use crate::tree::Tree;
+use crate::walk::node_after;
+use std::alloc::Allocator;
+use std::fmt;
+use std::marker::Model;
+
+fn write_own<A: Allocator, W: fmt::Write>(kind: &Kind<A>, f: &mut fmt::Formatter<W>) -> fmt::Result
+    ensures { WritesOnOk W.write_str_gives f.old result (text_of (content_of kind.now)) f.new }
+{
+    match kind {
+        Kind::Root | Kind::Object | Kind::Array | Kind::Property => Ok(()),
+        Kind::String(s) => f.write_str(s.as_str()),
+        Kind::Word(s) => f.write_str(s.as_str()),
+        Kind::Number(s) => f.write_str(s.as_str()),
+        Kind::Boolean(true) => f.write_str("true"),
+        Kind::Boolean(false) => f.write_str("false"),
+        Kind::Null => f.write_str("null"),
+        Kind::Token(c) => write!(f, "{c}"),
+        Kind::Whitespace(s) => f.write_str(s.as_str()),
+        Kind::Newline(CstNewlineKind::LineFeed) => f.write_str("\n"),
+        Kind::Newline(CstNewlineKind::CarriageReturnLineFeed) => f.write_str("\r\n"),
+        Kind::Newline(CstNewlineKind::CarriageReturn) => f.write_str("\r"),
+        Kind::Comment(s) => f.write_str(s.as_str()),
+    }
+}
+
+// Writes what the leaves below `end` print, with no memory.
+fn write_below<A: Allocator, W: fmt::Write>(
+    nodes: &Vec<Node<A>, A>,
+    end: usize,
+    f: &mut fmt::Formatter<W>,
+) -> fmt::Result
+    requires stored { IsStored nodes.now.items }
+    requires there { end < vec_len nodes.now }
+    ensures { WritesOnOk W.write_str_gives f.old result (printed (ordered_tree (nodes_in nodes.now) end)) f.new }
+{
+    let mut next = Some(end);
+    while let Some(n) = next {
+        let node = &nodes[n];
+        write_own(&node.kind, f)?;
+        next = node_after(nodes, end, n);
+    }
+    Ok(())
+}
+
+/// One node to be printed with what is below it.
+#[derive(Drop)]
+pub struct Shown<'a, A: Allocator> {
+    nodes: &'a Vec<Node<A>, A>,
+    node: usize,
+}
+
+impl<'a, A: Allocator> Model for Shown<'a, A> {
+    ghost use Rattle.std.specs.Prelude.{◌<◌, vec_len};
+    ghost use Rattle.jsonc_tree.specs.Tree.{Chosen};
+
+    ghost Value = { Chosen };
+
+    ghost use Rattle.jsonc_tree.specs.Stored.{nodes_of, IsStored};
+
+    ghost view = { λ s. record {
+      nodes = nodes_of s.nodes.now.items;
+      node = s.node;
+    } };
+
+    ghost invariant = { λ s. IsStored s.nodes.now.items × (s.node < vec_len s.nodes.now) };
+}
+
+impl<A: Allocator> Tree<A> {
+    /// A node to be printed with what is below it.
+    pub fn shown(&self, node: usize) -> Shown<'_, A>
+        requires { node < length self.now.nodes }
+        ensures nodes { result.nodes ≡ self.now.nodes }
+        ensures node { result.node ≡ node }
+    {
+        Shown {
+            nodes: &self.nodes,
+            node,
+        }
+    }
+}
+
+/// Writes what the node and those below it print: the texts of the leaves, in order.
+impl<'a, A: Allocator> fmt::Display for Shown<'a, A> {
+    ghost output = { λ s. Some (printed (ordered_tree s.nodes s.node)) };
+
+    fn fmt<W: fmt::Write>(&self, f: &mut fmt::Formatter<W>) -> fmt::Result {
+        write_below(self.nodes, self.node, f)
+    }
+}
+
+/// Writes the document: the texts of its leaves, in order.
+impl<A: Allocator> fmt::Display for Tree<A> {
+    ghost output = { λ t. Some (printed (ordered_tree t.nodes 0)) };
+
+    fn fmt<W: fmt::Write>(&self, f: &mut fmt::Formatter<W>) -> fmt::Result {
+        write_below(&self.nodes, 0, f)
+    }
+}
