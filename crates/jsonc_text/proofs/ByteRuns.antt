@@ -1,5 +1,5 @@
 -- Runs of bytes, and the characters that they are.
-use Rattle.std.proofs.Common.{ℕ, ◌+◌, ◌-◌, ◌<◌, ◌≤◌, ◌≡◌, ◌∙◌, sym, ap, refl, subst, List, [], ◌∷◌, ◌++◌, length, get_or, arith, IsUtf8, IsTrue, Bool, true, false, not, IsCharBoundary, chars, encode_utf8, encode_utf8_all, slice_range, ◌==◌, ◌&&◌, ◌⊎◌, inl, inr, length-append, append_assoc}
+use Rattle.std.proofs.Common.{drop, ℕ, ◌+◌, ◌-◌, ◌<◌, ◌≤◌, ◌≡◌, ◌∙◌, sym, ap, refl, subst, List, [], ◌∷◌, ◌++◌, length, get_or, arith, IsUtf8, IsTrue, Bool, true, false, not, IsCharBoundary, chars, encode_utf8, encode_utf8_all, slice_range, ◌==◌, ◌&&◌, ◌⊎◌, inl, inr, length-append, length-drop, append_assoc}
 use Rattle.std.proofs.lemmas.Bool.{cases_lt}
 use Rattle.std.proofs.lemmas.List.{get_or-append-add}
 use Rattle.std.proofs.Math.Seq.{get_or-append_seam}
@@ -7,11 +7,14 @@ use Rattle.std.proofs.lemmas.List.Edits.{get_or-between, length-between}
 use Rattle.std.proofs.lemmas.Str.{encode_ascii, encodes-append, encodes-chars, length-le-encodes, IsUtf8-between, IsCharBoundary-end, IsCharBoundary-before_ascii}
 use Rattle.jsonc_text.specs.Text.{rest, Many, stop, step, Spans}
 use Rattle.jsonc_text.specs.Chars.{Steps}
-use Rattle.jsonc_text.specs.Between.{Reaches, LacksAt, is_neither, HoldsBlock}
+use Rattle.jsonc_text.specs.Between.{Reaches, LacksAt, NoneFrom, is_neither, HoldsBlock}
 use Rattle.jsonc_text.specs.Gaps.{HasNoEndInside}
 use Rattle.jsonc_text.proofs.Steps.{steps_ascii}
-use Rattle.jsonc_text.proofs.Basics.{and_both, test_eq}
-use Rattle.jsonc_text.proofs.Cuts.{chars_between, slice_encodes}
+use Rattle.std.proofs.lemmas.List.{get_or-drop}
+use Rattle.jsonc_text.specs.Gaps.{UpToBlockEnd, block}
+use Rattle.jsonc_text.proofs.Basics.{and_both, test_eq, tails}
+use Rattle.jsonc_text.proofs.BlockComments.{block_inside}
+use Rattle.jsonc_text.proofs.Cuts.{chars_between, slice_encodes, rest_encodes}
 
 -- each byte from one place to another passes the test
 pub record BytesPass (p : ℕ → Bool) (bytes : List ℕ) (start place : ℕ) : Type 0 where
@@ -139,3 +142,19 @@ block_found bytes i j u b held l h =
 
 pub at_end : (bytes : List ℕ) (j : ℕ) → j ≤ length bytes → length bytes ≤ j → IsCharBoundary bytes j
 at_end bytes j h l = let e : length bytes ≡ j = omega arith in let P : ℕ → Type 0 = λ k. IsCharBoundary bytes k in subst P e (IsCharBoundary-end bytes)
+
+-- no `*/` stands before the last byte
+pub no_block : (bytes : List ℕ) (i j : ℕ) → IsUtf8 bytes → IsCharBoundary bytes i → NoClose bytes i j → length bytes - j ≤ 1 → NoneFrom UpToBlockEnd bytes i
+no_block bytes i j u b held l r h =
+    let inside = block_inside (block h) in
+    let parts : rest bytes i ≡ inside.0 ++ 0x2A ∷ 0x2F ∷ r = tails (tails inside.1) in
+    let a = encode_utf8_all inside.0 in
+    let tail = encode_utf8_all r in
+    let k = length a in
+    let all : drop i bytes ≡ a ++ 0x2A ∷ 0x2F ∷ tail =
+    sym (rest_encodes bytes i u b) ∙ ap encode_utf8_all parts ∙ encodes-append inside.0 (0x2A ∷ 0x2F ∷ r) ∙ ap (λ t. a ++ t) (marks r) in
+    let count : length bytes - i ≡ k + (2 + length tail) = omega (arith, sym (length-drop i bytes) ∙ ap length all ∙ length-append a (0x2A ∷ 0x2F ∷ tail)) in
+    let star : get_or bytes (i + k) 0 ≡ 0x2A = sym (get_or-drop i bytes k 0) ∙ ap (λ t. get_or t k 0) all ∙ get_or-append_seam a 0x2A (0x2F ∷ tail) 0 in
+    let slash : get_or bytes (i + (k + 1)) 0 ≡ 0x2F = sym (get_or-drop i bytes (k + 1) 0) ∙ ap (λ t. get_or t (k + 1) 0) all ∙ get_or-append-add a (0x2A ∷ 0x2F ∷ tail) 1 0 in
+    let next : i + (k + 1) ≡ (i + k) + 1 = omega arith in
+    held.none (i + k) (omega arith) (omega (arith, held.within)) star (ap (λ n. get_or bytes n 0) (sym next) ∙ slash)

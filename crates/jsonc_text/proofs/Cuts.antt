@@ -1,5 +1,5 @@
 -- What stands between two places of a text: its characters, and its bytes.
-use Rattle.std.proofs.Common.{ℕ, ◌+◌, ◌<◌, ◌≤◌, ◌≡◌, ◌∙◌, sym, ap, refl, List, [], ◌∷◌, ◌++◌, length, drop, arith, IsUtf8, chars, Bool, IsCharBoundary, encode_utf8, encode_utf8_all, length-append, length-drop, slice_range, take, ◌⊎◌, inl, inr}
+use Rattle.std.proofs.Common.{ℕ, ◌+◌, ◌<◌, ◌≤◌, ◌≡◌, ◌∙◌, sym, ap, refl, List, [], ◌∷◌, ◌++◌, length, drop, arith, IsUtf8, chars, Bool, IsCharBoundary, encode_utf8, encode_utf8_all, length-append, length-drop, slice_range, take, ◌⊎◌, inl, inr, add-zero, subst}
 use Rattle.std.proofs.lemmas.Str.{IsUtf8-drop, IsUtf8-between, encodes-chars, encodes-append, chars-append, length-encode, IsUtf8-take, IsCharBoundary-end}
 use Rattle.std.proofs.lemmas.Bool.{cases_lt}
 use Rattle.std.proofs.lemmas.List.{append_cancel_right, take-append-drop}
@@ -7,7 +7,7 @@ use Rattle.std.proofs.lemmas.List.Folds.{drop_split}
 use Rattle.std.specs.Char.{len_utf8}
 use Rattle.jsonc_text.specs.Text.{rest, Many, stop, step, byte_length, Spans}
 use Rattle.jsonc_text.specs.Chars.{Steps}
-use Rattle.jsonc_text.proofs.Steps.{rest_end}
+use Rattle.jsonc_text.proofs.Steps.{rest_end, steps_char}
 
 pub byte_length-append : (s t : List ℕ) → byte_length (s ++ t) ≡ byte_length s + byte_length t
 byte_length-append s t = ap length (encodes-append s t) ∙ length-append (encode_utf8_all s) (encode_utf8_all t)
@@ -81,3 +81,20 @@ many_spans p bytes i j u b d m = let part = many_split p m in spans bytes part.0
 -- the characters of a text before a place, and after it
 pub chars_at : (bytes : List ℕ) (i : ℕ) → IsUtf8 bytes → IsCharBoundary bytes i → chars bytes ≡ chars (take i bytes) ++ rest bytes i
 chars_at bytes i u b = ap chars (sym (take-append-drop i bytes)) ∙ chars-append (take i bytes) (drop i bytes) (IsUtf8-take bytes i u b)
+
+-- the characters s at a place lead to the place after them
+first_step : (bytes t : List ℕ) (i c : ℕ) → IsUtf8 bytes → IsCharBoundary bytes i → rest bytes i ≡ c ∷ t → Steps bytes i c (i + len_utf8 c) × (rest bytes (i + len_utf8 c) ≡ t)
+first_step bytes t i c u b e =
+    let same : drop i bytes ≡ encode_utf8 c ++ encode_utf8_all t = sym (rest_encodes bytes i u b) ∙ ap encode_utf8_all e in
+    let one : Steps bytes i c (i + len_utf8 c) = steps_char bytes (encode_utf8_all t) i c u b same in
+    let both : c ∷ rest bytes (i + len_utf8 c) ≡ c ∷ t = sym one.0 ∙ e in
+    (one, cc)
+
+pub rest_past : (bytes s r : List ℕ) (i : ℕ) → IsUtf8 bytes → IsCharBoundary bytes i → rest bytes i ≡ s ++ r → (rest bytes (i + byte_length s) ≡ r) × IsCharBoundary bytes (i + byte_length s)
+rest_past bytes [] r i u b e = rw (add-zero i) (e, b)
+rest_past bytes (c ∷ s) r i u b e =
+    let one = first_step bytes (s ++ r) i c u b e in
+    let more = rest_past bytes s r (i + len_utf8 c) u one.0.1 one.1 in
+    let same : i + len_utf8 c + byte_length s ≡ i + byte_length (c ∷ s) = omega (arith, length-append (encode_utf8 c) (encode_utf8_all s), length-encode c) in
+    let P : ℕ → Type 0 = λ j. (rest bytes j ≡ r) × IsCharBoundary bytes j in
+    subst P same more

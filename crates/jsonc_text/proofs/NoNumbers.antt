@@ -1,5 +1,5 @@
 -- Where no number stands: each fault of a number in turn.
-use Rattle.std.proofs.Common.{ℕ, ◌+◌, ◌≡◌, ◌∙◌, sym, ap, refl, Bool, true, false, not, List, [], ◌∷◌, ◌++◌, Option, Some, None, IsTrue, arith, ◌==◌, ◌||◌, codes, Result, Ok, Err, IfErr}
+use Rattle.std.proofs.Common.{ℕ, ◌+◌, ◌≡◌, ◌∙◌, sym, ap, refl, Bool, true, false, List, ◌∷◌, Option, Some, None, IsTrue, arith, ◌==◌, ◌||◌, codes, Result, Ok, Err, IfErr}
 use Rattle.jsonc_text.specs.Options.{Options}
 use Rattle.jsonc_text.specs.Text.{rest, next, no, starts, AllOf, is_digit, is_hex_digit}
 use Rattle.jsonc_text.specs.Chars.{Steps}

@@ -1,24 +1,25 @@
 -- From places to lexemes and comments.
-use Rattle.std.proofs.Common.{ℕ, ◌+◌, ◌<◌, ◌≡◌, ◌≢◌, ◌∙◌, sym, ap, refl, List, [], ◌∷◌, ◌++◌, length, get_or, arith, IsUtf8, IsTrue, Bool, true, false, not, IsCharBoundary, chars, slice_range, ◌==◌, ◌||◌, codes, Option, Some, None, append_assoc}
+use Rattle.std.proofs.Common.{inl, inr, ℕ, ◌+◌, ◌<◌, ◌≡◌, ◌≢◌, ◌∙◌, sym, ap, refl, List, [], ◌∷◌, ◌++◌, length, get_or, arith, IsUtf8, IsTrue, Bool, true, false, not, IsCharBoundary, chars, slice_range, ◌==◌, ◌||◌, codes, Option, Some, None, append_assoc}
 use Rattle.jsonc_text.specs.Options.{Options}
 use Rattle.jsonc_text.specs.Text.{rest, next, no, starts, Many, step, Spans, is_digit, is_ascii_letter}
 use Rattle.jsonc_text.specs.Chars.{Steps}
-use Rattle.jsonc_text.specs.Between.{Between, Reaches, LacksAt, IsWhole, PassesWord, is_neither, IsClosed, HoldsBlock}
-use Rattle.jsonc_text.specs.Gaps.{line}
+use Rattle.jsonc_text.specs.Between.{Between, Reaches, LacksAt, IsWhole, PassesWord, is_neither, IsClosed, HoldsBlock, NoneFrom}
+use Rattle.jsonc_text.specs.Gaps.{line, block, UpToBlockEnd, IsComment}
 use Rattle.jsonc_text.specs.Letters.{is_wide_letter}
 use Rattle.jsonc_text.specs.Lexemes.{IsScanned, lexeme, line_comment, block_comment, punctuation, string, word, number, is_punctuation}
 use Rattle.jsonc_text.specs.declared.lexeme.Lexeme.{Lexeme}
-use Rattle.jsonc_text.specs.Reads.{what_of}
+use Rattle.jsonc_text.specs.Reads.{what_of, NoWord}
 use Rattle.jsonc_text.specs.Numbers.{Sign, Unsigned, Number}
 use Rattle.jsonc_text.specs.Strings.{Pieces, done, piece, itself, IsQuote}
 use Rattle.jsonc_text.specs.Words.{Keyword, IsKeyword, keyword_text, WordLit, EndsWhole, goes_on, begins_word, is_in_word}
 use Rattle.jsonc_text.proofs.Ascii.{OnlyAscii}
-use Rattle.jsonc_text.proofs.Basics.{or_left, or_right, no_starts, starts_also, front_same}
+use Rattle.jsonc_text.proofs.Basics.{or_left, or_right, no_starts, starts_also, front_same, clash, tails, apart}
 use Rattle.std.proofs.lemmas.List.{append_cancel_left}
 use Rattle.jsonc_text.proofs.BlockComments.{block_of}
 use Rattle.jsonc_text.proofs.Cuts.{chars_between, many_split}
 use Rattle.jsonc_text.proofs.Steps.{steps_ascii}
-use Rattle.jsonc_text.proofs.UniqueWords.{ends_word}
+use Rattle.jsonc_text.proofs.UniqueWords.{ends_word, word_run}
+use Rattle.jsonc_text.proofs.Begins.{word_begins}
 
 -- the text between two places stands there
 slice_here : (bytes w : List ℕ) (i j : ℕ) → IsUtf8 bytes → Spans bytes i j → w ≡ slice_range bytes i j → rest bytes i ≡ chars w ++ rest bytes j
@@ -167,3 +168,26 @@ pub punctuation_read : (o : Options) (bytes : List ℕ) (i : ℕ) (l : Lexeme) �
 punctuation_read o bytes i l u h p e =
     let s = steps_ascii bytes i u h (punctuation_small (get_or bytes i 0) p) in
     record { boundary = s.1; order = omega arith; piece = rw e (p, s.0) }
+
+-- where no comment stands
+no_mark : {t u r : List ℕ} → t ≡ 0x2F ∷ u → IsTrue (no (λ c. c == 0x2F) (next u)) → IsTrue (no (λ c. c == 0x2A) (next u)) → IsComment t r → ⊥
+no_mark e a b (inl (line g n)) = clash true (rw (sym (tails e)) at a) refl
+no_mark e a b (inr (block g)) = clash true (rw (sym (tails e)) at b) refl
+
+pub lone_slash : (bytes : List ℕ) (i : ℕ) → Steps bytes i 0x2F (i + 1) → LacksAt (λ c. c == 0x2F) bytes (i + 1) → LacksAt (λ c. c == 0x2A) bytes (i + 1) → NoneFrom IsComment bytes i
+lone_slash bytes i s a b r c = no_mark s.0 a b c
+
+no_block_end : {t u r : List ℕ} → t ≡ 0x2F ∷ 0x2A ∷ u → ((s : List ℕ) → UpToBlockEnd u s → ⊥) → IsComment t r → ⊥
+no_block_end e n (inl (line g a)) = apart refl (tails e)
+no_block_end {r = r} e n (inr (block g)) = n r (rw (tails (tails e)) at g)
+
+pub open_block : (bytes : List ℕ) (i : ℕ) → Steps bytes i 0x2F (i + 1) → Steps bytes (i + 1) 0x2A (i + 1 + 1) → NoneFrom UpToBlockEnd bytes (i + 2) → NoneFrom IsComment bytes i
+open_block bytes i s d n r c =
+    let two : i + 1 + 1 ≡ i + 2 = omega arith in
+    let star = rw two at d in
+    no_block_end (s.0 ∙ ap (λ t. 0x2F ∷ t) star.0) n c
+
+-- where no word stands
+pub no_word : (o : Options) (bytes : List ℕ) (i : ℕ) → NoneFrom PassesWord bytes i → NoWord o bytes i
+no_word o bytes i n s r w =
+    n r (record { begins = word_begins r w.0 w.1; goes_on = word_run w.0 w.1; ends = w.1.ends })

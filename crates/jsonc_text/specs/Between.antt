@@ -25,6 +25,10 @@ NoneFrom R bytes start = (r : List ℕ) → R (rest bytes start) r → ⊥
 abbrev pub HasAt : (ℕ → Bool) → List ℕ → ℕ → Type 0
 HasAt p bytes place = (c : ℕ) × IsTrue (p c) × Steps bytes place c (place + 1)
 
+-- a character that passes the test stands from one place to another
+abbrev pub PassesOne : (ℕ → Bool) → List ℕ → ℕ → ℕ → Type 0
+PassesOne p bytes start end = (c : ℕ) × IsTrue (p c) × Steps bytes start c end × (start < end)
+
 -- no character that passes the test stands at a place
 abbrev pub LacksAt : (ℕ → Bool) → List ℕ → ℕ → Type 0
 LacksAt p bytes place = IsTrue (no p (next (rest bytes place)))

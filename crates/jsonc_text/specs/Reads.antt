@@ -1,13 +1,13 @@
 -- What a lexeme stands for, and where it was read.
-use Rattle.std.specs.Prelude.{ℕ, Bool, true, List, chars, codes, IsTrue, ◌==◌, ◌||◌}
+use Rattle.std.specs.Prelude.{ℕ, ◌≡◌, Bool, true, List, chars, codes, IsTrue, ◌==◌, ◌||◌}
 use Rattle.jsonc_text.specs.declared.lexeme.Lexeme.{Lexeme}
 use Rattle.jsonc_text.specs.declared.lexeme.Lexeme.TheVariants.{OpenBrace, CloseBrace, OpenBracket, CloseBracket, Comma, Colon, String, Word, Boolean, Number, Null, CommentLine, CommentBlock}
 use Rattle.jsonc_text.specs.declared.lexeme.Read.{Read}
 use Rattle.jsonc_text.specs.Options.{Options}
-use Rattle.jsonc_text.specs.Lexemes.{Scanned, lexeme, line_comment, block_comment, punctuation, string, word, number, keyword, IsScanned}
+use Rattle.jsonc_text.specs.Lexemes.{Scanned, lexeme, line_comment, block_comment, punctuation, string, word, number, keyword, is_punctuation, Lexeme as IsLexeme, IsScanned}
 use Rattle.jsonc_text.specs.Words.{boolean, null}
 use Rattle.jsonc_text.specs.Between.{Between, NoneFrom, IsWhole, IsAlone}
-use Rattle.jsonc_text.specs.Numbers.{Unsigned}
+use Rattle.jsonc_text.specs.Numbers.{Fraction, Unsigned, Number as IsNumber}
 use Rattle.jsonc_text.specs.Text.{rest, next, starts}
 
 -- a string without escapes stands for its text
@@ -61,3 +61,30 @@ NoNames bytes start = NoneFrom (IsAlone (codes "Infinity")) bytes start × NoneF
 -- an `I` or an `N` stands at a place
 abbrev pub HasName : List ℕ → ℕ → Type 0
 HasName bytes start = IsTrue (starts (λ c. c == 0x49 || c == 0x4E) (next (rest bytes start)))
+
+-- no word stands at a place
+abbrev pub NoWord : Options → List ℕ → ℕ → Type 0
+NoWord o bytes start = (s : List ℕ) → NoneFrom (IsLexeme o (word s)) bytes start
+
+-- this lexeme is the punctuation character c
+abbrev pub IsMark : ℕ → Lexeme → Type 0
+IsMark c l = IsTrue (is_punctuation c) × (what_of l ≡ lexeme (punctuation c))
+
+-- no fraction stands at a place, and none is missing there
+abbrev pub NoFraction : Options → List ℕ → ℕ → Type 0
+NoFraction o bytes start = NoneFrom (Fraction o) bytes start
+
+-- a number after its sign, and none
+abbrev pub IsAfterSign : Options → List ℕ → ℕ → ℕ → Type 0
+IsAfterSign o bytes start end = Between (Unsigned o true) bytes start end
+
+abbrev pub NoneAfterSign : Options → List ℕ → ℕ → Type 0
+NoneAfterSign o bytes start = NoneFrom (Unsigned o true) bytes start
+
+-- no number without its sign stands at a place, unless a name does
+abbrev pub NoFinite : Options → List ℕ → ℕ → Type 0
+NoFinite o bytes start = NoNames bytes start → NoUnsigned o bytes start
+
+-- no number stands at a place, unless a name does
+abbrev pub NoNumber : Options → List ℕ → ℕ → Type 0
+NoNumber o bytes start = NoNames bytes start → NoneFrom (IsNumber o) bytes start

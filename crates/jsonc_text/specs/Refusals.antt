@@ -2,7 +2,7 @@
 use Rattle.std.specs.Prelude.{ℕ, ◌≡◌, ◌≢◌, List}
 use Rattle.jsonc_text.specs.declared.errors.ParseError.{ParseError}
 use Rattle.jsonc_text.specs.declared.errors.ParseErrorKind.{ParseErrorKind}
-use Rattle.jsonc_text.specs.declared.errors.ParseErrorKind.TheVariants.{OutOfMemory}
+use Rattle.jsonc_text.specs.declared.errors.ParseErrorKind.TheVariants.{OutOfMemory, BareDecimalPointNumbersNotAllowed}
 use Rattle.jsonc_text.specs.Faults.{IsFault, kind_of, range_of}
 
 -- a fault of the text itself, and no want of memory
@@ -15,3 +15,7 @@ pub record IsTold (i j : ℕ) (what : ParseErrorKind) (e : ParseError) : Type 0 
   pub start : (range_of e).start ≡ i
   pub end : (range_of e).end ≡ j
   pub kind : kind_of e ≡ what
+
+-- the fault of a point without a digit after it
+abbrev pub IsBarePoint : ℕ → ℕ → ParseError → Type 0
+IsBarePoint i j e = IsTold i j BareDecimalPointNumbersNotAllowed e

@@ -1,7 +1,8 @@
 //! Comments (JSON5, 7).
 ghost use Rattle.std.specs.Prelude.{◌+◌, IsCharBoundary, IfOk, IfErr};
+ghost use Rattle.jsonc_text.specs.Between.{NoneFrom};
 ghost use Rattle.jsonc_text.specs.Chars.{Steps};
-ghost use Rattle.jsonc_text.specs.Options.{Options};
+ghost use Rattle.jsonc_text.specs.Gaps.{IsComment};
 ghost use Rattle.jsonc_text.specs.Reads.{IsReadAnyhow};
 ghost use Rattle.jsonc_text.specs.Refusals.{IsTextFault};
 
@@ -16,6 +17,7 @@ pub(crate) fn read_comment<'a>(text: &'a str, start: usize) -> Result<Read<'a>, 
     requires boundary { IsCharBoundary text.now start }
     requires slash { Steps text.now start 0x2F (start + 1) }
     ensures found { IfOk result (IsReadAnyhow text.now start) }
+    ensures none { IfErr result (λ _. NoneFrom IsComment text.now start) }
     ensures fault { IfErr result (IsTextFault text.now) }
 {
     if has_byte(text, start + 1, b'/') {

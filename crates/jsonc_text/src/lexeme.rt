@@ -1,7 +1,7 @@
 //! Lexemes and comments as slices of their text.
-ghost use Rattle.std.specs.Prelude.{◌≡◌, IfSome, IfNone, IsTrue, false};
+ghost use Rattle.std.specs.Prelude.{◌≡◌, IfSome, IfNone, false};
 ghost use Rattle.jsonc_text.specs.Lexemes.{is_punctuation, lexeme, punctuation};
-ghost use Rattle.jsonc_text.specs.Reads.{what_of};
+ghost use Rattle.jsonc_text.specs.Reads.{IsMark, what_of};
 ghost use Rattle.jsonc_text.specs.Tokens.{scanned_of};
 
 use crate::tokens::Token;
@@ -56,7 +56,7 @@ pub(crate) fn token_of<'a, A: Allocator>(lexeme: Lexeme<'a>) -> Token<'a, A>
 
 /// The lexeme that one of the punctuation characters is.
 pub(crate) fn punctuation<'a>(byte: u8) -> Option<Lexeme<'a>>
-    ensures found { IfSome result (λ l. IsTrue (is_punctuation byte) × (what_of l ≡ lexeme (punctuation byte))) }
+    ensures found { IfSome result (IsMark byte) }
     ensures none { IfNone result (is_punctuation byte ≡ false) }
 {
     match byte {

@@ -1,16 +1,14 @@
 //! Where numbers end (RFC 8259, 6; JSON5, 6).
 //!
 //! A number commits: what begins as one is that number or a fault, never a shorter number.
-ghost use Rattle.std.specs.Prelude.{◌≡◌, ◌+◌, ◌<◌, ◌≤◌, ◌||◌, ◌==◌, IsTrue, false, IfOk, IfErr, IfSome, IfNone, Bool, true, List, ℕ, codes};
+ghost use Rattle.std.specs.Prelude.{◌≡◌, ◌+◌, ◌<◌, ◌||◌, ◌==◌, IsTrue, false, IfOk, IfErr, IfSome, IfNone, codes, IsCharBoundary, length};
 ghost use Rattle.jsonc_text.specs.Between.{Between, Reaches, HasAt, LacksAt, NoneFrom, IsWhole};
-ghost use Rattle.jsonc_text.specs.Options.{Options};
-ghost use Rattle.jsonc_text.specs.Numbers.{Whole, Fraction, Exponent, Unsigned, Number};
+ghost use Rattle.jsonc_text.specs.Numbers.{Whole, Fraction, Exponent, Number};
 ghost use Rattle.jsonc_text.specs.Chars.{Steps};
 ghost use Rattle.jsonc_text.specs.OptionsOf.{parse_options};
-ghost use Rattle.jsonc_text.specs.Reads.{HasName, IsRead, IsReadName, IsSignedName, IsUnsigned, NoNames, NoUnsigned};
-ghost use Rattle.jsonc_text.specs.Refusals.{IsTextFault, IsTold};
-ghost use Rattle.jsonc_text.specs.Text.{Spans, AllOf, is_digit, is_hex_digit, rest};
-ghost use Rattle.std.specs.Prelude.{IsCharBoundary, length};
+ghost use Rattle.jsonc_text.specs.Reads.{HasName, IsRead, IsReadName, IsAfterSign, IsSignedName, IsUnsigned, NoFinite, NoFraction, NoNames, NoneAfterSign, NoNumber, NoUnsigned};
+ghost use Rattle.jsonc_text.specs.Refusals.{IsTextFault, IsBarePoint};
+ghost use Rattle.jsonc_text.specs.Text.{Spans, AllOf, is_digit, is_hex_digit};
 ghost use Rattle.std.specs.Str.{IsAscii};
 
 use crate::chars::{digits_end, has_byte, hex_digits_end};
@@ -122,9 +120,9 @@ fn fraction_end(
 ) -> Result<usize, ParseError>
     requires { Spans text.now number start }
     ensures found { IfOk result (Reaches (Fraction (parse_options options.now)) text.now start) }
-    ensures none { IfErr result (λ _. NoneFrom (Fraction (parse_options options.now)) text.now start) }
+    ensures none { IfErr result (λ _. NoFraction (parse_options options.now) text.now start) }
     ensures fault { IfErr result (IsTextFault text.now) }
-    ensures told { IfErr result (IsTold number (start + 1) ParseErrorKind.BareDecimalPointNumbersNotAllowed) }
+    ensures told { IfErr result (IsBarePoint number (start + 1)) }
 {
     if !has_byte(text, start, b'.') {
         return Ok(start);
@@ -194,7 +192,7 @@ fn bare_end(
     requires spans { Spans text.now number start }
     requires digit { LacksAt is_digit text.now start }
     ensures found { IfOk result (IsUnsigned (parse_options options.now) text.now start) }
-    ensures none { IfErr result (λ _. NoNames text.now start → NoUnsigned (parse_options options.now) text.now start) }
+    ensures none { IfErr result (λ _. NoFinite (parse_options options.now) text.now start) }
     ensures fault { IfErr result (IsTextFault text.now) }
 {
     let missing = ParseErrorKind::ExpectedDigitFollowingNegativeSign;
@@ -224,7 +222,7 @@ fn finite_end(
 ) -> Result<usize, ParseError>
     requires { Spans text.now number start }
     ensures found { IfOk result (IsUnsigned (parse_options options.now) text.now start) }
-    ensures none { IfErr result (λ _. NoNames text.now start → NoUnsigned (parse_options options.now) text.now start) }
+    ensures none { IfErr result (λ _. NoFinite (parse_options options.now) text.now start) }
     ensures fault { IfErr result (IsTextFault text.now) }
 {
     if has_byte(text, start, b'0') {
@@ -259,8 +257,8 @@ fn name_end(text: &str, start: usize) -> Option<usize>
 /// The place after the number whose sign is the character at `sign`.
 fn signed_end(text: &str, sign: usize, options: &ParseOptions) -> Result<usize, ParseError>
     requires { Spans text.now sign (sign + 1) }
-    ensures found { IfOk result (Between (Unsigned (parse_options options.now) true) text.now (sign + 1)) }
-    ensures none { IfErr result (λ _. NoneFrom (Unsigned (parse_options options.now) true) text.now (sign + 1)) }
+    ensures found { IfOk result (IsAfterSign (parse_options options.now) text.now (sign + 1)) }
+    ensures none { IfErr result (λ _. NoneAfterSign (parse_options options.now) text.now (sign + 1)) }
     ensures fault { IfErr result (IsTextFault text.now) }
 {
     let Some(end) = name_end(text, sign + 1) else {
@@ -281,7 +279,7 @@ pub(crate) fn number_end(
 ) -> Result<usize, ParseError>
     requires { IsCharBoundary text.now start }
     ensures found { IfOk result (Between (Number (parse_options options.now)) text.now start) }
-    ensures none { IfErr result (λ _. NoNames text.now start → NoneFrom (Number (parse_options options.now)) text.now start) }
+    ensures none { IfErr result (λ _. NoNumber (parse_options options.now) text.now start) }
     ensures fault { IfErr result (IsTextFault text.now) }
 {
     if has_byte(text, start, b'-') {
@@ -305,7 +303,7 @@ pub(crate) fn read_number<'a>(
 ) -> Result<Read<'a>, ParseError>
     requires { IsCharBoundary text.now start }
     ensures found { IfOk result (IsRead (parse_options options.now) text.now start) }
-    ensures none { IfErr result (λ _. NoNames text.now start → NoneFrom (Number (parse_options options.now)) text.now start) }
+    ensures none { IfErr result (λ _. NoNumber (parse_options options.now) text.now start) }
     ensures fault { IfErr result (IsTextFault text.now) }
 {
     let end = number_end(text, start, options)?;

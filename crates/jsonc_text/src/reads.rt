@@ -1,12 +1,10 @@
 //! Reading the lexeme or comment at a place.
-ghost use Rattle.std.specs.Prelude.{◌≡◌, IsCharBoundary, IfOk, IfErr, IfSome, IfNone, List, ℕ};
+ghost use Rattle.std.specs.Prelude.{IsCharBoundary, IfOk, IfErr, IfSome, IfNone};
 ghost use Rattle.jsonc_text.specs.Between.{LacksAt, NoneFrom};
 ghost use Rattle.jsonc_text.specs.Lexemes.{is_punctuation};
-ghost use Rattle.jsonc_text.specs.Options.{Options};
 ghost use Rattle.jsonc_text.specs.OptionsOf.{parse_options};
 ghost use Rattle.jsonc_text.specs.Reads.{IsRead, IsReadAnyhow};
 ghost use Rattle.jsonc_text.specs.Refusals.{IsTextFault};
-ghost use Rattle.jsonc_text.specs.Text.{rest};
 ghost use Rattle.jsonc_text.specs.Words.{Keyword, IsKeyword};
 
 use crate::chars::has_byte;

@@ -1,6 +1,7 @@
 //! Runs of a text up to an ASCII character, a byte at a time: no byte of a wider character is one of ASCII.
-ghost use Rattle.std.specs.Prelude.{◌+◌, ◌<◌, ◌≡◌, IsCharBoundary, IfSome};
-ghost use Rattle.jsonc_text.specs.Between.{Reaches, LacksAt, is_neither, HoldsBlock};
+ghost use Rattle.std.specs.Prelude.{◌+◌, ◌<◌, IsCharBoundary, IfSome, IfNone};
+ghost use Rattle.jsonc_text.specs.Between.{Reaches, LacksAt, NoneFrom, is_neither, HoldsBlock};
+ghost use Rattle.jsonc_text.specs.Gaps.{UpToBlockEnd};
 ghost use Rattle.jsonc_text.specs.Text.{Many};
 
 /// The first place from `start` on where one of two ASCII characters stands, or the end of the text.
@@ -24,7 +25,8 @@ pub(crate) fn stop_place(text: &str, start: usize, first: u8, second: u8) -> usi
 /// The place of the first `*/` from `start` on, or none.
 pub(crate) fn block_close(text: &str, start: usize) -> Option<usize>
     requires { IsCharBoundary text.now start }
-    ensures { IfSome result (HoldsBlock text.now start) }
+    ensures found { IfSome result (HoldsBlock text.now start) }
+    ensures none { IfNone result (NoneFrom UpToBlockEnd text.now start) }
 {
     let bytes = text.as_bytes();
     let mut place = start;

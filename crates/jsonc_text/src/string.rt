@@ -26,6 +26,7 @@ fn close_place(text: &str, start: usize, quote: u8) -> Result<usize, ParseError>
     if has_byte(text, stop, quote) {
         return Ok(stop);
     }
+    // no escape is decoded yet: each is refused
     if has_byte(text, stop, b'\\') {
         let end = char_end(text, stop + 1);
         if end > stop + 1 {

@@ -38,6 +38,9 @@ fn a_lone_cr_ends_a_line_comment(rt: HostRuntime) -> Result<(), Fail> {
     let options = ScannerOptions::default();
     let mut scanner = Scanner::new(rt.alloc(), "//x\r@", &options);
     assert_eq!(rt; shown(&rt, &mut scanner)?.as_str(), "line x");
-    assert_eq!(rt; shown(&rt, &mut scanner)?.as_str(), "Unexpected token on line 2 column 1");
+    assert_eq!(rt;
+        shown(&rt, &mut scanner)?.as_str(),
+        "Unexpected token on line 2 column 1"
+    );
     Ok(())
 }

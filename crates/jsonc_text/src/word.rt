@@ -1,14 +1,12 @@
 //! Where keywords (RFC 8259, 3) and words (after JSON5, 3) end.
-ghost use Rattle.std.specs.Prelude.{◌≡◌, ◌↔◌, ◌+◌, ◌++◌, ◌<◌, ◌≤◌, length, drop, take, IsTrue, false, IfOk, IfErr, IfSome, IfNone, IsCharBoundary, List, ℕ, codes};
+ghost use Rattle.std.specs.Prelude.{◌≡◌, ◌↔◌, ◌+◌, ◌<◌, ◌≤◌, length, drop, take, IsTrue, false, IfOk, IfErr, IfSome, IfNone, IsCharBoundary};
 ghost use Rattle.std.specs.Str.{IsAscii};
-ghost use Rattle.jsonc_text.specs.Between.{Between, LacksAt, NoneFrom, IsAlone, PassesWord, may_follow_word};
-ghost use Rattle.jsonc_text.specs.Chars.{Steps};
+ghost use Rattle.jsonc_text.specs.Between.{Between, LacksAt, NoneFrom, IsAlone, PassesOne, PassesWord, may_follow_word};
 ghost use Rattle.jsonc_text.specs.Letters.{is_wide_letter};
-ghost use Rattle.jsonc_text.specs.Options.{Options};
 ghost use Rattle.jsonc_text.specs.OptionsOf.{parse_options};
-ghost use Rattle.jsonc_text.specs.Reads.{IsRead, IsReadAnyhow, NoName};
+ghost use Rattle.jsonc_text.specs.Reads.{IsRead, IsReadAnyhow, NoName, NoWord};
 ghost use Rattle.jsonc_text.specs.Refusals.{IsTextFault};
-ghost use Rattle.jsonc_text.specs.Text.{rest, next, Many, Spans};
+ghost use Rattle.jsonc_text.specs.Text.{rest, next, Many};
 ghost use Rattle.jsonc_text.specs.Words.{goes_on, is_in_word, begins_word, EndsWord, Keyword, IsKeyword};
 ghost use Rattle.jsonc_text.specs.Faults.{kind_of};
 
@@ -117,7 +115,7 @@ fn may_follow_word(c: char) -> bool
 /// The place after the first character of the word at a place, or none where no word begins.
 fn first_end(text: &str, start: usize) -> Option<usize>
     requires { IsCharBoundary text.now start }
-    ensures found { IfSome result (λ end. (c : ℕ) × IsTrue (begins_word c) × Steps text.now start c end × (start < end)) }
+    ensures found { IfSome result (PassesOne begins_word text.now start) }
     ensures none { IfNone result (LacksAt begins_word text.now start) }
 {
     let c = char_at(text, start)?;
@@ -208,6 +206,7 @@ pub(crate) fn read_word<'a>(
     requires keyword { (k : Keyword) → NoneFrom (IsKeyword k) text.now start }
     requires name { NoName (parse_options options.now) text.now start }
     ensures found { IfOk result (IsRead (parse_options options.now) text.now start) }
+    ensures none { IfErr result (λ _. NoWord (parse_options options.now) text.now start) }
     ensures fault { IfErr result (IsTextFault text.now) }
 {
     let end = word_end(text, start)?;

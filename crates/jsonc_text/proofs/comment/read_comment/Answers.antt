@@ -1,5 +1,5 @@
 use Rattle.std.proofs.Common.{refl}
-use Rattle.jsonc_text.proofs.Reading.{line_read, block_read}
+use Rattle.jsonc_text.proofs.Reading.{line_read, block_read, lone_slash, open_block}
 use Rattle.std.proofs.lemmas.Str.{IsCharBoundary-end}
 use Rattle.jsonc_text.proofs.comment.read_comment.Goals as goal
 
@@ -9,7 +9,15 @@ returns-then-has_byte-clause-found c = λ o.
 
 pub returns-clause-found : goal.returns-clause-found
 returns-clause-found c = λ o.
-    block_read o _ _ _ _ c.utf8.text c.requires.slash (c.if-not-has_byte.ensures.here refl) c.in-Some.ensures c.range-2.ensures.value
+    block_read o _ _ _ _ c.utf8.text c.requires.slash (c.if-not-has_byte.ensures.here refl) c.in-Some.ensures.found c.range-2.ensures.value
 
 pub fault-requires-in_default-clause-spans : goal.fault-requires-in_default-clause-spans
 fault-requires-in_default-clause-spans c = record { from = c.requires.boundary; to = IsCharBoundary-end _; order = c.requires.boundary.0 }
+
+pub returns-then-not-has_byte-clause-none : goal.returns-then-not-has_byte-clause-none
+returns-then-not-has_byte-clause-none c =
+    lone_slash _ _ c.requires.slash (c.if-has_byte.ensures.other refl) (c.if-not-has_byte.ensures.other refl)
+
+pub returns-in_default-clause-none : goal.returns-in_default-clause-none
+returns-in_default-clause-none c =
+    open_block _ _ c.requires.slash (c.if-not-has_byte.ensures.here refl) c.in_default.ensures.none
