@@ -7,6 +7,7 @@ use Rattle.jsonc_ast.specs.Scanned.{begins_value, begins_name, unexpected_kind}
 use Rattle.jsonc_text.specs.declared.errors.ParseErrorKind.{ParseErrorKind}
 use Rattle.jsonc_text.specs.declared.errors.ParseErrorKind.TheVariants as kind
 
+-- the bracket that closes it
 abbrev pub closing : Container → ℕ
 closing Array = 0x5D
 closing Object = 0x7D

@@ -18,6 +18,7 @@ module _ {A : Type 0} where
   abbrev pub text_in : Context A → List ℕ
   text_in c = text_of c.scanner
 
+  -- what the text may hold
   abbrev pub options_in : Context A → Options
   options_in c = options_of c.scanner
 
@@ -29,10 +30,11 @@ module _ {A : Type 0} where
   abbrev pub token_end : Context A → ℕ
   token_end c = end_of c.scanner
 
+  -- from the one to the other
   abbrev pub token_range : Context A → Range
   token_range c = record { start = token_start c; end = token_end c }
 
-  -- the tokens are collected
+  -- whether tokens are collected
   abbrev pub tokens_asked : Context A → Bool
   tokens_asked c = is_some c.tokens
 
@@ -40,11 +42,12 @@ module _ {A : Type 0} where
   abbrev pub IsToken : Context A → Token A → Type 0
   IsToken c t = StandsAt c.scanner (Some t)
 
+  -- it is none, or a lexeme
   abbrev pub IsNoComment : Option (Token A) → Type 0
   IsNoComment None = Unit {0}
   IsNoComment (Some t) = is_comment (scanned_of t) ≡ false
 
-  -- the text and the options stay
+  -- the text and the options stay, and whether tokens are collected
   pub record Keeps (old new : Context A) : Type 0 where
     pub text : text_in new ≡ text_in old
     pub options : options_in new ≡ options_in old

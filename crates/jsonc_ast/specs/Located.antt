@@ -29,6 +29,7 @@ mutual
     no_members_at : LocatedMembers
     member_at : Range → LocatedName → Located → LocatedMembers → LocatedMembers
 
+-- from where it begins to where it ends
 abbrev pub range_at : Located → Range
 range_at (leaf_at r v) = r
 range_at (array_at r xs) = r
@@ -66,7 +67,7 @@ One c t r = t ≡ c ∷ r
 abbrev pub Ends : Options → ℕ → List ℕ → List ℕ → Type 0
 Ends o bracket t r = Gap o t (bracket ∷ r)
 
--- the same with a comma before the bracket, where o allows it; the comma is passed already
+-- the same after a comma, where o allows one before the bracket
 abbrev pub TrailingComma : Options → ℕ → List ℕ → List ℕ → Type 0
 TrailingComma o bracket t r = IsTrue o.trailing_commas × Gap o t (bracket ∷ r)
 
@@ -103,7 +104,7 @@ abbrev mutual
   AreItems o bytes i no_items_at j = Between bytes (Ends o 0x5D) i j
   AreItems o bytes i (item_at x xs) j = Between bytes (Gap o) i (range_at x).start × IsLocated o bytes x × AreFurtherItems o bytes (range_at x).end xs j
 
-  -- from the place after an element to the place after the `]`
+  -- from the place after an element to the place after the `]` of its array
   pub AreFurtherItems : Options → List ℕ → ℕ → LocatedItems → ℕ → Type 0
   AreFurtherItems o bytes i no_items_at j = Between bytes (Closes o 0x5D) i j
   AreFurtherItems o bytes i (item_at x xs) j = Between bytes (Separates o) i (range_at x).start × IsLocated o bytes x × AreFurtherItems o bytes (range_at x).end xs j

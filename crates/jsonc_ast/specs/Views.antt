@@ -18,14 +18,17 @@ pub record LocatedMember : Type 0 where
   pub name : LocatedName
   pub value : Located
 
+-- located values, as the elements of an array
 abbrev pub items_of : List Located → LocatedItems
 items_of [] = no_items_at
 items_of (x ∷ xs) = item_at x (items_of xs)
 
+-- and as the properties of an object
 abbrev pub members_of : List LocatedMember → LocatedMembers
 members_of [] = no_members_at
 members_of (m ∷ ms) = member_at m.range m.name m.value (members_of ms)
 
+-- a name with its range
 abbrev pub name_at : {A : Type 0} → ObjectPropName A → LocatedName
 name_at (String s) = record { range = s.range; name = chars (cow_str_bytes s.value) }
 name_at (Word w) = record { range = w.range; name = chars w.value.now }
@@ -52,12 +55,14 @@ property_step p = record { range = p.range; name = name_at p.name; value = p.val
 abbrev pub located : {A : Type 0} → Value A → Located
 located {A} = fold-Value A Located Located Located LocatedMember value_step array_step object_step property_step
 
+-- the same of a property and an object
 abbrev pub member_of : {A : Type 0} → ObjectProp A → LocatedMember
 member_of {A} = fold-ObjectProp A Located Located Located LocatedMember value_step array_step object_step property_step
 
 abbrev pub object_located : {A : Type 0} → Object A → Located
 object_located {A} = fold-Object A Located Located Located LocatedMember value_step array_step object_step property_step
 
+-- and of an array's elements and an object's properties
 abbrev pub items_located : {A : Type 0} → List (Value A) → LocatedItems
 items_located vs = items_of (map located vs)
 
