@@ -1,5 +1,5 @@
 -- The children of a container so far, and what is still to be built.
-use Rattle.std.proofs.Common.{ℕ, ◌+◌, ◌<◌, ◌≤◌, ◌≡◌, ◌∙◌, sym, ap, subst, refl, List, [], ◌∷◌, length, drop, get_or, arith, map, Result, Ok, Err, OnOk, IsTrue}
+use Rattle.std.proofs.Common.{ℕ, ◌+◌, ◌<◌, ◌≤◌, ◌≡◌, ◌∙◌, sym, ap, subst, refl, List, [], ◌∷◌, length, drop, get_or, arith, map, Result, Ok, Err, OnOk, IsTrue, Some}
 use Rattle.std.proofs.lemmas.List.{drop_more, drop_all}
 use Rattle.jsonc_tree.specs.Content.{Content, is_container}
 use Rattle.jsonc_tree.specs.Tree.{Node, is_container_at}
@@ -12,7 +12,7 @@ use Rattle.jsonc_ast.specs.declared.ast.Value.{Value}
 use Rattle.jsonc_ast.specs.declared.ast.ObjectProp.{ObjectProp}
 use Rattle.jsonc_tree.specs.Changes.{Pushes}
 use Rattle.jsonc_layout.specs.Growth.{Grows}
-use Rattle.jsonc_layout.specs.Laid.{FillsBetween, Laid, ItemsLaid, an_element, no_element, MembersLaid, a_property, no_property, PropertyLaid, NameLaid, name_and_value, CanLay, CanLayItems, CanLayMembers, CanLayProperty}
+use Rattle.jsonc_layout.specs.Laid.{FillsBetween, Laid, ItemsLaid, an_element, no_element, MembersLaid, a_property, no_property, PropertyLaid, NameLaid, name_and_value, CanLay, CanLayItems, CanLayMembers, CanLayProperty, RootLaid}
 use Rattle.jsonc_layout.proofs.Growing.{grows_none, grows_append, grows_below}
 use Rattle.jsonc_layout.proofs.Rows.{followed_assoc}
 
@@ -131,3 +131,12 @@ laid_as {text} {content = content} {below = below} e l = subst (λ z. Laid text 
 
 pub can_lay_as : (text : List ℕ) {x y : Located} → x ≡ y → CanLay text x → CanLay text y
 can_lay_as text e h = subst (CanLay text) e h
+
+-- the leaves before a document's value, the value, and the leaves after it
+pub root_built : {a b d e : List Node} {text : List ℕ} {x : Located} {r : Range} {before below after : OrderedTree} {content : Content}
+    → 0 < length a → r ≡ range_at x → Grows a b 0 before → FillsBetween text 0 r.start before → Grows b d 0 (more content below none) → Laid text x content below → Grows d e 0 after → FillsBetween text r.end (length text) after
+    → (row : OrderedTree) × Grows a e 0 row × RootLaid text (Some x) row
+root_built {a} {e = e} {text = text} {before = before} {below = below} {after = after} {content = content} there same first f value l last g =
+    (followed_by before (more content below after),
+     subst (Grows a e 0) (followed_assoc before (more content below none) after) (grows_append there (grows_append there first value) last),
+     (before, after, below, content, refl, subst (λ k. FillsBetween text 0 k.start before) same f, l, subst (λ k. FillsBetween text k.end (length text) after) same g))

@@ -1,3 +1,4 @@
 pub mod Leaves
 pub mod Growth
 pub mod Laid
+pub mod Given

@@ -6,8 +6,9 @@ ghost use Rattle.jsonc_tree.specs.Content.{Content};
 ghost use Rattle.jsonc_tree.specs.OrderedTree.{OrderedTree, more, none, ordered_tree, printed};
 ghost use Rattle.jsonc_tree.specs.Values.{DocumentValueOf};
 ghost use Rattle.jsonc_tree.specs.Tree.{is_container_at, IsTree};
-ghost use Rattle.jsonc_ast.specs.Located.{IsLocatedDocument};
-ghost use Rattle.jsonc_ast.specs.Views.{items_located, located, members_located, member_of, plain};
+ghost use Rattle.jsonc_ast.specs.Located.{IsLocatedDocument, value_at};
+ghost use Rattle.jsonc_ast.specs.Views.{items_located, located, members_located, member_of};
+ghost use Rattle.jsonc_layout.specs.Given.{located_in};
 ghost use Rattle.jsonc_layout.specs.Growth.{Grows};
 ghost use Rattle.jsonc_layout.specs.Laid.{CanLay, CanLayDocument, CanLayItems, CanLayMembers, CanLayProperty, DocumentLaid, FillsBetween, HasNoComments, IsFillable, ItemsLaid, Laid, MembersLaid, NameLaid, PropertyLaid, RootLaid, is_quote_at};
 
@@ -200,8 +201,8 @@ fn build_root<A: Allocator + Copy>(
 ) -> Result<(), AllocError>
     requires there { 0 < length tree.old.nodes }
     requires container { IsTrue (is_container_at tree.old.nodes 0) }
-    requires lies { CanLayDocument text.now (option_map (λ v. located v.now) value) }
-    ensures { OnOk result ((row : OrderedTree) × Grows tree.old.nodes tree.new.nodes 0 row × RootLaid text.now (option_map (λ v. located v.now) value) row) }
+    requires lies { CanLayDocument text.now (located_in value) }
+    ensures { OnOk result ((row : OrderedTree) × Grows tree.old.nodes tree.new.nodes 0 row × RootLaid text.now (located_in value.entry) row) }
 {
     let Some(value) = value else {
         fill_between(tree, 0, alloc, text, 0, text.len())?;
@@ -225,10 +226,10 @@ pub fn build<A: Allocator + Copy>(
     text: &str,
     value: Option<&Value<'_, A>>,
 ) -> Result<Tree<A>, AllocError>
-    requires { HasNoComments text.now (option_map (λ v. located v.now) value) }
-    ensures laid { IfOk result (λ tree. DocumentLaid text.now (option_map (λ v. located v.now) value) (ordered_tree tree.nodes 0)) }
+    requires { HasNoComments text.now (located_in value) }
+    ensures laid { IfOk result (λ tree. DocumentLaid text.now (located_in value.entry) (ordered_tree tree.nodes 0)) }
     ensures printed { IfOk result (λ tree. printed (ordered_tree tree.nodes 0) ≡ text.now) }
-    ensures value { (o : Options) → IsLocatedDocument o text.now (option_map (λ v. located v.now) value) → IfOk result (λ tree. DocumentValueOf o (ordered_tree tree.nodes 0) (option_map (λ v. plain v.now) value)) }
+    ensures value { (o : Options) → IsLocatedDocument o text.now (located_in value.entry) → IfOk result (λ tree. DocumentValueOf o (ordered_tree tree.nodes 0) (option_map value_at (located_in value.entry))) }
     ensures tree { IfOk result (λ tree. IsTree tree.nodes) }
 {
     let mut tree = Tree::new(alloc)?;
