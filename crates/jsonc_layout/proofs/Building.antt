@@ -98,19 +98,20 @@ pub properties_at : {A : Type 0} {old now : List Node} {c : ℕ} {text : List �
     → PropertiesBuilt old now c text start from end ms (member_at (member_of p).range (member_of p).name (member_of p).value (members_located (drop (i + 1) ps)))
 properties_at {old = old} {now} {c} {text} {start} {from} {end} {ms} ps i p h e built =
     subst (PropertiesBuilt old now c text start from end ms)
-      (members_left ps i p h ∙ ap (λ q. member_at (member_of q).range (member_of q).name (member_of q).value (members_located (drop (i + 1) ps))) (sym e)) built
+    (members_left ps i p h ∙ ap (λ q. member_at (member_of q).range (member_of q).name (member_of q).value (members_located (drop (i + 1) ps))) (sym e)) built
 
 -- a property's name, what stands between, and its value
 pub property_built : {a b d e : List Node} {c : ℕ} {text : List ℕ} {n : LocatedName} {x y : Located} {r v : Range} {fill below : OrderedTree} {name content : Content}
     → c < length a → r ≡ n.range → v ≡ range_at x → y ≡ x → Spans text n.range.start n.range.end
     → Grows a b c (more name none none) → NameLaid text r name → Grows b d c fill → FillsBetween text r.end v.start fill → Grows d e c (more content below none) → Laid text y content below
     → (row : OrderedTree) × Grows a e c row × PropertyLaid text n x row
-property_built {text = text} {n = n} {x = x} {r = r} {fill = fill} {below = below} {name = name} {content = content} there names values same spans named m filled f valued l =
-    (followed_by (more name none fill) (more content below none),
-     grows_append there (grows_append there named filled) valued,
-     name_and_value spans (subst (λ k. NameLaid text k name) names m)
-       (subst (λ k. FillsBetween text k.end (range_at x).start fill) names (subst (λ k. FillsBetween text r.end k.start fill) values f))
-       (subst (λ z. Laid text z content below) same l))
+property_built {text = text} {n = n} {x = x} {r = r} {fill = fill} {below = below} {name = name} {content = content} there names values same spans named m filled f valued l = (
+  followed_by (more name none fill) (more content below none),
+  grows_append there (grows_append there named filled) valued,
+  name_and_value spans (subst (λ k. NameLaid text k name) names m)
+      (subst (λ k. FillsBetween text k.end (range_at x).start fill) names (subst (λ k. FillsBetween text r.end k.start fill) values f))
+      (subst (λ z. Laid text z content below) same l),
+)
 
 pub on_ok : {T E P Q : Type 0} (r : Result T E) → (P → Q) → OnOk r P → OnOk r Q
 on_ok (Ok x) f h = f h
@@ -136,7 +137,8 @@ can_lay_as text e h = subst (CanLay text) e h
 pub root_built : {a b d e : List Node} {text : List ℕ} {x : Located} {r : Range} {before below after : OrderedTree} {content : Content}
     → 0 < length a → r ≡ range_at x → Grows a b 0 before → FillsBetween text 0 r.start before → Grows b d 0 (more content below none) → Laid text x content below → Grows d e 0 after → FillsBetween text r.end (length text) after
     → (row : OrderedTree) × Grows a e 0 row × RootLaid text (Some x) row
-root_built {a} {e = e} {text = text} {before = before} {below = below} {after = after} {content = content} there same first f value l last g =
-    (followed_by before (more content below after),
-     subst (Grows a e 0) (followed_assoc before (more content below none) after) (grows_append there (grows_append there first value) last),
-     (before, after, below, content, refl, subst (λ k. FillsBetween text 0 k.start before) same f, l, subst (λ k. FillsBetween text k.end (length text) after) same g))
+root_built {a} {e = e} {text = text} {before = before} {below = below} {after = after} {content = content} there same first f value l last g = (
+  followed_by before (more content below after),
+  subst (Grows a e 0) (followed_assoc before (more content below none) after) (grows_append there (grows_append there first value) last),
+  (before, after, below, content, refl, subst (λ k. FillsBetween text 0 k.start before) same f, l, subst (λ k. FillsBetween text k.end (length text) after) same g),
+)

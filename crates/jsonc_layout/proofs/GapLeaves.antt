@@ -85,10 +85,11 @@ fills_text : {t r : List ℕ} {row : OrderedTree} → Fills t row r → (s : Lis
 fills_text end = ([], refl, refl)
 fills_text {t} {r} {row = row} (leaf {content = content} {after = after} one more) =
     let first = leaf_text one in
-    let last = fills_text more in
-    (first.0 ++ last.0,
-     first.1 ∙ ap (λ l. first.0 ++ l) last.1 ∙ sym (append_assoc first.0 last.0 r),
-     printed-more content ordered.none after ∙ ap (λ l. l ++ printed after) first.2 ∙ ap (λ l. encode_utf8_all first.0 ++ l) last.2 ∙ sym (encodes_append first.0 last.0))
+    let last = fills_text more in (
+      first.0 ++ last.0,
+      first.1 ∙ ap (λ l. first.0 ++ l) last.1 ∙ sym (append_assoc first.0 last.0 r),
+      printed-more content ordered.none after ∙ ap (λ l. l ++ printed after) first.2 ∙ ap (λ l. encode_utf8_all first.0 ++ l) last.2 ∙ sym (encodes_append first.0 last.0),
+    )
 
 -- leaves that fill a text print it
 pub fills_printed : (text : List ℕ) (row : OrderedTree) → IsUtf8 text → Fills (chars text) row [] → printed row ≡ text

@@ -31,7 +31,7 @@ module _ (old new : List Node) (first : ℕ)
   shows_kept shows_none none_from = shows_none
   shows_kept (shows_more {n = n} {rest = xs} {below = b} {after = a} below after) (one_from l h g) =
       subst (λ c. Shows new (n ∷ xs) (ordered.more c b a)) (contents n l h)
-        (shows_more (subst (λ ks. Shows new ks b) (sym (kids n l h)) (shows_kept below (closed n l h))) (shows_kept after g))
+      (shows_more (subst (λ ks. Shows new ks b) (sym (kids n l h)) (shows_kept below (closed n l h))) (shows_kept after g))
 
 pub grows_none : (ns : List Node) (c : ℕ) → Grows ns ns c ordered.none
 grows_none ns c = record {

@@ -93,7 +93,7 @@ stretches : (bytes : List ℕ) (i j k : ℕ) → i ≤ j → j ≤ k → slice_r
 stretches bytes i j k h l =
     append_cancel_right (slice_range bytes i j ++ slice_range bytes j k) (slice_range bytes i k) (drop k bytes)
     (append_assoc (slice_range bytes i j) (slice_range bytes j k) (drop k bytes)
-      ∙ ap (λ l. slice_range bytes i j ++ l) (sym (drop_split bytes j k l)) ∙ sym (drop_split bytes i j h) ∙ drop_split bytes i k (omega arith))
+    ∙ ap (λ l. slice_range bytes i j ++ l) (sym (drop_split bytes j k l)) ∙ sym (drop_split bytes i j h) ∙ drop_split bytes i k (omega arith))
 
 pub prints_append : (bytes : List ℕ) {i j k : ℕ} {t u : OrderedTree} → Prints bytes i j t → Prints bytes j k u → Prints bytes i k (followed_by t u)
 prints_append bytes {i} {j} {k} {t} {u} a b = record {

@@ -12,12 +12,11 @@ use jsonc_ast::parse_to_ast;
 use jsonc_layout::build;
 use jsonc_text::errors::ParseError;
 use jsonc_text::options::ParseOptions;
+pub use jsonc_tree::CstNewlineKind;
 use jsonc_tree::Tree;
 use std::alloc::Allocator;
 use std::error::Error;
 use std::fmt;
-
-pub use jsonc_tree::CstNewlineKind;
 
 /// Why a document was not changed.
 #[derive(Clone, Copy, Debug, PartialEq, Eq, Drop)]
@@ -60,11 +59,7 @@ impl<A: Allocator + Copy> CstRootNode<A> {
     /// The document prints as the text was written. The error says what is wrong with the text, in which
     /// of its bytes, and in which line and column; want of memory is an error too. The options allow no
     /// comments.
-    pub fn parse(
-        alloc: A,
-        text: &str,
-        options: &ParseOptions,
-    ) -> Result<CstRootNode<A>, ParseError>
+    pub fn parse(alloc: A, text: &str, options: &ParseOptions) -> Result<CstRootNode<A>, ParseError>
         requires { (parse_options options.now).comments ≡ false }
         ensures printed { IfOk result (λ d. printed_of d ≡ text.now) }
         ensures value { IfOk result (λ d. (w : Option Plain) × IsDocument (parse_options options.now) (chars text.now) w × DocumentValueOf (parse_options options.now) (tree_of d) w) }

@@ -7,13 +7,9 @@
 
 pub mod cst;
 
-pub use jsonc_ast::ast;
-pub use jsonc_text::common;
-pub use jsonc_text::errors;
-pub use jsonc_text::tokens;
-
 pub use jsonc_ast::collect::{CollectOptions, CommentCollectionStrategy, ParseResult};
-pub use jsonc_ast::parse_to_ast;
+pub use jsonc_ast::{ast, parse_to_ast};
 pub use jsonc_text::errors::ParseStringErrorKind;
 pub use jsonc_text::options::{ParseOptions, ScannerOptions};
 pub use jsonc_text::scanner::Scanner;
+pub use jsonc_text::{common, errors, tokens};

@@ -61,8 +61,8 @@ pub build_elements-returns : goal.build_elements-returns
 build_elements-returns g t c =
     let there : c.args.container < length c.args.tree.now.nodes = assumption c.requires in
     on_ok c.fill_between-2.result
-      (λ filled. elements_end there (items_none_left c.args.elements.now c.loop-element.element-index c.loop-element-test.false) c.loop-element.invariant filled.1 filled.2)
-      c.fill_between-2.ensures
+    (λ filled. elements_end there (items_none_left c.args.elements.now c.loop-element.element-index c.loop-element-test.false) c.loop-element.invariant filled.1 filled.2)
+    c.fill_between-2.ensures
 
 pub build_properties-loop-property-init : goal.build_properties-loop-property-init
 build_properties-loop-property-init g t c =
@@ -104,7 +104,7 @@ build_properties-loop-property-preserved g t c =
     let built = c.in_ok-build_property.ensures in
     let there : c.args.container < length c.args.tree.now.nodes = assumption c.requires in
     properties_more there c.range-range.ensures so_far filled.1 filled.2 node.pushes
-      (subst (λ n. Grows c.push_child.new.self.nodes c.build_property.new.tree.nodes n built.0) node.number built.1) built.2
+    (subst (λ n. Grows c.push_child.new.self.nodes c.build_property.new.tree.nodes n built.0) node.number built.1) built.2
 
 pub build_properties-fill_between-requires-2-clause-container : goal.build_properties-fill_between-requires-2-clause-container
 build_properties-fill_between-requires-2-clause-container g t c =
@@ -116,8 +116,8 @@ pub build_properties-returns : goal.build_properties-returns
 build_properties-returns g t c =
     let there : c.args.container < length c.args.tree.now.nodes = assumption c.requires in
     on_ok c.fill_between-2.result
-      (λ filled. properties_end there (members_none_left c.args.properties.now c.loop-property.property-index c.loop-property-test.false) c.loop-property.invariant filled.1 filled.2)
-      c.fill_between-2.ensures
+    (λ filled. properties_end there (members_none_left c.args.properties.now c.loop-property.property-index c.loop-property-test.false) c.loop-property.invariant filled.1 filled.2)
+    c.fill_between-2.ensures
 
 pub build_property-returns : goal.build_property-returns
 build_property-returns g t c =
@@ -127,9 +127,9 @@ build_property-returns g t c =
     let name = c.in_ok-build_name.ensures in
     let filled = c.in_ok-fill_between.ensures in
     on_ok c.build_value.result
-      (λ built. property_built there (c.range-name.ensures ∙ ap (λ m. m.name.range) (sym (view-property p))) (c.range-value.ensures ∙ ap (λ m. range_at m.value) (sym (view-property p)))
-        (ap (λ m. m.value) (sym (view-property p))) lies.0 name.1 name.2 filled.1 filled.2 built.2 built.3)
-      c.build_value.ensures
+    (λ built. property_built there (c.range-name.ensures ∙ ap (λ m. m.name.range) (sym (view-property p))) (c.range-value.ensures ∙ ap (λ m. range_at m.value) (sym (view-property p)))
+    (ap (λ m. m.value) (sym (view-property p))) lies.0 name.1 name.2 filled.1 filled.2 built.2 built.3)
+    c.build_value.ensures
 
 pub build_value-build_elements-requires : goal.build_value-build_elements-requires
 build_value-build_elements-requires g t c κs within =
@@ -196,8 +196,8 @@ build_value-returns-in_ok-node-in-Array g t c =
     let there : c.args.container < length c.args.tree.now.nodes = assumption c.requires in
     let is : located c.args.value.now ≡ array_at a.range (items_located c.deref.result.now) = ap located c.in-Array.is ∙ view-Array a ∙ ap (λ xs. array_at a.range (items_located xs)) (sym c.deref.ensures.value) in
     on_ok c.build_elements.result
-      (λ built. (content.array, built.0, grows_into c.in_ok-node-in-Array.node there node.number node.pushes built.1, laid_as is (array_node built.2)))
-      c.build_elements.ensures
+    (λ built. (content.array, built.0, grows_into c.in_ok-node-in-Array.node there node.number node.pushes built.1, laid_as is (array_node built.2)))
+    c.build_elements.ensures
 
 pub build_value-returns-in_ok-node-in-Object : goal.build_value-returns-in_ok-node-in-Object
 build_value-returns-in_ok-node-in-Object g t c =
@@ -206,5 +206,5 @@ build_value-returns-in_ok-node-in-Object g t c =
     let there : c.args.container < length c.args.tree.now.nodes = assumption c.requires in
     let is : located c.args.value.now ≡ object_at o.range (members_located c.deref-in-Object.result.now) = ap located c.in-Object.is ∙ view-Object c.in-Object.object ∙ ap (λ xs. object_at o.range (members_located xs)) (sym c.deref-in-Object.ensures.value) in
     on_ok c.build_properties.result
-      (λ built. (content.object, built.0, grows_into c.in_ok-node-in-Object.node there node.number node.pushes built.1, laid_as is (object_node built.2)))
-      c.build_properties.ensures
+    (λ built. (content.object, built.0, grows_into c.in_ok-node-in-Object.node there node.number node.pushes built.1, laid_as is (object_node built.2)))
+    c.build_properties.ensures

@@ -12,4 +12,4 @@ returns g c =
     let value = c.in_ok-build_value.ensures in
     let last = c.in_ok-fill_between-3.ensures in
     subst (λ v. (row : OrderedTree) × Grows c.args.tree.now.nodes c.fill_between-3.new.tree.nodes 0 row × RootLaid c.args.text.now (located_in v) row) (sym c.in-Some.is)
-      (root_built c.requires.there c.range-range.ensures first.1 first.2 value.2 value.3 last.1 last.2)
+    (root_built c.requires.there c.range-range.ensures first.1 first.2 value.2 value.3 last.1 last.2)

@@ -15,7 +15,8 @@ loop-len-preserved c =
       order = omega (arith, held.order);
       blanks = many_append held.blanks (rw one.2.0 (step one.1 stop));
       none = c.blank_len-len-in-loop-len.ensures.none;
-      some = c.blank_len-len-in-loop-len.ensures.some }
+      some = c.blank_len-len-in-loop-len.ensures.some;
+    }
 
 pub returns-clause-order : goal.returns-clause-order
 returns-clause-order c = c.loop-len.invariant.order
