@@ -1,13 +1,13 @@
 -- What a scanner passes, as gaps between places.
 use Rattle.std.proofs.Common.{ℕ, ◌≡◌, ◌∙◌, subst, inl, inr, refl, arith, true, List, IsTrue, Some, IsCharBoundary}
-use Rattle.jsonc_text.specs.declared.scanner.Scanner.{Scanner}
+use Rattle.jsonc_scan.specs.declared.scanner.Scanner.{Scanner}
 use Rattle.jsonc_text.specs.declared.tokens.Token.{Token}
 use Rattle.jsonc_text.specs.Options.{Options}
 use Rattle.jsonc_text.specs.Text.{rest, Many, stop, step, Spans}
 use Rattle.jsonc_text.specs.Gaps.{Gap, none, blank, comment, is_blank}
 use Rattle.jsonc_text.specs.Lexemes.{Scanned, lexeme, line_comment, block_comment, IsScanned}
 use Rattle.jsonc_text.specs.Places.{is_comment}
-use Rattle.jsonc_text.specs.Scanner.{text_of, start_of, end_of, options_of, PassesBlanks, StandsAt, left}
+use Rattle.jsonc_scan.specs.Scanner.{text_of, start_of, end_of, options_of, PassesBlanks, StandsAt, left}
 use Rattle.jsonc_text.specs.Tokens.{scanned_of}
 use Rattle.jsonc_ast.specs.Located.{Between}
 

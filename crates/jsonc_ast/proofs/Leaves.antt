@@ -6,7 +6,7 @@ use Rattle.jsonc_text.specs.Gaps.{Gap}
 use Rattle.jsonc_text.specs.Grammar.{literal_value}
 use Rattle.jsonc_text.specs.Lexemes.{Scanned, lexeme, line_comment, block_comment, LexemeKind, IsScanned}
 use Rattle.jsonc_text.specs.Plain.{Plain}
-use Rattle.jsonc_text.specs.Scanner.{StandsAt}
+use Rattle.jsonc_scan.specs.Scanner.{StandsAt}
 use Rattle.jsonc_text.specs.Tokens.{scanned_of}
 use Rattle.jsonc_ast.specs.declared.ast.Value.{Value}
 use Rattle.jsonc_ast.specs.declared.context.Context.{Context}

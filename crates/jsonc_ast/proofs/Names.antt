@@ -7,7 +7,7 @@ use Rattle.jsonc_text.specs.declared.tokens.Token.{Token}
 use Rattle.jsonc_text.specs.Options.{Options}
 use Rattle.jsonc_text.specs.Grammar.{IsName, IsLooseName}
 use Rattle.jsonc_text.specs.Lexemes.{Scanned, lexeme, line_comment, block_comment, LexemeKind, string, IsScanned}
-use Rattle.jsonc_text.specs.Scanner.{start_of, end_of}
+use Rattle.jsonc_scan.specs.Scanner.{start_of, end_of}
 use Rattle.jsonc_text.specs.Tokens.{scanned_of}
 use Rattle.jsonc_ast.specs.declared.context.Context.{Context}
 use Rattle.jsonc_ast.specs.Context.{text_in, options_in, token_range, IsToken}

@@ -1,14 +1,14 @@
 -- A parser on its way from one token to the next.
 use Rattle.std.proofs.Common.{ℕ, ◌≡◌, ◌≤◌, ◌<◌, ◌+◌, ◌++◌, length, ◌∙◌, sym, ap, subst, refl, arith, true, List, [], ◌∷◌, Option, None, Some, Result, Ok, Err, IfOk, IsTrue, IsUtf8}
 use Rattle.jsonc_text.specs.declared.errors.ParseError.{ParseError}
-use Rattle.jsonc_text.specs.declared.scanner.Scanner.{Scanner}
+use Rattle.jsonc_scan.specs.declared.scanner.Scanner.{Scanner}
 use Rattle.jsonc_text.specs.declared.tokens.Token.{Token}
 use Rattle.jsonc_text.specs.Options.{Options}
 use Rattle.jsonc_text.specs.Gaps.{Gap, none}
 use Rattle.jsonc_text.specs.Grammar.{Separates, comma, no_comma, Closes, trailing_comma}
 use Rattle.jsonc_text.specs.Lexemes.{lexeme, punctuation, IsScanned}
 use Rattle.jsonc_text.specs.Places.{is_comment}
-use Rattle.jsonc_text.specs.Scanner.{text_of, start_of, end_of, options_of, PassesBlanks, StandsAt}
+use Rattle.jsonc_scan.specs.Scanner.{text_of, start_of, end_of, options_of, PassesBlanks, StandsAt}
 use Rattle.jsonc_text.specs.Text.{byte_length}
 use Rattle.jsonc_text.specs.Tokens.{scanned_of}
 use Rattle.std.proofs.lemmas.Str.{encode_ascii}

@@ -5,7 +5,7 @@ use Rattle.jsonc_text.specs.declared.tokens.Token.{Token}
 use Rattle.jsonc_text.specs.Options.{Options}
 use Rattle.jsonc_text.specs.Places.{is_comment}
 use Rattle.jsonc_text.specs.Tokens.{scanned_of}
-use Rattle.jsonc_text.specs.Scanner.{text_of, start_of, end_of, options_of, StandsAt}
+use Rattle.jsonc_scan.specs.Scanner.{text_of, start_of, end_of, options_of, StandsAt}
 use Rattle.jsonc_text.specs.Gaps.{Gap}
 use Rattle.jsonc_text.specs.Grammar.{IsName, Separates, Closes}
 use Rattle.jsonc_ast.specs.declared.container.Container.{Container}

@@ -2,7 +2,7 @@
 ghost use Rattle.std.specs.Prelude.{◌≡◌, true};
 ghost use Rattle.std.specs.Str.{is_utf8};
 ghost use Rattle.jsonc_text.specs.OptionsOf.{parse_options};
-ghost use Rattle.jsonc_text.specs.Scanner.{options_of};
+ghost use Rattle.jsonc_scan.specs.Scanner.{options_of};
 
 use crate::ast::{ObjectPropName, StringLit, WordLit};
 use crate::collect::{CollectOptions, CommentCollectionStrategy};
@@ -10,7 +10,7 @@ use crate::container::{Container, is_colon, is_comma, is_comment, loose_name};
 use jsonc_text::common::Range;
 use jsonc_text::errors::{ParseError, ParseErrorKind};
 use jsonc_text::options::ParseOptions;
-use jsonc_text::scanner::Scanner;
+use jsonc_scan::scanner::Scanner;
 use jsonc_text::tokens::{Token, TokenAndRange};
 use std::alloc::Allocator;
 

@@ -2,16 +2,12 @@ pub mod Alone
 pub mod Ascii
 pub mod Basics
 pub mod Begins
-pub mod Between
 pub mod BlockComments
-pub mod ByteRuns
 pub mod Cuts
 pub mod FaultLemmas
 pub mod Lines
 pub mod Nesting
-pub mod NoNumbers
 pub mod NumberFrames
-pub mod Reading
 pub mod Rows
 pub mod RowsPlaces
 pub mod RowsRefused
@@ -29,4 +25,3 @@ pub mod UniqueValues
 pub mod UniqueWords
 pub mod WideBlanks
 pub mod WiderOptions
-pub mod Words

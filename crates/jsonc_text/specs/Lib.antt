@@ -4,11 +4,9 @@ pub mod Chars
 pub mod Gaps
 pub mod Letters
 pub mod Words
-pub mod Between
 pub mod Numbers
 pub mod Strings
 pub mod Lexemes
-pub mod Reads
 pub mod Plain
 pub mod Grammar
 pub mod Places
@@ -17,6 +15,4 @@ pub mod Rows
 pub mod OptionsOf
 pub mod Messages
 pub mod Faults
-pub mod Refusals
 pub mod Tokens
-pub mod Scanner

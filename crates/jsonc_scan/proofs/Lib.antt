@@ -1,0 +1,5 @@
+pub mod Between
+pub mod ByteRuns
+pub mod NoNumbers
+pub mod Reading
+pub mod Words

@@ -1,0 +1,7 @@
+use Rattle.jsonc_scan.proofs.Words.{char_spans}
+use Rattle.jsonc_scan.proofs.faults.fault_at.Goals as goal
+
+pub fault-requires-clause-spans : goal.fault-requires-clause-spans
+fault-requires-clause-spans c =
+    let read = c.char_end-end.ensures in
+    char_spans _ _ _ c.utf8.text c.requires.spans.from read.boundary read.none read.some

@@ -1,0 +1,14 @@
+use Rattle.jsonc_scan.proofs.Between.{decimal}
+use Rattle.jsonc_scan.proofs.NoNumbers.{err_any, decimal_without_fraction, decimal_without_exponent}
+use Rattle.jsonc_scan.proofs.number.decimal_end.Goals as goal
+
+pub returns-clause-found : goal.returns-clause-found
+returns-clause-found c = decimal _ _ _ _ _ _ c.requires.whole c.in_ok-fraction.ensures.found c.in_ok-end.ensures.found
+
+pub returns-in_err-fraction-clause-none : goal.returns-in_err-fraction-clause-none
+returns-in_err-fraction-clause-none c =
+    err_any c.from_residual.result (decimal_without_fraction _ _ _ _ c.requires.whole c.in_err-fraction.ensures.none)
+
+pub returns-in_err-end-clause-none : goal.returns-in_err-end-clause-none
+returns-in_err-end-clause-none c =
+    err_any c.from_residual-in_err-end.result (decimal_without_exponent _ _ _ _ _ c.requires.whole c.in_ok-fraction.ensures.found c.in_err-end.ensures.none)

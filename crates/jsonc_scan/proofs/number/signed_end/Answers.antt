@@ -1,0 +1,10 @@
+use Rattle.std.proofs.Common.{arith}
+use Rattle.jsonc_scan.proofs.number.signed_end.Goals as goal
+
+pub returns-then-options-clause-found : goal.returns-then-options-clause-found
+returns-then-options-clause-found c = c.in-Some.ensures.found _ c.if-options.true
+
+pub fault-requires-clause-spans : goal.fault-requires-clause-spans
+fault-requires-clause-spans c =
+    let name = c.in-Some.ensures.spans in
+    record { from = c.requires.from; to = name.to; order = omega (arith, name.order) }

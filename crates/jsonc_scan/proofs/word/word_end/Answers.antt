@@ -1,0 +1,15 @@
+use Rattle.std.proofs.Common.{refl, ◌≡◌, true, false}
+use Rattle.jsonc_scan.proofs.Words.{word_passed, not_passed}
+use Rattle.jsonc_scan.proofs.word.word_end.Goals as goal
+
+pub returns-then-ends_word-clause-found : goal.returns-then-ends_word-clause-found
+returns-then-ends_word-clause-found c =
+    let first = c.in-Some.ensures.found in
+    let others = c.word_chars_end-end.ensures in
+    word_passed _ _ _ _ _ first.1 first.2 first.3 others.boundary others.order others.chars (c.if-ends_word.ensures.0 refl)
+
+pub returns-clause-none : goal.returns-clause-none
+returns-clause-none c =
+    let first = c.in-Some.ensures.found in
+    let others = c.word_chars_end-end.ensures in
+    not_passed _ _ _ _ _ first.2 others.chars others.all (λ ends. let both : false ≡ true = c.if-ends_word.ensures.1 ends in cc)

@@ -1,0 +1,4 @@
+pub mod Between
+pub mod Reads
+pub mod Refusals
+pub mod Scanner

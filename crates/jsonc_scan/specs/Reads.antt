@@ -1,0 +1,90 @@
+-- What a lexeme stands for, and where it was read.
+use Rattle.std.specs.Prelude.{ℕ, ◌≡◌, Bool, true, List, chars, codes, IsTrue, ◌==◌, ◌||◌}
+use Rattle.jsonc_scan.specs.declared.lexeme.Lexeme.{Lexeme}
+use Rattle.jsonc_scan.specs.declared.lexeme.Lexeme.TheVariants.{OpenBrace, CloseBrace, OpenBracket, CloseBracket, Comma, Colon, String, Word, Boolean, Number, Null, CommentLine, CommentBlock}
+use Rattle.jsonc_scan.specs.declared.lexeme.Read.{Read}
+use Rattle.jsonc_text.specs.Options.{Options}
+use Rattle.jsonc_text.specs.Lexemes.{Scanned, lexeme, line_comment, block_comment, punctuation, string, word, number, keyword, is_punctuation, Lexeme as IsLexeme, IsScanned}
+use Rattle.jsonc_text.specs.Words.{boolean, null}
+use Rattle.jsonc_scan.specs.Between.{Between, NoneFrom, IsWhole, IsAlone}
+use Rattle.jsonc_text.specs.Numbers.{Fraction, Unsigned, Number as IsNumber}
+use Rattle.jsonc_text.specs.Text.{rest, next, starts}
+
+-- a string without escapes stands for its text
+abbrev pub what_of : Lexeme → Scanned
+what_of OpenBrace = lexeme (punctuation 0x7B)
+what_of CloseBrace = lexeme (punctuation 0x7D)
+what_of OpenBracket = lexeme (punctuation 0x5B)
+what_of CloseBracket = lexeme (punctuation 0x5D)
+what_of Comma = lexeme (punctuation 0x2C)
+what_of Colon = lexeme (punctuation 0x3A)
+what_of (String s) = lexeme (string (chars s.now))
+what_of (Word s) = lexeme (word (chars s.now))
+what_of (Boolean b) = lexeme (keyword (boolean b))
+what_of (Number s) = lexeme (number (chars s.now))
+what_of Null = lexeme (keyword null)
+what_of (CommentLine s) = line_comment (chars s.now)
+what_of (CommentBlock s) = block_comment (chars s.now)
+
+-- the lexeme or comment stands at a place, and ends where it was read to
+abbrev pub IsRead : Options → List ℕ → ℕ → Read → Type 0
+IsRead o bytes start read = Between (IsScanned o (what_of read.lexeme)) bytes start read.end
+
+-- under all options
+abbrev pub IsReadAnyhow : List ℕ → ℕ → Read → Type 0
+IsReadAnyhow bytes start read = (o : Options) → IsRead o bytes start read
+
+-- under all options that allow `Infinity` and `NaN`
+abbrev pub IsReadName : List ℕ → ℕ → Read → Type 0
+IsReadName bytes start read = (o : Options) → IsTrue o.non_finite_numbers → IsRead o bytes start read
+
+-- a number without its sign, with a sign before it or not
+abbrev pub IsUnsigned : Options → List ℕ → ℕ → ℕ → Type 0
+IsUnsigned o bytes start end = (signed : Bool) → Between (Unsigned o signed) bytes start end
+
+-- `Infinity` or `NaN` after a sign, under all options that allow them
+abbrev pub IsSignedName : List ℕ → ℕ → ℕ → Type 0
+IsSignedName bytes start end = (o : Options) → IsTrue o.non_finite_numbers → Between (Unsigned o true) bytes start end
+
+-- neither `Infinity` nor `NaN` stands at a place as a number
+abbrev pub NoName : Options → List ℕ → ℕ → Type 0
+NoName o bytes start = IsTrue o.non_finite_numbers → NoneFrom (IsWhole (codes "Infinity")) bytes start × NoneFrom (IsWhole (codes "NaN")) bytes start
+
+-- no number without its sign stands at a place
+abbrev pub NoUnsigned : Options → List ℕ → ℕ → Type 0
+NoUnsigned o bytes start = (signed : Bool) → NoneFrom (Unsigned o signed) bytes start
+
+-- neither `Infinity` nor `NaN` stands at a place and ends there
+abbrev pub NoNames : List ℕ → ℕ → Type 0
+NoNames bytes start = NoneFrom (IsAlone (codes "Infinity")) bytes start × NoneFrom (IsAlone (codes "NaN")) bytes start
+
+-- an `I` or an `N` stands at a place
+abbrev pub HasName : List ℕ → ℕ → Type 0
+HasName bytes start = IsTrue (starts (λ c. c == 0x49 || c == 0x4E) (next (rest bytes start)))
+
+-- no word stands at a place
+abbrev pub NoWord : Options → List ℕ → ℕ → Type 0
+NoWord o bytes start = (s : List ℕ) → NoneFrom (IsLexeme o (word s)) bytes start
+
+-- this lexeme is the punctuation character c
+abbrev pub IsMark : ℕ → Lexeme → Type 0
+IsMark c l = IsTrue (is_punctuation c) × (what_of l ≡ lexeme (punctuation c))
+
+-- no fraction stands at a place, and none is missing there
+abbrev pub NoFraction : Options → List ℕ → ℕ → Type 0
+NoFraction o bytes start = NoneFrom (Fraction o) bytes start
+
+-- a number after its sign, and none
+abbrev pub IsAfterSign : Options → List ℕ → ℕ → ℕ → Type 0
+IsAfterSign o bytes start end = Between (Unsigned o true) bytes start end
+
+abbrev pub NoneAfterSign : Options → List ℕ → ℕ → Type 0
+NoneAfterSign o bytes start = NoneFrom (Unsigned o true) bytes start
+
+-- no number without its sign stands at a place, unless a name does
+abbrev pub NoFinite : Options → List ℕ → ℕ → Type 0
+NoFinite o bytes start = NoNames bytes start → NoUnsigned o bytes start
+
+-- no number stands at a place, unless a name does
+abbrev pub NoNumber : Options → List ℕ → ℕ → Type 0
+NoNumber o bytes start = NoNames bytes start → NoneFrom (IsNumber o) bytes start

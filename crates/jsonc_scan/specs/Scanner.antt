@@ -1,0 +1,46 @@
+-- What a scanner has before it.
+use Rattle.std.specs.Prelude.{ℕ, ◌≡◌, ◌≤◌, ◌<◌, List, Option, Some, None, option_map, length}
+use Rattle.jsonc_scan.specs.declared.scanner.Scanner.{Scanner}
+use Rattle.jsonc_text.specs.declared.tokens.Token.{Token}
+use Rattle.jsonc_text.specs.Options.{Options}
+use Rattle.jsonc_text.specs.OptionsOf.{parse_options}
+use Rattle.jsonc_text.specs.Text.{rest, Many}
+use Rattle.jsonc_text.specs.Gaps.{is_blank}
+use Rattle.jsonc_text.specs.Lexemes.{Scanned, IsScanned}
+use Rattle.jsonc_text.specs.Tokens.{scanned_of}
+
+module _ {A : Type 0} where
+  -- the bytes of the whole text
+  abbrev pub text_of : Scanner A → List ℕ
+  text_of s = s.file_text.now
+
+  -- the place where the last token ended: what comes after it is still to be scanned
+  abbrev pub end_of : Scanner A → ℕ
+  end_of s = s.byte_index
+
+  -- the place where the last token began
+  abbrev pub start_of : Scanner A → ℕ
+  start_of s = s.token_start
+
+  abbrev pub options_of : Scanner A → Options
+  options_of s = parse_options s.options
+
+  -- the last token, or none at the end of the text and before the first
+  abbrev pub token_of : Scanner A → Option Scanned
+  token_of s = option_map scanned_of s.current_token
+
+  -- what is still to be scanned
+  abbrev pub left : Scanner A → List ℕ
+  left s = rest (text_of s) (end_of s)
+
+  -- the text and the options stay, and the scanner passes blanks to where its token begins
+  pub record PassesBlanks (old new : Scanner A) : Type 0 where
+    pub text : text_of new ≡ text_of old
+    pub options : options_of new ≡ options_of old
+    pub blanks : Many is_blank (left old) (rest (text_of new) (start_of new))
+    pub order : (end_of old ≤ start_of new) × (start_of new ≤ end_of new)
+
+  -- this token stands where the scanner's token begins, and ends where the scanner is
+  abbrev pub StandsAt : Scanner A → Option (Token A) → Type 0
+  StandsAt s None = (start_of s ≡ length (text_of s)) × (end_of s ≡ length (text_of s))
+  StandsAt s (Some t) = (start_of s < end_of s) × IsScanned (options_of s) (scanned_of t) (rest (text_of s) (start_of s)) (left s)

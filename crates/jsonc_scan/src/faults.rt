@@ -1,0 +1,30 @@
+//! Faults of a text at its places.
+ghost use Rattle.std.specs.Prelude.{◌≡◌, ◌≢◌};
+ghost use Rattle.jsonc_text.specs.Text.{Spans};
+ghost use Rattle.jsonc_text.specs.Faults.{kind_of};
+ghost use Rattle.jsonc_scan.specs.Refusals.{IsTextFault, IsTold};
+
+use jsonc_text::chars::char_end;
+use jsonc_text::common::Range;
+use jsonc_text::errors::{ParseError, ParseErrorKind};
+
+/// A fault that is told of the bytes between two places.
+pub(crate) fn fault(text: &str, start: usize, end: usize, kind: ParseErrorKind) -> ParseError
+    requires spans { Spans text.now start end }
+    requires kind { kind ≢ ParseErrorKind.OutOfMemory }
+    ensures fault { IsTextFault text.now result }
+    ensures told { IsTold start end kind result }
+{
+    ParseError::new(Range { start, end }, kind, text)
+}
+
+/// A fault that is told of the character at a place, or of no bytes at the end of the text.
+pub(crate) fn fault_at(text: &str, place: usize, kind: ParseErrorKind) -> ParseError
+    requires spans { Spans text.now place place }
+    requires kind { kind ≢ ParseErrorKind.OutOfMemory }
+    ensures fault { IsTextFault text.now result }
+    ensures kind { kind_of result ≡ kind }
+{
+    let end = char_end(text, place);
+    fault(text, place, end, kind)
+}

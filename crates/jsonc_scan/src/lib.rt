@@ -1,0 +1,16 @@
+//! The scanner: reads the lexemes and comments of a text one after another.
+//!
+//! What they are is defined in `jsonc_text`, whose names the contracts of this crate use.
+#![tactic(auto)]
+
+mod comment;
+mod faults;
+mod lexeme;
+mod number;
+mod reads;
+pub mod scanner;
+mod stops;
+mod string;
+#[cfg(test)]
+mod tests;
+mod word;

@@ -1,0 +1,116 @@
+//! Turning a text into tokens.
+ghost use Rattle.std.specs.Prelude.{◌≡◌, ◌≢◌, ◌≤◌, IsCharBoundary, IfOk, IfErr, OnErr, None, option_map};
+
+use jsonc_text::chars::blanks_end;
+use jsonc_text::errors::{ParseError, ParseErrorKind};
+use crate::lexeme::token_of;
+use jsonc_text::options::{ParseOptions, ScannerOptions};
+use crate::reads::read_lexeme;
+use jsonc_text::tokens::Token;
+use std::alloc::Allocator;
+
+/// Reads a text one token after another.
+#[derive(Drop)]
+pub struct Scanner<'a, A: Allocator> {
+    file_text: &'a str,
+    byte_index: usize,
+    token_start: usize,
+    current_token: Option<Token<'a, A>>,
+    alloc: A,
+    options: ParseOptions,
+    pub ghost at_place: { IsCharBoundary file_text.now byte_index },
+    pub ghost starts_at_place: { IsCharBoundary file_text.now token_start },
+    pub ghost order: { token_start ≤ byte_index },
+}
+
+impl<'a, A: Allocator> Scanner<'a, A> {
+    ghost use Rattle.jsonc_text.specs.OptionsOf.{parse_options, scanner_options};
+    ghost use Rattle.jsonc_scan.specs.Scanner.{text_of, end_of, start_of, options_of, token_of};
+    ghost use Rattle.jsonc_text.specs.Tokens.{scanned_of};
+
+    /// A scanner at the start of a text.
+    pub fn new(alloc: A, file_text: &'a str, options: &ScannerOptions) -> Scanner<'a, A>
+        ensures text { text_of result ≡ file_text.now }
+        ensures options { options_of result ≡ scanner_options options.now }
+        ensures start { (start_of result ≡ 0) × (end_of result ≡ 0) }
+        ensures token { token_of result ≡ None }
+    {
+        Scanner::with_options(alloc, file_text, ParseOptions::of_scanner(options))
+    }
+
+    /// The same for a parser, which hands on its own options.
+    pub fn with_options(alloc: A, file_text: &'a str, options: ParseOptions) -> Scanner<'a, A>
+        ensures text { text_of result ≡ file_text.now }
+        ensures options { options_of result ≡ parse_options options }
+        ensures start { (start_of result ≡ 0) × (end_of result ≡ 0) }
+        ensures token { token_of result ≡ None }
+    {
+        Scanner {
+            file_text,
+            byte_index: 0,
+            token_start: 0,
+            current_token: None,
+            alloc,
+            options,
+        }
+    }
+
+    /// The whole text.
+    pub fn file_text(&self) -> &'a str
+        ensures { result.now ≡ text_of self.now }
+    {
+        self.file_text
+    }
+
+    /// The place where the last token began.
+    pub fn token_start(&self) -> usize
+        ensures { result ≡ start_of self.now }
+    {
+        self.token_start
+    }
+
+    /// The place after the last token.
+    pub fn token_end(&self) -> usize
+        ensures { result ≡ end_of self.now }
+    {
+        self.byte_index
+    }
+
+    /// The last token, lent.
+    pub fn token(&self) -> Option<&Token<'a, A>>
+        ensures { option_map (λ t. scanned_of t.now) result ≡ token_of self.now }
+    {
+        self.current_token.as_ref()
+    }
+}
+
+impl<'a, A: Allocator + Copy> Scanner<'a, A> {
+    ghost use Rattle.jsonc_text.specs.Faults.{IsFault, kind_of};
+    ghost use Rattle.jsonc_scan.specs.Scanner.{text_of, start_of, end_of, token_of, PassesBlanks, StandsAt};
+    ghost use Rattle.jsonc_text.specs.Tokens.{scanned_of};
+
+    /// Moves to the next token, and answers it; or none at the end of the text.
+    ///
+    /// After an error the last token is what it was, and the scanner stands where the refused one begins.
+    pub fn scan(&mut self) -> Result<Option<Token<'a, A>>, ParseError>
+        ensures blanks { PassesBlanks self.old self.new }
+        ensures found { IfOk result (StandsAt self.new) }
+        ensures token { IfOk result (λ found. token_of self.new ≡ option_map scanned_of found) }
+        ensures fault { IfErr result (IsFault (text_of self.new)) }
+        ensures no_memory { IfErr result (λ e. kind_of e ≢ ParseErrorKind.OutOfMemory) }
+        ensures refused { OnErr result (token_of self.new ≡ token_of self.old) }
+        ensures stays { OnErr result (end_of self.new ≡ start_of self.new) }
+    {
+        let start = blanks_end(self.file_text, self.byte_index);
+        self.byte_index = start;
+        self.token_start = start;
+        if start == self.file_text.len() {
+            self.current_token = None;
+            return Ok(None);
+        }
+        let read = read_lexeme(self.file_text, start, &self.options)?;
+        self.byte_index = read.end;
+        self.current_token = Some(token_of(read.lexeme));
+        Ok(Some(token_of(read.lexeme)))
+    }
+}

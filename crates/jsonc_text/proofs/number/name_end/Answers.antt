@@ -1,8 +1,0 @@
-use Rattle.jsonc_text.proofs.Between.{infinity, nan}
-use Rattle.jsonc_text.proofs.number.name_end.Goals as goal
-
-pub returns-in-Some-clause-found : goal.returns-in-Some-clause-found
-returns-in-Some-clause-found c = infinity _ _ _ c.in-Some.ensures.found
-
-pub returns-clause-found : goal.returns-clause-found
-returns-clause-found c = nan _ _ _ c.in-Some-keyword_end.ensures.found

@@ -1,9 +1,0 @@
-use Rattle.std.proofs.Common.{refl}
-use Rattle.jsonc_text.specs.Text.{is_hex_digit}
-use Rattle.jsonc_text.proofs.Between.{some_found}
-use Rattle.jsonc_text.proofs.number.some_hex_digits_end.Goals as goal
-
-pub returns-clause-found : goal.returns-clause-found
-returns-clause-found c =
-    let read = c.hex_digits_end.ensures in
-    some_found is_hex_digit _ _ _ (c.if-not-has_hex_digit.ensures.here refl) read.boundary read.order read.digits read.all

@@ -1,4 +1,0 @@
-use Rattle.jsonc_text.proofs.reads.read_name_or_word.Goals as goal
-
-pub returns-in-Some-clause-found : goal.returns-in-Some-clause-found
-returns-in-Some-clause-found c = c.in-Some.ensures.found _ c.if-not-options.false
