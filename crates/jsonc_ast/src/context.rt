@@ -7,10 +7,10 @@ ghost use Rattle.jsonc_scan.specs.Scanner.{options_of};
 use crate::ast::{ObjectPropName, StringLit, WordLit};
 use crate::collect::{CollectOptions, CommentCollectionStrategy};
 use crate::container::{Container, is_colon, is_comma, is_comment, loose_name};
+use jsonc_scan::scanner::Scanner;
 use jsonc_text::common::Range;
 use jsonc_text::errors::{ParseError, ParseErrorKind};
 use jsonc_text::options::ParseOptions;
-use jsonc_scan::scanner::Scanner;
 use jsonc_text::tokens::{Token, TokenAndRange};
 use std::alloc::Allocator;
 

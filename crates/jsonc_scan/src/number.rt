@@ -11,12 +11,12 @@ ghost use Rattle.jsonc_scan.specs.Refusals.{IsTextFault, IsBarePoint};
 ghost use Rattle.jsonc_text.specs.Text.{Spans, AllOf, is_digit, is_hex_digit};
 ghost use Rattle.std.specs.Str.{IsAscii};
 
-use jsonc_text::chars::{digits_end, has_byte, hex_digits_end};
-use jsonc_text::errors::{ParseError, ParseErrorKind};
 use crate::faults::{fault, fault_at};
 use crate::lexeme::{Lexeme, Read};
-use jsonc_text::options::ParseOptions;
 use crate::word::keyword_end;
+use jsonc_text::chars::{digits_end, has_byte, hex_digits_end};
+use jsonc_text::errors::{ParseError, ParseErrorKind};
+use jsonc_text::options::ParseOptions;
 
 /// Whether one of two ASCII characters stands at a place.
 fn has_either(text: &str, place: usize, first: u8, second: u8) -> bool

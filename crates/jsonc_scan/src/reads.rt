@@ -7,15 +7,15 @@ ghost use Rattle.jsonc_scan.specs.Reads.{IsRead, IsReadAnyhow};
 ghost use Rattle.jsonc_scan.specs.Refusals.{IsTextFault};
 ghost use Rattle.jsonc_text.specs.Words.{Keyword, IsKeyword};
 
-use jsonc_text::chars::has_byte;
 use crate::comment::read_comment;
-use jsonc_text::errors::{ParseError, ParseErrorKind};
 use crate::faults::fault;
 use crate::lexeme::{Read, punctuation};
 use crate::number::{read_name, read_number};
-use jsonc_text::options::ParseOptions;
 use crate::string::read_string;
 use crate::word::{read_keyword, read_word};
+use jsonc_text::chars::has_byte;
+use jsonc_text::errors::{ParseError, ParseErrorKind};
+use jsonc_text::options::ParseOptions;
 
 /// The lexeme or comment at a place before the end of the text.
 pub(crate) fn read_lexeme<'a>(

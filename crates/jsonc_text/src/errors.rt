@@ -155,59 +155,49 @@ impl fmt::Display for ParseErrorKind {
 
     fn fmt<W: fmt::Write>(&self, f: &mut fmt::Formatter<W>) -> fmt::Result {
         match self {
-            ParseErrorKind::BareDecimalPointNumbersNotAllowed => f.write_str(
-                "Leading or trailing decimal points on numbers are not allowed",
-            ),
-            ParseErrorKind::CommentsNotAllowed => f.write_str("Comments are not allowed"),
-            ParseErrorKind::ExpectedColonAfterObjectKey => f.write_str(
-                "Expected colon after the string or word in object property",
-            ),
-            ParseErrorKind::ExpectedObjectValue => f.write_str(
-                "Expected value after colon in object property",
-            ),
-            ParseErrorKind::ExpectedDigit => f.write_str("Expected digit"),
-            ParseErrorKind::ExpectedDigitFollowingNegativeSign => f.write_str(
-                "Expected digit following negative sign",
-            ),
-            ParseErrorKind::ExpectedPlusMinusOrDigitInNumberLiteral => f.write_str(
-                "Expected plus, minus, or digit in number literal",
-            ),
-            ParseErrorKind::ExpectedStringObjectProperty => f.write_str(
-                "Expected string for object property",
-            ),
-            ParseErrorKind::HexadecimalNumbersNotAllowed => f.write_str(
-                "Hexadecimal numbers are not allowed",
-            ),
-            ParseErrorKind::ExpectedComma => f.write_str("Expected comma"),
-            ParseErrorKind::MultipleRootJsonValues => f.write_str(
-                "Text cannot contain more than one JSON value",
-            ),
-            ParseErrorKind::NonFiniteNumbersNotAllowed => f.write_str(
-                "Infinity and NaN are not allowed",
-            ),
-            ParseErrorKind::SingleQuotedStringsNotAllowed => f.write_str(
-                "Single-quoted strings are not allowed",
-            ),
             ParseErrorKind::String(kind) => kind.fmt(f),
-            ParseErrorKind::TrailingCommasNotAllowed => f.write_str(
-                "Trailing commas are not allowed",
-            ),
-            ParseErrorKind::UnaryPlusNumbersNotAllowed => f.write_str(
-                "Unary plus on numbers is not allowed",
-            ),
-            ParseErrorKind::UnexpectedCloseBrace => f.write_str("Unexpected close brace"),
-            ParseErrorKind::UnexpectedCloseBracket => f.write_str("Unexpected close bracket"),
-            ParseErrorKind::UnexpectedColon => f.write_str("Unexpected colon"),
-            ParseErrorKind::UnexpectedComma => f.write_str("Unexpected comma"),
-            ParseErrorKind::UnexpectedToken => f.write_str("Unexpected token"),
-            ParseErrorKind::UnexpectedTokenInObject => f.write_str("Unexpected token in object"),
-            ParseErrorKind::UnexpectedWord => f.write_str("Unexpected word"),
-            ParseErrorKind::UnterminatedArray => f.write_str("Unterminated array"),
-            ParseErrorKind::UnterminatedCommentBlock => f.write_str("Unterminated comment block"),
-            ParseErrorKind::UnterminatedObject => f.write_str("Unterminated object"),
-            ParseErrorKind::NestingDepthExceeded => f.write_str("Maximum nesting depth exceeded"),
-            ParseErrorKind::OutOfMemory => f.write_str("Out of memory"),
+            _ => f.write_str(text_outside_strings(self)),
         }
+    }
+}
+
+/// The text of a kind, but for faults inside a string.
+fn text_outside_strings(kind: &ParseErrorKind) -> &'static str
+    ensures { ((k : ParseStringErrorKind) → kind.now ≢ ParseErrorKind.String k) → result.now ≡ kind_text kind.now }
+{
+    match kind {
+        ParseErrorKind::BareDecimalPointNumbersNotAllowed =>
+            "Leading or trailing decimal points on numbers are not allowed",
+        ParseErrorKind::CommentsNotAllowed => "Comments are not allowed",
+        ParseErrorKind::ExpectedColonAfterObjectKey =>
+            "Expected colon after the string or word in object property",
+        ParseErrorKind::ExpectedObjectValue => "Expected value after colon in object property",
+        ParseErrorKind::ExpectedDigit => "Expected digit",
+        ParseErrorKind::ExpectedDigitFollowingNegativeSign =>
+            "Expected digit following negative sign",
+        ParseErrorKind::ExpectedPlusMinusOrDigitInNumberLiteral =>
+            "Expected plus, minus, or digit in number literal",
+        ParseErrorKind::ExpectedStringObjectProperty => "Expected string for object property",
+        ParseErrorKind::HexadecimalNumbersNotAllowed => "Hexadecimal numbers are not allowed",
+        ParseErrorKind::ExpectedComma => "Expected comma",
+        ParseErrorKind::MultipleRootJsonValues => "Text cannot contain more than one JSON value",
+        ParseErrorKind::NonFiniteNumbersNotAllowed => "Infinity and NaN are not allowed",
+        ParseErrorKind::SingleQuotedStringsNotAllowed => "Single-quoted strings are not allowed",
+        ParseErrorKind::TrailingCommasNotAllowed => "Trailing commas are not allowed",
+        ParseErrorKind::UnaryPlusNumbersNotAllowed => "Unary plus on numbers is not allowed",
+        ParseErrorKind::UnexpectedCloseBrace => "Unexpected close brace",
+        ParseErrorKind::UnexpectedCloseBracket => "Unexpected close bracket",
+        ParseErrorKind::UnexpectedColon => "Unexpected colon",
+        ParseErrorKind::UnexpectedComma => "Unexpected comma",
+        ParseErrorKind::UnexpectedToken => "Unexpected token",
+        ParseErrorKind::UnexpectedTokenInObject => "Unexpected token in object",
+        ParseErrorKind::UnexpectedWord => "Unexpected word",
+        ParseErrorKind::UnterminatedArray => "Unterminated array",
+        ParseErrorKind::UnterminatedCommentBlock => "Unterminated comment block",
+        ParseErrorKind::UnterminatedObject => "Unterminated object",
+        ParseErrorKind::NestingDepthExceeded => "Maximum nesting depth exceeded",
+        ParseErrorKind::OutOfMemory => "Out of memory",
+        ParseErrorKind::String(_) => "",
     }
 }
 
