@@ -70,7 +70,7 @@ RootLaid bytes (Some x) row =
 abbrev pub DocumentLaid : List ℕ → Option Located → OrderedTree → Type 0
 DocumentLaid bytes x tree = (row : OrderedTree) × (tree ≡ more Content.root row none) × RootLaid bytes x row
 
--- each node has its range in the text, and what stands between the nodes is only that
+-- each node has its range in the text, a container its brackets, and what stands between the nodes can be filled with leaves
 abbrev mutual
   pub CanLay : List ℕ → Located → Type 0
   CanLay bytes (leaf_at r v) = Spans bytes r.start r.end
