@@ -5,7 +5,7 @@ pub use Rattle.jsonc_parser.specs.declared.cst.EditError.TheVariants.{OutOfMemor
 pub use Rattle.jsonc_text.specs.Faults.{IsFault}
 pub use Rattle.jsonc_text.specs.Grammar.{IsDocument}
 pub use Rattle.jsonc_text.specs.Messages.{error_text}
-pub use Rattle.jsonc_text.specs.Options.{plain_json}
+pub use Rattle.jsonc_text.specs.Options.{Options, all_on}
 pub use Rattle.jsonc_text.specs.OptionsOf.{parse_options}
 pub use Rattle.jsonc_text.specs.Plain.{Plain}
 pub use Rattle.jsonc_text.specs.declared.errors.ParseError.{ParseError}

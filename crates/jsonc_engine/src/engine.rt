@@ -4,9 +4,9 @@ ghost use Rattle.std.specs.Io.KnownBytes.{Appends};
 ghost use Rattle.jsonc_engine.specs.Calls.{one_more};
 ghost use Rattle.jsonc_engine.specs.Command.{Name};
 ghost use Rattle.jsonc_engine.specs.Fault.{EndsRun, IsFaultOn};
-ghost use Rattle.jsonc_engine.specs.Input.{IsInput};
+ghost use Rattle.jsonc_engine.specs.Input.{IsInput, IsInputOf};
 ghost use Rattle.jsonc_engine.specs.Output.{IsOutput};
-ghost use Rattle.jsonc_engine.specs.Parser.{IsFault, ParseError, parse_options, plain_json};
+ghost use Rattle.jsonc_engine.specs.Parser.{IsFault, ParseError, parse_options};
 
 use crate::calls::{Sink, Source};
 use crate::command::Command;
@@ -65,27 +65,39 @@ fn write_whole<K: Sink>(sink: &mut K, bytes: &[u8]) -> Result<(), Fault>
     Ok(())
 }
 
-/// The options of plain JSON.
-fn plain_options() -> ParseOptions
-    ensures { parse_options result ≡ plain_json }
+/// What the command writes, given the bytes of the input and what their text may hold beyond JSON, or `None` where
+/// it writes nothing.
+///
+/// The bytes may be refused as `Fault::NotUtf8` or `Fault::Input`, and memory for what is written as `Fault::Edit`.
+pub fn run_with<A: Allocator + Copy>(
+    alloc: A,
+    options: &ParseOptions,
+    command: Command,
+    input: &[u8],
+) -> Result<Option<String<A>>, Fault>
+    ensures printed { IfOk result (λ output. command ≡ Command.Print → IsOutput output input.now) }
+    ensures checked { IfOk result (λ output. command ≡ Command.Check → output ≡ None) }
+    ensures accepted { OnOk result (IsInputOf (parse_options options.now) input.now) }
+    ensures not_utf8 { IsErrOf result Fault.NotUtf8 ↔ ¬ (IsUtf8 input.now) }
+    ensures refused { IfErr result (IsFaultOn input.now) }
 {
-    ParseOptions {
-        allow_comments: false,
-        allow_loose_object_property_names: false,
-        allow_trailing_commas: false,
-        allow_missing_commas: false,
-        allow_single_quoted_strings: false,
-        allow_hexadecimal_numbers: false,
-        allow_unary_plus_numbers: false,
-        allow_bare_decimal_point_numbers: false,
-        allow_non_finite_numbers: false,
-        allow_extended_string_escapes: false,
+    let Ok(text) = str::from_utf8(input) else {
+        return Err(Fault::NotUtf8);
+    };
+    let document = match CstRootNode::parse(alloc, text, options) {
+        Ok(document) => document,
+        Err(error) => return Err(Fault::Input(error)),
+    };
+    match command {
+        Command::Check => Ok(None),
+        Command::Print => match document.text() {
+            Ok(output) => Ok(Some(output)),
+            Err(_) => Err(Fault::Edit(EditError::OutOfMemory)),
+        },
     }
 }
 
-/// What the command writes, given the bytes of the input, or `None` where it writes nothing.
-///
-/// The bytes may be refused as `Fault::NotUtf8` or `Fault::Input`, and memory for what is written as `Fault::Edit`.
+/// The same under the default options, which allow comments and all else.
 pub fn run_on<A: Allocator + Copy>(
     alloc: A,
     command: Command,
@@ -97,20 +109,7 @@ pub fn run_on<A: Allocator + Copy>(
     ensures not_utf8 { IsErrOf result Fault.NotUtf8 ↔ ¬ (IsUtf8 input.now) }
     ensures refused { IfErr result (IsFaultOn input.now) }
 {
-    let Ok(text) = str::from_utf8(input) else {
-        return Err(Fault::NotUtf8);
-    };
-    let document = match CstRootNode::parse(alloc, text, &plain_options()) {
-        Ok(document) => document,
-        Err(error) => return Err(Fault::Input(error)),
-    };
-    match command {
-        Command::Check => Ok(None),
-        Command::Print => match document.text() {
-            Ok(output) => Ok(Some(output)),
-            Err(_) => Err(Fault::Edit(EditError::OutOfMemory)),
-        },
-    }
+    run_with(alloc, &ParseOptions::default(), command, input)
 }
 
 /// Does what the words ask: reads the source to its end, and writes what the command makes of it to the sink.

@@ -2,9 +2,11 @@
 mod memory;
 
 use crate::calls::{FromReader, ToWriter};
-use crate::engine::engine;
+use crate::command::Command;
+use crate::engine::{engine, run_with};
 use crate::fault::Fault;
 use crate::tests::memory::{Input, Output};
+use jsonc_parser::ParseOptions;
 use std::alloc::{AllocError, Global};
 use std::test::Fail;
 
@@ -23,6 +25,35 @@ fn run(alloc: Global, words: &[&str], input: &[u8]) -> Result<(String, Vec<u8>),
     let result = engine(alloc, words, &mut source, &mut sink);
     let ToWriter { writer, failed: _ } = sink;
     Ok((line_of(alloc, result)?, writer))
+}
+
+/// The options of plain JSON.
+fn plain_options() -> ParseOptions {
+    ParseOptions {
+        allow_comments: false,
+        allow_loose_object_property_names: false,
+        allow_trailing_commas: false,
+        allow_missing_commas: false,
+        allow_single_quoted_strings: false,
+        allow_hexadecimal_numbers: false,
+        allow_unary_plus_numbers: false,
+        allow_bare_decimal_point_numbers: false,
+        allow_non_finite_numbers: false,
+        allow_extended_string_escapes: false,
+    }
+}
+
+/// The line that printing a text under some options ends with, and what it writes.
+fn print_with(
+    alloc: Global,
+    options: &ParseOptions,
+    text: &str,
+) -> Result<(String, String), AllocError> {
+    match run_with(alloc, options, Command::Print, text.as_bytes()) {
+        Ok(Some(output)) => Ok((String::new(alloc), output)),
+        Ok(None) => Ok((String::new(alloc), String::new(alloc))),
+        Err(fault) => Ok((format!(in alloc; "{fault}")?, String::new(alloc))),
+    }
 }
 
 /// `count` times `open`, then `inner`, and `count` times `close`.
@@ -67,9 +98,41 @@ fn documents_are_printed(rt: HostRuntime) -> Result<(), Fail> {
 }
 
 #[test]
-fn other_texts_are_refused(rt: HostRuntime) -> Result<(), Fail> {
-    let arrays = nested(rt.alloc(), 514, "[", "", "]")?;
-    let objects = nested(rt.alloc(), 257, "{\"q\":", "1", "}")?;
+fn comments_and_commas_are_printed(rt: HostRuntime) -> Result<(), Fail> {
+    let rows = [
+        "/* c */ {\"a\": 1, // x\n}",
+        "// first\r\n[1, /**/ 2,]\r// last",
+        "{a: 'b' /*\n*/, \"c\"/* in */:/* between */[/* empty */]}/*/ end */",
+        "[1 2 // missing comma\n3]",
+        "// nothing",
+        "/* \u{e9} *//* * / */\n",
+        "[0x1F, +.5, 5., -Infinity, NaN, null//\n]",
+    ];
+    for text in rows {
+        let (line, written) = run(rt.alloc(), &["print"], text.as_bytes())?;
+        assert_eq!(rt; line.as_str(), "", "at {text}");
+        assert_eq!(rt; written.as_slice(), text.as_bytes(), "at {text}");
+        let (line, written) = run(rt.alloc(), &["check"], text.as_bytes())?;
+        assert_eq!(rt; line.as_str(), "", "at {text}");
+        assert_eq!(rt; written.len(), 0, "at {text}");
+    }
+    Ok(())
+}
+
+#[test]
+fn plain_documents_are_printed(rt: HostRuntime) -> Result<(), Fail> {
+    let options = plain_options();
+    for text in ["{\"a\": [1, \"b\", null]}", "", " \r\n"] {
+        let (line, written) = print_with(rt.alloc(), &options, text)?;
+        assert_eq!(rt; line.as_str(), "", "at {text}");
+        assert_eq!(rt; written.as_str(), text, "at {text}");
+    }
+    Ok(())
+}
+
+#[test]
+fn texts_beyond_plain_json_are_refused(rt: HostRuntime) -> Result<(), Fail> {
+    let options = plain_options();
     let rows = [
         (
             "[1,]",
@@ -77,10 +140,38 @@ fn other_texts_are_refused(rt: HostRuntime) -> Result<(), Fail> {
         ),
         ("[01]", "jsonc: Expected comma on line 1 column 3"),
         (
+            "[] // x",
+            "jsonc: Comments are not allowed on line 1 column 4",
+        ),
+        (
             "[1] [2]",
             "jsonc: Text cannot contain more than one JSON value on line 1 column 5",
         ),
         ("[1", "jsonc: Unterminated array on line 1 column 1"),
+    ];
+    for (text, expected) in rows {
+        let (line, written) = print_with(rt.alloc(), &options, text)?;
+        assert_eq!(rt; line.as_str(), expected, "at {text}");
+        assert_eq!(rt; written.len(), 0, "at {text}");
+    }
+    Ok(())
+}
+
+#[test]
+fn other_texts_are_refused(rt: HostRuntime) -> Result<(), Fail> {
+    let arrays = nested(rt.alloc(), 514, "[", "", "]")?;
+    let objects = nested(rt.alloc(), 257, "{\"q\":", "1", "}")?;
+    let rows = [
+        (
+            "[1] [2]",
+            "jsonc: Text cannot contain more than one JSON value on line 1 column 5",
+        ),
+        ("[1", "jsonc: Unterminated array on line 1 column 1"),
+        ("{a/*c*/:1}", "jsonc: Unexpected token on line 1 column 2"),
+        (
+            "[1, /* c ]",
+            "jsonc: Unterminated comment block on line 1 column 5",
+        ),
         (
             arrays.as_str(),
             "jsonc: Maximum nesting depth exceeded on line 1 column 513",

@@ -1,19 +1,19 @@
 -- The children of a container so far, and what is still to be built.
-use Rattle.std.proofs.Common.{ℕ, ◌+◌, ◌<◌, ◌≤◌, ◌≡◌, ◌∙◌, sym, ap, subst, refl, List, [], ◌∷◌, length, drop, get_or, arith, map, Result, Ok, Err, OnOk, IsTrue, Some}
+use Rattle.std.proofs.Common.{ℕ, ◌+◌, ◌-◌, ◌<◌, ◌≤◌, ◌≡◌, ◌∙◌, sym, ap, subst, refl, List, length, drop, get_or, arith, Result, Ok, Err, OnOk, IsTrue, Some}
 use Rattle.std.proofs.lemmas.List.{drop_more, drop_all}
-use Rattle.jsonc_tree.specs.Content.{Content, is_container}
+use Rattle.jsonc_tree.specs.Content.{Content, is_container, token}
 use Rattle.jsonc_tree.specs.Tree.{Node, is_container_at}
 use Rattle.jsonc_tree.specs.OrderedTree.{OrderedTree, none, more, followed_by}
 use Rattle.jsonc_text.specs.declared.common.Range.{Range}
 use Rattle.jsonc_text.specs.Text.{Spans}
-use Rattle.jsonc_ast.specs.Located.{Located, LocatedItems, LocatedMembers, LocatedName, no_items_at, item_at, no_members_at, member_at, range_at}
+use Rattle.jsonc_ast.specs.Located.{Located, LocatedItems, LocatedMembers, LocatedName, array_at, object_at, no_items_at, item_at, no_members_at, member_at, range_at}
 use Rattle.jsonc_ast.specs.Views.{located, member_of, items_located, members_located}
 use Rattle.jsonc_ast.specs.declared.ast.Value.{Value}
 use Rattle.jsonc_ast.specs.declared.ast.ObjectProp.{ObjectProp}
 use Rattle.jsonc_tree.specs.Changes.{Pushes}
 use Rattle.jsonc_layout.specs.Growth.{Grows}
-use Rattle.jsonc_layout.specs.Laid.{FillsBetween, Laid, ItemsLaid, an_element, no_element, MembersLaid, a_property, no_property, PropertyLaid, NameLaid, name_and_value, CanLay, CanLayItems, CanLayMembers, CanLayProperty, RootLaid}
-use Rattle.jsonc_layout.proofs.Growing.{grows_none, grows_append, grows_below}
+use Rattle.jsonc_layout.specs.Laid.{FillsBetween, bracketed, array_node, object_node, Laid, ItemsLaid, an_element, no_element, MembersLaid, a_property, no_property, PropertyLaid, NameLaid, name_and_value, CanLay, CanLayItems, CanLayMembers, RootLaid}
+use Rattle.jsonc_layout.proofs.Growing.{grows_none, grows_append, grows_below, grows_leaf}
 use Rattle.jsonc_layout.proofs.Rows.{followed_assoc}
 
 -- one more node after a row of leaves
@@ -126,6 +126,32 @@ pushed_container {b = b} n e push h = ap (is_container_at b) e ∙ ap is_contain
 
 pub grows_into : {a b d : List Node} {c : ℕ} {content : Content} {row : OrderedTree} (n : ℕ) → c < length a → n ≡ length a → Pushes a b c content → Grows b d n row → Grows a d c (more content row none)
 grows_into {b = b} {d = d} {row = row} n there e push grown = grows_below there push (subst (λ m. Grows b d m row) e grown)
+
+-- a node stays where others are added
+pub still_there : {a b : List Node} {c n : ℕ} {content : Content} → n < length a → Pushes a b c content → n < length b
+still_there h push = omega (arith, push.len, h)
+
+-- a new container: its opening bracket, a row, and its closing bracket
+pub bracketed_into : {a b d e f : List Node} {c : ℕ} {content : Content} {opening closing : ℕ} {row : OrderedTree} (n : ℕ) → c < length a → n ≡ length a → Pushes a b c content
+    → Pushes b d n (token opening) → Grows d e n row → Pushes e f n (token closing) → Grows a f c (more content (bracketed opening row closing) none)
+bracketed_into {b = b} {d = d} {e = e} n there same push opens grown closes =
+    let at_first : n < length b = pushed_there n same push in
+    let at_second : n < length d = still_there at_first opens in
+    let at_third : n < length e = omega (arith, at_second, grown.len) in
+    grows_into n there same push (grows_append at_first (grows_leaf at_first opens) (grows_append at_second grown (grows_leaf at_third closes)))
+
+-- the same row between equal places
+pub items_within : (text : List ℕ) (xs : LocatedItems) (r s : Range) → s.start ≡ r.start + 1 → s.end ≡ r.end - 1 → CanLayItems text (r.start + 1) xs (r.end - 1) → CanLayItems text s.start xs s.end
+items_within text xs r s from to h = subst (λ i. CanLayItems text i xs s.end) (sym from) (subst (λ j. CanLayItems text (r.start + 1) xs j) (sym to) h)
+
+pub members_within : (text : List ℕ) (ms : LocatedMembers) (r s : Range) → s.start ≡ r.start + 1 → s.end ≡ r.end - 1 → CanLayMembers text (r.start + 1) ms (r.end - 1) → CanLayMembers text s.start ms s.end
+members_within text ms r s from to h = subst (λ i. CanLayMembers text i ms s.end) (sym from) (subst (λ j. CanLayMembers text (r.start + 1) ms j) (sym to) h)
+
+pub items_inside : {text : List ℕ} {xs : LocatedItems} {row : OrderedTree} (r s : Range) → s.start ≡ r.start + 1 → s.end ≡ r.end - 1 → ItemsLaid text s.start xs s.end row → Laid text (array_at r xs) Content.array (bracketed 0x5B row 0x5D)
+items_inside {text} {xs} {row} r s from to h = array_node (subst (λ i. ItemsLaid text i xs (r.end - 1) row) from (subst (λ j. ItemsLaid text s.start xs j row) to h))
+
+pub members_inside : {text : List ℕ} {ms : LocatedMembers} {row : OrderedTree} (r s : Range) → s.start ≡ r.start + 1 → s.end ≡ r.end - 1 → MembersLaid text s.start ms s.end row → Laid text (object_at r ms) Content.object (bracketed 0x7B row 0x7D)
+members_inside {text} {ms} {row} r s from to h = object_node (subst (λ i. MembersLaid text i ms (r.end - 1) row) from (subst (λ j. MembersLaid text s.start ms j row) to h))
 
 pub laid_as : {text : List ℕ} {x y : Located} {content : Content} {below : OrderedTree} → x ≡ y → Laid text y content below → Laid text x content below
 laid_as {text} {content = content} {below = below} e l = subst (λ z. Laid text z content below) (sym e) l

@@ -1,9 +1,13 @@
-pub mod Texts
+pub mod Passing
+pub mod Comments
+pub mod Stretches
+pub mod Starts
 pub mod Growing
 pub mod GapLeaves
 pub mod Rows
 pub mod Views
 pub mod Names
 pub mod Filling
+pub mod Lines
 pub mod Meanings
 pub mod Building

@@ -1,8 +1,7 @@
 -- A located value that is laid out prints its text, and has its value.
-use Rattle.std.proofs.Common.{ℕ, suc, ◌+◌, ◌-◌, ◌≤◌, ◌≡◌, ◌∙◌, sym, ap, subst, refl, arith, Bool, true, false, not, ◌⊎◌, inl, inr, List, [], ◌∷◌, ◌++◌, length, IsTrue, ◌||◌, ◌&&◌, ◌==◌, Option, Some, None, option_map, IsUtf8, chars, codes, encode_utf8_all, slice_range, drop}
+use Rattle.std.proofs.Common.{ℕ, ◌+◌, ◌-◌, ◌≤◌, ◌≡◌, ◌∙◌, sym, ap, subst, refl, arith, Bool, true, false, inl, inr, List, [], ◌∷◌, ◌++◌, length, IsTrue, ◌||◌, ◌&&◌, ◌==◌, Option, Some, None, option_map, IsUtf8, chars, encode_utf8, encode_utf8_all, slice_range, drop}
 use Rattle.std.proofs.lemmas.List.{append_assoc, append-nil, append_cancel_right, take_all}
 use Rattle.std.proofs.lemmas.List.Folds.{drop_split}
-use Rattle.std.proofs.lemmas.Str.{IsUtf8-between}
 use lib.Utf8.{encode}
 use Rattle.jsonc_text.specs.declared.common.Range.{Range}
 use Rattle.jsonc_text.specs.Options.{Options}
@@ -18,11 +17,11 @@ use Rattle.jsonc_text.proofs.Cuts.{slice_chars, slice_encodes}
 use Rattle.jsonc_tree.specs.Content.{Content, text_of}
 use Rattle.jsonc_tree.specs.OrderedTree.{OrderedTree, none, more, followed_by, printed}
 use Rattle.jsonc_tree.proofs.OrderedTrees.{printed-more, printed-followed_by}
-use Rattle.jsonc_ast.specs.Located.{Located, LocatedItems, LocatedMembers, LocatedName, Between, In, IsLeaf, leaf_at, array_at, object_at, no_items_at, item_at, no_members_at, member_at, range_at, value_at, items_at, members_at, IsLocated, AreItems, AreFurtherItems, AreMembers, AreFurtherMembers, IsNamed, IsLocatedDocument}
+use Rattle.jsonc_ast.specs.Located.{Located, LocatedItems, LocatedMembers, LocatedName, Between, One, Brackets, In, IsLeaf, no_items_at, item_at, no_members_at, member_at, range_at, value_at, items_at, members_at, IsLocated, AreItems, AreFurtherItems, AreMembers, AreFurtherMembers, IsNamed, IsLocatedDocument}
 use Rattle.jsonc_layout.specs.Leaves as leaves
 use Rattle.jsonc_layout.specs.Leaves.{Fills, GapLeaf}
 use Rattle.jsonc_layout.specs.Laid as laid
-use Rattle.jsonc_layout.specs.Laid.{bytes_in, is_quote, is_quote_at, FillsBetween, NameLaid, Laid, ItemsLaid, MembersLaid, PropertyLaid, RootLaid, DocumentLaid}
+use Rattle.jsonc_layout.specs.Laid.{bracketed, bytes_in, is_quote, is_quote_at, FillsBetween, NameLaid, Laid, ItemsLaid, MembersLaid, PropertyLaid, RootLaid, DocumentLaid}
 use Rattle.jsonc_layout.proofs.GapLeaves.{fills_printed}
 use Rattle.jsonc_layout.proofs.Names.{loose_first}
 use Rattle.jsonc_tree.specs.Values.{HasNoValue, ValueOf, ItemsOf, MembersOf, PropertyOf, HoldsValue, DocumentValueOf, is_passed_over}
@@ -59,7 +58,7 @@ keyword_printed true = refl
 keyword_printed false = refl
 
 -- every element is located
-abbrev AllItems : Options → List ℕ → LocatedItems → Type 0
+abbrev pub AllItems : Options → List ℕ → LocatedItems → Type 0
 AllItems o bytes no_items_at = Unit {0}
 AllItems o bytes (item_at x xs) = IsLocated o bytes x × AllItems o bytes xs
 
@@ -67,12 +66,12 @@ further_items : (o : Options) (bytes : List ℕ) (i j : ℕ) (xs : LocatedItems)
 further_items o bytes i j no_items_at h = tt
 further_items o bytes i j (item_at x xs) h = (h.1, further_items o bytes (range_at x).end j xs h.2)
 
-all_items : (o : Options) (bytes : List ℕ) (i j : ℕ) (xs : LocatedItems) → AreItems o bytes i xs j → AllItems o bytes xs
+pub all_items : (o : Options) (bytes : List ℕ) (i j : ℕ) (xs : LocatedItems) → AreItems o bytes i xs j → AllItems o bytes xs
 all_items o bytes i j no_items_at h = tt
 all_items o bytes i j (item_at x xs) h = (h.1, further_items o bytes (range_at x).end j xs h.2)
 
 -- every property is named and located
-abbrev AllMembers : Options → List ℕ → LocatedMembers → Type 0
+abbrev pub AllMembers : Options → List ℕ → LocatedMembers → Type 0
 AllMembers o bytes no_members_at = Unit {0}
 AllMembers o bytes (member_at r n x ms) = IsNamed o bytes n r (range_at x) × IsLocated o bytes x × AllMembers o bytes ms
 
@@ -80,7 +79,7 @@ further_members : (o : Options) (bytes : List ℕ) (i j : ℕ) (ms : LocatedMemb
 further_members o bytes i j no_members_at h = tt
 further_members o bytes i j (member_at r n x ms) h = (h.1, h.2, further_members o bytes r.end j ms h.3)
 
-all_members : (o : Options) (bytes : List ℕ) (i j : ℕ) (ms : LocatedMembers) → AreMembers o bytes i ms j → AllMembers o bytes ms
+pub all_members : (o : Options) (bytes : List ℕ) (i j : ℕ) (ms : LocatedMembers) → AreMembers o bytes i ms j → AllMembers o bytes ms
 all_members o bytes i j no_members_at h = tt
 all_members o bytes i j (member_at r n x ms) h = (h.1, h.2, further_members o bytes r.end j ms h.3)
 
@@ -112,10 +111,14 @@ prints_leaf bytes {content = content} s e = prints_one bytes s (append-nil (text
 
 module _ (bytes : List ℕ) (u : IsUtf8 bytes) where
   pub prints_fill : {i j : ℕ} {row : OrderedTree} → FillsBetween bytes i j row → Prints bytes i j row
-  prints_fill {i} {j} {row} f = record {
-    spans = f.spans;
-    text = fills_printed (slice_range bytes i j) row (IsUtf8-between bytes i j u f.spans.order f.spans.from f.spans.to) f.fills;
-  }
+  prints_fill {i} {j} {row} f = record { spans = f.spans; text = fills_printed bytes i j row u f.spans f.fills }
+
+  -- a bracket prints itself
+  prints_bracket : {i j : ℕ} (c : ℕ) → Between bytes (One c) i j → Prints bytes i j (more (Content.token c) none none)
+  prints_bracket {i} {j} c b = prints_leaf bytes b.spans (sym (slice_encodes bytes (c ∷ []) i j u b.spans.from b.spans.to b.stands ∙ append-nil (encode_utf8 c)))
+
+  prints_inside : {r : Range} {row : OrderedTree} (opening closing : ℕ) → Brackets bytes opening closing r → Prints bytes (r.start + 1) (r.end - 1) row → Prints bytes r.start r.end (bracketed opening row closing)
+  prints_inside opening closing b row = prints_append bytes (prints_bracket opening b.opens) (prints_append bytes row (prints_bracket closing b.closes))
 
   prints_name : {r : Range} {content : Content} → Spans bytes r.start r.end → NameLaid bytes r content → Prints bytes r.start r.end (more content none none)
   prints_name s (laid.quoted_name e q) = prints_leaf bytes s e
@@ -130,8 +133,8 @@ module _ (bytes : List ℕ) (u : IsUtf8 bytes) where
           prints_leaf bytes s (keyword_printed b ∙ sym (slice_encodes bytes (keyword_text (words.boolean b)) r.start r.end u s.from s.to (leaf_text o bytes r (Plain.boolean b) h) ∙ keyword_bytes (words.boolean b)))
       laid_prints (laid.null_leaf {r = r} s) h =
           prints_leaf bytes s (sym (slice_encodes bytes (keyword_text words.null) r.start r.end u s.from s.to (leaf_text o bytes r Plain.null h) ∙ keyword_bytes words.null))
-      laid_prints (laid.array_node {xs = xs} items) h = let inside = items_print items (all_items o bytes _ _ xs h.1) in prints_one bytes inside.spans inside.text
-      laid_prints (laid.object_node {ms = ms} members) h = let inside = members_print members (all_members o bytes _ _ ms h.1) in prints_one bytes inside.spans inside.text
+      laid_prints (laid.array_node {xs = xs} items) h = let inside = prints_inside 0x5B 0x5D h.0 (items_print items (all_items o bytes _ _ xs h.1)) in prints_one bytes inside.spans inside.text
+      laid_prints (laid.object_node {ms = ms} members) h = let inside = prints_inside 0x7B 0x7D h.0 (members_print members (all_members o bytes _ _ ms h.1)) in prints_one bytes inside.spans inside.text
 
       items_print : {i j : ℕ} {xs : LocatedItems} {row : OrderedTree} → ItemsLaid bytes i xs j row → AllItems o bytes xs → Prints bytes i j row
       items_print (laid.no_element f) h = prints_fill f
@@ -154,6 +157,7 @@ passed leaves.line_feed = refl
 passed leaves.cr_lf = refl
 passed (leaves.cr h) = refl
 passed (leaves.blanks s e all split) = refl
+passed (leaves.a_comment s e stands split) = refl
 passed (leaves.mark h) = refl
 
 fill_has_none : {t r : List ℕ} {row : OrderedTree} → Fills t row r → HasNoValue row
@@ -176,6 +180,23 @@ module _ (o : Options) where
   members_pass : {t r : List ℕ} {row after : OrderedTree} {ms : Members} → Fills t row r → MembersOf o after ms → MembersOf o (followed_by row after) ms
   members_pass leaves.end h = h
   members_pass (leaves.leaf one tail) h = values.pass_to_members (passed one) (members_pass tail h)
+
+  -- brackets have none
+  items_before : {row : OrderedTree} {vs : Items} (c : ℕ) → ItemsOf o row vs → ItemsOf o (followed_by row (more (Content.token c) none none)) vs
+  items_before c values.no_more_items = values.pass_to_items refl values.no_more_items
+  items_before c (values.pass_to_items h tail) = values.pass_to_items h (items_before c tail)
+  items_before c (values.one_item v tail) = values.one_item v (items_before c tail)
+
+  items_inside : {row : OrderedTree} {vs : Items} (opening closing : ℕ) → ItemsOf o row vs → ItemsOf o (bracketed opening row closing) vs
+  items_inside opening closing h = values.pass_to_items refl (items_before closing h)
+
+  members_before : {row : OrderedTree} {ms : Members} (c : ℕ) → MembersOf o row ms → MembersOf o (followed_by row (more (Content.token c) none none)) ms
+  members_before c values.no_more_members = values.pass_to_members refl values.no_more_members
+  members_before c (values.pass_to_members h tail) = values.pass_to_members h (members_before c tail)
+  members_before c (values.one_member p tail) = values.one_member p (members_before c tail)
+
+  members_inside : {row : OrderedTree} {ms : Members} (opening closing : ℕ) → MembersOf o row ms → MembersOf o (bracketed opening row closing) ms
+  members_inside opening closing h = values.pass_to_members refl (members_before closing h)
 
   value_pass : {t r : List ℕ} {row after : OrderedTree} {v : Plain} → Fills t row r → HoldsValue o after v → HoldsValue o (followed_by row after) v
   value_pass leaves.end h = h
@@ -211,8 +232,8 @@ module _ (o : Options) (bytes : List ℕ) (u : IsUtf8 bytes) where
         subst (λ x. ValueOf o (Content.number n) none (Plain.number x)) (ap chars e ∙ slice_chars bytes v r.start r.end u s.from s.to (leaf_text o bytes r (Plain.number v) h)) values.number
     laid_value (laid.boolean_leaf s) h = values.boolean
     laid_value (laid.null_leaf s) h = values.null
-    laid_value (laid.array_node {xs = xs} items) h = values.array (laid_items items (all_items o bytes _ _ xs h.1))
-    laid_value (laid.object_node {ms = ms} members) h = values.object (laid_members members (all_members o bytes _ _ ms h.1))
+    laid_value (laid.array_node {xs = xs} items) h = values.array (items_inside o 0x5B 0x5D (laid_items items (all_items o bytes _ _ xs h.1)))
+    laid_value (laid.object_node {ms = ms} members) h = values.object (members_inside o 0x7B 0x7D (laid_members members (all_members o bytes _ _ ms h.1)))
 
     laid_items : {i j : ℕ} {xs : LocatedItems} {row : OrderedTree} → ItemsLaid bytes i xs j row → AllItems o bytes xs → ItemsOf o row (items_at xs)
     laid_items (laid.no_element f) h = items_fill o f.fills

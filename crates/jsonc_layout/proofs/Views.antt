@@ -1,5 +1,5 @@
 -- A located value, variant by variant.
-use Rattle.std.proofs.Common.{ℕ, ◌≡◌, ◌<◌, ◌≤◌, ◌∙◌, sym, ap, rules, chars, List, length, get_or, arith}
+use Rattle.std.proofs.Common.{ℕ, ◌≡◌, ◌<◌, ◌≤◌, ap, rules, chars, List, length, get_or, arith}
 use denote.Param.Weighed.{most, at_most}
 use Rattle.std.specs.Cow.{cow_str_bytes}
 use Rattle.jsonc_text.specs.Plain.{null, boolean, number, string}

@@ -1,13 +1,14 @@
 -- How a text and its syntax tree lie in an ordered tree: each value and name is a leaf with the text as written or a container, and what stands between them is leaves of its own.
-use Rattle.std.specs.Prelude.{ℕ, ◌≡◌, Bool, true, false, ◌||◌, ◌==◌, List, [], Option, Some, None, length, chars, slice_range}
+use Rattle.std.specs.Prelude.{ℕ, ◌+◌, ◌-◌, ◌≡◌, Bool, true, false, ◌||◌, ◌==◌, List, Option, Some, None, length, slice_range}
 use Rattle.jsonc_text.specs.declared.common.Range.{Range}
 use Rattle.jsonc_text.specs.Options.{Options}
-use Rattle.jsonc_text.specs.Text.{next, starts, rest, Spans, Many}
+use Rattle.jsonc_text.specs.Text.{next, starts, rest, Spans}
 use Rattle.jsonc_text.specs.Plain.{Plain}
-use Rattle.jsonc_tree.specs.Content.{Content}
+use Rattle.jsonc_tree.specs.Content.{Content, token}
 use Rattle.jsonc_tree.specs.OrderedTree.{OrderedTree, none, more, followed_by}
-use Rattle.jsonc_ast.specs.Located.{Located, LocatedItems, LocatedMembers, LocatedName, Between, leaf_at, array_at, object_at, no_items_at, item_at, no_members_at, member_at, range_at, IsLocatedDocument}
-use Rattle.jsonc_layout.specs.Leaves.{Fills, is_filling}
+use Rattle.jsonc_ast.specs.Located.{Located, LocatedItems, LocatedMembers, LocatedName, Brackets, leaf_at, array_at, object_at, no_items_at, item_at, no_members_at, member_at, range_at, IsLocatedDocument}
+use Rattle.jsonc_layout.specs.Leaves.{Fills}
+use Rattle.jsonc_layout.specs.Filling.{IsFillable}
 
 -- the bytes of a range
 abbrev pub bytes_in : List ℕ → Range → List ℕ
@@ -16,7 +17,7 @@ bytes_in bytes r = slice_range bytes r.start r.end
 -- the row is the leaves of the text from the place i up to the place j, where no value stands
 pub record FillsBetween (bytes : List ℕ) (i j : ℕ) (row : OrderedTree) : Type 0 where
   pub spans : Spans bytes i j
-  pub fills : Fills (chars (slice_range bytes i j)) row []
+  pub fills : Fills (rest bytes i) row (rest bytes j)
 
 abbrev pub is_quote : ℕ → Bool
 is_quote c = c == 0x22 || c == 0x27
@@ -30,6 +31,10 @@ pub data NameLaid (bytes : List ℕ) (r : Range) : Content → Type 0 where
   quoted_name : {s : List ℕ} → s ≡ bytes_in bytes r → is_quote_at bytes r.start ≡ true → NameLaid bytes r (Content.string s)
   word_name : {s : List ℕ} → s ≡ bytes_in bytes r → is_quote_at bytes r.start ≡ false → NameLaid bytes r (Content.word s)
 
+-- a row between two brackets
+abbrev pub bracketed : ℕ → OrderedTree → ℕ → OrderedTree
+bracketed opening row closing = more (token opening) none (followed_by row (more (token closing) none none))
+
 mutual
   -- a located value is a node of this content, with these below it
   pub data Laid (bytes : List ℕ) : Located → Content → OrderedTree → Type 0 where
@@ -37,8 +42,8 @@ mutual
     number_leaf : {r : Range} {v s : List ℕ} → Spans bytes r.start r.end → s ≡ bytes_in bytes r → Laid bytes (leaf_at r (Plain.number v)) (Content.number s) none
     boolean_leaf : {r : Range} {b : Bool} → Spans bytes r.start r.end → Laid bytes (leaf_at r (Plain.boolean b)) (Content.boolean b) none
     null_leaf : {r : Range} → Spans bytes r.start r.end → Laid bytes (leaf_at r Plain.null) Content.null none
-    array_node : {r : Range} {xs : LocatedItems} {below : OrderedTree} → ItemsLaid bytes r.start xs r.end below → Laid bytes (array_at r xs) Content.array below
-    object_node : {r : Range} {ms : LocatedMembers} {below : OrderedTree} → MembersLaid bytes r.start ms r.end below → Laid bytes (object_at r ms) Content.object below
+    array_node : {r : Range} {xs : LocatedItems} {row : OrderedTree} → ItemsLaid bytes (r.start + 1) xs (r.end - 1) row → Laid bytes (array_at r xs) Content.array (bracketed 0x5B row 0x5D)
+    object_node : {r : Range} {ms : LocatedMembers} {row : OrderedTree} → MembersLaid bytes (r.start + 1) ms (r.end - 1) row → Laid bytes (object_at r ms) Content.object (bracketed 0x7B row 0x7D)
 
   -- elements, from the place i up to the place j, and the leaves before, between and after them
   pub data ItemsLaid (bytes : List ℕ) : ℕ → LocatedItems → ℕ → OrderedTree → Type 0 where
@@ -65,16 +70,12 @@ RootLaid bytes (Some x) row =
 abbrev pub DocumentLaid : List ℕ → Option Located → OrderedTree → Type 0
 DocumentLaid bytes x tree = (row : OrderedTree) × (tree ≡ more Content.root row none) × RootLaid bytes x row
 
--- between two places of a text stand only blanks, brackets, commas and colons
-abbrev pub IsFillable : List ℕ → ℕ → ℕ → Type 0
-IsFillable bytes = Between bytes (Many is_filling)
-
--- each node has its range in the text, and what stands between the nodes is only that
+-- each node has its range in the text, a container its brackets, and what stands between the nodes can be filled with leaves
 abbrev mutual
   pub CanLay : List ℕ → Located → Type 0
   CanLay bytes (leaf_at r v) = Spans bytes r.start r.end
-  CanLay bytes (array_at r xs) = CanLayItems bytes r.start xs r.end
-  CanLay bytes (object_at r ms) = CanLayMembers bytes r.start ms r.end
+  CanLay bytes (array_at r xs) = Brackets bytes 0x5B 0x5D r × CanLayItems bytes (r.start + 1) xs (r.end - 1)
+  CanLay bytes (object_at r ms) = Brackets bytes 0x7B 0x7D r × CanLayMembers bytes (r.start + 1) ms (r.end - 1)
 
   pub CanLayItems : List ℕ → ℕ → LocatedItems → ℕ → Type 0
   CanLayItems bytes i no_items_at j = IsFillable bytes i j
@@ -92,6 +93,6 @@ abbrev pub CanLayDocument : List ℕ → Option Located → Type 0
 CanLayDocument bytes None = IsFillable bytes 0 (length bytes)
 CanLayDocument bytes (Some x) = IsFillable bytes 0 (range_at x).start × CanLay bytes x × IsFillable bytes (range_at x).end (length bytes)
 
--- the text has this located value, or none, and no comments
-abbrev pub HasNoComments : List ℕ → Option Located → Type 0
-HasNoComments bytes x = (o : Options) × (o.comments ≡ false) × IsLocatedDocument o bytes x
+-- the text has this located value, or none, under some options
+abbrev pub HasLocatedValue : List ℕ → Option Located → Type 0
+HasLocatedValue bytes x = (o : Options) × IsLocatedDocument o bytes x

@@ -1,27 +1,24 @@
--- The leaves of a text between values: brackets, commas and colons, line ends and blanks.
-use Rattle.std.specs.Prelude.{ℕ, ◌≡◌, ◌≢◌, Bool, false, not, ◌&&◌, ◌||◌, ◌==◌, List, [], ◌∷◌, ◌++◌, IsTrue, ◌<◌, IsCharBoundary, encode_utf8_all}
-use Rattle.jsonc_text.specs.Text.{next, no, rest, Many, AllOf, is_line_end}
-use Rattle.jsonc_text.specs.Gaps.{is_blank}
-use Rattle.jsonc_text.specs.Lexemes.{is_punctuation}
-use Rattle.jsonc_tree.specs.Content.{Content, token, whitespace, newline}
-use Rattle.jsonc_tree.specs.OrderedTree.{OrderedTree, none, more, followed_by}
+-- The leaves of a text between values: commas and colons, comments, line ends and blanks.
+use Rattle.std.specs.Prelude.{ℕ, ◌≡◌, Bool, not, ◌&&◌, ◌==◌, List, ◌∷◌, ◌++◌, IsTrue, ◌<◌, IsCharBoundary, encode_utf8_all}
+use Rattle.jsonc_text.specs.Text.{next, no, rest, AllOf, is_line_end}
+use Rattle.jsonc_text.specs.Gaps.{is_blank, IsComment}
+use Rattle.jsonc_tree.specs.Content.{Content, token, whitespace, newline, comment}
+use Rattle.jsonc_tree.specs.OrderedTree.{OrderedTree, none, more}
 use Rattle.jsonc_tree.specs.declared.node.CstNewlineKind.TheVariants.{LineFeed, CarriageReturnLineFeed, CarriageReturn}
+use Rattle.jsonc_layout.specs.Filling.{is_separator}
 
 -- a blank that is no part of a line end
 abbrev pub is_inner_blank : ℕ → Bool
 is_inner_blank c = is_blank c && not (is_line_end c)
 
--- what stands between values
-abbrev pub is_filling : ℕ → Bool
-is_filling c = is_blank c || is_punctuation c
-
--- t is a leaf of this content, and then r: an LF, a CR LF or a CR; blanks, as many as stand there; a bracket, comma or colon
+-- t is a leaf of this content, and then r: an LF, a CR LF or a CR; blanks, as many as stand there; a comment with its marks; a comma or colon
 pub data GapLeaf : Content → List ℕ → List ℕ → Type 0 where
   line_feed : {r : List ℕ} → GapLeaf (newline LineFeed) (0x0A ∷ r) r
   cr_lf : {r : List ℕ} → GapLeaf (newline CarriageReturnLineFeed) (0x0D ∷ 0x0A ∷ r) r
   cr : {r : List ℕ} → IsTrue (no (λ c. c == 0x0A) (next r)) → GapLeaf (newline CarriageReturn) (0x0D ∷ r) r
   blanks : {t r bytes : List ℕ} (s : List ℕ) → bytes ≡ encode_utf8_all s → AllOf is_inner_blank t r → t ≡ s ++ r → GapLeaf (whitespace bytes) t r
-  mark : {c : ℕ} {r : List ℕ} → IsTrue (is_punctuation c) → GapLeaf (token c) (c ∷ r) r
+  a_comment : {t r bytes : List ℕ} (s : List ℕ) → bytes ≡ encode_utf8_all s → IsComment t r → t ≡ s ++ r → GapLeaf (comment bytes) t r
+  mark : {c : ℕ} {r : List ℕ} → IsTrue (is_separator c) → GapLeaf (token c) (c ∷ r) r
 
 -- t is the leaves of the row, in order, and then r
 pub data Fills : List ℕ → OrderedTree → List ℕ → Type 0 where

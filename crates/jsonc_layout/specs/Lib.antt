@@ -1,4 +1,6 @@
+pub mod Filling
 pub mod Leaves
+pub mod Lines
 pub mod Growth
 pub mod Laid
 pub mod Given

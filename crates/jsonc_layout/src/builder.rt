@@ -1,5 +1,5 @@
 //! From a syntax tree to the tree of its text.
-ghost use Rattle.std.specs.Prelude.{◌≡◌, ◌<◌, IfOk, IsTrue, OnOk, IsCharBoundary, length, option_map, slice_range, string_bytes};
+ghost use Rattle.std.specs.Prelude.{◌≡◌, ◌+◌, ◌-◌, ◌<◌, ◌≤◌, IfOk, IsTrue, OnOk, IsCharBoundary, length, option_map, slice_range, string_bytes};
 ghost use Rattle.jsonc_text.specs.Options.{Options};
 ghost use Rattle.jsonc_text.specs.Text.{Spans};
 ghost use Rattle.jsonc_tree.specs.Content.{Content};
@@ -10,30 +10,14 @@ ghost use Rattle.jsonc_ast.specs.Located.{IsLocatedDocument, value_at};
 ghost use Rattle.jsonc_ast.specs.Views.{items_located, located, members_located, member_of};
 ghost use Rattle.jsonc_layout.specs.Given.{located_in};
 ghost use Rattle.jsonc_layout.specs.Growth.{Grows};
-ghost use Rattle.jsonc_layout.specs.Laid.{CanLay, CanLayDocument, CanLayItems, CanLayMembers, CanLayProperty, DocumentLaid, FillsBetween, HasNoComments, IsFillable, ItemsLaid, Laid, MembersLaid, NameLaid, PropertyLaid, RootLaid, is_quote_at};
+ghost use Rattle.jsonc_layout.specs.Lines.{DocumentLinesEnd};
+ghost use Rattle.jsonc_layout.specs.Laid.{CanLay, CanLayDocument, CanLayItems, CanLayMembers, CanLayProperty, DocumentLaid, HasLocatedValue, ItemsLaid, Laid, MembersLaid, NameLaid, PropertyLaid, RootLaid, is_quote_at};
 
-use crate::fill::{char_at, fill};
+use crate::fill::{char_at, fill_between};
 use jsonc_ast::ast::{ObjectProp, Value};
 use jsonc_text::common::{Range, Ranged};
 use jsonc_tree::{Kind, Tree};
 use std::alloc::{AllocError, Allocator};
-
-// Adds the leaves between two places.
-fn fill_between<A: Allocator + Copy>(
-    tree: &mut Tree<A>,
-    container: usize,
-    alloc: A,
-    text: &str,
-    from: usize,
-    to: usize,
-) -> Result<(), AllocError>
-    requires there { container < length tree.old.nodes }
-    requires container { IsTrue (is_container_at tree.old.nodes container) }
-    requires fillable { IsFillable text.now from to }
-    ensures { OnOk result ((row : OrderedTree) × Grows tree.old.nodes tree.new.nodes container row × FillsBetween text.now from to row) }
-{
-    fill(tree, container, alloc, &text[from..to])
-}
 
 // The text in a range, as written.
 fn written<A: Allocator>(alloc: A, text: &str, range: Range) -> Result<String<A>, AllocError>
@@ -76,6 +60,15 @@ fn build_name<A: Allocator + Copy>(
     Ok(())
 }
 
+// What stands between the brackets of a container.
+fn inside(range: Range) -> Range
+    requires { range.start + 1 ≤ range.end - 1 }
+    ensures start { result.start ≡ range.start + 1 }
+    ensures end { result.end ≡ range.end - 1 }
+{
+    Range::new(range.start + 1, range.end - 1)
+}
+
 // Adds a value.
 #[cycle(build)]
 fn build_value<A: Allocator + Copy>(
@@ -111,16 +104,36 @@ fn build_value<A: Allocator + Copy>(
         }
         Value::Array(array) => {
             let node = tree.push_child(container, Kind::Array)?;
-            build_elements(tree, node, alloc, text, &array.elements, array.range)
+            tree.push_child(node, Kind::Token('['))?;
+            build_elements(
+                tree,
+                node,
+                alloc,
+                text,
+                &array.elements,
+                inside(array.range),
+            )?;
+            tree.push_child(node, Kind::Token(']'))?;
+            Ok(())
         }
         Value::Object(object) => {
             let node = tree.push_child(container, Kind::Object)?;
-            build_properties(tree, node, alloc, text, &object.properties, object.range)
+            tree.push_child(node, Kind::Token('{'))?;
+            build_properties(
+                tree,
+                node,
+                alloc,
+                text,
+                &object.properties,
+                inside(object.range),
+            )?;
+            tree.push_child(node, Kind::Token('}'))?;
+            Ok(())
         }
     }
 }
 
-// Adds the elements of an array, and the leaves before, between and after them.
+// Adds the elements of an array, and the leaves before, between and after them, from one place to another.
 #[cycle(build)]
 fn build_elements<A: Allocator + Copy>(
     tree: &mut Tree<A>,
@@ -145,7 +158,7 @@ fn build_elements<A: Allocator + Copy>(
     fill_between(tree, container, alloc, text, from, range.end)
 }
 
-// Adds the properties of an object, and the leaves before, between and after them.
+// Adds the properties of an object, and the leaves before, between and after them, from one place to another.
 #[cycle(build)]
 fn build_properties<A: Allocator + Copy>(
     tree: &mut Tree<A>,
@@ -215,21 +228,23 @@ fn build_root<A: Allocator + Copy>(
     Ok(())
 }
 
-/// The tree of a text without comments, from the text and its value.
+/// The tree of a text, from the text and its value.
 ///
 /// Its leaves joined are the text. A string, number or word is a leaf with its text as written, `true`,
-/// `false` and `null` are leaves; arrays, objects and properties are containers. Between them each line
-/// end is a leaf, the blanks from one to the next are one, and so is each bracket, comma and colon.
+/// `false` and `null` are leaves; arrays, objects and properties are containers. Between them each
+/// comment is a leaf, with its marks, each line end is one, the blanks that stand together within a line
+/// are one, and so is each comma and colon. An array and an object have their brackets first and last.
 /// The only error is want of memory.
 pub fn build<A: Allocator + Copy>(
     alloc: A,
     text: &str,
     value: Option<&Value<'_, A>>,
 ) -> Result<Tree<A>, AllocError>
-    requires { HasNoComments text.now (located_in value) }
+    requires { HasLocatedValue text.now (located_in value) }
     ensures laid { IfOk result (λ tree. DocumentLaid text.now (located_in value.entry) (ordered_tree tree.nodes 0)) }
     ensures printed { IfOk result (λ tree. printed (ordered_tree tree.nodes 0) ≡ text.now) }
     ensures value { (o : Options) → IsLocatedDocument o text.now (located_in value.entry) → IfOk result (λ tree. DocumentValueOf o (ordered_tree tree.nodes 0) (option_map value_at (located_in value.entry))) }
+    ensures lines { IfOk result (λ tree. DocumentLinesEnd (ordered_tree tree.nodes 0)) }
     ensures tree { IfOk result (λ tree. IsTree tree.nodes) }
 {
     let mut tree = Tree::new(alloc)?;

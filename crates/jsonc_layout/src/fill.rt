@@ -1,15 +1,17 @@
-//! The leaves between values: brackets, commas and colons, line ends and blanks.
-ghost use Rattle.std.specs.Prelude.{◌≡◌, ◌+◌, ◌<◌, ◌≤◌, ℕ, [], ◌∷◌, IfNone, IfOk, IfSome, IsCharBoundary, IsTrue, OnOk, length};
+//! The leaves between values: commas and colons, comments, line ends and blanks.
+ghost use Rattle.std.specs.Prelude.{◌≡◌, ◌+◌, ◌<◌, ◌≤◌, ◌⊎◌, ℕ, [], ◌∷◌, List, ◌==◌, IfNone, IfOk, IfSome, IsCharBoundary, IsTrue, OnOk, length};
 ghost use Rattle.std.specs.Char.{len_utf8};
-ghost use Rattle.jsonc_text.specs.Text.{Many, next, no, rest};
+ghost use Rattle.jsonc_text.specs.Text.{Many, next, no, rest, starts};
 ghost use Rattle.jsonc_text.specs.Chars.{Steps};
-ghost use Rattle.jsonc_text.specs.Lexemes.{is_punctuation};
+ghost use Rattle.jsonc_text.specs.Gaps.{ends_block, is_in_line, IsComment, UpToBlockEnd};
 ghost use Rattle.jsonc_tree.specs.Content.{newline};
 ghost use Rattle.jsonc_tree.specs.OrderedTree.{OrderedTree};
 ghost use Rattle.jsonc_tree.specs.Stored.{content_of};
 ghost use Rattle.jsonc_tree.specs.Tree.{is_container_at};
+ghost use Rattle.jsonc_layout.specs.Filling.{BeginsComment, IsFillable, is_filling, is_separator};
 ghost use Rattle.jsonc_layout.specs.Growth.{Grows};
-ghost use Rattle.jsonc_layout.specs.Leaves.{Fills, GapLeaf, LeafAt, is_filling, is_inner_blank};
+ghost use Rattle.jsonc_layout.specs.Laid.{FillsBetween};
+ghost use Rattle.jsonc_layout.specs.Leaves.{GapLeaf, LeafAt, is_inner_blank};
 
 use jsonc_tree::{CstNewlineKind, Kind, Tree};
 use std::alloc::{AllocError, Allocator};
@@ -29,10 +31,27 @@ fn is_inner_blank(c: char) -> bool
     c.is_whitespace() && !((c == '\n') | (c == '\r'))
 }
 
-fn is_punctuation(c: char) -> bool
-    ensures { result ≡ is_punctuation c }
+fn is_separator(c: char) -> bool
+    ensures { result ≡ is_separator c }
 {
-    (c == '{') | (c == '}') | (c == '[') | (c == ']') | (c == ',') | (c == ':')
+    (c == ',') | (c == ':')
+}
+
+fn is_in_line(c: char) -> bool
+    ensures { result ≡ is_in_line c }
+{
+    !((c == '\n') | (c == '\r'))
+}
+
+// Whether a character stands at a place.
+fn has_char(text: &str, place: usize, wanted: char) -> bool
+    requires { IsCharBoundary text.now place }
+    ensures { result ≡ starts (λ c. c == wanted) (next (rest text.now place)) }
+{
+    match char_at(text, place) {
+        Some(c) => c == wanted,
+        None => false,
+    }
 }
 
 // The length of the blank at a place that ends no line, or 0 where none stands.
@@ -80,6 +99,78 @@ fn carriage_return(text: &str, place: usize) -> (CstNewlineKind, usize)
     (CstNewlineKind::CarriageReturn, place)
 }
 
+// The length of the character at a place, or 0 where the line ends.
+fn in_line_len(text: &str, place: usize) -> usize
+    requires { IsCharBoundary text.now place }
+    ensures none { result ≡ 0 → IsTrue (no is_in_line (next (rest text.now place))) }
+    ensures some { 0 < result → (c : ℕ) × IsTrue (is_in_line c) × Steps text.now place c (place + result) }
+{
+    match char_at(text, place) {
+        Some(c) if is_in_line(c) => c.len_utf8(),
+        _ => 0,
+    }
+}
+
+// The first place from `start` on where the line ends, or the text.
+fn line_end(text: &str, start: usize) -> usize
+    requires { IsCharBoundary text.now start }
+    ensures place { IsCharBoundary text.now result }
+    ensures order { start ≤ result }
+    ensures line { Many is_in_line (rest text.now start) (rest text.now result) }
+    ensures all { IsTrue (no is_in_line (next (rest text.now result))) }
+{
+    let mut place = start;
+    let mut len = in_line_len(text, place);
+    while len > 0 {
+        place += len;
+        len = in_line_len(text, place);
+    }
+    place
+}
+
+// Whether `*/` stands at a place.
+fn is_block_end(text: &str, place: usize) -> bool
+    requires { IsCharBoundary text.now place }
+    ensures { result ≡ ends_block (rest text.now place) }
+{
+    match char_at(text, place) {
+        Some('*') => has_char(text, place + 1, '/'),
+        _ => false,
+    }
+}
+
+// The place after the first `*/` from `start` on.
+fn block_end(text: &str, start: usize) -> usize
+    requires start { IsCharBoundary text.now start }
+    requires closed { (r : List ℕ) × UpToBlockEnd (rest text.now start) r }
+    ensures place { IsCharBoundary text.now result }
+    ensures order { start ≤ result }
+    ensures block { UpToBlockEnd (rest text.now start) (rest text.now result) }
+{
+    let mut place = start;
+    'inside: while let Some(c) = char_at(text, place) {
+        if is_block_end(text, place) {
+            return place + 2;
+        }
+        place += c.len_utf8();
+    }
+    place
+}
+
+// The place after the comment at a place.
+fn comment_end(text: &str, place: usize) -> usize
+    requires place { IsCharBoundary text.now place }
+    requires comment { BeginsComment (rest text.now place) }
+    ensures place { IsCharBoundary text.now result }
+    ensures order { place < result }
+    ensures comment { IsComment (rest text.now place) (rest text.now result) }
+{
+    if has_char(text, place + 1, '/') {
+        return line_end(text, place + 2);
+    }
+    block_end(text, place + 2)
+}
+
 // The leaf that begins at a place with the character `c`, and where it ends.
 fn leaf_at<A: Allocator>(
     alloc: A,
@@ -89,11 +180,16 @@ fn leaf_at<A: Allocator>(
 ) -> Result<(Kind<A>, usize), AllocError>
     requires place { IsCharBoundary text.now place }
     requires stands { Steps text.now place c (place + len_utf8 c) }
-    requires filling { IsTrue (is_filling c) }
+    requires filling { IsTrue (is_filling c) ⊎ BeginsComment (rest text.now place) }
     ensures { IfOk result (λ x. LeafAt text.now (content_of x.0) place x.1) }
 {
+    if c == '/' {
+        let end = comment_end(text, place);
+        let comment = String::from_str(alloc, &text[place..end])?;
+        return Ok((Kind::Comment(comment), end));
+    }
     let after = place + c.len_utf8();
-    if is_punctuation(c) {
+    if is_separator(c) {
         return Ok((Kind::Token(c), after));
     }
     if c == '\n' {
@@ -108,20 +204,25 @@ fn leaf_at<A: Allocator>(
     Ok((Kind::Whitespace(blanks), end))
 }
 
-// Adds the leaves of a text that stands between values to the end of a container.
-pub(crate) fn fill<A: Allocator + Copy>(
+// Adds the leaves between two places to the end of a container.
+pub(crate) fn fill_between<A: Allocator + Copy>(
     tree: &mut Tree<A>,
     container: usize,
     alloc: A,
     text: &str,
+    from: usize,
+    to: usize,
 ) -> Result<(), AllocError>
     requires there { container < length tree.old.nodes }
     requires container { IsTrue (is_container_at tree.old.nodes container) }
-    requires filling { Many is_filling (rest text.now 0) [] }
-    ensures { OnOk result ((row : OrderedTree) × Grows tree.old.nodes tree.new.nodes container row × Fills (rest text.now 0) row []) }
+    requires fillable { IsFillable text.now from to }
+    ensures { OnOk result ((row : OrderedTree) × Grows tree.old.nodes tree.new.nodes container row × FillsBetween text.now from to row) }
 {
-    let mut place = 0;
-    'leaves: while let Some(c) = char_at(text, place) {
+    let mut place = from;
+    'leaves: while place < to {
+        let Some(c) = char_at(text, place) else {
+            unreachable!()
+        };
         let (kind, end) = leaf_at(alloc, text, place, c)?;
         tree.push_child(container, kind)?;
         place = end;

@@ -1,5 +1,5 @@
 //! The document: the tree of a text, in which every byte of it stands.
-ghost use Rattle.std.specs.Prelude.{◌≡◌, IfErr, IfOk, Option, Some, chars, false, string_bytes};
+ghost use Rattle.std.specs.Prelude.{◌≡◌, IfErr, IfOk, Option, Some, chars, string_bytes};
 ghost use Rattle.jsonc_text.specs.Faults.{IsFault};
 ghost use Rattle.jsonc_text.specs.Grammar.{IsDocument};
 ghost use Rattle.jsonc_text.specs.OptionsOf.{parse_options};
@@ -7,7 +7,7 @@ ghost use Rattle.jsonc_text.specs.Plain.{Plain};
 ghost use Rattle.jsonc_tree.specs.Values.{DocumentValueOf};
 ghost use Rattle.jsonc_parser.specs.Document.{edit_error_text, printed_of, tree_of};
 
-use jsonc_ast::collect::{CollectOptions, CommentCollectionStrategy};
+use jsonc_ast::collect::CollectOptions;
 use jsonc_ast::parse_to_ast;
 use jsonc_layout::build;
 use jsonc_text::errors::ParseError;
@@ -46,7 +46,7 @@ impl fmt::Display for EditError {
 
 impl Error for EditError {}
 
-/// A document: a text that keeps its every byte, blanks and commas too.
+/// A document: a text that keeps its every byte, comments, blanks and commas too.
 #[derive(Drop)]
 pub struct CstRootNode<A: Allocator> {
     tree: Tree<A>,
@@ -57,18 +57,13 @@ impl<A: Allocator + Copy> CstRootNode<A> {
     /// Reads a document from its text.
     ///
     /// The document prints as the text was written. The error says what is wrong with the text, in which
-    /// of its bytes, and in which line and column; want of memory is an error too. The options allow no
-    /// comments.
+    /// of its bytes, and in which line and column; want of memory is an error too.
     pub fn parse(alloc: A, text: &str, options: &ParseOptions) -> Result<CstRootNode<A>, ParseError>
-        requires { (parse_options options.now).comments ≡ false }
         ensures printed { IfOk result (λ d. printed_of d ≡ text.now) }
         ensures value { IfOk result (λ d. (w : Option Plain) × IsDocument (parse_options options.now) (chars text.now) w × DocumentValueOf (parse_options options.now) (tree_of d) w) }
         ensures fault { IfErr result (IsFault text.now) }
     {
-        let collect = CollectOptions {
-            comments: CommentCollectionStrategy::AsTokens,
-            tokens: false,
-        };
+        let collect = CollectOptions::default();
         let parsed = parse_to_ast(alloc, text, &collect, options)?;
         let Ok(tree) = build(alloc, text, parsed.value.as_ref()) else {
             return Err(ParseError::out_of_memory());

@@ -1,5 +1,4 @@
-use Rattle.std.proofs.Common.{ℕ, List, [], ◌≡◌, ◌<◌, ◌∙◌, sym, ap, subst, refl, arith, rules, length, drop, ◌+◌, IsTrue}
-use Rattle.jsonc_text.specs.Text.{Spans}
+use Rattle.std.proofs.Common.{◌≡◌, ◌<◌, ◌∙◌, sym, ap, subst, refl, arith, length, IsTrue}
 use Rattle.jsonc_tree.specs.Content as content
 use Rattle.jsonc_tree.specs.Tree.{is_container_at}
 use Rattle.jsonc_ast.specs.Located.{range_at, array_at, object_at}
@@ -9,9 +8,10 @@ use Rattle.jsonc_ast.specs.declared.ast.Value.{size-Value}
 use Rattle.jsonc_ast.specs.declared.ast.ObjectProp.{size-ObjectProp}
 use denote.Param.Weighed.{most}
 use Rattle.jsonc_layout.specs.Growth.{Grows}
-use Rattle.jsonc_layout.specs.Laid.{CanLay, CanLayItems, CanLayMembers, CanLayProperty, Laid, string_leaf, number_leaf, boolean_leaf, null_leaf, array_node, object_node, IsFillable}
+use Rattle.jsonc_layout.specs.Laid.{CanLay, CanLayItems, CanLayMembers, CanLayProperty, string_leaf, number_leaf, boolean_leaf, null_leaf}
+use Rattle.jsonc_layout.specs.Filling.{IsFillable}
 use Rattle.jsonc_layout.proofs.Growing.{grows_append, grows_leaf, container_kept}
-use Rattle.jsonc_layout.proofs.Building.{elements_start, elements_at, elements_more, elements_end, items_none_left, properties_start, properties_at, properties_more, properties_end, members_none_left, property_built, on_ok, pushed_there, pushed_container, grows_into, laid_as, can_lay_as}
+use Rattle.jsonc_layout.proofs.Building.{elements_start, elements_at, elements_more, elements_end, items_none_left, properties_start, properties_at, properties_more, properties_end, members_none_left, property_built, on_ok, pushed_there, pushed_container, still_there, bracketed_into, items_within, members_within, items_inside, members_inside, laid_as, can_lay_as}
 use Rattle.jsonc_layout.proofs.Views.{view-Array, view-Object, view-StringLit, view-NumberLit, view-BooleanLit, view-NullKeyword, view-property, size-Array, size-Object, size-element, size-member}
 use Rattle.jsonc_layout.proofs.builder.+build.Goals as goal
 
@@ -131,33 +131,79 @@ build_property-returns g t c =
     (ap (λ m. m.value) (sym (view-property p))) lies.0 name.1 name.2 filled.1 filled.2 built.2 built.3)
     c.build_value.ensures
 
+pub build_value-inside-requires : goal.build_value-inside-requires
+build_value-inside-requires g t c =
+    let o = c.in-Array.array in
+    let is : located c.args.value.now ≡ array_at o.range (items_located c.deref.result.now) = ap located c.in-Array.is ∙ view-Array c.in-Array.array ∙ ap (λ xs. array_at o.range (items_located xs)) (sym c.deref.ensures.value) in
+    let before : CanLay c.args.text.now (located c.args.value.now) = assumption c.requires in
+    let lies : CanLay c.args.text.now (array_at o.range (items_located c.deref.result.now)) = can_lay_as c.args.text.now is before in
+    lies.0.order
+
 pub build_value-build_elements-requires : goal.build_value-build_elements-requires
 build_value-build_elements-requires g t c κs within =
-    let a = c.in-Array.array in
+    let o = c.in-Array.array in
     let node = c.in_ok-node-in-Array.ensures in
-    let is : located c.args.value.now ≡ array_at a.range (items_located c.deref.result.now) = ap located c.in-Array.is ∙ view-Array a ∙ ap (λ xs. array_at a.range (items_located xs)) (sym c.deref.ensures.value) in
-    let there : c.in_ok-node-in-Array.node < length c.push_child-in-Array.new.self.nodes = pushed_there c.in_ok-node-in-Array.node node.number node.pushes in
+    let bracket = c.in_ok-push_child-in-Array.ensures in
+    let is : located c.args.value.now ≡ array_at o.range (items_located c.deref.result.now) = ap located c.in-Array.is ∙ view-Array c.in-Array.array ∙ ap (λ xs. array_at o.range (items_located xs)) (sym c.deref.ensures.value) in
+    let first : c.in_ok-node-in-Array.node < length c.push_child-in-Array.new.self.nodes = pushed_there c.in_ok-node-in-Array.node node.number node.pushes in
     let container : IsTrue (is_container_at c.push_child-in-Array.new.self.nodes c.in_ok-node-in-Array.node) = pushed_container c.in_ok-node-in-Array.node node.number node.pushes refl in
+    let there : c.in_ok-node-in-Array.node < length c.push_child-in-Array-2.new.self.nodes = still_there first bracket.pushes in
+    let still : IsTrue (is_container_at c.push_child-in-Array-2.new.self.nodes c.in_ok-node-in-Array.node) = container_kept first container (grows_leaf first bracket.pushes) in
     let before : CanLay c.args.text.now (located c.args.value.now) = assumption c.requires in
-    let lies : CanLayItems c.args.text.now a.range.start (items_located c.deref.result.now) a.range.end = can_lay_as c.args.text.now is before in
-    let deep = size-Array g.row.A.Denot a in
+    let lies : CanLay c.args.text.now (array_at o.range (items_located c.deref.result.now)) = can_lay_as c.args.text.now is before in
+    let inner : CanLayItems c.args.text.now c.inside.result.start (items_located c.deref.result.now) c.inside.result.end = items_within c.args.text.now _ o.range c.inside.result c.inside.ensures.start c.inside.ensures.end lies.1 in
+    let deep = size-Array g.row.A.Denot c.in-Array.array in
     let same = ap (λ x. size-Value g.row.A.Denot x) c.in-Array.is in
     let inside = ap (λ xs. most (λ x. size-Value g.row.A.Denot x) xs) c.deref.ensures.value in
-    (omega (arith, c.requires.0, deep, same, inside), (within, (there, (container, lies))))
+    (omega (arith, c.requires.0, deep, same, inside), (within, (there, (still, inner))))
+
+pub build_value-returns-in_ok-push_child-in-Array-2 : goal.build_value-returns-in_ok-push_child-in-Array-2
+build_value-returns-in_ok-push_child-in-Array-2 g t c =
+    let o = c.in-Array.array in
+    let node = c.in_ok-node-in-Array.ensures in
+    let bracket = c.in_ok-push_child-in-Array.ensures in
+    let built = c.in_ok-build_elements-in-Array.ensures in
+    let last = c.in_ok-push_child-in-Array-2.ensures in
+    let there : c.args.container < length c.args.tree.now.nodes = assumption c.requires in
+    let is : located c.args.value.now ≡ array_at o.range (items_located c.deref.result.now) = ap located c.in-Array.is ∙ view-Array c.in-Array.array ∙ ap (λ xs. array_at o.range (items_located xs)) (sym c.deref.ensures.value) in
+    (content.array, _, bracketed_into c.in_ok-node-in-Array.node there node.number node.pushes bracket.pushes built.1 last.pushes, laid_as is (items_inside o.range c.inside.result c.inside.ensures.start c.inside.ensures.end built.2))
+
+pub build_value-inside-requires-in-Object : goal.build_value-inside-requires-in-Object
+build_value-inside-requires-in-Object g t c =
+    let o = object_parts.out-Object g.row.A.Denot c.in-Object.object in
+    let is : located c.args.value.now ≡ object_at o.range (members_located c.deref-in-Object.result.now) = ap located c.in-Object.is ∙ view-Object c.in-Object.object ∙ ap (λ xs. object_at o.range (members_located xs)) (sym c.deref-in-Object.ensures.value) in
+    let before : CanLay c.args.text.now (located c.args.value.now) = assumption c.requires in
+    let lies : CanLay c.args.text.now (object_at o.range (members_located c.deref-in-Object.result.now)) = can_lay_as c.args.text.now is before in
+    lies.0.order
 
 pub build_value-build_properties-requires : goal.build_value-build_properties-requires
 build_value-build_properties-requires g t c κs within =
     let o = object_parts.out-Object g.row.A.Denot c.in-Object.object in
     let node = c.in_ok-node-in-Object.ensures in
+    let bracket = c.in_ok-push_child-in-Object.ensures in
     let is : located c.args.value.now ≡ object_at o.range (members_located c.deref-in-Object.result.now) = ap located c.in-Object.is ∙ view-Object c.in-Object.object ∙ ap (λ xs. object_at o.range (members_located xs)) (sym c.deref-in-Object.ensures.value) in
-    let there : c.in_ok-node-in-Object.node < length c.push_child-in-Object.new.self.nodes = pushed_there c.in_ok-node-in-Object.node node.number node.pushes in
+    let first : c.in_ok-node-in-Object.node < length c.push_child-in-Object.new.self.nodes = pushed_there c.in_ok-node-in-Object.node node.number node.pushes in
     let container : IsTrue (is_container_at c.push_child-in-Object.new.self.nodes c.in_ok-node-in-Object.node) = pushed_container c.in_ok-node-in-Object.node node.number node.pushes refl in
+    let there : c.in_ok-node-in-Object.node < length c.push_child-in-Object-2.new.self.nodes = still_there first bracket.pushes in
+    let still : IsTrue (is_container_at c.push_child-in-Object-2.new.self.nodes c.in_ok-node-in-Object.node) = container_kept first container (grows_leaf first bracket.pushes) in
     let before : CanLay c.args.text.now (located c.args.value.now) = assumption c.requires in
-    let lies : CanLayMembers c.args.text.now o.range.start (members_located c.deref-in-Object.result.now) o.range.end = can_lay_as c.args.text.now is before in
+    let lies : CanLay c.args.text.now (object_at o.range (members_located c.deref-in-Object.result.now)) = can_lay_as c.args.text.now is before in
+    let inner : CanLayMembers c.args.text.now c.inside-in-Object.result.start (members_located c.deref-in-Object.result.now) c.inside-in-Object.result.end = members_within c.args.text.now _ o.range c.inside-in-Object.result c.inside-in-Object.ensures.start c.inside-in-Object.ensures.end lies.1 in
     let deep = size-Object g.row.A.Denot c.in-Object.object in
     let same = ap (λ x. size-Value g.row.A.Denot x) c.in-Object.is in
     let inside = ap (λ xs. most (λ x. size-ObjectProp g.row.A.Denot x) xs) c.deref-in-Object.ensures.value in
-    (omega (arith, c.requires.0, deep, same, inside), (within, (there, (container, lies))))
+    (omega (arith, c.requires.0, deep, same, inside), (within, (there, (still, inner))))
+
+pub build_value-returns-in_ok-push_child-in-Object-2 : goal.build_value-returns-in_ok-push_child-in-Object-2
+build_value-returns-in_ok-push_child-in-Object-2 g t c =
+    let o = object_parts.out-Object g.row.A.Denot c.in-Object.object in
+    let node = c.in_ok-node-in-Object.ensures in
+    let bracket = c.in_ok-push_child-in-Object.ensures in
+    let built = c.in_ok-build_properties-in-Object.ensures in
+    let last = c.in_ok-push_child-in-Object-2.ensures in
+    let there : c.args.container < length c.args.tree.now.nodes = assumption c.requires in
+    let is : located c.args.value.now ≡ object_at o.range (members_located c.deref-in-Object.result.now) = ap located c.in-Object.is ∙ view-Object c.in-Object.object ∙ ap (λ xs. object_at o.range (members_located xs)) (sym c.deref-in-Object.ensures.value) in
+    (content.object, _, bracketed_into c.in_ok-node-in-Object.node there node.number node.pushes bracket.pushes built.1 last.pushes, laid_as is (members_inside o.range c.inside-in-Object.result c.inside-in-Object.ensures.start c.inside-in-Object.ensures.end built.2))
 
 pub build_value-returns-in_ok-push_child-in-StringLit : goal.build_value-returns-in_ok-push_child-in-StringLit
 build_value-returns-in_ok-push_child-in-StringLit g t c =
@@ -188,23 +234,3 @@ build_value-returns-in_ok-push_child-in-NullKeyword g t c =
     let there : c.args.container < length c.args.tree.now.nodes = assumption c.requires in
     let before : CanLay c.args.text.now (located c.args.value.now) = assumption c.requires in
     (_, _, grows_leaf there c.in_ok-push_child-in-NullKeyword.ensures.pushes, laid_as is (null_leaf (can_lay_as c.args.text.now is before)))
-
-pub build_value-returns-in_ok-node-in-Array : goal.build_value-returns-in_ok-node-in-Array
-build_value-returns-in_ok-node-in-Array g t c =
-    let a = c.in-Array.array in
-    let node = c.in_ok-node-in-Array.ensures in
-    let there : c.args.container < length c.args.tree.now.nodes = assumption c.requires in
-    let is : located c.args.value.now ≡ array_at a.range (items_located c.deref.result.now) = ap located c.in-Array.is ∙ view-Array a ∙ ap (λ xs. array_at a.range (items_located xs)) (sym c.deref.ensures.value) in
-    on_ok c.build_elements.result
-    (λ built. (content.array, built.0, grows_into c.in_ok-node-in-Array.node there node.number node.pushes built.1, laid_as is (array_node built.2)))
-    c.build_elements.ensures
-
-pub build_value-returns-in_ok-node-in-Object : goal.build_value-returns-in_ok-node-in-Object
-build_value-returns-in_ok-node-in-Object g t c =
-    let o = object_parts.out-Object g.row.A.Denot c.in-Object.object in
-    let node = c.in_ok-node-in-Object.ensures in
-    let there : c.args.container < length c.args.tree.now.nodes = assumption c.requires in
-    let is : located c.args.value.now ≡ object_at o.range (members_located c.deref-in-Object.result.now) = ap located c.in-Object.is ∙ view-Object c.in-Object.object ∙ ap (λ xs. object_at o.range (members_located xs)) (sym c.deref-in-Object.ensures.value) in
-    on_ok c.build_properties.result
-    (λ built. (content.object, built.0, grows_into c.in_ok-node-in-Object.node there node.number node.pushes built.1, laid_as is (object_node built.2)))
-    c.build_properties.ensures

@@ -3,11 +3,12 @@ use Rattle.jsonc_layout.specs.Given.{located_in}
 use Rattle.jsonc_layout.specs.Laid.{DocumentLaid}
 use Rattle.jsonc_layout.proofs.Filling.{can_lay_document}
 use Rattle.jsonc_layout.proofs.Growing.{grown_root}
+use Rattle.jsonc_layout.proofs.Lines.{document_lines}
 use Rattle.jsonc_layout.proofs.Meanings.{document_prints, document_value}
 use Rattle.jsonc_layout.proofs.builder.build.Goals as goal
 
 pub build_root-requires-clause-lies : goal.build_root-requires-clause-lies
-build_root-requires-clause-lies g c = can_lay_document c.requires.0 c.requires.1 c.args.text.now (located_in c.args.value) c.requires.2
+build_root-requires-clause-lies g c = can_lay_document c.requires.0 c.args.text.now c.utf8.text (located_in c.args.value) c.requires.1
 
 pub returns-clause-laid : goal.returns-clause-laid
 returns-clause-laid g c =
@@ -18,9 +19,14 @@ returns-clause-laid g c =
 pub returns-clause-printed : goal.returns-clause-printed
 returns-clause-printed g c =
     let laid : DocumentLaid c.args.text.now (located_in c.args.value) (ordered_tree c.build_root.new.tree.nodes 0) = returns-clause-laid g c in
-    document_prints c.requires.0 c.args.text.now c.utf8.text (located_in c.args.value) (ordered_tree c.build_root.new.tree.nodes 0) laid c.requires.2
+    document_prints c.requires.0 c.args.text.now c.utf8.text (located_in c.args.value) (ordered_tree c.build_root.new.tree.nodes 0) laid c.requires.1
 
 pub returns-clause-value : goal.returns-clause-value
 returns-clause-value g c =
     let laid : DocumentLaid c.args.text.now (located_in c.args.value) (ordered_tree c.build_root.new.tree.nodes 0) = returns-clause-laid g c in
     λ o h. document_value o c.args.text.now c.utf8.text (located_in c.args.value) (ordered_tree c.build_root.new.tree.nodes 0) laid h
+
+pub returns-clause-lines : goal.returns-clause-lines
+returns-clause-lines g c =
+    let laid : DocumentLaid c.args.text.now (located_in c.args.value) (ordered_tree c.build_root.new.tree.nodes 0) = returns-clause-laid g c in
+    document_lines c.requires.0 c.args.text.now (located_in c.args.value) (ordered_tree c.build_root.new.tree.nodes 0) laid c.requires.1

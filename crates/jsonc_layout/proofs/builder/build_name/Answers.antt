@@ -1,5 +1,4 @@
 use Rattle.std.proofs.Common.{◌∙◌, sym}
-use Rattle.jsonc_tree.specs.Content.{string, word}
 use Rattle.jsonc_layout.specs.Laid.{quoted_name, word_name}
 use Rattle.jsonc_layout.proofs.Growing.{grows_leaf}
 use Rattle.jsonc_layout.proofs.builder.build_name.Goals as goal

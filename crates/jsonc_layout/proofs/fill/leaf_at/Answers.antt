@@ -1,10 +1,18 @@
-use Rattle.std.proofs.Common.{rules, sym, ◌∙◌}
+use Rattle.std.proofs.Common.{sym, ◌∙◌}
 use Rattle.jsonc_tree.specs.Content.{newline}
-use Rattle.jsonc_layout.proofs.GapLeaves.{mark_at, feed_at, return_at, blanks_at}
+use Rattle.jsonc_layout.proofs.GapLeaves.{comment_at, comment_begins_at, mark_at, feed_at, return_at, blanks_at}
 use Rattle.jsonc_layout.proofs.fill.leaf_at.Goals as goal
 
-pub returns-then-is_punctuation : goal.returns-then-is_punctuation
-returns-then-is_punctuation g c = mark_at c.args.text.now c.args.place c.args.c c.len_utf8.result c.requires.stands c.len_utf8.ensures.value (sym c.is_punctuation.ensures ∙ c.if-is_punctuation.true)
+pub comment_end-end-requires-clause-comment : goal.comment_end-end-requires-clause-comment
+comment_end-end-requires-clause-comment g c = comment_begins_at c.args.c c.requires.filling c.if-c-eq47.true
+
+pub returns-then-c-eq47 : goal.returns-then-c-eq47
+returns-then-c-eq47 g c =
+    let ends = c.comment_end-end.ensures in
+    comment_at c.args.text.now c.args.place c.comment_end-end.result _ c.utf8.text c.requires.place ends.place ends.order ends.comment (c.in_ok-comment.ensures.ok ∙ c.range.ensures.value)
+
+pub returns-then-is_separator : goal.returns-then-is_separator
+returns-then-is_separator g c = mark_at c.args.text.now c.args.place c.args.c c.len_utf8.result c.requires.stands c.len_utf8.ensures.value (sym c.is_separator.ensures ∙ c.if-is_separator.true)
 
 pub returns-then-c-eq10 : goal.returns-then-c-eq10
 returns-then-c-eq10 g c = feed_at c.args.text.now c.args.place c.args.c c.len_utf8.result c.requires.stands c.len_utf8.ensures.value c.if-c-eq10.true
@@ -19,5 +27,5 @@ pub returns : goal.returns
 returns g c =
     let ends = c.blanks_end-end.ensures in
     blanks_at c.args.text.now c.args.place c.args.c c.len_utf8.result c.blanks_end-end.result _ c.utf8.text c.requires.place c.requires.stands c.len_utf8.ensures.value
-    c.requires.filling (sym c.is_punctuation.ensures ∙ c.if-is_punctuation.false) c.if-c-eq10.false c.if-c-eq13.false
-    ends.order ends.place ends.blanks ends.all (c.in_ok-blanks.ensures.ok ∙ c.range.ensures.value)
+    c.requires.filling c.if-c-eq47.false (sym c.is_separator.ensures ∙ c.if-is_separator.false) c.if-c-eq10.false c.if-c-eq13.false
+    ends.order ends.place ends.blanks ends.all (c.in_ok-blanks.ensures.ok ∙ c.range-2.ensures.value)

@@ -12,7 +12,7 @@ use Rattle.jsonc_parser.proofs.cst.CstRootNode.parse.Goals as goal
 pub build-requires : goal.build-requires
 build-requires g c =
     let o : Options = parse_options c.args.options.now in
-    (o, c.requires, subst (IsLocatedDocument o c.args.text.now) (lent located c.as_ref.result c.in_ok-parsed.parsed.value c.as_ref.ensures.value) c.in_ok-parsed.ensures.located)
+    (o, subst (IsLocatedDocument o c.args.text.now) (lent located c.as_ref.result c.in_ok-parsed.parsed.value c.as_ref.ensures.value) c.in_ok-parsed.ensures.located)
 
 pub returns-in_default-clause-fault : goal.returns-in_default-clause-fault
 returns-in_default-clause-fault g c = out_of_memory_is_fault c.args.text.now c.out_of_memory.result c.utf8.text c.out_of_memory.ensures
