@@ -43,8 +43,10 @@ PROGRAM = [
 ]
 
 
-def shape(text):
-    """A token's text with each run of digits and of letters as one."""
+def shape(kind, text):
+    """A token's text with each run of digits and of letters as one, which in a word are alike."""
+    if kind == 'Word':
+        return re.sub(r'[A-Za-z0-9$_]+', 'a', text)[:8]
     return re.sub(r'[A-Za-z$_]{2,}', 'aa', re.sub(r'[0-9]+', '0', text))[:8]
 
 
@@ -74,7 +76,7 @@ def shown(case, answer):
     tokens = answer[2:] if kind == 'scan' else answer[5:]
     for token in tokens:
         name, _, _, text = token.split(' ', 3)
-        yield kind, name, shape(text)
+        yield kind, name, shape(name, text)
         for end in ends_of(options[4:]):
             yield kind, name, end
     if kind == 'ast':
@@ -92,7 +94,7 @@ def depth_shown(case, answer):
 
 def sample(folder):
     found = set()
-    cases = sorted(vectors.read(folder), key=lambda c: (len('\t'.join(c[0])) + len('\t'.join(c[1])), c[0][0]))
+    cases = sorted(vectors.read(folder), key=lambda c: (len('\t'.join(c[0])) + len('\t'.join(c[1])), c[0][1:]))
     for case, answer in cases:
         news = set(map(str, depth_shown(case, answer)))
         if len('\t'.join(case)) <= LONGEST:
