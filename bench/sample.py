@@ -1,0 +1,137 @@
+#!/usr/bin/env python3
+"""Writes crates/jsonc_bench/stdin and stdout: the cases of bench/crate, and a sample of a folder of vectors.
+
+usage: bench/sample.py FOLDER
+
+Of a folder it takes, shortest first, each case that shows something no case before it showed: see `shown`.
+What is wanted is the stored answer, or `not yet` by the case alone; no answer is made here.
+"""
+import os
+import re
+import sys
+
+import vectors
+
+HERE = os.path.dirname(os.path.abspath(__file__))
+CRATE = os.path.join(HERE, '..', 'crates', 'jsonc_bench')
+# Longer cases are left out, but for those that show a depth.
+LONGEST = 1500
+NO_CASES = [
+    ('', None),
+    ('% a line that begins so is passed over', None),
+    ('no-kind', 'it has no kind'),
+    ('bad-kind\tparse\t1111111111\t1', 'there is no such kind'),
+    ('bad-fields\tscan\t1111111111', 'its kind has another number of fields'),
+    ('bad-options\tscan\t111111111\t1', 'options are ten characters 0 or 1'),
+    ('bad-flag\tscan\t111111111x\t1', 'options are ten characters 0 or 1'),
+    ('bad-collection\tast\t1111111111\tX-\t1', 'a collection is O, S or T, and then t or -'),
+    ('bad-escape\tscan\t1111111111\t\\x0', 'an escape is \\x and two upper-case hex digits'),
+    ('bad-digit\tscan\t1111111111\t\\x0g', 'an escape is \\x and two upper-case hex digits'),
+    ('bad-backslash\tscan\t1111111111\t\\n', 'an escape is \\x and two upper-case hex digits'),
+    ('bad-text\tscan\t1111111111\t\\xFF', 'its text is not UTF-8'),
+    ('bad-word\tjsonc\tprint\t1', "a word begins with '"),
+]
+PROGRAM = [
+    (("print-escaped-word", 'jsonc', "'prin\\x74", ' [1] '), ('0', ' [1] ', '')),
+    (('print-blanks', 'jsonc', "'print", '\\x0D\\x0A'), ('0', '\\x0D\\x0A', '')),
+    (('print-empty', 'jsonc', "'print", ''), ('0', '', '')),
+    (('check-object', 'jsonc', "'check", '{"a": [1, "b", null]}'), ('0', '', '')),
+    (('check-not-utf8', 'jsonc', "'check", '"\\xFF"'), ('1', '', 'jsonc: input is not UTF-8\\x0A')),
+    (('check-refused', 'jsonc', "'check", '[1,]'), None),
+    (('check-comment', 'jsonc', "'check", '[1] // 2'), None),
+    (('print-escape', 'jsonc', "'print", '"\\x5Cn"'), None),
+]
+
+
+def shape(kind, text):
+    """A token's text with each run of digits and of letters as one, which in a word are alike."""
+    if kind == 'Word':
+        return re.sub(r'[A-Za-z0-9$_]+', 'a', text)[:8]
+    return re.sub(r'[A-Za-z$_]{2,}', 'aa', re.sub(r'[0-9]+', '0', text))[:8]
+
+
+def ends_of(options):
+    return [(number, flag) for number, flag in enumerate(options)]
+
+
+def shown(case, answer):
+    """What a case and its answer show."""
+    kind, fields = case[1], case[2:]
+    if vectors.is_not_yet(case):
+        yield kind, 'not yet', kind == 'ast' and fields[1], fields[0] if kind == 'jsonc' else ''
+        return
+    if kind == 'jsonc':
+        yield kind, fields[0], answer[1:4]
+        return
+    options = fields[0]
+    yield kind, 'options', options
+    if kind == 'ast':
+        yield kind, 'collection', fields[1], answer[1][:5]
+    if answer[1].startswith('fault'):
+        fault = answer[1].split(' ')[1]
+        for end in ends_of(options):
+            yield kind, fault, end
+        yield kind, fault, answer[1].split(' ')[4] != '1'
+        return
+    tokens = answer[2:] if kind == 'scan' else answer[5:]
+    for token in tokens:
+        name, _, _, text = token.split(' ', 3)
+        yield kind, name, shape(name, text)
+        for end in ends_of(options[4:]):
+            yield kind, name, end
+    if kind == 'ast':
+        yield kind, 'depth', min(len(answer[2].split(' ')), 600) // 100
+        for node in answer[2].split(' '):
+            yield kind, 'node', node[:1], node[-2:] in ('*0', '*1')
+
+
+def depth_shown(case, answer):
+    """Of the cases at the limit of depth: whether they are taken, and how deep the text is."""
+    if case[0].startswith('dep') and not vectors.is_not_yet(case):
+        text = case[-1]
+        yield case[1], 'limit', answer[1][:5], text.count('['), text.count('{')
+
+
+def sample(folder):
+    found = set()
+    cases = sorted(vectors.read(folder), key=lambda c: (len('\t'.join(c[0])) + len('\t'.join(c[1])), c[0][1:]))
+    for case, answer in cases:
+        news = set(map(str, depth_shown(case, answer)))
+        if len('\t'.join(case)) <= LONGEST:
+            news |= set(map(str, shown(case, answer)))
+        if not news <= found and len('\t'.join(case)) < 4000:
+            found |= news
+            yield case, answer
+
+
+def main(folder):
+    lines, answers = [], []
+
+    def put(case, answer):
+        lines.append('\t'.join(case))
+        answers.append(vectors.expected(case, answer))
+
+    lines.append('% Cases of the Rust crate\'s own tests')
+    for case, answer in vectors.read(os.path.join(HERE, 'crate')):
+        put(case, answer)
+    lines.append('% Runs of the program')
+    for case, answer in PROGRAM:
+        put(case, (case[0],) + (answer or ()))
+    lines.append('% A sample of the vectors')
+    for case, answer in sample(folder):
+        put(case, answer)
+    lines.append('% Lines that are passed over, and lines that are no case')
+    for line, message in NO_CASES:
+        lines.append(line)
+        if message:
+            answers.append('line %d is no case: %s' % (len(lines), message))
+    for name, rows in ('stdin', lines), ('stdout', answers):
+        with open(os.path.join(CRATE, name), 'w', encoding='ascii', newline='\n') as out:
+            out.write('\n'.join(rows) + '\n')
+    print(len(answers), 'answers wanted, of them', sum(a.endswith('\tnot yet') for a in answers), 'not yet')
+
+
+if __name__ == '__main__':
+    if len(sys.argv) != 2:
+        sys.exit(__doc__)
+    main(sys.argv[1])

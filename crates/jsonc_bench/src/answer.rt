@@ -1,0 +1,23 @@
+//! What is answered to a question, and what not yet.
+
+use crate::case::Question;
+use crate::program::outcome;
+use crate::scanned::tokens;
+use crate::syntax::syntax;
+use std::alloc::{AllocError, Global};
+
+/// The answer without its name, or none where it depends on something that is not built.
+pub fn answer(alloc: Global, question: &Question) -> Result<Option<String>, AllocError> {
+    match question {
+        Question::NotBuilt => Ok(None),
+        Question::Program { words, input } => { outcome(alloc, words.as_slice(), input.as_slice()) }
+        // Escapes in strings are refused for now.
+        Question::Scan { text, .. } | Question::Ast { text, .. } if text.contains('\\') => Ok(None),
+        Question::Scan { options, text } => Ok(Some(tokens(alloc, text.as_str(), options)?)),
+        Question::Ast {
+            options,
+            collect,
+            text,
+        } => Ok(Some(syntax(alloc, text.as_str(), collect, options)?)),
+    }
+}

@@ -1,0 +1,170 @@
+//! Cases, read from their lines.
+
+use crate::error::CaseError;
+use crate::escape::{unescaped, unescaped_text};
+use jsonc_parser::{CollectOptions, CommentCollectionStrategy, ParseOptions};
+use std::alloc::Global;
+
+/// What a case asks.
+#[derive(Drop)]
+pub enum Question {
+    /// The tokens of a text.
+    Scan {
+        options: ParseOptions,
+        text: String,
+    },
+    /// The syntax tree of a text, and its tokens where they are to be collected.
+    Ast {
+        options: ParseOptions,
+        collect: CollectOptions,
+        text: String,
+    },
+    /// What the program does with these words and this input.
+    Program {
+        words: Vec<String>,
+        input: Vec<u8>,
+    },
+    /// What no call of this repository answers yet.
+    NotBuilt,
+}
+
+/// A question, with the name by which its answer is known.
+#[derive(Drop)]
+pub struct Case<'a> {
+    pub id: &'a str,
+    pub question: Question,
+}
+
+impl<'a> Case<'a> {
+    /// The case that a line holds.
+    pub fn from_line(alloc: Global, line: &'a str) -> Result<Case<'a>, CaseError> {
+        let fields: Vec<&str> = line.split('\t').collect(alloc)?;
+        let [id, kind, fields @ ..] = fields.as_slice() else {
+            return Err(CaseError::NoKind);
+        };
+        let question = Question::from_fields(alloc, kind, fields)?;
+        Ok(Case { id: *id, question })
+    }
+}
+
+fn is_kind_to_come(kind: &str) -> bool {
+    match kind {
+        "value"
+        | "decode"
+        | "jobj"
+        | "aobj"
+        | "edit"
+        | "trace"
+        | "read"
+        | "settings"
+        | "detached" => true,
+        _ => false,
+    }
+}
+
+impl Question {
+    fn from_fields(alloc: Global, kind: &str, fields: &[&str]) -> Result<Question, CaseError> {
+        match (kind, fields) {
+            ("scan", [options, text]) => scan(alloc, options, text),
+            ("ast", [options, collect, text]) => ast(alloc, options, collect, text),
+            ("jsonc", [words, input]) => program(alloc, words, input),
+            ("scan" | "ast" | "jsonc", _) => Err(CaseError::FieldCount),
+            (kind, _) if is_kind_to_come(kind) => Ok(Question::NotBuilt),
+            _ => Err(CaseError::UnknownKind),
+        }
+    }
+}
+
+fn scan(alloc: Global, options: &str, text: &str) -> Result<Question, CaseError> {
+    Ok(Question::Scan {
+        options: read_options(options)?,
+        text: unescaped_text(alloc, text)?,
+    })
+}
+
+fn ast(alloc: Global, options: &str, collect: &str, text: &str) -> Result<Question, CaseError> {
+    let options = read_options(options)?;
+    let text = unescaped_text(alloc, text)?;
+    let Some(collect) = read_collection(collect)? else {
+        return Ok(Question::NotBuilt);
+    };
+    Ok(Question::Ast {
+        options,
+        collect,
+        text,
+    })
+}
+
+fn program(alloc: Global, words: &str, input: &str) -> Result<Question, CaseError> {
+    Ok(Question::Program {
+        words: read_words(alloc, words)?,
+        input: unescaped(alloc, input)?,
+    })
+}
+
+fn read_flag(flag: u8) -> Result<bool, CaseError> {
+    match flag {
+        b'0' => Ok(false),
+        b'1' => Ok(true),
+        _ => Err(CaseError::Options),
+    }
+}
+
+/// The options that ten flags stand for.
+fn read_options(flags: &str) -> Result<ParseOptions, CaseError> {
+    let [
+        comments,
+        loose,
+        trailing,
+        missing,
+        quotes,
+        hex,
+        plus,
+        points,
+        non_finite,
+        escapes,
+    ] = flags.as_bytes()
+    else {
+        return Err(CaseError::Options);
+    };
+    Ok(ParseOptions {
+        allow_comments: read_flag(*comments)?,
+        allow_loose_object_property_names: read_flag(*loose)?,
+        allow_trailing_commas: read_flag(*trailing)?,
+        allow_missing_commas: read_flag(*missing)?,
+        allow_single_quoted_strings: read_flag(*quotes)?,
+        allow_hexadecimal_numbers: read_flag(*hex)?,
+        allow_unary_plus_numbers: read_flag(*plus)?,
+        allow_bare_decimal_point_numbers: read_flag(*points)?,
+        allow_non_finite_numbers: read_flag(*non_finite)?,
+        allow_extended_string_escapes: read_flag(*escapes)?,
+    })
+}
+
+/// What is to be collected, or none where comments are to be collected apart, which no call does yet.
+fn read_collection(letters: &str) -> Result<Option<CollectOptions>, CaseError> {
+    let (comments, tokens) = match letters {
+        "O-" => (CommentCollectionStrategy::Off, false),
+        "Ot" => (CommentCollectionStrategy::Off, true),
+        "T-" => (CommentCollectionStrategy::AsTokens, false),
+        "Tt" => (CommentCollectionStrategy::AsTokens, true),
+        "S-" | "St" => return Ok(None),
+        _ => return Err(CaseError::Collection),
+    };
+    Ok(Some(CollectOptions { comments, tokens }))
+}
+
+/// The words of a command line, each after a `'`.
+fn read_words(alloc: Global, field: &str) -> Result<Vec<String>, CaseError> {
+    let mut words = Vec::new(alloc);
+    for word in field.split(' ') {
+        if word.is_empty() {
+            continue;
+        }
+        let Some(word) = word.strip_prefix('\'') else {
+            return Err(CaseError::Word);
+        };
+        words.push(unescaped_text(alloc, word)?)?;
+    }
+    Ok(words)
+}

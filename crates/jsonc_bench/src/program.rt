@@ -1,0 +1,52 @@
+//! A run of the program.
+
+use crate::escape::Escaped;
+use jsonc_engine::calls::{FromReader, ToWriter};
+use jsonc_engine::engine::engine;
+use jsonc_engine::fault::Fault;
+use std::alloc::{AllocError, Global};
+
+/// Whether the words name a command that the program is to have and has not yet.
+fn is_command_to_come(words: &[&str]) -> bool {
+    match words {
+        ["sort"] | ["remove", _] | ["append", _] | ["set", _, _] => true,
+        _ => false,
+    }
+}
+
+fn lent(alloc: Global, words: &[String]) -> Result<Vec<&str>, AllocError> {
+    let mut lent = Vec::new(alloc);
+    for word in words {
+        lent.push(word.as_str())?;
+    }
+    Ok(lent)
+}
+
+/// The status of a run, what it writes and the line that it prints; or none where the command is not built or the
+/// text is refused, since a program that takes more may say otherwise.
+pub fn outcome(
+    alloc: Global,
+    words: &[String],
+    input: &[u8],
+) -> Result<Option<String>, AllocError> {
+    let words = lent(alloc, words)?;
+    if is_command_to_come(words.as_slice()) {
+        return Ok(None);
+    }
+    let mut source = FromReader::new(input);
+    let mut sink = ToWriter::new(Vec::new(alloc));
+    let result = engine(alloc, words.as_slice(), &mut source, &mut sink);
+    let ToWriter { writer, failed: _ } = sink;
+    let written = Escaped::field(writer.as_slice());
+    let shown = match result {
+        Ok(()) => format!(in alloc; "0\t{written}\t")?,
+        Err(Fault::Input(_)) => return Ok(None),
+        Err(fault) => {
+            let status = fault.status();
+            let line = format!(in alloc; "{fault}\n")?;
+            let line = Escaped::field(line.as_bytes());
+            format!(in alloc; "{status}\t{written}\t{line}")?
+        }
+    };
+    Ok(Some(shown))
+}
