@@ -10,7 +10,7 @@ use jsonc_parser::errors::ParseErrorKind;
 use std::alloc::{AllocError, Global};
 
 /// Without comments, which no document holds yet.
-fn without_comments(options: &ParseOptions) -> ParseOptions
+pub fn without_comments(options: &ParseOptions) -> ParseOptions
     ensures { (parse_options result).comments ≡ false }
 {
     let mut options = options.copied();

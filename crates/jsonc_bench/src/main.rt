@@ -12,6 +12,8 @@ mod program;
 mod scanned;
 mod show;
 mod syntax;
+#[cfg(test)]
+mod tests;
 
 use case::Case;
 use error::CaseError;

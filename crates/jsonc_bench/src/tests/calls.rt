@@ -1,0 +1,92 @@
+//! The calls that may want memory.
+
+use crate::document::without_comments;
+use crate::tests::outcome::Outcome;
+use crate::tests::trees::changed_tree;
+use jsonc_engine::command::Command;
+use jsonc_engine::engine::run_on;
+use jsonc_parser::cst::CstRootNode;
+use jsonc_parser::tokens::Token;
+use jsonc_parser::{
+    CollectOptions, CommentCollectionStrategy, ParseOptions, ParseResult, parse_to_ast,
+};
+use refusing::Refusing;
+use std::alloc::Global;
+use std::borrow::CowStr;
+use std::default::Default;
+
+/// The allocator that each call is given.
+pub type Heap<'a> = &'a Refusing<Global>;
+
+/// A call that may want memory.
+#[derive(Clone, Copy, Debug)]
+pub enum Call {
+    SyntaxTree,
+    Document,
+    TokenCopy,
+    TreeChanges,
+    Program,
+}
+
+/// All of them.
+pub const CALLS: [Call; 5] = [
+    Call::SyntaxTree,
+    Call::Document,
+    Call::TokenCopy,
+    Call::TreeChanges,
+    Call::Program,
+];
+
+/// A text of plain JSON, with more elements and properties than a list has room for at first.
+const PLAIN: &str =
+    "{\"a\": [1, 2.5, -3, true, false, null, []],\r\n \"b\": {}, \"c\": \"d\", \"e\": 0, \"f\": 1 }\n";
+
+/// One with comments and looser spelling.
+const LOOSE: &str = "// one\n[{a: 'b', 0x1F: +.5, c: Infinity,}, /* two */ [NaN -1]]";
+
+pub fn outcome_of(call: Call, heap: Heap<'_>) -> Outcome {
+    Outcome::within(match call {
+        Call::SyntaxTree => syntax_tree(heap),
+        Call::Document => document(heap),
+        Call::TokenCopy => token_copy(heap),
+        Call::TreeChanges => changed_tree(heap),
+        Call::Program => program(heap),
+    })
+}
+
+fn syntax_tree(heap: Heap<'_>) -> Result<Outcome, Outcome> {
+    let collect = CollectOptions {
+        comments: CommentCollectionStrategy::AsTokens,
+        tokens: true,
+    };
+    let parsed = parse_to_ast(heap, LOOSE, &collect, &ParseOptions::default())?;
+    Ok(Outcome::of(parsed.value.is_some() && token_count(&parsed) == 23))
+}
+
+fn token_count(parsed: &ParseResult<'_, Heap<'_>>) -> usize {
+    match &parsed.tokens {
+        Some(tokens) => tokens.len(),
+        None => 0,
+    }
+}
+
+/// The tree is built as the document is read.
+fn document(heap: Heap<'_>) -> Result<Outcome, Outcome> {
+    let options = without_comments(&ParseOptions::default());
+    let document = CstRootNode::parse(heap, PLAIN, &options)?;
+    let text = document.text()?;
+    Ok(Outcome::of(text.as_str() == PLAIN))
+}
+
+fn token_copy(heap: Heap<'_>) -> Result<Outcome, Outcome> {
+    let token = Token::String(CowStr::Owned(String::from_str(heap, "owned")?));
+    let copy = token.try_clone()?;
+    Ok(Outcome::of(copy == token && copy.as_str() == "owned"))
+}
+
+fn program(heap: Heap<'_>) -> Result<Outcome, Outcome> {
+    let Some(written) = run_on(heap, Command::Print, PLAIN.as_bytes())? else {
+        return Err(Outcome::Other);
+    };
+    Ok(Outcome::of(written.as_str() == PLAIN))
+}

@@ -1,0 +1,71 @@
+//! Calls that take no memory.
+
+use crate::document::without_comments;
+use jsonc_parser::cst::CstRootNode;
+use jsonc_parser::{ParseOptions, Scanner, ScannerOptions};
+use refusing::Refusing;
+use std::default::Default;
+use std::fmt;
+use std::fmt::Write;
+use std::test::Fail;
+
+/// What is still to be written.
+#[derive(Drop)]
+struct Awaited<'a> {
+    rest: &'a [u8],
+}
+
+impl fmt::Write for Awaited<'_> {
+    fn write_str(&mut self, s: &str) -> fmt::Result {
+        match self.rest.strip_prefix(s.as_bytes()) {
+            Some(rest) => {
+                self.rest = rest;
+                Ok(())
+            }
+            None => Err(fmt::Error),
+        }
+    }
+}
+
+#[test]
+fn scanning_takes_no_memory(rt: HostRuntime) -> Result<(), Fail> {
+    let heap = Refusing::always(rt.alloc());
+    let text = "{'a': [0x1F, -Infinity, null], // c\n b: /* d */ true}@";
+    let mut scanner = Scanner::new(&heap, text, &ScannerOptions::default());
+    let mut count = 0usize;
+    for _ in 0..text.len() {
+        let Ok(Some(token)) = scanner.scan() else {
+            break;
+        };
+        assert!(rt; token.try_clone()? == token);
+        count = count.saturating_add(1);
+    }
+    assert_eq!(rt; count, 17);
+    let Err(error) = scanner.scan() else {
+        assert!(rt; false, "no fault");
+        return Ok(());
+    };
+    let mut line = Awaited {
+        rest: b"Unexpected token on line 2 column 18",
+    };
+    write!(line, "{error}")?;
+    assert_eq!(rt; line.rest.len(), 0);
+    assert_eq!(rt; heap.asked(), 0);
+    Ok(())
+}
+
+#[test]
+fn printing_takes_no_memory(rt: HostRuntime) -> Result<(), Fail> {
+    let heap = Refusing::at(rt.alloc(), u64::MAX);
+    let text = " {\"a\": [1, [\"b\", {}], null],\r\n \"c\": false }\n";
+    let options = without_comments(&ParseOptions::default());
+    let document = CstRootNode::parse(&heap, text, &options)?;
+    let asked = heap.asked();
+    let mut printed = Awaited {
+        rest: text.as_bytes(),
+    };
+    write!(printed, "{document}")?;
+    assert_eq!(rt; printed.rest.len(), 0);
+    assert_eq!(rt; heap.asked(), asked);
+    Ok(())
+}
