@@ -1,0 +1,2 @@
+pub mod formers
+pub mod Equal

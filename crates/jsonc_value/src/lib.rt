@@ -1,0 +1,7 @@
+//! Values of JSON, with objects that keep the order of their names.
+#![tactic(auto)]
+
+pub mod map;
+// mod value;
+
+// pub use value::{JsonArray, JsonObject, JsonValue};
