@@ -1,2 +1,3 @@
 pub mod formers
 pub mod Equal
+pub mod Names

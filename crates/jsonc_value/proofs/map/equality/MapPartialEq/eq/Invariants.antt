@@ -1,7 +1,7 @@
 use Rattle.std.specs.Prelude.{◌≡◌, ℕ, ◌<◌, true, get_or}
 use Rattle.std.specs.Option.{option_eq}
 use Rattle.std.specs.Map.{keys_of, lookup}
-use Rattle.jsonc_value.proofs.map.MapPartialEq.eq.Given as goal
+use Rattle.jsonc_value.proofs.map.equality.MapPartialEq.eq.Given as goal
 
 abbrev pub invariant-loop-i : goal.invariant-loop-i
 invariant-loop-i g l = (k : ℕ) → k < l.i → (d : g.row.K.Denot)

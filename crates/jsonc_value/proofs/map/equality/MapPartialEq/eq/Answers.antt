@@ -7,7 +7,7 @@ use Rattle.std.specs.Prelude.{length}
 use Rattle.std.specs.Map.{keys_of, lookup}
 use Rattle.jsonc_value.specs.Equal.{as_map}
 use Rattle.std_collections.proofs.HashMapEq.{key_at, own_value, unequal_at, unequal_len, equal_by_keys}
-use Rattle.jsonc_value.proofs.map.MapPartialEq.eq.Goals as goal
+use Rattle.jsonc_value.proofs.map.equality.MapPartialEq.eq.Goals as goal
 
 pub returns-then-len : goal.returns-then-len
 returns-then-len g c =
