@@ -2,6 +2,6 @@
 #![tactic(auto)]
 
 pub mod map;
-// mod value;
+mod value;
 
-// pub use value::{JsonArray, JsonObject, JsonValue};
+pub use value::{JsonArray, JsonObject, JsonValue};
