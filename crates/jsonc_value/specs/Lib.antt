@@ -1,3 +1,4 @@
 pub mod formers
 pub mod Equal
 pub mod Names
+pub mod Kinds
