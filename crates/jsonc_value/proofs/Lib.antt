@@ -1,1 +1,2 @@
 pub mod Zipped
+pub mod Lists

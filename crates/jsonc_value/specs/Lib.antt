@@ -2,3 +2,4 @@ pub mod formers
 pub mod Equal
 pub mod Names
 pub mod Kinds
+pub mod Lists
