@@ -1,6 +1,5 @@
 -- Pairs that are inserted one after another.
 use Rattle.std.proofs.Common.{◌≡◌, Bool, List, [], ◌∷◌, ◌++◌, refl, sym, ap, ◌∙◌, reverse, subst}
-use Rattle.std.specs.List.{AllZip}
 use Rattle.std.proofs.lemmas.List.{reverse-append}
 use Rattle.indexmap.specs.IndexMap.{insert_entry, insert_all}
 use Rattle.jsonc_value.specs.Lists.{InsertsUpTo}
@@ -30,9 +29,3 @@ module _ {K V : Type 0} (eq : K → K → Bool) where
 
 pub reverse_last : {X : Type 0} (xs : List X) (x : X) → reverse (xs ++ x ∷ []) ≡ x ∷ reverse xs
 reverse_last xs x = reverse-append xs (x ∷ [])
-
-pub same_items : {X : Type 0} (C : X → X → Type 0) → ((x y : X) → C x y → y ≡ x) → (xs ys : List X) → AllZip C xs ys → ys ≡ xs
-same_items C exact [] [] a = refl
-same_items C exact [] (y ∷ ys) a = absurd a
-same_items C exact (x ∷ xs) [] a = absurd a
-same_items C exact (x ∷ xs) (y ∷ ys) a = λ j. exact x y a.0 j ∷ same_items C exact xs ys a.1 j

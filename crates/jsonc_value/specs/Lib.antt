@@ -3,3 +3,4 @@ pub mod Equal
 pub mod Names
 pub mod Kinds
 pub mod Lists
+pub mod Lends

@@ -16,6 +16,7 @@ ghost use Rattle.jsonc_value.specs.Names.{is_named};
 
 mod equality;
 mod iter;
+mod lends;
 mod lists;
 
 use indexmap::{IndexSet, set};
