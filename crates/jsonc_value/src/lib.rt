@@ -4,4 +4,8 @@
 pub mod map;
 mod value;
 
+pub use map::Map;
 pub use value::{JsonArray, JsonObject, JsonValue};
+
+#[cfg(test)]
+mod tests;
