@@ -1,0 +1,11 @@
+//! Values of JSON, with objects that keep the order of their names.
+#![tactic(auto)]
+
+pub mod map;
+mod value;
+
+pub use map::Map;
+pub use value::{JsonArray, JsonObject, JsonValue};
+
+#[cfg(test)]
+mod tests;

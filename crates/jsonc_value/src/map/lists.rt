@@ -1,0 +1,59 @@
+//! Maps of lists of pairs, and copies of maps.
+ghost use Rattle.std.specs.Prelude.{◌≡◌, [], IfOk, IfErr, OnOk};
+ghost use Rattle.indexmap.specs.IndexMap.{insert_all};
+ghost use Rattle.jsonc_value.specs.Lists.{InsertsUpTo};
+
+use super::Map;
+use std::alloc::{AllocError, AllocFailed, Allocator};
+use std::hash::Hash;
+
+impl<K: Eq + Hash + Drop, V: Drop, A: Allocator + Copy> Map<K, V, A> {
+    /// A map of these pairs, inserted one after another.
+    pub fn from_list<B: Allocator>(alloc: A, pairs: Vec<(K, V), B>) -> Result<Self, AllocError>
+        ensures { IfOk result (λ m. m ≡ insert_all K.eq [] pairs.items) }
+    {
+        let mut map = Map::new(alloc);
+        match map.extend_list(pairs) {
+            Ok(()) => Ok(map),
+            Err(_) => Err(AllocError),
+        }
+    }
+}
+
+impl<K: Eq + Hash + Drop, V: Drop, A: Allocator> Map<K, V, A> {
+    /// Inserts these pairs one after another. A refusal leaves those before the refused one
+    /// inserted, and gives back that one and those after it.
+    pub fn extend_list<B: Allocator>(
+        &mut self,
+        pairs: Vec<(K, V), B>,
+    ) -> Result<(), AllocFailed<Vec<(K, V), B>>>
+        ensures inserted { OnOk result (self.new ≡ insert_all K.eq self.old pairs.items) }
+        ensures refused { IfErr result (λ y. InsertsUpTo K.eq self.old pairs.items y.value.items self.new) }
+    {
+        // Last first, so that the next pair is the one that `pop` gives.
+        let mut rest = pairs;
+        rest.reverse();
+        while let Some((key, value)) = rest.pop() {
+            if let Err(failed) = self.insert(key, value) {
+                let AllocFailed { value: pair } = failed;
+                rest.push_reserved(pair);
+                rest.reverse();
+                return Err(AllocFailed { value: rest });
+            }
+        }
+        Ok(())
+    }
+}
+
+impl<K: Eq + Hash + Clone + Drop, V: Clone, A: Allocator + Clone> Map<K, V, A> {
+    /// A copy of the map, where the clones of its keys and values equal them.
+    pub fn try_clone(&self) -> Result<Self, AllocError>
+        requires keys { (x y : K) → K.is_clone x y → y ≡ x }
+        requires values { (x y : V) → V.is_clone x y → y ≡ x }
+        ensures { IfOk result (λ m. m ≡ self.now) }
+    {
+        let keys = self.keys.clone()?;
+        let values = self.values.clone()?;
+        Ok(Map { keys, values })
+    }
+}
