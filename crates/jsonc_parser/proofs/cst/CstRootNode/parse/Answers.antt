@@ -1,4 +1,4 @@
-use Rattle.std.proofs.Common.{List, ℕ, Option, option_map, subst}
+use Rattle.std.proofs.Common.{Option, option_map, subst}
 use Rattle.jsonc_text.specs.Options.{Options}
 use Rattle.jsonc_text.specs.OptionsOf.{parse_options}
 use Rattle.jsonc_text.proofs.FaultLemmas.{out_of_memory_is_fault}
