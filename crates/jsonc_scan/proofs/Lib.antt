@@ -1,5 +1,6 @@
 pub mod Between
 pub mod ByteRuns
+pub mod Escapes
 pub mod NoNumbers
 pub mod Reading
 pub mod Words
