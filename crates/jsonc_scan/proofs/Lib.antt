@@ -1,5 +1,6 @@
 pub mod Between
 pub mod ByteRuns
+pub mod Decoding
 pub mod Escapes
 pub mod NoNumbers
 pub mod Reading

@@ -1,6 +1,7 @@
 -- Escapes, and strings in their quotes, by the places where they stand.
-use Rattle.std.specs.Prelude.{ℕ, ◌+◌, ◌≡◌, ◌≢◌, ◌≤◌, ◌<◌, ◌↔◌, Bool, true, false, List, [], ◌∷◌, ◌++◌, Option, Some, None, slice_range, ◌-◌}
-use Rattle.std.specs.Cow.{cow_str_bytes, IsBorrowedStr, IsOwnedStr}
+use Rattle.std.specs.Prelude.{ℕ, ◌+◌, ◌≡◌, ◌≢◌, ◌≤◌, ◌<◌, ◌↔◌, Bool, true, false, List, [], ◌∷◌, ◌++◌, Option, Some, None, IsCharBoundary, slice_range, ◌-◌}
+use Rattle.std.specs.declared.borrow.CowStr.{CowStr}
+use Rattle.std.specs.Cow.{cow_str_bytes, IsBorrowedStr}
 use Rattle.jsonc_scan.specs.declared.escape.Escape.{Escape}
 use Rattle.jsonc_scan.specs.declared.escape.Meaning.{Meaning as Read}
 use Rattle.jsonc_scan.specs.declared.escape.Meaning.TheVariants as read
@@ -9,7 +10,7 @@ use Rattle.jsonc_text.specs.declared.errors.ParseStringErrorKind.TheVariants.{Ou
 use Rattle.jsonc_text.specs.Options.{Options, all_on}
 use Rattle.jsonc_text.specs.Text.{rest, Spans}
 use Rattle.jsonc_text.specs.Chars.{Steps}
-use Rattle.jsonc_text.specs.Strings.{Meaning, gives, extended, code_unit, code_byte, nul, line_end, carriage_return, refused, AreHex4, hex4, Piece, Decodes}
+use Rattle.jsonc_text.specs.Strings.{Meaning, gives, extended, code_unit, code_byte, nul, line_end, carriage_return, refused, AreHex4, hex4, Piece, Pieces, Decodes}
 use Rattle.jsonc_scan.specs.Between.{Between, NoneFrom}
 
 -- strings look at one option alone: whether the extended escapes are taken
@@ -66,3 +67,34 @@ pub record IsStringFault (bytes : List ℕ) (start : ℕ) (fault : StringFault) 
   pub spans : Spans bytes fault.range.start fault.range.end
   pub order : start ≤ fault.range.start
   pub kind : fault.kind ≢ OutOfMemory
+
+-- t is pieces between quotes q that stand for the string v, and then r
+abbrev pub ArePieces : Bool → ℕ → List ℕ → List ℕ → List ℕ → Type 0
+ArePieces taken q v t r = Pieces (escapes taken) q t v r
+
+-- t is a string in the quotes q that stands for v, and then r
+abbrev pub IsQuoted : Bool → ℕ → List ℕ → List ℕ → List ℕ → Type 0
+IsQuoted taken q v t r = (s : List ℕ) × (t ≡ (q ∷ s) ++ q ∷ r) × Decodes (escapes taken) q s v
+
+-- no string in the quotes q stands at a place
+abbrev pub NoQuoted : Bool → ℕ → List ℕ → ℕ → Type 0
+NoQuoted taken q bytes place = (v : List ℕ) → NoneFrom (IsQuoted taken q v) bytes place
+
+-- a backslash stands after one place and before another
+pub record HoldsBackslash (bytes : List ℕ) (start end : ℕ) : Type 0 where
+  pub place : ℕ
+  pub boundary : IsCharBoundary bytes place
+  pub after : start < place
+  pub before : place < end
+  pub backslash : Steps bytes place 0x5C (place + 1)
+
+-- a fault of a string that begins at a place, or want of memory for it
+pub record IsStringRefusal (bytes : List ℕ) (start : ℕ) (fault : StringFault) : Type 0 where
+  pub spans : Spans bytes fault.range.start fault.range.end
+  pub order : start ≤ fault.range.start
+
+module _ {A : Type 0} where
+  -- the string that stands from one place to another is lent by its text exactly where no backslash is in it, and is then what stands between its quotes
+  pub record IsLentUnescaped (bytes : List ℕ) (start end : ℕ) (s : CowStr A) : Type 0 where
+    pub lent : IsBorrowedStr s ↔ (HoldsBackslash bytes start end → ⊥)
+    pub slice : IsBorrowedStr s → cow_str_bytes s ≡ slice_range bytes (start + 1) (end - 1)

@@ -4,6 +4,7 @@
 #![tactic(auto)]
 
 mod comment;
+mod decode;
 mod escape;
 mod faults;
 mod lexeme;

@@ -1,11 +1,11 @@
 //! Turning a text into tokens.
 ghost use Rattle.std.specs.Prelude.{◌≡◌, ◌≢◌, ◌≤◌, IsCharBoundary, IfOk, IfErr, OnErr, None, option_map};
 
+use crate::lexeme::token_of;
+use crate::reads::read_lexeme;
 use jsonc_text::chars::blanks_end;
 use jsonc_text::errors::{ParseError, ParseErrorKind};
-use crate::lexeme::token_of;
 use jsonc_text::options::{ParseOptions, ScannerOptions};
-use crate::reads::read_lexeme;
 use jsonc_text::tokens::Token;
 use std::alloc::Allocator;
 

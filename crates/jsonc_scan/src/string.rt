@@ -7,12 +7,12 @@ ghost use Rattle.jsonc_scan.specs.Reads.{IsRead};
 ghost use Rattle.jsonc_scan.specs.Refusals.{IsTextFault};
 ghost use Rattle.jsonc_text.specs.Strings.{IsQuote};
 
-use jsonc_text::chars::{char_end, has_byte};
-use jsonc_text::errors::{ParseError, ParseErrorKind, ParseStringErrorKind};
 use crate::faults::fault;
 use crate::lexeme::{Lexeme, Read};
-use jsonc_text::options::ParseOptions;
 use crate::stops::stop_place;
+use jsonc_text::chars::{char_end, has_byte};
+use jsonc_text::errors::{ParseError, ParseErrorKind, ParseStringErrorKind};
+use jsonc_text::options::ParseOptions;
 
 /// The place of the quote that closes the string whose opening quote stands at a place.
 fn close_place(text: &str, start: usize, quote: u8) -> Result<usize, ParseError>
