@@ -8,6 +8,7 @@ use Rattle.jsonc_text.specs.Text.{rest, Many}
 use Rattle.jsonc_text.specs.Gaps.{is_blank}
 use Rattle.jsonc_text.specs.Lexemes.{Scanned, IsScanned}
 use Rattle.jsonc_text.specs.Tokens.{scanned_of}
+use Rattle.jsonc_scan.specs.Reads.{NothingPlain}
 
 module _ {A : Type 0} where
   -- the bytes of the whole text
@@ -44,3 +45,7 @@ module _ {A : Type 0} where
   abbrev pub StandsAt : Scanner A → Option (Token A) → Type 0
   StandsAt s None = (start_of s ≡ length (text_of s)) × (end_of s ≡ length (text_of s))
   StandsAt s (Some t) = (start_of s < end_of s) × IsScanned (options_of s) (scanned_of t) (rest (text_of s) (start_of s)) (left s)
+
+  -- no token stands where the scanner's token would begin, unless it is a string that holds a backslash
+  abbrev pub NothingStands : Scanner A → Type 0
+  NothingStands s = NothingPlain (options_of s) (text_of s) (start_of s)

@@ -1,6 +1,6 @@
 //! Worked rows of the scanner.
-use jsonc_text::options::ScannerOptions;
 use crate::scanner::Scanner;
+use jsonc_text::options::ScannerOptions;
 use jsonc_text::tokens::Token;
 use std::alloc::Global;
 use std::default::Default;
