@@ -1,10 +1,10 @@
 -- What a scanner has before it.
-use Rattle.std.specs.Prelude.{ℕ, ◌≡◌, ◌≤◌, ◌<◌, List, Option, Some, None, option_map, length}
+use Rattle.std.specs.Prelude.{ℕ, ◌≡◌, ◌≤◌, ◌<◌, List, Option, Some, None, option_map, length, IsTrue}
 use Rattle.jsonc_scan.specs.declared.scanner.Scanner.{Scanner}
 use Rattle.jsonc_text.specs.declared.tokens.Token.{Token}
 use Rattle.jsonc_text.specs.Options.{Options}
 use Rattle.jsonc_text.specs.OptionsOf.{parse_options}
-use Rattle.jsonc_text.specs.Text.{rest, Many}
+use Rattle.jsonc_text.specs.Text.{rest, next, no, Many}
 use Rattle.jsonc_text.specs.Gaps.{is_blank}
 use Rattle.jsonc_text.specs.Lexemes.{Scanned, IsScanned}
 use Rattle.jsonc_text.specs.Tokens.{scanned_of}
@@ -49,3 +49,8 @@ module _ {A : Type 0} where
   -- no token stands where the scanner's token would begin, unless it is a string that holds a backslash
   abbrev pub NothingStands : Scanner A → Type 0
   NothingStands s = NothingPlain (options_of s) (text_of s) (start_of s)
+
+  -- the text goes on where the scanner's token would begin, and not with a blank
+  pub record GoesOn (s : Scanner A) : Type 0 where
+    pub inside : start_of s < length (text_of s)
+    pub no_blank : IsTrue (no is_blank (next (rest (text_of s) (start_of s))))

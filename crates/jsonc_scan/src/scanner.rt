@@ -86,7 +86,7 @@ impl<'a, A: Allocator> Scanner<'a, A> {
 
 impl<'a, A: Allocator + Copy> Scanner<'a, A> {
     ghost use Rattle.jsonc_text.specs.Faults.{IsFault, kind_of};
-    ghost use Rattle.jsonc_scan.specs.Scanner.{text_of, start_of, end_of, token_of, PassesBlanks, StandsAt, NothingStands};
+    ghost use Rattle.jsonc_scan.specs.Scanner.{text_of, start_of, end_of, token_of, PassesBlanks, StandsAt, NothingStands, GoesOn};
     ghost use Rattle.jsonc_text.specs.Tokens.{scanned_of};
 
     /// Moves to the next token, and answers it; or none at the end of the text.
@@ -97,6 +97,7 @@ impl<'a, A: Allocator + Copy> Scanner<'a, A> {
         ensures found { IfOk result (StandsAt self.new) }
         ensures token { IfOk result (λ found. token_of self.new ≡ option_map scanned_of found) }
         ensures nothing { IfErr result (λ _. NothingStands self.new) }
+        ensures begins { IfErr result (λ _. GoesOn self.new) }
         ensures fault { IfErr result (IsFault (text_of self.new)) }
         ensures no_memory { IfErr result (λ e. kind_of e ≢ ParseErrorKind.OutOfMemory) }
         ensures refused { OnErr result (token_of self.new ≡ token_of self.old) }
