@@ -114,7 +114,7 @@ word_read o bytes w i j u b e no_keyword no_infinity no_nan n =
     record { boundary = n.boundary; order = n.order; piece = (here, word_stands o (rest bytes i) (chars w) (rest bytes j) here n.piece no_keyword no_infinity no_nan) }
 
 -- characters that are neither the quote nor a backslash stand for themselves
-neither_first : (c a b : ℕ) → IsTrue (is_neither a b c) → c ≢ a
+pub neither_first : (c a b : ℕ) → IsTrue (is_neither a b c) → c ≢ a
 neither_first c a b h e = let z : IsTrue (is_neither a b a) = rw e at h in grind arith
 
 neither_second : (c a b : ℕ) → IsTrue (is_neither a b c) → c ≢ b

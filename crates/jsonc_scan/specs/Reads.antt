@@ -1,14 +1,16 @@
 -- What a lexeme stands for, and where it was read.
-use Rattle.std.specs.Prelude.{ℕ, ◌≡◌, Bool, true, List, chars, codes, IsTrue, ◌==◌, ◌||◌}
+use Rattle.std.specs.Prelude.{ℕ, ◌+◌, ◌≡◌, ◌<◌, Bool, true, false, List, [], ◌∷◌, chars, codes, ◌++◌, IsTrue, ◌==◌, ◌||◌, ◌&&◌, ◌⊎◌}
 use Rattle.jsonc_scan.specs.declared.lexeme.Lexeme.{Lexeme}
 use Rattle.jsonc_scan.specs.declared.lexeme.Lexeme.TheVariants.{OpenBrace, CloseBrace, OpenBracket, CloseBracket, Comma, Colon, String, Word, Boolean, Number, Null, CommentLine, CommentBlock}
 use Rattle.jsonc_scan.specs.declared.lexeme.Read.{Read}
 use Rattle.jsonc_text.specs.Options.{Options}
 use Rattle.jsonc_text.specs.Lexemes.{Scanned, lexeme, line_comment, block_comment, punctuation, string, word, number, keyword, is_punctuation, Lexeme as IsLexeme, IsScanned}
 use Rattle.jsonc_text.specs.Words.{boolean, null}
-use Rattle.jsonc_scan.specs.Between.{Between, NoneFrom, IsWhole, IsAlone}
+use Rattle.jsonc_scan.specs.Between.{Between, NoneFrom, LacksAt, IsWhole, IsAlone, is_neither}
+use Rattle.jsonc_text.specs.Chars.{Steps}
+use Rattle.jsonc_text.specs.Strings.{IsQuote}
 use Rattle.jsonc_text.specs.Numbers.{Fraction, Unsigned, Number as IsNumber}
-use Rattle.jsonc_text.specs.Text.{rest, next, starts}
+use Rattle.jsonc_text.specs.Text.{rest, next, starts, Many, is_digit}
 
 -- a string without escapes stands for its text
 abbrev pub what_of : Lexeme → Scanned
@@ -88,3 +90,46 @@ NoFinite o bytes start = NoNames bytes start → NoUnsigned o bytes start
 -- no number stands at a place, unless a name does
 abbrev pub NoNumber : Options → List ℕ → ℕ → Type 0
 NoNumber o bytes start = NoNames bytes start → NoneFrom (IsNumber o) bytes start
+
+-- t begins with a digit or a sign, or with a point before a digit: with these begins a number that is no name
+abbrev pub begins_number : List ℕ → Bool
+begins_number [] = false
+begins_number (c ∷ t) = is_digit c || c == 0x2B || c == 0x2D || (c == 0x2E && starts is_digit (next t))
+
+-- neither a word nor a number that is a name stands at a place
+abbrev pub NoNameOrWord : Options → List ℕ → ℕ → Type 0
+NoNameOrWord o bytes start = NoName o bytes start × NoWord o bytes start
+
+-- no lexeme and no comment stands at a place
+abbrev pub NothingAt : Options → List ℕ → ℕ → Type 0
+NothingAt o bytes start = (what : Scanned) → NoneFrom (IsScanned o what) bytes start
+
+-- a quote that opens a string stands at a place
+pub record OpensString (o : Options) (bytes : List ℕ) (start quote : ℕ) : Type 0 where
+  pub allowed : IsQuote o quote
+  pub ascii : quote < 128
+  pub here : Steps bytes start quote (start + 1)
+
+-- none does
+abbrev pub OpensNoString : Options → List ℕ → ℕ → Type 0
+OpensNoString o bytes start = LacksAt (λ c. c == 0x22 || (c == 0x27 && o.single_quoted_strings)) bytes start
+
+-- no quote q stands from a place on
+abbrev pub NoQuoteFrom : ℕ → List ℕ → ℕ → Type 0
+NoQuoteFrom q bytes start = (s r : List ℕ) → rest bytes start ≡ s ++ q ∷ r → ⊥
+
+-- a backslash stands from a place on before the first quote q
+abbrev pub HasBackslash : ℕ → List ℕ → ℕ → Type 0
+HasBackslash q bytes start = (r : List ℕ) × Many (is_neither q 0x5C) (rest bytes start) (0x5C ∷ r)
+
+-- a string is not closed, or holds a backslash; its inside begins at a place
+abbrev pub IsOpenOrEscaped : ℕ → List ℕ → ℕ → Type 0
+IsOpenOrEscaped q bytes start = NoQuoteFrom q bytes start ⊎ HasBackslash q bytes start
+
+-- a quote stands at a place, and after it a backslash before the next such quote
+abbrev pub BeginsEscaped : Options → List ℕ → ℕ → Type 0
+BeginsEscaped o bytes start = (q : ℕ) × OpensString o bytes start q × HasBackslash q bytes (start + 1)
+
+-- no lexeme and no comment stands at a place, unless it is a string that holds a backslash
+abbrev pub NothingPlain : Options → List ℕ → ℕ → Type 0
+NothingPlain o bytes start = NothingAt o bytes start ⊎ BeginsEscaped o bytes start

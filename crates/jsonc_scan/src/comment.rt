@@ -6,11 +6,11 @@ ghost use Rattle.jsonc_text.specs.Gaps.{IsComment};
 ghost use Rattle.jsonc_scan.specs.Reads.{IsReadAnyhow};
 ghost use Rattle.jsonc_scan.specs.Refusals.{IsTextFault};
 
-use jsonc_text::chars::has_byte;
-use jsonc_text::errors::{ParseError, ParseErrorKind};
 use crate::faults::fault;
 use crate::lexeme::{Lexeme, Read};
 use crate::stops::{block_close, stop_place};
+use jsonc_text::chars::has_byte;
+use jsonc_text::errors::{ParseError, ParseErrorKind};
 
 /// The comment at a place, where a `/` stands.
 pub(crate) fn read_comment<'a>(text: &'a str, start: usize) -> Result<Read<'a>, ParseError>

@@ -6,17 +6,17 @@ ghost use Rattle.jsonc_scan.specs.Between.{Between, Reaches, HasAt, LacksAt, Non
 ghost use Rattle.jsonc_text.specs.Numbers.{Whole, Fraction, Exponent, Number};
 ghost use Rattle.jsonc_text.specs.Chars.{Steps};
 ghost use Rattle.jsonc_text.specs.OptionsOf.{parse_options};
-ghost use Rattle.jsonc_scan.specs.Reads.{HasName, IsRead, IsReadName, IsAfterSign, IsSignedName, IsUnsigned, NoFinite, NoFraction, NoNames, NoneAfterSign, NoNumber, NoUnsigned};
+ghost use Rattle.jsonc_scan.specs.Reads.{HasName, IsRead, IsReadName, IsAfterSign, IsSignedName, IsUnsigned, NoFinite, NoFraction, NoNames, NoneAfterSign, NoNumber, NoUnsigned, begins_number};
 ghost use Rattle.jsonc_scan.specs.Refusals.{IsTextFault, IsBarePoint};
-ghost use Rattle.jsonc_text.specs.Text.{Spans, AllOf, is_digit, is_hex_digit};
+ghost use Rattle.jsonc_text.specs.Text.{Spans, AllOf, rest, is_digit, is_hex_digit};
 ghost use Rattle.std.specs.Str.{IsAscii};
 
-use jsonc_text::chars::{digits_end, has_byte, hex_digits_end};
-use jsonc_text::errors::{ParseError, ParseErrorKind};
 use crate::faults::{fault, fault_at};
 use crate::lexeme::{Lexeme, Read};
-use jsonc_text::options::ParseOptions;
 use crate::word::keyword_end;
+use jsonc_text::chars::{digits_end, has_byte, hex_digits_end};
+use jsonc_text::errors::{ParseError, ParseErrorKind};
+use jsonc_text::options::ParseOptions;
 
 /// Whether one of two ASCII characters stands at a place.
 fn has_either(text: &str, place: usize, first: u8, second: u8) -> bool
@@ -293,6 +293,23 @@ pub(crate) fn number_end(
     }
     let kind = ParseErrorKind::UnaryPlusNumbersNotAllowed;
     Err(fault(text, start, start + 1, kind))
+}
+
+/// Whether a digit, a sign, or a point before a digit stands at a place.
+pub(crate) fn begins_number(text: &str, start: usize) -> bool
+    requires { IsCharBoundary text.now start }
+    ensures { result ≡ begins_number (rest text.now start) }
+{
+    if has_digit(text, start) {
+        return true;
+    }
+    if has_either(text, start, b'+', b'-') {
+        return true;
+    }
+    if !has_byte(text, start, b'.') {
+        return false;
+    }
+    has_digit(text, start + 1)
 }
 
 /// The number at a place, where a sign, a digit, or a point with a digit stands.

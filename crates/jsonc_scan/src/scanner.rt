@@ -2,7 +2,7 @@
 ghost use Rattle.std.specs.Prelude.{◌≡◌, ◌≢◌, ◌≤◌, IsCharBoundary, IfOk, IfErr, OnErr, None, option_map};
 
 use crate::lexeme::token_of;
-use crate::reads::read_lexeme;
+use crate::reads::read_at;
 use jsonc_text::chars::blanks_end;
 use jsonc_text::errors::{ParseError, ParseErrorKind};
 use jsonc_text::options::{ParseOptions, ScannerOptions};
@@ -86,7 +86,7 @@ impl<'a, A: Allocator> Scanner<'a, A> {
 
 impl<'a, A: Allocator + Copy> Scanner<'a, A> {
     ghost use Rattle.jsonc_text.specs.Faults.{IsFault, kind_of};
-    ghost use Rattle.jsonc_scan.specs.Scanner.{text_of, start_of, end_of, token_of, PassesBlanks, StandsAt};
+    ghost use Rattle.jsonc_scan.specs.Scanner.{text_of, start_of, end_of, token_of, PassesBlanks, StandsAt, NothingStands, GoesOn};
     ghost use Rattle.jsonc_text.specs.Tokens.{scanned_of};
 
     /// Moves to the next token, and answers it; or none at the end of the text.
@@ -96,6 +96,8 @@ impl<'a, A: Allocator + Copy> Scanner<'a, A> {
         ensures blanks { PassesBlanks self.old self.new }
         ensures found { IfOk result (StandsAt self.new) }
         ensures token { IfOk result (λ found. token_of self.new ≡ option_map scanned_of found) }
+        ensures nothing { IfErr result (λ _. NothingStands self.new) }
+        ensures begins { IfErr result (λ _. GoesOn self.new) }
         ensures fault { IfErr result (IsFault (text_of self.new)) }
         ensures no_memory { IfErr result (λ e. kind_of e ≢ ParseErrorKind.OutOfMemory) }
         ensures refused { OnErr result (token_of self.new ≡ token_of self.old) }
@@ -108,7 +110,7 @@ impl<'a, A: Allocator + Copy> Scanner<'a, A> {
             self.current_token = None;
             return Ok(None);
         }
-        let read = read_lexeme(self.file_text, start, &self.options)?;
+        let read = read_at(self.file_text, start, &self.options)?;
         self.byte_index = read.end;
         self.current_token = Some(token_of(read.lexeme));
         Ok(Some(token_of(read.lexeme)))

@@ -3,9 +3,8 @@ ghost use Rattle.std.specs.Prelude.{◌+◌, ◌<◌, IsCharBoundary, IfOk, IfEr
 ghost use Rattle.jsonc_scan.specs.Between.{IsClosed};
 ghost use Rattle.jsonc_text.specs.Chars.{Steps};
 ghost use Rattle.jsonc_text.specs.OptionsOf.{parse_options};
-ghost use Rattle.jsonc_scan.specs.Reads.{IsRead};
+ghost use Rattle.jsonc_scan.specs.Reads.{IsRead, IsOpenOrEscaped, NothingPlain, OpensString};
 ghost use Rattle.jsonc_scan.specs.Refusals.{IsTextFault};
-ghost use Rattle.jsonc_text.specs.Strings.{IsQuote};
 
 use crate::faults::fault;
 use crate::lexeme::{Lexeme, Read};
@@ -20,6 +19,7 @@ fn close_place(text: &str, start: usize, quote: u8) -> Result<usize, ParseError>
     requires quote { Steps text.now start quote (start + 1) }
     requires ascii { quote < 128 }
     ensures found { IfOk result (IsClosed quote text.now start) }
+    ensures none { IfErr result (λ _. IsOpenOrEscaped quote text.now (start + 1)) }
     ensures fault { IfErr result (IsTextFault text.now) }
 {
     let stop = stop_place(text, start + 1, quote, b'\\');
@@ -46,10 +46,9 @@ pub(crate) fn read_string<'a>(
     options: &ParseOptions,
 ) -> Result<Read<'a>, ParseError>
     requires boundary { IsCharBoundary text.now start }
-    requires quote { Steps text.now start quote (start + 1) }
-    requires ascii { quote < 128 }
-    requires allowed { IsQuote (parse_options options.now) quote }
+    requires quote { OpensString (parse_options options.now) text.now start quote }
     ensures found { IfOk result (IsRead (parse_options options.now) text.now start) }
+    ensures none { IfErr result (λ _. NothingPlain (parse_options options.now) text.now start) }
     ensures fault { IfErr result (IsTextFault text.now) }
 {
     let close = close_place(text, start, quote)?;

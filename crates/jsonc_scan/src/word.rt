@@ -10,10 +10,10 @@ ghost use Rattle.jsonc_text.specs.Text.{rest, next, Many};
 ghost use Rattle.jsonc_text.specs.Words.{goes_on, is_in_word, begins_word, EndsWord, Keyword, IsKeyword};
 ghost use Rattle.jsonc_text.specs.Faults.{kind_of};
 
-use jsonc_text::chars::char_at;
-use jsonc_text::errors::{ParseError, ParseErrorKind};
 use crate::faults::{fault, fault_at};
 use crate::lexeme::{Lexeme, Read};
+use jsonc_text::chars::char_at;
+use jsonc_text::errors::{ParseError, ParseErrorKind};
 use jsonc_text::options::ParseOptions;
 use unicode::properties::{GeneralCategory, GeneralCategoryGroup, is_alphabetic};
 
