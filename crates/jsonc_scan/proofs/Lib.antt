@@ -4,5 +4,6 @@ pub mod Decoding
 pub mod Escapes
 pub mod NoLexemes
 pub mod NoNumbers
+pub mod QuotedStrings
 pub mod Reading
 pub mod Words

@@ -11,12 +11,13 @@ use Rattle.jsonc_text.specs.Numbers.{Sign, Whole, Unsigned, Number}
 use Rattle.jsonc_text.specs.Strings.{IsString}
 use Rattle.jsonc_text.specs.Words.{Keyword, IsKeyword, begins_word}
 use Rattle.jsonc_scan.specs.Between.{Reaches, LacksAt, NoneFrom, IsWhole, is_neither}
-use Rattle.jsonc_scan.specs.Reads.{begins_number, IsOpenOrEscaped, NoNames, NoNameOrWord, NoQuoteFrom, NoWord, NothingAt, NothingPlain, OpensNoString, OpensString}
+use Rattle.jsonc_scan.specs.Reads.{begins_number, NoNames, NoNameOrWord, NoWord, NothingAt, OpensNoString, OpensString}
 use Rattle.jsonc_text.proofs.Basics.{clash, or_cases, or_left, or_right, and_both, heads, tails, no_both, no_starts, Apart}
 use Rattle.jsonc_text.proofs.Begins.{is_quote, begins_keyword, begins_plain_number, string_begins, number_begins, keyword_begins, word_begins, plain_number_word, quote_number, number_keyword, quote_keyword, quote_word}
 use Rattle.jsonc_text.proofs.Begins.{begins_number as begins_any_number}
 use Rattle.jsonc_text.proofs.UniqueGaps.{comment_begins}
-use Rattle.jsonc_scan.proofs.Reading.{neither_first}
+use Rattle.jsonc_scan.specs.Escapes.{NoQuoted}
+use Rattle.jsonc_scan.proofs.QuotedStrings.{quoted_of_string}
 
 never : IsTrue false → ⊥
 never h = cc
@@ -188,50 +189,18 @@ allowed_quote : (q : ℕ) (b : Bool) → IsTrue (q == 0x22 || (q == 0x27 && b)) 
 allowed_quote q true h = grind arith
 allowed_quote q false h = grind arith
 
-no_closing : (o : Options) (bytes : List ℕ) (i q : ℕ) {v r : List ℕ} → Steps bytes i q (i + 1) → NoQuoteFrom q bytes (i + 1) → IsString o (rest bytes i) v r → ⊥
-no_closing o bytes i q {r = r} h n (x, s, a, e, d) =
-    let both : q ∷ rest bytes (i + 1) ≡ x ∷ (s ++ x ∷ r) = sym h.0 ∙ e in
-    let same : x ≡ q = sym (heads both) in
-    n s r (rw same at (tails both))
-
-open_nothing : (o : Options) (bytes : List ℕ) (i q : ℕ) → OpensString o bytes i q → NoQuoteFrom q bytes (i + 1) → NothingAt o bytes i
-open_nothing o bytes i q h n =
+-- where no string with that quote stands
+pub string_nothing : (o : Options) (bytes : List ℕ) (i q : ℕ) → OpensString o bytes i q → NoQuoted o.extended_escapes q bytes i → NothingAt o bytes i
+string_nothing o bytes i q h n =
     let t = rest bytes i in
     let f : IsTrue (starts is_quote (next t)) = rw h.here.0 (allowed_quote q o.single_quoted_strings h.allowed) in
     nothing
     o
     bytes
     i
-    (λ v r x. no_closing o bytes i q h.here n x)
+    (λ v r x. n v r (quoted_of_string o h.here.0 x))
     (λ r x. no_both is_quote begins_any_number quote_number (next t) f (number_begins x))
     (λ s r x. no_both is_quote begins_word quote_word (next t) f (word_begins r x.0 x.1))
     (λ k r x. no_both is_quote begins_keyword quote_keyword (next t) f (keyword_begins k r x))
     (apart_no is_quote is_punctuation quote_punctuation (next t) f)
     (λ r x. no_both is_quote (λ c. c == 0x2F) quote_slash (next t) f (comment_begins x))
-
--- where a string is not closed, or holds a backslash
-pub string_nothing : (o : Options) (bytes : List ℕ) (i q : ℕ) → OpensString o bytes i q → IsOpenOrEscaped q bytes (i + 1) → NothingPlain o bytes i
-string_nothing o bytes i q h (inl n) = inl (open_nothing o bytes i q h n)
-string_nothing o bytes i q h (inr b) = inr (q, h, b)
-
--- after all characters but a quote and a backslash
-all_passed : (q : ℕ) (t : List ℕ) → IsTrue (no (is_neither q 0x5C) (next t)) → IsTrue (no (λ c. c == q) (next t)) → IsTrue (no (λ c. c == 0x5C) (next t)) → t ≡ []
-all_passed q [] n a b = refl
-all_passed q (c ∷ t) n a b = absurd (all (c == q) (c == 0x5C) n a b)
-  where
-    all : (x y : Bool) → IsTrue (not (not (x || y))) → IsTrue (not x) → IsTrue (not y) → ⊥
-    all true y n a b = never a
-    all false true n a b = never b
-    all false false n a b = never n
-
-passes_each : (p : ℕ → Bool) (s r : List ℕ) (q : ℕ) {t u : List ℕ} → Many p t u → u ≡ [] → t ≡ s ++ q ∷ r → IsTrue (p q)
-passes_each p [] r q stop z e = let both : [] ≡ q ∷ r = sym z ∙ e in cc
-passes_each p [] r q (step h m) z e = rw (heads e) at h
-passes_each p (d ∷ s) r q stop z e = let both : [] ≡ d ∷ (s ++ q ∷ r) = sym z ∙ e in cc
-passes_each p (d ∷ s) r q (step h m) z e = passes_each p s r q m z (tails e)
-
-pub not_closed : (q : ℕ) (bytes : List ℕ) (i j : ℕ) (found : Bool) → Reaches (Many (is_neither q 0x5C)) bytes i j → LacksAt (is_neither q 0x5C) bytes j → LacksAt (λ c. c == q) bytes j → (IsTrue found → Steps bytes j 0x5C (j + 1)) → (found ≡ false → LacksAt (λ c. c == 0x5C) bytes j) → IsOpenOrEscaped q bytes i
-not_closed q bytes i j true m n a here other = inr (rest bytes (j + 1), rw (here refl).0 at m.piece)
-not_closed q bytes i j false m n a here other =
-    let z : rest bytes j ≡ [] = all_passed q (rest bytes j) n a (other refl) in
-    inl (λ s r e. neither_first q q 0x5C (passes_each (is_neither q 0x5C) s r q m.piece z e) refl)

@@ -1,7 +1,7 @@
 -- Escapes, and strings in their quotes, by the places where they stand.
 use Rattle.std.specs.Prelude.{ℕ, ◌+◌, ◌≡◌, ◌≢◌, ◌≤◌, ◌<◌, ◌↔◌, Bool, true, false, List, [], ◌∷◌, ◌++◌, Option, Some, None, IsCharBoundary, slice_range, ◌-◌}
 use Rattle.std.specs.declared.borrow.CowStr.{CowStr}
-use Rattle.std.specs.Cow.{cow_str_bytes, IsBorrowedStr}
+use Rattle.std.specs.Cow.{cow_str_bytes, IsBorrowedStr, IsOwnedStr}
 use Rattle.jsonc_scan.specs.declared.escape.Escape.{Escape}
 use Rattle.jsonc_scan.specs.declared.escape.Meaning.{Meaning as Read}
 use Rattle.jsonc_scan.specs.declared.escape.Meaning.TheVariants as read
@@ -94,7 +94,7 @@ pub record IsStringRefusal (bytes : List ℕ) (start : ℕ) (fault : StringFault
   pub order : start ≤ fault.range.start
 
 module _ {A : Type 0} where
-  -- the string that stands from one place to another is lent by its text exactly where no backslash is in it, and is then what stands between its quotes
+  -- the string that stands from one place to another is copied exactly where a backslash is in it; else it is what stands between its quotes, lent by the text
   pub record IsLentUnescaped (bytes : List ℕ) (start end : ℕ) (s : CowStr A) : Type 0 where
-    pub lent : IsBorrowedStr s ↔ (HoldsBackslash bytes start end → ⊥)
+    pub copied : IsOwnedStr s ↔ HoldsBackslash bytes start end
     pub slice : IsBorrowedStr s → cow_str_bytes s ≡ slice_range bytes (start + 1) (end - 1)

@@ -1,8 +1,11 @@
 -- What a lexeme stands for, and where it was read.
 use Rattle.std.specs.Prelude.{ℕ, ◌+◌, ◌≡◌, ◌<◌, Bool, true, false, List, [], ◌∷◌, chars, codes, ◌++◌, IsTrue, ◌==◌, ◌||◌, ◌&&◌, ◌⊎◌}
 use Rattle.jsonc_scan.specs.declared.lexeme.Lexeme.{Lexeme}
-use Rattle.jsonc_scan.specs.declared.lexeme.Lexeme.TheVariants.{OpenBrace, CloseBrace, OpenBracket, CloseBracket, Comma, Colon, String, Word, Boolean, Number, Null, CommentLine, CommentBlock}
+use Rattle.jsonc_scan.specs.declared.lexeme.Lexeme.TheVariants.{OpenBrace, CloseBrace, OpenBracket, CloseBracket, Comma, Colon, Word, Boolean, Number, Null, CommentLine, CommentBlock}
 use Rattle.jsonc_scan.specs.declared.lexeme.Read.{Read}
+use Rattle.jsonc_scan.specs.declared.string.StringRead.{StringRead}
+use Rattle.jsonc_scan.specs.Escapes.{IsLentUnescaped}
+use Rattle.std.specs.Cow.{cow_str_bytes}
 use Rattle.jsonc_text.specs.Options.{Options}
 use Rattle.jsonc_text.specs.Lexemes.{Scanned, lexeme, line_comment, block_comment, punctuation, string, word, number, keyword, is_punctuation, Lexeme as IsLexeme, IsScanned}
 use Rattle.jsonc_text.specs.Words.{boolean, null}
@@ -12,7 +15,7 @@ use Rattle.jsonc_text.specs.Strings.{IsQuote}
 use Rattle.jsonc_text.specs.Numbers.{Fraction, Unsigned, Number as IsNumber}
 use Rattle.jsonc_text.specs.Text.{rest, next, starts, Many, is_digit}
 
--- a string without escapes stands for its text
+-- the token that a lexeme is
 abbrev pub what_of : Lexeme → Scanned
 what_of OpenBrace = lexeme (punctuation 0x7B)
 what_of CloseBrace = lexeme (punctuation 0x7D)
@@ -20,7 +23,6 @@ what_of OpenBracket = lexeme (punctuation 0x5B)
 what_of CloseBracket = lexeme (punctuation 0x5D)
 what_of Comma = lexeme (punctuation 0x2C)
 what_of Colon = lexeme (punctuation 0x3A)
-what_of (String s) = lexeme (string (chars s.now))
 what_of (Word s) = lexeme (word (chars s.now))
 what_of (Boolean b) = lexeme (keyword (boolean b))
 what_of (Number s) = lexeme (number (chars s.now))
@@ -114,22 +116,9 @@ pub record OpensString (o : Options) (bytes : List ℕ) (start quote : ℕ) : Ty
 abbrev pub OpensNoString : Options → List ℕ → ℕ → Type 0
 OpensNoString o bytes start = LacksAt (λ c. c == 0x22 || (c == 0x27 && o.single_quoted_strings)) bytes start
 
--- no quote q stands from a place on
-abbrev pub NoQuoteFrom : ℕ → List ℕ → ℕ → Type 0
-NoQuoteFrom q bytes start = (s r : List ℕ) → rest bytes start ≡ s ++ q ∷ r → ⊥
-
--- a backslash stands from a place on before the first quote q
-abbrev pub HasBackslash : ℕ → List ℕ → ℕ → Type 0
-HasBackslash q bytes start = (r : List ℕ) × Many (is_neither q 0x5C) (rest bytes start) (0x5C ∷ r)
-
--- a string is not closed, or holds a backslash; its inside begins at a place
-abbrev pub IsOpenOrEscaped : ℕ → List ℕ → ℕ → Type 0
-IsOpenOrEscaped q bytes start = NoQuoteFrom q bytes start ⊎ HasBackslash q bytes start
-
--- a quote stands at a place, and after it a backslash before the next such quote
-abbrev pub BeginsEscaped : Options → List ℕ → ℕ → Type 0
-BeginsEscaped o bytes start = (q : ℕ) × OpensString o bytes start q × HasBackslash q bytes (start + 1)
-
--- no lexeme and no comment stands at a place, unless it is a string that holds a backslash
-abbrev pub NothingPlain : Options → List ℕ → ℕ → Type 0
-NothingPlain o bytes start = NothingAt o bytes start ⊎ BeginsEscaped o bytes start
+module _ {A : Type 0} where
+  -- the string stands at a place, ends where it was read to, and was given away as it was kept
+  pub record IsStringRead (o : Options) (bytes : List ℕ) (start : ℕ) (read : StringRead A) : Type 0 where
+    pub stands : Between (IsScanned o (lexeme (string (chars (cow_str_bytes read.given))))) bytes start read.end
+    pub lent : IsLentUnescaped bytes start read.end read.given
+    pub same : cow_str_bytes read.kept ≡ cow_str_bytes read.given

@@ -3,7 +3,7 @@ ghost use Rattle.std.specs.Prelude.{IsCharBoundary, IfOk, IfErr, IfSome, IfNone}
 ghost use Rattle.jsonc_scan.specs.Between.{LacksAt, NoneFrom};
 ghost use Rattle.jsonc_text.specs.Lexemes.{is_punctuation};
 ghost use Rattle.jsonc_text.specs.OptionsOf.{parse_options};
-ghost use Rattle.jsonc_scan.specs.Reads.{IsRead, IsReadAnyhow, NoNameOrWord, NothingAt, NothingPlain, OpensNoString, OpensString};
+ghost use Rattle.jsonc_scan.specs.Reads.{IsRead, IsReadAnyhow, NoNameOrWord, NothingAt, OpensNoString, OpensString};
 ghost use Rattle.jsonc_scan.specs.Refusals.{IsTextFault};
 ghost use Rattle.jsonc_text.specs.Words.{Keyword, IsKeyword};
 
@@ -11,28 +11,10 @@ use crate::comment::read_comment;
 use crate::faults::fault;
 use crate::lexeme::{Read, punctuation};
 use crate::number::{begins_number, read_name, read_number};
-use crate::string::read_string;
 use crate::word::{read_keyword, read_word};
 use jsonc_text::chars::has_byte;
 use jsonc_text::errors::{ParseError, ParseErrorKind};
 use jsonc_text::options::ParseOptions;
-
-/// The lexeme or comment at a place.
-pub(crate) fn read_at<'a>(
-    text: &'a str,
-    start: usize,
-    options: &ParseOptions,
-) -> Result<Read<'a>, ParseError>
-    requires { IsCharBoundary text.now start }
-    ensures found { IfOk result (IsRead (parse_options options.now) text.now start) }
-    ensures none { IfErr result (λ _. NothingPlain (parse_options options.now) text.now start) }
-    ensures fault { IfErr result (IsTextFault text.now) }
-{
-    match quote_at(text, start, options) {
-        Some(quote) => read_string(text, start, quote, options),
-        None => read_lexeme(text, start, options),
-    }
-}
 
 /// The quote that opens a string at a place, or none.
 pub(crate) fn quote_at(text: &str, start: usize, options: &ParseOptions) -> Option<u8>

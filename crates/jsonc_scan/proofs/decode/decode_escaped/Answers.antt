@@ -27,3 +27,11 @@ returns-then-not-has_byte-clause-none g c = λ k.
 pub returns-clause-found : goal.returns-clause-found
 returns-clause-found g c =
     quoted_copy _ _ _ _ _ _ _ _ _ c.utf8.text c.requires.opens c.loop-escape.invariant.decoding c.range-2.ensures.value c.in-Ok-append-2.ensures (c.if-not-has_byte.ensures.here refl)
+
+pub returns-clause-lent : goal.returns-clause-lent
+returns-clause-lent g c =
+    let d = c.loop-escape.invariant in
+    record {
+      copied = (λ b. record { place = c.args.first_stop; boundary = c.requires.run.boundary; after = omega (arith, c.requires.run.order); before = omega (arith, d.past); backslash = c.requires.backslash }, λ h. tt);
+      slice = λ b. absurd b;
+    }

@@ -7,7 +7,7 @@ returns-then-has_byte-clause-found g c = quoted_run _ _ _ _ _ _ c.utf8.text c.re
 
 pub returns-then-has_byte-clause-lent : goal.returns-then-has_byte-clause-lent
 returns-then-has_byte-clause-lent g c = record {
-  lent = (λ b. run_holds_none _ _ _ _ c.utf8.text c.requires.quote c.requires.opens c.stop_place-stop.ensures.passed (c.if-has_byte.ensures.here refl), λ f. tt);
+  copied = (λ b. absurd b, λ h. absurd (run_holds_none _ _ _ _ c.utf8.text c.requires.quote c.requires.opens c.stop_place-stop.ensures.passed (c.if-has_byte.ensures.here refl) h));
   slice = λ b. before_quote c.args.text.now _ (c.args.literal.start + 1) c.stop_place-stop.result c.range.ensures.value;
 }
 
