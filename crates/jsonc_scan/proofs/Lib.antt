@@ -1,5 +1,9 @@
 pub mod Between
 pub mod ByteRuns
+pub mod Decoding
+pub mod Escapes
+pub mod NoLexemes
 pub mod NoNumbers
+pub mod QuotedStrings
 pub mod Reading
 pub mod Words

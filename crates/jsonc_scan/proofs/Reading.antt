@@ -3,7 +3,7 @@ use Rattle.std.proofs.Common.{inl, inr, ℕ, ◌+◌, ◌<◌, ◌≡◌, ◌≢
 use Rattle.jsonc_text.specs.Options.{Options}
 use Rattle.jsonc_text.specs.Text.{rest, next, no, starts, Many, step, Spans, is_digit, is_ascii_letter}
 use Rattle.jsonc_text.specs.Chars.{Steps}
-use Rattle.jsonc_scan.specs.Between.{Between, Reaches, LacksAt, IsWhole, PassesWord, is_neither, IsClosed, HoldsBlock, NoneFrom}
+use Rattle.jsonc_scan.specs.Between.{Between, Reaches, LacksAt, IsWhole, PassesWord, is_neither, HoldsBlock, NoneFrom}
 use Rattle.jsonc_text.specs.Gaps.{line, block, UpToBlockEnd, IsComment}
 use Rattle.jsonc_text.specs.Letters.{is_wide_letter}
 use Rattle.jsonc_text.specs.Lexemes.{IsScanned, lexeme, line_comment, block_comment, punctuation, string, word, number, is_punctuation}
@@ -112,26 +112,6 @@ pub word_read : (o : Options) (bytes w : List ℕ) (i j : ℕ) → IsUtf8 bytes 
 word_read o bytes w i j u b e no_keyword no_infinity no_nan n =
     let here = slice_here bytes w i j u (spans_of bytes i j b n) e in
     record { boundary = n.boundary; order = n.order; piece = (here, word_stands o (rest bytes i) (chars w) (rest bytes j) here n.piece no_keyword no_infinity no_nan) }
-
--- characters that are neither the quote nor a backslash stand for themselves
-neither_first : (c a b : ℕ) → IsTrue (is_neither a b c) → c ≢ a
-neither_first c a b h e = let z : IsTrue (is_neither a b a) = rw e at h in grind arith
-
-neither_second : (c a b : ℕ) → IsTrue (is_neither a b c) → c ≢ b
-neither_second c a b h e = let z : IsTrue (is_neither a b b) = rw e at h in grind arith
-
-plain_pieces : (o : Options) (q : ℕ) (s x : List ℕ) → Many (is_neither q 0x5C) s [] → Pieces o q (s ++ x) s x
-plain_pieces o q [] x m = done
-plain_pieces o q (c ∷ s) x (step h m) = piece (itself (neither_first c q 0x5C h) (neither_second c q 0x5C h)) (plain_pieces o q s x m) refl
-
-pub string_read : (o : Options) (q : ℕ) (bytes w : List ℕ) (i j : ℕ) → IsUtf8 bytes → Steps bytes i q (i + 1) → IsQuote o q → w ≡ slice_range bytes (i + 1) j → IsClosed q bytes i j → Between (IsScanned o (lexeme (string (chars w)))) bytes i (j + 1)
-string_read o q bytes w i j u s a e n =
-    let spans : Spans bytes (i + 1) j = record { from = s.1; to = n.boundary; order = omega (arith, n.order) } in
-    let here = slice_here bytes w (i + 1) j u spans e in
-    let all = many_split (is_neither q 0x5C) n.plain in
-    let same : all.0 ≡ chars w = front_same refl (sym all.1 ∙ here) in
-    let text : rest bytes i ≡ (q ∷ chars w) ++ q ∷ rest bytes (j + 1) = s.0 ∙ ap (λ t. q ∷ t) (here ∙ ap (λ t. chars w ++ t) n.quote.0) in
-    record { boundary = n.quote.1; order = omega (arith, n.order); piece = (q, chars w, a, text, plain_pieces o q (chars w) (q ∷ []) (rw same at all.2)) }
 
 pub line_read : (o : Options) (bytes w : List ℕ) (i j : ℕ) → IsUtf8 bytes → Steps bytes i 0x2F (i + 1) → Steps bytes (i + 1) 0x2F (i + 1 + 1) → Reaches (Many (is_neither 0x0A 0x0D)) bytes (i + 2) j → LacksAt (is_neither 0x0A 0x0D) bytes j → w ≡ slice_range bytes (i + 2) j → Between (IsScanned o (line_comment (chars w))) bytes i j
 line_read o bytes w i j u s d m n e =

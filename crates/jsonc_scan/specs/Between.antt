@@ -55,13 +55,6 @@ may_follow_word c = c == 0x3A || c == 0x20 || c == 0x09 || c == 0x0A || c == 0x0
 abbrev pub is_neither : ℕ → ℕ → ℕ → Bool
 is_neither a b c = not (c == a || c == b)
 
--- a string in the quotes q without a backslash begins at a place, and its closing quote stands at another
-pub record IsClosed (q : ℕ) (bytes : List ℕ) (start close : ℕ) : Type 0 where
-  pub boundary : IsCharBoundary bytes close
-  pub order : start < close
-  pub plain : Many (is_neither q 0x5C) (rest bytes (start + 1)) (rest bytes close)
-  pub quote : Steps bytes close q (close + 1)
-
 -- the text of a block comment begins at a place, and its `*/` stands at another
 pub record HoldsBlock (bytes : List ℕ) (start close : ℕ) : Type 0 where
   pub boundary : IsCharBoundary bytes close

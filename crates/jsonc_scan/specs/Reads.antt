@@ -1,16 +1,21 @@
 -- What a lexeme stands for, and where it was read.
-use Rattle.std.specs.Prelude.{ℕ, ◌≡◌, Bool, true, List, chars, codes, IsTrue, ◌==◌, ◌||◌}
+use Rattle.std.specs.Prelude.{ℕ, ◌+◌, ◌≡◌, ◌<◌, Bool, true, false, List, [], ◌∷◌, chars, codes, ◌++◌, IsTrue, ◌==◌, ◌||◌, ◌&&◌, ◌⊎◌}
 use Rattle.jsonc_scan.specs.declared.lexeme.Lexeme.{Lexeme}
-use Rattle.jsonc_scan.specs.declared.lexeme.Lexeme.TheVariants.{OpenBrace, CloseBrace, OpenBracket, CloseBracket, Comma, Colon, String, Word, Boolean, Number, Null, CommentLine, CommentBlock}
+use Rattle.jsonc_scan.specs.declared.lexeme.Lexeme.TheVariants.{OpenBrace, CloseBrace, OpenBracket, CloseBracket, Comma, Colon, Word, Boolean, Number, Null, CommentLine, CommentBlock}
 use Rattle.jsonc_scan.specs.declared.lexeme.Read.{Read}
+use Rattle.jsonc_scan.specs.declared.string.StringRead.{StringRead}
+use Rattle.jsonc_scan.specs.Escapes.{IsLentUnescaped}
+use Rattle.std.specs.Cow.{cow_str_bytes}
 use Rattle.jsonc_text.specs.Options.{Options}
 use Rattle.jsonc_text.specs.Lexemes.{Scanned, lexeme, line_comment, block_comment, punctuation, string, word, number, keyword, is_punctuation, Lexeme as IsLexeme, IsScanned}
 use Rattle.jsonc_text.specs.Words.{boolean, null}
-use Rattle.jsonc_scan.specs.Between.{Between, NoneFrom, IsWhole, IsAlone}
+use Rattle.jsonc_scan.specs.Between.{Between, NoneFrom, LacksAt, IsWhole, IsAlone, is_neither}
+use Rattle.jsonc_text.specs.Chars.{Steps}
+use Rattle.jsonc_text.specs.Strings.{IsQuote}
 use Rattle.jsonc_text.specs.Numbers.{Fraction, Unsigned, Number as IsNumber}
-use Rattle.jsonc_text.specs.Text.{rest, next, starts}
+use Rattle.jsonc_text.specs.Text.{rest, next, starts, Many, is_digit}
 
--- a string without escapes stands for its text
+-- the token that a lexeme is
 abbrev pub what_of : Lexeme → Scanned
 what_of OpenBrace = lexeme (punctuation 0x7B)
 what_of CloseBrace = lexeme (punctuation 0x7D)
@@ -18,7 +23,6 @@ what_of OpenBracket = lexeme (punctuation 0x5B)
 what_of CloseBracket = lexeme (punctuation 0x5D)
 what_of Comma = lexeme (punctuation 0x2C)
 what_of Colon = lexeme (punctuation 0x3A)
-what_of (String s) = lexeme (string (chars s.now))
 what_of (Word s) = lexeme (word (chars s.now))
 what_of (Boolean b) = lexeme (keyword (boolean b))
 what_of (Number s) = lexeme (number (chars s.now))
@@ -88,3 +92,33 @@ NoFinite o bytes start = NoNames bytes start → NoUnsigned o bytes start
 -- no number stands at a place, unless a name does
 abbrev pub NoNumber : Options → List ℕ → ℕ → Type 0
 NoNumber o bytes start = NoNames bytes start → NoneFrom (IsNumber o) bytes start
+
+-- t begins with a digit or a sign, or with a point before a digit: with these begins a number that is no name
+abbrev pub begins_number : List ℕ → Bool
+begins_number [] = false
+begins_number (c ∷ t) = is_digit c || c == 0x2B || c == 0x2D || (c == 0x2E && starts is_digit (next t))
+
+-- neither a word nor a number that is a name stands at a place
+abbrev pub NoNameOrWord : Options → List ℕ → ℕ → Type 0
+NoNameOrWord o bytes start = NoName o bytes start × NoWord o bytes start
+
+-- no lexeme and no comment stands at a place
+abbrev pub NothingAt : Options → List ℕ → ℕ → Type 0
+NothingAt o bytes start = (what : Scanned) → NoneFrom (IsScanned o what) bytes start
+
+-- a quote that opens a string stands at a place
+pub record OpensString (o : Options) (bytes : List ℕ) (start quote : ℕ) : Type 0 where
+  pub allowed : IsQuote o quote
+  pub ascii : quote < 128
+  pub here : Steps bytes start quote (start + 1)
+
+-- none does
+abbrev pub OpensNoString : Options → List ℕ → ℕ → Type 0
+OpensNoString o bytes start = LacksAt (λ c. c == 0x22 || (c == 0x27 && o.single_quoted_strings)) bytes start
+
+module _ {A : Type 0} where
+  -- the string stands at a place, ends where it was read to, and was given away as it was kept
+  pub record IsStringRead (o : Options) (bytes : List ℕ) (start : ℕ) (read : StringRead A) : Type 0 where
+    pub stands : Between (IsScanned o (lexeme (string (chars (cow_str_bytes read.given))))) bytes start read.end
+    pub lent : IsLentUnescaped bytes start read.end read.given
+    pub same : cow_str_bytes read.kept ≡ cow_str_bytes read.given

@@ -1,13 +1,16 @@
 -- What a scanner has before it.
-use Rattle.std.specs.Prelude.{ℕ, ◌≡◌, ◌≤◌, ◌<◌, List, Option, Some, None, option_map, length}
+use Rattle.std.specs.Prelude.{ℕ, ◌≡◌, ◌≤◌, ◌<◌, List, Option, Some, None, option_map, length, IsTrue}
 use Rattle.jsonc_scan.specs.declared.scanner.Scanner.{Scanner}
 use Rattle.jsonc_text.specs.declared.tokens.Token.{Token}
 use Rattle.jsonc_text.specs.Options.{Options}
 use Rattle.jsonc_text.specs.OptionsOf.{parse_options}
-use Rattle.jsonc_text.specs.Text.{rest, Many}
+use Rattle.jsonc_text.specs.Text.{rest, next, no, Many}
 use Rattle.jsonc_text.specs.Gaps.{is_blank}
 use Rattle.jsonc_text.specs.Lexemes.{Scanned, IsScanned}
 use Rattle.jsonc_text.specs.Tokens.{scanned_of}
+use Rattle.jsonc_scan.specs.Reads.{NothingAt}
+use Rattle.jsonc_scan.specs.Escapes.{IsLentUnescaped, HoldsBackslash}
+use Rattle.jsonc_text.specs.declared.tokens.Token.TheVariants.{String}
 
 module _ {A : Type 0} where
   -- the bytes of the whole text
@@ -44,3 +47,21 @@ module _ {A : Type 0} where
   abbrev pub StandsAt : Scanner A → Option (Token A) → Type 0
   StandsAt s None = (start_of s ≡ length (text_of s)) × (end_of s ≡ length (text_of s))
   StandsAt s (Some t) = (start_of s < end_of s) × IsScanned (options_of s) (scanned_of t) (rest (text_of s) (start_of s)) (left s)
+
+  -- no token stands where the scanner's token would begin
+  abbrev pub NothingStands : Scanner A → Type 0
+  NothingStands s = NothingAt (options_of s) (text_of s) (start_of s)
+
+  -- a string token is lent by the text exactly where its literal holds no backslash
+  abbrev pub IsLent : Scanner A → Option (Token A) → Type 0
+  IsLent s (Some (String v)) = IsLentUnescaped (text_of s) (start_of s) (end_of s) v
+  IsLent s _ = Unit {0}
+
+  -- a backslash stands after the place where the scanner's token would begin
+  abbrev pub HoldsEscape : Scanner A → Type 0
+  HoldsEscape s = HoldsBackslash (text_of s) (start_of s) (length (text_of s))
+
+  -- the text goes on where the scanner's token would begin, and not with a blank
+  pub record GoesOn (s : Scanner A) : Type 0 where
+    pub inside : start_of s < length (text_of s)
+    pub no_blank : IsTrue (no is_blank (next (rest (text_of s) (start_of s))))

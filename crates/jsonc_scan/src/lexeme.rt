@@ -6,9 +6,8 @@ ghost use Rattle.jsonc_text.specs.Tokens.{scanned_of};
 
 use jsonc_text::tokens::Token;
 use std::alloc::Allocator;
-use std::borrow::CowStr;
 
-/// A token that takes no memory.
+/// A token that is no string: it takes no memory.
 #[derive(Clone, Copy)]
 pub(crate) enum Lexeme<'a> {
     OpenBrace,
@@ -17,7 +16,6 @@ pub(crate) enum Lexeme<'a> {
     CloseBracket,
     Comma,
     Colon,
-    String(&'a str),
     Word(&'a str),
     Boolean(bool),
     Number(&'a str),
@@ -44,7 +42,6 @@ pub(crate) fn token_of<'a, A: Allocator>(lexeme: Lexeme<'a>) -> Token<'a, A>
         Lexeme::CloseBracket => Token::CloseBracket,
         Lexeme::Comma => Token::Comma,
         Lexeme::Colon => Token::Colon,
-        Lexeme::String(s) => Token::String(CowStr::Borrowed(s)),
         Lexeme::Word(s) => Token::Word(s),
         Lexeme::Boolean(b) => Token::Boolean(b),
         Lexeme::Number(s) => Token::Number(s),

@@ -4,6 +4,8 @@
 #![tactic(auto)]
 
 mod comment;
+mod decode;
+mod escape;
 mod faults;
 mod lexeme;
 mod number;

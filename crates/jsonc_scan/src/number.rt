@@ -6,9 +6,9 @@ ghost use Rattle.jsonc_scan.specs.Between.{Between, Reaches, HasAt, LacksAt, Non
 ghost use Rattle.jsonc_text.specs.Numbers.{Whole, Fraction, Exponent, Number};
 ghost use Rattle.jsonc_text.specs.Chars.{Steps};
 ghost use Rattle.jsonc_text.specs.OptionsOf.{parse_options};
-ghost use Rattle.jsonc_scan.specs.Reads.{HasName, IsRead, IsReadName, IsAfterSign, IsSignedName, IsUnsigned, NoFinite, NoFraction, NoNames, NoneAfterSign, NoNumber, NoUnsigned};
+ghost use Rattle.jsonc_scan.specs.Reads.{HasName, IsRead, IsReadName, IsAfterSign, IsSignedName, IsUnsigned, NoFinite, NoFraction, NoNames, NoneAfterSign, NoNumber, NoUnsigned, begins_number};
 ghost use Rattle.jsonc_scan.specs.Refusals.{IsTextFault, IsBarePoint};
-ghost use Rattle.jsonc_text.specs.Text.{Spans, AllOf, is_digit, is_hex_digit};
+ghost use Rattle.jsonc_text.specs.Text.{Spans, AllOf, rest, is_digit, is_hex_digit};
 ghost use Rattle.std.specs.Str.{IsAscii};
 
 use crate::faults::{fault, fault_at};
@@ -293,6 +293,23 @@ pub(crate) fn number_end(
     }
     let kind = ParseErrorKind::UnaryPlusNumbersNotAllowed;
     Err(fault(text, start, start + 1, kind))
+}
+
+/// Whether a digit, a sign, or a point before a digit stands at a place.
+pub(crate) fn begins_number(text: &str, start: usize) -> bool
+    requires { IsCharBoundary text.now start }
+    ensures { result ≡ begins_number (rest text.now start) }
+{
+    if has_digit(text, start) {
+        return true;
+    }
+    if has_either(text, start, b'+', b'-') {
+        return true;
+    }
+    if !has_byte(text, start, b'.') {
+        return false;
+    }
+    has_digit(text, start + 1)
 }
 
 /// The number at a place, where a sign, a digit, or a point with a digit stands.

@@ -3,35 +3,51 @@ ghost use Rattle.std.specs.Prelude.{IsCharBoundary, IfOk, IfErr, IfSome, IfNone}
 ghost use Rattle.jsonc_scan.specs.Between.{LacksAt, NoneFrom};
 ghost use Rattle.jsonc_text.specs.Lexemes.{is_punctuation};
 ghost use Rattle.jsonc_text.specs.OptionsOf.{parse_options};
-ghost use Rattle.jsonc_scan.specs.Reads.{IsRead, IsReadAnyhow};
+ghost use Rattle.jsonc_scan.specs.Reads.{IsRead, IsReadAnyhow, NoNameOrWord, NothingAt, OpensNoString, OpensString};
 ghost use Rattle.jsonc_scan.specs.Refusals.{IsTextFault};
 ghost use Rattle.jsonc_text.specs.Words.{Keyword, IsKeyword};
 
 use crate::comment::read_comment;
 use crate::faults::fault;
 use crate::lexeme::{Read, punctuation};
-use crate::number::{read_name, read_number};
-use crate::string::read_string;
+use crate::number::{begins_number, read_name, read_number};
 use crate::word::{read_keyword, read_word};
 use jsonc_text::chars::has_byte;
 use jsonc_text::errors::{ParseError, ParseErrorKind};
 use jsonc_text::options::ParseOptions;
 
-/// The lexeme or comment at a place before the end of the text.
+/// The quote that opens a string at a place, or none.
+pub(crate) fn quote_at(text: &str, start: usize, options: &ParseOptions) -> Option<u8>
+    requires { IsCharBoundary text.now start }
+    ensures found { IfSome result (OpensString (parse_options options.now) text.now start) }
+    ensures none { IfNone result (OpensNoString (parse_options options.now) text.now start) }
+{
+    if has_byte(text, start, b'"') {
+        return Some(b'"');
+    }
+    if !options.allow_single_quoted_strings {
+        return None;
+    }
+    if has_byte(text, start, b'\'') {
+        return Some(b'\'');
+    }
+    None
+}
+
+/// The lexeme or comment at a place where no string begins.
 pub(crate) fn read_lexeme<'a>(
     text: &'a str,
     start: usize,
     options: &ParseOptions,
 ) -> Result<Read<'a>, ParseError>
-    requires { IsCharBoundary text.now start }
+    requires boundary { IsCharBoundary text.now start }
+    requires quote { OpensNoString (parse_options options.now) text.now start }
     ensures found { IfOk result (IsRead (parse_options options.now) text.now start) }
+    ensures none { IfErr result (λ _. NothingAt (parse_options options.now) text.now start) }
     ensures fault { IfErr result (IsTextFault text.now) }
 {
     if let Some(read) = read_punctuation(text, start) {
         return Ok(read);
-    }
-    if has_byte(text, start, b'"') {
-        return read_string(text, start, b'"', options);
     }
     if has_byte(text, start, b'/') {
         return read_comment(text, start);
@@ -40,9 +56,6 @@ pub(crate) fn read_lexeme<'a>(
         return read_number(text, start, options);
     }
     if has_byte(text, start, b'\'') {
-        if options.allow_single_quoted_strings {
-            return read_string(text, start, b'\'', options);
-        }
         let kind = ParseErrorKind::SingleQuotedStringsNotAllowed;
         return Err(fault(text, start, start + 1, kind));
     }
@@ -71,21 +84,6 @@ fn read_punctuation<'a>(text: &'a str, start: usize) -> Option<Read<'a>>
     })
 }
 
-/// Whether a number begins at a place.
-fn begins_number(text: &str, start: usize) -> bool
-    requires { IsCharBoundary text.now start }
-{
-    let bytes = text.as_bytes();
-    if start >= bytes.len() {
-        return false;
-    }
-    let byte = bytes[start];
-    if byte.is_ascii_digit() | (byte == b'-') | (byte == b'+') {
-        return true;
-    }
-    byte == b'.' && bytes.len() - start > 1 && bytes[start + 1].is_ascii_digit()
-}
-
 /// `Infinity` or `NaN` where these are numbers, else the word, at a place where no keyword stands.
 fn read_name_or_word<'a>(
     text: &'a str,
@@ -95,6 +93,7 @@ fn read_name_or_word<'a>(
     requires boundary { IsCharBoundary text.now start }
     requires keyword { (k : Keyword) → NoneFrom (IsKeyword k) text.now start }
     ensures found { IfOk result (IsRead (parse_options options.now) text.now start) }
+    ensures none { IfErr result (λ _. NoNameOrWord (parse_options options.now) text.now start) }
     ensures fault { IfErr result (IsTextFault text.now) }
 {
     if !options.allow_non_finite_numbers {

@@ -2,7 +2,8 @@
 ghost use Rattle.std.specs.Prelude.{◌≡◌, ◌≢◌, ◌≤◌, IsCharBoundary, IfOk, IfErr, OnErr, None, option_map};
 
 use crate::lexeme::token_of;
-use crate::reads::read_lexeme;
+use crate::reads::{quote_at, read_lexeme};
+use crate::string::read_string;
 use jsonc_text::chars::blanks_end;
 use jsonc_text::errors::{ParseError, ParseErrorKind};
 use jsonc_text::options::{ParseOptions, ScannerOptions};
@@ -86,7 +87,7 @@ impl<'a, A: Allocator> Scanner<'a, A> {
 
 impl<'a, A: Allocator + Copy> Scanner<'a, A> {
     ghost use Rattle.jsonc_text.specs.Faults.{IsFault, kind_of};
-    ghost use Rattle.jsonc_scan.specs.Scanner.{text_of, start_of, end_of, token_of, PassesBlanks, StandsAt};
+    ghost use Rattle.jsonc_scan.specs.Scanner.{text_of, start_of, end_of, token_of, PassesBlanks, StandsAt, NothingStands, GoesOn, IsLent, HoldsEscape};
     ghost use Rattle.jsonc_text.specs.Tokens.{scanned_of};
 
     /// Moves to the next token, and answers it; or none at the end of the text.
@@ -96,8 +97,11 @@ impl<'a, A: Allocator + Copy> Scanner<'a, A> {
         ensures blanks { PassesBlanks self.old self.new }
         ensures found { IfOk result (StandsAt self.new) }
         ensures token { IfOk result (λ found. token_of self.new ≡ option_map scanned_of found) }
+        ensures lent { IfOk result (IsLent self.new) }
+        ensures nothing { IfErr result (λ e. kind_of e ≢ ParseErrorKind.OutOfMemory → NothingStands self.new) }
+        ensures begins { IfErr result (λ _. GoesOn self.new) }
         ensures fault { IfErr result (IsFault (text_of self.new)) }
-        ensures no_memory { IfErr result (λ e. kind_of e ≢ ParseErrorKind.OutOfMemory) }
+        ensures memory { IfErr result (λ e. kind_of e ≡ ParseErrorKind.OutOfMemory → HoldsEscape self.new) }
         ensures refused { OnErr result (token_of self.new ≡ token_of self.old) }
         ensures stays { OnErr result (end_of self.new ≡ start_of self.new) }
     {
@@ -107,6 +111,12 @@ impl<'a, A: Allocator + Copy> Scanner<'a, A> {
         if start == self.file_text.len() {
             self.current_token = None;
             return Ok(None);
+        }
+        if let Some(quote) = quote_at(self.file_text, start, &self.options) {
+            let read = read_string(self.alloc, self.file_text, start, quote, &self.options)?;
+            self.byte_index = read.end;
+            self.current_token = Some(Token::String(read.kept));
+            return Ok(Some(Token::String(read.given)));
         }
         let read = read_lexeme(self.file_text, start, &self.options)?;
         self.byte_index = read.end;

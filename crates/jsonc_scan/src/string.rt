@@ -1,61 +1,85 @@
-//! Strings (RFC 8259, 7; JSON5, 5).
-ghost use Rattle.std.specs.Prelude.{◌+◌, ◌<◌, IsCharBoundary, IfOk, IfErr};
-ghost use Rattle.jsonc_scan.specs.Between.{IsClosed};
-ghost use Rattle.jsonc_text.specs.Chars.{Steps};
+//! String tokens.
+ghost use Rattle.std.specs.Prelude.{◌≡◌, ◌≢◌, ◌↔◌, IsCharBoundary, IfOk, IfErr, OnErr, length};
+ghost use Rattle.std.specs.Cow.{cow_str_bytes, IsBorrowedStr, IsOwnedStr};
+ghost use Rattle.jsonc_text.specs.Faults.{IsFault, kind_of};
 ghost use Rattle.jsonc_text.specs.OptionsOf.{parse_options};
-ghost use Rattle.jsonc_scan.specs.Reads.{IsRead};
-ghost use Rattle.jsonc_scan.specs.Refusals.{IsTextFault};
-ghost use Rattle.jsonc_text.specs.Strings.{IsQuote};
+ghost use Rattle.jsonc_text.specs.Text.{Spans};
+ghost use Rattle.jsonc_scan.specs.Escapes.{HoldsBackslash};
+ghost use Rattle.jsonc_scan.specs.Reads.{IsStringRead, NothingAt, OpensString};
 
-use crate::faults::fault;
-use crate::lexeme::{Lexeme, Read};
-use crate::stops::stop_place;
-use jsonc_text::chars::{char_end, has_byte};
+use crate::decode::decode_string;
+use crate::escape::{Literal, StringFault};
 use jsonc_text::errors::{ParseError, ParseErrorKind, ParseStringErrorKind};
 use jsonc_text::options::ParseOptions;
+use std::alloc::{AllocError, Allocator};
+use std::borrow::CowStr;
 
-/// The place of the quote that closes the string whose opening quote stands at a place.
-fn close_place(text: &str, start: usize, quote: u8) -> Result<usize, ParseError>
-    requires boundary { IsCharBoundary text.now start }
-    requires quote { Steps text.now start quote (start + 1) }
-    requires ascii { quote < 128 }
-    ensures found { IfOk result (IsClosed quote text.now start) }
-    ensures fault { IfErr result (IsTextFault text.now) }
-{
-    let stop = stop_place(text, start + 1, quote, b'\\');
-    if has_byte(text, stop, quote) {
-        return Ok(stop);
-    }
-    // no escape is decoded yet: each is refused
-    if has_byte(text, stop, b'\\') {
-        let end = char_end(text, stop + 1);
-        if end > stop + 1 {
-            let kind = ParseErrorKind::String(ParseStringErrorKind::InvalidEscape);
-            return Err(fault(text, stop, end, kind));
-        }
-    }
-    let kind = ParseErrorKind::String(ParseStringErrorKind::UnterminatedStringLiteral);
-    Err(fault(text, start, text.len(), kind))
+/// A decoded string, once to keep and once to give away, and the place after its literal.
+#[derive(Drop)]
+pub(crate) struct StringRead<'a, A: Allocator> {
+    pub kept: CowStr<'a, A>,
+    pub given: CowStr<'a, A>,
+    pub end: usize,
 }
 
 /// The string at a place, where its quote stands.
-pub(crate) fn read_string<'a>(
+pub(crate) fn read_string<'a, A: Allocator + Copy>(
+    alloc: A,
     text: &'a str,
     start: usize,
     quote: u8,
     options: &ParseOptions,
-) -> Result<Read<'a>, ParseError>
+) -> Result<StringRead<'a, A>, ParseError>
     requires boundary { IsCharBoundary text.now start }
-    requires quote { Steps text.now start quote (start + 1) }
-    requires ascii { quote < 128 }
-    requires allowed { IsQuote (parse_options options.now) quote }
-    ensures found { IfOk result (IsRead (parse_options options.now) text.now start) }
-    ensures fault { IfErr result (IsTextFault text.now) }
+    requires quote { OpensString (parse_options options.now) text.now start quote }
+    ensures found { IfOk result (IsStringRead (parse_options options.now) text.now start) }
+    ensures none { IfErr result (λ e. kind_of e ≢ ParseErrorKind.OutOfMemory → NothingAt (parse_options options.now) text.now start) }
+    ensures fault { IfErr result (IsFault text.now) }
+    ensures memory { IfErr result (λ e. kind_of e ≡ ParseErrorKind.OutOfMemory → HoldsBackslash text.now start (length text.now)) }
 {
-    let close = close_place(text, start, quote)?;
-    let lexeme = Lexeme::String(&text[start + 1..close]);
-    Ok(Read {
-        lexeme,
-        end: close + 1,
+    let literal = Literal {
+        start,
+        quote,
+        extended: options.allow_extended_string_escapes,
+    };
+    let decoded = match decode_string(alloc, text, literal) {
+        Ok(decoded) => decoded,
+        Err(fault) => return Err(string_error(text, fault)),
+    };
+    let Ok(given) = copy_of(&decoded.string) else {
+        return Err(ParseError::out_of_memory());
+    };
+    Ok(StringRead {
+        kept: decoded.string,
+        given,
+        end: decoded.end,
     })
+}
+
+/// A string's fault as a fault of its text.
+fn string_error(text: &str, fault: StringFault) -> ParseError
+    requires { Spans text.now fault.range.start fault.range.end }
+    ensures fault { IsFault text.now result }
+    ensures memory { kind_of result ≡ ParseErrorKind.OutOfMemory ↔ fault.kind ≡ ParseStringErrorKind.OutOfMemory }
+{
+    match fault.kind {
+        ParseStringErrorKind::OutOfMemory => ParseError::out_of_memory(),
+        kind => ParseError::new(fault.range, ParseErrorKind::String(kind), text),
+    }
+}
+
+/// The same string again. Only the copy of one that owns its text takes memory.
+fn copy_of<'a, A: Allocator + Copy>(string: &CowStr<'a, A>) -> Result<CowStr<'a, A>, AllocError>
+    ensures bytes { IfOk result (λ copy. cow_str_bytes copy ≡ cow_str_bytes string.now) }
+    ensures owned { IfOk result (λ copy. IsOwnedStr copy ↔ IsOwnedStr string.now) }
+    ensures borrowed { IfOk result (λ copy. IsBorrowedStr copy → IsBorrowedStr string.now) }
+    ensures refused { OnErr result (IsOwnedStr string.now) }
+{
+    match string {
+        CowStr::Borrowed(s) => Ok(CowStr::Borrowed(*s)),
+        CowStr::Owned(s) => {
+            let copy = s.clone()?;
+            Ok(CowStr::Owned(copy))
+        }
+    }
 }

@@ -94,7 +94,7 @@ piece_unique (cr_lf a) (lone_cr c d) = absurd cc
 piece_unique (cr_lf a) (cr_lf c) = (refl, refl)
 
 -- no piece begins with the quote
-no_piece : {o : Options} {q : ℕ} {r p u : List ℕ} → q ≢ 0x5C → Piece o q (q ∷ r) p u → ⊥
+pub no_piece : {o : Options} {q : ℕ} {r p u : List ℕ} → q ≢ 0x5C → Piece o q (q ∷ r) p u → ⊥
 no_piece n (itself a b) = a refl
 no_piece n (plain e) = n refl
 no_piece n (unit a b) = n refl
@@ -118,7 +118,7 @@ pieces_unique n (piece k g a) (piece l h b) e f =
     let z = pieces_unique n g (rw (sym p.1) at h) e f in
     (row_same a b p.0 z.0, z.1)
 
-no_backslash : (o : Options) {q : ℕ} → IsQuote o q → q ≢ 0x5C
+pub no_backslash : (o : Options) {q : ℕ} → IsQuote o q → q ≢ 0x5C
 no_backslash o a e = let k = rw e at a in cc
 
 same_string : (o : Options) {q : ℕ} (s u r x : List ℕ) {v w t : List ℕ} → IsQuote o q → t ≡ (q ∷ s) ++ q ∷ r → t ≡ (q ∷ u) ++ q ∷ x → Decodes o q s v → Decodes o q u w → (v ≡ w) × (r ≡ x)

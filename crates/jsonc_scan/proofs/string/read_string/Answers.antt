@@ -1,5 +1,24 @@
-use Rattle.jsonc_scan.proofs.Reading.{string_read}
+use Rattle.std.proofs.Common.{ap, sym, ◌∙◌, chars}
+use Rattle.jsonc_text.proofs.FaultLemmas.{out_of_memory_is_fault}
+use Rattle.jsonc_scan.proofs.NoLexemes.{string_nothing}
+use Rattle.jsonc_scan.proofs.QuotedStrings.{scanned_of_quoted, holds_more}
 use Rattle.jsonc_scan.proofs.string.read_string.Goals as goal
 
+pub returns-in-Err-clause-none : goal.returns-in-Err-clause-none
+returns-in-Err-clause-none g c = λ k. string_nothing _ _ _ _ c.requires.quote (c.in-Err.ensures.none (λ e. k (c.string_error.ensures.memory.1 e)))
+
+pub returns-in_default-clause-fault : goal.returns-in_default-clause-fault
+returns-in_default-clause-fault g c = out_of_memory_is_fault _ _ c.utf8.text c.out_of_memory.ensures
+
+pub returns-in_default-clause-memory : goal.returns-in_default-clause-memory
+returns-in_default-clause-memory g c = λ k. holds_more _ _ _ _ (c.in-Ok.ensures.lent.copied.0 c.in_default.ensures.refused) c.in-Ok.ensures.found.boundary.0
+
 pub returns-clause-found : goal.returns-clause-found
-returns-clause-found c = string_read _ _ _ _ _ _ c.utf8.text c.requires.quote c.requires.allowed c.range.ensures.value c.in_ok-close.ensures.found
+returns-clause-found g c =
+    let lent = c.in-Ok.ensures.lent in
+    let copy = c.in-Ok-copy_of.ensures in
+    record {
+      stands = scanned_of_quoted _ _ _ _ _ _ _ c.requires.quote.allowed c.in-Ok.ensures.found (ap chars copy.bytes);
+      lent = record { copied = (λ b. lent.copied.0 (copy.owned.0 b), λ h. copy.owned.1 (lent.copied.1 h)); slice = λ b. copy.bytes ∙ lent.slice (copy.borrowed b) };
+      same = sym copy.bytes;
+    }
