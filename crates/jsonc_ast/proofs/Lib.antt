@@ -6,4 +6,5 @@ pub mod Elements
 pub mod Members
 pub mod Loops
 pub mod Properties
+pub mod Refusals
 pub mod Leaves
