@@ -7,4 +7,5 @@ pub mod Members
 pub mod Loops
 pub mod Properties
 pub mod Refusals
+pub mod NoValues
 pub mod Leaves

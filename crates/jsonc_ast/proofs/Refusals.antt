@@ -210,7 +210,7 @@ closing_no_item : (k : Container) → IsTrue (not (may_begin_item (closing k)))
 closing_no_item Array = refl
 closing_no_item Object = refl
 
-mark_same : (c d : ℕ) → lexeme (punctuation c) ≡ lexeme (punctuation d) → c ≡ d
+pub mark_same : (c d : ℕ) → lexeme (punctuation c) ≡ lexeme (punctuation d) → c ≡ d
 mark_same c d e = cc
 
 comma_closes_none : (k : Container) → IsTrue (not (0x2C == closing k))
@@ -226,7 +226,7 @@ mark_at o c r m = (punctuation c, r, (m, refl))
 starts_none : (p : ℕ → Bool) {t : List ℕ} → t ≡ [] → IsTrue (starts p (next t)) → ⊥
 starts_none p e h = let k : IsTrue false = rw e at h in cc
 
-no_lexeme_at_end : (o : Options) (t : List ℕ) → t ≡ [] → AtLexeme o t → ⊥
+pub no_lexeme_at_end : (o : Options) (t : List ℕ) → t ≡ [] → AtLexeme o t → ⊥
 no_lexeme_at_end o t e (LexemeKind.string v, r, l) = starts_none begins_literal e (lexeme_begins o (LexemeKind.string v) t r tt l)
 no_lexeme_at_end o t e (LexemeKind.number v, r, l) = starts_none begins_literal e (lexeme_begins o (LexemeKind.number v) t r tt l)
 no_lexeme_at_end o t e (LexemeKind.word v, r, l) = starts_none begins_literal e (lexeme_begins o (LexemeKind.word v) t r tt l)
@@ -261,15 +261,15 @@ module _ {A : Type 0} where
   pub no_token_lexeme : (c : Context A) → NoTokenAfter c → NoLexemeAfter (options_in c) (after c)
   no_token_lexeme c n u g i = n u g (inr i)
 
-  found_token : (o : Options) (bytes : List ℕ) (s : Scanner A) (f : Option (Token A)) → text_of s ≡ bytes → options_of s ≡ o → StandsAt s f → IsNoComment f → AtToken o (rest bytes (start_of s))
+  pub found_token : (o : Options) (bytes : List ℕ) (s : Scanner A) (f : Option (Token A)) → text_of s ≡ bytes → options_of s ≡ o → StandsAt s f → IsNoComment f → AtToken o (rest bytes (start_of s))
   found_token o bytes s None t e h n = inl (rest_end bytes (start_of s) (omega (arith, h.0, ap length t)))
   found_token o bytes s (Some x) t e h n = inr (lexeme_at o (scanned_of x) _ _ n (stands bytes o s x t e h).stands)
 
   module _ (old new : Context A) (f : Option (Token A)) (kept : Keeps old new) (found : Finds (Gap (options_in old)) old new f) (no_comment : IsNoComment f) where
-    only_there : (u : List ℕ) → Gap (options_in old) (after old) u → AtToken (options_in old) u → u ≡ rest (text_in old) (token_start new)
+    pub only_there : (u : List ℕ) → Gap (options_in old) (after old) u → AtToken (options_in old) u → u ≡ rest (text_in old) (token_start new)
     only_there u g a = gap_unique g found.0.stands (token_no_gap (options_in old) u a) (token_no_gap (options_in old) _ (found_token (options_in old) (text_in old) new.scanner f kept.text kept.options found.1 no_comment))
 
-    only_here : (u : List ℕ) → Gap (options_in old) (after old) u → AtToken (options_in old) u → u ≡ here new
+    pub only_here : (u : List ℕ) → Gap (options_in old) (after old) u → AtToken (options_in old) u → u ≡ here new
     only_here u g a = only_there u g a ∙ ap (λ b. rest b (token_start new)) (sym kept.text)
 
     -- the end was found
@@ -282,6 +282,9 @@ module _ {A : Type 0} where
     module _ (t : Token A) (is : f ≡ Some t) where
       token_stands : IsScanned (options_in old) (scanned_of t) (rest (text_in old) (token_start new)) (rest (text_in old) (token_end new))
       token_stands = (stands (text_in old) (options_in old) new.scanner t kept.text kept.options (subst (StandsAt new.scanner) is found.1)).stands
+
+      pub lexeme_there : AtLexeme (options_in old) (rest (text_in old) (token_start new))
+      lexeme_there = lexeme_at (options_in old) (scanned_of t) _ _ (subst IsNoComment is no_comment) token_stands
 
       -- it is the punctuation that a gap leads to, and the same follows it
       only_mark : (c : ℕ) (r : List ℕ) → IsTrue (is_punctuation c) → Gap (options_in old) (after old) (c ∷ r) → (scanned_of t ≡ lexeme (punctuation c)) × (rest (text_in old) (token_end new) ≡ r)
@@ -363,7 +366,7 @@ module _ {A : Type 0} where
   no_token_colon c n r g = n (0x3A ∷ r) g (inr (mark_at (options_in c) 0x3A r refl))
 
   module _ (c : Context A) (t : Token A) (at : IsToken c t) where
-    one_token : (k : LexemeKind) (r : List ℕ) → IsScanned (options_in c) (lexeme k) (here c) r → scanned_of t ≡ lexeme k
+    pub one_token : (k : LexemeKind) (r : List ℕ) → IsScanned (options_in c) (lexeme k) (here c) r → scanned_of t ≡ lexeme k
     one_token k r h = (scanned_unique (options_in c) (scanned_of t) (lexeme k) (here c) (after c) r (stands (text_in c) (options_in c) c.scanner t refl refl at).stands h).0
 
     no_name_text : (k : LexemeKind) → IsTrue (may_name k) → loose_text (lexeme k) ≡ None → ⊥

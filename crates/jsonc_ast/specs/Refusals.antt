@@ -8,7 +8,7 @@ use Rattle.jsonc_text.specs.Text.{rest, next, starts}
 use Rattle.jsonc_text.specs.Gaps.{Gap}
 use Rattle.jsonc_text.specs.Lexemes.{LexemeKind, Lexeme}
 use Rattle.jsonc_text.specs.Plain.{Plain, around}
-use Rattle.jsonc_text.specs.Grammar.{IsValue, IsName, IsProperty, IsDocument, Separates, Closes}
+use Rattle.jsonc_text.specs.Grammar.{literal_value, IsValue, IsName, IsProperty, IsDocument, Separates, Closes}
 use Rattle.jsonc_ast.specs.Located.{Ends, TrailingComma}
 use Rattle.jsonc_ast.specs.declared.container.Container.{Container}
 use Rattle.jsonc_ast.specs.declared.context.Context.{Context}
@@ -63,6 +63,10 @@ abbrev pub IsWithin : Option Plain → Type 0
 IsWithin None = Unit {0}
 IsWithin (Some v) = around v ≤ 512
 
+-- the text has no value that is within
+abbrev pub NoDocument : Options → List ℕ → Type 0
+NoDocument o t = (v : Option Plain) → IsDocument o t v → IsWithin v → ⊥
+
 module _ {A : Type 0} where
   -- the text from the last token on
   abbrev pub here : Context A → List ℕ
@@ -105,3 +109,15 @@ module _ {A : Type 0} where
   -- the last token is no name
   abbrev pub NoName : Context A → Type 0
   NoName c = (name r : List ℕ) → IsName (options_in c) (here c) name r → ⊥
+
+  -- the last token is no value by itself
+  abbrev pub NoLiteral : Context A → Type 0
+  NoLiteral c = (k : LexemeKind) (v : Plain) (r : List ℕ) → Lexeme (options_in c) k (here c) r → literal_value k ≡ Some v → ⊥
+
+  -- no value begins with the last token that can stand inside of so many containers and properties
+  abbrev pub NoValueHere : Context A → ℕ → Type 0
+  NoValueHere c count = NoValue (options_in c) (here c) count
+
+  -- nor a property
+  abbrev pub NoPropertyHere : Context A → ℕ → Type 0
+  NoPropertyHere c count = NoProperty (options_in c) (here c) count
