@@ -1,5 +1,5 @@
 -- Where no value and no property stands.
-use Rattle.std.proofs.Common.{ℕ, suc, max, ◌+◌, ◌<◌, ◌≤◌, ◌≡◌, ◌∙◌, sym, ap, subst, refl, arith, Bool, true, false, not, ◌||◌, ◌==◌, List, [], ◌∷◌, Option, Some, None, option_map, IfSome, IsTrue, ◌⊎◌, inl, inr}
+use Rattle.std.proofs.Common.{ℕ, suc, max, ◌+◌, ◌<◌, ◌≤◌, ◌≡◌, ◌∙◌, sym, ap, subst, refl, arith, Bool, true, false, not, ◌||◌, ◌==◌, List, [], ◌∷◌, Option, Some, None, option_map, IfSome, IsTrue, chars, ◌⊎◌, inl, inr}
 use Rattle.jsonc_text.specs.declared.common.Range.{Range}
 use Rattle.jsonc_text.specs.declared.tokens.Token.{Token}
 use Rattle.jsonc_text.specs.declared.tokens.Token.TheVariants as token
@@ -346,10 +346,21 @@ module _ {A : Type 0} where
       pub document_no_end : NoTokenAfter m → NoDocument (options_in c) (after c)
       document_no_end n = document_refused (options_in c) (after c) no_empty_document (λ v u r g value h small. n [] (value_followed v u r g value h) (inl refl))
 
-      pub document_goes_on : (e : Context A) (h : Option (Token A)) (next : Token A) → Keeps m e → Finds (Gap (options_in m)) m e h → IsNoComment h → h ≡ Some next → NoDocument (options_in c) (after c)
-      document_goes_on e h following further after_value token_at some = document_refused (options_in c) (after c) no_empty_document (λ v u r g value l small.
+      token_after_value : (e : Context A) (h : Option (Token A)) (next : Token A) → Keeps m e → Finds (Gap (options_in m)) m e h → IsNoComment h → h ≡ Some next → NoDocument (options_in c) (after c)
+      token_after_value e h following further after_value token_at some = document_refused (options_in c) (after c) no_empty_document (λ v u r g value l small.
           let same = only_there m e h further after_value token_at [] (value_followed v u r g value l) (inl refl) in
           no_lexeme_at_end (options_in m) _ (sym same) (lexeme_there m e h further after_value token_at following some))
+
+      pub document_goes_on : (e : Context A) (h : Option (Token A)) → Keeps m e → Finds (Gap (options_in m)) m e h → IsNoComment h → (h ≡ None → ⊥) → NoDocument (options_in c) (after c)
+      document_goes_on e h further after_value token_at n = go h refl
+        where
+          go : (q : Option (Token A)) → h ≡ q → NoDocument (options_in c) (after c)
+          go None none = absurd (n none)
+          go (Some following) some = token_after_value e h following further after_value token_at some
+
+  pub document_from_start : (c : Context A) (o : Options) (bytes : List ℕ) → token_end c ≡ 0 → text_in c ≡ bytes → options_in c ≡ o → NoDocument (options_in c) (after c) → NoDocument o (chars bytes)
+  document_from_start c o bytes start t e n =
+      subst (λ p. NoDocument p (chars bytes)) e (subst (λ b. NoDocument (options_in c) (chars b)) t (subst (λ i. NoDocument (options_in c) (rest (text_in c) i)) start n))
 
   -- an array's elements so far, and what is left of it
   pub record ElementsGoOn (old now : Context A) (next : Option (Token A)) (xs : List Located) (count : ℕ) : Type 0 where

@@ -1,4 +1,4 @@
-use Rattle.std.proofs.Common.{◌+◌, ◌≤◌, ◌∙◌, ap, sym, subst, arith, map}
+use Rattle.std.proofs.Common.{◌+◌, ◌≤◌, ◌∙◌, ap, sym, subst, arith, map, inr}
 use Rattle.jsonc_text.specs.Plain.{around}
 use Rattle.jsonc_ast.specs.Located.{value_at}
 use Rattle.jsonc_ast.specs.Reads.{Reads}
@@ -6,7 +6,10 @@ use Rattle.jsonc_ast.specs.Views.{located, member_of}
 use Rattle.jsonc_ast.proofs.Scans.{kept_on}
 use Rattle.jsonc_ast.proofs.Loops.{AtHand, start_spans, smaller, leads_on, elements_start, elements_turn, elements_whole}
 use Rattle.jsonc_ast.proofs.Properties.{properties_start, properties_turn, properties_whole}
-use Rattle.jsonc_ast.proofs.NoValues.{ElementsLeft, PropertiesLeft, elements_left_start, elements_left_turn, properties_left_start, properties_left_turn, leaf_nowhere}
+use Rattle.jsonc_ast.proofs.NoValues.{ElementsLeft, PropertiesLeft, elements_left_start, elements_left_turn, properties_left_start, properties_left_turn, leaf_nowhere, nothing_in_array, nothing_in_object, element_refused, nesting_refused, next_element_refused, property_refused, next_property_refused, name_missing, colon_missing, nesting_in_property, no_token_for_value, end_for_value, value_refused}
+use Rattle.jsonc_ast.specs.Context.{text_in}
+use Rattle.jsonc_ast.specs.Views.{name_at}
+use Rattle.jsonc_ast.proofs.Refusals.{err_of, err_some, still, still_in}
 use Rattle.jsonc_ast.proofs.values.+parse.Goals as goal
 
 pub parse_array-loop-next-init : goal.parse_array-loop-next-init
@@ -99,3 +102,108 @@ parse_object-returns-clause-found g t c =
     let whole = properties_whole c.args.context.now c.loop-next.context c.loop-next.next (map member_of c.loop-next.properties.items) c.args.count c.new.result c.loop-next.invariant.so_far c.in_default.is c.requires.token
     (c.new.ensures.start ∙ c.token_start-start.ensures) (c.new.ensures.end ∙ c.token_end.ensures) in
     subst (λ x. Reads c.args.context.now c.loop-next.context x) (sym c.object_of.ensures) whole
+
+pub parse_array-returns-in_err-next-clause-refused : goal.parse_array-returns-in_err-next-clause-refused
+parse_array-returns-in_err-next-clause-refused g t c =
+    err_of _ c.in_err-next.field-0.0 c.from_residual.result c.from_residual.ensures.1 (still (nothing_in_array c.args.context.now c.args.count c.requires.token) c.in_err-next.ensures.refused)
+
+pub parse_array-returns-in_err-check_nesting-clause-refused : goal.parse_array-returns-in_err-check_nesting-clause-refused
+parse_array-returns-in_err-check_nesting-clause-refused g t c =
+    let old = c.args.context.now in
+    let now = c.loop-next.context in
+    let inv = c.loop-next.invariant in
+    let left = subst (λ n. ElementsLeft old now n c.args.count) c.in-Some.is inv.left in
+    err_of _ c.in_err-check_nesting.field-0.0 c.from_residual-in_err-check_nesting.result c.from_residual-in_err-check_nesting.ensures.1 (inr (nesting_refused old now inv.so_far.kept c.in-Some.token c.args.count left c.in_err-check_nesting.ensures.refused))
+
+pub parse_array-returns-in_err-value-clause-refused : goal.parse_array-returns-in_err-value-clause-refused
+parse_array-returns-in_err-value-clause-refused g t c =
+    let old = c.args.context.now in
+    let now = c.loop-next.context in
+    let inv = c.loop-next.invariant in
+    let left = subst (λ n. ElementsLeft old now n c.args.count) c.in-Some.is inv.left in
+    let e = c.in_err-value.field-0.0 in
+    err_of _ e c.from_residual-in_err-value.result c.from_residual-in_err-value.ensures.1 (still_in e (text_in now) (text_in old) inv.so_far.kept.text (element_refused old now inv.so_far.kept c.in-Some.token c.args.count left) c.in_err-value.ensures.refused)
+
+pub parse_array-returns-in_err-next-2-clause-refused : goal.parse_array-returns-in_err-next-2-clause-refused
+parse_array-returns-in_err-next-2-clause-refused g t c =
+    let old = c.args.context.now in
+    let now = c.loop-next.context in
+    let inv = c.loop-next.invariant in
+    let left = subst (λ n. ElementsLeft old now n c.args.count) c.in-Some.is inv.left in
+    let mid = c.parse_value.new.context in
+    let read = c.in_ok-value.ensures in
+    let e = c.in_err-next-2.field-0.0 in
+    err_of _ e c.from_residual-in_err-next-2.result c.from_residual-in_err-next-2.ensures.1
+    (still_in e (text_in mid) (text_in old) (kept_on old now mid inv.so_far.kept read.kept).text
+    (next_element_refused old now inv.so_far.kept c.in-Some.token c.args.count left mid (located c.in_ok-value.value) read.kept read.found) c.in_err-next-2.ensures.refused)
+
+pub parse_object-returns-in_err-next-clause-refused : goal.parse_object-returns-in_err-next-clause-refused
+parse_object-returns-in_err-next-clause-refused g t c =
+    err_of _ c.in_err-next.field-0.0 c.from_residual.result c.from_residual.ensures.1 (still (nothing_in_object c.args.context.now c.args.count c.requires.token) c.in_err-next.ensures.refused)
+
+pub parse_object-returns-in_err-property-clause-refused : goal.parse_object-returns-in_err-property-clause-refused
+parse_object-returns-in_err-property-clause-refused g t c =
+    let old = c.args.context.now in
+    let now = c.loop-next.context in
+    let inv = c.loop-next.invariant in
+    let left = subst (λ n. PropertiesLeft old now n c.args.count) c.in-Some.is inv.left in
+    let e = c.in_err-property.field-0.0 in
+    err_of _ e c.from_residual-in_err-property.result c.from_residual-in_err-property.ensures.1 (still_in e (text_in now) (text_in old) inv.so_far.kept.text (property_refused old now inv.so_far.kept c.in-Some.token c.args.count left) c.in_err-property.ensures.refused)
+
+pub parse_object-returns-in_err-next-2-clause-refused : goal.parse_object-returns-in_err-next-2-clause-refused
+parse_object-returns-in_err-next-2-clause-refused g t c =
+    let old = c.args.context.now in
+    let now = c.loop-next.context in
+    let inv = c.loop-next.invariant in
+    let left = subst (λ n. PropertiesLeft old now n c.args.count) c.in-Some.is inv.left in
+    let mid = c.parse_property.new.context in
+    let read = c.in_ok-property.ensures in
+    let e = c.in_err-next-2.field-0.0 in
+    err_of _ e c.from_residual-in_err-next-2.result c.from_residual-in_err-next-2.ensures.1
+    (still_in e (text_in mid) (text_in old) (kept_on old now mid inv.so_far.kept read.kept).text
+    (next_property_refused old now inv.so_far.kept c.in-Some.token c.args.count left mid (member_of c.in_ok-property.property) read.kept read.found) c.in_err-next-2.ensures.refused)
+
+pub parse_property-returns-in_err-name-clause-refused : goal.parse_property-returns-in_err-name-clause-refused
+parse_property-returns-in_err-name-clause-refused g t c =
+    err_of _ c.in_err-name.field-0.0 c.from_residual.result c.from_residual.ensures.1 (inr (name_missing c.args.context.now c.args.count c.in_err-name.ensures.refused))
+
+pub parse_property-returns-in_err-pass_colon-clause-refused : goal.parse_property-returns-in_err-pass_colon-clause-refused
+parse_property-returns-in_err-pass_colon-clause-refused g t c =
+    err_of _ c.in_err-pass_colon.field-0.0 c.from_residual-in_err-pass_colon.result c.from_residual-in_err-pass_colon.ensures.1
+    (still (colon_missing c.args.context.now (name_at c.in_ok-name.name) c.args.count c.in_ok-name.ensures.name) c.in_err-pass_colon.ensures.refused)
+
+pub parse_property-returns-in_err-found-clause-refused : goal.parse_property-returns-in_err-found-clause-refused
+parse_property-returns-in_err-found-clause-refused g t c =
+    let old = c.args.context.now in
+    let mid = c.pass_colon.new.self in
+    let name = c.in_ok-name.ensures.name in
+    let colon = c.in_ok-pass_colon.ensures in
+    let e = c.in_err-found.field-0.0 in
+    err_of _ e c.from_residual-in_err-found.result c.from_residual-in_err-found.ensures.1
+    (still_in e (text_in mid) (text_in old) colon.kept.text (no_token_for_value old mid (name_at c.in_ok-name.name) c.args.count name colon.kept colon.found) c.in_err-found.ensures.refused)
+
+pub parse_property-returns-in_default-clause-refused : goal.parse_property-returns-in_default-clause-refused
+parse_property-returns-in_default-clause-refused g t c =
+    let old = c.args.context.now in
+    let mid = c.pass_colon.new.self in
+    let name = c.in_ok-name.ensures.name in
+    let colon = c.in_ok-pass_colon.ensures in
+    let found = c.in_ok-found.ensures in
+    inr (end_for_value old mid (name_at c.in_ok-name.name) c.args.count name colon.kept colon.found c.scan.new.self c.in_ok-found.found found.kept found.found found.lexeme c.in_default.is)
+
+pub parse_property-returns-in_err-value-clause-refused : goal.parse_property-returns-in_err-value-clause-refused
+parse_property-returns-in_err-value-clause-refused g t c =
+    let old = c.args.context.now in
+    let mid = c.pass_colon.new.self in
+    let name = c.in_ok-name.ensures.name in
+    let colon = c.in_ok-pass_colon.ensures in
+    let found = c.in_ok-found.ensures in
+    let at = c.scan.new.self in
+    let e = c.in_err-value.field-0.0 in
+    err_of _ e c.from_residual-in_err-value.result c.from_residual-in_err-value.ensures.1
+    (still_in e (text_in at) (text_in old) (found.kept.text ∙ colon.kept.text)
+    (value_refused old mid (name_at c.in_ok-name.name) c.args.count name colon.kept colon.found at c.in_ok-found.found found.kept found.found found.lexeme) c.in_err-value.ensures.refused)
+
+pub parse_value-returns-in_default-clause-refused : goal.parse_value-returns-in_default-clause-refused
+parse_value-returns-in_default-clause-refused g t c =
+    err_some c.parse_leaf.result (λ e n. inr (leaf_nowhere c.args.context.now c.args.token c.args.count c.requires.token c.in_default.not-OpenBracket c.in_default.not-OpenBrace n)) c.parse_leaf.ensures.refused
