@@ -11,7 +11,7 @@ use Rattle.jsonc_ast.specs.Located.{Located, leaf_at, array_at, object_at, Locat
 
 module _ (o : Options) (bytes : List ℕ) where
   -- a property whose value stands there
-  is_property : (n : LocatedName) (r v : Range) (w : Plain) → IsNamed o bytes n r v → IsValue o (rest bytes v.start) w (rest bytes v.end) → IsProperty o (rest bytes r.start) n.name w (rest bytes r.end)
+  pub is_property : (n : LocatedName) (r v : Range) (w : Plain) → IsNamed o bytes n r v → IsValue o (rest bytes v.start) w (rest bytes v.end) → IsProperty o (rest bytes r.start) n.name w (rest bytes r.end)
   is_property n r v w h value =
       rw (sym h.begins, sym h.ends) (named h.name.stands h.colon.stands.1 h.colon.stands.2 value)
 

@@ -6,4 +6,6 @@ pub mod Elements
 pub mod Members
 pub mod Loops
 pub mod Properties
+pub mod Refusals
+pub mod NoValues
 pub mod Leaves

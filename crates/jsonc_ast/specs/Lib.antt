@@ -4,3 +4,4 @@ pub mod Scanned
 pub mod Containers
 pub mod Context
 pub mod Reads
+pub mod Refusals

@@ -1,5 +1,6 @@
 use Rattle.std.proofs.Common.{sym, ◌∙◌, refl}
 use Rattle.jsonc_ast.proofs.Scans.{passing_start, scan_found, passing_on}
+use Rattle.jsonc_ast.proofs.Refusals.{err_of, scan_refused, comment_refused}
 use Rattle.jsonc_ast.proofs.context.Context.scan.Goals as goal
 
 pub loop-token-init : goal.loop-token-init
@@ -17,3 +18,16 @@ pub loop-token-preserved : goal.loop-token-preserved
 loop-token-preserved g c =
     passing_on c.args.self.now c.loop-token.self c.pass_comment.new.self c.scan.new.self c.in_ok-token.field-0 c.in-Some.token c.in-Some.is c.pass_comment.ensures.scanner c.pass_comment.ensures.tokens
     c.loop-token.invariant c.scan.ensures.blanks c.in_ok-token.ensures.found (sym c.is_comment.ensures ∙ c.if-not-is_comment.false) c.in_ok-pass_comment.ensures.allowed
+
+pub returns-in_err-token-clause-refused : goal.returns-in_err-token-clause-refused
+returns-in_err-token-clause-refused g c =
+    let e = c.in_err-token.field-0.0 in
+    let read = c.in_err-token.ensures in
+    err_of _ e c.from_residual.result c.from_residual.ensures.1 (scan_refused c.args.self.now c.loop-token.self c.scan.new.self c.loop-token.invariant read.blanks read.nothing read.begins e)
+
+pub returns-in_err-pass_comment-clause-refused : goal.returns-in_err-pass_comment-clause-refused
+returns-in_err-pass_comment-clause-refused g c =
+    let e = c.in_err-pass_comment.field-0.0 in
+    err_of _ e c.from_residual-in_err-pass_comment.result c.from_residual-in_err-pass_comment.ensures.1
+    (comment_refused c.args.self.now c.loop-token.self c.scan.new.self c.in_ok-token.field-0 c.in-Some.token e c.in-Some.is c.loop-token.invariant c.scan.ensures.blanks c.in_ok-token.ensures.found
+    (sym c.is_comment.ensures ∙ c.if-not-is_comment.false) c.in_err-pass_comment.ensures.refused)
