@@ -1,7 +1,9 @@
 -- What a parser that refuses has seen.
-use Rattle.std.proofs.Common.{ℕ, ◌+◌, ◌<◌, ◌≤◌, ◌≡◌, ◌∙◌, sym, ap, subst, refl, arith, Bool, true, false, not, ◌||◌, ◌==◌, List, [], ◌∷◌, ◌++◌, length, take, append_assoc, Option, Some, None, Result, Ok, Err, IfOk, IfErr, IfSome, IsTrue, IsUtf8, IsCharBoundary, chars, ◌⊎◌, inl, inr}
+use Rattle.std.proofs.Common.{ℕ, ◌+◌, ◌<◌, ◌≤◌, ◌≡◌, ◌≢◌, ◌∙◌, sym, ap, subst, refl, arith, Bool, true, false, not, ◌||◌, ◌==◌, List, [], ◌∷◌, ◌++◌, length, take, append_assoc, Option, Some, None, Result, Ok, Err, IfOk, IfErr, IfSome, IsTrue, IsUtf8, IsCharBoundary, chars, ◌⊎◌, inl, inr}
 use Rattle.std.proofs.lemmas.Str.{IsUtf8-from_is_utf8}
 use Rattle.jsonc_text.specs.declared.errors.ParseError.{ParseError}
+use Rattle.jsonc_text.specs.declared.errors.ParseErrorKind.{ParseErrorKind}
+use Rattle.jsonc_text.specs.declared.errors.ParseErrorKind.TheVariants as kind
 use Rattle.jsonc_text.specs.declared.errors.ParseErrorKind.TheVariants.{OutOfMemory}
 use Rattle.jsonc_text.specs.declared.tokens.Token.{Token}
 use Rattle.jsonc_text.specs.declared.tokens.Token.TheVariants as token
@@ -20,7 +22,7 @@ use Rattle.jsonc_text.proofs.Cuts.{many_split, chars_at, end_place}
 use Rattle.jsonc_text.proofs.Steps.{rest_end}
 use Rattle.jsonc_text.proofs.UniqueGaps.{begins_gap, gap_unique, comment_unique, comment_begins, comment_no_blank}
 use Rattle.jsonc_text.proofs.UniqueLexemes.{scanned_unique}
-use Rattle.jsonc_scan.specs.Reads.{NothingAt, NothingPlain, BeginsEscaped}
+use Rattle.jsonc_scan.specs.Reads.{NothingAt}
 use Rattle.jsonc_scan.specs.declared.scanner.Scanner.{Scanner}
 use Rattle.jsonc_scan.specs.Scanner.{text_of, start_of, end_of, options_of, PassesBlanks, StandsAt, NothingStands, GoesOn}
 use Rattle.jsonc_ast.specs.declared.container.Container.{Container}
@@ -29,7 +31,7 @@ use Rattle.jsonc_ast.specs.declared.context.Context.{Context}
 use Rattle.jsonc_ast.specs.Containers.{closing}
 use Rattle.jsonc_ast.specs.Context.{text_in, options_in, token_start, token_end, Keeps, Finds, IsToken, IsNoComment}
 use Rattle.jsonc_ast.specs.Located.{Between, Ends, TrailingComma}
-use Rattle.jsonc_ast.specs.Refusals.{HoldsBackslash, IsSpared, AtLexeme, AtToken, AtItem, may_begin_item, LeadsNowhere, LeadsOnlyTo, here, after, NoTokenAfter, NothingFirst, NothingAfterComma, NothingNext, OnlyFirst, OnlyAfterComma, OnlyNext, NoColon, NoName}
+use Rattle.jsonc_ast.specs.Refusals.{IsSpared, AtLexeme, AtToken, AtItem, may_begin_item, LeadsNowhere, LeadsOnlyTo, here, after, NoTokenAfter, NothingFirst, NothingAfterComma, NothingNext, OnlyFirst, OnlyAfterComma, OnlyNext, NoColon, NoName}
 use Rattle.jsonc_ast.specs.Scanned.{loose_text}
 use Rattle.jsonc_ast.proofs.Gaps.{blanks_gap, gap_append, passed, stands}
 use Rattle.jsonc_ast.proofs.Scans.{Passing, moved}
@@ -38,6 +40,37 @@ use Rattle.std.specs.Result.{IsErrAnd}
 pub still : {S X Y : Type 0} → (X → Y) → S ⊎ X → S ⊎ Y
 still f (inl s) = inl s
 still f (inr x) = inr (f x)
+
+-- a fault is want of memory, or it is not
+memory_or_not : (k : ParseErrorKind) → (k ≡ OutOfMemory) ⊎ (k ≢ OutOfMemory)
+memory_or_not kind.OutOfMemory = inl refl
+memory_or_not kind.BareDecimalPointNumbersNotAllowed = inr (λ e. cc)
+memory_or_not kind.CommentsNotAllowed = inr (λ e. cc)
+memory_or_not kind.ExpectedColonAfterObjectKey = inr (λ e. cc)
+memory_or_not kind.ExpectedObjectValue = inr (λ e. cc)
+memory_or_not kind.ExpectedDigit = inr (λ e. cc)
+memory_or_not kind.ExpectedDigitFollowingNegativeSign = inr (λ e. cc)
+memory_or_not kind.ExpectedPlusMinusOrDigitInNumberLiteral = inr (λ e. cc)
+memory_or_not kind.ExpectedStringObjectProperty = inr (λ e. cc)
+memory_or_not kind.HexadecimalNumbersNotAllowed = inr (λ e. cc)
+memory_or_not kind.ExpectedComma = inr (λ e. cc)
+memory_or_not kind.MultipleRootJsonValues = inr (λ e. cc)
+memory_or_not kind.NonFiniteNumbersNotAllowed = inr (λ e. cc)
+memory_or_not kind.SingleQuotedStringsNotAllowed = inr (λ e. cc)
+memory_or_not (kind.String f) = inr (λ e. cc)
+memory_or_not kind.TrailingCommasNotAllowed = inr (λ e. cc)
+memory_or_not kind.UnaryPlusNumbersNotAllowed = inr (λ e. cc)
+memory_or_not kind.UnexpectedCloseBrace = inr (λ e. cc)
+memory_or_not kind.UnexpectedCloseBracket = inr (λ e. cc)
+memory_or_not kind.UnexpectedColon = inr (λ e. cc)
+memory_or_not kind.UnexpectedComma = inr (λ e. cc)
+memory_or_not kind.UnexpectedToken = inr (λ e. cc)
+memory_or_not kind.UnexpectedTokenInObject = inr (λ e. cc)
+memory_or_not kind.UnexpectedWord = inr (λ e. cc)
+memory_or_not kind.UnterminatedArray = inr (λ e. cc)
+memory_or_not kind.UnterminatedCommentBlock = inr (λ e. cc)
+memory_or_not kind.UnterminatedObject = inr (λ e. cc)
+memory_or_not kind.NestingDepthExceeded = inr (λ e. cc)
 
 -- the same in an equal text
 pub still_in : {X Y : Type 0} (e : ParseError) (a b : List ℕ) → a ≡ b → (X → Y) → IsSpared a e ⊎ X → IsSpared b e ⊎ Y
@@ -114,16 +147,6 @@ nothing_after o n end b none (inr (k, r, l)) = n (lexeme k) r l
 nothing_after o n end b (blank {c} e g) at = clash (is_blank c) b e
 nothing_after o n end b (comment {u = u} a k g) at = comment_scanned o k (λ w x. n w u x)
 
--- a backslash somewhere in the text
-backslash_after : (p : ℕ → Bool) (bytes r : List ℕ) (i : ℕ) → IsUtf8 bytes → IsCharBoundary bytes i → Many p (rest bytes i) (0x5C ∷ r) → HoldsBackslash bytes
-backslash_after p bytes r i u b m =
-    let s = many_split p m in
-    let front = chars (take i bytes) in
-    (front ++ s.0, r, chars_at bytes i u b ∙ ap (λ t. front ++ t) s.1 ∙ sym (append_assoc front s.0 (0x5C ∷ r)))
-
-escaped_backslash : (o : Options) (bytes : List ℕ) (i : ℕ) → IsUtf8 bytes → BeginsEscaped o bytes i → HoldsBackslash bytes
-escaped_backslash o bytes i u (q, h, (r, m)) = backslash_after _ bytes r (i + 1) u h.here.1 m
-
 lexeme_at : (o : Options) (w : Scanned) (t r : List ℕ) → is_comment w ≡ false → IsScanned o w t r → AtLexeme o t
 lexeme_at o (lexeme k) t r e h = (k, r, h)
 lexeme_at o (line_comment s) t r e h = cc
@@ -151,29 +174,32 @@ module _ {A : Type 0} where
       gap_append h.gap.stands more.stands
 
   nothing_here : (start : Context A) (s : Scanner A) → text_of s ≡ text_in start → Gap (options_in start) (after start) (rest (text_in start) (start_of s)) → GoesOn s
-      → NothingPlain (options_in start) (text_in start) (start_of s) → (e : ParseError) → IsSpared (text_in start) e ⊎ NoTokenAfter start
-  nothing_here start s t gap goes (inr h) e = inl (inr (escaped_backslash (options_in start) (text_in start) (start_of s) (utf8_of start) h))
-  nothing_here start s t gap goes (inl n) e = inr (λ u g at.
+      → NothingAt (options_in start) (text_in start) (start_of s) → NoTokenAfter start
+  nothing_here start s t gap goes n = λ u g at.
       let o = options_in start in
       let bytes = text_in start in
       let left = gap_past gap g (token_no_gap o u at) in
       let inside : start_of s < length bytes = omega (arith, goes.inside, ap length t) in
       let boundary = subst (λ b. IsCharBoundary b (start_of s)) t s.starts_at_place in
       let end : rest bytes (start_of s) ≡ [] → ⊥ = λ z. let same : start_of s ≡ length bytes = end_place bytes (start_of s) (utf8_of start) boundary z in absurd (omega arith) in
-      nothing_after o n end (subst (λ b. IsTrue (no is_blank (next (rest b (start_of s))))) t goes.no_blank) left at)
+      nothing_after o n end (subst (λ b. IsTrue (no is_blank (next (rest b (start_of s))))) t goes.no_blank) left at
 
   -- the scanner refuses
-  pub scan_refused : (start now : Context A) (s : Scanner A) → Passing start now → PassesBlanks now.scanner s → NothingStands s → GoesOn s → (e : ParseError) → IsSpared (text_in start) e ⊎ NoTokenAfter start
-  scan_refused start now s h blanks n goes e =
-      let t = blanks.text ∙ h.kept.text in
-      let o = blanks.options ∙ h.kept.options in
-      let here = subst (λ p. NothingPlain p (text_in start) (start_of s)) o (subst (λ b. NothingPlain (options_of s) b (start_of s)) t n) in
-      nothing_here start s t (gap_to start now s h blanks) goes here e
+  pub scan_refused : (start now : Context A) (s : Scanner A) (e : ParseError) → Passing start now → PassesBlanks now.scanner s → (kind_of e ≢ OutOfMemory → NothingStands s) → GoesOn s → IsSpared (text_in start) e ⊎ NoTokenAfter start
+  scan_refused start now s e h blanks n goes =
+      elim (memory_or_not (kind_of e)) [
+        | inl m ↦ inl m
+        | inr other ↦
+            let t = blanks.text ∙ h.kept.text in
+            let o = blanks.options ∙ h.kept.options in
+            let here = subst (λ p. NothingAt p (text_in start) (start_of s)) o (subst (λ b. NothingAt (options_of s) b (start_of s)) t (n other)) in
+            inr (nothing_here start s t (gap_to start now s h blanks) goes here)
+      ]
 
   -- a comment that is not allowed
   pub comment_refused : (start now : Context A) (s : Scanner A) (f : Option (Token A)) (t : Token A) (e : ParseError) → f ≡ Some t → Passing start now → PassesBlanks now.scanner s → StandsAt s f
       → is_comment (scanned_of t) ≡ true → (kind_of e ≡ OutOfMemory) ⊎ ((options_of s).comments ≡ false) → IsSpared (text_in start) e ⊎ NoTokenAfter start
-  comment_refused start now s f t e is h blanks at found (inl m) = inl (inl m)
+  comment_refused start now s f t e is h blanks at found (inl m) = inl m
   comment_refused start now s f t e is h blanks at found (inr n) =
       let o = options_in start in
       let same = blanks.options ∙ h.kept.options in

@@ -15,13 +15,9 @@ use Rattle.jsonc_ast.specs.declared.context.Context.{Context}
 use Rattle.jsonc_ast.specs.Containers.{closing}
 use Rattle.jsonc_ast.specs.Context.{text_in, options_in, token_start, token_end}
 
--- the text holds a backslash
-abbrev pub HoldsBackslash : List ℕ → Type 0
-HoldsBackslash bytes = (s : List ℕ) × (r : List ℕ) × (chars bytes ≡ s ++ 0x5C ∷ r)
-
--- the fault says nothing of the grammar: memory was wanting, or a string with an escape was refused, which no scanner decodes yet
+-- the fault says nothing of the grammar: memory was wanting
 abbrev pub IsSpared : List ℕ → ParseError → Type 0
-IsSpared bytes e = (kind_of e ≡ OutOfMemory) ⊎ HoldsBackslash bytes
+IsSpared bytes e = kind_of e ≡ OutOfMemory
 
 -- a lexeme stands at the front of t
 abbrev pub AtLexeme : Options → List ℕ → Type 0

@@ -23,7 +23,7 @@ pub returns-in_err-token-clause-refused : goal.returns-in_err-token-clause-refus
 returns-in_err-token-clause-refused g c =
     let e = c.in_err-token.field-0.0 in
     let read = c.in_err-token.ensures in
-    err_of _ e c.from_residual.result c.from_residual.ensures.1 (scan_refused c.args.self.now c.loop-token.self c.scan.new.self c.loop-token.invariant read.blanks read.nothing read.begins e)
+    err_of _ e c.from_residual.result c.from_residual.ensures.1 (scan_refused c.args.self.now c.loop-token.self c.scan.new.self e c.loop-token.invariant read.blanks read.nothing read.begins)
 
 pub returns-in_err-pass_comment-clause-refused : goal.returns-in_err-pass_comment-clause-refused
 returns-in_err-pass_comment-clause-refused g c =
