@@ -1,5 +1,5 @@
 -- What a parser that refuses has seen.
-use Rattle.std.proofs.Common.{ℕ, ◌+◌, ◌<◌, ◌≤◌, ◌≡◌, ◌∙◌, sym, ap, subst, refl, arith, Bool, true, false, not, ◌||◌, ◌==◌, List, [], ◌∷◌, ◌++◌, length, take, append_assoc, Option, Some, None, Result, Ok, Err, IfOk, IfErr, IfSome, IsTrue, IsUtf8, IsCharBoundary, chars, ◌⊎◌, inl, inr}
+use Rattle.std.proofs.Common.{ℕ, ◌+◌, ◌<◌, ◌≡◌, ◌∙◌, sym, ap, subst, refl, arith, Bool, true, false, not, ◌||◌, ◌==◌, List, [], ◌∷◌, ◌++◌, length, take, append_assoc, Option, Some, None, Result, Ok, Err, IfOk, IfErr, IfSome, IsTrue, IsUtf8, IsCharBoundary, chars, ◌⊎◌, inl, inr}
 use Rattle.std.proofs.lemmas.Str.{IsUtf8-from_is_utf8}
 use Rattle.jsonc_text.specs.declared.errors.ParseError.{ParseError}
 use Rattle.jsonc_text.specs.declared.errors.ParseErrorKind.TheVariants.{OutOfMemory}
@@ -9,7 +9,7 @@ use Rattle.jsonc_text.specs.Options.{Options}
 use Rattle.jsonc_text.specs.Faults.{kind_of}
 use Rattle.jsonc_text.specs.Text.{rest, next, no, starts, Many}
 use Rattle.jsonc_text.specs.Gaps.{Gap, none, blank, comment, is_blank, IsComment, line, block}
-use Rattle.jsonc_text.specs.Grammar.{IsName, Separates, comma, no_comma, Closes, plain, trailing_comma, may_name}
+use Rattle.jsonc_text.specs.Grammar.{Separates, comma, no_comma, Closes, plain, trailing_comma, may_name}
 use Rattle.jsonc_text.specs.Lexemes.{Scanned, lexeme, line_comment, block_comment, LexemeKind, punctuation, string, IsScanned, is_punctuation}
 use Rattle.jsonc_text.specs.Places.{is_comment}
 use Rattle.jsonc_text.specs.Tokens.{scanned_of}
@@ -20,18 +20,18 @@ use Rattle.jsonc_text.proofs.Cuts.{many_split, chars_at, end_place}
 use Rattle.jsonc_text.proofs.Steps.{rest_end}
 use Rattle.jsonc_text.proofs.UniqueGaps.{begins_gap, gap_unique, comment_unique, comment_begins, comment_no_blank}
 use Rattle.jsonc_text.proofs.UniqueLexemes.{scanned_unique}
-use Rattle.jsonc_scan.specs.Reads.{NothingAt, NothingPlain, BeginsEscaped}
+use Rattle.jsonc_scan.specs.Reads.{NothingPlain, BeginsEscaped}
 use Rattle.jsonc_scan.specs.declared.scanner.Scanner.{Scanner}
-use Rattle.jsonc_scan.specs.Scanner.{text_of, start_of, end_of, options_of, PassesBlanks, StandsAt, NothingStands, GoesOn}
+use Rattle.jsonc_scan.specs.Scanner.{text_of, start_of, options_of, PassesBlanks, StandsAt, NothingStands, GoesOn}
 use Rattle.jsonc_ast.specs.declared.container.Container.{Container}
 use Rattle.jsonc_ast.specs.declared.container.Container.TheVariants.{Array, Object}
 use Rattle.jsonc_ast.specs.declared.context.Context.{Context}
 use Rattle.jsonc_ast.specs.Containers.{closing}
 use Rattle.jsonc_ast.specs.Context.{text_in, options_in, token_start, token_end, Keeps, Finds, IsToken, IsNoComment}
 use Rattle.jsonc_ast.specs.Located.{Between, Ends, TrailingComma}
-use Rattle.jsonc_ast.specs.Refusals.{HoldsBackslash, IsSpared, AtLexeme, AtToken, AtItem, may_begin_item, LeadsNowhere, LeadsOnlyTo, here, after, NoTokenAfter, NothingFirst, NothingAfterComma, NothingNext, OnlyFirst, OnlyAfterComma, OnlyNext, NoColon, NoName}
+use Rattle.jsonc_ast.specs.Refusals.{HoldsBackslash, IsSpared, AtLexeme, AtToken, AtItem, may_begin_item, LeadsNowhere, LeadsOnlyTo, here, after, NoTokenAfter, NothingAfterComma, NothingNext, OnlyFirst, OnlyAfterComma, OnlyNext, NoColon, NoName}
 use Rattle.jsonc_ast.specs.Scanned.{loose_text}
-use Rattle.jsonc_ast.proofs.Gaps.{blanks_gap, gap_append, passed, stands}
+use Rattle.jsonc_ast.proofs.Gaps.{gap_append, passed, stands}
 use Rattle.jsonc_ast.proofs.Scans.{Passing, moved}
 use Rattle.std.specs.Result.{IsErrAnd}
 
@@ -334,16 +334,16 @@ module _ {A : Type 0} where
 
           comma_no_end : ((r : List ℕ) → TrailingComma (options_in old) (closing k) (rest (text_in old) (token_end new)) r → ⊥) → (r : List ℕ) → Closes (options_in old) (closing k) (after old) r → ⊥
           comma_no_end n r = no_closes (options_in old) k (after old) r
-            (λ r g. closing_no_comma k (sym e ∙ (only_mark (closing k) r (closing_mark k) g).0))
-            (λ u g a h. n r (a, subst (λ x. Gap (options_in old) x (closing k ∷ r)) (sym (only_mark 0x2C u refl g).1) h))
+              (λ r g. closing_no_comma k (sym e ∙ (only_mark (closing k) r (closing_mark k) g).0))
+              (λ u g a h. n r (a, subst (λ x. Gap (options_in old) x (closing k ∷ r)) (sym (only_mark 0x2C u refl g).1) h))
 
           pub nothing_next : NothingAfterComma k new → NothingNext k old
           nothing_next h =
               let n = mark_moved (λ p b. LeadsNowhere p (Gap p) (TrailingComma p (closing k)) (rest b (token_end new))) h in record {
                 no_close = comma_no_end n.no_close;
                 no_item = λ u s i. no_separates (options_in old) (after old) u
-                  (λ v g l. n.no_item u (subst (λ x. Gap (options_in old) x u) (sym (only_mark 0x2C v refl g).1) l) i)
-                  (λ b g. mark_no_item 0x2C e refl u g i) s;
+                    (λ v g l. n.no_item u (subst (λ x. Gap (options_in old) x u) (sym (only_mark 0x2C v refl g).1) l) i)
+                    (λ b g. mark_no_item 0x2C e refl u g i) s;
               }
 
           comma_only : (w : List ℕ) → LeadsOnlyTo (options_in old) (Gap (options_in old)) (TrailingComma (options_in old) (closing k)) (rest (text_in old) (token_end new)) w → (u : List ℕ) → Separates (options_in old) (after old) u → AtItem (options_in old) u → u ≡ w

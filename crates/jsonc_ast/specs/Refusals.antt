@@ -1,7 +1,8 @@
 -- What a refusal of a parser says of the text.
-use Rattle.std.specs.Prelude.{ℕ, ◌+◌, ◌≤◌, ◌≡◌, Bool, not, ◌||◌, ◌==◌, List, [], ◌∷◌, ◌++◌, Option, Some, None, IsTrue, ◌⊎◌, chars}
+use Rattle.std.specs.Prelude.{ℕ, ◌+◌, ◌≤◌, ◌≡◌, Bool, false, not, ◌||◌, ◌==◌, List, [], ◌∷◌, ◌++◌, Option, Some, None, IfSome, IsTrue, ◌⊎◌, chars}
 use Rattle.jsonc_text.specs.declared.errors.ParseError.{ParseError}
 use Rattle.jsonc_text.specs.declared.errors.ParseErrorKind.TheVariants.{OutOfMemory}
+use Rattle.jsonc_text.specs.declared.tokens.Token.{Token}
 use Rattle.jsonc_text.specs.Options.{Options}
 use Rattle.jsonc_text.specs.Faults.{kind_of}
 use Rattle.jsonc_text.specs.Text.{rest, next, starts}
@@ -67,6 +68,10 @@ IsWithin (Some v) = around v ≤ 512
 abbrev pub NoDocument : Options → List ℕ → Type 0
 NoDocument o t = (v : Option Plain) → IsDocument o t v → IsWithin v → ⊥
 
+-- the fault says that the text has no such value, or nothing of the grammar
+abbrev pub RefusesText : Options → List ℕ → ParseError → Type 0
+RefusesText o bytes e = IsSpared bytes e ⊎ NoDocument o (chars bytes)
+
 module _ {A : Type 0} where
   -- the text from the last token on
   abbrev pub here : Context A → List ℕ
@@ -75,6 +80,18 @@ module _ {A : Type 0} where
   -- the text after the last token
   abbrev pub after : Context A → List ℕ
   after c = rest (text_in c) (token_end c)
+
+  -- the fault says that this holds, or nothing of the grammar
+  abbrev pub Tells : Context A → Type 0 → ParseError → Type 0
+  Tells c fact e = IsSpared (text_in c) e ⊎ fact
+
+  -- this holds where a token was found
+  abbrev pub WhereSome : Type 0 → Option (Token A) → Type 0
+  WhereSome fact found = IfSome found (λ t. fact)
+
+  -- memory was wanting, or comments are not allowed
+  abbrev pub RefusesComment : Context A → ParseError → Type 0
+  RefusesComment c e = (kind_of e ≡ OutOfMemory) ⊎ ((options_in c).comments ≡ false)
 
   -- no gap leads to a token
   abbrev pub NoTokenAfter : Context A → Type 0

@@ -4,10 +4,8 @@ use Rattle.jsonc_ast.specs.Views.{located}
 use Rattle.jsonc_ast.proofs.Grammar.{located_document}
 use Rattle.jsonc_ast.proofs.Leaves.{empty_document, value_document}
 use Rattle.jsonc_ast.proofs.Scans.{moved}
-use Rattle.std.proofs.Common.{◌∙◌, inr, ap, subst, chars}
-use Rattle.jsonc_text.specs.Text.{rest}
-use Rattle.jsonc_ast.specs.Context.{text_in, token_end}
-use Rattle.jsonc_ast.specs.Refusals.{NoDocument}
+use Rattle.std.proofs.Common.{◌∙◌, inr}
+use Rattle.jsonc_ast.specs.Context.{text_in}
 use Rattle.jsonc_ast.proofs.NoValues.{document_no_token, document_no_value, document_no_end, document_goes_on, document_from_start}
 use Rattle.jsonc_ast.proofs.Refusals.{err_of, still_in}
 use Rattle.jsonc_ast.proofs.values.parse_to_ast.Goals as goal
