@@ -1,26 +1,26 @@
 -- Where no value and no property stands.
-use Rattle.std.proofs.Common.{ℕ, suc, max, ◌+◌, ◌<◌, ◌≤◌, ◌≡◌, ◌∙◌, sym, ap, subst, refl, arith, Bool, true, false, not, ◌||◌, ◌==◌, List, [], ◌∷◌, Option, Some, None, option_map, IfSome, IsTrue, chars, ◌⊎◌, inl, inr}
+use Rattle.std.proofs.Common.{ℕ, ◌+◌, ◌<◌, ◌≤◌, ◌≡◌, ◌∙◌, sym, ap, subst, refl, arith, Bool, true, false, not, ◌||◌, ◌==◌, List, [], ◌∷◌, Option, Some, None, option_map, IfSome, IsTrue, chars, inl, inr}
 use Rattle.jsonc_text.specs.declared.common.Range.{Range}
 use Rattle.jsonc_text.specs.declared.tokens.Token.{Token}
 use Rattle.jsonc_text.specs.declared.tokens.Token.TheVariants as token
 use Rattle.jsonc_text.specs.Options.{Options}
-use Rattle.jsonc_text.specs.Text.{rest, next, starts}
+use Rattle.jsonc_text.specs.Text.{rest, next}
 use Rattle.jsonc_text.specs.Gaps.{Gap}
-use Rattle.jsonc_text.specs.Grammar.{literal_value, IsValue, literal, empty_array, array, empty_object, object, AreElements, last_element, element, AreProperties, last_property, property, IsProperty, named, IsName, Separates, Closes, IsDocument}
-use Rattle.jsonc_text.specs.Lexemes.{Scanned, lexeme, line_comment, block_comment, LexemeKind, punctuation, string, Lexeme, IsScanned}
+use Rattle.jsonc_text.specs.Grammar.{literal_value, IsValue, literal, empty_array, array, empty_object, object, AreElements, last_element, element, AreProperties, last_property, property, IsProperty, named, IsName, Separates, Closes}
+use Rattle.jsonc_text.specs.Lexemes.{lexeme, LexemeKind, punctuation, string, Lexeme}
 use Rattle.jsonc_text.specs.Plain.{Plain, around, Items, items_around, Members, members_around}
 use Rattle.jsonc_text.specs.Tokens.{scanned_of}
 use Rattle.jsonc_text.proofs.Basics.{clash, eq_test, tails, apart, starts_also}
 use Rattle.jsonc_text.proofs.Begins.{begins_item}
-use Rattle.jsonc_text.proofs.UniqueGaps.{begins_gap, gap_unique}
+use Rattle.jsonc_text.proofs.UniqueGaps.{begins_gap}
 use Rattle.jsonc_text.proofs.UniqueLexemes.{lexeme_unique}
 use Rattle.jsonc_text.proofs.UniqueValues.{gap_after, not_gap, no_literal, value_begins, elements_begin, properties_begin, value_unique}
 use Rattle.jsonc_ast.specs.declared.container.Container.TheVariants.{Array, Object}
 use Rattle.jsonc_ast.specs.declared.context.Context.{Context}
 use Rattle.jsonc_ast.specs.Context.{text_in, options_in, token_start, token_end, Keeps, Finds, IsToken, IsNoComment, IsBracket, IsNameHere, PassesColon}
-use Rattle.jsonc_ast.specs.Located.{Located, LocatedName, leaf_at, range_at, value_at, Between, Ends}
+use Rattle.jsonc_ast.specs.Located.{Located, LocatedName, leaf_at, range_at, value_at}
 use Rattle.jsonc_ast.specs.Reads.{Reads, ReadsMember}
-use Rattle.jsonc_ast.specs.Refusals.{IsSpared, AtLexeme, AtToken, AtItem, may_begin_item, LeadsNowhere, LeadsOnlyTo, NoValue, NoProperty, IsWithin, NoDocument, here, after, NoTokenAfter, NothingFirst, NothingNext, OnlyFirst, OnlyNext, NoColon, NoName, NoLiteral, NoValueHere, NoPropertyHere}
+use Rattle.jsonc_ast.specs.Refusals.{AtLexeme, AtItem, may_begin_item, LeadsNowhere, LeadsOnlyTo, NoValue, NoProperty, NoDocument, here, after, NoTokenAfter, NothingFirst, NothingNext, OnlyFirst, OnlyNext, NoColon, NoName, NoLiteral, NoValueHere, NoPropertyHere}
 use Rattle.jsonc_ast.specs.Scanned.{leaf_value}
 use Rattle.jsonc_ast.specs.Views.{LocatedMember}
 use Rattle.jsonc_ast.proofs.Grammar.{located_value, is_property}

@@ -1,5 +1,5 @@
 -- What a parser that refuses has seen.
-use Rattle.std.proofs.Common.{ℕ, ◌+◌, ◌<◌, ◌≤◌, ◌≡◌, ◌≢◌, ◌∙◌, sym, ap, subst, refl, arith, Bool, true, false, not, ◌||◌, ◌==◌, List, [], ◌∷◌, ◌++◌, length, take, append_assoc, Option, Some, None, Result, Ok, Err, IfOk, IfErr, IfSome, IsTrue, IsUtf8, IsCharBoundary, chars, ◌⊎◌, inl, inr}
+use Rattle.std.proofs.Common.{ℕ, ◌+◌, ◌<◌, ◌≡◌, ◌≢◌, ◌∙◌, sym, ap, subst, refl, arith, Bool, true, false, not, ◌||◌, ◌==◌, List, [], ◌∷◌, ◌++◌, length, take, append_assoc, Option, Some, None, Result, Ok, Err, IfOk, IfErr, IfSome, IsTrue, IsUtf8, IsCharBoundary, chars, ◌⊎◌, inl, inr}
 use Rattle.std.proofs.lemmas.Str.{IsUtf8-from_is_utf8}
 use Rattle.jsonc_text.specs.declared.errors.ParseError.{ParseError}
 use Rattle.jsonc_text.specs.declared.errors.ParseErrorKind.{ParseErrorKind}
@@ -11,7 +11,7 @@ use Rattle.jsonc_text.specs.Options.{Options}
 use Rattle.jsonc_text.specs.Faults.{kind_of}
 use Rattle.jsonc_text.specs.Text.{rest, next, no, starts, Many}
 use Rattle.jsonc_text.specs.Gaps.{Gap, none, blank, comment, is_blank, IsComment, line, block}
-use Rattle.jsonc_text.specs.Grammar.{IsName, Separates, comma, no_comma, Closes, plain, trailing_comma, may_name}
+use Rattle.jsonc_text.specs.Grammar.{Separates, comma, no_comma, Closes, plain, trailing_comma, may_name}
 use Rattle.jsonc_text.specs.Lexemes.{Scanned, lexeme, line_comment, block_comment, LexemeKind, punctuation, string, IsScanned, is_punctuation}
 use Rattle.jsonc_text.specs.Places.{is_comment}
 use Rattle.jsonc_text.specs.Tokens.{scanned_of}
@@ -24,16 +24,16 @@ use Rattle.jsonc_text.proofs.UniqueGaps.{begins_gap, gap_unique, comment_unique,
 use Rattle.jsonc_text.proofs.UniqueLexemes.{scanned_unique}
 use Rattle.jsonc_scan.specs.Reads.{NothingAt}
 use Rattle.jsonc_scan.specs.declared.scanner.Scanner.{Scanner}
-use Rattle.jsonc_scan.specs.Scanner.{text_of, start_of, end_of, options_of, PassesBlanks, StandsAt, NothingStands, GoesOn}
+use Rattle.jsonc_scan.specs.Scanner.{text_of, start_of, options_of, PassesBlanks, StandsAt, NothingStands, GoesOn}
 use Rattle.jsonc_ast.specs.declared.container.Container.{Container}
 use Rattle.jsonc_ast.specs.declared.container.Container.TheVariants.{Array, Object}
 use Rattle.jsonc_ast.specs.declared.context.Context.{Context}
 use Rattle.jsonc_ast.specs.Containers.{closing}
 use Rattle.jsonc_ast.specs.Context.{text_in, options_in, token_start, token_end, Keeps, Finds, IsToken, IsNoComment}
 use Rattle.jsonc_ast.specs.Located.{Between, Ends, TrailingComma}
-use Rattle.jsonc_ast.specs.Refusals.{IsSpared, AtLexeme, AtToken, AtItem, may_begin_item, LeadsNowhere, LeadsOnlyTo, here, after, NoTokenAfter, NothingFirst, NothingAfterComma, NothingNext, OnlyFirst, OnlyAfterComma, OnlyNext, NoColon, NoName}
+use Rattle.jsonc_ast.specs.Refusals.{WantsMemory, AtLexeme, AtToken, AtItem, may_begin_item, LeadsNowhere, LeadsOnlyTo, here, after, NoTokenAfter, NothingAfterComma, NothingNext, OnlyFirst, OnlyAfterComma, OnlyNext, NoColon, NoName}
 use Rattle.jsonc_ast.specs.Scanned.{loose_text}
-use Rattle.jsonc_ast.proofs.Gaps.{blanks_gap, gap_append, passed, stands}
+use Rattle.jsonc_ast.proofs.Gaps.{gap_append, passed, stands}
 use Rattle.jsonc_ast.proofs.Scans.{Passing, moved}
 use Rattle.std.specs.Result.{IsErrAnd}
 
@@ -71,11 +71,6 @@ memory_or_not kind.UnterminatedArray = inr (λ e. cc)
 memory_or_not kind.UnterminatedCommentBlock = inr (λ e. cc)
 memory_or_not kind.UnterminatedObject = inr (λ e. cc)
 memory_or_not kind.NestingDepthExceeded = inr (λ e. cc)
-
--- the same in an equal text
-pub still_in : {X Y : Type 0} (e : ParseError) (a b : List ℕ) → a ≡ b → (X → Y) → IsSpared a e ⊎ X → IsSpared b e ⊎ Y
-still_in e a b same f (inl s) = inl (subst (λ t. IsSpared t e) same s)
-still_in e a b same f (inr x) = inr (f x)
 
 -- a lexeme begins with neither a blank nor a comment
 literal_first : (c : ℕ) → IsTrue (begins_literal c) → IsTrue (not (begins_gap c))
@@ -185,7 +180,7 @@ module _ {A : Type 0} where
       nothing_after o n end (subst (λ b. IsTrue (no is_blank (next (rest b (start_of s))))) t goes.no_blank) left at
 
   -- the scanner refuses
-  pub scan_refused : (start now : Context A) (s : Scanner A) (e : ParseError) → Passing start now → PassesBlanks now.scanner s → (kind_of e ≢ OutOfMemory → NothingStands s) → GoesOn s → IsSpared (text_in start) e ⊎ NoTokenAfter start
+  pub scan_refused : (start now : Context A) (s : Scanner A) (e : ParseError) → Passing start now → PassesBlanks now.scanner s → (kind_of e ≢ OutOfMemory → NothingStands s) → GoesOn s → WantsMemory e ⊎ NoTokenAfter start
   scan_refused start now s e h blanks n goes =
       elim (memory_or_not (kind_of e)) [
         | inl m ↦ inl m
@@ -198,7 +193,7 @@ module _ {A : Type 0} where
 
   -- a comment that is not allowed
   pub comment_refused : (start now : Context A) (s : Scanner A) (f : Option (Token A)) (t : Token A) (e : ParseError) → f ≡ Some t → Passing start now → PassesBlanks now.scanner s → StandsAt s f
-      → is_comment (scanned_of t) ≡ true → (kind_of e ≡ OutOfMemory) ⊎ ((options_of s).comments ≡ false) → IsSpared (text_in start) e ⊎ NoTokenAfter start
+      → is_comment (scanned_of t) ≡ true → (kind_of e ≡ OutOfMemory) ⊎ ((options_of s).comments ≡ false) → WantsMemory e ⊎ NoTokenAfter start
   comment_refused start now s f t e is h blanks at found (inl m) = inl m
   comment_refused start now s f t e is h blanks at found (inr n) =
       let o = options_in start in
@@ -360,16 +355,16 @@ module _ {A : Type 0} where
 
           comma_no_end : ((r : List ℕ) → TrailingComma (options_in old) (closing k) (rest (text_in old) (token_end new)) r → ⊥) → (r : List ℕ) → Closes (options_in old) (closing k) (after old) r → ⊥
           comma_no_end n r = no_closes (options_in old) k (after old) r
-            (λ r g. closing_no_comma k (sym e ∙ (only_mark (closing k) r (closing_mark k) g).0))
-            (λ u g a h. n r (a, subst (λ x. Gap (options_in old) x (closing k ∷ r)) (sym (only_mark 0x2C u refl g).1) h))
+              (λ r g. closing_no_comma k (sym e ∙ (only_mark (closing k) r (closing_mark k) g).0))
+              (λ u g a h. n r (a, subst (λ x. Gap (options_in old) x (closing k ∷ r)) (sym (only_mark 0x2C u refl g).1) h))
 
           pub nothing_next : NothingAfterComma k new → NothingNext k old
           nothing_next h =
               let n = mark_moved (λ p b. LeadsNowhere p (Gap p) (TrailingComma p (closing k)) (rest b (token_end new))) h in record {
                 no_close = comma_no_end n.no_close;
                 no_item = λ u s i. no_separates (options_in old) (after old) u
-                  (λ v g l. n.no_item u (subst (λ x. Gap (options_in old) x u) (sym (only_mark 0x2C v refl g).1) l) i)
-                  (λ b g. mark_no_item 0x2C e refl u g i) s;
+                    (λ v g l. n.no_item u (subst (λ x. Gap (options_in old) x u) (sym (only_mark 0x2C v refl g).1) l) i)
+                    (λ b g. mark_no_item 0x2C e refl u g i) s;
               }
 
           comma_only : (w : List ℕ) → LeadsOnlyTo (options_in old) (Gap (options_in old)) (TrailingComma (options_in old) (closing k)) (rest (text_in old) (token_end new)) w → (u : List ℕ) → Separates (options_in old) (after old) u → AtItem (options_in old) u → u ≡ w

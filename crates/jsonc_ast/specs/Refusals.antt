@@ -1,7 +1,8 @@
 -- What a refusal of a parser says of the text.
-use Rattle.std.specs.Prelude.{ℕ, ◌+◌, ◌≤◌, ◌≡◌, Bool, not, ◌||◌, ◌==◌, List, [], ◌∷◌, ◌++◌, Option, Some, None, IsTrue, ◌⊎◌, chars}
+use Rattle.std.specs.Prelude.{ℕ, ◌+◌, ◌≤◌, ◌≡◌, Bool, false, not, ◌||◌, ◌==◌, List, [], ◌∷◌, ◌++◌, Option, Some, None, IfSome, IsTrue, ◌⊎◌, chars}
 use Rattle.jsonc_text.specs.declared.errors.ParseError.{ParseError}
 use Rattle.jsonc_text.specs.declared.errors.ParseErrorKind.TheVariants.{OutOfMemory}
+use Rattle.jsonc_text.specs.declared.tokens.Token.{Token}
 use Rattle.jsonc_text.specs.Options.{Options}
 use Rattle.jsonc_text.specs.Faults.{kind_of}
 use Rattle.jsonc_text.specs.Text.{rest, next, starts}
@@ -15,9 +16,9 @@ use Rattle.jsonc_ast.specs.declared.context.Context.{Context}
 use Rattle.jsonc_ast.specs.Containers.{closing}
 use Rattle.jsonc_ast.specs.Context.{text_in, options_in, token_start, token_end}
 
--- the fault says nothing of the grammar: memory was wanting
-abbrev pub IsSpared : List ℕ → ParseError → Type 0
-IsSpared bytes e = kind_of e ≡ OutOfMemory
+-- memory was wanting
+abbrev pub WantsMemory : ParseError → Type 0
+WantsMemory e = kind_of e ≡ OutOfMemory
 
 -- a lexeme stands at the front of t
 abbrev pub AtLexeme : Options → List ℕ → Type 0
@@ -63,6 +64,14 @@ IsWithin (Some v) = around v ≤ 512
 abbrev pub NoDocument : Options → List ℕ → Type 0
 NoDocument o t = (v : Option Plain) → IsDocument o t v → IsWithin v → ⊥
 
+-- memory was wanting, or the text has no such value
+abbrev pub RefusesText : Options → List ℕ → ParseError → Type 0
+RefusesText o bytes e = WantsMemory e ⊎ NoDocument o (chars bytes)
+
+-- memory was wanting, or this holds
+abbrev pub Tells : Type 0 → ParseError → Type 0
+Tells fact e = WantsMemory e ⊎ fact
+
 module _ {A : Type 0} where
   -- the text from the last token on
   abbrev pub here : Context A → List ℕ
@@ -71,6 +80,14 @@ module _ {A : Type 0} where
   -- the text after the last token
   abbrev pub after : Context A → List ℕ
   after c = rest (text_in c) (token_end c)
+
+  -- this holds where a token was found
+  abbrev pub WhereSome : Type 0 → Option (Token A) → Type 0
+  WhereSome fact found = IfSome found (λ t. fact)
+
+  -- memory was wanting, or comments are not allowed
+  abbrev pub RefusesComment : Context A → ParseError → Type 0
+  RefusesComment c e = WantsMemory e ⊎ ((options_in c).comments ≡ false)
 
   -- no gap leads to a token
   abbrev pub NoTokenAfter : Context A → Type 0

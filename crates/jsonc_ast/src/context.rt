@@ -29,8 +29,8 @@ pub struct Context<'a, A: Allocator> {
 }
 
 impl<'a, A: Allocator + Copy> Context<'a, A> {
-    ghost use Rattle.std.specs.Prelude.{◌≡◌, ◌≢◌, ◌≤◌, ◌<◌, ◌⊎◌, false, IfOk, IfErr, IfSome, OnOk, IsTrue};
-    ghost use Rattle.jsonc_ast.specs.Refusals.{IsSpared, NoTokenAfter, NothingFirst, NothingAfterComma, NothingNext, OnlyFirst, OnlyAfterComma, OnlyNext, NoColon, NoName};
+    ghost use Rattle.std.specs.Prelude.{◌≡◌, ◌≢◌, ◌≤◌, ◌<◌, IfOk, IfErr, OnOk, IsTrue};
+    ghost use Rattle.jsonc_ast.specs.Refusals.{Tells, WhereSome, RefusesComment, NoTokenAfter, NothingFirst, NothingAfterComma, NothingNext, OnlyFirst, OnlyAfterComma, OnlyNext, NoColon, NoName};
     ghost use Rattle.jsonc_text.specs.Faults.{IsFault, IsOutOfMemory, range_of, kind_of};
     ghost use Rattle.jsonc_text.specs.Gaps.{Gap};
     ghost use Rattle.jsonc_text.specs.Places.{is_comment as is_a_comment};
@@ -151,7 +151,7 @@ impl<'a, A: Allocator + Copy> Context<'a, A> {
         ensures scanner { self.new.scanner ≡ self.old.scanner }
         ensures tokens { tokens_asked self.new ≡ tokens_asked self.old }
         ensures allowed { OnOk result (IsTrue (options_in self.old).comments) }
-        ensures refused { IfErr result (λ e. (kind_of e ≡ ParseErrorKind.OutOfMemory) ⊎ ((options_in self.old).comments ≡ false)) }
+        ensures refused { IfErr result (RefusesComment self.old) }
         ensures fault { IfErr result (IsFault (text_in self.old)) }
     {
         if !self.options.allow_comments {
@@ -168,7 +168,7 @@ impl<'a, A: Allocator + Copy> Context<'a, A> {
         ensures kept { Keeps self.old self.new }
         ensures found { IfOk result (Finds (Gap (options_in self.old)) self.old self.new) }
         ensures lexeme { IfOk result IsNoComment }
-        ensures refused { IfErr result (λ e. IsSpared (text_in self.old) e ⊎ NoTokenAfter self.old) }
+        ensures refused { IfErr result (Tells (NoTokenAfter self.old)) }
         ensures fault { IfErr result (IsFault (text_in self.old)) }
     {
         loop {
@@ -192,8 +192,8 @@ impl<'a, A: Allocator + Copy> Context<'a, A> {
         requires { Spans (text_in self.old) start (token_end self.old) }
         ensures kept { Keeps self.old self.new }
         ensures found { IfOk result (LeadsToFirst container self.old self.new) }
-        ensures only { IfOk result (λ found. IfSome found (λ _. OnlyFirst container self.old self.new)) }
-        ensures refused { IfErr result (λ e. IsSpared (text_in self.old) e ⊎ NothingFirst container self.old) }
+        ensures only { IfOk result (WhereSome (OnlyFirst container self.old self.new)) }
+        ensures refused { IfErr result (Tells (NothingFirst container self.old)) }
         ensures fault { IfErr result (IsFault (text_in self.old)) }
     {
         let Some(token) = self.scan()? else {
@@ -214,8 +214,8 @@ impl<'a, A: Allocator + Copy> Context<'a, A> {
         requires { Spans (text_in self.old) start (token_end self.old) }
         ensures kept { Keeps self.old self.new }
         ensures found { IfOk result (LeadsAfterComma container self.old self.new) }
-        ensures only { IfOk result (λ found. IfSome found (λ _. OnlyAfterComma container self.old self.new)) }
-        ensures refused { IfErr result (λ e. IsSpared (text_in self.old) e ⊎ NothingAfterComma container self.old) }
+        ensures only { IfOk result (WhereSome (OnlyAfterComma container self.old self.new)) }
+        ensures refused { IfErr result (Tells (NothingAfterComma container self.old)) }
         ensures fault { IfErr result (IsFault (text_in self.old)) }
     {
         let comma = self.range();
@@ -252,8 +252,8 @@ impl<'a, A: Allocator + Copy> Context<'a, A> {
         requires { Spans (text_in self.old) start (token_end self.old) }
         ensures kept { Keeps self.old self.new }
         ensures found { IfOk result (LeadsToNext container self.old self.new) }
-        ensures only { IfOk result (λ found. IfSome found (λ _. OnlyNext container self.old self.new)) }
-        ensures refused { IfErr result (λ e. IsSpared (text_in self.old) e ⊎ NothingNext container self.old) }
+        ensures only { IfOk result (WhereSome (OnlyNext container self.old self.new)) }
+        ensures refused { IfErr result (Tells (NothingNext container self.old)) }
         ensures fault { IfErr result (IsFault (text_in self.old)) }
     {
         let end = self.scanner.token_end();
@@ -298,7 +298,7 @@ impl<'a, A: Allocator + Copy> Context<'a, A> {
     pub fn pass_colon(&mut self) -> Result<(), ParseError>
         ensures kept { Keeps self.old self.new }
         ensures found { OnOk result (PassesColon self.old self.new) }
-        ensures refused { IfErr result (λ e. IsSpared (text_in self.old) e ⊎ NoColon self.old) }
+        ensures refused { IfErr result (Tells (NoColon self.old)) }
         ensures fault { IfErr result (IsFault (text_in self.old)) }
     {
         let Some(token) = self.scan()? else {

@@ -1,5 +1,5 @@
 //! Values read by recursive descent.
-ghost use Rattle.std.specs.Prelude.{◌≡◌, ◌+◌, ◌≤◌, ◌⊎◌, IfOk, IfErr, OnOk, IfSome, option_map, is_some, chars};
+ghost use Rattle.std.specs.Prelude.{◌≡◌, ◌+◌, ◌≤◌, IfOk, IfErr, OnOk, IfSome, option_map, is_some, chars};
 ghost use Rattle.jsonc_text.specs.Faults.{IsFault};
 ghost use Rattle.jsonc_text.specs.Grammar.{IsDocument};
 ghost use Rattle.jsonc_text.specs.OptionsOf.{parse_options};
@@ -8,7 +8,7 @@ ghost use Rattle.jsonc_text.specs.Tokens.{scanned_of};
 ghost use Rattle.jsonc_ast.specs.Context.{text_in, options_in, token_start, token_end, Keeps, IsToken, IsBracket};
 ghost use Rattle.jsonc_ast.specs.Located.{leaf_at, range_at, value_at, IsLocatedDocument};
 ghost use Rattle.jsonc_ast.specs.Reads.{Reads, ReadsMember};
-ghost use Rattle.jsonc_ast.specs.Refusals.{IsSpared, NoDocument, NoLiteral, NoPropertyHere, NoValueHere};
+ghost use Rattle.jsonc_ast.specs.Refusals.{NoLiteral, NoPropertyHere, NoValueHere, RefusesText, Tells};
 ghost use Rattle.jsonc_ast.specs.Scanned.{leaf_value};
 ghost use Rattle.jsonc_ast.specs.Views.{located, member_of, plain, located_in, plain_in};
 
@@ -68,7 +68,7 @@ fn parse_value<'a, A: Allocator + Copy>(
     ensures kept { OnOk result (Keeps context.old context.new) }
     ensures found { IfOk result (λ v. Reads context.old context.new (located v)) }
     ensures within { IfOk result (λ v. around (plain v) + count ≤ 512) }
-    ensures refused { IfErr result (λ e. IsSpared (text_in context.old) e ⊎ NoValueHere context.old count) }
+    ensures refused { IfErr result (Tells (NoValueHere context.old count)) }
     ensures fault { IfErr result (IsFault (text_in context.old)) }
 {
     match token {
@@ -89,7 +89,7 @@ fn parse_array<'a, A: Allocator + Copy>(
     ensures kept { OnOk result (Keeps context.old context.new) }
     ensures found { IfOk result (λ v. Reads context.old context.new (located v)) }
     ensures within { IfOk result (λ v. around (plain v) + count ≤ 512) }
-    ensures refused { IfErr result (λ e. IsSpared (text_in context.old) e ⊎ NoValueHere context.old count) }
+    ensures refused { IfErr result (Tells (NoValueHere context.old count)) }
     ensures fault { IfErr result (IsFault (text_in context.old)) }
 {
     let start = context.scanner.token_start();
@@ -117,7 +117,7 @@ fn parse_object<'a, A: Allocator + Copy>(
     ensures kept { OnOk result (Keeps context.old context.new) }
     ensures found { IfOk result (λ v. Reads context.old context.new (located v)) }
     ensures within { IfOk result (λ v. around (plain v) + count ≤ 512) }
-    ensures refused { IfErr result (λ e. IsSpared (text_in context.old) e ⊎ NoValueHere context.old count) }
+    ensures refused { IfErr result (Tells (NoValueHere context.old count)) }
     ensures fault { IfErr result (IsFault (text_in context.old)) }
 {
     let start = context.scanner.token_start();
@@ -145,7 +145,7 @@ fn parse_property<'a, A: Allocator + Copy>(
     ensures kept { OnOk result (Keeps context.old context.new) }
     ensures found { IfOk result (λ p. ReadsMember context.old context.new (member_of p)) }
     ensures within { IfOk result (λ p. around (value_at (member_of p).value) + (count + 1) ≤ 512) }
-    ensures refused { IfErr result (λ e. IsSpared (text_in context.old) e ⊎ NoPropertyHere context.old count) }
+    ensures refused { IfErr result (Tells (NoPropertyHere context.old count)) }
     ensures fault { IfErr result (IsFault (text_in context.old)) }
 {
     let start = context.scanner.token_start();
@@ -174,7 +174,7 @@ pub fn parse_to_ast<'a, A: Allocator + Copy>(
     ensures accepted { IfOk result (λ r. IsDocument (parse_options options.now) (chars text.now) (plain_in r)) }
     ensures located { IfOk result (λ r. IsLocatedDocument (parse_options options.now) text.now (located_in r)) }
     ensures within { IfOk result (λ r. IfSome r.value (λ v. around (plain v) ≤ 512)) }
-    ensures refused { IfErr result (λ e. IsSpared text.now e ⊎ NoDocument (parse_options options.now) (chars text.now)) }
+    ensures refused { IfErr result (RefusesText (parse_options options.now) text.now) }
     ensures tokens { IfOk result (λ r. is_some r.tokens ≡ collect.now.tokens) }
     ensures fault { IfErr result (IsFault text.now) }
 {

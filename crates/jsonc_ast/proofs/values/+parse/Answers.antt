@@ -6,17 +6,17 @@ use Rattle.jsonc_ast.specs.Views.{located, member_of}
 use Rattle.jsonc_ast.proofs.Scans.{kept_on}
 use Rattle.jsonc_ast.proofs.Loops.{AtHand, start_spans, smaller, leads_on, elements_start, elements_turn, elements_whole}
 use Rattle.jsonc_ast.proofs.Properties.{properties_start, properties_turn, properties_whole}
-use Rattle.jsonc_ast.proofs.NoValues.{ElementsLeft, PropertiesLeft, elements_left_start, elements_left_turn, properties_left_start, properties_left_turn, leaf_nowhere, nothing_in_array, nothing_in_object, element_refused, nesting_refused, next_element_refused, property_refused, next_property_refused, name_missing, colon_missing, nesting_in_property, no_token_for_value, end_for_value, value_refused}
+use Rattle.jsonc_ast.proofs.NoValues.{ElementsLeft, PropertiesLeft, elements_left_start, elements_left_turn, properties_left_start, properties_left_turn, leaf_nowhere, nothing_in_array, nothing_in_object, element_refused, nesting_refused, next_element_refused, property_refused, next_property_refused, name_missing, colon_missing, no_token_for_value, end_for_value, value_refused}
 use Rattle.jsonc_ast.specs.Context.{text_in}
 use Rattle.jsonc_ast.specs.Views.{name_at}
-use Rattle.jsonc_ast.proofs.Refusals.{err_of, err_some, still, still_in}
+use Rattle.jsonc_ast.proofs.Refusals.{err_of, err_some, still}
 use Rattle.jsonc_ast.proofs.values.+parse.Goals as goal
 
 pub parse_array-loop-next-init : goal.parse_array-loop-next-init
 parse_array-loop-next-init g t c =
     let read = c.in_ok-next.ensures in record {
       so_far = elements_start c.args.context.now c.first_item.new.self c.in_ok-next.next (map located c.new-elements.result.items) c.args.count (ap (map located) c.new-elements.ensures.items)
-      c.first_item.ensures.kept read.found c.requires.around;
+          c.first_item.ensures.kept read.found c.requires.around;
       left = elements_left_start c.args.context.now c.first_item.new.self c.in_ok-next.next c.args.count c.requires.token c.first_item.ensures.kept read.only;
     }
 
@@ -48,10 +48,10 @@ parse_array-loop-next-preserved g t c =
     let now = c.loop-next.context in
     let inv = c.loop-next.invariant in record {
       so_far = elements_turn old now c.parse_value.new.context c.next_item.new.self c.loop-next.next c.in_ok-next-2.next c.in-Some.token (located c.in_ok-value.value)
-      (map located c.loop-next.elements.items) (map located c.push_value.new.elements.items) c.args.count
-      inv.so_far c.in-Some.is read.kept read.found c.next_item.ensures.kept c.in_ok-next-2.ensures.found c.in-Ok.ensures read.within;
+          (map located c.loop-next.elements.items) (map located c.push_value.new.elements.items) c.args.count
+          inv.so_far c.in-Some.is read.kept read.found c.next_item.ensures.kept c.in_ok-next-2.ensures.found c.in-Ok.ensures read.within;
       left = elements_left_turn old now inv.so_far.kept c.in-Some.token c.args.count (subst (λ n. ElementsLeft old now n c.args.count) c.in-Some.is inv.left)
-      c.parse_value.new.context (located c.in_ok-value.value) read.kept read.found c.next_item.new.self c.in_ok-next-2.next c.next_item.ensures.kept c.in_ok-next-2.ensures.only;
+          c.parse_value.new.context (located c.in_ok-value.value) read.kept read.found c.next_item.new.self c.in_ok-next-2.next c.next_item.ensures.kept c.in_ok-next-2.ensures.only;
     }
 
 pub parse_array-returns-clause-found : goal.parse_array-returns-clause-found
@@ -64,7 +64,7 @@ pub parse_object-loop-next-init : goal.parse_object-loop-next-init
 parse_object-loop-next-init g t c =
     let read = c.in_ok-next.ensures in record {
       so_far = properties_start c.args.context.now c.first_item.new.self c.in_ok-next.next (map member_of c.new-properties.result.items) c.args.count (ap (map member_of) c.new-properties.ensures.items)
-      c.first_item.ensures.kept read.found c.requires.around;
+          c.first_item.ensures.kept read.found c.requires.around;
       left = properties_left_start c.args.context.now c.first_item.new.self c.in_ok-next.next c.args.count c.requires.token c.first_item.ensures.kept read.only;
     }
 
@@ -91,10 +91,10 @@ parse_object-loop-next-preserved g t c =
     let now = c.loop-next.context in
     let inv = c.loop-next.invariant in record {
       so_far = properties_turn old now c.parse_property.new.context c.next_item.new.self c.loop-next.next c.in_ok-next-2.next c.in-Some.token (member_of c.in_ok-property.property)
-      (map member_of c.loop-next.properties.items) (map member_of c.push_property.new.properties.items) c.args.count
-      inv.so_far c.in-Some.is read.kept read.found c.next_item.ensures.kept c.in_ok-next-2.ensures.found c.in-Ok.ensures small;
+          (map member_of c.loop-next.properties.items) (map member_of c.push_property.new.properties.items) c.args.count
+          inv.so_far c.in-Some.is read.kept read.found c.next_item.ensures.kept c.in_ok-next-2.ensures.found c.in-Ok.ensures small;
       left = properties_left_turn old now inv.so_far.kept c.in-Some.token c.args.count (subst (λ n. PropertiesLeft old now n c.args.count) c.in-Some.is inv.left)
-      c.parse_property.new.context (member_of c.in_ok-property.property) read.kept read.found c.next_item.new.self c.in_ok-next-2.next c.next_item.ensures.kept c.in_ok-next-2.ensures.only;
+          c.parse_property.new.context (member_of c.in_ok-property.property) read.kept read.found c.next_item.new.self c.in_ok-next-2.next c.next_item.ensures.kept c.in_ok-next-2.ensures.only;
     }
 
 pub parse_object-returns-clause-found : goal.parse_object-returns-clause-found
@@ -122,7 +122,7 @@ parse_array-returns-in_err-value-clause-refused g t c =
     let inv = c.loop-next.invariant in
     let left = subst (λ n. ElementsLeft old now n c.args.count) c.in-Some.is inv.left in
     let e = c.in_err-value.field-0.0 in
-    err_of _ e c.from_residual-in_err-value.result c.from_residual-in_err-value.ensures.1 (still_in e (text_in now) (text_in old) inv.so_far.kept.text (element_refused old now inv.so_far.kept c.in-Some.token c.args.count left) c.in_err-value.ensures.refused)
+    err_of _ e c.from_residual-in_err-value.result c.from_residual-in_err-value.ensures.1 (still (element_refused old now inv.so_far.kept c.in-Some.token c.args.count left) c.in_err-value.ensures.refused)
 
 pub parse_array-returns-in_err-next-2-clause-refused : goal.parse_array-returns-in_err-next-2-clause-refused
 parse_array-returns-in_err-next-2-clause-refused g t c =
@@ -134,7 +134,7 @@ parse_array-returns-in_err-next-2-clause-refused g t c =
     let read = c.in_ok-value.ensures in
     let e = c.in_err-next-2.field-0.0 in
     err_of _ e c.from_residual-in_err-next-2.result c.from_residual-in_err-next-2.ensures.1
-    (still_in e (text_in mid) (text_in old) (kept_on old now mid inv.so_far.kept read.kept).text
+    (still
     (next_element_refused old now inv.so_far.kept c.in-Some.token c.args.count left mid (located c.in_ok-value.value) read.kept read.found) c.in_err-next-2.ensures.refused)
 
 pub parse_object-returns-in_err-next-clause-refused : goal.parse_object-returns-in_err-next-clause-refused
@@ -148,7 +148,7 @@ parse_object-returns-in_err-property-clause-refused g t c =
     let inv = c.loop-next.invariant in
     let left = subst (λ n. PropertiesLeft old now n c.args.count) c.in-Some.is inv.left in
     let e = c.in_err-property.field-0.0 in
-    err_of _ e c.from_residual-in_err-property.result c.from_residual-in_err-property.ensures.1 (still_in e (text_in now) (text_in old) inv.so_far.kept.text (property_refused old now inv.so_far.kept c.in-Some.token c.args.count left) c.in_err-property.ensures.refused)
+    err_of _ e c.from_residual-in_err-property.result c.from_residual-in_err-property.ensures.1 (still (property_refused old now inv.so_far.kept c.in-Some.token c.args.count left) c.in_err-property.ensures.refused)
 
 pub parse_object-returns-in_err-next-2-clause-refused : goal.parse_object-returns-in_err-next-2-clause-refused
 parse_object-returns-in_err-next-2-clause-refused g t c =
@@ -160,7 +160,7 @@ parse_object-returns-in_err-next-2-clause-refused g t c =
     let read = c.in_ok-property.ensures in
     let e = c.in_err-next-2.field-0.0 in
     err_of _ e c.from_residual-in_err-next-2.result c.from_residual-in_err-next-2.ensures.1
-    (still_in e (text_in mid) (text_in old) (kept_on old now mid inv.so_far.kept read.kept).text
+    (still
     (next_property_refused old now inv.so_far.kept c.in-Some.token c.args.count left mid (member_of c.in_ok-property.property) read.kept read.found) c.in_err-next-2.ensures.refused)
 
 pub parse_property-returns-in_err-name-clause-refused : goal.parse_property-returns-in_err-name-clause-refused
@@ -180,7 +180,7 @@ parse_property-returns-in_err-found-clause-refused g t c =
     let colon = c.in_ok-pass_colon.ensures in
     let e = c.in_err-found.field-0.0 in
     err_of _ e c.from_residual-in_err-found.result c.from_residual-in_err-found.ensures.1
-    (still_in e (text_in mid) (text_in old) colon.kept.text (no_token_for_value old mid (name_at c.in_ok-name.name) c.args.count name colon.kept colon.found) c.in_err-found.ensures.refused)
+    (still (no_token_for_value old mid (name_at c.in_ok-name.name) c.args.count name colon.kept colon.found) c.in_err-found.ensures.refused)
 
 pub parse_property-returns-in_default-clause-refused : goal.parse_property-returns-in_default-clause-refused
 parse_property-returns-in_default-clause-refused g t c =
@@ -201,7 +201,7 @@ parse_property-returns-in_err-value-clause-refused g t c =
     let at = c.scan.new.self in
     let e = c.in_err-value.field-0.0 in
     err_of _ e c.from_residual-in_err-value.result c.from_residual-in_err-value.ensures.1
-    (still_in e (text_in at) (text_in old) (found.kept.text ∙ colon.kept.text)
+    (still
     (value_refused old mid (name_at c.in_ok-name.name) c.args.count name colon.kept colon.found at c.in_ok-found.found found.kept found.found found.lexeme) c.in_err-value.ensures.refused)
 
 pub parse_value-returns-in_default-clause-refused : goal.parse_value-returns-in_default-clause-refused

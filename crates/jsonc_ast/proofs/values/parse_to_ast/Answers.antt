@@ -4,12 +4,10 @@ use Rattle.jsonc_ast.specs.Views.{located}
 use Rattle.jsonc_ast.proofs.Grammar.{located_document}
 use Rattle.jsonc_ast.proofs.Leaves.{empty_document, value_document}
 use Rattle.jsonc_ast.proofs.Scans.{moved}
-use Rattle.std.proofs.Common.{◌∙◌, inr, ap, subst, chars}
-use Rattle.jsonc_text.specs.Text.{rest}
-use Rattle.jsonc_ast.specs.Context.{text_in, token_end}
-use Rattle.jsonc_ast.specs.Refusals.{NoDocument}
+use Rattle.std.proofs.Common.{◌∙◌, inr}
+use Rattle.jsonc_ast.specs.Context.{text_in}
 use Rattle.jsonc_ast.proofs.NoValues.{document_no_token, document_no_value, document_no_end, document_goes_on, document_from_start}
-use Rattle.jsonc_ast.proofs.Refusals.{err_of, still_in}
+use Rattle.jsonc_ast.proofs.Refusals.{err_of, still}
 use Rattle.jsonc_ast.proofs.values.parse_to_ast.Goals as goal
 
 pub returns-in_default-clause-accepted : goal.returns-in_default-clause-accepted
@@ -32,7 +30,7 @@ returns-in_err-token-clause-refused g c =
     let old = c.new-context.result in
     let e = c.in_err-token.field-0.0 in
     err_of _ e c.from_residual.result c.from_residual.ensures.1
-    (still_in e (text_in old) c.args.text.now start.text (λ n. document_from_start old _ _ start.start start.text start.options (document_no_token old n)) c.in_err-token.ensures.refused)
+    (still (λ n. document_from_start old _ _ start.start start.text start.options (document_no_token old n)) c.in_err-token.ensures.refused)
 
 pub returns-in_err-value-clause-refused : goal.returns-in_err-value-clause-refused
 returns-in_err-value-clause-refused g c =
@@ -42,7 +40,7 @@ returns-in_err-value-clause-refused g c =
     let read = c.in_ok-token.ensures in
     let e = c.in_err-value.field-0.0 in
     err_of _ e c.from_residual-in_err-value.result c.from_residual-in_err-value.ensures.1
-    (still_in e (text_in now) c.args.text.now (c.scan.ensures.kept.text ∙ start.text)
+    (still
     (λ n. document_from_start old _ _ start.start start.text start.options (document_no_value old now c.in_ok-token.field-0 c.scan.ensures.kept read.found read.lexeme c.in-Some.token c.in-Some.is n)) c.in_err-value.ensures.refused)
 
 pub returns-in_err-scan-clause-refused : goal.returns-in_err-scan-clause-refused
@@ -55,7 +53,7 @@ returns-in_err-scan-clause-refused g c =
     let value = c.in_ok-value.ensures in
     let e = c.in_err-scan.field-0.0 in
     err_of _ e c.from_residual-in_err-scan.result c.from_residual-in_err-scan.ensures.1
-    (still_in e (text_in mid) c.args.text.now (value.kept.text ∙ c.scan.ensures.kept.text ∙ start.text)
+    (still
     (λ n. document_from_start old _ _ start.start start.text start.options (document_no_end old now c.in_ok-token.field-0 c.scan.ensures.kept read.found read.lexeme c.in-Some.token c.in-Some.is mid (located c.in_ok-value.value) value.kept value.found n)) c.in_err-scan.ensures.refused)
 
 pub returns-in_default-2-clause-refused : goal.returns-in_default-2-clause-refused

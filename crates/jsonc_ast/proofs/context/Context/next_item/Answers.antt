@@ -4,7 +4,7 @@ use Rattle.jsonc_ast.specs.Containers.{closing}
 use Rattle.jsonc_ast.specs.Context.{text_in, options_in}
 use Rattle.jsonc_ast.proofs.Scans.{closed, without_comma, after_comma}
 use Rattle.jsonc_ast.specs.Refusals.{after}
-use Rattle.jsonc_ast.proofs.Refusals.{err_of, ok_some, err_some, still, still_in, refuted, no_token_lexeme, nowhere_next, nothing_at_end, nothing_next, next_after_comma, missing_refused, only_next}
+use Rattle.jsonc_ast.proofs.Refusals.{err_of, ok_some, err_some, still, refuted, no_token_lexeme, nowhere_next, nothing_at_end, nothing_next, next_after_comma, missing_refused, only_next}
 use Rattle.jsonc_ast.proofs.context.Context.next_item.Goals as goal
 
 pub returns-then-is_closed_by-clause-found : goal.returns-then-is_closed_by-clause-found
@@ -46,7 +46,7 @@ returns-then-is_comma-clause-refused g c =
     let old = c.args.self.now in
     let new = c.scan.new.self in
     err_some c.item_after_comma.result
-    (λ e. still_in e (text_in new) (text_in old) c.scan.ensures.kept.text (nothing_next old new c.in_ok-token.field-0 c.scan.ensures.kept read.found read.lexeme c.in-Some.token c.in-Some.is c.args.container (c.is_comma.ensures.0 c.if-is_comma.true)))
+    (λ e. still (nothing_next old new c.in_ok-token.field-0 c.scan.ensures.kept read.found read.lexeme c.in-Some.token c.in-Some.is c.args.container (c.is_comma.ensures.0 c.if-is_comma.true)))
     c.item_after_comma.ensures.refused
 
 pub returns-then-not-self-clause-refused : goal.returns-then-not-self-clause-refused
