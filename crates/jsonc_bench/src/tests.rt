@@ -1,4 +1,5 @@
 //! What no clause says: that calls answer with ample memory, and what comes where memory or a stream fails.
+mod awaited;
 mod calls;
 mod outcome;
 mod streams;

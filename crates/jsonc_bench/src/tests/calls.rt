@@ -1,10 +1,12 @@
 //! The calls that may want memory.
 
 use crate::document::without_comments;
+use crate::tests::awaited::Awaited;
 use crate::tests::outcome::Outcome;
 use crate::tests::trees::changed_tree;
+use jsonc_engine::calls::{FromReader, ToWriter};
 use jsonc_engine::command::Command;
-use jsonc_engine::engine::run_on;
+use jsonc_engine::engine::{engine, run_on};
 use jsonc_parser::cst::CstRootNode;
 use jsonc_parser::tokens::Token;
 use jsonc_parser::{
@@ -25,16 +27,18 @@ pub enum Call {
     Document,
     TokenCopy,
     TreeChanges,
-    Program,
+    BytesToBytes,
+    WholeRun,
 }
 
 /// All of them.
-pub const CALLS: [Call; 5] = [
+pub const CALLS: [Call; 6] = [
     Call::SyntaxTree,
     Call::Document,
     Call::TokenCopy,
     Call::TreeChanges,
-    Call::Program,
+    Call::BytesToBytes,
+    Call::WholeRun,
 ];
 
 /// A text of plain JSON, with more elements and properties than a list has room for at first.
@@ -50,7 +54,8 @@ pub fn outcome_of(call: Call, heap: Heap<'_>) -> Outcome {
         Call::Document => document(heap),
         Call::TokenCopy => token_copy(heap),
         Call::TreeChanges => changed_tree(heap),
-        Call::Program => program(heap),
+        Call::BytesToBytes => bytes_to_bytes(heap),
+        Call::WholeRun => whole_run(heap),
     })
 }
 
@@ -84,9 +89,19 @@ fn token_copy(heap: Heap<'_>) -> Result<Outcome, Outcome> {
     Ok(Outcome::of(copy == token && copy.as_str() == "owned"))
 }
 
-fn program(heap: Heap<'_>) -> Result<Outcome, Outcome> {
+fn bytes_to_bytes(heap: Heap<'_>) -> Result<Outcome, Outcome> {
     let Some(written) = run_on(heap, Command::Print, PLAIN.as_bytes())? else {
         return Err(Outcome::Other);
     };
     Ok(Outcome::of(written.as_str() == PLAIN))
+}
+
+fn whole_run(heap: Heap<'_>) -> Result<Outcome, Outcome> {
+    let mut source = FromReader::new(PLAIN.as_bytes());
+    let mut sink = ToWriter::new(Awaited {
+        rest: PLAIN.as_bytes(),
+    });
+    engine(heap, &["print"], &mut source, &mut sink)?;
+    let ToWriter { writer, failed: _ } = sink;
+    Ok(Outcome::of(writer.rest.is_empty()))
 }

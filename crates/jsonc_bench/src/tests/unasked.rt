@@ -1,31 +1,13 @@
 //! Calls that take no memory.
 
 use crate::document::without_comments;
+use crate::tests::awaited::Awaited;
 use jsonc_parser::cst::CstRootNode;
 use jsonc_parser::{ParseOptions, Scanner, ScannerOptions};
 use refusing::Refusing;
 use std::default::Default;
-use std::fmt;
 use std::fmt::Write;
 use std::test::Fail;
-
-/// What is still to be written.
-#[derive(Drop)]
-struct Awaited<'a> {
-    rest: &'a [u8],
-}
-
-impl fmt::Write for Awaited<'_> {
-    fn write_str(&mut self, s: &str) -> fmt::Result {
-        match self.rest.strip_prefix(s.as_bytes()) {
-            Some(rest) => {
-                self.rest = rest;
-                Ok(())
-            }
-            None => Err(fmt::Error),
-        }
-    }
-}
 
 #[test]
 fn scanning_takes_no_memory(rt: HostRuntime) -> Result<(), Fail> {
