@@ -1,2 +1,3 @@
 pub mod Zipped
 pub mod Lists
+pub mod Places
