@@ -1,8 +1,8 @@
 //! Worked rows of the scanner and of decoding.
 ghost use Rattle.std.specs.Prelude.{IsCharBoundary};
 
-use crate::provider::{CharProvider, parse_string, parse_string_with_char_provider};
-use crate::scanner::Scanner;
+use jsonc_scan::provider::{CharProvider, parse_string, parse_string_with_char_provider};
+use jsonc_scan::scanner::Scanner;
 use jsonc_text::chars::{char_at, char_end};
 use jsonc_text::options::ScannerOptions;
 use jsonc_text::tokens::Token;
