@@ -6,6 +6,7 @@
 #![tactic(auto)]
 
 pub mod cst;
+pub mod string;
 
 pub use jsonc_ast::collect::{CollectOptions, CommentCollectionStrategy, ParseResult};
 pub use jsonc_ast::{ast, parse_to_ast};
@@ -13,3 +14,4 @@ pub use jsonc_scan::scanner::Scanner;
 pub use jsonc_text::errors::ParseStringErrorKind;
 pub use jsonc_text::options::{ParseOptions, ScannerOptions};
 pub use jsonc_text::{common, errors, tokens};
+pub use jsonc_value::{JsonArray, JsonObject, JsonValue, Map, map};
