@@ -11,8 +11,6 @@ pub fn answer(alloc: Global, question: &Question) -> Result<Option<String>, Allo
     match question {
         Question::NotBuilt => Ok(None),
         Question::Program { words, input } => { outcome(alloc, words.as_slice(), input.as_slice()) }
-        // Escapes in strings are refused for now.
-        Question::Scan { text, .. } | Question::Ast { text, .. } if text.contains('\\') => Ok(None),
         Question::Scan { options, text } => Ok(Some(tokens(alloc, text.as_str(), options)?)),
         Question::Ast {
             options,
