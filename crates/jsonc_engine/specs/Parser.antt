@@ -1,5 +1,5 @@
 -- The words of the parser's contracts that the contracts of this crate use.
-pub use Rattle.jsonc_parser.specs.Document.{edit_error_text, printed_of}
+pub use Rattle.jsonc_parser.specs.Document.{RefusesText, edit_error_text, printed_of}
 pub use Rattle.jsonc_parser.specs.declared.cst.EditError.{EditError}
 pub use Rattle.jsonc_parser.specs.declared.cst.EditError.TheVariants.{OutOfMemory}
 pub use Rattle.jsonc_text.specs.Faults.{IsFault}

@@ -4,9 +4,9 @@ ghost use Rattle.std.specs.Io.KnownBytes.{Appends};
 ghost use Rattle.jsonc_engine.specs.Calls.{one_more};
 ghost use Rattle.jsonc_engine.specs.Command.{Name};
 ghost use Rattle.jsonc_engine.specs.Fault.{EndsRun, IsFaultOn};
-ghost use Rattle.jsonc_engine.specs.Input.{IsInput, IsInputOf};
+ghost use Rattle.jsonc_engine.specs.Input.{IsInput, IsInputOf, IsRefusal};
 ghost use Rattle.jsonc_engine.specs.Output.{IsOutput};
-ghost use Rattle.jsonc_engine.specs.Parser.{IsFault, ParseError, parse_options};
+ghost use Rattle.jsonc_engine.specs.Parser.{ParseError, all_on, parse_options};
 
 use crate::calls::{Sink, Source};
 use crate::command::Command;
@@ -79,7 +79,7 @@ pub fn run_with<A: Allocator + Copy>(
     ensures checked { IfOk result (λ output. command ≡ Command.Check → output ≡ None) }
     ensures accepted { OnOk result (IsInputOf (parse_options options.now) input.now) }
     ensures not_utf8 { IsErrOf result Fault.NotUtf8 ↔ ¬ (IsUtf8 input.now) }
-    ensures refused { IfErr result (IsFaultOn input.now) }
+    ensures refused { IfErr result (IsFaultOn (parse_options options.now) input.now) }
 {
     let Ok(text) = str::from_utf8(input) else {
         return Err(Fault::NotUtf8);
@@ -107,7 +107,7 @@ pub fn run_on<A: Allocator + Copy>(
     ensures checked { IfOk result (λ output. command ≡ Command.Check → output ≡ None) }
     ensures accepted { OnOk result (IsInput input.now) }
     ensures not_utf8 { IsErrOf result Fault.NotUtf8 ↔ ¬ (IsUtf8 input.now) }
-    ensures refused { IfErr result (IsFaultOn input.now) }
+    ensures refused { IfErr result (IsFaultOn all_on input.now) }
 {
     run_with(alloc, &ParseOptions::default(), command, input)
 }
@@ -134,7 +134,7 @@ pub fn engine<A: Allocator + Copy, S: Source, K: Sink>(
 
     // The cause that a refusal names holds, and it names no other.
     ensures input { (error : ParseError) → IsErrOf result (Fault.Input error)
-        → IfSome (S.remaining source.old) (λ input. IsFault input error) }
+        → IfSome (S.remaining source.old) (λ input. IsRefusal input error) }
     ensures not_utf8 { IsErrOf result Fault.NotUtf8
         → IfSome (S.remaining source.old) (λ input. ¬ (IsUtf8 input)) }
     ensures read { IsErrOf result Fault.Read

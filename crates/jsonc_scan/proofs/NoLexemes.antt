@@ -160,7 +160,7 @@ number_name h i n (b, u, s, x) = signed s h i n x
     signed Sign.minus h i n x = cc
     signed (Sign.plus p) h i n x = cc
 
-no_string : (o : Options) {t v r : List ℕ} → IsTrue (no (λ c. c == 0x22 || (c == 0x27 && o.single_quoted_strings)) (next t)) → IsString o t v r → ⊥
+pub no_string : (o : Options) {t v r : List ℕ} → IsTrue (no (λ c. c == 0x22 || (c == 0x27 && o.single_quoted_strings)) (next t)) → IsString o t v r → ⊥
 no_string o n (q, s, a, e, d) = clash (q == 0x22 || (q == 0x27 && o.single_quoted_strings)) (rw e at n) a
 
 -- where no word stands, and nothing that begins otherwise

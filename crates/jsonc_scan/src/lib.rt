@@ -9,6 +9,7 @@ mod escape;
 mod faults;
 mod lexeme;
 mod number;
+pub mod provider;
 mod reads;
 pub mod scanner;
 mod stops;

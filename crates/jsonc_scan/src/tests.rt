@@ -43,12 +43,12 @@ const ROWS: &str = r#"
 #[test]
 fn texts_have_these_tokens(rt: HostRuntime) -> Result<(), Fail> {
     let options = ScannerOptions::default();
-    let mut rows = 0;
+    let mut rows: usize = 0;
     for line in ROWS.lines() {
         let Some((text, wanted)) = line.split_once(" => ") else {
             continue;
         };
-        rows += 1;
+        rows = rows.saturating_add(1);
         let mut scanner = Scanner::new(rt.alloc(), text, &options);
         for token in wanted.split("; ") {
             let found = shown(&rt, &mut scanner)?;

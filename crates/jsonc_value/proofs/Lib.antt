@@ -1,2 +1,4 @@
 pub mod Zipped
 pub mod Lists
+pub mod Places
+pub mod Retained

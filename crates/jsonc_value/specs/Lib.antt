@@ -4,3 +4,4 @@ pub mod Names
 pub mod Kinds
 pub mod Lists
 pub mod Lends
+pub mod Retained

@@ -18,6 +18,7 @@ mod equality;
 mod iter;
 mod lends;
 mod lists;
+mod retain;
 
 use indexmap::{IndexSet, set};
 pub use iter::{IntoIter, Iter};

@@ -1,15 +1,23 @@
 //! Values of a map, to write.
-ghost use Rattle.std.specs.Prelude.{◌≡◌};
-ghost use Rattle.std.specs.Option.{option_copied_mut};
+ghost use Rattle.std.specs.Prelude.{◌≡◌, ◌<◌, length, slice_get, Some, IfOk, IfErr, OnOk, OnErr};
 ghost use Rattle.std.specs.Borrow.{sem};
-ghost use Rattle.std.specs.Map.{lookup};
+ghost use Rattle.std.specs.Option.{option_copied_mut, unwrap_or};
+ghost use Rattle.std.specs.Map.{lookup, values_of};
+ghost use Rattle.jsonc_value.specs.Lists.{IsPlaceOf};
 
 use super::Map;
-use std::alloc::Allocator;
+use std::alloc::{AllocFailed, Allocator};
 use std::hash::Hash;
 
+/// The place of a key in a map, at its pair or after the last one.
+#[derive(Drop)]
+pub struct Entry<'a, K: Eq + Hash, V, A: Allocator> {
+    map: &'a mut Map<K, V, A>,
+    key: K,
+}
+
 impl<K: Eq + Hash, V, A: Allocator> Map<K, V, A> {
-    ghost use Rattle.jsonc_value.specs.Lends.{lends_value};
+    ghost use Rattle.jsonc_value.specs.Lends.{lends_value, rests_if_refused};
 
     /// The value of this key, to write.
     pub fn get_mut(&mut self, key: &K) -> Option<&mut V>
@@ -19,6 +27,61 @@ impl<K: Eq + Hash, V, A: Allocator> Map<K, V, A> {
         match self.keys.get_index_of(key) {
             Some(index) => Some(&mut self.values[index]),
             None => None,
+        }
+    }
+
+    /// The place of this key. A refusal leaves the pairs as they are, and gives the key back.
+    pub fn entry(&mut self, key: K) -> Result<Entry<'_, K, V, A>, AllocFailed<K>>
+        ensures* unchanged_at_err { sem 𝓛 (rests_if_refused K.row V.row A.row K.Hash A.Allocator self.entry result) }
+        ensures same_map { IfOk result (λ e. e.map.ghost_name ≡ self.entry.ghost_name) }
+        ensures map { IfOk result (λ e. e.map.now ≡ self.old) }
+        ensures key { IfOk result (λ e. e.key ≡ key) }
+        ensures value_returned { IfErr result (λ y. y.value ≡ key) }
+    {
+        match self.reserve(1) {
+            Ok(()) => Ok(Entry { map: self, key }),
+            Err(_) => Err(AllocFailed { value: key }),
+        }
+    }
+}
+
+impl<K: Eq + Hash + Drop, V: Drop, A: Allocator> Map<K, V, A> {
+    // The place of this key, which goes last with the value where the map lacks it.
+    fn place_or_insert(&mut self, key: K, value: V) -> Result<usize, AllocFailed<V>>
+        ensures within { IfOk result (λ i. i < length self.new) }
+        ensures place { IfOk result (λ i. IsPlaceOf K.eq key self.old self.new i) }
+        ensures value { IfOk result (λ i. slice_get (values_of self.new) i ≡ Some (unwrap_or (lookup (K.eq key) self.old) value)) }
+        ensures value_returned { IfErr result (λ y. y.value ≡ value) }
+        ensures err { OnErr result (self.new ≡ self.old) }
+    {
+        if self.values.reserve(1).is_err() {
+            return Err(AllocFailed { value });
+        }
+        match self.keys.insert_full(key) {
+            Ok((index, true)) => {
+                self.values.push_reserved(value);
+                Ok(index)
+            }
+            Ok((index, false)) => Ok(index),
+            Err(_) => Err(AllocFailed { value }),
+        }
+    }
+}
+
+impl<'a, K: Eq + Hash + Drop, V: Drop, A: Allocator> Entry<'a, K, V, A> {
+    ghost use Rattle.jsonc_value.specs.Lends.{entry_lends};
+
+    /// The value of the key, to write: the map's own, or this one, which goes last with the key.
+    /// A refusal leaves the pairs as they are, and gives the value back.
+    pub fn or_insert(self, value: V) -> Result<&'a mut V, AllocFailed<V>>
+        ensures* writes_back { sem 𝓛 (entry_lends K.row V.row A.row K.Hash A.Allocator self.entry result) }
+        ensures value { IfOk result (λ v. v.now ≡ unwrap_or (lookup (K.eq self.entry.key) self.entry.map.now) value) }
+        ensures value_returned { IfErr result (λ y. y.value ≡ value) }
+    {
+        let Entry { map, key } = self;
+        match map.place_or_insert(key, value) {
+            Ok(index) => Ok(&mut map.values[index]),
+            Err(failed) => Err(failed),
         }
     }
 }

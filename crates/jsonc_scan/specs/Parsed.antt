@@ -1,0 +1,36 @@
+-- The string at a place, whatever follows it.
+use Rattle.std.specs.Prelude.{ℕ, ◌≡◌, ◌≢◌, ◌≤◌, Bool, List, chars, length, IsCharBoundary}
+use Rattle.std.specs.declared.borrow.CowStr.{CowStr}
+use Rattle.std.specs.Cow.{cow_str_bytes}
+use Rattle.jsonc_scan.specs.declared.provider.ParseStringError.{ParseStringError}
+use Rattle.jsonc_text.specs.declared.errors.ParseStringErrorKind.TheVariants.{OutOfMemory}
+use Rattle.jsonc_text.specs.Options.{all_on}
+use Rattle.jsonc_text.specs.Lexemes.{IsScanned, lexeme, string}
+use Rattle.jsonc_scan.specs.Between.{Between, NoneFrom}
+use Rattle.jsonc_scan.specs.Escapes.{escapes, HoldsBackslash, IsLentUnescaped}
+use Rattle.jsonc_scan.specs.Reads.{OpensString}
+
+-- no string stands at a place
+abbrev pub NoString : Bool → List ℕ → ℕ → Type 0
+NoString taken bytes start = (v : List ℕ) → NoneFrom (IsScanned (escapes taken) (lexeme (string v))) bytes start
+
+-- one of the two quotes stands at a place
+abbrev pub BeginsString : List ℕ → ℕ → Type 0
+BeginsString bytes start = (q : ℕ) × OpensString all_on bytes start q
+
+-- why no string was decoded: none stands at the place, or memory is wanted for one with a backslash
+pub record IsStringError (taken : Bool) (bytes : List ℕ) (start : ℕ) (e : ParseStringError) : Type 0 where
+  pub boundary : IsCharBoundary bytes e.byte_index
+  pub order : start ≤ e.byte_index
+  pub none : e.kind ≢ OutOfMemory → NoString taken bytes start
+  pub memory : e.kind ≡ OutOfMemory → HoldsBackslash bytes start (length bytes)
+
+module _ {A : Type 0} where
+  -- a string stands from one place to another, and stands for s, which the text lends where no backslash is in it
+  pub record Parses (taken : Bool) (bytes : List ℕ) (start end : ℕ) (s : CowStr A) : Type 0 where
+    pub stands : Between (IsScanned (escapes taken) (lexeme (string (chars (cow_str_bytes s))))) bytes start end
+    pub lent : IsLentUnescaped bytes start end s
+
+  -- the same, wherever the string ends
+  abbrev pub ParsesFront : Bool → List ℕ → ℕ → CowStr A → Type 0
+  ParsesFront taken bytes start s = (end : ℕ) × Parses taken bytes start end s
