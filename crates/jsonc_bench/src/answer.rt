@@ -1,6 +1,7 @@
 //! What is answered to a question, and what not yet.
 
 use crate::case::Question;
+use crate::decoded::decoded;
 use crate::program::outcome;
 use crate::scanned::tokens;
 use crate::syntax::syntax;
@@ -12,6 +13,7 @@ pub fn answer(alloc: Global, question: &Question) -> Result<Option<String>, Allo
         Question::NotBuilt => Ok(None),
         Question::Program { words, input } => { outcome(alloc, words.as_slice(), input.as_slice()) }
         Question::Scan { options, text } => Ok(Some(tokens(alloc, text.as_str(), options)?)),
+        Question::Decode { text } => Ok(Some(decoded(alloc, text.as_str())?)),
         Question::Ast {
             options,
             collect,

@@ -12,6 +12,7 @@ use jsonc_parser::{
     CollectOptions, CommentCollectionStrategy, ParseOptions, ParseResult, Scanner, ScannerOptions,
     parse_to_ast,
 };
+use jsonc_scan::provider::parse_string;
 use refusing::Refusing;
 use std::alloc::Global;
 use std::borrow::CowStr;
@@ -23,6 +24,7 @@ pub type Heap<'a> = &'a Refusing<Global>;
 /// A call that may want memory.
 #[derive(Clone, Copy, Debug)]
 pub enum Call {
+    Decode,
     Scan,
     SyntaxTree,
     Document,
@@ -33,7 +35,8 @@ pub enum Call {
 }
 
 /// All of them.
-pub const CALLS: [Call; 7] = [
+pub const CALLS: [Call; 8] = [
+    Call::Decode,
     Call::Scan,
     Call::SyntaxTree,
     Call::Document,
@@ -50,8 +53,14 @@ const PLAIN: &str =
 /// One with comments, an escape and looser spelling.
 const LOOSE: &str = "// one\n[{a: '\\x62', 0x1F: +.5, c: Infinity,}, /* two */ [NaN -1]]";
 
+/// A string with more characters than a text has room for at first, and what it decodes to.
+const ESCAPES: &str = "'one\\ttwo\\u0020three'";
+
+const DECODED: &str = "one\ttwo three";
+
 pub fn outcome_of(call: Call, heap: Heap<'_>) -> Outcome {
     Outcome::within(match call {
+        Call::Decode => decode(heap),
         Call::Scan => scan(heap),
         Call::SyntaxTree => syntax_tree(heap),
         Call::Document => document(heap),
@@ -62,13 +71,17 @@ pub fn outcome_of(call: Call, heap: Heap<'_>) -> Outcome {
     })
 }
 
+fn decode(heap: Heap<'_>) -> Result<Outcome, Outcome> {
+    match parse_string(heap, ESCAPES)? {
+        CowStr::Owned(found) => Ok(Outcome::of(found.as_str() == DECODED)),
+        CowStr::Borrowed(_) => Err(Outcome::Other),
+    }
+}
+
 fn scan(heap: Heap<'_>) -> Result<Outcome, Outcome> {
-    let text = "'one\\ttwo\\u0020three'";
-    let mut scanner = Scanner::new(heap, text, &ScannerOptions::default());
+    let mut scanner = Scanner::new(heap, ESCAPES, &ScannerOptions::default());
     match scanner.scan()? {
-        Some(Token::String(CowStr::Owned(found))) => {
-            Ok(Outcome::of(found.as_str() == "one\ttwo three"))
-        }
+        Some(Token::String(CowStr::Owned(found))) => Ok(Outcome::of(found.as_str() == DECODED)),
         _ => Err(Outcome::Other),
     }
 }
