@@ -1,5 +1,5 @@
 -- What a parser that refuses has seen.
-use Rattle.std.proofs.Common.{ℕ, ◌+◌, ◌<◌, ◌≡◌, ◌≢◌, ◌∙◌, sym, ap, subst, refl, arith, Bool, true, false, not, ◌||◌, ◌==◌, List, [], ◌∷◌, ◌++◌, length, take, append_assoc, Option, Some, None, Result, Ok, Err, IfOk, IfErr, IfSome, IsTrue, IsUtf8, IsCharBoundary, chars, ◌⊎◌, inl, inr}
+use Rattle.std.proofs.Common.{ℕ, ◌<◌, ◌≡◌, ◌≢◌, ◌∙◌, sym, ap, subst, refl, arith, Bool, true, false, not, ◌||◌, ◌==◌, List, [], ◌∷◌, length, Option, Some, None, Result, Ok, Err, IfOk, IfErr, IfSome, IsTrue, IsUtf8, IsCharBoundary, ◌⊎◌, inl, inr}
 use Rattle.std.proofs.lemmas.Str.{IsUtf8-from_is_utf8}
 use Rattle.jsonc_text.specs.declared.errors.ParseError.{ParseError}
 use Rattle.jsonc_text.specs.declared.errors.ParseErrorKind.{ParseErrorKind}
@@ -9,7 +9,7 @@ use Rattle.jsonc_text.specs.declared.tokens.Token.{Token}
 use Rattle.jsonc_text.specs.declared.tokens.Token.TheVariants as token
 use Rattle.jsonc_text.specs.Options.{Options}
 use Rattle.jsonc_text.specs.Faults.{kind_of}
-use Rattle.jsonc_text.specs.Text.{rest, next, no, starts, Many}
+use Rattle.jsonc_text.specs.Text.{rest, next, no, starts}
 use Rattle.jsonc_text.specs.Gaps.{Gap, none, blank, comment, is_blank, IsComment, line, block}
 use Rattle.jsonc_text.specs.Grammar.{Separates, comma, no_comma, Closes, plain, trailing_comma, may_name}
 use Rattle.jsonc_text.specs.Lexemes.{Scanned, lexeme, line_comment, block_comment, LexemeKind, punctuation, string, IsScanned, is_punctuation}
@@ -18,7 +18,7 @@ use Rattle.jsonc_text.specs.Tokens.{scanned_of}
 use Rattle.jsonc_text.proofs.Basics.{clash, or_cases, or_left, test_eq, eq_test, no_starts, starts_also}
 use Rattle.jsonc_text.proofs.Begins.{begins_literal, lexeme_begins}
 use Rattle.jsonc_text.proofs.BlockComments.{block_inside}
-use Rattle.jsonc_text.proofs.Cuts.{many_split, chars_at, end_place}
+use Rattle.jsonc_text.proofs.Cuts.{many_split, end_place}
 use Rattle.jsonc_text.proofs.Steps.{rest_end}
 use Rattle.jsonc_text.proofs.UniqueGaps.{begins_gap, gap_unique, comment_unique, comment_begins, comment_no_blank}
 use Rattle.jsonc_text.proofs.UniqueLexemes.{scanned_unique}

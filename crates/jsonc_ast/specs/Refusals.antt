@@ -1,5 +1,5 @@
 -- What a refusal of a parser says of the text.
-use Rattle.std.specs.Prelude.{ℕ, ◌+◌, ◌≤◌, ◌≡◌, Bool, false, not, ◌||◌, ◌==◌, List, [], ◌∷◌, ◌++◌, Option, Some, None, IfSome, IsTrue, ◌⊎◌, chars}
+use Rattle.std.specs.Prelude.{ℕ, ◌+◌, ◌≤◌, ◌≡◌, Bool, false, not, ◌||◌, ◌==◌, List, [], Option, Some, None, IfSome, IsTrue, ◌⊎◌, chars}
 use Rattle.jsonc_text.specs.declared.errors.ParseError.{ParseError}
 use Rattle.jsonc_text.specs.declared.errors.ParseErrorKind.TheVariants.{OutOfMemory}
 use Rattle.jsonc_text.specs.declared.tokens.Token.{Token}

@@ -3,6 +3,7 @@ mod awaited;
 mod calls;
 mod outcome;
 mod streams;
+mod tokens;
 mod trees;
 mod unasked;
 

@@ -105,28 +105,16 @@ fn build_value<A: Allocator + Copy>(
         Value::Array(array) => {
             let node = tree.push_child(container, Kind::Array)?;
             tree.push_child(node, Kind::Token('['))?;
-            build_elements(
-                tree,
-                node,
-                alloc,
-                text,
-                &array.elements,
-                inside(array.range),
-            )?;
+            let range = inside(array.range);
+            build_elements(tree, node, alloc, text, &array.elements, range)?;
             tree.push_child(node, Kind::Token(']'))?;
             Ok(())
         }
         Value::Object(object) => {
             let node = tree.push_child(container, Kind::Object)?;
             tree.push_child(node, Kind::Token('{'))?;
-            build_properties(
-                tree,
-                node,
-                alloc,
-                text,
-                &object.properties,
-                inside(object.range),
-            )?;
+            let range = inside(object.range);
+            build_properties(tree, node, alloc, text, &object.properties, range)?;
             tree.push_child(node, Kind::Token('}'))?;
             Ok(())
         }

@@ -4,6 +4,7 @@ pub mod Decoding
 pub mod Escapes
 pub mod NoLexemes
 pub mod NoNumbers
+pub mod Providers
 pub mod QuotedStrings
 pub mod Reading
 pub mod Words

@@ -1,14 +1,27 @@
 -- The string at a place, whatever follows it.
-use Rattle.std.specs.Prelude.{ℕ, ◌≡◌, ◌≢◌, ◌≤◌, Bool, List, chars, length, IsCharBoundary}
+use Rattle.std.specs.Prelude.{ℕ, ◌+◌, ◌≡◌, ◌≢◌, ◌≤◌, Bool, List, [], ◌∷◌, Option, Some, None, chars, length, IsCharBoundary}
 use Rattle.std.specs.declared.borrow.CowStr.{CowStr}
 use Rattle.std.specs.Cow.{cow_str_bytes}
 use Rattle.jsonc_scan.specs.declared.provider.ParseStringError.{ParseStringError}
 use Rattle.jsonc_text.specs.declared.errors.ParseStringErrorKind.TheVariants.{OutOfMemory}
+use Rattle.std.specs.Char.{len_utf8}
+use Rattle.jsonc_text.specs.Chars.{Steps}
+use Rattle.jsonc_text.specs.Text.{rest}
 use Rattle.jsonc_text.specs.Options.{all_on}
 use Rattle.jsonc_text.specs.Lexemes.{IsScanned, lexeme, string}
 use Rattle.jsonc_scan.specs.Between.{Between, NoneFrom}
 use Rattle.jsonc_scan.specs.Escapes.{escapes, HoldsBackslash, IsLentUnescaped}
 use Rattle.jsonc_scan.specs.Reads.{OpensString}
+
+-- the character at a place, or none at the end
+abbrev pub StandsHere : List ℕ → ℕ → Option ℕ → Type 0
+StandsHere bytes place None = rest bytes place ≡ []
+StandsHere bytes place (Some c) = Steps bytes place c (place + len_utf8 c)
+
+-- from a place to the one after its character, or nowhere at the end
+pub record PassesChar (bytes : List ℕ) (i j : ℕ) : Type 0 where
+  pub stays : rest bytes i ≡ [] → j ≡ i
+  pub steps : (c : ℕ) (r : List ℕ) → rest bytes i ≡ c ∷ r → Steps bytes i c j
 
 -- no string stands at a place
 abbrev pub NoString : Bool → List ℕ → ℕ → Type 0

@@ -14,6 +14,4 @@ mod reads;
 pub mod scanner;
 mod stops;
 mod string;
-#[cfg(test)]
-mod tests;
 mod word;

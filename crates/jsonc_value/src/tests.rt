@@ -114,3 +114,15 @@ fn elements_are_read_by_their_places(rt: HostRuntime) -> Result<(), Fail> {
     assert!(rt; array.get(2).is_none());
     Ok(())
 }
+
+#[test]
+fn a_place_is_filled_and_pairs_are_turned_down(rt: HostRuntime) -> Result<(), Fail> {
+    let mut map = some_pairs(&rt)?;
+    let present = map.entry('x')?.or_insert(8)?;
+    *present = 4;
+    let absent = map.entry('w')?.or_insert(5)?;
+    *absent = 6;
+    map.retain(|_key, value| *value != 2);
+    assert_eq!(rt; shown(&rt, &map)?.as_str(), " x4 w6");
+    Ok(())
+}

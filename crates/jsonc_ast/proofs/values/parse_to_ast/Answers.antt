@@ -4,10 +4,11 @@ use Rattle.jsonc_ast.specs.Views.{located}
 use Rattle.jsonc_ast.proofs.Grammar.{located_document}
 use Rattle.jsonc_ast.proofs.Leaves.{empty_document, value_document}
 use Rattle.jsonc_ast.proofs.Scans.{moved}
-use Rattle.std.proofs.Common.{◌∙◌, inr}
-use Rattle.jsonc_ast.specs.Context.{text_in}
+use Rattle.std.proofs.Common.{inr}
 use Rattle.jsonc_ast.proofs.NoValues.{document_no_token, document_no_value, document_no_end, document_goes_on, document_from_start}
 use Rattle.jsonc_ast.proofs.Refusals.{err_of, still}
+use Rattle.jsonc_text.specs.OptionsOf.{parse_options}
+use Rattle.jsonc_ast.specs.Refusals.{RefusesText}
 use Rattle.jsonc_ast.proofs.values.parse_to_ast.Goals as goal
 
 pub returns-in_default-clause-accepted : goal.returns-in_default-clause-accepted
@@ -29,7 +30,7 @@ returns-in_err-token-clause-refused g c =
     let start = c.new-context.ensures in
     let old = c.new-context.result in
     let e = c.in_err-token.field-0.0 in
-    err_of _ e c.from_residual.result c.from_residual.ensures.1
+    err_of (RefusesText (parse_options c.args.options.now) c.args.text.now) e c.from_residual.result c.from_residual.ensures.1
     (still (λ n. document_from_start old _ _ start.start start.text start.options (document_no_token old n)) c.in_err-token.ensures.refused)
 
 pub returns-in_err-value-clause-refused : goal.returns-in_err-value-clause-refused
@@ -39,7 +40,7 @@ returns-in_err-value-clause-refused g c =
     let now = c.scan.new.self in
     let read = c.in_ok-token.ensures in
     let e = c.in_err-value.field-0.0 in
-    err_of _ e c.from_residual-in_err-value.result c.from_residual-in_err-value.ensures.1
+    err_of (RefusesText (parse_options c.args.options.now) c.args.text.now) e c.from_residual-in_err-value.result c.from_residual-in_err-value.ensures.1
     (still
     (λ n. document_from_start old _ _ start.start start.text start.options (document_no_value old now c.in_ok-token.field-0 c.scan.ensures.kept read.found read.lexeme c.in-Some.token c.in-Some.is n)) c.in_err-value.ensures.refused)
 
@@ -52,7 +53,7 @@ returns-in_err-scan-clause-refused g c =
     let read = c.in_ok-token.ensures in
     let value = c.in_ok-value.ensures in
     let e = c.in_err-scan.field-0.0 in
-    err_of _ e c.from_residual-in_err-scan.result c.from_residual-in_err-scan.ensures.1
+    err_of (RefusesText (parse_options c.args.options.now) c.args.text.now) e c.from_residual-in_err-scan.result c.from_residual-in_err-scan.ensures.1
     (still
     (λ n. document_from_start old _ _ start.start start.text start.options (document_no_end old now c.in_ok-token.field-0 c.scan.ensures.kept read.found read.lexeme c.in-Some.token c.in-Some.is mid (located c.in_ok-value.value) value.kept value.found n)) c.in_err-scan.ensures.refused)
 

@@ -131,13 +131,10 @@ build_property-returns g t c =
     (ap (λ m. m.value) (sym (view-property p))) lies.0 name.1 name.2 filled.1 filled.2 built.2 built.3)
     c.build_value.ensures
 
-pub build_value-inside-requires : goal.build_value-inside-requires
-build_value-inside-requires g t c =
-    let o = c.in-Array.array in
-    let is : located c.args.value.now ≡ array_at o.range (items_located c.deref.result.now) = ap located c.in-Array.is ∙ view-Array c.in-Array.array ∙ ap (λ xs. array_at o.range (items_located xs)) (sym c.deref.ensures.value) in
+pub build_value-inside-range-requires : goal.build_value-inside-range-requires
+build_value-inside-range-requires g t c =
     let before : CanLay c.args.text.now (located c.args.value.now) = assumption c.requires in
-    let lies : CanLay c.args.text.now (array_at o.range (items_located c.deref.result.now)) = can_lay_as c.args.text.now is before in
-    lies.0.order
+    (can_lay_as c.args.text.now (ap located c.in-Array.is ∙ view-Array c.in-Array.array) before).0.order
 
 pub build_value-build_elements-requires : goal.build_value-build_elements-requires
 build_value-build_elements-requires g t c κs within =
@@ -151,7 +148,7 @@ build_value-build_elements-requires g t c κs within =
     let still : IsTrue (is_container_at c.push_child-in-Array-2.new.self.nodes c.in_ok-node-in-Array.node) = container_kept first container (grows_leaf first bracket.pushes) in
     let before : CanLay c.args.text.now (located c.args.value.now) = assumption c.requires in
     let lies : CanLay c.args.text.now (array_at o.range (items_located c.deref.result.now)) = can_lay_as c.args.text.now is before in
-    let inner : CanLayItems c.args.text.now c.inside.result.start (items_located c.deref.result.now) c.inside.result.end = items_within c.args.text.now _ o.range c.inside.result c.inside.ensures.start c.inside.ensures.end lies.1 in
+    let inner : CanLayItems c.args.text.now c.inside-range.result.start (items_located c.deref.result.now) c.inside-range.result.end = items_within c.args.text.now _ o.range c.inside-range.result c.inside-range.ensures.start c.inside-range.ensures.end lies.1 in
     let deep = size-Array g.row.A.Denot c.in-Array.array in
     let same = ap (λ x. size-Value g.row.A.Denot x) c.in-Array.is in
     let inside = ap (λ xs. most (λ x. size-Value g.row.A.Denot x) xs) c.deref.ensures.value in
@@ -166,15 +163,12 @@ build_value-returns-in_ok-push_child-in-Array-2 g t c =
     let last = c.in_ok-push_child-in-Array-2.ensures in
     let there : c.args.container < length c.args.tree.now.nodes = assumption c.requires in
     let is : located c.args.value.now ≡ array_at o.range (items_located c.deref.result.now) = ap located c.in-Array.is ∙ view-Array c.in-Array.array ∙ ap (λ xs. array_at o.range (items_located xs)) (sym c.deref.ensures.value) in
-    (content.array, _, bracketed_into c.in_ok-node-in-Array.node there node.number node.pushes bracket.pushes built.1 last.pushes, laid_as is (items_inside o.range c.inside.result c.inside.ensures.start c.inside.ensures.end built.2))
+    (content.array, _, bracketed_into c.in_ok-node-in-Array.node there node.number node.pushes bracket.pushes built.1 last.pushes, laid_as is (items_inside o.range c.inside-range.result c.inside-range.ensures.start c.inside-range.ensures.end built.2))
 
-pub build_value-inside-requires-in-Object : goal.build_value-inside-requires-in-Object
-build_value-inside-requires-in-Object g t c =
-    let o = object_parts.out-Object g.row.A.Denot c.in-Object.object in
-    let is : located c.args.value.now ≡ object_at o.range (members_located c.deref-in-Object.result.now) = ap located c.in-Object.is ∙ view-Object c.in-Object.object ∙ ap (λ xs. object_at o.range (members_located xs)) (sym c.deref-in-Object.ensures.value) in
+pub build_value-inside-range-requires-in-Object : goal.build_value-inside-range-requires-in-Object
+build_value-inside-range-requires-in-Object g t c =
     let before : CanLay c.args.text.now (located c.args.value.now) = assumption c.requires in
-    let lies : CanLay c.args.text.now (object_at o.range (members_located c.deref-in-Object.result.now)) = can_lay_as c.args.text.now is before in
-    lies.0.order
+    (can_lay_as c.args.text.now (ap located c.in-Object.is ∙ view-Object c.in-Object.object) before).0.order
 
 pub build_value-build_properties-requires : goal.build_value-build_properties-requires
 build_value-build_properties-requires g t c κs within =
@@ -188,7 +182,7 @@ build_value-build_properties-requires g t c κs within =
     let still : IsTrue (is_container_at c.push_child-in-Object-2.new.self.nodes c.in_ok-node-in-Object.node) = container_kept first container (grows_leaf first bracket.pushes) in
     let before : CanLay c.args.text.now (located c.args.value.now) = assumption c.requires in
     let lies : CanLay c.args.text.now (object_at o.range (members_located c.deref-in-Object.result.now)) = can_lay_as c.args.text.now is before in
-    let inner : CanLayMembers c.args.text.now c.inside-in-Object.result.start (members_located c.deref-in-Object.result.now) c.inside-in-Object.result.end = members_within c.args.text.now _ o.range c.inside-in-Object.result c.inside-in-Object.ensures.start c.inside-in-Object.ensures.end lies.1 in
+    let inner : CanLayMembers c.args.text.now c.inside-range-in-Object.result.start (members_located c.deref-in-Object.result.now) c.inside-range-in-Object.result.end = members_within c.args.text.now _ o.range c.inside-range-in-Object.result c.inside-range-in-Object.ensures.start c.inside-range-in-Object.ensures.end lies.1 in
     let deep = size-Object g.row.A.Denot c.in-Object.object in
     let same = ap (λ x. size-Value g.row.A.Denot x) c.in-Object.is in
     let inside = ap (λ xs. most (λ x. size-ObjectProp g.row.A.Denot x) xs) c.deref-in-Object.ensures.value in
@@ -203,7 +197,7 @@ build_value-returns-in_ok-push_child-in-Object-2 g t c =
     let last = c.in_ok-push_child-in-Object-2.ensures in
     let there : c.args.container < length c.args.tree.now.nodes = assumption c.requires in
     let is : located c.args.value.now ≡ object_at o.range (members_located c.deref-in-Object.result.now) = ap located c.in-Object.is ∙ view-Object c.in-Object.object ∙ ap (λ xs. object_at o.range (members_located xs)) (sym c.deref-in-Object.ensures.value) in
-    (content.object, _, bracketed_into c.in_ok-node-in-Object.node there node.number node.pushes bracket.pushes built.1 last.pushes, laid_as is (members_inside o.range c.inside-in-Object.result c.inside-in-Object.ensures.start c.inside-in-Object.ensures.end built.2))
+    (content.object, _, bracketed_into c.in_ok-node-in-Object.node there node.number node.pushes bracket.pushes built.1 last.pushes, laid_as is (members_inside o.range c.inside-range-in-Object.result c.inside-range-in-Object.ensures.start c.inside-range-in-Object.ensures.end built.2))
 
 pub build_value-returns-in_ok-push_child-in-StringLit : goal.build_value-returns-in_ok-push_child-in-StringLit
 build_value-returns-in_ok-push_child-in-StringLit g t c =

@@ -1,7 +1,7 @@
 use Rattle.std.proofs.Common.{inr, sym, ap, ◌∙◌}
 use Rattle.jsonc_text.specs.Grammar.{plain, Closes}
 use Rattle.jsonc_ast.specs.Containers.{closing}
-use Rattle.jsonc_ast.specs.Context.{text_in, options_in}
+use Rattle.jsonc_ast.specs.Context.{options_in}
 use Rattle.jsonc_ast.proofs.Scans.{closed, without_comma, after_comma}
 use Rattle.jsonc_ast.specs.Refusals.{after}
 use Rattle.jsonc_ast.proofs.Refusals.{err_of, ok_some, err_some, still, refuted, no_token_lexeme, nowhere_next, nothing_at_end, nothing_next, next_after_comma, missing_refused, only_next}

@@ -1,5 +1,9 @@
-//! Worked rows of the scanner.
-use crate::scanner::Scanner;
+//! Worked rows of the scanner and of decoding.
+ghost use Rattle.std.specs.Prelude.{IsCharBoundary};
+
+use jsonc_scan::provider::{CharProvider, parse_string, parse_string_with_char_provider};
+use jsonc_scan::scanner::Scanner;
+use jsonc_text::chars::{char_at, char_end};
 use jsonc_text::options::ScannerOptions;
 use jsonc_text::tokens::Token;
 use std::alloc::Global;
@@ -100,5 +104,77 @@ fn extended_escapes_are_refused_where_they_are_off(rt: HostRuntime) -> Result<()
     let fault = shown(&rt, &mut scanner)?;
     let wanted = "Invalid escape in single quote string on line 1 column 2 (1 to 3)";
     assert_eq!(rt; fault.as_deref(), Some(wanted));
+    Ok(())
+}
+
+/// The string at the front of a text, or its fault and where it is.
+fn decoded<'a>(rt: &HostRuntime, text: &'a str) -> Result<String, Fail> {
+    let alloc = rt.alloc();
+    match parse_string(alloc, text) {
+        Ok(s) => Ok(format!(in alloc; "{}", s.as_str())?),
+        Err(e) => Ok(format!(in alloc; "{} at {}", e.kind, e.byte_index)?),
+    }
+}
+
+#[test]
+fn strings_at_the_front_of_a_text(rt: HostRuntime) -> Result<(), Fail> {
+    assert_eq!(rt; decoded(&rt, r#""abc" def"#)?.as_str(), "abc");
+    assert_eq!(rt; decoded(&rt, r#"'a\x41\q'"#)?.as_str(), "aAq");
+    assert_eq!(rt;
+        decoded(&rt, "abc")?.as_str(),
+        "Unterminated string literal at 0"
+    );
+    assert_eq!(rt;
+        decoded(&rt, r#""ab\u00""#)?.as_str(),
+        "Expected four hex digits at 3"
+    );
+    assert_eq!(rt; decoded(&rt, r#""a\1""#)?.as_str(), "Invalid escape at 2");
+    Ok(())
+}
+
+/// The characters of a text from a place on.
+#[derive(Drop)]
+struct TextChars<'a> {
+    text: &'a str,
+    at: usize,
+    pub ghost at_place: { IsCharBoundary text.now at },
+}
+
+impl<'a> CharProvider<'a> for TextChars<'a> {
+    ghost bytes = { λ p. p.text.now };
+
+    ghost place = { λ p. p.at };
+
+    fn current_char(&self) -> Option<char> {
+        char_at(self.text, self.at)
+    }
+
+    fn byte_index(&self) -> usize {
+        self.at
+    }
+
+    fn move_next_char(&mut self) -> Option<char> {
+        self.at = char_end(self.text, self.at);
+        char_at(self.text, self.at)
+    }
+
+    fn text(&self) -> &'a str {
+        self.text
+    }
+}
+
+#[test]
+fn a_provider_is_left_after_the_string(rt: HostRuntime) -> Result<(), Fail> {
+    let mut chars = TextChars {
+        text: "'a\\n'x",
+        at: 0,
+    };
+    let result = parse_string_with_char_provider(rt.alloc(), &mut chars, false);
+    let found = match &result {
+        Ok(s) => s.as_str(),
+        Err(_) => "refused",
+    };
+    assert_eq!(rt; found, "a\n");
+    assert_eq!(rt; chars.current_char(), Some('x'));
     Ok(())
 }
