@@ -37,9 +37,12 @@ PROGRAM = [
     (('print-empty', 'jsonc', "'print", ''), ('0', '', '')),
     (('check-object', 'jsonc', "'check", '{"a": [1, "b", null]}'), ('0', '', '')),
     (('check-not-utf8', 'jsonc', "'check", '"\\xFF"'), ('1', '', 'jsonc: input is not UTF-8\\x0A')),
-    (('check-refused', 'jsonc', "'check", '[1,]'), None),
-    (('check-comment', 'jsonc', "'check", '[1] // 2'), None),
-    (('print-escape', 'jsonc', "'print", '"\\x5Cn"'), None),
+    (('check-refused', 'jsonc', "'check", '[][]'),
+     ('1', '', 'jsonc: Text cannot contain more than one JSON value on line 1 column 3\\x0A')),
+    (('check-comment', 'jsonc', "'check", '[1,] // 2'), ('0', '', '')),
+    (('print-comment', 'jsonc', "'print", '/* 1 */ [2,]'), ('0', '/* 1 */ [2,]', '')),
+    (('print-escape', 'jsonc', "'print", '"\\x5Cn"'), ('0', '"\\x5Cn"', '')),
+    (('sort', 'jsonc', "'sort", '[]'), None),
 ]
 
 
@@ -54,21 +57,42 @@ def ends_of(options):
     return [(number, flag) for number, flag in enumerate(options)]
 
 
+def escapes_shown(case, fault):
+    """The byte after each backslash, and of surrogates one digit more, unless what is refused is no string."""
+    is_extended = case[1] == 'decode' or case[2][9] == '1'
+    if case[1] == 'decode' or not fault or fault.startswith('String/'):
+        for escape in re.findall(rb'\\(u[dD][89a-fA-F]|.|$)', vectors.unescaped(case[-1]), re.DOTALL):
+            yield 'escape', escape.lower(), is_extended, fault
+
+
+def comments_shown(tokens):
+    """What stands before and after each comment."""
+    names = [''] + [token.split(' ')[0] for token in tokens] + ['']
+    for before, name, after in zip(names, names[1:], names[2:]):
+        if name.startswith('Comment'):
+            yield 'after', before, name
+            yield name, 'before', after
+
+
 def shown(case, answer):
     """What a case and its answer show."""
     kind, fields = case[1], case[2:]
     if vectors.is_not_yet(case):
-        yield kind, 'not yet', kind == 'ast' and fields[1], fields[0] if kind == 'jsonc' else ''
+        yield kind, 'not yet', kind == 'ast' and fields[1], kind == 'jsonc' and fields[0].split(' ')[0]
         return
     if kind == 'jsonc':
         yield kind, fields[0], answer[1:4]
+        return
+    fault = answer[1].split(' ')[1] if answer[1].startswith('fault') else None
+    yield from escapes_shown(case, fault)
+    if kind == 'decode':
+        yield kind, fault or answer[1]
         return
     options = fields[0]
     yield kind, 'options', options
     if kind == 'ast':
         yield kind, 'collection', fields[1], answer[1][:5]
-    if answer[1].startswith('fault'):
-        fault = answer[1].split(' ')[1]
+    if fault:
         for end in ends_of(options):
             yield kind, fault, end
         yield kind, fault, answer[1].split(' ')[4] != '1'
@@ -80,6 +104,7 @@ def shown(case, answer):
         for end in ends_of(options[4:]):
             yield kind, name, end
     if kind == 'ast':
+        yield from comments_shown(tokens)
         yield kind, 'depth', min(len(answer[2].split(' ')), 600) // 100
         for node in answer[2].split(' '):
             yield kind, 'node', node[:1], node[-2:] in ('*0', '*1')

@@ -1,6 +1,7 @@
 //! What is answered to a question, and what not yet.
 
 use crate::case::Question;
+use crate::decoded::decoded;
 use crate::program::outcome;
 use crate::scanned::tokens;
 use crate::syntax::syntax;
@@ -11,9 +12,8 @@ pub fn answer(alloc: Global, question: &Question) -> Result<Option<String>, Allo
     match question {
         Question::NotBuilt => Ok(None),
         Question::Program { words, input } => { outcome(alloc, words.as_slice(), input.as_slice()) }
-        // Escapes in strings are refused for now.
-        Question::Scan { text, .. } | Question::Ast { text, .. } if text.contains('\\') => Ok(None),
         Question::Scan { options, text } => Ok(Some(tokens(alloc, text.as_str(), options)?)),
+        Question::Decode { text } => Ok(Some(decoded(alloc, text.as_str())?)),
         Question::Ast {
             options,
             collect,

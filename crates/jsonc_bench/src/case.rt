@@ -19,6 +19,10 @@ pub enum Question {
         collect: CollectOptions,
         text: String,
     },
+    /// The string at the front of a text.
+    Decode {
+        text: String,
+    },
     /// What the program does with these words and this input.
     Program {
         words: Vec<String>,
@@ -49,15 +53,7 @@ impl<'a> Case<'a> {
 
 fn is_kind_to_come(kind: &str) -> bool {
     match kind {
-        "value"
-        | "decode"
-        | "jobj"
-        | "aobj"
-        | "edit"
-        | "trace"
-        | "read"
-        | "settings"
-        | "detached" => true,
+        "value" | "jobj" | "aobj" | "edit" | "trace" | "read" | "settings" | "detached" => true,
         _ => false,
     }
 }
@@ -67,8 +63,11 @@ impl Question {
         match (kind, fields) {
             ("scan", [options, text]) => scan(alloc, options, text),
             ("ast", [options, collect, text]) => ast(alloc, options, collect, text),
+            ("decode", [text]) => Ok(Question::Decode {
+                text: unescaped_text(alloc, text)?,
+            }),
             ("jsonc", [words, input]) => program(alloc, words, input),
-            ("scan" | "ast" | "jsonc", _) => Err(CaseError::FieldCount),
+            ("scan" | "ast" | "decode" | "jsonc", _) => Err(CaseError::FieldCount),
             (kind, _) if is_kind_to_come(kind) => Ok(Question::NotBuilt),
             _ => Err(CaseError::UnknownKind),
         }

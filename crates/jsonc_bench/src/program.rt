@@ -3,7 +3,6 @@
 use crate::escape::Escaped;
 use jsonc_engine::calls::{FromReader, ToWriter};
 use jsonc_engine::engine::engine;
-use jsonc_engine::fault::Fault;
 use std::alloc::{AllocError, Global};
 
 /// Whether the words name a command that the program is to have and has not yet.
@@ -22,8 +21,7 @@ fn lent(alloc: Global, words: &[String]) -> Result<Vec<&str>, AllocError> {
     Ok(lent)
 }
 
-/// The status of a run, what it writes and the line that it prints; or none where the command is not built or the
-/// text is refused, since a program that takes more may say otherwise.
+/// The status of a run, what it writes and the line that it prints; or none where the command is not built.
 pub fn outcome(
     alloc: Global,
     words: &[String],
@@ -40,7 +38,6 @@ pub fn outcome(
     let written = Escaped::field(writer.as_slice());
     let shown = match result {
         Ok(()) => format!(in alloc; "0\t{written}\t")?,
-        Err(Fault::Input(_)) => return Ok(None),
         Err(fault) => {
             let status = fault.status();
             let line = format!(in alloc; "{fault}\n")?;

@@ -7,7 +7,8 @@ use jsonc_parser::tokens::Token;
 use std::alloc::{AllocError, Global};
 use std::borrow::CowStr;
 
-fn push_string_kind(out: &mut String, kind: &ParseStringErrorKind) -> Result<(), AllocError> {
+/// The name of a string's fault.
+pub fn push_string_kind(out: &mut String, kind: &ParseStringErrorKind) -> Result<(), AllocError> {
     match kind {
         ParseStringErrorKind::InvalidUnicodeEscapeSequence(_, _) => {
             out.push_str("InvalidUnicodeEscapeSequence")

@@ -1,6 +1,5 @@
 //! The calls that may want memory.
 
-use crate::document::without_comments;
 use crate::tests::awaited::Awaited;
 use crate::tests::outcome::Outcome;
 use crate::tests::trees::changed_tree;
@@ -10,8 +9,10 @@ use jsonc_engine::engine::{engine, run_on};
 use jsonc_parser::cst::CstRootNode;
 use jsonc_parser::tokens::Token;
 use jsonc_parser::{
-    CollectOptions, CommentCollectionStrategy, ParseOptions, ParseResult, parse_to_ast,
+    CollectOptions, CommentCollectionStrategy, ParseOptions, ParseResult, Scanner, ScannerOptions,
+    parse_to_ast,
 };
+use jsonc_scan::provider::parse_string;
 use refusing::Refusing;
 use std::alloc::Global;
 use std::borrow::CowStr;
@@ -23,6 +24,8 @@ pub type Heap<'a> = &'a Refusing<Global>;
 /// A call that may want memory.
 #[derive(Clone, Copy, Debug)]
 pub enum Call {
+    Decode,
+    Scan,
     SyntaxTree,
     Document,
     TokenCopy,
@@ -32,7 +35,9 @@ pub enum Call {
 }
 
 /// All of them.
-pub const CALLS: [Call; 6] = [
+pub const CALLS: [Call; 8] = [
+    Call::Decode,
+    Call::Scan,
     Call::SyntaxTree,
     Call::Document,
     Call::TokenCopy,
@@ -45,11 +50,18 @@ pub const CALLS: [Call; 6] = [
 const PLAIN: &str =
     "{\"a\": [1, 2.5, -3, true, false, null, []],\r\n \"b\": {}, \"c\": \"d\", \"e\": 0, \"f\": 1 }\n";
 
-/// One with comments and looser spelling.
-const LOOSE: &str = "// one\n[{a: 'b', 0x1F: +.5, c: Infinity,}, /* two */ [NaN -1]]";
+/// One with comments, an escape and looser spelling.
+const LOOSE: &str = "// one\n[{a: '\\x62', 0x1F: +.5, c: Infinity,}, /* two */ [NaN -1]]";
+
+/// A string with more characters than a text has room for at first, and what it decodes to.
+const ESCAPES: &str = "'one\\ttwo\\u0020three'";
+
+const DECODED: &str = "one\ttwo three";
 
 pub fn outcome_of(call: Call, heap: Heap<'_>) -> Outcome {
     Outcome::within(match call {
+        Call::Decode => decode(heap),
+        Call::Scan => scan(heap),
         Call::SyntaxTree => syntax_tree(heap),
         Call::Document => document(heap),
         Call::TokenCopy => token_copy(heap),
@@ -57,6 +69,21 @@ pub fn outcome_of(call: Call, heap: Heap<'_>) -> Outcome {
         Call::BytesToBytes => bytes_to_bytes(heap),
         Call::WholeRun => whole_run(heap),
     })
+}
+
+fn decode(heap: Heap<'_>) -> Result<Outcome, Outcome> {
+    match parse_string(heap, ESCAPES)? {
+        CowStr::Owned(found) => Ok(Outcome::of(found.as_str() == DECODED)),
+        CowStr::Borrowed(_) => Err(Outcome::Other),
+    }
+}
+
+fn scan(heap: Heap<'_>) -> Result<Outcome, Outcome> {
+    let mut scanner = Scanner::new(heap, ESCAPES, &ScannerOptions::default());
+    match scanner.scan()? {
+        Some(Token::String(CowStr::Owned(found))) => Ok(Outcome::of(found.as_str() == DECODED)),
+        _ => Err(Outcome::Other),
+    }
 }
 
 fn syntax_tree(heap: Heap<'_>) -> Result<Outcome, Outcome> {
@@ -77,10 +104,9 @@ fn token_count(parsed: &ParseResult<'_, Heap<'_>>) -> usize {
 
 /// The tree is built as the document is read.
 fn document(heap: Heap<'_>) -> Result<Outcome, Outcome> {
-    let options = without_comments(&ParseOptions::default());
-    let document = CstRootNode::parse(heap, PLAIN, &options)?;
+    let document = CstRootNode::parse(heap, LOOSE, &ParseOptions::default())?;
     let text = document.text()?;
-    Ok(Outcome::of(text.as_str() == PLAIN))
+    Ok(Outcome::of(text.as_str() == LOOSE))
 }
 
 fn token_copy(heap: Heap<'_>) -> Result<Outcome, Outcome> {

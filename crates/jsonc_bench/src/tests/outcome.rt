@@ -1,8 +1,10 @@
 //! What came of a call that may want memory.
 
 use jsonc_engine::fault::Fault;
+use jsonc_parser::ParseStringErrorKind;
 use jsonc_parser::cst::EditError;
 use jsonc_parser::errors::{ParseError, ParseErrorKind};
+use jsonc_scan::provider::ParseStringError;
 use std::alloc::{AllocError, AllocFailed};
 
 /// What came of a call.
@@ -61,6 +63,15 @@ impl From<ParseError> for Outcome {
     fn from(error: ParseError) -> Outcome {
         match error.kind() {
             ParseErrorKind::OutOfMemory if is_told_of_no_bytes(&error) => Outcome::Wanted,
+            _ => Outcome::Other,
+        }
+    }
+}
+
+impl From<ParseStringError> for Outcome {
+    fn from(error: ParseStringError) -> Outcome {
+        match error.kind {
+            ParseStringErrorKind::OutOfMemory if error.byte_index == 0 => Outcome::Wanted,
             _ => Outcome::Other,
         }
     }
