@@ -13,8 +13,9 @@ ghost use Rattle.jsonc_layout.specs.Growth.{Grows};
 ghost use Rattle.jsonc_layout.specs.Lines.{DocumentLinesEnd};
 ghost use Rattle.jsonc_layout.specs.Laid.{CanLay, CanLayDocument, CanLayItems, CanLayMembers, CanLayProperty, DocumentLaid, HasLocatedValue, ItemsLaid, Laid, MembersLaid, NameLaid, PropertyLaid, RootLaid, is_quote_at};
 
-use crate::fill::{char_at, fill_between};
+use crate::fill::fill_between;
 use jsonc_ast::ast::{ObjectProp, Value};
+use jsonc_text::chars::char_at;
 use jsonc_text::common::{Range, Ranged};
 use jsonc_tree::{Kind, Tree};
 use std::alloc::{AllocError, Allocator};

@@ -13,17 +13,9 @@ ghost use Rattle.jsonc_layout.specs.Growth.{Grows};
 ghost use Rattle.jsonc_layout.specs.Laid.{FillsBetween};
 ghost use Rattle.jsonc_layout.specs.Leaves.{GapLeaf, LeafAt, is_inner_blank};
 
+use jsonc_text::chars::char_at;
 use jsonc_tree::{CstNewlineKind, Kind, Tree};
 use std::alloc::{AllocError, Allocator};
-
-// The character at a place, or none at the end.
-pub(crate) fn char_at(text: &str, place: usize) -> Option<char>
-    requires { IsCharBoundary text.now place }
-    ensures none { IfNone result (rest text.now place ≡ []) }
-    ensures some { IfSome result (λ c. Steps text.now place c (place + len_utf8 c)) }
-{
-    text[place..].chars().next()
-}
 
 fn is_inner_blank(c: char) -> bool
     ensures { result ≡ is_inner_blank c }

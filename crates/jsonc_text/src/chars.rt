@@ -11,6 +11,14 @@ pub fn char_at(text: &str, place: usize) -> Option<char>
     ensures none { IfNone result (rest text.now place ≡ []) }
     ensures some { IfSome result (λ c. Steps text.now place c (place + len_utf8 c)) }
 {
+    let bytes = text.as_bytes();
+    if place >= bytes.len() {
+        return None;
+    }
+    let byte = bytes[place];
+    if byte < 0x80 {
+        return Some(byte as char);
+    }
     text[place..].chars().next()
 }
 
