@@ -6,6 +6,7 @@
 #![tactic(auto)]
 
 pub mod cst;
+pub mod string;
 
 pub use jsonc_ast::collect::{CollectOptions, CommentCollectionStrategy, ParseResult};
 pub use jsonc_ast::{ast, parse_to_ast};
