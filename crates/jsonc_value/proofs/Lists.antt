@@ -1,5 +1,5 @@
 -- Pairs that are inserted one after another.
-use Rattle.std.proofs.Common.{◌≡◌, Bool, List, [], ◌∷◌, ◌++◌, refl, sym, ap, ◌∙◌, reverse, subst}
+use Rattle.std.proofs.Common.{◌≡◌, Bool, List, [], ◌∷◌, ◌++◌, refl, sym, ap, ◌∙◌, reverse}
 use Rattle.std.proofs.lemmas.List.{reverse-append}
 use Rattle.indexmap.specs.IndexMap.{insert_entry, insert_all}
 use Rattle.jsonc_value.specs.Lists.{InsertsUpTo}

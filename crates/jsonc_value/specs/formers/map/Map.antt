@@ -1,5 +1,5 @@
 -- `Map` as a type whose values may hold it again: it holds its values, in their order.
-use Rattle.std.specs.Prelude.{◌≡◌, ℕ, List, [], ◌∷◌, map, length}
+use Rattle.std.specs.Prelude.{◌≡◌, List, [], ◌∷◌, map, length}
 use mathlib.Core.Path.{refl, sym, ap, ◌∙◌}
 use mathlib.Core.Former.{Former, one_more, this, const, pair, list, via, children}
 use native.Mathlib.Nat.{ℕ_set}

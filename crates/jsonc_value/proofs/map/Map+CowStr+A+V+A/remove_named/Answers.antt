@@ -1,4 +1,3 @@
-use Rattle.std.proofs.Common.{sym}
 use Rattle.jsonc_value.specs.Names.{is_named}
 use Rattle.jsonc_value.proofs.Zipped.{removed_some, removed_none}
 use Rattle.jsonc_value.proofs.map.Map+CowStr+A+V+A.remove_named.Goals as goal

@@ -1,4 +1,4 @@
-use Rattle.std.proofs.Common.{ℕ, reverse, vec_len}
+use Rattle.std.proofs.Common.{reverse, vec_len}
 use Rattle.jsonc_value.specs.Lists.{InsertsUpTo}
 use Rattle.jsonc_value.proofs.map.Map.extend_list.Given as goal
 

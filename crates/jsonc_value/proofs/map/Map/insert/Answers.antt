@@ -1,6 +1,5 @@
-use Rattle.std.proofs.Common.{◌≡◌, ◌∙◌, sym, ap, Bool, false, true, get_or, set}
+use Rattle.std.proofs.Common.{◌≡◌, ◌∙◌, sym, ap, get_or, set}
 use Rattle.std.specs.List.{zip}
-use Rattle.indexmap.specs.IndexMap.{insert_entry}
 use Rattle.jsonc_value.proofs.Zipped.{inserted_new, inserted_present}
 use Rattle.jsonc_value.proofs.map.Map.insert.Goals as goal
 

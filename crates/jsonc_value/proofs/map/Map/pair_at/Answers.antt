@@ -1,4 +1,4 @@
-use Rattle.std.proofs.Common.{length, ◌<◌, ap, arith, subst, ◌∙◌, sym, refl, slice_get}
+use Rattle.std.proofs.Common.{length, ◌<◌, ap, arith, ◌∙◌, sym, refl, slice_get}
 use Rattle.std.proofs.lemmas.Option.{slice_get_read}
 use Rattle.indexmap.proofs.ReorderLemmas.{slice_get-zip_some}
 use Rattle.jsonc_value.proofs.Zipped.{length_of_zip}

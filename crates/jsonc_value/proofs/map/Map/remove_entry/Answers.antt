@@ -1,4 +1,3 @@
-use Rattle.std.proofs.Common.{sym}
 use Rattle.jsonc_value.proofs.Zipped.{removed_some, removed_none}
 use Rattle.jsonc_value.proofs.map.Map.remove_entry.Goals as goal
 
