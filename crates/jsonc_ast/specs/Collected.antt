@@ -1,5 +1,5 @@
 -- The tokens that a parse collects.
-use Rattle.std.specs.Prelude.{ℕ, ◌≡◌, Bool, true, false, not, ◌||◌, List, [], ◌∷◌, ◌++◌, map, Option, Some, None, IsTrue, Vec}
+use Rattle.std.specs.Prelude.{ℕ, ◌≡◌, Bool, true, false, not, ◌||◌, List, [], ◌∷◌, ◌++◌, map, Option, Some, None, IfSome, IsTrue, Vec, chars}
 use Rattle.std.specs.List.{filter}
 use Rattle.jsonc_text.specs.declared.tokens.TokenAndRange.{TokenAndRange}
 use Rattle.jsonc_text.specs.Lexemes.{Scanned}
@@ -7,6 +7,8 @@ use Rattle.jsonc_text.specs.Options.{Options}
 use Rattle.jsonc_text.specs.Places.{Placed, AreTokens, is_comment}
 use Rattle.jsonc_text.specs.Text.{rest}
 use Rattle.jsonc_text.specs.Tokens.{scanned_of}
+use Rattle.jsonc_ast.specs.declared.collect.CollectOptions.{CollectOptions}
+use Rattle.jsonc_ast.specs.declared.collect.ParseResult.{ParseResult}
 use Rattle.jsonc_ast.specs.declared.collect.CommentCollectionStrategy.{CommentCollectionStrategy}
 use Rattle.jsonc_ast.specs.declared.collect.CommentCollectionStrategy.TheVariants.{Off, AsTokens}
 use Rattle.jsonc_ast.specs.declared.context.Context.{Context}
@@ -30,6 +32,10 @@ module _ {A : Type 0} where
   abbrev pub AreCollected : Options → List ℕ → CommentCollectionStrategy → Vec (TokenAndRange A) A → Type 0
   AreCollected o t comments tokens = (ts : List Placed) × AreTokens o 0 t ts × (map placed_of tokens.items ≡ taken (takes_comments comments) ts)
 
+  -- so are the tokens that a parse answers, where it answers any
+  abbrev pub HoldsCollected : Options → List ℕ → CollectOptions → ParseResult A → Type 0
+  HoldsCollected o bytes collect r = IfSome r.tokens (AreCollected o (chars bytes) collect.comments)
+
   -- what a parser has collected
   abbrev pub all_placed : Option (Vec (TokenAndRange A) A) → List Placed
   all_placed None = []
@@ -45,6 +51,10 @@ module _ {A : Type 0} where
   -- where tokens are asked for, these are collected too
   abbrev pub CollectsMore : Context A → Context A → List Placed → Type 0
   CollectsMore old new more = IsTrue (tokens_asked old) → collected new ≡ collected old ++ more
+
+  -- and so is the last token, this lexeme or comment
+  abbrev pub CollectsLast : Context A → Context A → Scanned → Type 0
+  CollectsLast old new w = CollectsMore old new (last_placed old w ∷ [])
 
   -- the lexemes and comments between two states of a parser are passed, and those that are asked for collected
   pub record Collects (old new : Context A) : Type 0 where

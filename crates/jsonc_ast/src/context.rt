@@ -29,7 +29,7 @@ pub struct Context<'a, A: Allocator> {
 }
 
 impl<'a, A: Allocator + Copy> Context<'a, A> {
-    ghost use Rattle.std.specs.Prelude.{◌≡◌, ◌≢◌, ◌≤◌, ◌<◌, IfOk, IfErr, OnOk, IsTrue};
+    ghost use Rattle.std.specs.Prelude.{◌≡◌, ◌≢◌, ◌≤◌, ◌<◌, [], IfOk, IfErr, OnOk, IsTrue};
     ghost use Rattle.jsonc_ast.specs.Refusals.{Tells, WhereSome, RefusesComment, NoTokenAfter, NothingFirst, NothingAfterComma, NothingNext, OnlyFirst, OnlyAfterComma, OnlyNext, NoColon, NoName};
     ghost use Rattle.jsonc_text.specs.Faults.{IsFault, IsOutOfMemory, range_of, kind_of};
     ghost use Rattle.jsonc_text.specs.Gaps.{Gap};
@@ -38,8 +38,7 @@ impl<'a, A: Allocator + Copy> Context<'a, A> {
     ghost use Rattle.jsonc_text.specs.Tokens.{scanned_of};
     ghost use Rattle.jsonc_ast.specs.Context.{text_in, options_in, token_end, token_range, tokens_asked, Keeps, Finds, LeadsToFirst, LeadsAfterComma, LeadsToNext, PassesColon, IsToken, IsNameHere, IsNoComment};
     ghost use Rattle.jsonc_ast.specs.Views.{name_at};
-    ghost use Rattle.std.specs.Prelude.{[], ◌∷◌};
-    ghost use Rattle.jsonc_ast.specs.Collected.{takes_comments, taken, collected, last_placed, CollectsMore, Collects};
+    ghost use Rattle.jsonc_ast.specs.Collected.{takes_comments, collected, CollectsLast, Collects};
 
     /// A parser at the start of a text.
     pub fn new(
@@ -135,7 +134,7 @@ impl<'a, A: Allocator + Copy> Context<'a, A> {
         ensures scanner { self.new.scanner ≡ self.old.scanner }
         ensures tokens { tokens_asked self.new ≡ tokens_asked self.old }
         ensures comments { self.new.comments_are_tokens ≡ self.old.comments_are_tokens }
-        ensures collected { OnOk result (CollectsMore self.old self.new (last_placed self.old (scanned_of token.now) ∷ [])) }
+        ensures collected { OnOk result (CollectsLast self.old self.new (scanned_of token.now)) }
         ensures memory { IfErr result (λ e. kind_of e ≡ ParseErrorKind.OutOfMemory) }
         ensures fault { IfErr result (IsFault (text_in self.old)) }
     {
@@ -157,7 +156,7 @@ impl<'a, A: Allocator + Copy> Context<'a, A> {
         ensures scanner { self.new.scanner ≡ self.old.scanner }
         ensures tokens { tokens_asked self.new ≡ tokens_asked self.old }
         ensures comments { self.new.comments_are_tokens ≡ self.old.comments_are_tokens }
-        ensures collected { OnOk result (self.old.comments_are_tokens ≡ true → CollectsMore self.old self.new (last_placed self.old (scanned_of comment.now) ∷ [])) }
+        ensures collected { OnOk result (self.old.comments_are_tokens ≡ true → CollectsLast self.old self.new (scanned_of comment.now)) }
         ensures passed { OnOk result (self.old.comments_are_tokens ≡ false → collected self.new ≡ collected self.old) }
         ensures allowed { OnOk result (IsTrue (options_in self.old).comments) }
         ensures refused { IfErr result (RefusesComment self.old) }

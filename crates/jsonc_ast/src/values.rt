@@ -5,7 +5,7 @@ ghost use Rattle.jsonc_text.specs.Grammar.{IsDocument};
 ghost use Rattle.jsonc_text.specs.OptionsOf.{parse_options};
 ghost use Rattle.jsonc_text.specs.Plain.{around};
 ghost use Rattle.jsonc_text.specs.Tokens.{scanned_of};
-ghost use Rattle.jsonc_ast.specs.Collected.{AreCollected, Collects};
+ghost use Rattle.jsonc_ast.specs.Collected.{HoldsCollected, Collects};
 ghost use Rattle.jsonc_ast.specs.Context.{text_in, options_in, token_start, token_end, Keeps, IsToken, IsBracket};
 ghost use Rattle.jsonc_ast.specs.Located.{leaf_at, range_at, value_at, IsLocatedDocument};
 ghost use Rattle.jsonc_ast.specs.Reads.{Reads, ReadsMember};
@@ -181,7 +181,7 @@ pub fn parse_to_ast<'a, A: Allocator + Copy>(
     ensures within { IfOk result (λ r. IfSome r.value (λ v. around (plain v) ≤ 512)) }
     ensures refused { IfErr result (RefusesText (parse_options options.now) text.now) }
     ensures tokens { IfOk result (λ r. is_some r.tokens ≡ collect.now.tokens) }
-    ensures collected { IfOk result (λ r. IfSome r.tokens (AreCollected (parse_options options.now) (chars text.now) collect.now.comments)) }
+    ensures collected { IfOk result (HoldsCollected (parse_options options.now) text.now collect.now) }
     ensures fault { IfErr result (IsFault text.now) }
 {
     let mut context = Context::new(alloc, text, collect, options);
