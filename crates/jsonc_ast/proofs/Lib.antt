@@ -1,5 +1,6 @@
 pub mod Grammar
 pub mod Gaps
+pub mod Collecting
 pub mod Scans
 pub mod Names
 pub mod Elements

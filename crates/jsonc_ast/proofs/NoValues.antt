@@ -17,6 +17,7 @@ use Rattle.jsonc_text.proofs.UniqueLexemes.{lexeme_unique}
 use Rattle.jsonc_text.proofs.UniqueValues.{gap_after, not_gap, no_literal, value_begins, elements_begin, properties_begin, value_unique}
 use Rattle.jsonc_ast.specs.declared.container.Container.TheVariants.{Array, Object}
 use Rattle.jsonc_ast.specs.declared.context.Context.{Context}
+use Rattle.jsonc_ast.specs.Collected.{Collects}
 use Rattle.jsonc_ast.specs.Context.{text_in, options_in, token_start, token_end, Keeps, Finds, IsToken, IsNoComment, IsBracket, IsNameHere, PassesColon}
 use Rattle.jsonc_ast.specs.Located.{Located, LocatedName, leaf_at, range_at, value_at}
 use Rattle.jsonc_ast.specs.Reads.{Reads, ReadsMember}
@@ -366,8 +367,10 @@ module _ {A : Type 0} where
   pub record ElementsGoOn (old now : Context A) (next : Option (Token A)) (xs : List Located) (count : ℕ) : Type 0 where
     pub so_far : Elements old now next xs count
     pub left : ElementsLeft old now next count
+    pub collects : Collects old now
 
   -- an object's properties
   pub record PropertiesGoOn (old now : Context A) (next : Option (Token A)) (xs : List LocatedMember) (count : ℕ) : Type 0 where
     pub so_far : Properties old now next xs count
     pub left : PropertiesLeft old now next count
+    pub collects : Collects old now

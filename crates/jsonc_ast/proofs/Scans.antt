@@ -1,5 +1,5 @@
 -- A parser on its way from one token to the next.
-use Rattle.std.proofs.Common.{ℕ, ◌≡◌, ◌≤◌, ◌<◌, ◌+◌, ◌++◌, length, ◌∙◌, sym, ap, subst, refl, arith, true, List, [], ◌∷◌, Option, None, Some, Result, Ok, Err, IfOk, IsTrue, IsUtf8}
+use Rattle.std.proofs.Common.{ℕ, ◌≡◌, ◌≤◌, ◌<◌, ◌+◌, ◌++◌, length, ◌∙◌, sym, ap, subst, refl, arith, true, false, List, [], ◌∷◌, Option, None, Some, Result, Ok, Err, IfOk, IsTrue, IsUtf8}
 use Rattle.jsonc_text.specs.declared.errors.ParseError.{ParseError}
 use Rattle.jsonc_scan.specs.declared.scanner.Scanner.{Scanner}
 use Rattle.jsonc_text.specs.declared.tokens.Token.{Token}
@@ -14,8 +14,10 @@ use Rattle.jsonc_text.specs.Tokens.{scanned_of}
 use Rattle.std.proofs.lemmas.Str.{encode_ascii}
 use Rattle.jsonc_text.proofs.Cuts.{place_after}
 use Rattle.jsonc_ast.specs.declared.context.Context.{Context}
+use Rattle.jsonc_ast.specs.Collected.{collected, CollectsMore, Collects}
 use Rattle.jsonc_ast.specs.Context.{text_in, options_in, token_start, token_end, tokens_asked, Keeps, Passes, Finds, IsBracket, Leads, IsToken}
 use Rattle.jsonc_ast.specs.Located.{Between, One, Ends, TrailingComma}
+use Rattle.jsonc_ast.proofs.Collecting.{placed_here, collects_same, collects_comment}
 use Rattle.jsonc_ast.proofs.Gaps.{join, change, nothing, passed, stands, comment_passed, gap_append}
 
 -- a fact of the options and the text goes over to equal ones
@@ -36,15 +38,16 @@ module _ {A : Type 0} where
   pub record Passing (start now : Context A) : Type 0 where
     pub kept : Keeps start now
     pub gap : Between (text_in start) (Gap (options_in start)) (token_end start) (token_end now)
+    pub collects : Collects start now
 
   pub kept_same : (c : Context A) → Keeps c c
-  kept_same c = record { text = refl; options = refl; tokens = refl }
+  kept_same c = record { text = refl; options = refl; tokens = refl; comments = refl }
 
   pub kept_on : (a b c : Context A) → Keeps a b → Keeps b c → Keeps a c
-  kept_on a b c h k = record { text = k.text ∙ h.text; options = k.options ∙ h.options; tokens = k.tokens ∙ h.tokens }
+  kept_on a b c h k = record { text = k.text ∙ h.text; options = k.options ∙ h.options; tokens = k.tokens ∙ h.tokens; comments = k.comments ∙ h.comments }
 
   pub passing_start : (c : Context A) → Passing c c
-  passing_start c = record { kept = kept_same c; gap = nothing (text_in c) (Gap (options_in c)) (token_end c) c.scanner.at_place none }
+  passing_start c = record { kept = kept_same c; gap = nothing (text_in c) (Gap (options_in c)) (token_end c) c.scanner.at_place none; collects = collects_same c }
 
   -- the token after a gap, or the end
   pub scan_found : (start now : Context A) (s t : Scanner A) (f g : Option (Token A)) → f ≡ g → t ≡ s → Passing start now → PassesBlanks now.scanner s → StandsAt s f
@@ -57,14 +60,16 @@ module _ {A : Type 0} where
       )
 
   -- a comment after a gap
-  pub passing_on : (start now new : Context A) (s : Scanner A) (f : Option (Token A)) (t : Token A) → f ≡ Some t → new.scanner ≡ s → tokens_asked new ≡ tokens_asked now
-      → Passing start now → PassesBlanks now.scanner s → StandsAt s f → is_comment (scanned_of t) ≡ true → IsTrue (options_of s).comments → Passing start new
-  passing_on start now new s f t is same asked h blanks at comment allowed =
+  pub passing_on : (start now new : Context A) (s : Scanner A) (f : Option (Token A)) (t : Token A) → f ≡ Some t → new.scanner ≡ s → tokens_asked new ≡ tokens_asked now → new.comments_are_tokens ≡ now.comments_are_tokens
+      → Passing start now → PassesBlanks now.scanner s → StandsAt s f → is_comment (scanned_of t) ≡ true → IsTrue (options_of s).comments
+      → (now.comments_are_tokens ≡ true → CollectsMore now new (placed_here s (scanned_of t) ∷ [])) → (now.comments_are_tokens ≡ false → collected new ≡ collected now) → Passing start new
+  passing_on start now new s f t is same asked strategy h blanks at comment allowed more none_more =
       let may : IsTrue (options_in start).comments = ap (λ p. p.comments) (sym (blanks.options ∙ h.kept.options)) ∙ allowed in
       let gap = comment_passed (text_in start) (options_in start) (token_end start) now.scanner s t h.kept.text h.kept.options blanks h.gap (subst (StandsAt s) is at) comment may in
       record {
-        kept = record { text = ap text_of same ∙ blanks.text ∙ h.kept.text; options = ap options_of same ∙ blanks.options ∙ h.kept.options; tokens = asked ∙ h.kept.tokens };
+        kept = record { text = ap text_of same ∙ blanks.text ∙ h.kept.text; options = ap options_of same ∙ blanks.options ∙ h.kept.options; tokens = asked ∙ h.kept.tokens; comments = strategy ∙ h.kept.comments };
         gap = subst (λ x. Between (text_in start) (Gap (options_in start)) (token_end start) (end_of x)) (sym same) gap;
+        collects = collects_comment start now new s f t h.kept h.collects blanks same at is comment more none_more;
       }
 
   -- a token that is punctuation

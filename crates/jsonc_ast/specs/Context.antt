@@ -47,11 +47,12 @@ module _ {A : Type 0} where
   IsNoComment None = Unit {0}
   IsNoComment (Some t) = is_comment (scanned_of t) ≡ false
 
-  -- the text and the options stay, and whether tokens are collected
+  -- the text and the options stay, and whether tokens are collected, and comments among them
   pub record Keeps (old new : Context A) : Type 0 where
     pub text : text_in new ≡ text_in old
     pub options : options_in new ≡ options_in old
     pub tokens : tokens_asked new ≡ tokens_asked old
+    pub comments : new.comments_are_tokens ≡ old.comments_are_tokens
 
   -- what gap says stands between the two last tokens
   abbrev pub Passes : (List ℕ → List ℕ → Type 0) → Context A → Context A → Type 0

@@ -5,3 +5,4 @@ pub mod Containers
 pub mod Context
 pub mod Reads
 pub mod Refusals
+pub mod Collected

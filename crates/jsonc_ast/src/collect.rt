@@ -49,6 +49,7 @@ impl Default for CollectOptions {
 pub struct ParseResult<'a, A: Allocator> {
     /// Its value, or none where it holds blanks and comments alone.
     pub value: Option<Value<'a, A>>,
-    /// Its tokens in order, where they were asked for.
+    /// Its tokens in order, where they were asked for: all the lexemes, and the comments among them
+    /// where they stand among the tokens.
     pub tokens: Option<Vec<TokenAndRange<'a, A>, A>>,
 }

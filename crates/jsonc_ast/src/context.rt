@@ -1,5 +1,5 @@
 //! What a parser has before it: the scanner, the options, and the tokens collected so far.
-ghost use Rattle.std.specs.Prelude.{◌≡◌, true};
+ghost use Rattle.std.specs.Prelude.{◌≡◌, true, false};
 ghost use Rattle.std.specs.Str.{is_utf8};
 ghost use Rattle.jsonc_text.specs.OptionsOf.{parse_options};
 ghost use Rattle.jsonc_scan.specs.Scanner.{options_of};
@@ -29,7 +29,7 @@ pub struct Context<'a, A: Allocator> {
 }
 
 impl<'a, A: Allocator + Copy> Context<'a, A> {
-    ghost use Rattle.std.specs.Prelude.{◌≡◌, ◌≢◌, ◌≤◌, ◌<◌, IfOk, IfErr, OnOk, IsTrue};
+    ghost use Rattle.std.specs.Prelude.{◌≡◌, ◌≢◌, ◌≤◌, ◌<◌, [], IfOk, IfErr, OnOk, IsTrue};
     ghost use Rattle.jsonc_ast.specs.Refusals.{Tells, WhereSome, RefusesComment, NoTokenAfter, NothingFirst, NothingAfterComma, NothingNext, OnlyFirst, OnlyAfterComma, OnlyNext, NoColon, NoName};
     ghost use Rattle.jsonc_text.specs.Faults.{IsFault, IsOutOfMemory, range_of, kind_of};
     ghost use Rattle.jsonc_text.specs.Gaps.{Gap};
@@ -38,6 +38,7 @@ impl<'a, A: Allocator + Copy> Context<'a, A> {
     ghost use Rattle.jsonc_text.specs.Tokens.{scanned_of};
     ghost use Rattle.jsonc_ast.specs.Context.{text_in, options_in, token_end, token_range, tokens_asked, Keeps, Finds, LeadsToFirst, LeadsAfterComma, LeadsToNext, PassesColon, IsToken, IsNameHere, IsNoComment};
     ghost use Rattle.jsonc_ast.specs.Views.{name_at};
+    ghost use Rattle.jsonc_ast.specs.Collected.{takes_comments, collected, CollectsLast, Collects};
 
     /// A parser at the start of a text.
     pub fn new(
@@ -50,6 +51,8 @@ impl<'a, A: Allocator + Copy> Context<'a, A> {
         ensures options { options_in result ≡ parse_options options.now }
         ensures start { token_end result ≡ 0 }
         ensures tokens { tokens_asked result ≡ collect.now.tokens }
+        ensures comments { result.comments_are_tokens ≡ takes_comments collect.now.comments }
+        ensures collected { collected result ≡ [] }
     {
         let tokens = if collect.tokens {
             Some(Vec::new(alloc))
@@ -130,6 +133,8 @@ impl<'a, A: Allocator + Copy> Context<'a, A> {
     fn collect(&mut self, token: &Token<'a, A>) -> Result<(), ParseError>
         ensures scanner { self.new.scanner ≡ self.old.scanner }
         ensures tokens { tokens_asked self.new ≡ tokens_asked self.old }
+        ensures comments { self.new.comments_are_tokens ≡ self.old.comments_are_tokens }
+        ensures collected { OnOk result (CollectsLast self.old self.new (scanned_of token.now)) }
         ensures memory { IfErr result (λ e. kind_of e ≡ ParseErrorKind.OutOfMemory) }
         ensures fault { IfErr result (IsFault (text_in self.old)) }
     {
@@ -150,6 +155,9 @@ impl<'a, A: Allocator + Copy> Context<'a, A> {
     fn pass_comment(&mut self, comment: &Token<'a, A>) -> Result<(), ParseError>
         ensures scanner { self.new.scanner ≡ self.old.scanner }
         ensures tokens { tokens_asked self.new ≡ tokens_asked self.old }
+        ensures comments { self.new.comments_are_tokens ≡ self.old.comments_are_tokens }
+        ensures collected { OnOk result (self.old.comments_are_tokens ≡ true → CollectsLast self.old self.new (scanned_of comment.now)) }
+        ensures passed { OnOk result (self.old.comments_are_tokens ≡ false → collected self.new ≡ collected self.old) }
         ensures allowed { OnOk result (IsTrue (options_in self.old).comments) }
         ensures refused { IfErr result (RefusesComment self.old) }
         ensures fault { IfErr result (IsFault (text_in self.old)) }
@@ -168,6 +176,7 @@ impl<'a, A: Allocator + Copy> Context<'a, A> {
         ensures kept { Keeps self.old self.new }
         ensures found { IfOk result (Finds (Gap (options_in self.old)) self.old self.new) }
         ensures lexeme { IfOk result IsNoComment }
+        ensures collects { OnOk result (Collects self.old self.new) }
         ensures refused { IfErr result (Tells (NoTokenAfter self.old)) }
         ensures fault { IfErr result (IsFault (text_in self.old)) }
     {
@@ -193,6 +202,7 @@ impl<'a, A: Allocator + Copy> Context<'a, A> {
         ensures kept { Keeps self.old self.new }
         ensures found { IfOk result (LeadsToFirst container self.old self.new) }
         ensures only { IfOk result (WhereSome (OnlyFirst container self.old self.new)) }
+        ensures collects { OnOk result (Collects self.old self.new) }
         ensures refused { IfErr result (Tells (NothingFirst container self.old)) }
         ensures fault { IfErr result (IsFault (text_in self.old)) }
     {
@@ -215,6 +225,7 @@ impl<'a, A: Allocator + Copy> Context<'a, A> {
         ensures kept { Keeps self.old self.new }
         ensures found { IfOk result (LeadsAfterComma container self.old self.new) }
         ensures only { IfOk result (WhereSome (OnlyAfterComma container self.old self.new)) }
+        ensures collects { OnOk result (Collects self.old self.new) }
         ensures refused { IfErr result (Tells (NothingAfterComma container self.old)) }
         ensures fault { IfErr result (IsFault (text_in self.old)) }
     {
@@ -253,6 +264,7 @@ impl<'a, A: Allocator + Copy> Context<'a, A> {
         ensures kept { Keeps self.old self.new }
         ensures found { IfOk result (LeadsToNext container self.old self.new) }
         ensures only { IfOk result (WhereSome (OnlyNext container self.old self.new)) }
+        ensures collects { OnOk result (Collects self.old self.new) }
         ensures refused { IfErr result (Tells (NothingNext container self.old)) }
         ensures fault { IfErr result (IsFault (text_in self.old)) }
     {
@@ -298,6 +310,7 @@ impl<'a, A: Allocator + Copy> Context<'a, A> {
     pub fn pass_colon(&mut self) -> Result<(), ParseError>
         ensures kept { Keeps self.old self.new }
         ensures found { OnOk result (PassesColon self.old self.new) }
+        ensures collects { OnOk result (Collects self.old self.new) }
         ensures refused { IfErr result (Tells (NoColon self.old)) }
         ensures fault { IfErr result (IsFault (text_in self.old)) }
     {

@@ -5,6 +5,7 @@ ghost use Rattle.jsonc_text.specs.Grammar.{IsDocument};
 ghost use Rattle.jsonc_text.specs.OptionsOf.{parse_options};
 ghost use Rattle.jsonc_text.specs.Plain.{around};
 ghost use Rattle.jsonc_text.specs.Tokens.{scanned_of};
+ghost use Rattle.jsonc_ast.specs.Collected.{HoldsCollected, Collects};
 ghost use Rattle.jsonc_ast.specs.Context.{text_in, options_in, token_start, token_end, Keeps, IsToken, IsBracket};
 ghost use Rattle.jsonc_ast.specs.Located.{leaf_at, range_at, value_at, IsLocatedDocument};
 ghost use Rattle.jsonc_ast.specs.Reads.{Reads, ReadsMember};
@@ -66,6 +67,7 @@ fn parse_value<'a, A: Allocator + Copy>(
     requires token { IsToken context.old token }
     requires around { count ≤ 512 }
     ensures kept { OnOk result (Keeps context.old context.new) }
+    ensures collects { OnOk result (Collects context.old context.new) }
     ensures found { IfOk result (λ v. Reads context.old context.new (located v)) }
     ensures within { IfOk result (λ v. around (plain v) + count ≤ 512) }
     ensures refused { IfErr result (Tells (NoValueHere context.old count)) }
@@ -87,6 +89,7 @@ fn parse_array<'a, A: Allocator + Copy>(
     requires token { IsBracket 0x5B context.old }
     requires around { count ≤ 512 }
     ensures kept { OnOk result (Keeps context.old context.new) }
+    ensures collects { OnOk result (Collects context.old context.new) }
     ensures found { IfOk result (λ v. Reads context.old context.new (located v)) }
     ensures within { IfOk result (λ v. around (plain v) + count ≤ 512) }
     ensures refused { IfErr result (Tells (NoValueHere context.old count)) }
@@ -115,6 +118,7 @@ fn parse_object<'a, A: Allocator + Copy>(
     requires token { IsBracket 0x7B context.old }
     requires around { count ≤ 512 }
     ensures kept { OnOk result (Keeps context.old context.new) }
+    ensures collects { OnOk result (Collects context.old context.new) }
     ensures found { IfOk result (λ v. Reads context.old context.new (located v)) }
     ensures within { IfOk result (λ v. around (plain v) + count ≤ 512) }
     ensures refused { IfErr result (Tells (NoValueHere context.old count)) }
@@ -143,6 +147,7 @@ fn parse_property<'a, A: Allocator + Copy>(
     requires token { IsToken context.old token }
     requires around { count ≤ 513 }
     ensures kept { OnOk result (Keeps context.old context.new) }
+    ensures collects { OnOk result (Collects context.old context.new) }
     ensures found { IfOk result (λ p. ReadsMember context.old context.new (member_of p)) }
     ensures within { IfOk result (λ p. around (value_at (member_of p).value) + (count + 1) ≤ 512) }
     ensures refused { IfErr result (Tells (NoPropertyHere context.old count)) }
@@ -176,6 +181,7 @@ pub fn parse_to_ast<'a, A: Allocator + Copy>(
     ensures within { IfOk result (λ r. IfSome r.value (λ v. around (plain v) ≤ 512)) }
     ensures refused { IfErr result (RefusesText (parse_options options.now) text.now) }
     ensures tokens { IfOk result (λ r. is_some r.tokens ≡ collect.now.tokens) }
+    ensures collected { IfOk result (HoldsCollected (parse_options options.now) text.now collect.now) }
     ensures fault { IfErr result (IsFault text.now) }
 {
     let mut context = Context::new(alloc, text, collect, options);

@@ -4,6 +4,7 @@ use Rattle.jsonc_ast.specs.Located.{value_at}
 use Rattle.jsonc_ast.specs.Reads.{Reads}
 use Rattle.jsonc_ast.specs.Views.{located, member_of}
 use Rattle.jsonc_ast.proofs.Scans.{kept_on}
+use Rattle.jsonc_ast.proofs.Collecting.{ok_is, collects_same, collects_turn}
 use Rattle.jsonc_ast.proofs.Loops.{AtHand, start_spans, smaller, leads_on, elements_start, elements_turn, elements_whole}
 use Rattle.jsonc_ast.proofs.Properties.{properties_start, properties_turn, properties_whole}
 use Rattle.jsonc_ast.proofs.NoValues.{ElementsLeft, PropertiesLeft, elements_left_start, elements_left_turn, properties_left_start, properties_left_turn, leaf_nowhere, nothing_in_array, nothing_in_object, element_refused, nesting_refused, next_element_refused, property_refused, next_property_refused, name_missing, colon_missing, no_token_for_value, end_for_value, value_refused}
@@ -20,6 +21,7 @@ parse_array-loop-next-init g t c =
       so_far = elements_start c.args.context.now c.first_item.new.self c.in_ok-next.next (map located c.new-elements.result.items) c.args.count (ap (map located) c.new-elements.ensures.items)
           c.first_item.ensures.kept read.found c.requires.around;
       left = elements_left_start c.args.context.now c.first_item.new.self c.in_ok-next.next c.args.count c.requires.token c.first_item.ensures.kept read.only;
+      collects = read.collects;
     }
 
 pub parse_array-check_nesting-requires : goal.parse_array-check_nesting-requires
@@ -54,6 +56,7 @@ parse_array-loop-next-preserved g t c =
           inv.so_far c.in-Some.is read.kept read.found c.next_item.ensures.kept c.in_ok-next-2.ensures.found c.in-Ok.ensures read.within;
       left = elements_left_turn old now inv.so_far.kept c.in-Some.token c.args.count (subst (λ n. ElementsLeft old now n c.args.count) c.in-Some.is inv.left)
           c.parse_value.new.context (located c.in_ok-value.value) read.kept read.found c.next_item.new.self c.in_ok-next-2.next c.next_item.ensures.kept c.in_ok-next-2.ensures.only;
+      collects = collects_turn old now c.parse_value.new.context c.next_item.new.self inv.so_far.kept inv.collects read.kept read.collects c.in_ok-next-2.ensures.collects;
     }
 
 pub parse_array-returns-clause-found : goal.parse_array-returns-clause-found
@@ -68,6 +71,7 @@ parse_object-loop-next-init g t c =
       so_far = properties_start c.args.context.now c.first_item.new.self c.in_ok-next.next (map member_of c.new-properties.result.items) c.args.count (ap (map member_of) c.new-properties.ensures.items)
           c.first_item.ensures.kept read.found c.requires.around;
       left = properties_left_start c.args.context.now c.first_item.new.self c.in_ok-next.next c.args.count c.requires.token c.first_item.ensures.kept read.only;
+      collects = read.collects;
     }
 
 pub parse_object-next_item-requires : goal.parse_object-next_item-requires
@@ -97,6 +101,7 @@ parse_object-loop-next-preserved g t c =
           inv.so_far c.in-Some.is read.kept read.found c.next_item.ensures.kept c.in_ok-next-2.ensures.found c.in-Ok.ensures small;
       left = properties_left_turn old now inv.so_far.kept c.in-Some.token c.args.count (subst (λ n. PropertiesLeft old now n c.args.count) c.in-Some.is inv.left)
           c.parse_property.new.context (member_of c.in_ok-property.property) read.kept read.found c.next_item.new.self c.in_ok-next-2.next c.next_item.ensures.kept c.in_ok-next-2.ensures.only;
+      collects = collects_turn old now c.parse_property.new.context c.next_item.new.self inv.so_far.kept inv.collects read.kept read.collects c.in_ok-next-2.ensures.collects;
     }
 
 pub parse_object-returns-clause-found : goal.parse_object-returns-clause-found
@@ -209,3 +214,12 @@ parse_property-returns-in_err-value-clause-refused g t c =
 pub parse_value-returns-in_default-clause-refused : goal.parse_value-returns-in_default-clause-refused
 parse_value-returns-in_default-clause-refused g t c =
     err_some c.parse_leaf.result (λ e n. inr (leaf_nowhere c.args.context.now c.args.token c.args.count c.requires.token c.in_default.not-OpenBracket c.in_default.not-OpenBrace n)) c.parse_leaf.ensures.refused
+
+pub parse_property-returns-clause-collects : goal.parse_property-returns-clause-collects
+parse_property-returns-clause-collects g t c =
+    let colon = c.in_ok-pass_colon.ensures in
+    let found = c.in_ok-found.ensures in
+    collects_turn c.args.context.now c.pass_colon.new.self c.scan.new.self c.parse_value.new.context colon.kept colon.collects found.kept found.collects c.in_ok-value.ensures.collects
+
+pub parse_value-returns-in_default-clause-collects : goal.parse_value-returns-in_default-clause-collects
+parse_value-returns-in_default-clause-collects g t c = ok_is c.parse_leaf.result (collects_same c.args.context.now)

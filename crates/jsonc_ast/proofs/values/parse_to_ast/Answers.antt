@@ -3,8 +3,9 @@ use Rattle.jsonc_ast.specs.Located.{IsLocatedDocument}
 use Rattle.jsonc_ast.specs.Views.{located}
 use Rattle.jsonc_ast.proofs.Grammar.{located_document}
 use Rattle.jsonc_ast.proofs.Leaves.{empty_document, value_document}
-use Rattle.jsonc_ast.proofs.Scans.{moved}
-use Rattle.std.proofs.Common.{inr}
+use Rattle.jsonc_ast.proofs.Collecting.{collects_turn, all_collected}
+use Rattle.jsonc_ast.proofs.Scans.{moved, kept_on}
+use Rattle.std.proofs.Common.{◌∙◌, inr}
 use Rattle.jsonc_ast.proofs.NoValues.{document_no_token, document_no_value, document_no_end, document_goes_on, document_from_start}
 use Rattle.jsonc_ast.proofs.Refusals.{err_of, still}
 use Rattle.jsonc_text.specs.OptionsOf.{parse_options}
@@ -69,3 +70,22 @@ returns-in_default-2-clause-refused g c =
     inr (document_from_start old _ _ start.start start.text start.options
     (document_goes_on old now c.in_ok-token.field-0 c.scan.ensures.kept read.found read.lexeme c.in-Some.token c.in-Some.is mid (located c.in_ok-value.value) value.kept value.found
     c.scan-2.new.self c.in_ok-scan.field-0 c.scan-2.ensures.kept last.found last.lexeme c.in_default-2.not-None))
+
+pub returns-in_default-clause-collected : goal.returns-in_default-clause-collected
+returns-in_default-clause-collected g c =
+    let start = c.new-context.ensures in
+    let read = c.in_ok-token.ensures in
+    all_collected c.new-context.result c.scan.new.self c.in_ok-token.field-0 _ _ c.args.collect.now.comments start.text start.options start.start start.comments start.collected read.kept read.collects read.found.1 c.in_default.is
+
+pub returns-clause-collected : goal.returns-clause-collected
+returns-clause-collected g c =
+    let start = c.new-context.ensures in
+    let old = c.new-context.result in
+    let now = c.scan.new.self in
+    let mid = c.parse_value.new.context in
+    let end = c.scan-2.new.self in
+    let read = c.in_ok-token.ensures in
+    let value = c.in_ok-value.ensures in
+    let last = c.in_ok-scan.ensures in
+    all_collected old end c.in_ok-scan.field-0 _ _ c.args.collect.now.comments start.text start.options start.start start.comments start.collected (kept_on old now end read.kept (kept_on now mid end value.kept last.kept))
+    (collects_turn old now mid end read.kept read.collects value.kept value.collects last.collects) last.found.1 c.in-None.is

@@ -4,6 +4,7 @@ use Rattle.jsonc_ast.specs.Containers.{closing}
 use Rattle.jsonc_ast.specs.Context.{options_in}
 use Rattle.jsonc_ast.proofs.Scans.{closed, without_comma, after_comma}
 use Rattle.jsonc_ast.specs.Refusals.{after}
+use Rattle.jsonc_ast.proofs.Collecting.{collects_on, ok_collects}
 use Rattle.jsonc_ast.proofs.Refusals.{err_of, ok_some, err_some, still, refuted, no_token_lexeme, nowhere_next, nothing_at_end, nothing_next, next_after_comma, missing_refused, only_next}
 use Rattle.jsonc_ast.proofs.context.Context.next_item.Goals as goal
 
@@ -62,3 +63,7 @@ returns-clause-only g c =
     let read = c.in_ok-token.ensures in
     only_next c.args.self.now c.scan.new.self c.in_ok-token.field-0 c.scan.ensures.kept read.found read.lexeme c.in-Some.token c.in-Some.is c.args.container
     (refuted c.is_closed_by.ensures.1 c.if-is_closed_by.false) (refuted c.is_comma.ensures.1 c.if-is_comma.false)
+
+pub returns-then-is_comma-clause-collects : goal.returns-then-is_comma-clause-collects
+returns-then-is_comma-clause-collects g c =
+    ok_collects c.item_after_comma.result (collects_on c.args.self.now c.scan.new.self c.item_after_comma.new.self c.scan.ensures.kept c.in_ok-token.ensures.collects) c.item_after_comma.ensures.collects

@@ -1,5 +1,6 @@
 use Rattle.std.proofs.Common.{sym, ◌∙◌, refl}
 use Rattle.jsonc_ast.proofs.Scans.{passing_start, scan_found, passing_on}
+use Rattle.jsonc_ast.proofs.Collecting.{collects_end, collects_lexeme}
 use Rattle.jsonc_ast.proofs.Refusals.{err_of, scan_refused, comment_refused}
 use Rattle.jsonc_ast.proofs.context.Context.scan.Goals as goal
 
@@ -16,8 +17,8 @@ returns-then-not-is_comment-clause-found g c =
 
 pub loop-token-preserved : goal.loop-token-preserved
 loop-token-preserved g c =
-    passing_on c.args.self.now c.loop-token.self c.pass_comment.new.self c.scan.new.self c.in_ok-token.field-0 c.in-Some.token c.in-Some.is c.pass_comment.ensures.scanner c.pass_comment.ensures.tokens
-    c.loop-token.invariant c.scan.ensures.blanks c.in_ok-token.ensures.found (sym c.is_comment.ensures ∙ c.if-not-is_comment.false) c.in_ok-pass_comment.ensures.allowed
+    passing_on c.args.self.now c.loop-token.self c.pass_comment.new.self c.scan.new.self c.in_ok-token.field-0 c.in-Some.token c.in-Some.is c.pass_comment.ensures.scanner c.pass_comment.ensures.tokens c.pass_comment.ensures.comments
+    c.loop-token.invariant c.scan.ensures.blanks c.in_ok-token.ensures.found (sym c.is_comment.ensures ∙ c.if-not-is_comment.false) c.in_ok-pass_comment.ensures.allowed c.in_ok-pass_comment.ensures.collected c.in_ok-pass_comment.ensures.passed
 
 pub returns-in_err-token-clause-refused : goal.returns-in_err-token-clause-refused
 returns-in_err-token-clause-refused g c =
@@ -31,3 +32,14 @@ returns-in_err-pass_comment-clause-refused g c =
     err_of _ e c.from_residual-in_err-pass_comment.result c.from_residual-in_err-pass_comment.ensures.1
     (comment_refused c.args.self.now c.loop-token.self c.scan.new.self c.in_ok-token.field-0 c.in-Some.token e c.in-Some.is c.loop-token.invariant c.scan.ensures.blanks c.in_ok-token.ensures.found
     (sym c.is_comment.ensures ∙ c.if-not-is_comment.false) c.in_err-pass_comment.ensures.refused)
+
+pub returns-in_default-clause-collects : goal.returns-in_default-clause-collects
+returns-in_default-clause-collects g c =
+    let so_far = c.loop-token.invariant in
+    collects_end c.args.self.now c.loop-token.self _ c.scan.new.self c.in_ok-token.field-0 so_far.kept so_far.collects c.scan.ensures.blanks refl c.in_ok-token.ensures.found c.in_default.is refl
+
+pub returns-then-not-is_comment-clause-collects : goal.returns-then-not-is_comment-clause-collects
+returns-then-not-is_comment-clause-collects g c =
+    let so_far = c.loop-token.invariant in
+    collects_lexeme c.args.self.now c.loop-token.self c.collect.new.self c.scan.new.self c.in_ok-token.field-0 c.in-Some.token so_far.kept so_far.collects c.scan.ensures.blanks c.collect.ensures.scanner c.in_ok-token.ensures.found c.in-Some.is
+    (sym c.is_comment.ensures ∙ c.if-not-is_comment.true) c.in_ok-collect.ensures.collected
