@@ -10,7 +10,7 @@ pub mod string;
 
 pub use jsonc_ast::collect::{CollectOptions, CommentCollectionStrategy, ParseResult};
 pub use jsonc_ast::{ast, parse_to_ast};
+pub use jsonc_scan::scanner::Scanner;
 pub use jsonc_text::errors::ParseStringErrorKind;
 pub use jsonc_text::options::{ParseOptions, ScannerOptions};
-pub use jsonc_scan::scanner::Scanner;
 pub use jsonc_text::{common, errors, tokens};
