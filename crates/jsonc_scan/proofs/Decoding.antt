@@ -1,16 +1,16 @@
 -- Strings, piece by piece.
-use Rattle.std.proofs.Common.{ℕ, ◌+◌, ◌-◌, ◌<◌, ◌≤◌, ◌≡◌, ◌≢◌, ◌∙◌, sym, ap, refl, subst, List, [], ◌∷◌, ◌++◌, length, arith, IsUtf8, encode_utf8, encode_utf8_all, IsTrue, Bool, true, false, not, IsCharBoundary, chars, slice_range, ◌==◌, ◌||◌, ◌⊎◌, inl, inr, append_assoc, Option, Some, None, drop, take}
+use Rattle.std.proofs.Common.{ℕ, ◌+◌, ◌-◌, ◌<◌, ◌≤◌, ◌≡◌, ◌≢◌, ◌∙◌, sym, ap, refl, List, [], ◌∷◌, ◌++◌, arith, IsUtf8, encode_utf8, encode_utf8_all, IsTrue, Bool, true, false, not, IsCharBoundary, chars, slice_range, ◌==◌, ◌||◌, ◌⊎◌, inl, inr, append_assoc, Option}
 use Rattle.std.proofs.lemmas.List.{append-nil}
 use Rattle.std.proofs.lemmas.Str.{chars-nil, chars-append, chars_past_char, IsUtf8-past_char}
 use Rattle.jsonc_text.specs.Options.{Options, all_on}
 use Rattle.jsonc_text.specs.Text.{rest, next, no, Many, stop, step, Spans}
 use Rattle.jsonc_text.specs.Chars.{Steps}
-use Rattle.jsonc_text.specs.Strings.{Piece, itself, Pieces, done, piece, IsQuote, Decodes}
+use Rattle.jsonc_text.specs.Strings.{Piece, itself, Pieces, done, piece, IsQuote}
 use Rattle.jsonc_text.proofs.Basics.{heads, tails, clash, no_starts, front_same, eq_test}
-use Rattle.jsonc_text.proofs.Cuts.{chars_between, end_place, many_spans, same_place, within_text}
+use Rattle.jsonc_text.proofs.Cuts.{chars_between, many_spans}
 use Rattle.jsonc_text.proofs.StringFrames.{pieces_of_decodes, pieces_decode}
 use Rattle.jsonc_text.proofs.UniqueStrings.{piece_unique, no_piece, no_backslash}
-use Rattle.jsonc_scan.specs.Between.{Between, Reaches, NoneFrom, LacksAt, is_neither}
+use Rattle.jsonc_scan.specs.Between.{Between, Reaches, LacksAt, is_neither}
 use Rattle.jsonc_scan.specs.Escapes.{escapes, IsPiece, NoPiece, given, IsQuoted, NoQuoted, HoldsBackslash}
 
 pub pieces_append : {o : Options} {q : ℕ} {t v u w r : List ℕ} → Pieces o q t v u → Pieces o q u w r → Pieces o q t (v ++ w) r

@@ -1,12 +1,12 @@
 -- Pieces that begin with a backslash, and what they need.
-use Rattle.std.proofs.Common.{ℕ, ◌+◌, ◌*◌, ◌<◌, ◌≤◌, ◌≡◌, ◌≢◌, ◌∙◌, sym, ap, refl, subst, List, [], ◌∷◌, ◌++◌, length, arith, IsUtf8, IsTrue, Bool, true, false, not, IsCharBoundary, ◌==◌, ◌&&◌, ◌||◌, nat_lt, nat_le, ◌⊎◌, inl, inr, Option, Some, None}
+use Rattle.std.proofs.Common.{ℕ, ◌+◌, ◌*◌, ◌<◌, ◌≤◌, ◌≡◌, ◌≢◌, ◌∙◌, sym, ap, refl, subst, List, [], ◌∷◌, arith, IsTrue, Bool, true, false, not, IsCharBoundary, ◌==◌, ◌&&◌, ◌||◌, nat_lt, nat_le}
 use Rattle.std.specs.Char.{digit_value, len_utf8}
 use Rattle.jsonc_text.specs.Text.{rest, next, no, starts, is_digit, is_hex_digit, Spans}
 use Rattle.jsonc_text.specs.Chars.{Steps}
-use Rattle.jsonc_text.specs.Strings.{Meaning, gives, extended, code_unit, code_byte, nul, line_end, carriage_return, refused, meaning, AreHex4, hex2, hex4, is_surrogate, is_high_surrogate, is_low_surrogate, pair_char, Piece, itself, plain, unit, pair, other, zero, byte, line, lone_cr, cr_lf}
-use Rattle.jsonc_text.proofs.Basics.{heads, tails, clash, and_both, apart, no_starts}
+use Rattle.jsonc_text.specs.Strings.{Meaning, gives, extended, code_unit, code_byte, nul, line_end, carriage_return, refused, meaning, AreHex4, hex2, hex4, is_surrogate, is_high_surrogate, is_low_surrogate, pair_char, itself, plain, unit, pair, other, zero, byte, line, lone_cr, cr_lf}
+use Rattle.jsonc_text.proofs.Basics.{heads, tails, clash, and_both, no_starts}
 use Rattle.jsonc_scan.specs.Between.{Between, NoneFrom, LacksAt}
-use Rattle.jsonc_scan.specs.Escapes.{escapes, IsUnit, unit_of, IsPiece, NoPiece, given, IsEscape, IsEscapeAnyhow, NoPieceAnyhow, is_plain}
+use Rattle.jsonc_scan.specs.Escapes.{IsUnit, unit_of, IsPiece, NoPiece, NoPieceAnyhow, is_plain}
 
 -- a unit stands at the front, which is no surrogate, or the first of a pair
 pub data StartsUnits (t : List ℕ) : Type 0 where

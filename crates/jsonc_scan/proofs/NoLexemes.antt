@@ -2,7 +2,7 @@
 use Rattle.std.proofs.Common.{inl, inr, ℕ, ◌+◌, ◌≡◌, ◌∙◌, sym, refl, Bool, true, false, not, List, [], ◌∷◌, ◌++◌, Option, IsTrue, arith, ◌==◌, ◌||◌, ◌&&◌, codes}
 use Rattle.std.specs.Int.{is_in_range}
 use Rattle.jsonc_text.specs.Options.{Options}
-use Rattle.jsonc_text.specs.Text.{rest, next, no, starts, Many, stop, step, all_of, is_digit}
+use Rattle.jsonc_text.specs.Text.{rest, next, no, starts, all_of, is_digit}
 use Rattle.jsonc_text.specs.Chars.{Steps}
 use Rattle.jsonc_text.specs.Gaps.{IsComment}
 use Rattle.jsonc_text.specs.Letters.{is_wide_letter}
@@ -10,9 +10,9 @@ use Rattle.jsonc_text.specs.Lexemes.{lexeme, line_comment, block_comment, Lexeme
 use Rattle.jsonc_text.specs.Numbers.{Sign, Whole, Unsigned, Number}
 use Rattle.jsonc_text.specs.Strings.{IsString}
 use Rattle.jsonc_text.specs.Words.{Keyword, IsKeyword, begins_word}
-use Rattle.jsonc_scan.specs.Between.{Reaches, LacksAt, NoneFrom, IsWhole, is_neither}
+use Rattle.jsonc_scan.specs.Between.{LacksAt, NoneFrom, IsWhole}
 use Rattle.jsonc_scan.specs.Reads.{begins_number, NoNames, NoNameOrWord, NoWord, NothingAt, OpensNoString, OpensString}
-use Rattle.jsonc_text.proofs.Basics.{clash, or_cases, or_left, or_right, and_both, heads, tails, no_both, no_starts, Apart}
+use Rattle.jsonc_text.proofs.Basics.{clash, or_cases, or_left, or_right, and_both, heads, no_both, no_starts, Apart}
 use Rattle.jsonc_text.proofs.Begins.{is_quote, begins_keyword, begins_plain_number, string_begins, number_begins, keyword_begins, word_begins, plain_number_word, quote_number, number_keyword, quote_keyword, quote_word}
 use Rattle.jsonc_text.proofs.Begins.{begins_number as begins_any_number}
 use Rattle.jsonc_text.proofs.UniqueGaps.{comment_begins}

@@ -1,7 +1,7 @@
 -- Passing the characters of a text up to a place.
-use Rattle.std.proofs.Common.{ℕ, ◌+◌, ◌<◌, ◌≤◌, ◌≡◌, ◌≢◌, ◌∙◌, sym, ap, refl, List, [], ◌∷◌, ◌++◌, length, arith, IsUtf8, IsCharBoundary, chars, slice_range, subst}
+use Rattle.std.proofs.Common.{ℕ, ◌<◌, ◌≤◌, ◌≡◌, ◌∙◌, sym, refl, List, [], ◌∷◌, ◌++◌, length, arith, IsUtf8, IsCharBoundary, chars, slice_range}
 use Rattle.std.proofs.lemmas.Str.{len_utf8_bounds}
-use Rattle.jsonc_text.specs.Text.{rest, Spans}
+use Rattle.jsonc_text.specs.Text.{rest}
 use Rattle.jsonc_text.specs.Chars.{Steps}
 use Rattle.jsonc_text.proofs.Basics.{tails}
 use Rattle.jsonc_text.proofs.Cuts.{chars_between, end_place, same_place, spans, step_place}

@@ -1,7 +1,6 @@
 -- Strings of the grammar, and strings in given quotes.
-use Rattle.std.proofs.Common.{ℕ, ◌+◌, ◌<◌, ◌≤◌, ◌≡◌, ◌∙◌, sym, refl, Bool, true, false, List, ◌∷◌, ◌++◌, IsTrue, arith, ◌==◌, ◌||◌, ◌&&◌}
+use Rattle.std.proofs.Common.{ℕ, ◌≤◌, ◌≡◌, ◌∙◌, sym, Bool, true, false, List, ◌∷◌, IsTrue, arith, ◌==◌, ◌||◌, ◌&&◌}
 use Rattle.jsonc_text.specs.Options.{Options, all_on}
-use Rattle.jsonc_text.specs.Text.{rest}
 use Rattle.jsonc_text.specs.Strings.{Piece, itself, plain, unit, pair, other, zero, byte, line, lone_cr, cr_lf, Pieces, done, piece, IsQuote, IsString}
 use Rattle.jsonc_text.specs.Lexemes.{IsScanned, lexeme, string}
 use Rattle.jsonc_text.proofs.Basics.{heads}

@@ -1,16 +1,15 @@
 -- From places to lexemes and comments.
-use Rattle.std.proofs.Common.{inl, inr, ℕ, ◌+◌, ◌<◌, ◌≡◌, ◌≢◌, ◌∙◌, sym, ap, refl, List, [], ◌∷◌, ◌++◌, length, get_or, arith, IsUtf8, IsTrue, Bool, true, false, not, IsCharBoundary, chars, slice_range, ◌==◌, ◌||◌, codes, Option, Some, None, append_assoc}
+use Rattle.std.proofs.Common.{inl, inr, ℕ, ◌+◌, ◌<◌, ◌≡◌, ◌∙◌, sym, ap, refl, List, [], ◌∷◌, ◌++◌, length, get_or, arith, IsUtf8, IsTrue, Bool, true, false, not, IsCharBoundary, chars, slice_range, ◌==◌, ◌||◌, codes, Option, Some, None, append_assoc}
 use Rattle.jsonc_text.specs.Options.{Options}
-use Rattle.jsonc_text.specs.Text.{rest, next, no, starts, Many, step, Spans, is_digit, is_ascii_letter}
+use Rattle.jsonc_text.specs.Text.{rest, next, no, starts, Many, Spans, is_digit, is_ascii_letter}
 use Rattle.jsonc_text.specs.Chars.{Steps}
 use Rattle.jsonc_scan.specs.Between.{Between, Reaches, LacksAt, IsWhole, PassesWord, is_neither, HoldsBlock, NoneFrom}
 use Rattle.jsonc_text.specs.Gaps.{line, block, UpToBlockEnd, IsComment}
 use Rattle.jsonc_text.specs.Letters.{is_wide_letter}
-use Rattle.jsonc_text.specs.Lexemes.{IsScanned, lexeme, line_comment, block_comment, punctuation, string, word, number, is_punctuation}
+use Rattle.jsonc_text.specs.Lexemes.{IsScanned, lexeme, line_comment, block_comment, punctuation, word, number, is_punctuation}
 use Rattle.jsonc_scan.specs.declared.lexeme.Lexeme.{Lexeme}
 use Rattle.jsonc_scan.specs.Reads.{what_of, NoWord}
 use Rattle.jsonc_text.specs.Numbers.{Sign, Unsigned, Number}
-use Rattle.jsonc_text.specs.Strings.{Pieces, done, piece, itself, IsQuote}
 use Rattle.jsonc_text.specs.Words.{Keyword, IsKeyword, keyword_text, WordLit, EndsWhole, goes_on, begins_word, is_in_word}
 use Rattle.jsonc_text.proofs.Ascii.{OnlyAscii}
 use Rattle.jsonc_text.proofs.Basics.{or_left, or_right, no_starts, starts_also, front_same, clash, tails, apart}

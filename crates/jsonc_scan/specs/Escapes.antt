@@ -8,7 +8,7 @@ use Rattle.jsonc_scan.specs.declared.escape.Meaning.TheVariants as read
 use Rattle.jsonc_scan.specs.declared.escape.StringFault.{StringFault}
 use Rattle.jsonc_text.specs.declared.errors.ParseStringErrorKind.TheVariants.{OutOfMemory}
 use Rattle.jsonc_text.specs.Options.{Options, all_on}
-use Rattle.jsonc_text.specs.Text.{rest, Spans}
+use Rattle.jsonc_text.specs.Text.{Spans}
 use Rattle.jsonc_text.specs.Chars.{Steps}
 use Rattle.jsonc_text.specs.Strings.{Meaning, gives, extended, code_unit, code_byte, nul, line_end, carriage_return, refused, AreHex4, hex4, Piece, Pieces, Decodes}
 use Rattle.jsonc_scan.specs.Between.{Between, NoneFrom}

@@ -1,5 +1,5 @@
 -- What a lexeme stands for, and where it was read.
-use Rattle.std.specs.Prelude.{ℕ, ◌+◌, ◌≡◌, ◌<◌, Bool, true, false, List, [], ◌∷◌, chars, codes, ◌++◌, IsTrue, ◌==◌, ◌||◌, ◌&&◌, ◌⊎◌}
+use Rattle.std.specs.Prelude.{ℕ, ◌+◌, ◌≡◌, ◌<◌, Bool, true, false, List, [], ◌∷◌, chars, codes, IsTrue, ◌==◌, ◌||◌, ◌&&◌}
 use Rattle.jsonc_scan.specs.declared.lexeme.Lexeme.{Lexeme}
 use Rattle.jsonc_scan.specs.declared.lexeme.Lexeme.TheVariants.{OpenBrace, CloseBrace, OpenBracket, CloseBracket, Comma, Colon, Word, Boolean, Number, Null, CommentLine, CommentBlock}
 use Rattle.jsonc_scan.specs.declared.lexeme.Read.{Read}
@@ -9,11 +9,11 @@ use Rattle.std.specs.Cow.{cow_str_bytes}
 use Rattle.jsonc_text.specs.Options.{Options}
 use Rattle.jsonc_text.specs.Lexemes.{Scanned, lexeme, line_comment, block_comment, punctuation, string, word, number, keyword, is_punctuation, Lexeme as IsLexeme, IsScanned}
 use Rattle.jsonc_text.specs.Words.{boolean, null}
-use Rattle.jsonc_scan.specs.Between.{Between, NoneFrom, LacksAt, IsWhole, IsAlone, is_neither}
+use Rattle.jsonc_scan.specs.Between.{Between, NoneFrom, LacksAt, IsWhole, IsAlone}
 use Rattle.jsonc_text.specs.Chars.{Steps}
 use Rattle.jsonc_text.specs.Strings.{IsQuote}
 use Rattle.jsonc_text.specs.Numbers.{Fraction, Unsigned, Number as IsNumber}
-use Rattle.jsonc_text.specs.Text.{rest, next, starts, Many, is_digit}
+use Rattle.jsonc_text.specs.Text.{rest, next, starts, is_digit}
 
 -- the token that a lexeme is
 abbrev pub what_of : Lexeme → Scanned

@@ -1,5 +1,4 @@
 use Rattle.std.proofs.Common.{refl, arith}
-use Rattle.jsonc_text.specs.Text.{Spans}
 use Rattle.jsonc_scan.proofs.Escapes.{high_no_backslash, high_no_u, high_no_digits, high_no_low, low_left, pair_found, span_on, unit_on}
 use Rattle.jsonc_scan.proofs.escape.read_pair.Goals as goal
 
