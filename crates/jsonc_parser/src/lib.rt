@@ -13,3 +13,4 @@ pub use jsonc_scan::scanner::Scanner;
 pub use jsonc_text::errors::ParseStringErrorKind;
 pub use jsonc_text::options::{ParseOptions, ScannerOptions};
 pub use jsonc_text::{common, errors, tokens};
+pub use jsonc_value::{JsonArray, JsonObject, JsonValue, Map, map};
