@@ -14,7 +14,7 @@ use Rattle.jsonc_text.specs.Tokens.{scanned_of}
 use Rattle.jsonc_text.proofs.Cuts.{byte_length-append, many_split, place_after, chars_between}
 use Rattle.jsonc_text.proofs.Steps.{rest_end}
 use Rattle.jsonc_scan.specs.declared.scanner.Scanner.{Scanner}
-use Rattle.jsonc_scan.specs.Scanner.{text_of, start_of, end_of, options_of, PassesBlanks, StandsAt, left}
+use Rattle.jsonc_scan.specs.Scanner.{start_of, end_of, PassesBlanks, StandsAt, left}
 use Rattle.jsonc_ast.specs.declared.context.Context.{Context}
 use Rattle.jsonc_ast.specs.declared.collect.CommentCollectionStrategy.{CommentCollectionStrategy}
 use Rattle.jsonc_ast.specs.Collected.{takes_comments, taken, all_placed, collected, AreCollected, CollectsMore, Collects}

@@ -56,6 +56,13 @@ module _ {A : Type 0} where
   abbrev pub CollectsLast : Context A → Context A → Scanned → Type 0
   CollectsLast old new w = CollectsMore old new (last_placed old w ∷ [])
 
+  -- it does where comments are tokens, and collects nothing where they are not
+  abbrev pub CollectsComment : Context A → Context A → Scanned → Type 0
+  CollectsComment old new w = old.comments_are_tokens ≡ true → CollectsLast old new w
+
+  abbrev pub OmitsComment : Context A → Context A → Type 0
+  OmitsComment old new = old.comments_are_tokens ≡ false → collected new ≡ collected old
+
   -- the lexemes and comments between two states of a parser are passed, and those that are asked for collected
   pub record Collects (old new : Context A) : Type 0 where
     pub passed : List Placed

@@ -1,5 +1,5 @@
 //! What a parser has before it: the scanner, the options, and the tokens collected so far.
-ghost use Rattle.std.specs.Prelude.{◌≡◌, true, false};
+ghost use Rattle.std.specs.Prelude.{◌≡◌, true};
 ghost use Rattle.std.specs.Str.{is_utf8};
 ghost use Rattle.jsonc_text.specs.OptionsOf.{parse_options};
 ghost use Rattle.jsonc_scan.specs.Scanner.{options_of};
@@ -38,7 +38,7 @@ impl<'a, A: Allocator + Copy> Context<'a, A> {
     ghost use Rattle.jsonc_text.specs.Tokens.{scanned_of};
     ghost use Rattle.jsonc_ast.specs.Context.{text_in, options_in, token_end, token_range, tokens_asked, Keeps, Finds, LeadsToFirst, LeadsAfterComma, LeadsToNext, PassesColon, IsToken, IsNameHere, IsNoComment};
     ghost use Rattle.jsonc_ast.specs.Views.{name_at};
-    ghost use Rattle.jsonc_ast.specs.Collected.{takes_comments, collected, CollectsLast, Collects};
+    ghost use Rattle.jsonc_ast.specs.Collected.{takes_comments, collected, CollectsLast, CollectsComment, OmitsComment, Collects};
 
     /// A parser at the start of a text.
     pub fn new(
@@ -156,8 +156,8 @@ impl<'a, A: Allocator + Copy> Context<'a, A> {
         ensures scanner { self.new.scanner ≡ self.old.scanner }
         ensures tokens { tokens_asked self.new ≡ tokens_asked self.old }
         ensures comments { self.new.comments_are_tokens ≡ self.old.comments_are_tokens }
-        ensures collected { OnOk result (self.old.comments_are_tokens ≡ true → CollectsLast self.old self.new (scanned_of comment.now)) }
-        ensures passed { OnOk result (self.old.comments_are_tokens ≡ false → collected self.new ≡ collected self.old) }
+        ensures collected { OnOk result (CollectsComment self.old self.new (scanned_of comment.now)) }
+        ensures omitted { OnOk result (OmitsComment self.old self.new) }
         ensures allowed { OnOk result (IsTrue (options_in self.old).comments) }
         ensures refused { IfErr result (RefusesComment self.old) }
         ensures fault { IfErr result (IsFault (text_in self.old)) }

@@ -18,7 +18,7 @@ returns-then-not-is_comment-clause-found g c =
 pub loop-token-preserved : goal.loop-token-preserved
 loop-token-preserved g c =
     passing_on c.args.self.now c.loop-token.self c.pass_comment.new.self c.scan.new.self c.in_ok-token.field-0 c.in-Some.token c.in-Some.is c.pass_comment.ensures.scanner c.pass_comment.ensures.tokens c.pass_comment.ensures.comments
-    c.loop-token.invariant c.scan.ensures.blanks c.in_ok-token.ensures.found (sym c.is_comment.ensures ∙ c.if-not-is_comment.false) c.in_ok-pass_comment.ensures.allowed c.in_ok-pass_comment.ensures.collected c.in_ok-pass_comment.ensures.passed
+    c.loop-token.invariant c.scan.ensures.blanks c.in_ok-token.ensures.found (sym c.is_comment.ensures ∙ c.if-not-is_comment.false) c.in_ok-pass_comment.ensures.allowed c.in_ok-pass_comment.ensures.collected c.in_ok-pass_comment.ensures.omitted
 
 pub returns-in_err-token-clause-refused : goal.returns-in_err-token-clause-refused
 returns-in_err-token-clause-refused g c =
