@@ -1,7 +1,9 @@
 //! The calls that may want memory.
 
 use crate::tests::awaited::Awaited;
+use crate::tests::maps::changed_map;
 use crate::tests::outcome::Outcome;
+use crate::tests::tokens::decode_provided;
 use crate::tests::trees::changed_tree;
 use jsonc_engine::calls::{FromReader, ToWriter};
 use jsonc_engine::command::Command;
@@ -25,22 +27,26 @@ pub type Heap<'a> = &'a Refusing<Global>;
 #[derive(Clone, Copy, Debug)]
 pub enum Call {
     Decode,
+    DecodeProvided,
     Scan,
     SyntaxTree,
     Document,
     TokenCopy,
+    MapChanges,
     TreeChanges,
     BytesToBytes,
     WholeRun,
 }
 
 /// All of them.
-pub const CALLS: [Call; 8] = [
+pub const CALLS: [Call; 10] = [
     Call::Decode,
+    Call::DecodeProvided,
     Call::Scan,
     Call::SyntaxTree,
     Call::Document,
     Call::TokenCopy,
+    Call::MapChanges,
     Call::TreeChanges,
     Call::BytesToBytes,
     Call::WholeRun,
@@ -61,10 +67,12 @@ const DECODED: &str = "one\ttwo three";
 pub fn outcome_of(call: Call, heap: Heap<'_>) -> Outcome {
     Outcome::within(match call {
         Call::Decode => decode(heap),
+        Call::DecodeProvided => decode_provided(heap),
         Call::Scan => scan(heap),
         Call::SyntaxTree => syntax_tree(heap),
         Call::Document => document(heap),
         Call::TokenCopy => token_copy(heap),
+        Call::MapChanges => changed_map(heap),
         Call::TreeChanges => changed_tree(heap),
         Call::BytesToBytes => bytes_to_bytes(heap),
         Call::WholeRun => whole_run(heap),

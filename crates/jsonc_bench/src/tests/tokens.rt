@@ -1,12 +1,13 @@
 //! Worked rows of the scanner and of decoding.
 ghost use Rattle.std.specs.Prelude.{IsCharBoundary};
 
+use crate::tests::outcome::Outcome;
 use jsonc_scan::provider::{CharProvider, parse_string, parse_string_with_char_provider};
 use jsonc_scan::scanner::Scanner;
 use jsonc_text::chars::{char_at, char_end};
 use jsonc_text::options::ScannerOptions;
 use jsonc_text::tokens::Token;
-use std::alloc::Global;
+use std::alloc::{Allocator, Global};
 use std::default::Default;
 use std::test::Fail;
 
@@ -163,18 +164,20 @@ impl<'a> CharProvider<'a> for TextChars<'a> {
     }
 }
 
-#[test]
-fn a_provider_is_left_after_the_string(rt: HostRuntime) -> Result<(), Fail> {
+/// Decodes a string from a provider, and tells whether the provider is left after it.
+pub fn decode_provided<A: Allocator>(alloc: A) -> Result<Outcome, Outcome> {
     let mut chars = TextChars {
         text: "'a\\n'x",
         at: 0,
     };
-    let result = parse_string_with_char_provider(rt.alloc(), &mut chars, false);
-    let found = match &result {
-        Ok(s) => s.as_str(),
-        Err(_) => "refused",
-    };
-    assert_eq!(rt; found, "a\n");
-    assert_eq!(rt; chars.current_char(), Some('x'));
+    let found = parse_string_with_char_provider(alloc, &mut chars, false)?;
+    let is_after = chars.current_char() == Some('x');
+    Ok(Outcome::of(found.as_str() == "a\n" && is_after))
+}
+
+#[test]
+fn a_provider_is_left_after_the_string(rt: HostRuntime) -> Result<(), Fail> {
+    let outcome = Outcome::within(decode_provided(rt.alloc()));
+    assert_eq!(rt; outcome, Outcome::Answered);
     Ok(())
 }

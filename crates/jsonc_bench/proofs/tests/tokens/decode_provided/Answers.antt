@@ -2,10 +2,10 @@ use Rattle.std.proofs.Common.{refl, List, ℕ, [], ◌∷◌, arith, rules}
 use Rattle.std.specs.Str.{IsAscii}
 use Rattle.std.proofs.lemmas.Str.{IsUtf8-from_ascii}
 use Rattle.jsonc_text.proofs.Steps.{steps_ascii}
-use Rattle.jsonc_bench.proofs.tests.tokens.a_provider_is_left_after_the_string.Goals as goal
+use Rattle.jsonc_bench.proofs.tests.tokens.decode_provided.Goals as goal
 
-pub parse_string_with_char_provider-result-requires : goal.parse_string_with_char_provider-result-requires
-parse_string_with_char_provider-result-requires g c κs =
+pub parse_string_with_char_provider-requires : goal.parse_string_with_char_provider-requires
+parse_string_with_char_provider-requires g c κs =
     let bytes : List ℕ = 39 ∷ 97 ∷ 92 ∷ 110 ∷ 39 ∷ 120 ∷ [] in
     let ascii : IsAscii (39 ∷ 97 ∷ 92 ∷ 110 ∷ 39 ∷ 120 ∷ []) = search rules in (
       (refl, tt),
