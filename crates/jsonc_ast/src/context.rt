@@ -14,7 +14,7 @@ use jsonc_text::options::ParseOptions;
 use jsonc_text::tokens::{Token, TokenAndRange};
 use std::alloc::Allocator;
 
-/// How many containers and properties may be around a value.
+/// How many containers, or containers and properties, may be around a value.
 pub const MAXIMUM_NESTING: usize = 512;
 
 #[derive(Drop)]

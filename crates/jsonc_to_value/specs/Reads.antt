@@ -15,7 +15,7 @@ use Rattle.jsonc_to_value.specs.Views.{plain, name_of}
 use Rattle.jsonc_to_value.specs.Refusals.{IsWithin}
 
 module _ {A : Type 0} where
-  -- v is a value that may stand inside of so many containers, of equal names the last alone, and its text stands from the start of the token at hand before to the end of the one after
+  -- from the start of the token at hand before to the end of the one after stands a value that may stand inside of so many containers, and v is that value collapsed
   pub record Reads (old new : Context A) (count : ℕ) (v : JsonValue A) : Type 0 where
     pub value : Plain
     pub stands : IsValue (options_in old) (here old) value (rest (text_in old) (token_end new))
@@ -23,7 +23,7 @@ module _ {A : Type 0} where
     pub within : depth value + count ≤ 512
     pub on : token_end old ≤ token_end new
 
-  -- the same of a property
+  -- a property stands there, whose name has UTF-8 bytes, and its value is the same
   pub record ReadsProperty (old new : Context A) (count : ℕ) (p : CowStr A × JsonValue A) : Type 0 where
     pub value : Plain
     pub stands : IsProperty (options_in old) (here old) (name_of p.0) value (rest (text_in old) (token_end new))
@@ -32,6 +32,6 @@ module _ {A : Type 0} where
     pub within : depth value + count ≤ 512
     pub on : token_end old ≤ token_end new
 
-  -- the text's value is within the limit, and is found is that value, of equal names the last alone
+  -- the text has this value, which is within, and what was found is that value collapsed
   abbrev pub IsValueOf : Options → List ℕ → Option (JsonValue A) → Type 0
   IsValueOf o t found = (v : Option Plain) × IsDocument o t v × IsWithin v × (option_map plain found ≡ option_map collapse v)

@@ -1,5 +1,5 @@
 //! Values read by recursive descent.
-ghost use Rattle.std.specs.Prelude.{◌≡◌, ◌≤◌, IfOk, IfErr, OnOk, option_map, chars};
+ghost use Rattle.std.specs.Prelude.{◌≡◌, ◌+◌, ◌<◌, ◌≤◌, IfOk, IfErr, OnOk, option_map, chars};
 ghost use Rattle.std.specs.Str.{IsUtf8};
 ghost use Rattle.std.specs.Cow.{cow_str_bytes};
 ghost use Rattle.indexmap.specs.IndexMap.{insert_entry};
@@ -64,7 +64,7 @@ fn lent<'a, A: Allocator>(text: &'a str) -> CowStr<'a, A>
     CowStr::Borrowed(text)
 }
 
-/// The same name.
+/// The same name. What it borrows goes through `lent`, to which it is known to be UTF-8.
 fn kept<'a, A: Allocator>(name: CowStr<'a, A>) -> CowStr<'a, A>
     ensures name { name_of result ≡ name_of name.entry }
     ensures utf8 { IsUtf8 (cow_str_bytes result) }
@@ -127,6 +127,19 @@ fn put_property<'a, A: Allocator>(
     }
 }
 
+/// Refuses a container that begins with the last token, where it would be inside of 512 others.
+fn check_depth<'a, A: Allocator + Copy>(
+    context: &Context<'a, A>,
+    count: usize,
+) -> Result<(), ParseError>
+    requires { count ≤ 512 }
+    ensures within { OnOk result (count + 1 ≤ 512) }
+    ensures refused { IfErr result (λ _. 512 < count + 1) }
+    ensures fault { IfErr result (IsFault (text_in context.now)) }
+{
+    context.check_nesting(context.scanner.token_start(), count + 1)
+}
+
 /// The value that begins with the last token, inside of so many containers.
 #[cycle(parse)]
 fn parse_value<'a, A: Allocator + Copy>(
@@ -161,7 +174,7 @@ fn parse_array<'a, A: Allocator + Copy>(
     ensures refused { IfErr result (Tells (NoValueHere context.old count)) }
     ensures fault { IfErr result (IsFault (text_in context.old)) }
 {
-    context.check_nesting(context.scanner.token_start(), count + 1)?;
+    check_depth(context, count)?;
     let mut elements = Vec::new(context.alloc);
     let mut next = context.first_item(Container::Array, None)?;
     while let Some(token) = next {
@@ -187,7 +200,7 @@ fn parse_object<'a, A: Allocator + Copy>(
     ensures refused { IfErr result (Tells (NoValueHere context.old count)) }
     ensures fault { IfErr result (IsFault (text_in context.old)) }
 {
-    context.check_nesting(context.scanner.token_start(), count + 1)?;
+    check_depth(context, count)?;
     let mut properties = Map::new(context.alloc);
     let mut next = context.first_item(Container::Object, None)?;
     while let Some(token) = next {

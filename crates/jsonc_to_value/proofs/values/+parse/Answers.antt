@@ -16,7 +16,7 @@ use Rattle.jsonc_to_value.proofs.values.+parse.Goals as goal
 pub parse_array-loop-next-init : goal.parse_array-loop-next-init
 parse_array-loop-next-init g t c =
     let read = c.in_ok-next.ensures in
-    elements.elements_start c.args.context.now c.first_item.new.self c.in_ok-next.next c.args.count c.new-elements.result.items c.new-elements.ensures.items c.requires.token c.first_item.ensures.kept read.found read.only c.in_ok-check_nesting.ensures.within
+    elements.elements_start c.args.context.now c.first_item.new.self c.in_ok-next.next c.args.count c.new-elements.result.items c.new-elements.ensures.items c.requires.token c.first_item.ensures.kept read.found read.only c.in_ok-check_depth.ensures.within
 
 pub parse_array-loop-next-smaller : goal.parse_array-loop-next-smaller
 parse_array-loop-next-smaller g t c =
@@ -39,10 +39,10 @@ pub parse_array-returns-clause-found : goal.parse_array-returns-clause-found
 parse_array-returns-clause-found g t c =
     elements.elements_whole c.args.context.now c.loop-next.context c.loop-next.next c.args.count c.loop-next.elements.items c.array_of.result c.loop-next.invariant c.in_default.is c.array_of.ensures
 
-pub parse_array-returns-in_err-check_nesting-clause-refused : goal.parse_array-returns-in_err-check_nesting-clause-refused
-parse_array-returns-in_err-check_nesting-clause-refused g t c =
+pub parse_array-returns-in_err-check_depth-clause-refused : goal.parse_array-returns-in_err-check_depth-clause-refused
+parse_array-returns-in_err-check_depth-clause-refused g t c =
     let old = c.args.context.now in
-    err_of (Tells (NoValueHere old c.args.count)) c.in_err-check_nesting.field-0.0 c.from_residual.result c.from_residual.ensures.1 (inr (elements.array_too_deep old c.args.count c.requires.token c.in_err-check_nesting.ensures.refused))
+    err_of (Tells (NoValueHere old c.args.count)) c.in_err-check_depth.field-0.0 c.from_residual.result c.from_residual.ensures.1 (inr (elements.array_too_deep old c.args.count c.requires.token c.in_err-check_depth.ensures.refused))
 
 pub parse_array-returns-in_err-next-clause-refused : goal.parse_array-returns-in_err-next-clause-refused
 parse_array-returns-in_err-next-clause-refused g t c =
@@ -69,12 +69,12 @@ parse_array-returns-in_err-next-2-clause-refused g t c =
 pub parse_object-loop-next-init : goal.parse_object-loop-next-init
 parse_object-loop-next-init g t c =
     let read = c.in_ok-next.ensures in
-    properties.properties_start c.args.context.now c.first_item.new.self c.in_ok-next.next c.args.count c.new-properties.result c.new-properties.ensures c.requires.token c.first_item.ensures.kept read.found read.only c.in_ok-check_nesting.ensures.within
+    properties.properties_start c.args.context.now c.first_item.new.self c.in_ok-next.next c.args.count c.new-properties.result c.new-properties.ensures c.requires.token c.first_item.ensures.kept read.found read.only c.in_ok-check_depth.ensures.within
 
-pub parse_object-returns-in_err-check_nesting-clause-refused : goal.parse_object-returns-in_err-check_nesting-clause-refused
-parse_object-returns-in_err-check_nesting-clause-refused g t c =
+pub parse_object-returns-in_err-check_depth-clause-refused : goal.parse_object-returns-in_err-check_depth-clause-refused
+parse_object-returns-in_err-check_depth-clause-refused g t c =
     let old = c.args.context.now in
-    err_of (Tells (NoValueHere old c.args.count)) c.in_err-check_nesting.field-0.0 c.from_residual.result c.from_residual.ensures.1 (inr (properties.object_too_deep old c.args.count c.requires.token c.in_err-check_nesting.ensures.refused))
+    err_of (Tells (NoValueHere old c.args.count)) c.in_err-check_depth.field-0.0 c.from_residual.result c.from_residual.ensures.1 (inr (properties.object_too_deep old c.args.count c.requires.token c.in_err-check_depth.ensures.refused))
 
 pub parse_object-returns-in_err-next-clause-refused : goal.parse_object-returns-in_err-next-clause-refused
 parse_object-returns-in_err-next-clause-refused g t c =

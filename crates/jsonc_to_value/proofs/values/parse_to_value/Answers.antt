@@ -48,7 +48,7 @@ returns-in_err-scan-clause-refused g c =
     err_of (RefusesText (parse_options c.args.options.now) c.args.text.now) c.in_err-scan.field-0.0 c.from_residual-in_err-scan.result c.from_residual-in_err-scan.ensures.1
     (still
     (λ n. from_start NoDocument old _ _ start.start start.text start.options
-        (document_no_end old c.scan.new.self c.in_ok-token.field-0 read.kept read.found read.lexeme c.in-Some.token c.in-Some.is c.parse_value.new.context c.in_ok-value.value value.kept value.found n)) c.in_err-scan.ensures.refused)
+    (document_no_end old c.scan.new.self c.in_ok-token.field-0 read.kept read.found read.lexeme c.in-Some.token c.in-Some.is c.parse_value.new.context c.in_ok-value.value value.kept value.found n)) c.in_err-scan.ensures.refused)
 
 pub returns-in_default-2-clause-refused : goal.returns-in_default-2-clause-refused
 returns-in_default-2-clause-refused g c =
