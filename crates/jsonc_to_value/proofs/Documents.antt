@@ -1,10 +1,10 @@
 -- Whole texts.
-use Rattle.std.proofs.Common.{ℕ, ◌+◌, ◌≤◌, ◌≡◌, ◌∙◌, sym, ap, subst, refl, arith, List, [], Option, Some, None, length, chars, inl, inr}
+use Rattle.std.proofs.Common.{ℕ, ◌≤◌, ◌≡◌, ◌∙◌, sym, ap, subst, refl, arith, List, [], Option, Some, None, length, chars, inl, inr}
 use Rattle.jsonc_text.specs.declared.tokens.Token.{Token}
 use Rattle.jsonc_text.specs.Options.{Options}
 use Rattle.jsonc_text.specs.Text.{rest}
 use Rattle.jsonc_text.specs.Gaps.{Gap}
-use Rattle.jsonc_text.specs.Grammar.{IsValue, IsDocument}
+use Rattle.jsonc_text.specs.Grammar.{IsValue}
 use Rattle.jsonc_text.specs.Plain.{Plain, depth}
 use Rattle.jsonc_text.proofs.Steps.{rest_end}
 use Rattle.jsonc_text.proofs.UniqueValues.{value_unique}

@@ -1,10 +1,10 @@
 -- A parser among the elements of an array.
-use Rattle.std.proofs.Common.{ℕ, max, ◌+◌, ◌<◌, ◌≤◌, ◌≡◌, ◌∙◌, sym, ap, subst, refl, arith, map, List, [], ◌∷◌, ◌++◌, Option, Some, None, IfSome}
+use Rattle.std.proofs.Common.{ℕ, max, ◌+◌, ◌<◌, ◌≤◌, ◌≡◌, ◌∙◌, sym, ap, subst, arith, map, List, [], ◌∷◌, ◌++◌, Option, Some, None, IfSome}
 use Rattle.jsonc_text.specs.declared.tokens.Token.{Token}
 use Rattle.jsonc_text.specs.Text.{rest}
 use Rattle.jsonc_text.specs.Gaps.{Gap}
 use Rattle.jsonc_text.specs.Grammar.{IsValue, AreElements, Separates, Closes}
-use Rattle.jsonc_text.specs.Plain.{Plain, array, Items, no_items, items_depth, depth, collapse, collapse_items}
+use Rattle.jsonc_text.specs.Plain.{array, Items, no_items, items_depth, depth, collapse_items}
 use Rattle.jsonc_value.specs.declared.value.JsonValue.{JsonValue}
 use Rattle.jsonc_ast.specs.declared.container.Container.TheVariants.{Array}
 use Rattle.jsonc_ast.specs.declared.context.Context.{Context}

@@ -1,9 +1,9 @@
 -- A property that is inserted into a map is put among its members.
-use Rattle.std.proofs.Common.{ℕ, ◌≡◌, sym, ap, subst, refl, Bool, true, false, cond, List, [], ◌∷◌, IsUtf8}
+use Rattle.std.proofs.Common.{◌≡◌, sym, ap, refl, Bool, true, false, cond, List, [], ◌∷◌, IsUtf8}
 use Rattle.std.specs.Cow.{cow_str_bytes}
 use Rattle.std.specs.declared.borrow.CowStr.{CowStr}
 use Rattle.indexmap.specs.IndexMap.{insert_entry}
-use Rattle.jsonc_text.specs.Plain.{Members, member}
+use Rattle.jsonc_text.specs.Plain.{member}
 use Rattle.jsonc_text.proofs.TokenTexts.{same_bytes}
 use Rattle.jsonc_value.specs.declared.value.JsonValue.{JsonValue}
 use Rattle.jsonc_to_value.specs.Views.{plain, name_of, same_name, members_plain}

@@ -1,10 +1,10 @@
 -- Values of one token.
-use Rattle.std.proofs.Common.{ℕ, ◌+◌, ◌≤◌, ◌≡◌, ◌∙◌, sym, ap, subst, refl, arith, List, ◌∷◌, Option, Some, None, option_map, Result, Ok, Err, IfOk}
+use Rattle.std.proofs.Common.{ℕ, ◌≤◌, ◌≡◌, ◌∙◌, sym, ap, subst, refl, arith, List, ◌∷◌, Option, Some, None, option_map, Result, Ok, Err, IfOk}
 use Rattle.jsonc_text.specs.declared.errors.ParseError.{ParseError}
 use Rattle.jsonc_text.specs.declared.tokens.Token.{Token}
 use Rattle.jsonc_text.specs.declared.tokens.Token.TheVariants as token
 use Rattle.jsonc_text.specs.Options.{Options}
-use Rattle.jsonc_text.specs.Grammar.{IsValue, literal, empty_array, array, empty_object, object, literal_value}
+use Rattle.jsonc_text.specs.Grammar.{literal, empty_array, array, empty_object, object, literal_value}
 use Rattle.jsonc_text.specs.Lexemes.{Scanned, lexeme, line_comment, block_comment, LexemeKind, punctuation, Lexeme, IsScanned}
 use Rattle.jsonc_text.specs.Plain.{Plain, depth, collapse}
 use Rattle.jsonc_text.specs.Tokens.{scanned_of}

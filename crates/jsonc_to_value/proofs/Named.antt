@@ -1,5 +1,5 @@
 -- A property: its name, its colon and its value.
-use Rattle.std.proofs.Common.{ℕ, ◌+◌, ◌≤◌, ◌≡◌, ◌∙◌, sym, subst, arith, List, Option, Some, None, IsUtf8, inr}
+use Rattle.std.proofs.Common.{ℕ, ◌≡◌, sym, subst, arith, List, Option, None, IsUtf8, inr}
 use Rattle.std.specs.Cow.{cow_str_bytes}
 use Rattle.std.specs.declared.borrow.CowStr.{CowStr}
 use Rattle.jsonc_text.specs.declared.tokens.Token.{Token}

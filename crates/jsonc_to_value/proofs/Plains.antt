@@ -1,7 +1,7 @@
 -- Values one level at a time.
 use Rattle.std.proofs.Common.{◌≡◌, ◌∙◌, sym, ap}
 use Rattle.jsonc_text.specs.Plain.{Plain, array, object}
-use Rattle.jsonc_value.specs.declared.value.JsonValue.{JsonValue, fold-roll-JsonValue}
+use Rattle.jsonc_value.specs.declared.value.JsonValue.{fold-roll-JsonValue}
 use Rattle.jsonc_value.specs.declared.value.JsonArray.{JsonArray, fold_out-JsonArray}
 use Rattle.jsonc_value.specs.declared.value.JsonObject.{JsonObject, fold_out-JsonObject}
 use Rattle.jsonc_value.specs.declared.value.JsonValue.TheOpen.{JsonValue-F}

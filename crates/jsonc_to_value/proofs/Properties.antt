@@ -1,12 +1,12 @@
 -- A parser among the properties of an object.
-use Rattle.std.proofs.Common.{ℕ, max, ◌+◌, ◌<◌, ◌≤◌, ◌≡◌, ◌∙◌, sym, ap, subst, refl, arith, List, [], ◌∷◌, Option, Some, None, IfSome}
+use Rattle.std.proofs.Common.{ℕ, max, ◌+◌, ◌<◌, ◌≤◌, ◌≡◌, ◌∙◌, sym, ap, subst, arith, List, [], Option, Some, None, IfSome}
 use Rattle.std.specs.declared.borrow.CowStr.{CowStr}
 use Rattle.indexmap.specs.IndexMap.{insert_entry}
 use Rattle.jsonc_text.specs.declared.tokens.Token.{Token}
 use Rattle.jsonc_text.specs.Text.{rest}
 use Rattle.jsonc_text.specs.Gaps.{Gap}
 use Rattle.jsonc_text.specs.Grammar.{AreProperties, IsProperty, Separates, Closes}
-use Rattle.jsonc_text.specs.Plain.{object, Members, no_members, members_depth, depth, collapse, collapse_members}
+use Rattle.jsonc_text.specs.Plain.{object, Members, no_members, members_depth, depth, collapse_members}
 use Rattle.jsonc_value.specs.declared.value.JsonValue.{JsonValue}
 use Rattle.jsonc_ast.specs.declared.container.Container.TheVariants.{Object}
 use Rattle.jsonc_ast.specs.declared.context.Context.{Context}

@@ -1,4 +1,4 @@
-use Rattle.std.proofs.Common.{◌∙◌, ap, sym, subst, arith, inr}
+use Rattle.std.proofs.Common.{subst, inr}
 use Rattle.jsonc_text.specs.Grammar.{Separates, Closes}
 use Rattle.jsonc_ast.specs.Context.{options_in}
 use Rattle.jsonc_ast.specs.Refusals.{Tells}
