@@ -61,17 +61,17 @@ module _ (o : Options) where
   properties_lexeme (last_property p c) = property_lexeme p
   properties_lexeme (property p s e) = property_lexeme p
 
-  elements_item : {vs : Items} {t r : List ℕ} → AreElements o t vs r → AtItem o t
+  pub elements_item : {vs : Items} {t r : List ℕ} → AreElements o t vs r → AtItem o t
   elements_item {t = t} h = record { lexeme = elements_lexeme h; first = starts_also begins_item may_begin_item may_first (next t) (elements_begin o h) }
 
-  properties_item : {ms : Members} {t r : List ℕ} → AreProperties o t ms r → AtItem o t
+  pub properties_item : {ms : Members} {t r : List ℕ} → AreProperties o t ms r → AtItem o t
   properties_item {t = t} h = record { lexeme = properties_lexeme h; first = starts_also begins_item may_begin_item may_first (next t) (properties_begin o h) }
 
   -- a name and a property end at one place
-  name_end : {n m t r s : List ℕ} → IsName o t n r → IsName o t m s → r ≡ s
+  pub name_end : {n m t r s : List ℕ} → IsName o t n r → IsName o t m s → r ≡ s
   name_end {t = t} {r = r} {s = s} a b = let k = name_lexeme a in let l = name_lexeme b in (lexeme_unique o k.0 l.0 t r s k.1 l.1).1
 
-  property_end : {n m : List ℕ} {v w : Plain} {t r s : List ℕ} → IsProperty o t n v r → IsProperty o t m w s → r ≡ s
+  pub property_end : {n m : List ℕ} {v w : Plain} {t r s : List ℕ} → IsProperty o t n v r → IsProperty o t m w s → r ≡ s
   property_end {w = b} {s = s} (named {x = x} n g h v) (named {x = y} m k l w) =
       let p = gap_after (tails (gap_after (name_end n m) g k refl refl)) h l (not_gap x (value_begins o v)) (not_gap y (value_begins o w)) in
       (value_unique o v (subst (λ z. IsValue o z b s) (sym p) w)).1
@@ -159,7 +159,7 @@ module _ {A : Type 0} where
       let leaf : leaf_value (scanned_of t) ≡ None = map_none (leaf_at r) (leaf_value (scanned_of t)) (sym is ∙ none) in
       let both : None ≡ Some v = sym leaf ∙ ap leaf_value (one_token c t at k x l) ∙ e in cc
 
-  bracket_token : (t : Token A) → (t ≡ token.OpenBracket → ⊥) → scanned_of t ≡ lexeme (punctuation 0x5B) → ⊥
+  pub bracket_token : (t : Token A) → (t ≡ token.OpenBracket → ⊥) → scanned_of t ≡ lexeme (punctuation 0x5B) → ⊥
   bracket_token token.OpenBrace n e = mark_apart 0x7B 0x5B refl e
   bracket_token token.CloseBrace n e = mark_apart 0x7D 0x5B refl e
   bracket_token token.OpenBracket n e = n refl
@@ -174,7 +174,7 @@ module _ {A : Type 0} where
   bracket_token (token.CommentLine s) n e = cc
   bracket_token (token.CommentBlock s) n e = cc
 
-  brace_token : (t : Token A) → (t ≡ token.OpenBrace → ⊥) → scanned_of t ≡ lexeme (punctuation 0x7B) → ⊥
+  pub brace_token : (t : Token A) → (t ≡ token.OpenBrace → ⊥) → scanned_of t ≡ lexeme (punctuation 0x7B) → ⊥
   brace_token token.OpenBrace n e = n refl
   brace_token token.CloseBrace n e = mark_apart 0x7D 0x7B refl e
   brace_token token.OpenBracket n e = mark_apart 0x5B 0x7B refl e

@@ -14,7 +14,7 @@ use jsonc_text::options::ParseOptions;
 use jsonc_text::tokens::{Token, TokenAndRange};
 use std::alloc::Allocator;
 
-/// How many containers and properties may be around a value.
+/// How many containers, or containers and properties, may be around a value.
 pub const MAXIMUM_NESTING: usize = 512;
 
 #[derive(Drop)]
@@ -29,7 +29,7 @@ pub struct Context<'a, A: Allocator> {
 }
 
 impl<'a, A: Allocator + Copy> Context<'a, A> {
-    ghost use Rattle.std.specs.Prelude.{◌≡◌, ◌≢◌, ◌≤◌, ◌<◌, [], IfOk, IfErr, OnOk, IsTrue};
+    ghost use Rattle.std.specs.Prelude.{◌≡◌, ◌≢◌, ◌≤◌, ◌<◌, [], IfOk, IfErr, IfSome, OnOk, IsTrue};
     ghost use Rattle.jsonc_ast.specs.Refusals.{Tells, WhereSome, RefusesComment, NoTokenAfter, NothingFirst, NothingAfterComma, NothingNext, OnlyFirst, OnlyAfterComma, OnlyNext, NoColon, NoName};
     ghost use Rattle.jsonc_text.specs.Faults.{IsFault, IsOutOfMemory, range_of, kind_of};
     ghost use Rattle.jsonc_text.specs.Gaps.{Gap};
@@ -105,6 +105,18 @@ impl<'a, A: Allocator + Copy> Context<'a, A> {
         ensures kind { kind_of result ≡ kind }
     {
         self.fault(Range::new(start, self.scanner.token_end()), kind)
+    }
+
+    /// A fault of a container that the text ends in, told of the bytes from where the container
+    /// began, or else of the end.
+    fn unterminated(&self, container: Container, start: Option<usize>) -> ParseError
+        requires { IfSome start (λ i. Spans (text_in self.now) i (token_end self.now)) }
+        ensures { IsFault (text_in self.now) result }
+    {
+        match start {
+            Some(start) => self.fault_from(start, container.unterminated()),
+            None => self.fault_here(container.unterminated()),
+        }
     }
 
     /// Want of memory.
@@ -191,14 +203,16 @@ impl<'a, A: Allocator + Copy> Context<'a, A> {
             self.pass_comment(&token)?;
         }
     }
+
     /// Passes what stands after an opening bracket: answers the token that the first element or
-    /// property begins with, or none past the closing bracket.
+    /// property begins with, or none past the closing bracket. Where the text ends in the
+    /// container, the fault is told from the place where that began, if one is given.
     pub fn first_item(
         &mut self,
         container: Container,
-        start: usize,
+        start: Option<usize>,
     ) -> Result<Option<Token<'a, A>>, ParseError>
-        requires { Spans (text_in self.old) start (token_end self.old) }
+        requires { IfSome start (λ i. Spans (text_in self.old) i (token_end self.old)) }
         ensures kept { Keeps self.old self.new }
         ensures found { IfOk result (LeadsToFirst container self.old self.new) }
         ensures only { IfOk result (WhereSome (OnlyFirst container self.old self.new)) }
@@ -207,7 +221,7 @@ impl<'a, A: Allocator + Copy> Context<'a, A> {
         ensures fault { IfErr result (IsFault (text_in self.old)) }
     {
         let Some(token) = self.scan()? else {
-            return Err(self.fault_from(start, container.unterminated()));
+            return Err(self.unterminated(container, start));
         };
         if container.is_closed_by(&token) {
             return Ok(None);
@@ -219,9 +233,9 @@ impl<'a, A: Allocator + Copy> Context<'a, A> {
     fn item_after_comma(
         &mut self,
         container: Container,
-        start: usize,
+        start: Option<usize>,
     ) -> Result<Option<Token<'a, A>>, ParseError>
-        requires { Spans (text_in self.old) start (token_end self.old) }
+        requires { IfSome start (λ i. Spans (text_in self.old) i (token_end self.old)) }
         ensures kept { Keeps self.old self.new }
         ensures found { IfOk result (LeadsAfterComma container self.old self.new) }
         ensures only { IfOk result (WhereSome (OnlyAfterComma container self.old self.new)) }
@@ -231,7 +245,7 @@ impl<'a, A: Allocator + Copy> Context<'a, A> {
     {
         let comma = self.range();
         let Some(token) = self.scan()? else {
-            return Err(self.fault_from(start, container.unterminated()));
+            return Err(self.unterminated(container, start));
         };
         if !container.is_closed_by(&token) {
             return Ok(Some(token));
@@ -258,9 +272,9 @@ impl<'a, A: Allocator + Copy> Context<'a, A> {
     pub fn next_item(
         &mut self,
         container: Container,
-        start: usize,
+        start: Option<usize>,
     ) -> Result<Option<Token<'a, A>>, ParseError>
-        requires { Spans (text_in self.old) start (token_end self.old) }
+        requires { IfSome start (λ i. Spans (text_in self.old) i (token_end self.old)) }
         ensures kept { Keeps self.old self.new }
         ensures found { IfOk result (LeadsToNext container self.old self.new) }
         ensures only { IfOk result (WhereSome (OnlyNext container self.old self.new)) }
@@ -270,7 +284,7 @@ impl<'a, A: Allocator + Copy> Context<'a, A> {
     {
         let end = self.scanner.token_end();
         let Some(token) = self.scan()? else {
-            return Err(self.fault_from(start, container.unterminated()));
+            return Err(self.unterminated(container, start));
         };
         if container.is_closed_by(&token) {
             return Ok(None);

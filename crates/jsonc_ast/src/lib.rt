@@ -3,8 +3,8 @@
 
 pub mod ast;
 pub mod collect;
-mod container;
-mod context;
+pub mod container;
+pub mod context;
 mod values;
 
 pub use values::parse_to_ast;

@@ -97,14 +97,14 @@ fn parse_array<'a, A: Allocator + Copy>(
 {
     let start = context.scanner.token_start();
     let mut elements = Vec::new(context.alloc);
-    let mut next = context.first_item(Container::Array, start)?;
+    let mut next = context.first_item(Container::Array, Some(start))?;
     while let Some(token) = next {
         context.check_nesting(start, count + 1)?;
         let value = parse_value(context, token, count + 1)?;
         let Ok(()) = push_value(&mut elements, value) else {
             return Err(context.out_of_memory());
         };
-        next = context.next_item(Container::Array, start)?;
+        next = context.next_item(Container::Array, Some(start))?;
     }
     Ok(array_of(Range::new(start, context.scanner.token_end()), elements))
 }
@@ -126,13 +126,13 @@ fn parse_object<'a, A: Allocator + Copy>(
 {
     let start = context.scanner.token_start();
     let mut properties = Vec::new(context.alloc);
-    let mut next = context.first_item(Container::Object, start)?;
+    let mut next = context.first_item(Container::Object, Some(start))?;
     while let Some(token) = next {
         let property = parse_property(context, token, count + 1)?;
         let Ok(()) = push_property(&mut properties, property) else {
             return Err(context.out_of_memory());
         };
-        next = context.next_item(Container::Object, start)?;
+        next = context.next_item(Container::Object, Some(start))?;
     }
     Ok(object_of(Range::new(start, context.scanner.token_end()), properties))
 }

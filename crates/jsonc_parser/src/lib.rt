@@ -1,8 +1,9 @@
 //! A parser for JSON with comments, and a document that keeps every byte of its text.
 //!
 //! [`cst::CstRootNode::parse`] reads a text into a document, which prints as the text was written;
-//! [`parse_to_ast`] reads it into values with their ranges. What a text may hold beyond JSON is said by
-//! [`ParseOptions`]; what is wrong with a text, and where, by [`errors::ParseError`].
+//! [`parse_to_ast`] reads it into values with their ranges, [`parse_to_value`] into values alone.
+//! What a text may hold beyond JSON is said by [`ParseOptions`]; what is wrong with a text, and
+//! where, by [`errors::ParseError`].
 #![tactic(auto)]
 
 pub mod cst;
@@ -14,4 +15,5 @@ pub use jsonc_scan::scanner::Scanner;
 pub use jsonc_text::errors::ParseStringErrorKind;
 pub use jsonc_text::options::{ParseOptions, ScannerOptions};
 pub use jsonc_text::{common, errors, tokens};
+pub use jsonc_to_value::parse_to_value;
 pub use jsonc_value::{JsonArray, JsonObject, JsonValue, Map, map};

@@ -1,0 +1,10 @@
+pub mod Plains
+pub mod Collapse
+pub mod Insertions
+pub mod Arrays
+pub mod Objects
+pub mod Elements
+pub mod Properties
+pub mod Leaves
+pub mod Named
+pub mod Documents

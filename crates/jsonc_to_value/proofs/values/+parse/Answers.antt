@@ -1,0 +1,167 @@
+use Rattle.std.proofs.Common.{subst, inr}
+use Rattle.jsonc_text.specs.Grammar.{Separates, Closes}
+use Rattle.jsonc_ast.specs.Context.{options_in}
+use Rattle.jsonc_ast.specs.Refusals.{Tells}
+use Rattle.jsonc_ast.specs.Views.{name_at}
+use Rattle.jsonc_ast.proofs.Loops.{AtHand, smaller, leads_on}
+use Rattle.jsonc_ast.proofs.Refusals.{err_of, err_some, still}
+use Rattle.jsonc_ast.proofs.Scans.{kept_on}
+use Rattle.jsonc_to_value.specs.Refusals.{NoValueHere, NoPropertyHere}
+use Rattle.jsonc_to_value.proofs.Elements as elements
+use Rattle.jsonc_to_value.proofs.Properties as properties
+use Rattle.jsonc_to_value.proofs.Leaves.{fewer, leaf_nowhere}
+use Rattle.jsonc_to_value.proofs.Named.{name_missing, colon_missing, no_token_for_value, end_for_value, value_refused, property_read}
+use Rattle.jsonc_to_value.proofs.values.+parse.Goals as goal
+
+pub parse_array-loop-next-init : goal.parse_array-loop-next-init
+parse_array-loop-next-init g t c =
+    let read = c.in_ok-next.ensures in
+    elements.elements_start c.args.context.now c.first_item.new.self c.in_ok-next.next c.args.count c.new-elements.result.items c.new-elements.ensures.items c.requires.token c.first_item.ensures.kept read.found read.only c.in_ok-check_depth.ensures.within
+
+pub parse_array-loop-next-smaller : goal.parse_array-loop-next-smaller
+parse_array-loop-next-smaller g t c =
+    let now = c.loop-next.context in
+    let mid = c.parse_value.new.context in
+    let read = c.in_ok-value.ensures in
+    smaller now mid c.next_item.new.self c.in-Some.token (subst (AtHand 0x5D now) c.in-Some.is c.loop-next.invariant.hand) (kept_on now mid c.next_item.new.self read.kept c.next_item.ensures.kept) read.found.on
+    (leads_on (Separates (options_in mid)) (Closes (options_in mid) 0x5D) 0x5D mid c.next_item.new.self c.in_ok-next-2.next c.in_ok-next-2.ensures.found)
+
+pub parse_array-loop-next-preserved : goal.parse_array-loop-next-preserved
+parse_array-loop-next-preserved g t c =
+    let now = c.loop-next.context in
+    let mid = c.parse_value.new.context in
+    let read = c.in_ok-value.ensures in
+    let next = c.in_ok-next-2.ensures in
+    elements.elements_turn c.args.context.now now c.loop-next.next c.in-Some.token c.args.count c.loop-next.elements.items c.loop-next.invariant c.in-Some.is mid c.in_ok-value.value read.kept read.found
+    c.next_item.new.self c.in_ok-next-2.next c.push_value.new.elements.items c.next_item.ensures.kept next.found next.only c.in-Ok.ensures
+
+pub parse_array-returns-clause-found : goal.parse_array-returns-clause-found
+parse_array-returns-clause-found g t c =
+    elements.elements_whole c.args.context.now c.loop-next.context c.loop-next.next c.args.count c.loop-next.elements.items c.array_of.result c.loop-next.invariant c.in_default.is c.array_of.ensures
+
+pub parse_array-returns-in_err-check_depth-clause-refused : goal.parse_array-returns-in_err-check_depth-clause-refused
+parse_array-returns-in_err-check_depth-clause-refused g t c =
+    let old = c.args.context.now in
+    err_of (Tells (NoValueHere old c.args.count)) c.in_err-check_depth.field-0.0 c.from_residual.result c.from_residual.ensures.1 (inr (elements.array_too_deep old c.args.count c.requires.token c.in_err-check_depth.ensures.refused))
+
+pub parse_array-returns-in_err-next-clause-refused : goal.parse_array-returns-in_err-next-clause-refused
+parse_array-returns-in_err-next-clause-refused g t c =
+    let old = c.args.context.now in
+    err_of (Tells (NoValueHere old c.args.count)) c.in_err-next.field-0.0 c.from_residual-in_err-next.result c.from_residual-in_err-next.ensures.1 (still (elements.nothing_in_array old c.args.count c.requires.token) c.in_err-next.ensures.refused)
+
+pub parse_array-returns-in_err-value-clause-refused : goal.parse_array-returns-in_err-value-clause-refused
+parse_array-returns-in_err-value-clause-refused g t c =
+    let old = c.args.context.now in
+    let now = c.loop-next.context in
+    err_of (Tells (NoValueHere old c.args.count)) c.in_err-value.field-0.0 c.from_residual-in_err-value.result c.from_residual-in_err-value.ensures.1
+    (still
+    (elements.element_refused old now c.loop-next.next c.in-Some.token c.args.count c.loop-next.elements.items c.loop-next.invariant c.in-Some.is) c.in_err-value.ensures.refused)
+
+pub parse_array-returns-in_err-next-2-clause-refused : goal.parse_array-returns-in_err-next-2-clause-refused
+parse_array-returns-in_err-next-2-clause-refused g t c =
+    let old = c.args.context.now in
+    let now = c.loop-next.context in
+    let read = c.in_ok-value.ensures in
+    err_of (Tells (NoValueHere old c.args.count)) c.in_err-next-2.field-0.0 c.from_residual-in_err-next-2.result c.from_residual-in_err-next-2.ensures.1
+    (still
+    (elements.next_refused old now c.loop-next.next c.in-Some.token c.args.count c.loop-next.elements.items c.loop-next.invariant c.in-Some.is c.parse_value.new.context c.in_ok-value.value read.kept read.found) c.in_err-next-2.ensures.refused)
+
+pub parse_object-loop-next-init : goal.parse_object-loop-next-init
+parse_object-loop-next-init g t c =
+    let read = c.in_ok-next.ensures in
+    properties.properties_start c.args.context.now c.first_item.new.self c.in_ok-next.next c.args.count c.new-properties.result c.new-properties.ensures c.requires.token c.first_item.ensures.kept read.found read.only c.in_ok-check_depth.ensures.within
+
+pub parse_object-returns-in_err-check_depth-clause-refused : goal.parse_object-returns-in_err-check_depth-clause-refused
+parse_object-returns-in_err-check_depth-clause-refused g t c =
+    let old = c.args.context.now in
+    err_of (Tells (NoValueHere old c.args.count)) c.in_err-check_depth.field-0.0 c.from_residual.result c.from_residual.ensures.1 (inr (properties.object_too_deep old c.args.count c.requires.token c.in_err-check_depth.ensures.refused))
+
+pub parse_object-returns-in_err-next-clause-refused : goal.parse_object-returns-in_err-next-clause-refused
+parse_object-returns-in_err-next-clause-refused g t c =
+    let old = c.args.context.now in
+    err_of (Tells (NoValueHere old c.args.count)) c.in_err-next.field-0.0 c.from_residual-in_err-next.result c.from_residual-in_err-next.ensures.1 (still (properties.nothing_in_object old c.args.count c.requires.token) c.in_err-next.ensures.refused)
+
+pub parse_object-returns-in_err-name-clause-refused : goal.parse_object-returns-in_err-name-clause-refused
+parse_object-returns-in_err-name-clause-refused g t c =
+    let old = c.args.context.now in
+    let now = c.loop-next.context in
+    err_of (Tells (NoValueHere old c.args.count)) c.in_err-name.field-0.0 c.from_residual-in_err-name.result c.from_residual-in_err-name.ensures.1
+    (still
+    (properties.property_refused old now c.loop-next.next c.in-Some.token c.args.count c.loop-next.properties c.loop-next.invariant c.in-Some.is) c.in_err-name.ensures.refused)
+
+pub parse_object-returns-in_err-next-2-clause-refused : goal.parse_object-returns-in_err-next-2-clause-refused
+parse_object-returns-in_err-next-2-clause-refused g t c =
+    let old = c.args.context.now in
+    let now = c.loop-next.context in
+    let read = c.in_ok-name.ensures in
+    err_of (Tells (NoValueHere old c.args.count)) c.in_err-next-2.field-0.0 c.from_residual-in_err-next-2.result c.from_residual-in_err-next-2.ensures.1
+    (still
+    (properties.next_refused old now c.loop-next.next c.in-Some.token c.args.count c.loop-next.properties c.loop-next.invariant c.in-Some.is c.parse_property.new.context (c.in_ok-name.name, c.in_ok-name.value) read.kept read.found) c.in_err-next-2.ensures.refused)
+
+pub parse_object-loop-next-smaller : goal.parse_object-loop-next-smaller
+parse_object-loop-next-smaller g t c =
+    let now = c.loop-next.context in
+    let mid = c.parse_property.new.context in
+    let read = c.in_ok-name.ensures in
+    smaller now mid c.next_item.new.self c.in-Some.token (subst (AtHand 0x7D now) c.in-Some.is c.loop-next.invariant.hand) (kept_on now mid c.next_item.new.self read.kept c.next_item.ensures.kept) read.found.on
+    (leads_on (Separates (options_in mid)) (Closes (options_in mid) 0x7D) 0x7D mid c.next_item.new.self c.in_ok-next-2.next c.in_ok-next-2.ensures.found)
+
+pub parse_object-loop-next-preserved : goal.parse_object-loop-next-preserved
+parse_object-loop-next-preserved g t c =
+    let now = c.loop-next.context in
+    let mid = c.parse_property.new.context in
+    let read = c.in_ok-name.ensures in
+    let next = c.in_ok-next-2.ensures in
+    properties.properties_turn c.args.context.now now c.loop-next.next c.in-Some.token c.args.count c.loop-next.properties c.loop-next.invariant c.in-Some.is mid (c.in_ok-name.name, c.in_ok-name.value) read.kept read.found
+    c.next_item.new.self c.in_ok-next-2.next c.put_property.new.properties c.next_item.ensures.kept next.found next.only c.in-Ok.ensures
+
+pub parse_object-returns-clause-found : goal.parse_object-returns-clause-found
+parse_object-returns-clause-found g t c =
+    properties.properties_whole c.args.context.now c.loop-next.context c.loop-next.next c.args.count c.loop-next.properties c.object_of.result c.loop-next.invariant c.in_default.is c.object_of.ensures
+
+pub parse_property-returns-in_err-name-clause-refused : goal.parse_property-returns-in_err-name-clause-refused
+parse_property-returns-in_err-name-clause-refused g t c =
+    err_of (Tells (NoPropertyHere c.args.context.now c.args.count)) c.in_err-name.field-0.0 c.from_residual.result c.from_residual.ensures.1 (inr (name_missing c.args.context.now c.args.count c.in_err-name.ensures.refused))
+
+pub parse_property-returns-in_err-pass_colon-clause-refused : goal.parse_property-returns-in_err-pass_colon-clause-refused
+parse_property-returns-in_err-pass_colon-clause-refused g t c =
+    let old = c.args.context.now in
+    err_of (Tells (NoPropertyHere old c.args.count)) c.in_err-pass_colon.field-0.0 c.from_residual-in_err-pass_colon.result c.from_residual-in_err-pass_colon.ensures.1
+    (still (colon_missing old (name_at c.in_ok-name.field-0) c.args.count c.in_ok-name.ensures.name) c.in_err-pass_colon.ensures.refused)
+
+pub parse_property-returns-in_err-token-clause-refused : goal.parse_property-returns-in_err-token-clause-refused
+parse_property-returns-in_err-token-clause-refused g t c =
+    let old = c.args.context.now in
+    let colon = c.in_ok-pass_colon.ensures in
+    err_of (Tells (NoPropertyHere old c.args.count)) c.in_err-token.field-0.0 c.from_residual-in_err-token.result c.from_residual-in_err-token.ensures.1
+    (still (no_token_for_value old c.pass_colon.new.self (name_at c.in_ok-name.field-0) c.args.count c.in_ok-name.ensures.name colon.kept colon.found) c.in_err-token.ensures.refused)
+
+pub parse_property-returns-in_default-clause-refused : goal.parse_property-returns-in_default-clause-refused
+parse_property-returns-in_default-clause-refused g t c =
+    let colon = c.in_ok-pass_colon.ensures in
+    let read = c.in_ok-token.ensures in
+    inr (end_for_value c.args.context.now c.pass_colon.new.self (name_at c.in_ok-name.field-0) c.args.count c.in_ok-name.ensures.name colon.kept colon.found c.scan.new.self c.in_ok-token.field-0 read.kept read.found read.lexeme c.in_default.is)
+
+pub parse_property-returns-in_err-value-clause-refused : goal.parse_property-returns-in_err-value-clause-refused
+parse_property-returns-in_err-value-clause-refused g t c =
+    let old = c.args.context.now in
+    let colon = c.in_ok-pass_colon.ensures in
+    let read = c.in_ok-token.ensures in
+    err_of (Tells (NoPropertyHere old c.args.count)) c.in_err-value.field-0.0 c.from_residual-in_err-value.result c.from_residual-in_err-value.ensures.1
+    (still
+    (value_refused old c.pass_colon.new.self (name_at c.in_ok-name.field-0) c.args.count c.in_ok-name.ensures.name colon.kept colon.found c.scan.new.self c.in_ok-token.field-0 read.kept read.found read.lexeme) c.in_err-value.ensures.refused)
+
+pub parse_property-returns-clause-found : goal.parse_property-returns-clause-found
+parse_property-returns-clause-found g t c =
+    let colon = c.in_ok-pass_colon.ensures in
+    let read = c.in_ok-token.ensures in
+    let name = c.name_text-name in
+    property_read c.args.context.now c.pass_colon.new.self (name_at c.in_ok-name.field-0) c.args.count c.in_ok-name.ensures.name colon.kept colon.found c.scan.new.self c.in_ok-token.field-0 read.kept read.found
+    c.parse_value.new.context name.result c.in_ok-value.value name.ensures.name name.ensures.utf8 c.in_ok-value.ensures.found
+
+pub parse_value-returns-in_default-clause-found : goal.parse_value-returns-in_default-clause-found
+parse_value-returns-in_default-clause-found g t c = fewer c.args.context.now c.args.context.now c.parse_leaf.result c.args.count c.requires.around c.parse_leaf.ensures.found
+
+pub parse_value-returns-in_default-clause-refused : goal.parse_value-returns-in_default-clause-refused
+parse_value-returns-in_default-clause-refused g t c =
+    err_some c.parse_leaf.result (λ e n. inr (leaf_nowhere c.args.context.now c.args.token c.args.count c.requires.token c.in_default.not-OpenBracket c.in_default.not-OpenBrace n)) c.parse_leaf.ensures.refused

@@ -1,0 +1,263 @@
+//! Values read by recursive descent.
+ghost use Rattle.std.specs.Prelude.{◌≡◌, ◌+◌, ◌<◌, ◌≤◌, IfOk, IfErr, OnOk, option_map, chars};
+ghost use Rattle.std.specs.Str.{IsUtf8};
+ghost use Rattle.std.specs.Cow.{cow_str_bytes};
+ghost use Rattle.indexmap.specs.IndexMap.{insert_entry};
+ghost use Rattle.jsonc_text.specs.Faults.{IsFault};
+ghost use Rattle.jsonc_text.specs.OptionsOf.{parse_options};
+ghost use Rattle.jsonc_text.specs.Plain.{array, object};
+ghost use Rattle.jsonc_text.specs.Tokens.{scanned_of};
+ghost use Rattle.jsonc_ast.specs.Context.{text_in, Keeps, IsToken, IsBracket};
+ghost use Rattle.jsonc_ast.specs.Refusals.{NoLiteral, Tells};
+ghost use Rattle.jsonc_ast.specs.Scanned.{leaf_value};
+ghost use Rattle.jsonc_ast.specs.Views.{name_at, Grown};
+ghost use Rattle.jsonc_to_value.specs.Reads.{Reads, ReadsProperty, IsValueOf};
+ghost use Rattle.jsonc_to_value.specs.Refusals.{NoValueHere, NoPropertyHere, RefusesText};
+ghost use Rattle.jsonc_to_value.specs.Views.{plain, name_of, same_name, items_plain, members_plain};
+
+use jsonc_ast::ast::ObjectPropName;
+use jsonc_ast::collect::CollectOptions;
+use jsonc_ast::container::{Container, unexpected};
+use jsonc_ast::context::Context;
+use jsonc_text::errors::{ParseError, ParseErrorKind};
+use jsonc_text::options::ParseOptions;
+use jsonc_text::tokens::Token;
+use jsonc_value::{JsonArray, JsonObject, JsonValue, Map};
+use std::alloc::{AllocError, Allocator};
+use std::borrow::CowStr;
+
+/// The value that a token is by itself.
+fn leaf<'a, A: Allocator>(token: Token<'a, A>) -> Option<JsonValue<'a, A>>
+    ensures { option_map plain result ≡ leaf_value (scanned_of token.entry) }
+{
+    match token {
+        Token::String(string) => Some(JsonValue::String(string)),
+        Token::Number(number) => Some(JsonValue::Number(number)),
+        Token::Boolean(boolean) => Some(JsonValue::Boolean(boolean)),
+        Token::Null => Some(JsonValue::Null),
+        _ => None,
+    }
+}
+
+/// The value that the last token is by itself.
+fn parse_leaf<'a, A: Allocator + Copy>(
+    context: &Context<'a, A>,
+    token: Token<'a, A>,
+) -> Result<JsonValue<'a, A>, ParseError>
+    requires { IsToken context.now token }
+    ensures found { IfOk result (Reads context.now context.now 512) }
+    ensures refused { IfErr result (λ _. NoLiteral context.now) }
+    ensures fault { IfErr result (IsFault (text_in context.now)) }
+{
+    let kind = unexpected(&token);
+    let Some(value) = leaf(token) else {
+        return Err(context.fault_here(kind));
+    };
+    Ok(value)
+}
+
+/// A name that the text lends.
+fn lent<'a, A: Allocator>(text: &'a str) -> CowStr<'a, A>
+    ensures name { name_of result ≡ chars text.now }
+    ensures utf8 { IsUtf8 (cow_str_bytes result) }
+{
+    CowStr::Borrowed(text)
+}
+
+/// The same name. What it borrows goes through `lent`, to which it is known to be UTF-8.
+fn kept<'a, A: Allocator>(name: CowStr<'a, A>) -> CowStr<'a, A>
+    ensures name { name_of result ≡ name_of name.entry }
+    ensures utf8 { IsUtf8 (cow_str_bytes result) }
+{
+    match name {
+        CowStr::Borrowed(text) => lent(text),
+        CowStr::Owned(text) => CowStr::Owned(text),
+    }
+}
+
+/// What a name stands for.
+fn name_text<'a, A: Allocator>(name: ObjectPropName<'a, A>) -> CowStr<'a, A>
+    ensures name { name_of result ≡ (name_at name.entry).name }
+    ensures utf8 { IsUtf8 (cow_str_bytes result) }
+{
+    match name {
+        ObjectPropName::Word(word) => lent(word.value),
+        ObjectPropName::String(string) => kept(string.value),
+    }
+}
+
+/// An array of these elements.
+fn array_of<'a, A: Allocator>(elements: Vec<JsonValue<'a, A>, A>) -> JsonValue<'a, A>
+    ensures { plain result ≡ array (items_plain elements.entry.items) }
+{
+    JsonValue::Array(JsonArray::new(elements))
+}
+
+/// An object of these properties.
+fn object_of<'a, A: Allocator>(
+    properties: Map<CowStr<'a, A>, JsonValue<'a, A>, A>,
+) -> JsonValue<'a, A>
+    ensures { plain result ≡ object (members_plain properties.entry) }
+{
+    JsonValue::Object(JsonObject::new(properties))
+}
+
+/// One element more.
+fn push_value<'a, A: Allocator>(
+    elements: &mut Vec<JsonValue<'a, A>, A>,
+    value: JsonValue<'a, A>,
+) -> Result<(), AllocError>
+    ensures { OnOk result (Grown plain elements.old.items elements.new.items value.entry) }
+{
+    elements.push(value)?;
+    Ok(())
+}
+
+/// One property more, or another value of a name that is there.
+fn put_property<'a, A: Allocator>(
+    properties: &mut Map<CowStr<'a, A>, JsonValue<'a, A>, A>,
+    name: CowStr<'a, A>,
+    value: JsonValue<'a, A>,
+) -> Result<(), AllocError>
+    ensures { OnOk result (properties.new ≡ insert_entry same_name properties.old name.entry value.entry) }
+{
+    match properties.insert(name, value) {
+        Ok(_) => Ok(()),
+        Err(_) => Err(AllocError),
+    }
+}
+
+/// Refuses a container that begins with the last token, where it would be inside of 512 others.
+fn check_depth<'a, A: Allocator + Copy>(
+    context: &Context<'a, A>,
+    count: usize,
+) -> Result<(), ParseError>
+    requires { count ≤ 512 }
+    ensures within { OnOk result (count + 1 ≤ 512) }
+    ensures refused { IfErr result (λ _. 512 < count + 1) }
+    ensures fault { IfErr result (IsFault (text_in context.now)) }
+{
+    context.check_nesting(context.scanner.token_start(), count + 1)
+}
+
+/// The value that begins with the last token, inside of so many containers.
+#[cycle(parse)]
+fn parse_value<'a, A: Allocator + Copy>(
+    context: &mut Context<'a, A>,
+    token: Token<'a, A>,
+    count: usize,
+) -> Result<JsonValue<'a, A>, ParseError>
+    requires token { IsToken context.old token }
+    requires around { count ≤ 512 }
+    ensures kept { OnOk result (Keeps context.old context.new) }
+    ensures found { IfOk result (Reads context.old context.new count) }
+    ensures refused { IfErr result (Tells (NoValueHere context.old count)) }
+    ensures fault { IfErr result (IsFault (text_in context.old)) }
+{
+    match token {
+        Token::OpenBracket => parse_array(context, count),
+        Token::OpenBrace => parse_object(context, count),
+        token => parse_leaf(context, token),
+    }
+}
+
+/// The array that begins with the last token, a `[`.
+#[cycle(parse)]
+fn parse_array<'a, A: Allocator + Copy>(
+    context: &mut Context<'a, A>,
+    count: usize,
+) -> Result<JsonValue<'a, A>, ParseError>
+    requires token { IsBracket 0x5B context.old }
+    requires around { count ≤ 512 }
+    ensures kept { OnOk result (Keeps context.old context.new) }
+    ensures found { IfOk result (Reads context.old context.new count) }
+    ensures refused { IfErr result (Tells (NoValueHere context.old count)) }
+    ensures fault { IfErr result (IsFault (text_in context.old)) }
+{
+    check_depth(context, count)?;
+    let mut elements = Vec::new(context.alloc);
+    let mut next = context.first_item(Container::Array, None)?;
+    while let Some(token) = next {
+        let value = parse_value(context, token, count + 1)?;
+        let Ok(()) = push_value(&mut elements, value) else {
+            return Err(context.out_of_memory());
+        };
+        next = context.next_item(Container::Array, None)?;
+    }
+    Ok(array_of(elements))
+}
+
+/// The object that begins with the last token, a `{`.
+#[cycle(parse)]
+fn parse_object<'a, A: Allocator + Copy>(
+    context: &mut Context<'a, A>,
+    count: usize,
+) -> Result<JsonValue<'a, A>, ParseError>
+    requires token { IsBracket 0x7B context.old }
+    requires around { count ≤ 512 }
+    ensures kept { OnOk result (Keeps context.old context.new) }
+    ensures found { IfOk result (Reads context.old context.new count) }
+    ensures refused { IfErr result (Tells (NoValueHere context.old count)) }
+    ensures fault { IfErr result (IsFault (text_in context.old)) }
+{
+    check_depth(context, count)?;
+    let mut properties = Map::new(context.alloc);
+    let mut next = context.first_item(Container::Object, None)?;
+    while let Some(token) = next {
+        let (name, value) = parse_property(context, token, count + 1)?;
+        let Ok(()) = put_property(&mut properties, name, value) else {
+            return Err(context.out_of_memory());
+        };
+        next = context.next_item(Container::Object, None)?;
+    }
+    Ok(object_of(properties))
+}
+
+/// The property that begins with the last token, inside of so many containers.
+#[cycle(parse)]
+fn parse_property<'a, A: Allocator + Copy>(
+    context: &mut Context<'a, A>,
+    token: Token<'a, A>,
+    count: usize,
+) -> Result<(CowStr<'a, A>, JsonValue<'a, A>), ParseError>
+    requires token { IsToken context.old token }
+    requires around { count ≤ 512 }
+    ensures kept { OnOk result (Keeps context.old context.new) }
+    ensures found { IfOk result (ReadsProperty context.old context.new count) }
+    ensures refused { IfErr result (Tells (NoPropertyHere context.old count)) }
+    ensures fault { IfErr result (IsFault (text_in context.old)) }
+{
+    let name = name_text(context.name(token)?);
+    context.pass_colon()?;
+    let Some(token) = context.scan()? else {
+        return Err(context.fault_here(ParseErrorKind::ExpectedObjectValue));
+    };
+    let value = parse_value(context, token, count)?;
+    Ok((name, value))
+}
+
+/// Parses a text to its value.
+///
+/// A text of blanks and comments alone has none. Of properties with one name the first gives the
+/// place and the last the value. A value with more than 512 containers inside one another is
+/// refused. The error says what is wrong, in which bytes, and in which line and column; want of
+/// memory is an error too.
+pub fn parse_to_value<'a, A: Allocator + Copy>(
+    alloc: A,
+    text: &'a str,
+    options: &ParseOptions,
+) -> Result<Option<JsonValue<'a, A>>, ParseError>
+    ensures accepted { IfOk result (IsValueOf (parse_options options.now) (chars text.now)) }
+    ensures refused { IfErr result (RefusesText (parse_options options.now) text.now) }
+    ensures fault { IfErr result (IsFault text.now) }
+{
+    let mut context = Context::new(alloc, text, &CollectOptions::default(), options);
+    let Some(token) = context.scan()? else {
+        return Ok(None);
+    };
+    let value = parse_value(&mut context, token, 0)?;
+    let None = context.scan()? else {
+        return Err(context.fault_here(ParseErrorKind::MultipleRootJsonValues));
+    };
+    Ok(Some(value))
+}
