@@ -10,4 +10,7 @@ pub mod Names
 pub mod Filling
 pub mod Lines
 pub mod Meanings
+pub mod GapShapes
+pub mod NameShapes
+pub mod Shapes
 pub mod Building

@@ -6,6 +6,8 @@ ghost use Rattle.jsonc_text.specs.OptionsOf.{parse_options};
 ghost use Rattle.jsonc_text.specs.Plain.{Plain};
 ghost use Rattle.jsonc_tree.specs.Values.{DocumentValueOf};
 ghost use Rattle.jsonc_ast.specs.Refusals.{RefusesText};
+ghost use Rattle.jsonc_layout.specs.Lines.{DocumentLinesEnd};
+ghost use Rattle.jsonc_layout.specs.Shape.{DocumentShaped};
 ghost use Rattle.jsonc_parser.specs.Document.{edit_error_text, printed_of, tree_of};
 
 use jsonc_ast::collect::CollectOptions;
@@ -61,6 +63,8 @@ impl<A: Allocator + Copy> CstRootNode<A> {
     /// of its bytes, and in which line and column; want of memory is an error too.
     pub fn parse(alloc: A, text: &str, options: &ParseOptions) -> Result<CstRootNode<A>, ParseError>
         ensures printed { IfOk result (λ d. printed_of d ≡ text.now) }
+        ensures shaped { IfOk result (λ d. DocumentShaped (parse_options options.now) (tree_of d)) }
+        ensures lines { IfOk result (λ d. DocumentLinesEnd (tree_of d)) }
         ensures value { IfOk result (λ d. (w : Option Plain) × IsDocument (parse_options options.now) (chars text.now) w × DocumentValueOf (parse_options options.now) (tree_of d) w) }
         ensures refused { IfErr result (RefusesText (parse_options options.now) text.now) }
         ensures fault { IfErr result (IsFault text.now) }

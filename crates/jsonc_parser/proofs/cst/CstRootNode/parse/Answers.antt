@@ -23,3 +23,10 @@ returns-clause-value g c =
     let x : Option Located = located_in c.as_ref.result in
     let here : IsLocatedDocument o c.args.text.now x = subst (IsLocatedDocument o c.args.text.now) (lent located c.as_ref.result c.in_ok-parsed.parsed.value c.as_ref.ensures.value) c.in_ok-parsed.ensures.located in
     (option_map value_at x, located_document o c.args.text.now x here, c.in-Ok.ensures.value o here)
+
+pub returns-clause-shaped : goal.returns-clause-shaped
+returns-clause-shaped g c =
+    let o : Options = parse_options c.args.options.now in
+    let x : Option Located = located_in c.as_ref.result in
+    let here : IsLocatedDocument o c.args.text.now x = subst (IsLocatedDocument o c.args.text.now) (lent located c.as_ref.result c.in_ok-parsed.parsed.value c.as_ref.ensures.value) c.in_ok-parsed.ensures.located in
+    c.in-Ok.ensures.shaped o here
