@@ -18,6 +18,7 @@ use Rattle.jsonc_layout.specs.Filling.{is_separator}
 use Rattle.jsonc_layout.specs.Leaves.{GapLeaf, line_feed, cr_lf, cr, blanks, a_comment, mark, Fills, end, leaf, is_inner_blank}
 use Rattle.jsonc_layout.specs.Shape.{IsText, IsTrivia, Trivia, nothing, trivia, token_then}
 use Rattle.jsonc_layout.proofs.GapLeaves.{leaf_text}
+use Rattle.jsonc_layout.proofs.LexemeEnds.{many_length}
 use Rattle.jsonc_layout.proofs.Stretches.{separator_no_slash}
 
 -- what stands at the front of a text, alone
@@ -36,10 +37,6 @@ comment_alone o {r = r} s (inr b) e =
     inr (scanned_alone o (block_comment inside.0) s r (subst (λ x. BlockComment x r) e b, sym e ∙ inside.1)).0.0
 
 -- a leaf takes at least one character
-many_length : {p : ℕ → Bool} {t r : List ℕ} → Many p t r → length r ≤ length t
-many_length stop = omega arith
-many_length (step h g) = omega (arith, many_length g)
-
 block_length : {t r : List ℕ} → UpToBlockEnd t r → length r ≤ length t
 block_length here = omega arith
 block_length (later h g) = omega (arith, block_length g)

@@ -16,10 +16,10 @@ use Rattle.jsonc_layout.specs.Filling.{is_separator}
 use Rattle.jsonc_layout.specs.Laid as laid
 use Rattle.jsonc_layout.specs.Laid.{bracketed, FillsBetween, Laid, ItemsLaid, MembersLaid, PropertyLaid, RootLaid, DocumentLaid}
 use Rattle.jsonc_layout.specs.Shape as shape
-use Rattle.jsonc_layout.specs.Shape.{Trivia, Separated, Closed, ValueShaped, ElementsShaped, PropertiesShaped, PropertyShaped, DocumentShaped, token_then, text_in}
+use Rattle.jsonc_layout.specs.Shape.{Trivia, Separated, Closed, ValueShaped, ElementsShaped, PropertiesShaped, PropertyShaped, DocumentShaped, token_then, printed_text}
 use Rattle.jsonc_layout.proofs.GapShapes.{gap_trivia, gap_mark}
 use Rattle.jsonc_layout.proofs.Meanings.{Prints, prints_append, prints_fill, prints_bracket, laid_prints, items_print, members_print, further_items, further_members}
-use Rattle.jsonc_layout.proofs.NameShapes.{string_shaped, number_shaped, keyword_shaped, name_shaped}
+use Rattle.jsonc_layout.proofs.LeafShapes.{string_shaped, number_shaped, keyword_shaped, name_shaped}
 use Rattle.jsonc_layout.proofs.Rows.{followed_assoc, followed_none}
 use Rattle.jsonc_layout.proofs.Starts.{StartsAt, no_blank, value_starts, property_starts}
 
@@ -54,13 +54,13 @@ module _ (o : Options) (bytes : List ℕ) (utf8 : IsUtf8 bytes) where
       shape.trailing_comma x m.1 m.2
 
   -- what a row prints stands in the text
-  stands_printed : {i j : ℕ} {row : OrderedTree} → Prints bytes i j row → rest bytes i ≡ text_in row ++ rest bytes j
+  stands_printed : {i j : ℕ} {row : OrderedTree} → Prints bytes i j row → rest bytes i ≡ printed_text row ++ rest bytes j
   stands_printed {i} {j} p = chars_between bytes i j utf8 p.spans ∙ ap (λ b. chars b ++ rest bytes j) (sym p.text)
 
-  further_text : {i j k : ℕ} {xs : LocatedItems} {row : OrderedTree} → ItemsLaid bytes i xs j row → AreFurtherItems o bytes i xs k → Between bytes (One 0x5D) j k → rest bytes i ≡ text_in (followed_by row (token_then 0x5D none)) ++ rest bytes k
+  further_text : {i j k : ℕ} {xs : LocatedItems} {row : OrderedTree} → ItemsLaid bytes i xs j row → AreFurtherItems o bytes i xs k → Between bytes (One 0x5D) j k → rest bytes i ≡ printed_text (followed_by row (token_then 0x5D none)) ++ rest bytes k
   further_text {xs = xs} items h b = stands_printed (prints_append bytes (items_print bytes utf8 o items (further_items o bytes _ _ xs h)) (prints_bracket bytes utf8 0x5D b))
 
-  further_members_text : {i j k : ℕ} {ms : LocatedMembers} {row : OrderedTree} → MembersLaid bytes i ms j row → AreFurtherMembers o bytes i ms k → Between bytes (One 0x7D) j k → rest bytes i ≡ text_in (followed_by row (token_then 0x7D none)) ++ rest bytes k
+  further_members_text : {i j k : ℕ} {ms : LocatedMembers} {row : OrderedTree} → MembersLaid bytes i ms j row → AreFurtherMembers o bytes i ms k → Between bytes (One 0x7D) j k → rest bytes i ≡ printed_text (followed_by row (token_then 0x7D none)) ++ rest bytes k
   further_members_text {ms = ms} members h b = stands_printed (prints_append bytes (members_print bytes utf8 o members (further_members o bytes _ _ ms h)) (prints_bracket bytes utf8 0x7D b))
 
   mutual
@@ -80,7 +80,7 @@ module _ (o : Options) (bytes : List ℕ) (utf8 : IsUtf8 bytes) where
         (elements (value_shaped _ _ one h.1 (further_text tail h.2 b)) tail b h.2)
 
     -- an element, and those after it
-    elements : {i j k : ℕ} {xs : LocatedItems} {row below : OrderedTree} {content : Content} → ValueShaped o content below (text_in (followed_by row (token_then 0x5D none))) → ItemsLaid bytes i xs j row → Between bytes (One 0x5D) j k
+    elements : {i j k : ℕ} {xs : LocatedItems} {row below : OrderedTree} {content : Content} → ValueShaped o content below (printed_text (followed_by row (token_then 0x5D none))) → ItemsLaid bytes i xs j row → Between bytes (One 0x5D) j k
         → AreFurtherItems o bytes i xs k → ElementsShaped o (more content below (followed_by row (token_then 0x5D none)))
     elements v (laid.no_element f) b h = shape.last_element v (closed 0x5D refl f b h.stands)
     elements v (laid.an_element {x = x} {row = row} {below = below} {after = after} {content = content} f one tail) b h =
@@ -96,7 +96,7 @@ module _ (o : Options) (bytes : List ℕ) (utf8 : IsUtf8 bytes) where
         (properties (property_shaped _ _ p h.1 h.2 (further_members_text tail h.3 b)) tail b h.3)
 
     -- a property, and those after it
-    properties : {i j k : ℕ} {ms : LocatedMembers} {row below : OrderedTree} → PropertyShaped o below (text_in (followed_by row (token_then 0x7D none))) → MembersLaid bytes i ms j row → Between bytes (One 0x7D) j k
+    properties : {i j k : ℕ} {ms : LocatedMembers} {row below : OrderedTree} → PropertyShaped o below (printed_text (followed_by row (token_then 0x7D none))) → MembersLaid bytes i ms j row → Between bytes (One 0x7D) j k
         → AreFurtherMembers o bytes i ms k → PropertiesShaped o (more Content.property below (followed_by row (token_then 0x7D none)))
     properties v (laid.no_property f) b h = shape.last_property v (closed 0x7D refl f b h.stands)
     properties v (laid.a_property {row = row} {below = below} {after = after} f p tail) b h =

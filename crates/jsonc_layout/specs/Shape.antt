@@ -1,13 +1,15 @@
 -- The shape of a document's tree, by the options: what each leaf is, and how the nodes of a row follow one another, in the order of the grammar.
-use Rattle.std.specs.Prelude.{ℕ, List, [], ◌++◌, IsTrue, IsUtf8, chars}
+use Rattle.std.specs.Prelude.{ℕ, Option, List, [], ◌++◌, IsTrue, IsUtf8, chars}
 use Rattle.jsonc_text.specs.Options.{Options}
 use Rattle.jsonc_text.specs.Text.{next, AllOf}
 use Rattle.jsonc_text.specs.Gaps.{IsComment}
 use Rattle.jsonc_text.specs.Words.{EndsThere}
 use Rattle.jsonc_text.specs.Lexemes.{LexemeKind, Lexeme}
-use Rattle.jsonc_text.specs.Grammar.{IsLooseName}
+use Rattle.jsonc_text.specs.Plain.{Plain}
+use Rattle.jsonc_text.specs.Grammar.{IsLooseName, IsDocument}
 use Rattle.jsonc_tree.specs.Content.{Content, token}
 use Rattle.jsonc_tree.specs.OrderedTree.{OrderedTree, none, more, printed}
+use Rattle.jsonc_tree.specs.Values.{DocumentValueOf}
 use Rattle.jsonc_layout.specs.Leaves.{is_inner_blank}
 
 -- the bytes are a text, the whole of which is what R says
@@ -33,7 +35,7 @@ IsLiteralBefore o (Content.boolean b) r = EndsThere (next r)
 IsLiteralBefore o Content.null r = EndsThere (next r)
 IsLiteralBefore o _ r = ⊥
 
--- a leaf that is a name where r follows: a string, or a word that may name a property
+-- a leaf that is a name where r follows: a string, or a word leaf with a text that may name a property
 abbrev pub IsNameBefore : Options → Content → List ℕ → Type 0
 IsNameBefore o (Content.string s) r = IsLiteralBefore o (Content.string s) r
 IsNameBefore o (Content.word s) r = IsUtf8 s × IsLooseName o (chars s ++ r) (chars s) r
@@ -58,9 +60,9 @@ pub data Closed (o : Options) (bracket : ℕ) : OrderedTree → Type 0 where
   plain : {t : OrderedTree} → Trivia o t (token_then bracket none) → Closed o bracket t
   trailing_comma : {t u : OrderedTree} → IsTrue o.trailing_commas → Trivia o t (token_then 0x2C u) → Trivia o u (token_then bracket none) → Closed o bracket t
 
--- what a row prints
-abbrev pub text_in : OrderedTree → List ℕ
-text_in row = chars (printed row)
+-- the characters that a row prints
+abbrev pub printed_text : OrderedTree → List ℕ
+printed_text row = chars (printed row)
 
 mutual
   -- a node of this content, with the row below it, is a value where the text r follows: a literal, or a container with its brackets first and last
@@ -73,20 +75,24 @@ mutual
 
   -- the row is one or more elements, what stands between them, and the `]`
   pub data ElementsShaped (o : Options) : OrderedTree → Type 0 where
-    last_element : {content : Content} {below after : OrderedTree} → ValueShaped o content below (text_in after) → Closed o 0x5D after → ElementsShaped o (more content below after)
-    element : {content : Content} {below after u : OrderedTree} → ValueShaped o content below (text_in after) → Separated o after u → ElementsShaped o u → ElementsShaped o (more content below after)
+    last_element : {content : Content} {below after : OrderedTree} → ValueShaped o content below (printed_text after) → Closed o 0x5D after → ElementsShaped o (more content below after)
+    element : {content : Content} {below after u : OrderedTree} → ValueShaped o content below (printed_text after) → Separated o after u → ElementsShaped o u → ElementsShaped o (more content below after)
 
   -- the row is one or more properties, what stands between them, and the `}`
   pub data PropertiesShaped (o : Options) : OrderedTree → Type 0 where
-    last_property : {below after : OrderedTree} → PropertyShaped o below (text_in after) → Closed o 0x7D after → PropertiesShaped o (more Content.property below after)
-    property : {below after u : OrderedTree} → PropertyShaped o below (text_in after) → Separated o after u → PropertiesShaped o u → PropertiesShaped o (more Content.property below after)
+    last_property : {below after : OrderedTree} → PropertyShaped o below (printed_text after) → Closed o 0x7D after → PropertiesShaped o (more Content.property below after)
+    property : {below after u : OrderedTree} → PropertyShaped o below (printed_text after) → Separated o after u → PropertiesShaped o u → PropertiesShaped o (more Content.property below after)
 
   -- the row, where the text r follows, is a name, trivia, a colon, trivia and a value
   pub data PropertyShaped (o : Options) : OrderedTree → List ℕ → Type 0 where
-    named : {name content : Content} {below after u : OrderedTree} {r : List ℕ} → IsNameBefore o name (text_in after) → Trivia o after (token_then 0x3A u) → Trivia o u (more content below none) → ValueShaped o content below r
+    named : {name content : Content} {below after u : OrderedTree} {r : List ℕ} → IsNameBefore o name (printed_text after) → Trivia o after (token_then 0x3A u) → Trivia o u (more content below none) → ValueShaped o content below r
         → PropertyShaped o (more name none after) r
 
 -- a root, and below it trivia; or trivia, a value and trivia
 pub data DocumentShaped (o : Options) : OrderedTree → Type 0 where
   no_value : {row : OrderedTree} → Trivia o row none → DocumentShaped o (more Content.root row none)
-  a_value : {content : Content} {row below after : OrderedTree} → Trivia o row (more content below after) → ValueShaped o content below (text_in after) → Trivia o after none → DocumentShaped o (more Content.root row none)
+  a_value : {content : Content} {row below after : OrderedTree} → Trivia o row (more content below after) → ValueShaped o content below (printed_text after) → Trivia o after none → DocumentShaped o (more Content.root row none)
+
+-- the tree prints a text of the grammar, and has the value of that text
+abbrev pub PrintsDocument : Options → OrderedTree → Type 0
+PrintsDocument o tree = (w : Option Plain) × IsDocument o (printed_text tree) w × DocumentValueOf o tree w

@@ -59,8 +59,10 @@ pub struct CstRootNode<A: Allocator> {
 impl<A: Allocator + Copy> CstRootNode<A> {
     /// Reads a document from its text.
     ///
-    /// The document prints as the text was written. The error says what is wrong with the text, in which
-    /// of its bytes, and in which line and column; want of memory is an error too.
+    /// The document prints as the text was written. Its nodes follow one another as the grammar says:
+    /// strings, numbers, words, commas, colons, brackets, comments, line ends and runs of blanks are
+    /// leaves of their own. The error says what is wrong with the text, in which of its bytes, and in
+    /// which line and column; want of memory is an error too.
     pub fn parse(alloc: A, text: &str, options: &ParseOptions) -> Result<CstRootNode<A>, ParseError>
         ensures printed { IfOk result (λ d. printed_of d ≡ text.now) }
         ensures shaped { IfOk result (λ d. DocumentShaped (parse_options options.now) (tree_of d)) }
