@@ -220,13 +220,13 @@ impl<'a, A: Allocator + Copy> Context<'a, A> {
         ensures refused { IfErr result (Tells (NothingFirst container self.old)) }
         ensures fault { IfErr result (IsFault (text_in self.old)) }
     {
-        let Some(token) = self.scan()? else {
+        let Some(first) = self.scan()? else {
             return Err(self.unterminated(container, start));
         };
-        if container.is_closed_by(&token) {
+        if container.is_closed_by(&first) {
             return Ok(None);
         }
-        Ok(Some(token))
+        Ok(Some(first))
     }
 
     /// Passes what stands after a comma, the last token, as `first_item` does.

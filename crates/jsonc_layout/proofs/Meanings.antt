@@ -62,7 +62,7 @@ abbrev pub AllItems : Options → List ℕ → LocatedItems → Type 0
 AllItems o bytes no_items_at = Unit {0}
 AllItems o bytes (item_at x xs) = IsLocated o bytes x × AllItems o bytes xs
 
-further_items : (o : Options) (bytes : List ℕ) (i j : ℕ) (xs : LocatedItems) → AreFurtherItems o bytes i xs j → AllItems o bytes xs
+pub further_items : (o : Options) (bytes : List ℕ) (i j : ℕ) (xs : LocatedItems) → AreFurtherItems o bytes i xs j → AllItems o bytes xs
 further_items o bytes i j no_items_at h = tt
 further_items o bytes i j (item_at x xs) h = (h.1, further_items o bytes (range_at x).end j xs h.2)
 
@@ -75,7 +75,7 @@ abbrev pub AllMembers : Options → List ℕ → LocatedMembers → Type 0
 AllMembers o bytes no_members_at = Unit {0}
 AllMembers o bytes (member_at r n x ms) = IsNamed o bytes n r (range_at x) × IsLocated o bytes x × AllMembers o bytes ms
 
-further_members : (o : Options) (bytes : List ℕ) (i j : ℕ) (ms : LocatedMembers) → AreFurtherMembers o bytes i ms j → AllMembers o bytes ms
+pub further_members : (o : Options) (bytes : List ℕ) (i j : ℕ) (ms : LocatedMembers) → AreFurtherMembers o bytes i ms j → AllMembers o bytes ms
 further_members o bytes i j no_members_at h = tt
 further_members o bytes i j (member_at r n x ms) h = (h.1, h.2, further_members o bytes r.end j ms h.3)
 
@@ -114,7 +114,7 @@ module _ (bytes : List ℕ) (u : IsUtf8 bytes) where
   prints_fill {i} {j} {row} f = record { spans = f.spans; text = fills_printed bytes i j row u f.spans f.fills }
 
   -- a bracket prints itself
-  prints_bracket : {i j : ℕ} (c : ℕ) → Between bytes (One c) i j → Prints bytes i j (more (Content.token c) none none)
+  pub prints_bracket : {i j : ℕ} (c : ℕ) → Between bytes (One c) i j → Prints bytes i j (more (Content.token c) none none)
   prints_bracket {i} {j} c b = prints_leaf bytes b.spans (sym (slice_encodes bytes (c ∷ []) i j u b.spans.from b.spans.to b.stands ∙ append-nil (encode_utf8 c)))
 
   prints_inside : {r : Range} {row : OrderedTree} (opening closing : ℕ) → Brackets bytes opening closing r → Prints bytes (r.start + 1) (r.end - 1) row → Prints bytes r.start r.end (bracketed opening row closing)
@@ -136,11 +136,11 @@ module _ (bytes : List ℕ) (u : IsUtf8 bytes) where
       laid_prints (laid.array_node {xs = xs} items) h = let inside = prints_inside 0x5B 0x5D h.0 (items_print items (all_items o bytes _ _ xs h.1)) in prints_one bytes inside.spans inside.text
       laid_prints (laid.object_node {ms = ms} members) h = let inside = prints_inside 0x7B 0x7D h.0 (members_print members (all_members o bytes _ _ ms h.1)) in prints_one bytes inside.spans inside.text
 
-      items_print : {i j : ℕ} {xs : LocatedItems} {row : OrderedTree} → ItemsLaid bytes i xs j row → AllItems o bytes xs → Prints bytes i j row
+      pub items_print : {i j : ℕ} {xs : LocatedItems} {row : OrderedTree} → ItemsLaid bytes i xs j row → AllItems o bytes xs → Prints bytes i j row
       items_print (laid.no_element f) h = prints_fill f
       items_print (laid.an_element f x rest) h = prints_append bytes (prints_fill f) (prints_append bytes (laid_prints x h.0) (items_print rest h.1))
 
-      members_print : {i j : ℕ} {ms : LocatedMembers} {row : OrderedTree} → MembersLaid bytes i ms j row → AllMembers o bytes ms → Prints bytes i j row
+      pub members_print : {i j : ℕ} {ms : LocatedMembers} {row : OrderedTree} → MembersLaid bytes i ms j row → AllMembers o bytes ms → Prints bytes i j row
       members_print (laid.no_property f) h = prints_fill f
       members_print (laid.a_property {r = r} {below = below} f x rest) h =
           let inside = property_prints x h.0 h.1 in
@@ -216,7 +216,7 @@ module _ (o : Options) (bytes : List ℕ) (u : IsUtf8 bytes) where
       (h.0, h.1, h.2, slice_chars bytes ((h.0 ∷ h.1) ++ h.0 ∷ []) i j u s.from s.to (h.3 ∙ sym (append_assoc (h.0 ∷ h.1) (h.0 ∷ []) (rest bytes j))), h.4)
 
   -- a string begins with a quote
-  quote_first : (i : ℕ) (v r : List ℕ) → IsString o (rest bytes i) v r → IsTrue (is_quote_at bytes i)
+  pub quote_first : (i : ℕ) (v r : List ℕ) → IsString o (rest bytes i) v r → IsTrue (is_quote_at bytes i)
   quote_first i v r h = ap (λ t. starts is_quote (next t)) h.3 ∙ quote_tests o h.0 h.2
 
   name_by : (r : Range) (name : List ℕ) {content : Content} → Spans bytes r.start r.end → NameLaid bytes r content → IsName o (rest bytes r.start) name (rest bytes r.end) → values.IsNameLeaf o content name

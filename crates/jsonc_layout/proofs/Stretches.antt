@@ -63,7 +63,7 @@ past_blanks : {t u r : List ℕ} → Many is_inner_blank t u → IsTrue (no is_b
 past_blanks stop n f = f
 past_blanks (step {c = c} h g) n f = past_blanks g n (past_blank (and_both (is_blank c) _ h).0 n f)
 
-separator_no_slash : (c : ℕ) → IsTrue (is_separator c) → IsTrue (c == 0x2F) → ⊥
+pub separator_no_slash : (c : ℕ) → IsTrue (is_separator c) → IsTrue (c == 0x2F) → ⊥
 separator_no_slash c h s = let wrong : false ≡ true = sym (ap is_separator (test_eq c 0x2F s)) ∙ h in cc
 
 -- what is left after a leaf

@@ -11,6 +11,7 @@ ghost use Rattle.jsonc_ast.specs.Views.{items_located, located, members_located,
 ghost use Rattle.jsonc_layout.specs.Given.{located_in};
 ghost use Rattle.jsonc_layout.specs.Growth.{Grows};
 ghost use Rattle.jsonc_layout.specs.Lines.{DocumentLinesEnd};
+ghost use Rattle.jsonc_layout.specs.Shape.{DocumentShaped};
 ghost use Rattle.jsonc_layout.specs.Laid.{CanLay, CanLayDocument, CanLayItems, CanLayMembers, CanLayProperty, DocumentLaid, HasLocatedValue, ItemsLaid, Laid, MembersLaid, NameLaid, PropertyLaid, RootLaid, is_quote_at};
 
 use crate::fill::fill_between;
@@ -233,6 +234,7 @@ pub fn build<A: Allocator + Copy>(
     ensures laid { IfOk result (λ tree. DocumentLaid text.now (located_in value.entry) (ordered_tree tree.nodes 0)) }
     ensures printed { IfOk result (λ tree. printed (ordered_tree tree.nodes 0) ≡ text.now) }
     ensures value { (o : Options) → IsLocatedDocument o text.now (located_in value.entry) → IfOk result (λ tree. DocumentValueOf o (ordered_tree tree.nodes 0) (option_map value_at (located_in value.entry))) }
+    ensures shaped { (o : Options) → IsLocatedDocument o text.now (located_in value.entry) → IfOk result (λ tree. DocumentShaped o (ordered_tree tree.nodes 0)) }
     ensures lines { IfOk result (λ tree. DocumentLinesEnd (ordered_tree tree.nodes 0)) }
     ensures tree { IfOk result (λ tree. IsTree tree.nodes) }
 {

@@ -3,5 +3,6 @@
 
 mod builder;
 mod fill;
+pub mod laws;
 
 pub use builder::build;

@@ -6,6 +6,8 @@ ghost use Rattle.jsonc_text.specs.OptionsOf.{parse_options};
 ghost use Rattle.jsonc_text.specs.Plain.{Plain};
 ghost use Rattle.jsonc_tree.specs.Values.{DocumentValueOf};
 ghost use Rattle.jsonc_ast.specs.Refusals.{RefusesText};
+ghost use Rattle.jsonc_layout.specs.Lines.{DocumentLinesEnd};
+ghost use Rattle.jsonc_layout.specs.Shape.{DocumentShaped};
 ghost use Rattle.jsonc_parser.specs.Document.{edit_error_text, printed_of, tree_of};
 
 use jsonc_ast::collect::CollectOptions;
@@ -57,10 +59,14 @@ pub struct CstRootNode<A: Allocator> {
 impl<A: Allocator + Copy> CstRootNode<A> {
     /// Reads a document from its text.
     ///
-    /// The document prints as the text was written. The error says what is wrong with the text, in which
-    /// of its bytes, and in which line and column; want of memory is an error too.
+    /// The document prints as the text was written. Its nodes follow one another as the grammar says:
+    /// strings, numbers, words, commas, colons, brackets, comments, line ends and runs of blanks are
+    /// leaves of their own. The error says what is wrong with the text, in which of its bytes, and in
+    /// which line and column; want of memory is an error too.
     pub fn parse(alloc: A, text: &str, options: &ParseOptions) -> Result<CstRootNode<A>, ParseError>
         ensures printed { IfOk result (λ d. printed_of d ≡ text.now) }
+        ensures shaped { IfOk result (λ d. DocumentShaped (parse_options options.now) (tree_of d)) }
+        ensures lines { IfOk result (λ d. DocumentLinesEnd (tree_of d)) }
         ensures value { IfOk result (λ d. (w : Option Plain) × IsDocument (parse_options options.now) (chars text.now) w × DocumentValueOf (parse_options options.now) (tree_of d) w) }
         ensures refused { IfErr result (RefusesText (parse_options options.now) text.now) }
         ensures fault { IfErr result (IsFault text.now) }

@@ -66,7 +66,7 @@ unsigned_cut {o} {b} x r (Unsigned.bare_point p g z) e =
 unsigned_cut {b = b} x r (Unsigned.infinity p n) e = record { text = codes "Infinity" ++ x; split = ap (λ y. codes "Infinity" ++ y) e; here = Unsigned.infinity p (name_cut b x r n e) }
 unsigned_cut {b = b} x r (Unsigned.nan p n) e = record { text = codes "NaN" ++ x; split = ap (λ y. codes "NaN" ++ y) e; here = Unsigned.nan p (name_cut b x r n e) }
 
-number_cut : {o : Options} {t u : List ℕ} (x r : List ℕ) → Number o t u → u ≡ x ++ r → Cut (Number o) t x r
+pub number_cut : {o : Options} {t u : List ℕ} (x r : List ℕ) → Number o t u → u ≡ x ++ r → Cut (Number o) t x r
 number_cut x r (b, u, s, n) e =
     let k = unsigned_cut x r n e in
     let l = sign_cut k.text r s k.split in

@@ -5,6 +5,7 @@ use Rattle.jsonc_layout.proofs.Filling.{can_lay_document}
 use Rattle.jsonc_layout.proofs.Growing.{grown_root}
 use Rattle.jsonc_layout.proofs.Lines.{document_lines}
 use Rattle.jsonc_layout.proofs.Meanings.{document_prints, document_value}
+use Rattle.jsonc_layout.proofs.Shapes.{document_shaped}
 use Rattle.jsonc_layout.proofs.builder.build.Goals as goal
 
 pub build_root-requires-clause-lies : goal.build_root-requires-clause-lies
@@ -25,6 +26,11 @@ pub returns-clause-value : goal.returns-clause-value
 returns-clause-value g c =
     let laid : DocumentLaid c.args.text.now (located_in c.args.value) (ordered_tree c.build_root.new.tree.nodes 0) = returns-clause-laid g c in
     λ o h. document_value o c.args.text.now c.utf8.text (located_in c.args.value) (ordered_tree c.build_root.new.tree.nodes 0) laid h
+
+pub returns-clause-shaped : goal.returns-clause-shaped
+returns-clause-shaped g c =
+    let laid : DocumentLaid c.args.text.now (located_in c.args.value) (ordered_tree c.build_root.new.tree.nodes 0) = returns-clause-laid g c in
+    λ o h. document_shaped o c.args.text.now c.utf8.text (located_in c.args.value) (ordered_tree c.build_root.new.tree.nodes 0) laid h
 
 pub returns-clause-lines : goal.returns-clause-lines
 returns-clause-lines g c =
