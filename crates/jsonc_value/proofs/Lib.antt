@@ -2,3 +2,5 @@ pub mod Zipped
 pub mod Lists
 pub mod Places
 pub mod Retained
+pub mod Contents
+pub mod Equality
