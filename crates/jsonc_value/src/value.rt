@@ -287,7 +287,8 @@ impl<'a, A: Allocator> IntoIterator for JsonObject<'a, A> {
     ghost into_iter_gives = { λ o r. r ≡ properties o };
 
     fn into_iter(self) -> Self::IntoIter {
-        self.take_inner().into_iter()
+        let properties = self.take_inner();
+        properties.into_iter()
     }
 }
 
@@ -352,6 +353,7 @@ impl<'a, A: Allocator> IntoIterator for JsonArray<'a, A> {
     ghost into_iter_gives = { λ a r. into_iter_items r ≡ elements a };
 
     fn into_iter(self) -> Self::IntoIter {
-        self.take_inner().into_iter()
+        let elements = self.take_inner();
+        elements.into_iter()
     }
 }
