@@ -14,6 +14,8 @@ mod scanned;
 mod show;
 mod syntax;
 #[cfg(test)]
+mod clones;
+#[cfg(test)]
 mod tests;
 
 use case::Case;

@@ -37,13 +37,13 @@ key_equiv : {A : Type 0} → IsEquivalence (same_key {A = A})
 key_equiv = on_equiv cow_str_bytes nat_list_eq_equiv
 
 module _ (T : RattleType) (heap : alloc.Ghosts T.Denot) (d e : Dict) where
-  abbrev value_eq : JsonValue T.Denot → JsonValue T.Denot → Bool
+  abbrev pub value_eq : JsonValue T.Denot → JsonValue T.Denot → Bool
   value_eq = (value.ghosts T heap d e).eq
 
-  abbrev object_eq : JsonObject T.Denot → JsonObject T.Denot → Bool
+  abbrev pub object_eq : JsonObject T.Denot → JsonObject T.Denot → Bool
   object_eq = (object.ghosts T heap d e).eq
 
-  abbrev array_eq : JsonArray T.Denot → JsonArray T.Denot → Bool
+  abbrev pub array_eq : JsonArray T.Denot → JsonArray T.Denot → Bool
   array_eq = (array.ghosts T heap d e).eq
 
   object_eq_is : (o p : JsonObject T.Denot) → object_eq o p ≡ entries_eq same_key (λ x y. value_eq x.1 y.1) (properties o) (properties p)

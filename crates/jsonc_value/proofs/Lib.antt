@@ -4,3 +4,4 @@ pub mod Places
 pub mod Retained
 pub mod Contents
 pub mod Equality
+pub mod Copies

@@ -1,7 +1,10 @@
--- What values hold, each text as its bytes: two values of one content are the same value in the same order.
+-- What values hold, each text as its bytes.
 use Rattle.std.specs.Prelude.{ℕ, Bool, List, [], ◌∷◌, map}
 use Rattle.std.specs.Cow.{cow_str_bytes}
 use Rattle.std.specs.declared.borrow.CowStr.{CowStr}
+use Rattle.jsonc_value.specs.Kinds.{properties, elements}
+use Rattle.jsonc_value.specs.declared.value.JsonObject.{JsonObject}
+use Rattle.jsonc_value.specs.declared.value.JsonArray.{JsonArray}
 use Rattle.jsonc_value.specs.declared.value.JsonValue.{JsonValue, fold-JsonValue}
 use Rattle.jsonc_value.specs.declared.value.JsonValue.TheOpen.{JsonValue-F, JsonArray-F, JsonObject-F}
 
@@ -59,3 +62,10 @@ module _ {A : Type 0} where
 
   abbrev pub named_contents : List (CowStr A × JsonValue A) → Properties
   named_contents ps = properties_of (map (λ p. (p.0, content p.1)) ps)
+
+  -- what an object and an array hold
+  abbrev pub object_content : JsonObject A → Properties
+  object_content o = named_contents (properties o)
+
+  abbrev pub array_content : JsonArray A → Elements
+  array_content a = contents (elements a)

@@ -26,3 +26,7 @@ ByNames {A} value_eq eq = (o p : JsonObject A) → IsTrue (eq o p) ↔ EqualAtNa
 -- by eq two arrays are equal exactly where they are as long, and equal by value_eq at each place
 abbrev pub ByPlaces : {A : Type 0} → (JsonValue A → JsonValue A → Bool) → (JsonArray A → JsonArray A → Bool) → Type 0
 ByPlaces {A} value_eq eq = (a b : JsonArray A) → eq a b ≡ pointwise value_eq (elements a) (elements b)
+
+-- by eq two values are equal where they hold the same
+abbrev pub EqualWhereSame : {X C : Type 0} → (X → C) → (X → X → Bool) → Type 0
+EqualWhereSame {X} held eq = (x y : X) → held x ≡ held y → IsTrue (eq x y)

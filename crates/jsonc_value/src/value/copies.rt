@@ -1,7 +1,6 @@
 //! Copies of values.
 ghost use Rattle.std.specs.Prelude.{◌≡◌, IfOk, map};
-ghost use Rattle.jsonc_value.specs.Contents.{content, contents, named_contents};
-ghost use Rattle.jsonc_value.specs.Kinds.{properties, elements};
+ghost use Rattle.jsonc_value.specs.Contents.{content, object_content, array_content};
 
 use super::{JsonArray, JsonObject, JsonValue};
 use std::alloc::{AllocError, Allocator};
@@ -27,7 +26,7 @@ impl<'a, A: Allocator + Copy> JsonObject<'a, A> {
     /// The same properties again, in the same order.
     #[cycle(copy)]
     pub fn try_clone(&self) -> Result<Self, AllocError>
-        ensures { IfOk result (λ o. named_contents (properties o) ≡ named_contents (properties self.now)) }
+        ensures { IfOk result (λ o. object_content o ≡ object_content self.now) }
     {
         let copies = copy_all(*self.0.allocator(), self.0.values_slice())?;
         Ok(JsonObject(self.0.clone_keys_with(copies)?))
@@ -38,7 +37,7 @@ impl<'a, A: Allocator + Copy> JsonArray<'a, A> {
     /// The same elements again, in the same order.
     #[cycle(copy)]
     pub fn try_clone(&self) -> Result<Self, AllocError>
-        ensures { IfOk result (λ a. contents (elements a) ≡ contents (elements self.now)) }
+        ensures { IfOk result (λ a. array_content a ≡ array_content self.now) }
     {
         let copies = copy_all(*self.0.allocator(), self.0.as_slice())?;
         Ok(JsonArray(copies))
