@@ -14,8 +14,6 @@ mod scanned;
 mod show;
 mod syntax;
 #[cfg(test)]
-mod clones;
-#[cfg(test)]
 mod tests;
 
 use case::Case;
