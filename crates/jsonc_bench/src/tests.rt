@@ -1,6 +1,7 @@
 //! What no clause says: that calls answer with ample memory, and what comes where memory or a stream fails.
 mod awaited;
 mod calls;
+mod clones;
 mod maps;
 mod outcome;
 mod streams;

@@ -2,3 +2,6 @@ pub mod Zipped
 pub mod Lists
 pub mod Places
 pub mod Retained
+pub mod Contents
+pub mod Equality
+pub mod Copies

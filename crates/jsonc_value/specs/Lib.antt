@@ -2,6 +2,8 @@ pub mod formers
 pub mod Equal
 pub mod Names
 pub mod Kinds
+pub mod Contents
 pub mod Lists
 pub mod Lends
 pub mod Retained
+pub mod Laws

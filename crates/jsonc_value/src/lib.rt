@@ -1,6 +1,7 @@
 //! Values of JSON, with objects that keep the order of their names.
 #![tactic(auto)]
 
+pub mod laws;
 pub mod map;
 mod value;
 

@@ -4,7 +4,7 @@
 //! words for what a call does to that list are std's own of lists of pairs: `lookup` and
 //! `lookup_entry` find a key's value or pair, `remove_entry` closes up, `insert_entry` puts a new key
 //! last and gives a present one the value in its place.
-ghost use Rattle.std.specs.Prelude.{◌≡◌, ◌↔◌, ◌<◌, [], length, IsTrue, IfOk, IfErr, OnOk, OnErr, Some, is_some, slice_get, option_copied};
+ghost use Rattle.std.specs.Prelude.{◌≡◌, ◌↔◌, ◌<◌, ◌≤◌, [], length, IsTrue, IfOk, IfErr, OnOk, OnErr, Some, is_some, slice_get, option_copied};
 ghost use Rattle.std.specs.Option.{option_map};
 ghost use Rattle.std.specs.Map.{lookup, lookup_entry, remove_entry, keys_of, values_of};
 ghost use Rattle.std.specs.Map.Iter.{deref_pair};
@@ -90,7 +90,9 @@ impl<K: Eq + Hash, V, A: Allocator> Map<K, V, A> {
     }
 
     /// How many pairs the map can hold without more memory. It may hold more.
-    pub fn capacity(&self) -> usize {
+    pub fn capacity(&self) -> usize
+        ensures { length self.now ≤ result }
+    {
         self.keys.capacity().min(self.values.capacity())
     }
 

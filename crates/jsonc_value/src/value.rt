@@ -7,6 +7,8 @@ ghost use Rattle.std.specs.Vec.Iter.{into_iter_items};
 ghost use Rattle.jsonc_value.specs.Names.{is_named};
 ghost use Rattle.jsonc_value.specs.Kinds.{properties, elements, left, as_string, as_number, as_boolean, as_object, as_array};
 
+mod copies;
+
 use crate::map::{self, Map};
 use std::alloc::{AllocError, Allocator};
 use std::borrow::CowStr;
@@ -14,7 +16,8 @@ use std::{slice, vec};
 
 /// A value of JSON.
 #[cycle(json)]
-#[derive(PartialEq, Eq, Drop)]
+#[derive(Drop)]
+#[derive_where(PartialEq, Eq)]
 pub enum JsonValue<'a, A: Allocator> {
     /// A string, with its escapes decoded.
     String(CowStr<'a, A>),
@@ -28,12 +31,14 @@ pub enum JsonValue<'a, A: Allocator> {
 
 /// An object: values by their names, in the order in which the names came.
 #[cycle(json)]
-#[derive(PartialEq, Eq, Drop)]
+#[derive(Drop)]
+#[derive_where(PartialEq, Eq)]
 pub struct JsonObject<'a, A: Allocator>(Map<CowStr<'a, A>, JsonValue<'a, A>, A>);
 
 /// An array.
 #[cycle(json)]
-#[derive(PartialEq, Eq, Drop)]
+#[derive(Drop)]
+#[derive_where(PartialEq, Eq)]
 pub struct JsonArray<'a, A: Allocator>(Vec<JsonValue<'a, A>, A>);
 
 impl<'a, A: Allocator> JsonValue<'a, A> {
@@ -282,7 +287,8 @@ impl<'a, A: Allocator> IntoIterator for JsonObject<'a, A> {
     ghost into_iter_gives = { λ o r. r ≡ properties o };
 
     fn into_iter(self) -> Self::IntoIter {
-        self.take_inner().into_iter()
+        let properties = self.take_inner();
+        properties.into_iter()
     }
 }
 
@@ -347,6 +353,7 @@ impl<'a, A: Allocator> IntoIterator for JsonArray<'a, A> {
     ghost into_iter_gives = { λ a r. into_iter_items r ≡ elements a };
 
     fn into_iter(self) -> Self::IntoIter {
-        self.take_inner().into_iter()
+        let elements = self.take_inner();
+        elements.into_iter()
     }
 }

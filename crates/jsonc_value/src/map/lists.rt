@@ -1,5 +1,7 @@
 //! Maps of lists of pairs, and copies of maps.
-ghost use Rattle.std.specs.Prelude.{◌≡◌, [], IfOk, IfErr, OnOk};
+ghost use Rattle.std.specs.Prelude.{◌≡◌, [], length, IfOk, IfErr, OnOk};
+ghost use Rattle.std.specs.List.{AllZip};
+ghost use Rattle.std.specs.Map.{keys_of, values_of};
 ghost use Rattle.indexmap.specs.IndexMap.{insert_all};
 ghost use Rattle.jsonc_value.specs.Lists.{InsertsUpTo};
 
@@ -54,6 +56,32 @@ impl<K: Eq + Hash + Clone + Drop, V: Clone, A: Allocator + Clone> Map<K, V, A> {
     {
         let keys = self.keys.clone()?;
         let values = self.values.clone()?;
+        Ok(Map { keys, values })
+    }
+}
+
+impl<K: Eq + Hash, V, A: Allocator> Map<K, V, A> {
+    /// The values, in their order.
+    pub(crate) fn values_slice(&self) -> &[V]
+        ensures { result.now ≡ values_of self.now }
+    {
+        self.values.as_slice()
+    }
+
+    /// What the map takes its memory from.
+    pub(crate) fn allocator(&self) -> &A {
+        self.values.allocator()
+    }
+}
+
+impl<K: Eq + Hash + Clone + Drop, V: Drop, A: Allocator + Clone> Map<K, V, A> {
+    /// Clones of the keys, in their order, with these values.
+    pub(crate) fn clone_keys_with(&self, values: Vec<V, A>) -> Result<Self, AllocError>
+        requires { length values.items ≡ length self.now }
+        ensures keys { IfOk result (λ m. AllZip K.is_clone (keys_of self.now) (keys_of m)) }
+        ensures values { IfOk result (λ m. values_of m ≡ values.items) }
+    {
+        let keys = self.keys.clone()?;
         Ok(Map { keys, values })
     }
 }

@@ -1,0 +1,60 @@
+//! Copies of values.
+ghost use Rattle.std.specs.Prelude.{◌≡◌, IfOk, map};
+ghost use Rattle.jsonc_value.specs.Contents.{content, object_content, array_content};
+
+use super::{JsonArray, JsonObject, JsonValue};
+use std::alloc::{AllocError, Allocator};
+
+impl<'a, A: Allocator + Copy> JsonValue<'a, A> {
+    /// The same value again, its properties in the same order.
+    #[cycle(copy)]
+    pub fn try_clone(&self) -> Result<Self, AllocError>
+        ensures { IfOk result (λ v. content v ≡ content self.now) }
+    {
+        match self {
+            JsonValue::String(string) => Ok(JsonValue::String(string.clone()?)),
+            JsonValue::Number(number) => Ok(JsonValue::Number(*number)),
+            JsonValue::Boolean(boolean) => Ok(JsonValue::Boolean(*boolean)),
+            JsonValue::Object(object) => Ok(JsonValue::Object(object.try_clone()?)),
+            JsonValue::Array(array) => Ok(JsonValue::Array(array.try_clone()?)),
+            JsonValue::Null => Ok(JsonValue::Null),
+        }
+    }
+}
+
+impl<'a, A: Allocator + Copy> JsonObject<'a, A> {
+    /// The same properties again, in the same order.
+    #[cycle(copy)]
+    pub fn try_clone(&self) -> Result<Self, AllocError>
+        ensures { IfOk result (λ o. object_content o ≡ object_content self.now) }
+    {
+        let copies = copy_all(*self.0.allocator(), self.0.values_slice())?;
+        Ok(JsonObject(self.0.clone_keys_with(copies)?))
+    }
+}
+
+impl<'a, A: Allocator + Copy> JsonArray<'a, A> {
+    /// The same elements again, in the same order.
+    #[cycle(copy)]
+    pub fn try_clone(&self) -> Result<Self, AllocError>
+        ensures { IfOk result (λ a. array_content a ≡ array_content self.now) }
+    {
+        let copies = copy_all(*self.0.allocator(), self.0.as_slice())?;
+        Ok(JsonArray(copies))
+    }
+}
+
+// The same values again, in a vector of this allocator.
+#[cycle(copy)]
+fn copy_all<'a, A: Allocator + Copy>(
+    alloc: A,
+    values: &[JsonValue<'a, A>],
+) -> Result<Vec<JsonValue<'a, A>, A>, AllocError>
+    ensures { IfOk result (λ v. map content v.items ≡ map content values.now) }
+{
+    let mut copies = Vec::with_capacity(alloc, values.len())?;
+    for value in values {
+        copies.push(value.try_clone()?)?;
+    }
+    Ok(copies)
+}
