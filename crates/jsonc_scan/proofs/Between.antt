@@ -1,5 +1,5 @@
 -- Parts of numbers between two places of a text.
-use Rattle.std.proofs.Common.{ℕ, ◌+◌, ◌<◌, ◌≤◌, ◌≡◌, ◌∙◌, ap, List, ◌∷◌, length, get_or, arith, IsUtf8, IsTrue, Bool, true, false, not, IsCharBoundary, ◌==◌, ◌||◌, codes, Result, Ok, Err, IfOk}
+use Rattle.std.proofs.Common.{ℕ, ◌+◌, ◌<◌, ◌≤◌, ◌≡◌, ◌∙◌, ap, refl, List, ◌∷◌, length, get_or, arith, IsUtf8, IsTrue, Bool, true, false, not, IsCharBoundary, ◌==◌, ◌||◌, codes, Result, Ok, Err, IfOk}
 use Rattle.std.specs.Int.{is_in_range}
 use Rattle.jsonc_text.specs.Options.{Options}
 use Rattle.jsonc_text.specs.Text.{rest, next, no, Many, AllOf, all_of, is_digit, is_hex_digit}
@@ -7,6 +7,7 @@ use Rattle.jsonc_text.specs.Chars.{Steps}
 use Rattle.jsonc_scan.specs.Between.{Between, Reaches, HasAt, LacksAt, IsAlone}
 use Rattle.jsonc_text.specs.Numbers.{Sign, Whole, Fraction, Exponent, Unsigned, Number, is_x, is_e, is_sign, is_point}
 use Rattle.jsonc_text.proofs.Ascii.{OnlyAscii}
+use Rattle.jsonc_text.proofs.Basics.{clash}
 use Rattle.jsonc_text.proofs.Steps.{steps_ascii}
 
 pub has_at : (p : ℕ → Bool) → OnlyAscii p → (bytes : List ℕ) (i : ℕ) → IsUtf8 bytes → i < length bytes → IsTrue (p (get_or bytes i 0)) → HasAt p bytes i
@@ -41,6 +42,10 @@ fraction_bare o bytes i e n a = record { boundary = e.1; order = omega arith; pi
 
 pub zero_whole : (bytes : List ℕ) (i : ℕ) → Steps bytes i 0x30 (i + 1) → LacksAt is_x bytes (i + 1) → Between Whole bytes i (i + 1)
 zero_whole bytes i e n = record { boundary = e.1; order = omega arith; piece = rw e.0 (Whole.zero n) }
+
+-- no `0` stands, and so none with an `x` after it
+pub no_zero : (bytes : List ℕ) (i : ℕ) → LacksAt (λ c. c == 0x30) bytes i → Steps bytes i 0x30 (i + 1) → LacksAt is_x bytes (i + 1)
+no_zero bytes i n e = absurd (clash true (rw e.0 at n) refl)
 
 nonzero : (c : ℕ) → IsTrue (is_digit c) → IsTrue (not (c == 0x30)) → IsTrue (is_in_range 0x31 0x39 c)
 nonzero c h n = grind arith

@@ -117,6 +117,9 @@ infinity_no_number e h = never (rw e at h)
 nan_no_number : {t r : List ℕ} → t ≡ codes "NaN" ++ r → begins_number t ≡ true → ⊥
 nan_no_number e h = never (rw e at h)
 
+pub lacks_names : (bytes : List ℕ) (i : ℕ) → LacksAt (λ c. c == 0x49 || c == 0x4E) bytes i → NoNames bytes i
+lacks_names bytes i h = (λ r x. never (rw x.0 at h), λ r x. never (rw x.0 at h))
+
 pub number_no_names : (bytes : List ℕ) (i : ℕ) → begins_number (rest bytes i) ≡ true → NoNames bytes i
 number_no_names bytes i h = (λ r x. infinity_no_number x.0 h, λ r x. nan_no_number x.0 h)
 

@@ -1,14 +1,13 @@
 -- From places to lexemes and comments.
-use Rattle.std.proofs.Common.{inl, inr, ℕ, ◌+◌, ◌<◌, ◌≡◌, ◌∙◌, sym, ap, refl, List, [], ◌∷◌, ◌++◌, length, get_or, arith, IsUtf8, IsTrue, Bool, true, false, not, IsCharBoundary, chars, slice_range, ◌==◌, ◌||◌, codes, Option, Some, None, append_assoc}
+use Rattle.std.proofs.Common.{inl, inr, ℕ, ◌+◌, ◌≡◌, ◌∙◌, sym, ap, refl, List, [], ◌∷◌, ◌++◌, arith, IsUtf8, IsTrue, Bool, true, false, not, IsCharBoundary, chars, slice_range, ◌==◌, ◌||◌, codes, Option, Some, None, append_assoc}
 use Rattle.jsonc_text.specs.Options.{Options}
 use Rattle.jsonc_text.specs.Text.{rest, next, no, starts, Many, Spans, is_digit, is_ascii_letter}
 use Rattle.jsonc_text.specs.Chars.{Steps}
 use Rattle.jsonc_scan.specs.Between.{Between, Reaches, LacksAt, IsWhole, PassesWord, is_neither, HoldsBlock, NoneFrom}
 use Rattle.jsonc_text.specs.Gaps.{line, block, UpToBlockEnd, IsComment}
 use Rattle.jsonc_text.specs.Letters.{is_wide_letter}
-use Rattle.jsonc_text.specs.Lexemes.{IsScanned, lexeme, line_comment, block_comment, punctuation, word, number, is_punctuation}
-use Rattle.jsonc_scan.specs.declared.lexeme.Lexeme.{Lexeme}
-use Rattle.jsonc_scan.specs.Reads.{what_of, NoWord}
+use Rattle.jsonc_text.specs.Lexemes.{IsScanned, lexeme, line_comment, block_comment, word, number, is_punctuation}
+use Rattle.jsonc_scan.specs.Reads.{NoWord}
 use Rattle.jsonc_text.specs.Numbers.{Sign, Unsigned, Number}
 use Rattle.jsonc_text.specs.Words.{Keyword, IsKeyword, keyword_text, WordLit, EndsWhole, goes_on, begins_word, is_in_word}
 use Rattle.jsonc_text.proofs.Ascii.{OnlyAscii}
@@ -16,7 +15,6 @@ use Rattle.jsonc_text.proofs.Basics.{or_left, or_right, no_starts, starts_also, 
 use Rattle.std.proofs.lemmas.List.{append_cancel_left}
 use Rattle.jsonc_text.proofs.BlockComments.{block_of}
 use Rattle.jsonc_text.proofs.Cuts.{chars_between, many_split}
-use Rattle.jsonc_text.proofs.Steps.{steps_ascii}
 use Rattle.jsonc_text.proofs.UniqueWords.{ends_word, word_run}
 use Rattle.jsonc_text.proofs.Begins.{word_begins}
 
@@ -142,11 +140,6 @@ block_read o bytes w i j u s d h e =
 -- punctuation is one byte
 pub punctuation_small : OnlyAscii is_punctuation
 punctuation_small c h = grind arith
-
-pub punctuation_read : (o : Options) (bytes : List ℕ) (i : ℕ) (l : Lexeme) → IsUtf8 bytes → i < length bytes → IsTrue (is_punctuation (get_or bytes i 0)) → what_of l ≡ lexeme (punctuation (get_or bytes i 0)) → Between (IsScanned o (what_of l)) bytes i (i + 1)
-punctuation_read o bytes i l u h p e =
-    let s = steps_ascii bytes i u h (punctuation_small (get_or bytes i 0) p) in
-    record { boundary = s.1; order = omega arith; piece = rw e (p, s.0) }
 
 -- where no comment stands
 no_mark : {t u r : List ℕ} → t ≡ 0x2F ∷ u → IsTrue (no (λ c. c == 0x2F) (next u)) → IsTrue (no (λ c. c == 0x2A) (next u)) → IsComment t r → ⊥

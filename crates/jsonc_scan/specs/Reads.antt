@@ -1,34 +1,37 @@
 -- What a lexeme stands for, and where it was read.
 use Rattle.std.specs.Prelude.{ℕ, ◌+◌, ◌≡◌, ◌<◌, Bool, true, false, List, [], ◌∷◌, chars, codes, IsTrue, ◌==◌, ◌||◌, ◌&&◌}
 use Rattle.jsonc_scan.specs.declared.lexeme.Lexeme.{Lexeme}
-use Rattle.jsonc_scan.specs.declared.lexeme.Lexeme.TheVariants.{OpenBrace, CloseBrace, OpenBracket, CloseBracket, Comma, Colon, Word, Boolean, Number, Null, CommentLine, CommentBlock}
+use Rattle.jsonc_scan.specs.declared.lexeme.Lexeme.TheVariants.{Word, Boolean, Number, Null, CommentLine, CommentBlock}
 use Rattle.jsonc_scan.specs.declared.lexeme.Read.{Read}
+use Rattle.jsonc_scan.specs.declared.lexeme.Mark.{Mark}
 use Rattle.jsonc_scan.specs.declared.string.StringRead.{StringRead}
 use Rattle.jsonc_scan.specs.Escapes.{IsLentUnescaped}
 use Rattle.std.specs.Cow.{cow_str_bytes}
 use Rattle.jsonc_text.specs.Options.{Options}
 use Rattle.jsonc_text.specs.Lexemes.{Scanned, lexeme, line_comment, block_comment, punctuation, string, word, number, keyword, is_punctuation, Lexeme as IsLexeme, IsScanned}
 use Rattle.jsonc_text.specs.Words.{boolean, null}
-use Rattle.jsonc_scan.specs.Between.{Between, NoneFrom, LacksAt, IsWhole, IsAlone}
+use Rattle.jsonc_scan.specs.Between.{Between, HasAt, NoneFrom, LacksAt, IsWhole, IsAlone}
 use Rattle.jsonc_text.specs.Chars.{Steps}
 use Rattle.jsonc_text.specs.Strings.{IsQuote}
-use Rattle.jsonc_text.specs.Numbers.{Fraction, Unsigned, Number as IsNumber}
+use Rattle.jsonc_text.specs.Numbers.{Fraction, Unsigned, is_x, Number as IsNumber}
 use Rattle.jsonc_text.specs.Text.{rest, next, starts, is_digit}
 
 -- the token that a lexeme is
 abbrev pub what_of : Lexeme → Scanned
-what_of OpenBrace = lexeme (punctuation 0x7B)
-what_of CloseBrace = lexeme (punctuation 0x7D)
-what_of OpenBracket = lexeme (punctuation 0x5B)
-what_of CloseBracket = lexeme (punctuation 0x5D)
-what_of Comma = lexeme (punctuation 0x2C)
-what_of Colon = lexeme (punctuation 0x3A)
 what_of (Word s) = lexeme (word (chars s.now))
 what_of (Boolean b) = lexeme (keyword (boolean b))
 what_of (Number s) = lexeme (number (chars s.now))
 what_of Null = lexeme (keyword null)
 what_of (CommentLine s) = line_comment (chars s.now)
 what_of (CommentBlock s) = block_comment (chars s.now)
+
+abbrev pub mark_of : Mark → Scanned
+mark_of Mark.OpenBrace = lexeme (punctuation 0x7B)
+mark_of Mark.CloseBrace = lexeme (punctuation 0x7D)
+mark_of Mark.OpenBracket = lexeme (punctuation 0x5B)
+mark_of Mark.CloseBracket = lexeme (punctuation 0x5D)
+mark_of Mark.Comma = lexeme (punctuation 0x2C)
+mark_of Mark.Colon = lexeme (punctuation 0x3A)
 
 -- the lexeme or comment stands at a place, and ends where it was read to
 abbrev pub IsRead : Options → List ℕ → ℕ → Read → Type 0
@@ -70,9 +73,13 @@ HasName bytes start = IsTrue (starts (λ c. c == 0x49 || c == 0x4E) (next (rest 
 abbrev pub NoWord : Options → List ℕ → ℕ → Type 0
 NoWord o bytes start = (s : List ℕ) → NoneFrom (IsLexeme o (word s)) bytes start
 
--- this lexeme is the punctuation character c
-abbrev pub IsMark : ℕ → Lexeme → Type 0
-IsMark c l = IsTrue (is_punctuation c) × (what_of l ≡ lexeme (punctuation c))
+-- this is the punctuation character c
+abbrev pub IsMark : ℕ → Mark → Type 0
+IsMark c mark = IsTrue (is_punctuation c) × (mark_of mark ≡ lexeme (punctuation c))
+
+-- it stands at a place
+abbrev pub IsMarkAt : List ℕ → ℕ → Mark → Type 0
+IsMarkAt bytes start mark = (c : ℕ) × IsMark c mark × Steps bytes start c (start + 1)
 
 -- no fraction stands at a place, and none is missing there
 abbrev pub NoFraction : Options → List ℕ → ℕ → Type 0
@@ -84,6 +91,14 @@ IsAfterSign o bytes start end = Between (Unsigned o true) bytes start end
 
 abbrev pub NoneAfterSign : Options → List ℕ → ℕ → Type 0
 NoneAfterSign o bytes start = NoneFrom (Unsigned o true) bytes start
+
+-- `0x` stands at a place
+abbrev pub HasHexadecimalMark : List ℕ → ℕ → Type 0
+HasHexadecimalMark bytes start = Steps bytes start 0x30 (start + 1) × HasAt is_x bytes (start + 1)
+
+-- where a `0` stands no `x` follows
+abbrev pub LacksHexadecimalMark : List ℕ → ℕ → Type 0
+LacksHexadecimalMark bytes start = Steps bytes start 0x30 (start + 1) → LacksAt is_x bytes (start + 1)
 
 -- no number without its sign stands at a place, unless a name does
 abbrev pub NoFinite : Options → List ℕ → ℕ → Type 0

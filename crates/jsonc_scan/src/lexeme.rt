@@ -1,21 +1,15 @@
 //! Lexemes and comments as slices of their text.
 ghost use Rattle.std.specs.Prelude.{◌≡◌, IfSome, IfNone, false};
-ghost use Rattle.jsonc_text.specs.Lexemes.{is_punctuation, lexeme, punctuation};
-ghost use Rattle.jsonc_scan.specs.Reads.{IsMark, what_of};
+ghost use Rattle.jsonc_text.specs.Lexemes.{is_punctuation};
+ghost use Rattle.jsonc_scan.specs.Reads.{IsMark, mark_of, what_of};
 ghost use Rattle.jsonc_text.specs.Tokens.{scanned_of};
 
 use jsonc_text::tokens::Token;
 use std::alloc::Allocator;
 
-/// A token that is no string: it takes no memory.
+/// A token that is neither punctuation nor a string: it takes no memory.
 #[derive(Clone, Copy)]
 pub(crate) enum Lexeme<'a> {
-    OpenBrace,
-    CloseBrace,
-    OpenBracket,
-    CloseBracket,
-    Comma,
-    Colon,
     Word(&'a str),
     Boolean(bool),
     Number(&'a str),
@@ -31,17 +25,22 @@ pub(crate) struct Read<'a> {
     pub end: usize,
 }
 
+/// One of the punctuation characters.
+#[derive(Clone, Copy)]
+pub(crate) enum Mark {
+    OpenBrace,
+    CloseBrace,
+    OpenBracket,
+    CloseBracket,
+    Comma,
+    Colon,
+}
+
 /// The token of a lexeme.
 pub(crate) fn token_of<'a, A: Allocator>(lexeme: Lexeme<'a>) -> Token<'a, A>
     ensures { scanned_of result ≡ what_of lexeme.entry }
 {
     match lexeme {
-        Lexeme::OpenBrace => Token::OpenBrace,
-        Lexeme::CloseBrace => Token::CloseBrace,
-        Lexeme::OpenBracket => Token::OpenBracket,
-        Lexeme::CloseBracket => Token::CloseBracket,
-        Lexeme::Comma => Token::Comma,
-        Lexeme::Colon => Token::Colon,
         Lexeme::Word(s) => Token::Word(s),
         Lexeme::Boolean(b) => Token::Boolean(b),
         Lexeme::Number(s) => Token::Number(s),
@@ -51,18 +50,32 @@ pub(crate) fn token_of<'a, A: Allocator>(lexeme: Lexeme<'a>) -> Token<'a, A>
     }
 }
 
-/// The lexeme that one of the punctuation characters is.
-pub(crate) fn punctuation<'a>(byte: u8) -> Option<Lexeme<'a>>
+/// The token of a punctuation character.
+pub(crate) fn mark_token<'a, A: Allocator>(mark: Mark) -> Token<'a, A>
+    ensures { scanned_of result ≡ mark_of mark }
+{
+    match mark {
+        Mark::OpenBrace => Token::OpenBrace,
+        Mark::CloseBrace => Token::CloseBrace,
+        Mark::OpenBracket => Token::OpenBracket,
+        Mark::CloseBracket => Token::CloseBracket,
+        Mark::Comma => Token::Comma,
+        Mark::Colon => Token::Colon,
+    }
+}
+
+/// The punctuation character that a byte is.
+pub(crate) fn punctuation(byte: u8) -> Option<Mark>
     ensures found { IfSome result (IsMark byte) }
     ensures none { IfNone result (is_punctuation byte ≡ false) }
 {
     match byte {
-        b'{' => Some(Lexeme::OpenBrace),
-        b'}' => Some(Lexeme::CloseBrace),
-        b'[' => Some(Lexeme::OpenBracket),
-        b']' => Some(Lexeme::CloseBracket),
-        b',' => Some(Lexeme::Comma),
-        b':' => Some(Lexeme::Colon),
+        b'{' => Some(Mark::OpenBrace),
+        b'}' => Some(Mark::CloseBrace),
+        b'[' => Some(Mark::OpenBracket),
+        b']' => Some(Mark::CloseBracket),
+        b',' => Some(Mark::Comma),
+        b':' => Some(Mark::Colon),
         _ => None,
     }
 }

@@ -6,7 +6,7 @@ ghost use Rattle.jsonc_scan.specs.Between.{Between, Reaches, HasAt, LacksAt, Non
 ghost use Rattle.jsonc_text.specs.Numbers.{Whole, Fraction, Exponent, Number};
 ghost use Rattle.jsonc_text.specs.Chars.{Steps};
 ghost use Rattle.jsonc_text.specs.OptionsOf.{parse_options};
-ghost use Rattle.jsonc_scan.specs.Reads.{HasName, IsRead, IsReadName, IsAfterSign, IsSignedName, IsUnsigned, NoFinite, NoFraction, NoNames, NoneAfterSign, NoNumber, NoUnsigned, begins_number};
+ghost use Rattle.jsonc_scan.specs.Reads.{HasHexadecimalMark, HasName, LacksHexadecimalMark, IsRead, IsReadName, IsAfterSign, IsSignedName, IsUnsigned, NoFinite, NoFraction, NoNames, NoneAfterSign, NoNumber, NoUnsigned, begins_number};
 ghost use Rattle.jsonc_scan.specs.Refusals.{IsTextFault, IsBarePoint};
 ghost use Rattle.jsonc_text.specs.Text.{Spans, AllOf, rest, is_digit, is_hex_digit};
 ghost use Rattle.std.specs.Str.{IsAscii};
@@ -154,6 +154,9 @@ fn decimal_end(
     ensures fault { IfErr result (IsTextFault text.now) }
 {
     let fraction = fraction_end(text, number, whole, options)?;
+    if !has_either(text, fraction, b'e', b'E') {
+        return Ok(fraction);
+    }
     let end = exponent_end(text, fraction)?;
     Ok(end)
 }
@@ -213,6 +216,34 @@ fn bare_end(
     Err(fault_at(text, start, kind))
 }
 
+/// Whether `0x` stands at a place.
+fn has_hexadecimal_mark(text: &str, start: usize) -> bool
+    requires { IsCharBoundary text.now start }
+    ensures here { IsTrue result → HasHexadecimalMark text.now start }
+    ensures other { result ≡ false → LacksHexadecimalMark text.now start }
+{
+    if !has_byte(text, start, b'0') {
+        return false;
+    }
+    has_either(text, start + 1, b'x', b'X')
+}
+
+/// The place after the digits before a point, or none where no digit stands.
+fn whole_part_end(text: &str, start: usize) -> Option<usize>
+    requires boundary { IsCharBoundary text.now start }
+    requires mark { LacksHexadecimalMark text.now start }
+    ensures found { IfSome result (Between Whole text.now start) }
+    ensures none { IfNone result (LacksAt is_digit text.now start) }
+{
+    if has_byte(text, start, b'0') {
+        return Some(start + 1);
+    }
+    let Some(end) = some_digits_end(text, start) else {
+        return None;
+    };
+    Some(end)
+}
+
 /// The place after the digits of a number at a place; the number's sign, if any, began at `number`.
 fn finite_end(
     text: &str,
@@ -225,13 +256,10 @@ fn finite_end(
     ensures none { IfErr result (λ _. NoFinite (parse_options options.now) text.now start) }
     ensures fault { IfErr result (IsTextFault text.now) }
 {
-    if has_byte(text, start, b'0') {
-        if has_either(text, start + 1, b'x', b'X') {
-            return hexadecimal_end(text, number, start, options);
-        }
-        return decimal_end(text, number, start, start + 1, options);
+    if has_hexadecimal_mark(text, start) {
+        return hexadecimal_end(text, number, start, options);
     }
-    match some_digits_end(text, start) {
+    match whole_part_end(text, start) {
         Some(whole) => decimal_end(text, number, start, whole, options),
         None => bare_end(text, number, start, options),
     }
@@ -245,6 +273,9 @@ fn name_end(text: &str, start: usize) -> Option<usize>
     ensures begins { IfSome result (λ _. HasName text.now start) }
     ensures spans { IfSome result (Spans text.now start) }
 {
+    if !has_either(text, start, b'I', b'N') {
+        return None;
+    }
     if let Some(end) = keyword_end(text, start, "Infinity") {
         return Some(end);
     }

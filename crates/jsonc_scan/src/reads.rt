@@ -3,13 +3,13 @@ ghost use Rattle.std.specs.Prelude.{IsCharBoundary, IfOk, IfErr, IfSome, IfNone}
 ghost use Rattle.jsonc_scan.specs.Between.{LacksAt, NoneFrom};
 ghost use Rattle.jsonc_text.specs.Lexemes.{is_punctuation};
 ghost use Rattle.jsonc_text.specs.OptionsOf.{parse_options};
-ghost use Rattle.jsonc_scan.specs.Reads.{IsRead, IsReadAnyhow, NoNameOrWord, NothingAt, OpensNoString, OpensString};
+ghost use Rattle.jsonc_scan.specs.Reads.{IsMarkAt, IsRead, IsReadAnyhow, NoNameOrWord, NothingAt, OpensNoString, OpensString};
 ghost use Rattle.jsonc_scan.specs.Refusals.{IsTextFault};
 ghost use Rattle.jsonc_text.specs.Words.{Keyword, IsKeyword};
 
 use crate::comment::read_comment;
 use crate::faults::fault;
-use crate::lexeme::{Read, punctuation};
+use crate::lexeme::{Mark, Read, punctuation};
 use crate::number::{begins_number, read_name, read_number};
 use crate::word::{read_keyword, read_word};
 use jsonc_text::chars::has_byte;
@@ -34,7 +34,7 @@ pub(crate) fn quote_at(text: &str, start: usize, options: &ParseOptions) -> Opti
     None
 }
 
-/// The lexeme or comment at a place where no string begins.
+/// The lexeme or comment at a place where no string begins and no punctuation stands.
 pub(crate) fn read_lexeme<'a>(
     text: &'a str,
     start: usize,
@@ -42,13 +42,11 @@ pub(crate) fn read_lexeme<'a>(
 ) -> Result<Read<'a>, ParseError>
     requires boundary { IsCharBoundary text.now start }
     requires quote { OpensNoString (parse_options options.now) text.now start }
+    requires mark { LacksAt is_punctuation text.now start }
     ensures found { IfOk result (IsRead (parse_options options.now) text.now start) }
     ensures none { IfErr result (λ _. NothingAt (parse_options options.now) text.now start) }
     ensures fault { IfErr result (IsTextFault text.now) }
 {
-    if let Some(read) = read_punctuation(text, start) {
-        return Ok(read);
-    }
     if has_byte(text, start, b'/') {
         return read_comment(text, start);
     }
@@ -66,22 +64,19 @@ pub(crate) fn read_lexeme<'a>(
 }
 
 /// The punctuation at a place, or none.
-fn read_punctuation<'a>(text: &'a str, start: usize) -> Option<Read<'a>>
+pub(crate) fn read_punctuation(text: &str, start: usize) -> Option<Mark>
     requires { IsCharBoundary text.now start }
-    ensures found { IfSome result (IsReadAnyhow text.now start) }
+    ensures found { IfSome result (IsMarkAt text.now start) }
     ensures none { IfNone result (LacksAt is_punctuation text.now start) }
 {
     let bytes = text.as_bytes();
     if start >= bytes.len() {
         return None;
     }
-    let Some(lexeme) = punctuation(bytes[start]) else {
+    let Some(mark) = punctuation(bytes[start]) else {
         return None;
     };
-    Some(Read {
-        lexeme,
-        end: start + 1,
-    })
+    Some(mark)
 }
 
 /// `Infinity` or `NaN` where these are numbers, else the word, at a place where no keyword stands.

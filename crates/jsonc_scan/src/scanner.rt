@@ -1,8 +1,8 @@
 //! Turning a text into tokens.
 ghost use Rattle.std.specs.Prelude.{◌≡◌, ◌≢◌, ◌≤◌, IsCharBoundary, IfOk, IfErr, OnErr, None, option_map};
 
-use crate::lexeme::token_of;
-use crate::reads::{quote_at, read_lexeme};
+use crate::lexeme::{mark_token, token_of};
+use crate::reads::{quote_at, read_lexeme, read_punctuation};
 use crate::string::read_string;
 use jsonc_text::chars::blanks_end;
 use jsonc_text::errors::{ParseError, ParseErrorKind};
@@ -111,6 +111,11 @@ impl<'a, A: Allocator + Copy> Scanner<'a, A> {
         if start == self.file_text.len() {
             self.current_token = None;
             return Ok(None);
+        }
+        if let Some(mark) = read_punctuation(self.file_text, start) {
+            self.byte_index = start + 1;
+            self.current_token = Some(mark_token(mark));
+            return Ok(Some(mark_token(mark)));
         }
         if let Some(quote) = quote_at(self.file_text, start, &self.options) {
             let read = read_string(self.alloc, self.file_text, start, quote, &self.options)?;

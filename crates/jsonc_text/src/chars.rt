@@ -72,8 +72,8 @@ fn blank_len(text: &str, place: usize) -> usize
     }
 }
 
-/// The first place from `start` on where no blank stands.
-pub fn blanks_end(text: &str, start: usize) -> usize
+/// The first place from `start` on where no blank stands, by characters.
+fn any_blanks_end(text: &str, start: usize) -> usize
     requires { IsCharBoundary text.now start }
     ensures boundary { IsCharBoundary text.now result }
     ensures order { start ≤ result }
@@ -87,6 +87,27 @@ pub fn blanks_end(text: &str, start: usize) -> usize
         len = blank_len(text, place);
     }
     place
+}
+
+/// The first place from `start` on where no blank stands.
+pub fn blanks_end(text: &str, start: usize) -> usize
+    requires { IsCharBoundary text.now start }
+    ensures boundary { IsCharBoundary text.now result }
+    ensures order { start ≤ result }
+    ensures blanks { Many is_blank (rest text.now start) (rest text.now result) }
+    ensures all { IsTrue (no is_blank (next (rest text.now result))) }
+{
+    let bytes = text.as_bytes();
+    let mut place = start;
+    while place < bytes.len() && bytes[place] < 0x80 {
+        let byte = bytes[place];
+        if (8 < byte) & (byte < 14) | (byte == 0x20) {
+            place += 1;
+        } else {
+            return place;
+        }
+    }
+    any_blanks_end(text, place)
 }
 
 /// The first place from `start` on where no digit stands.

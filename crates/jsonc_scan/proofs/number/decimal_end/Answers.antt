@@ -1,6 +1,12 @@
-use Rattle.jsonc_scan.proofs.Between.{decimal}
+use Rattle.jsonc_scan.proofs.Between.{decimal, no_exponent}
 use Rattle.jsonc_scan.proofs.NoNumbers.{err_any, decimal_without_fraction, decimal_without_exponent}
+use Rattle.std.proofs.Common.{refl}
 use Rattle.jsonc_scan.proofs.number.decimal_end.Goals as goal
+
+pub returns-then-not-has_either-clause-found : goal.returns-then-not-has_either-clause-found
+returns-then-not-has_either-clause-found c =
+    let fraction = c.in_ok-fraction.ensures.found in
+    decimal _ _ _ _ _ _ c.requires.whole fraction (no_exponent _ _ fraction.boundary (c.if-not-has_either.ensures.other refl))
 
 pub returns-clause-found : goal.returns-clause-found
 returns-clause-found c = decimal _ _ _ _ _ _ c.requires.whole c.in_ok-fraction.ensures.found c.in_ok-end.ensures.found

@@ -7,9 +7,6 @@ use Rattle.jsonc_scan.proofs.reads.read_lexeme.Goals as goal
 pub returns-in-Some-clause-found : goal.returns-in-Some-clause-found
 returns-in-Some-clause-found c = c.in-Some.ensures.found _
 
-pub returns-in-Some-read_keyword-clause-found : goal.returns-in-Some-read_keyword-clause-found
-returns-in-Some-read_keyword-clause-found c = c.in-Some-read_keyword.ensures.found _
-
 pub returns-then-has_byte-clause-none : goal.returns-then-has_byte-clause-none
 returns-then-has_byte-clause-none c =
     IfErr-weaker c.read_comment.result _ _ (λ e n. lone_slash_nothing _ _ _ (c.if-has_byte.ensures.here refl) n) c.read_comment.ensures.none
@@ -35,5 +32,5 @@ returns-clause-none c =
     c.read_name_or_word.result
     _
     _
-    (λ e n. word_nothing (parse_options c.args.options.now) c.args.text.now c.args.start c.requires.quote c.in_default.ensures.none (c.if-has_byte.ensures.other refl) begins c.in_default-read_keyword.ensures.none n)
+    (λ e n. word_nothing (parse_options c.args.options.now) c.args.text.now c.args.start c.requires.quote c.requires.mark (c.if-has_byte.ensures.other refl) begins c.in_default.ensures.none n)
     c.read_name_or_word.ensures.none

@@ -1,7 +1,7 @@
 use Rattle.jsonc_text.specs.Lexemes.{is_punctuation}
 use Rattle.jsonc_text.proofs.Ascii.{ascii_no}
-use Rattle.jsonc_text.proofs.Steps.{no_at_end}
-use Rattle.jsonc_scan.proofs.Reading.{punctuation_read, punctuation_small}
+use Rattle.jsonc_text.proofs.Steps.{no_at_end, steps_ascii}
+use Rattle.jsonc_scan.proofs.Reading.{punctuation_small}
 use Rattle.jsonc_scan.proofs.reads.read_punctuation.Goals as goal
 
 pub returns-then-start-bytes-clause-none : goal.returns-then-start-bytes-clause-none
@@ -13,7 +13,7 @@ returns-in_default-clause-none c =
     ascii_no is_punctuation punctuation_small _ _ c.utf8.text c.requires (rw same at c.if-start-bytes.false) (rw same at c.in_default.ensures.none)
 
 pub returns-clause-found : goal.returns-clause-found
-returns-clause-found c = λ o.
+returns-clause-found c =
     let same = c.as_bytes-bytes.ensures.value in
     let found = rw same at c.in-Some.ensures.found in
-    punctuation_read o _ _ _ c.utf8.text (rw same at c.if-start-bytes.false) found.0 found.1
+    (_, found, steps_ascii _ _ c.utf8.text (rw same at c.if-start-bytes.false) (punctuation_small _ found.0))

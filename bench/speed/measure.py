@@ -1,0 +1,171 @@
+#!/usr/bin/env python3
+"""Times both programs on the same documents, turn by turn, and writes the tables of docs/SPEED.md.
+
+usage: measure.py OURS THEIRS PEAK FOLDER [ROUNDS]
+
+The time of a call is the processor time of a process that makes it N times, less that of one that makes it
+0 times, divided by N; of each the least of the rounds.
+"""
+import datetime
+import os
+import re
+import subprocess
+import sys
+
+import documents
+
+HERE = os.path.dirname(os.path.abspath(__file__))
+REPORT = os.path.join(HERE, '..', '..', 'docs', 'SPEED.md')
+CALLS = ['scan', 'ast', 'tokens', 'value', 'document', 'print', 'program']
+TARGETS = {'scan': 1, 'ast': 1, 'tokens': 1, 'value': 1, 'document': 3, 'print': 1.5}
+# Seconds that the N calls of one process take at least.
+LONG_ENOUGH = 0.1
+
+
+def seconds(program, call, count, path):
+    """The processor time of one process, and what it wrote."""
+    with open(path, 'rb') as text:
+        process = subprocess.Popen([program, call, str(count)], stdin=text, stdout=subprocess.PIPE, stderr=subprocess.PIPE)
+        written, fault = process.stdout.read(), process.stderr.read()
+        _, status, used = os.wait4(process.pid, 0)
+        process.returncode = status
+    if status:
+        sys.exit('%s %s %d < %s: %s' % (program, call, count, path, fault.decode()))
+    return used.ru_utime + used.ru_stime, written
+
+
+def calls(program, call, path):
+    """How many calls are long enough to be timed."""
+    count = 1
+    while (taken := seconds(program, call, count, path)[0] - seconds(program, call, 0, path)[0]) < LONG_ENOUGH:
+        count = max(2 * count, min(100 * count, int(1.2 * count * LONG_ENOUGH / max(taken, 1e-4))))
+    return count
+
+
+def timed(programs, call, path, rounds):
+    """The seconds of one call of each program."""
+    counts = [calls(program, call, path) for program in programs]
+    if len({seconds(program, call, 1, path)[1] for program in programs}) > 1:
+        sys.exit('the answers of %s differ on %s' % (call, path))
+    least = [[float('inf')] * 2 for _ in programs]
+    for _ in range(rounds):
+        for i, program in enumerate(programs):
+            for j, count in enumerate((counts[i], 0)):
+                least[i][j] = min(least[i][j], seconds(program, call, count, path)[0])
+    return [(many - none) / count for (many, none), count in zip(least, counts)]
+
+
+def peak(program, path, preload):
+    """The most memory that one document wants while it is parsed, the text aside."""
+    with open(path, 'rb') as text:
+        run = subprocess.run([program, 'document', '1'], stdin=text, capture_output=True, env={'LD_PRELOAD': preload})
+    return int(run.stderr) - os.path.getsize(path)
+
+
+def has_value(program, path):
+    with open(path, 'rb') as text:
+        return not subprocess.run([program, 'value', '0'], stdin=text, capture_output=True).returncode
+
+
+def table(head, rows):
+    lines = ['| ' + ' | '.join(row) + ' |' for row in [head] + rows]
+    return '\n'.join([lines[0], '|---' + '|---:' * (len(head) - 1) + '|'] + lines[1:])
+
+
+def marked(ratio, target, most=False):
+    """A ratio, bold where it falls short of its target."""
+    short = target and (ratio > target if most else ratio < target)
+    return ('**%.2f**' if short else '%.2f') % ratio
+
+
+def measured(programs, preload, folder, rounds):
+    """Seconds of both by kind, size and call, and the bytes of memory of both by kind and size."""
+    times, memory = {}, {}
+    for (kind, size), text in documents.make().items():
+        path = os.path.join(folder, '%s-%s' % (kind, size.replace(' ', '')))
+        with open(path, 'wb') as file:
+            file.write(text)
+        for call in CALLS:
+            if call == 'value' and not all(has_value(program, path) for program in programs):
+                continue
+            times[kind, size, call] = timed(programs, call, path, rounds)
+            print('%-9s %-7s %-9s %6.2f' % (kind, size, call, times[kind, size, call][1] / times[kind, size, call][0]), flush=True)
+        memory[kind, size] = [peak(program, path, preload) for program in programs]
+    return times, memory
+
+
+def ratio_rows(times, memory):
+    rows = []
+    for kind, size in memory:
+        row = ['%s, %s' % (kind, size)]
+        for call in CALLS:
+            pair = times.get((kind, size, call))
+            row.append(marked(pair[1] / pair[0], TARGETS.get(call)) if pair else '–')
+        ours, theirs = memory[kind, size]
+        rows.append(row + [marked(ours / theirs, 0.5, most=True)])
+    return rows
+
+
+def speed_rows(times, memory):
+    rows = []
+    for kind, size in memory:
+        row = ['%s, %s' % (kind, size)]
+        for call in CALLS:
+            pair = times.get((kind, size, call))
+            row.append(' / '.join('%.0f' % (documents.SIZES[size] / 1e6 / one) for one in pair) if pair else '–')
+        rows.append(row + [' / '.join('%.1f' % (bytes / documents.SIZES[size]) for bytes in memory[kind, size])])
+    return rows
+
+
+def growth_rows(times, memory):
+    rows = []
+    for kind in dict.fromkeys(kind for kind, _ in memory):
+        row = [kind]
+        for call in CALLS:
+            small, large = times.get((kind, '1 MB', call)), times.get((kind, '10 MB', call))
+            row.append(marked(large[0] / small[0], 12, most=True) if small else '–')
+        rows.append(row)
+    return rows
+
+
+def machine():
+    with open('/proc/cpuinfo') as info:
+        model = re.search(r'model name\s*: (.*)', info.read()).group(1)
+    return '%s, %d processors' % (model, os.cpu_count())
+
+
+def figures(times, memory):
+    return '\n'.join([
+        '## Figures',
+        '',
+        'On %s, %s, by `bench/speed.sh`.' % (machine(), datetime.date.today()),
+        '',
+        'Ours to theirs: of calls the throughput, of memory the peak. **Bold** falls short of the target.',
+        '',
+        table(['Document'] + CALLS + ['memory'], ratio_rows(times, memory)),
+        '',
+        'Megabytes a second, ours / theirs, and bytes of memory a byte of text.',
+        '',
+        table(['Document'] + CALLS + ['memory'], speed_rows(times, memory)),
+        '',
+        'How many times as long as 1 MB our call on 10 MB takes.',
+        '',
+        table(['Document'] + CALLS, growth_rows(times, memory)),
+        '',
+    ])
+
+
+def main(ours, theirs, preload, folder, rounds='5'):
+    times, memory = measured([ours, theirs], preload, folder, int(rounds))
+    written = figures(times, memory)
+    print(written)
+    with open(REPORT) as report:
+        text = report.read()
+    with open(REPORT, 'w') as report:
+        report.write(re.sub(r'## Figures\n.*?(?=\n## |\Z)', lambda _: written, text, flags=re.S))
+
+
+if __name__ == '__main__':
+    if len(sys.argv) not in (5, 6):
+        sys.exit(__doc__)
+    main(*sys.argv[1:])

@@ -1,0 +1,153 @@
+//! The calls that are timed. Each answers a number of its result, so that no result goes unused.
+
+use jsonc_engine::command::Command;
+use jsonc_engine::engine::run_on;
+use jsonc_engine::fault::Fault;
+use jsonc_parser::cst::{CstRootNode, EditError};
+use jsonc_parser::{
+    CollectOptions, CommentCollectionStrategy, ParseOptions, Scanner, ScannerOptions, parse_to_ast,
+};
+use std::alloc::Global;
+
+/// What is timed.
+#[derive(Clone, Copy)]
+pub enum Call {
+    /// Nothing: the process reads its input, and that is all.
+    Nothing,
+    /// Every token of a scanner.
+    Scan,
+    /// `parse_to_ast`, with nothing collected.
+    Ast,
+    /// `parse_to_ast`, with tokens and the comments among them.
+    Tokens,
+    /// `CstRootNode::parse`.
+    Document,
+    /// `text` of a document that is parsed once.
+    Print,
+    /// The program's `print`, from bytes to bytes.
+    Program,
+}
+
+impl Call {
+    /// The call of this name.
+    pub fn from_word(word: &str) -> Option<Call> {
+        match word {
+            "nothing" => Some(Call::Nothing),
+            "scan" => Some(Call::Scan),
+            "ast" => Some(Call::Ast),
+            "tokens" => Some(Call::Tokens),
+            "document" => Some(Call::Document),
+            "print" => Some(Call::Print),
+            "program" => Some(Call::Program),
+            _ => None,
+        }
+    }
+
+    /// Makes the call so many times, and answers the sum of what came.
+    pub fn repeat(self, alloc: Global, input: &[u8], count: u64) -> Result<usize, Fault> {
+        let Ok(text) = str::from_utf8(input) else {
+            return Err(Fault::NotUtf8);
+        };
+        if let Call::Print = self {
+            return print(alloc, text, count);
+        }
+        let mut sum = 0usize;
+        for _ in 0..count {
+            sum = sum.saturating_add(self.once(alloc, text)?);
+        }
+        Ok(sum)
+    }
+
+    fn once(self, alloc: Global, text: &str) -> Result<usize, Fault> {
+        match self {
+            Call::Nothing | Call::Print => Ok(0),
+            Call::Scan => scan(alloc, text),
+            Call::Ast => ast(alloc, text),
+            Call::Tokens => tokens(alloc, text),
+            Call::Document => document(alloc, text),
+            Call::Program => program(alloc, text),
+        }
+    }
+}
+
+/// How many tokens a text has.
+fn scan(alloc: Global, text: &str) -> Result<usize, Fault> {
+    let mut scanner = Scanner::new(alloc, text, &ScannerOptions::default());
+    let mut count = 0usize;
+    // Each token has a byte at least.
+    for _ in 0..=text.len() {
+        match scanner.scan() {
+            Ok(Some(_)) => count = count.saturating_add(1),
+            Ok(None) => return Ok(count),
+            Err(error) => return Err(Fault::Input(error)),
+        }
+    }
+    Ok(count)
+}
+
+/// 1 for a text with a value, 0 for one without.
+fn ast(alloc: Global, text: &str) -> Result<usize, Fault> {
+    match parse_to_ast(
+        alloc,
+        text,
+        &CollectOptions::default(),
+        &ParseOptions::default(),
+    ) {
+        Ok(parsed) => {
+            if parsed.value.is_some() {
+                return Ok(1);
+            }
+            Ok(0)
+        }
+        Err(error) => Err(Fault::Input(error)),
+    }
+}
+
+/// How many tokens were collected.
+fn tokens(alloc: Global, text: &str) -> Result<usize, Fault> {
+    let collect = CollectOptions {
+        comments: CommentCollectionStrategy::AsTokens,
+        tokens: true,
+    };
+    match parse_to_ast(alloc, text, &collect, &ParseOptions::default()) {
+        Ok(parsed) => match &parsed.tokens {
+            Some(tokens) => Ok(tokens.len()),
+            None => Ok(0),
+        },
+        Err(error) => Err(Fault::Input(error)),
+    }
+}
+
+fn parsed(alloc: Global, text: &str) -> Result<CstRootNode<Global>, Fault> {
+    match CstRootNode::parse(alloc, text, &ParseOptions::default()) {
+        Ok(document) => Ok(document),
+        Err(error) => Err(Fault::Input(error)),
+    }
+}
+
+/// 1 for each document.
+fn document(alloc: Global, text: &str) -> Result<usize, Fault> {
+    let _document = parsed(alloc, text)?;
+    Ok(1)
+}
+
+/// The bytes printed of one document, so many times.
+fn print(alloc: Global, text: &str, count: u64) -> Result<usize, Fault> {
+    let document = parsed(alloc, text)?;
+    let mut sum = 0usize;
+    for _ in 0..count {
+        let Ok(printed) = document.text() else {
+            return Err(Fault::Edit(EditError::OutOfMemory));
+        };
+        sum = sum.saturating_add(printed.len());
+    }
+    Ok(sum)
+}
+
+/// The bytes that a run of the program writes.
+fn program(alloc: Global, text: &str) -> Result<usize, Fault> {
+    match run_on(alloc, Command::Print, text.as_bytes())? {
+        Some(output) => Ok(output.len()),
+        None => Ok(0),
+    }
+}
