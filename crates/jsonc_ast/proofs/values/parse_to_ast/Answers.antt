@@ -5,7 +5,7 @@ use Rattle.jsonc_ast.proofs.Grammar.{located_document}
 use Rattle.jsonc_ast.proofs.Leaves.{empty_document, value_document}
 use Rattle.jsonc_ast.proofs.Collecting.{collects_turn, all_collected}
 use Rattle.jsonc_ast.proofs.Scans.{moved, kept_on}
-use Rattle.std.proofs.Common.{◌∙◌, inr}
+use Rattle.std.proofs.Common.{inr}
 use Rattle.jsonc_ast.proofs.NoValues.{document_no_token, document_no_value, document_no_end, document_goes_on, document_from_start}
 use Rattle.jsonc_ast.proofs.Refusals.{err_of, still}
 use Rattle.jsonc_text.specs.OptionsOf.{parse_options}
