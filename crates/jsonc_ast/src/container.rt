@@ -19,7 +19,7 @@ pub enum Container {
 
 impl Container {
     /// Whether the token is the bracket that closes it.
-    pub fn is_closed_by<'a, A: Allocator>(self, token: &Token<'a, A>) -> bool
+    pub(crate) fn is_closed_by<'a, A: Allocator>(self, token: &Token<'a, A>) -> bool
         ensures { IsTrue result ↔ (scanned_of token.now ≡ lexeme (punctuation (closing self))) }
     {
         match self {
@@ -29,7 +29,7 @@ impl Container {
     }
 
     /// What is wrong where the text ends in it.
-    pub fn unterminated(self) -> ParseErrorKind
+    pub(crate) fn unterminated(self) -> ParseErrorKind
         ensures kind { result ≡ unterminated_kind self }
         ensures memory { result ≢ ParseErrorKind.OutOfMemory }
     {
@@ -40,7 +40,7 @@ impl Container {
     }
 
     /// Whether an element, or a property, may begin with the token.
-    pub fn begins_with<'a, A: Allocator>(self, token: &Token<'a, A>) -> bool
+    pub(crate) fn begins_with<'a, A: Allocator>(self, token: &Token<'a, A>) -> bool
         ensures { result ≡ begins self (scanned_of token.now) }
     {
         match self {
@@ -50,7 +50,7 @@ impl Container {
     }
 
     /// What is wrong with a token that an element, or a property, cannot begin with.
-    pub fn misplaced<'a, A: Allocator>(self, token: &Token<'a, A>) -> ParseErrorKind
+    pub(crate) fn misplaced<'a, A: Allocator>(self, token: &Token<'a, A>) -> ParseErrorKind
         ensures kind { result ≡ misplaced_kind self (scanned_of token.now) }
         ensures memory { result ≢ ParseErrorKind.OutOfMemory }
     {
@@ -106,7 +106,7 @@ pub fn unexpected<'a, A: Allocator>(token: &Token<'a, A>) -> ParseErrorKind
 }
 
 /// Whether the token is a comment.
-pub fn is_comment<'a, A: Allocator>(token: &Token<'a, A>) -> bool
+pub(crate) fn is_comment<'a, A: Allocator>(token: &Token<'a, A>) -> bool
     ensures { result ≡ is_a_comment (scanned_of token.now) }
 {
     match token {
@@ -117,21 +117,21 @@ pub fn is_comment<'a, A: Allocator>(token: &Token<'a, A>) -> bool
 }
 
 /// Whether the token is a comma.
-pub fn is_comma<'a, A: Allocator>(token: &Token<'a, A>) -> bool
+pub(crate) fn is_comma<'a, A: Allocator>(token: &Token<'a, A>) -> bool
     ensures { IsTrue result ↔ (scanned_of token.now ≡ lexeme (punctuation 0x2C)) }
 {
     matches!(token, Token::Comma)
 }
 
 /// Whether the token is a colon.
-pub fn is_colon<'a, A: Allocator>(token: &Token<'a, A>) -> bool
+pub(crate) fn is_colon<'a, A: Allocator>(token: &Token<'a, A>) -> bool
     ensures { IsTrue result ↔ (scanned_of token.now ≡ lexeme (punctuation 0x3A)) }
 {
     matches!(token, Token::Colon)
 }
 
 /// The text of a token that may be a name without quotes.
-pub fn loose_name<'a, A: Allocator>(token: &Token<'a, A>) -> Option<&'a str>
+pub(crate) fn loose_name<'a, A: Allocator>(token: &Token<'a, A>) -> Option<&'a str>
     ensures { option_map (λ s. chars s.now) result ≡ loose_text (scanned_of token.now) }
 {
     match token {

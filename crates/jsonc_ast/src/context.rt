@@ -69,14 +69,14 @@ impl<'a, A: Allocator + Copy> Context<'a, A> {
     }
 
     /// The range of the last token.
-    pub fn range(&self) -> Range
+    pub(crate) fn range(&self) -> Range
         ensures { result ≡ token_range self.now }
     {
         Range::new(self.scanner.token_start(), self.scanner.token_end())
     }
 
     /// A fault told of these bytes.
-    pub fn fault(&self, range: Range, kind: ParseErrorKind) -> ParseError
+    pub(crate) fn fault(&self, range: Range, kind: ParseErrorKind) -> ParseError
         requires range { Spans (text_in self.now) range.start range.end }
         requires kind { kind ≢ ParseErrorKind.OutOfMemory }
         ensures fault { IsFault (text_in self.now) result }
@@ -97,7 +97,7 @@ impl<'a, A: Allocator + Copy> Context<'a, A> {
     }
 
     /// A fault told of the bytes from a place through the last token.
-    pub fn fault_from(&self, start: usize, kind: ParseErrorKind) -> ParseError
+    pub(crate) fn fault_from(&self, start: usize, kind: ParseErrorKind) -> ParseError
         requires start { Spans (text_in self.now) start (token_end self.now) }
         requires kind { kind ≢ ParseErrorKind.OutOfMemory }
         ensures fault { IsFault (text_in self.now) result }

@@ -1,7 +1,6 @@
 -- A parser among the properties of an object.
 use Rattle.std.proofs.Common.{ℕ, max, ◌+◌, ◌<◌, ◌≤◌, ◌≡◌, ◌∙◌, sym, ap, subst, arith, List, [], Option, Some, None, IfSome}
 use Rattle.std.specs.declared.borrow.CowStr.{CowStr}
-use Rattle.indexmap.specs.IndexMap.{insert_entry}
 use Rattle.jsonc_text.specs.declared.tokens.Token.{Token}
 use Rattle.jsonc_text.specs.Text.{rest}
 use Rattle.jsonc_text.specs.Gaps.{Gap}
@@ -18,7 +17,7 @@ use Rattle.jsonc_ast.proofs.NoValues.{properties_item}
 use Rattle.jsonc_ast.proofs.Scans.{moved, kept_on}
 use Rattle.jsonc_to_value.specs.Reads.{Reads, ReadsProperty}
 use Rattle.jsonc_to_value.specs.Refusals.{NoProperty, NoValueHere, NoPropertyHere}
-use Rattle.jsonc_to_value.specs.Views.{plain, name_of, same_name, members_plain}
+use Rattle.jsonc_to_value.specs.Views.{plain, name_of, inserted, members_plain}
 use Rattle.jsonc_to_value.proofs.Collapse.{push, put, collapse_push}
 use Rattle.jsonc_to_value.proofs.Insertions.{AreTexts, insert_texts, insert_puts}
 use Rattle.jsonc_to_value.proofs.Objects.{push_depth, Open, Whole, first_open, first_whole, next_open, next_whole, NoProperties, object_refused, deep_object, first_property, further_properties}
@@ -119,15 +118,15 @@ module _ {A : Type 0} where
 
       -- one more property
       pub properties_turn : (new : Context A) (further : Option (Token A)) (qs : List (CowStr A × JsonValue A)) → Keeps mid new → Leads (Separates (options_in mid)) (Closes (options_in mid) 0x7D) 0x7D mid new further
-          → IfSome further (λ t. OnlyNext Object mid new) → qs ≡ insert_entry same_name ps x.0 x.1 → Properties old new further count qs
-      properties_turn new further qs kept h only inserted =
+          → IfSome further (λ t. OnlyNext Object mid new) → qs ≡ inserted ps x.0 x.1 → Properties old new further count qs
+      properties_turn new further qs kept h only e =
           let most : members_depth (push inv.members (name_of x.0) read.value) ≡ max (members_depth inv.members) (depth read.value) = push_depth inv.members (name_of x.0) read.value in
           let on : token_end mid ≤ token_start new = leads_on _ _ 0x7D mid new further h in
           record {
             members = push inv.members (name_of x.0) read.value;
-            collapsed = ap members_plain inserted ∙ insert_puts ps x.0 x.1 inv.texts read.utf8 ∙ ap (put (name_of x.0) (plain x.1)) inv.collapsed
+            collapsed = ap members_plain e ∙ insert_puts ps x.0 x.1 inv.texts read.utf8 ∙ ap (put (name_of x.0) (plain x.1)) inv.collapsed
                 ∙ ap (λ v. put (name_of x.0) v (collapse_members inv.members)) read.collapsed ∙ sym (collapse_push inv.members (name_of x.0) read.value);
-            texts = subst AreTexts (sym inserted) (insert_texts ps x.0 x.1 inv.texts read.utf8);
+            texts = subst AreTexts (sym e) (insert_texts ps x.0 x.1 inv.texts read.utf8);
             kept = kept_on old mid new both kept;
             hand = leads_hand _ _ 0x7D mid new further h;
             on = omega (arith, inv.on, now.scanner.order, read.on, on);

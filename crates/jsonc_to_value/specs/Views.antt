@@ -3,6 +3,7 @@ use Rattle.std.specs.Prelude.{ℕ, Bool, List, [], ◌∷◌, map, chars}
 use Rattle.std.specs.Cow.{cow_str_bytes}
 use Rattle.std.specs.Str.{bytes_eq}
 use Rattle.std.specs.declared.borrow.CowStr.{CowStr}
+use Rattle.indexmap.specs.IndexMap.{insert_entry}
 use Rattle.jsonc_text.specs.Plain.{Plain, null, boolean, number, string, array, object, Items, no_items, item, Members, no_members, member}
 use Rattle.jsonc_value.specs.declared.value.JsonValue.{JsonValue, fold-JsonValue}
 use Rattle.jsonc_value.specs.declared.value.JsonValue.TheOpen.{JsonValue-F, JsonObject-F, JsonArray-F}
@@ -20,6 +21,10 @@ module _ {A : Type 0} where
   -- whether two names have the same bytes
   abbrev pub same_name : CowStr A → CowStr A → Bool
   same_name k n = bytes_eq (cow_str_bytes k) (cow_str_bytes n)
+
+  -- the properties with one more, or with another value of a name that is there
+  abbrev pub inserted : List (CowStr A × JsonValue A) → CowStr A → JsonValue A → List (CowStr A × JsonValue A)
+  inserted ps k v = insert_entry same_name ps k v
 
   -- names with values, as the properties of an object
   abbrev pub members_of : List (CowStr A × Plain) → Members

@@ -2,7 +2,6 @@
 ghost use Rattle.std.specs.Prelude.{◌≡◌, ◌+◌, ◌<◌, ◌≤◌, IfOk, IfErr, OnOk, option_map, chars};
 ghost use Rattle.std.specs.Str.{IsUtf8};
 ghost use Rattle.std.specs.Cow.{cow_str_bytes};
-ghost use Rattle.indexmap.specs.IndexMap.{insert_entry};
 ghost use Rattle.jsonc_text.specs.Faults.{IsFault};
 ghost use Rattle.jsonc_text.specs.OptionsOf.{parse_options};
 ghost use Rattle.jsonc_text.specs.Plain.{array, object};
@@ -13,7 +12,7 @@ ghost use Rattle.jsonc_ast.specs.Scanned.{leaf_value};
 ghost use Rattle.jsonc_ast.specs.Views.{name_at, Grown};
 ghost use Rattle.jsonc_to_value.specs.Reads.{Reads, ReadsProperty, IsValueOf};
 ghost use Rattle.jsonc_to_value.specs.Refusals.{NoValueHere, NoPropertyHere, RefusesText};
-ghost use Rattle.jsonc_to_value.specs.Views.{plain, name_of, same_name, items_plain, members_plain};
+ghost use Rattle.jsonc_to_value.specs.Views.{plain, name_of, inserted, items_plain, members_plain};
 
 use jsonc_ast::ast::ObjectPropName;
 use jsonc_ast::collect::CollectOptions;
@@ -119,7 +118,7 @@ fn put_property<'a, A: Allocator>(
     name: CowStr<'a, A>,
     value: JsonValue<'a, A>,
 ) -> Result<(), AllocError>
-    ensures { OnOk result (properties.new ≡ insert_entry same_name properties.old name.entry value.entry) }
+    ensures { OnOk result (properties.new ≡ inserted properties.old name.entry value.entry) }
 {
     match properties.insert(name, value) {
         Ok(_) => Ok(()),
