@@ -76,6 +76,7 @@ impl<'a, A: Allocator + Copy> Context<'a, A> {
     }
 
     /// A fault told of these bytes.
+    #[cold]
     pub(crate) fn fault(&self, range: Range, kind: ParseErrorKind) -> ParseError
         requires range { Spans (text_in self.now) range.start range.end }
         requires kind { kind ≢ ParseErrorKind.OutOfMemory }
@@ -87,6 +88,7 @@ impl<'a, A: Allocator + Copy> Context<'a, A> {
     }
 
     /// A fault told of the last token.
+    #[cold]
     pub fn fault_here(&self, kind: ParseErrorKind) -> ParseError
         requires { kind ≢ ParseErrorKind.OutOfMemory }
         ensures fault { IsFault (text_in self.now) result }
@@ -97,6 +99,7 @@ impl<'a, A: Allocator + Copy> Context<'a, A> {
     }
 
     /// A fault told of the bytes from a place through the last token.
+    #[cold]
     pub(crate) fn fault_from(&self, start: usize, kind: ParseErrorKind) -> ParseError
         requires start { Spans (text_in self.now) start (token_end self.now) }
         requires kind { kind ≢ ParseErrorKind.OutOfMemory }
@@ -129,6 +132,7 @@ impl<'a, A: Allocator + Copy> Context<'a, A> {
 
     /// Refuses a value that too many containers and properties are around.
     /// The innermost of them begins at the place.
+    #[inline(always)]
     pub fn check_nesting(&self, start: usize, around: usize) -> Result<(), ParseError>
         requires { Spans (text_in self.now) start (token_end self.now) }
         ensures within { OnOk result (around ≤ 512) }
@@ -142,6 +146,7 @@ impl<'a, A: Allocator + Copy> Context<'a, A> {
     }
 
     /// Collects the last token, where tokens are asked for.
+    #[cold]
     fn collect(&mut self, token: &Token<'a, A>) -> Result<(), ParseError>
         ensures scanner { self.new.scanner ≡ self.old.scanner }
         ensures tokens { tokens_asked self.new ≡ tokens_asked self.old }
@@ -164,6 +169,7 @@ impl<'a, A: Allocator + Copy> Context<'a, A> {
     }
 
     /// Passes a comment, the last token, where comments are allowed.
+    #[cold]
     fn pass_comment(&mut self, comment: &Token<'a, A>) -> Result<(), ParseError>
         ensures scanner { self.new.scanner ≡ self.old.scanner }
         ensures tokens { tokens_asked self.new ≡ tokens_asked self.old }
@@ -197,16 +203,22 @@ impl<'a, A: Allocator + Copy> Context<'a, A> {
                 return Ok(None);
             };
             if !is_comment(&token) {
-                self.collect(&token)?;
-                return Ok(Some(token));
+                if self.tokens.is_none() {
+                    return Ok(Some(token));
+                }
+                let lexeme = token;
+                self.collect(&lexeme)?;
+                return Ok(Some(lexeme));
             }
-            self.pass_comment(&token)?;
+            let comment = token;
+            self.pass_comment(&comment)?;
         }
     }
 
     /// Passes what stands after an opening bracket: answers the token that the first element or
     /// property begins with, or none past the closing bracket. Where the text ends in the
     /// container, the fault is told from the place where that began, if one is given.
+    #[inline(always)]
     pub fn first_item(
         &mut self,
         container: Container,
@@ -230,6 +242,7 @@ impl<'a, A: Allocator + Copy> Context<'a, A> {
     }
 
     /// Passes what stands after a comma, the last token, as `first_item` does.
+    #[inline(always)]
     fn item_after_comma(
         &mut self,
         container: Container,
@@ -257,6 +270,7 @@ impl<'a, A: Allocator + Copy> Context<'a, A> {
     }
 
     /// What is wrong with the last token where a comma must stand, after what ended at a place.
+    #[cold]
     fn missing_comma(&self, container: Container, token: &Token<'a, A>, end: usize) -> ParseError
         requires { Spans (text_in self.now) end (token_end self.now) }
         ensures { IsFault (text_in self.now) result }
@@ -269,6 +283,7 @@ impl<'a, A: Allocator + Copy> Context<'a, A> {
 
     /// Passes what stands after an element or a property: answers the token that the next one
     /// begins with, or none past the closing bracket.
+    #[inline(always)]
     pub fn next_item(
         &mut self,
         container: Container,
@@ -298,6 +313,7 @@ impl<'a, A: Allocator + Copy> Context<'a, A> {
         Ok(Some(token))
     }
     /// The name that the last token is, where the options allow it.
+    #[inline(always)]
     pub fn name(&self, token: Token<'a, A>) -> Result<ObjectPropName<'a, A>, ParseError>
         requires { IsToken self.now token }
         ensures name { IfOk result (λ n. IsNameHere self.now (name_at n)) }
@@ -321,6 +337,7 @@ impl<'a, A: Allocator + Copy> Context<'a, A> {
     }
 
     /// Passes a gap and the colon after it.
+    #[inline(always)]
     pub fn pass_colon(&mut self) -> Result<(), ParseError>
         ensures kept { Keeps self.old self.new }
         ensures found { OnOk result (PassesColon self.old self.new) }

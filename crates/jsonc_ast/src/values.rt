@@ -27,6 +27,7 @@ use jsonc_text::tokens::Token;
 use std::alloc::Allocator;
 
 /// The value that a token is by itself.
+#[inline(always)]
 fn leaf<'a, A: Allocator>(token: Token<'a, A>, range: Range) -> Option<Value<'a, A>>
     ensures { option_map located result ≡ option_map (leaf_at range) (leaf_value (scanned_of token.entry)) }
 {
@@ -40,6 +41,7 @@ fn leaf<'a, A: Allocator>(token: Token<'a, A>, range: Range) -> Option<Value<'a,
 }
 
 /// The value that the last token is by itself.
+#[inline(always)]
 fn parse_leaf<'a, A: Allocator + Copy>(
     context: &Context<'a, A>,
     token: Token<'a, A>,
@@ -59,6 +61,7 @@ fn parse_leaf<'a, A: Allocator + Copy>(
 
 /// The value that begins with the last token, inside of so many containers and properties.
 #[cycle(parse)]
+#[inline(always)]
 fn parse_value<'a, A: Allocator + Copy>(
     context: &mut Context<'a, A>,
     token: Token<'a, A>,
@@ -82,6 +85,7 @@ fn parse_value<'a, A: Allocator + Copy>(
 
 /// The array that begins with the last token, a `[`.
 #[cycle(parse)]
+#[inline(never)]
 fn parse_array<'a, A: Allocator + Copy>(
     context: &mut Context<'a, A>,
     count: usize,
@@ -111,6 +115,7 @@ fn parse_array<'a, A: Allocator + Copy>(
 
 /// The object that begins with the last token, a `{`.
 #[cycle(parse)]
+#[inline(never)]
 fn parse_object<'a, A: Allocator + Copy>(
     context: &mut Context<'a, A>,
     count: usize,
@@ -139,6 +144,7 @@ fn parse_object<'a, A: Allocator + Copy>(
 
 /// The property that begins with the last token, inside of so many containers and properties.
 #[cycle(parse)]
+#[inline(always)]
 fn parse_property<'a, A: Allocator + Copy>(
     context: &mut Context<'a, A>,
     token: Token<'a, A>,

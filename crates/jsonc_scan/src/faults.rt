@@ -9,6 +9,7 @@ use jsonc_text::common::Range;
 use jsonc_text::errors::{ParseError, ParseErrorKind};
 
 /// A fault that is told of the bytes between two places.
+#[cold]
 pub(crate) fn fault(text: &str, start: usize, end: usize, kind: ParseErrorKind) -> ParseError
     requires spans { Spans text.now start end }
     requires kind { kind ≢ ParseErrorKind.OutOfMemory }
@@ -19,6 +20,7 @@ pub(crate) fn fault(text: &str, start: usize, end: usize, kind: ParseErrorKind) 
 }
 
 /// A fault that is told of the character at a place, or of no bytes at the end of the text.
+#[cold]
 pub(crate) fn fault_at(text: &str, place: usize, kind: ParseErrorKind) -> ParseError
     requires spans { Spans text.now place place }
     requires kind { kind ≢ ParseErrorKind.OutOfMemory }

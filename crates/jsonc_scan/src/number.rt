@@ -87,6 +87,7 @@ fn some_hex_digits_end(text: &str, start: usize) -> Option<usize>
 }
 
 /// The place after the exponent at a place, or the place itself where no `e` stands.
+#[inline(always)]
 fn exponent_end(text: &str, start: usize) -> Result<usize, ParseError>
     requires { IsCharBoundary text.now start }
     ensures found { IfOk result (Reaches Exponent text.now start) }
@@ -140,6 +141,7 @@ fn fraction_end(
 }
 
 /// The place after the decimal number whose digits before the point end at `whole`.
+#[inline(always)]
 fn decimal_end(
     text: &str,
     number: usize,
@@ -162,6 +164,7 @@ fn decimal_end(
 }
 
 /// The place after the hexadecimal number at a place, where `0x` stands.
+#[cold]
 fn hexadecimal_end(
     text: &str,
     number: usize,
@@ -186,6 +189,7 @@ fn hexadecimal_end(
 }
 
 /// The place after the number at a place that begins with its point, or the fault of a number that begins otherwise.
+#[cold]
 fn bare_end(
     text: &str,
     number: usize,
@@ -245,6 +249,7 @@ fn whole_part_end(text: &str, start: usize) -> Option<usize>
 }
 
 /// The place after the digits of a number at a place; the number's sign, if any, began at `number`.
+#[inline(always)]
 fn finite_end(
     text: &str,
     number: usize,

@@ -93,6 +93,7 @@ impl<'a, A: Allocator + Copy> Scanner<'a, A> {
     /// Moves to the next token, and answers it; or none at the end of the text.
     ///
     /// After an error the last token is what it was, and the scanner stands where the refused one begins.
+    #[inline(always)]
     pub fn scan(&mut self) -> Result<Option<Token<'a, A>>, ParseError>
         ensures blanks { PassesBlanks self.old self.new }
         ensures found { IfOk result (StandsAt self.new) }

@@ -6,6 +6,7 @@ ghost use Rattle.jsonc_text.specs.Gaps.{is_blank};
 ghost use Rattle.jsonc_text.specs.Chars.{Steps};
 
 /// The character at a place, or none at the end.
+#[inline(always)]
 pub fn char_at(text: &str, place: usize) -> Option<char>
     requires { IsCharBoundary text.now place }
     ensures none { IfNone result (rest text.now place ≡ []) }
@@ -73,6 +74,7 @@ fn blank_len(text: &str, place: usize) -> usize
 }
 
 /// The first place from `start` on where no blank stands, by characters.
+#[cold]
 fn any_blanks_end(text: &str, start: usize) -> usize
     requires { IsCharBoundary text.now start }
     ensures boundary { IsCharBoundary text.now result }
@@ -90,6 +92,7 @@ fn any_blanks_end(text: &str, start: usize) -> usize
 }
 
 /// The first place from `start` on where no blank stands.
+#[inline(always)]
 pub fn blanks_end(text: &str, start: usize) -> usize
     requires { IsCharBoundary text.now start }
     ensures boundary { IsCharBoundary text.now result }

@@ -2,7 +2,13 @@ use Rattle.std.proofs.Common.{sym, ◌∙◌, refl}
 use Rattle.jsonc_ast.proofs.Scans.{passing_start, scan_found, passing_on}
 use Rattle.jsonc_ast.proofs.Collecting.{collects_end, collects_lexeme}
 use Rattle.jsonc_ast.proofs.Refusals.{err_of, scan_refused, comment_refused}
+use Rattle.std.proofs.Common.{◌≡◌, true, false, not, Bool, IsTrue}
 use Rattle.jsonc_ast.proofs.context.Context.scan.Goals as goal
+
+unasked : (asked none : Bool) → asked ≡ not none → none ≡ true → IsTrue asked → ⊥
+unasked true true h k a = cc
+unasked true false h k a = cc
+unasked false none h k a = cc
 
 pub loop-token-init : goal.loop-token-init
 loop-token-init g c = passing_start c.args.self.now
@@ -43,3 +49,13 @@ returns-then-not-is_comment-clause-collects g c =
     let so_far = c.loop-token.invariant in
     collects_lexeme c.args.self.now c.loop-token.self c.collect.new.self c.scan.new.self c.in_ok-token.field-0 c.in-Some.token so_far.kept so_far.collects c.scan.ensures.blanks c.collect.ensures.scanner c.in_ok-token.ensures.found c.in-Some.is
     (sym c.is_comment.ensures ∙ c.if-not-is_comment.true) c.in_ok-collect.ensures.collected
+
+pub returns-then-is_none-clause-found : goal.returns-then-is_none-clause-found
+returns-then-is_none-clause-found g c =
+    scan_found c.args.self.now c.loop-token.self c.scan.new.self c.scan.new.self c.in_ok-token.field-0 _ c.in-Some.is refl c.loop-token.invariant c.scan.ensures.blanks c.in_ok-token.ensures.found
+
+pub returns-then-is_none-clause-collects : goal.returns-then-is_none-clause-collects
+returns-then-is_none-clause-collects g c =
+    let so_far = c.loop-token.invariant in
+    collects_lexeme c.args.self.now c.loop-token.self _ c.scan.new.self c.in_ok-token.field-0 c.in-Some.token so_far.kept so_far.collects c.scan.ensures.blanks refl c.in_ok-token.ensures.found c.in-Some.is
+    (sym c.is_comment.ensures ∙ c.if-not-is_comment.true) (λ asked. absurd (unasked _ _ c.is_none.ensures c.if-is_none.true asked))
