@@ -1,5 +1,5 @@
 #!/usr/bin/env python3
-"""Writes crates/jsonc_bench/stdin and stdout: the cases of bench/crate, and a sample of a folder of vectors.
+"""Writes crates/jsonc_bench/stdin and stdout: the cases of bench/crate and bench/rows, and a sample of a folder of vectors.
 
 usage: bench/sample.py FOLDER
 
@@ -16,6 +16,7 @@ HERE = os.path.dirname(os.path.abspath(__file__))
 CRATE = os.path.join(HERE, '..', 'crates', 'jsonc_bench')
 # Longer cases are left out, but for those that show a depth.
 LONGEST = 1500
+LOOKUP = 'a look-up is get or take, with a kind or none, and a word'
 NO_CASES = [
     ('', None),
     ('% a line that begins so is passed over', None),
@@ -30,7 +31,13 @@ NO_CASES = [
     ('bad-backslash\tscan\t1111111111\t\\n', 'an escape is \\x and two upper-case hex digits'),
     ('bad-text\tscan\t1111111111\t\\xFF', 'its text is not UTF-8'),
     ('bad-word\tjsonc\tprint\t1', "a word begins with '"),
+    ("bad-look-up\tjobj\t1111111111\t{}\tget_null 'a", LOOKUP),
+    ('bad-name\tjobj\t1111111111\t{}\ttake a', LOOKUP),
+    ("bad-call\tjobj\t1111111111\t{}\thas 'a", LOOKUP),
 ]
+# What the Rust crate's test of deep objects states; bench/crate has it with 600 of them, and here they are all.
+DEEP = (('value-deep-objects-30000', 'value', '1111111111', '{"q":' * 30000),
+        ('fault NestingDepthExceeded 2560 2561 1 2561 Maximum nesting depth exceeded on line 1 column 2561',))
 PROGRAM = [
     (("print-escaped-word", 'jsonc', "'prin\\x74", ' [1] '), ('0', ' [1] ', '')),
     (('print-blanks', 'jsonc', "'print", '\\x0D\\x0A'), ('0', '\\x0D\\x0A', '')),
@@ -88,6 +95,10 @@ def shown(case, answer):
     if kind == 'decode':
         yield kind, fault or answer[1]
         return
+    if kind == 'jobj':
+        for lookup, found in zip(fields[2].split(' ; '), answer[2:]):
+            yield kind, lookup.split(' ')[0], found[:1]
+        return
     options = fields[0]
     yield kind, 'options', options
     if kind == 'ast':
@@ -96,6 +107,10 @@ def shown(case, answer):
         for end in ends_of(options):
             yield kind, fault, end
         yield kind, fault, answer[1].split(' ')[4] != '1'
+        return
+    if kind == 'value':
+        for word in answer[2].split(' '):
+            yield kind, 'node', word if word[0] in '[{' else word[0]
         return
     tokens = answer[2:] if kind == 'scan' else answer[5:]
     for token in tokens:
@@ -139,6 +154,10 @@ def main(folder):
     lines.append('% Cases of the Rust crate\'s own tests')
     for case, answer in vectors.read(os.path.join(HERE, 'crate')):
         put(case, answer)
+    lines.append('% Worked rows')
+    for case, answer in vectors.read(os.path.join(HERE, 'rows')):
+        put(case, answer)
+    put(DEEP[0], (DEEP[0][0],) + DEEP[1])
     lines.append('% Runs of the program')
     for case, answer in PROGRAM:
         put(case, (case[0],) + (answer or ()))

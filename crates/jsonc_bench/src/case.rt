@@ -2,6 +2,7 @@
 
 use crate::error::CaseError;
 use crate::escape::{unescaped, unescaped_text};
+use crate::lookup::{Lookup, read_lookups};
 use jsonc_parser::{CollectOptions, CommentCollectionStrategy, ParseOptions};
 use std::alloc::Global;
 
@@ -19,9 +20,31 @@ pub enum Question {
         collect: CollectOptions,
         text: String,
     },
+    /// The value of a text.
+    Value {
+        options: ParseOptions,
+        text: String,
+    },
+    /// Whether two texts have equal values.
+    Equal {
+        options: ParseOptions,
+        one: String,
+        other: String,
+    },
+    /// What is looked up in the object of a text.
+    Object {
+        options: ParseOptions,
+        text: String,
+        lookups: Vec<Lookup>,
+    },
     /// The string at the front of a text.
     Decode {
         text: String,
+    },
+    /// What printing the input under these options does.
+    Print {
+        options: ParseOptions,
+        input: Vec<u8>,
     },
     /// What the program does with these words and this input.
     Program {
@@ -53,7 +76,14 @@ impl<'a> Case<'a> {
 
 fn is_kind_to_come(kind: &str) -> bool {
     match kind {
-        "value" | "jobj" | "aobj" | "edit" | "trace" | "read" | "settings" | "detached" => true,
+        "aobj" | "edit" | "trace" | "read" | "settings" | "detached" => true,
+        _ => false,
+    }
+}
+
+fn is_kind(kind: &str) -> bool {
+    match kind {
+        "scan" | "ast" | "value" | "equal" | "jobj" | "decode" | "print" | "jsonc" => true,
         _ => false,
     }
 }
@@ -63,11 +93,17 @@ impl Question {
         match (kind, fields) {
             ("scan", [options, text]) => scan(alloc, options, text),
             ("ast", [options, collect, text]) => ast(alloc, options, collect, text),
+            ("value", [options, text]) => value(alloc, options, text),
+            ("equal", [options, one, other]) => equal(alloc, options, one, other),
+            ("jobj", [options, text, lookups]) => object(alloc, options, text, lookups),
             ("decode", [text]) => Ok(Question::Decode {
                 text: unescaped_text(alloc, text)?,
             }),
+            ("print", [options, input]) => print(alloc, options, input),
             ("jsonc", [words, input]) => program(alloc, words, input),
-            ("scan" | "ast" | "decode" | "jsonc", _) => Err(CaseError::FieldCount),
+            ("scan" | "ast" | "value" | "jobj" | "decode" | "jsonc", _) => Err(
+                CaseError::FieldCount,
+            ),
             (kind, _) if is_kind_to_come(kind) => Ok(Question::NotBuilt),
             _ => Err(CaseError::UnknownKind),
         }
@@ -91,6 +127,36 @@ fn ast(alloc: Global, options: &str, collect: &str, text: &str) -> Result<Questi
         options,
         collect,
         text,
+    })
+}
+
+fn value(alloc: Global, options: &str, text: &str) -> Result<Question, CaseError> {
+    Ok(Question::Value {
+        options: read_options(options)?,
+        text: unescaped_text(alloc, text)?,
+    })
+}
+
+fn equal(alloc: Global, options: &str, one: &str, other: &str) -> Result<Question, CaseError> {
+    Ok(Question::Equal {
+        options: read_options(options)?,
+        one: unescaped_text(alloc, one)?,
+        other: unescaped_text(alloc, other)?,
+    })
+}
+
+fn print(alloc: Global, options: &str, input: &str) -> Result<Question, CaseError> {
+    Ok(Question::Print {
+        options: read_options(options)?,
+        input: unescaped(alloc, input)?,
+    })
+}
+
+fn object(alloc: Global, options: &str, text: &str, lookups: &str) -> Result<Question, CaseError> {
+    Ok(Question::Object {
+        options: read_options(options)?,
+        text: unescaped_text(alloc, text)?,
+        lookups: read_lookups(alloc, lookups)?,
     })
 }
 

@@ -25,6 +25,8 @@ pub enum CaseError {
     TextNotUtf8,
     /// A word that does not begin with `'`.
     Word,
+    /// A look-up that no object has, or one without a name.
+    Lookup,
     /// There was not enough memory to read the line.
     OutOfMemory,
 }
@@ -41,6 +43,7 @@ impl fmt::Display for CaseError {
             CaseError::Escape => "an escape is \\x and two upper-case hex digits",
             CaseError::TextNotUtf8 => "its text is not UTF-8",
             CaseError::Word => "a word begins with '",
+            CaseError::Lookup => "a look-up is get or take, with a kind or none, and a word",
             CaseError::OutOfMemory => "out of memory",
         })
     }

@@ -9,12 +9,12 @@ mod decoded;
 mod document;
 mod error;
 mod escape;
+mod lookup;
 mod program;
 mod scanned;
 mod show;
 mod syntax;
-#[cfg(test)]
-mod tests;
+mod value;
 
 use case::Case;
 use error::CaseError;

@@ -2,7 +2,10 @@
 
 use crate::escape::Escaped;
 use jsonc_engine::calls::{FromReader, ToWriter};
-use jsonc_engine::engine::engine;
+use jsonc_engine::command::Command;
+use jsonc_engine::engine::{engine, run_with};
+use jsonc_engine::fault::Fault;
+use jsonc_parser::ParseOptions;
 use std::alloc::{AllocError, Global};
 
 /// Whether the words name a command that the program is to have and has not yet.
@@ -38,12 +41,27 @@ pub fn outcome(
     let written = Escaped::field(writer.as_slice());
     let shown = match result {
         Ok(()) => format!(in alloc; "0\t{written}\t")?,
-        Err(fault) => {
-            let status = fault.status();
-            let line = format!(in alloc; "{fault}\n")?;
-            let line = Escaped::field(line.as_bytes());
-            format!(in alloc; "{status}\t{written}\t{line}")?
-        }
+        Err(fault) => told(alloc, &written, &fault)?,
     };
     Ok(Some(shown))
+}
+
+/// What printing the input under some options does, as a run of the program that prints it.
+pub fn printed(alloc: Global, options: &ParseOptions, input: &[u8]) -> Result<String, AllocError> {
+    match run_with(alloc, options, Command::Print, input) {
+        Ok(Some(text)) => {
+            let written = Escaped::field(text.as_bytes());
+            format!(in alloc; "0\t{written}\t")
+        }
+        Ok(None) => String::from_str(alloc, "nothing is printed"),
+        Err(fault) => told(alloc, &Escaped::field(b""), &fault),
+    }
+}
+
+/// The status of a run that fails, what it wrote and the line that it prints.
+fn told(alloc: Global, written: &Escaped<'_>, fault: &Fault) -> Result<String, AllocError> {
+    let status = fault.status();
+    let line = format!(in alloc; "{fault}\n")?;
+    let line = Escaped::field(line.as_bytes());
+    format!(in alloc; "{status}\t{written}\t{line}")
 }

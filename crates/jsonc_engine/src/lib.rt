@@ -6,5 +6,3 @@ pub mod calls;
 pub mod command;
 pub mod engine;
 pub mod fault;
-#[cfg(test)]
-mod tests;

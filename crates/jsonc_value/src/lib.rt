@@ -7,6 +7,3 @@ mod value;
 
 pub use map::Map;
 pub use value::{JsonArray, JsonObject, JsonValue};
-
-#[cfg(test)]
-mod tests;

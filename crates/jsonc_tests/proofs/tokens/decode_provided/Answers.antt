@@ -2,7 +2,7 @@ use Rattle.std.proofs.Common.{refl, List, ℕ, [], ◌∷◌, arith, rules}
 use Rattle.std.specs.Str.{IsAscii}
 use Rattle.std.proofs.lemmas.Str.{IsUtf8-from_ascii}
 use Rattle.jsonc_text.proofs.Steps.{steps_ascii}
-use Rattle.jsonc_bench.proofs.tests.tokens.decode_provided.Goals as goal
+use Rattle.jsonc_tests.proofs.tokens.decode_provided.Goals as goal
 
 pub parse_string_with_char_provider-requires : goal.parse_string_with_char_provider-requires
 parse_string_with_char_provider-requires g c κs =

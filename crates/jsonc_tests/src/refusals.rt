@@ -1,16 +1,7 @@
-//! What no clause says: that calls answer with ample memory, and what comes where memory or a stream fails.
-mod awaited;
-mod calls;
-mod clones;
-mod maps;
-mod outcome;
-mod streams;
-mod tokens;
-mod trees;
-mod unasked;
+//! Each request for memory of a call, refused in turn.
 
-use crate::tests::calls::{CALLS, outcome_of};
-use crate::tests::outcome::Outcome;
+use crate::calls::{CALLS, outcome_of};
+use crate::outcome::Outcome;
 use refusing::Refusing;
 use std::test::Fail;
 

@@ -1,6 +1,6 @@
 //! Calls that take no memory.
 
-use crate::tests::awaited::Awaited;
+use crate::awaited::Awaited;
 use jsonc_parser::cst::CstRootNode;
 use jsonc_parser::{ParseOptions, Scanner, ScannerOptions};
 use refusing::Refusing;

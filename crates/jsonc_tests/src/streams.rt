@@ -3,6 +3,7 @@
 use jsonc_engine::calls::{FromReader, ToWriter};
 use jsonc_engine::engine::engine;
 use jsonc_engine::fault::Fault;
+use std::alloc::AllocError;
 use std::io;
 use std::io::{ErrorKind, Read, Write};
 use std::test::Fail;
@@ -79,12 +80,24 @@ fn run(rt: &HostRuntime, reads: usize, writes: usize) -> (Result<(), Fault>, Vec
     (result, writer.bytes)
 }
 
+/// The status and the line of a run that fails.
+fn told(rt: &HostRuntime, outcome: Result<(), Fault>) -> Result<String, AllocError> {
+    match outcome {
+        Ok(()) => Ok(String::new(rt.alloc())),
+        Err(fault) => format!(in rt.alloc(); "{} {fault}", fault.status()),
+    }
+}
+
 #[test]
 fn a_failed_read_leaves_nothing_written(rt: HostRuntime) -> Result<(), Fail> {
     // Seven reads bring the text: six of five bytes, and one that finds the end.
     for reads in 0..7 {
         let (result, written) = run(&rt, reads, 100);
-        assert!(rt; matches!(&result, Err(Fault::Read)), "after {reads} reads");
+        assert_eq!(rt;
+            told(&rt, result)?.as_str(),
+            "1 jsonc: read failed",
+            "after {reads} reads"
+        );
         assert_eq!(rt; written.len(), 0, "after {reads} reads");
     }
     let (result, written) = run(&rt, 7, 100);
@@ -98,8 +111,9 @@ fn a_failed_write_leaves_a_beginning(rt: HostRuntime) -> Result<(), Fail> {
     // Six writes take the text, and then it is flushed.
     for writes in 0..7 {
         let (result, written) = run(&rt, 100, writes);
-        assert!(rt;
-            matches!(&result, Err(Fault::Write)),
+        assert_eq!(rt;
+            told(&rt, result)?.as_str(),
+            "1 jsonc: write failed",
             "after {writes} writes"
         );
         assert_eq!(rt; written.len(), writes * STEP, "after {writes} writes");

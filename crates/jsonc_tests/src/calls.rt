@@ -1,18 +1,19 @@
 //! The calls that may want memory.
 
-use crate::tests::awaited::Awaited;
-use crate::tests::maps::changed_map;
-use crate::tests::outcome::Outcome;
-use crate::tests::tokens::decode_provided;
-use crate::tests::trees::changed_tree;
+use crate::awaited::Awaited;
+use crate::clones::copies;
+use crate::maps::changed_map;
+use crate::outcome::Outcome;
+use crate::tokens::decode_provided;
+use crate::trees::changed_tree;
 use jsonc_engine::calls::{FromReader, ToWriter};
 use jsonc_engine::command::Command;
 use jsonc_engine::engine::{engine, run_on};
 use jsonc_parser::cst::CstRootNode;
 use jsonc_parser::tokens::Token;
 use jsonc_parser::{
-    CollectOptions, CommentCollectionStrategy, ParseOptions, ParseResult, Scanner, ScannerOptions,
-    parse_to_ast,
+    CollectOptions, CommentCollectionStrategy, JsonValue, ParseOptions, ParseResult, Scanner,
+    ScannerOptions, parse_to_ast, parse_to_value,
 };
 use jsonc_scan::provider::parse_string;
 use refusing::Refusing;
@@ -30,6 +31,8 @@ pub enum Call {
     DecodeProvided,
     Scan,
     SyntaxTree,
+    Value,
+    ValueCopies,
     Document,
     TokenCopy,
     MapChanges,
@@ -39,11 +42,13 @@ pub enum Call {
 }
 
 /// All of them.
-pub const CALLS: [Call; 10] = [
+pub const CALLS: [Call; 12] = [
     Call::Decode,
     Call::DecodeProvided,
     Call::Scan,
     Call::SyntaxTree,
+    Call::Value,
+    Call::ValueCopies,
     Call::Document,
     Call::TokenCopy,
     Call::MapChanges,
@@ -59,6 +64,9 @@ const PLAIN: &str =
 /// One with comments, an escape and looser spelling.
 const LOOSE: &str = "// one\n[{a: '\\x62', 0x1F: +.5, c: Infinity,}, /* two */ [NaN -1]]";
 
+/// One of two elements, with an escape in a name and in a string.
+const VALUES: &str = "[true, {'\\x61': '\\x62', 0x1F: +.5, c: Infinity,}] // end";
+
 /// A string with more characters than a text has room for at first, and what it decodes to.
 const ESCAPES: &str = "'one\\ttwo\\u0020three'";
 
@@ -70,6 +78,8 @@ pub fn outcome_of(call: Call, heap: Heap<'_>) -> Outcome {
         Call::DecodeProvided => decode_provided(heap),
         Call::Scan => scan(heap),
         Call::SyntaxTree => syntax_tree(heap),
+        Call::Value => value(heap),
+        Call::ValueCopies => copies(heap),
         Call::Document => document(heap),
         Call::TokenCopy => token_copy(heap),
         Call::MapChanges => changed_map(heap),
@@ -108,6 +118,22 @@ fn token_count(parsed: &ParseResult<'_, Heap<'_>>) -> usize {
         Some(tokens) => tokens.len(),
         None => 0,
     }
+}
+
+fn value(heap: Heap<'_>) -> Result<Outcome, Outcome> {
+    let Some(JsonValue::Array(array)) = parse_to_value(heap, VALUES, &ParseOptions::default())?
+    else {
+        return Err(Outcome::Other);
+    };
+    let (Some(JsonValue::Boolean(true)), Some(JsonValue::Object(object)), None) = (
+        array.get(0),
+        array.get(1),
+        array.get(2),
+    ) else {
+        return Err(Outcome::Other);
+    };
+    let is_read = object.get_number("0x1F") == Some("+.5");
+    Ok(Outcome::of(is_read && object.len() == 3 && array.len() == 2))
 }
 
 /// The tree is built as the document is read.

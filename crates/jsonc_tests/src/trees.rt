@@ -4,8 +4,8 @@ ghost use Rattle.jsonc_tree.specs.Content.{has_text};
 ghost use Rattle.jsonc_tree.specs.Stored.{content_of};
 ghost use Rattle.jsonc_tree.specs.Tree.{is_container_at};
 
-use crate::tests::calls::Heap;
-use crate::tests::outcome::Outcome;
+use crate::calls::Heap;
+use crate::outcome::Outcome;
 use jsonc_tree::{Kind, Tree};
 
 /// Whether a node is there and may have children.

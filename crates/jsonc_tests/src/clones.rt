@@ -1,0 +1,52 @@
+//! Copies of values, of objects and of arrays.
+
+use crate::calls::Heap;
+use crate::outcome::Outcome;
+use jsonc_parser::{JsonObject, JsonValue, ParseOptions, parse_to_value};
+use std::default::Default;
+
+/// An object in which a name and a string own their texts.
+const OBJECT: &str = "{'l\\x61st': [true, 2.5, {}, null], first: 't\\x65xt'}";
+
+fn some_object<'h>(heap: Heap<'h>) -> Result<JsonObject<'static, Heap<'h>>, Outcome> {
+    match parse_to_value(heap, OBJECT, &ParseOptions::default())? {
+        Some(JsonValue::Object(object)) => Ok(object),
+        _ => Err(Outcome::Other),
+    }
+}
+
+/// Whether the object's names are these two, in this order.
+fn has_names(object: JsonObject<'static, Heap<'_>>, first: &str, second: &str) -> bool {
+    let map = object.take_inner();
+    let mut names = map.keys();
+    let (Some(one), Some(other)) = (names.next(), names.next()) else {
+        return false;
+    };
+    one.as_str() == first && other.as_str() == second && names.next().is_none()
+}
+
+fn is_value_copied(heap: Heap<'_>) -> Result<bool, Outcome> {
+    let value = JsonValue::Object(some_object(heap)?);
+    let copy = value.try_clone()?;
+    let is_equal = copy == value;
+    let JsonValue::Object(object) = copy else {
+        return Ok(false);
+    };
+    Ok(is_equal && has_names(object, "last", "first"))
+}
+
+fn are_parts_copied(heap: Heap<'_>) -> Result<bool, Outcome> {
+    let object = some_object(heap)?;
+    let is_equal = object.try_clone()? == object;
+    let Some(array) = object.get_array("last") else {
+        return Ok(false);
+    };
+    let copy = array.try_clone()?;
+    let is_true = matches!(copy.get(0), Some(JsonValue::Boolean(true)));
+    Ok(is_equal && is_true && copy == *array && copy.len() == 4)
+}
+
+/// A value, an object and an array are copied, and the copies compared with them.
+pub fn copies(heap: Heap<'_>) -> Result<Outcome, Outcome> {
+    Ok(Outcome::of(is_value_copied(heap)? && are_parts_copied(heap)?))
+}

@@ -1,0 +1,25 @@
+//! Tests that cross crates: what no clause says of calls, of memory that is refused and of streams that fail.
+//!
+//! `docs/BENCH.md` says what each test is of.
+#![tactic(auto)]
+
+#[cfg(test)]
+mod awaited;
+#[cfg(test)]
+mod calls;
+#[cfg(test)]
+mod clones;
+#[cfg(test)]
+mod maps;
+#[cfg(test)]
+mod outcome;
+#[cfg(test)]
+mod refusals;
+#[cfg(test)]
+mod streams;
+#[cfg(test)]
+mod tokens;
+#[cfg(test)]
+mod trees;
+#[cfg(test)]
+mod unasked;
