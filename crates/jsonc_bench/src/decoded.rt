@@ -2,7 +2,7 @@
 
 use crate::escape::Escaped;
 use crate::show::push_string_kind;
-use jsonc_scan::provider::parse_string;
+use jsonc_string::provider::parse_string;
 use std::alloc::{AllocError, Global};
 use std::borrow::CowStr;
 

@@ -1,10 +1,6 @@
 pub mod Between
-pub mod ByteRuns
-pub mod Decoding
-pub mod Escapes
+pub mod BlockCloses
 pub mod NoLexemes
 pub mod NoNumbers
-pub mod Providers
-pub mod QuotedStrings
 pub mod Reading
 pub mod Words

@@ -10,14 +10,16 @@ use Rattle.jsonc_text.specs.Lexemes.{lexeme, line_comment, block_comment, Lexeme
 use Rattle.jsonc_text.specs.Numbers.{Sign, Whole, Unsigned, Number}
 use Rattle.jsonc_text.specs.Strings.{IsString}
 use Rattle.jsonc_text.specs.Words.{Keyword, IsKeyword, begins_word}
-use Rattle.jsonc_scan.specs.Between.{LacksAt, NoneFrom, IsWhole}
-use Rattle.jsonc_scan.specs.Reads.{begins_number, NoNames, NoNameOrWord, NoWord, NothingAt, OpensNoString, OpensString}
+use Rattle.jsonc_string.specs.Between.{LacksAt, NoneFrom}
+use Rattle.jsonc_scan.specs.Between.{IsWhole}
+use Rattle.jsonc_scan.specs.Reads.{begins_number, NoNames, NoNameOrWord, NoWord, NothingAt}
+use Rattle.jsonc_string.specs.Quotes.{OpensNoString, OpensString}
 use Rattle.jsonc_text.proofs.Basics.{clash, or_cases, or_left, or_right, and_both, heads, no_both, no_starts, Apart}
 use Rattle.jsonc_text.proofs.Begins.{is_quote, begins_keyword, begins_plain_number, string_begins, number_begins, keyword_begins, word_begins, plain_number_word, quote_number, number_keyword, quote_keyword, quote_word}
 use Rattle.jsonc_text.proofs.Begins.{begins_number as begins_any_number}
 use Rattle.jsonc_text.proofs.UniqueGaps.{comment_begins}
-use Rattle.jsonc_scan.specs.Escapes.{NoQuoted}
-use Rattle.jsonc_scan.proofs.QuotedStrings.{quoted_of_string}
+use Rattle.jsonc_string.specs.Escapes.{NoQuoted}
+use Rattle.jsonc_string.proofs.QuotedStrings.{no_string, quoted_of_string}
 
 never : IsTrue false → ⊥
 never h = cc
@@ -162,9 +164,6 @@ number_name h i n (b, u, s, x) = signed s h i n x
     signed Sign.none h i n x = unsigned_name h i n x
     signed Sign.minus h i n x = cc
     signed (Sign.plus p) h i n x = cc
-
-pub no_string : (o : Options) {t v r : List ℕ} → IsTrue (no (λ c. c == 0x22 || (c == 0x27 && o.single_quoted_strings)) (next t)) → IsString o t v r → ⊥
-no_string o n (q, s, a, e, d) = clash (q == 0x22 || (q == 0x27 && o.single_quoted_strings)) (rw e at n) a
 
 -- where no word stands, and nothing that begins otherwise
 pub word_nothing : (o : Options) (bytes : List ℕ) (i : ℕ) → OpensNoString o bytes i → LacksAt is_punctuation bytes i → LacksAt (λ c. c == 0x2F) bytes i → begins_number (rest bytes i) ≡ false → NoKeyword bytes i → NoNameOrWord o bytes i → NothingAt o bytes i

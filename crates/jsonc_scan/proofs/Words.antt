@@ -4,11 +4,12 @@ use Rattle.std.specs.Str.{IsAscii}
 use Rattle.std.proofs.Math.Seq.{take-append_seam}
 use Rattle.std.proofs.lemmas.List.{take-append-drop, drop-drop, length-take, append_cancel_left}
 use Rattle.std.proofs.lemmas.Str.{IsUtf8-drop, IsUtf8-from_ascii, IsCharBoundary-from_rest, IsCharBoundary-from_take, chars-append, chars-IsAscii, encodes-append, encodes-IsAscii}
-use Rattle.jsonc_text.specs.Text.{rest, next, no, starts, Many, stop, step, Spans, is_digit}
+use Rattle.jsonc_text.specs.Text.{rest, next, no, starts, Many, stop, step, is_digit}
 use Rattle.jsonc_text.specs.Chars.{Steps}
-use Rattle.jsonc_scan.specs.Between.{Between, LacksAt, IsAlone, PassesWord}
+use Rattle.jsonc_string.specs.Between.{Between, LacksAt}
+use Rattle.jsonc_scan.specs.Between.{IsAlone, PassesWord}
 use Rattle.jsonc_text.specs.Words.{goes_on, EndsWord, begins_word, is_in_word}
-use Rattle.jsonc_text.proofs.Cuts.{rest_encodes, step_place}
+use Rattle.jsonc_text.proofs.Cuts.{rest_encodes}
 use Rattle.jsonc_text.proofs.Basics.{or_left, no_starts, starts_also, tails}
 use Rattle.jsonc_text.proofs.UniqueGaps.{many_unique}
 use Rattle.jsonc_text.proofs.UniqueWords.{ends_word}
@@ -54,14 +55,6 @@ lacks_char p bytes i c j s f = rw s.0 (ap not f)
 
 pub lacks_at_end : (p : ℕ → Bool) (bytes : List ℕ) (i : ℕ) → rest bytes i ≡ [] → LacksAt p bytes i
 lacks_at_end p bytes i z = rw z refl
-
--- where the character at a place ends
-pub char_spans : (bytes : List ℕ) (i j : ℕ) → IsUtf8 bytes → IsCharBoundary bytes i → IsCharBoundary bytes j → (rest bytes i ≡ [] → j ≡ i) → ((c : ℕ) (r : List ℕ) → rest bytes i ≡ c ∷ r → Steps bytes i c j) → Spans bytes i j
-char_spans bytes i j u b d end past = record { from = b; to = d; order = go (rest bytes i) refl }
-  where
-    go : (t : List ℕ) → rest bytes i ≡ t → i ≤ j
-    go [] e = omega (arith, end e)
-    go (c ∷ t) e = omega (arith, step_place bytes i c j u b (past c t e))
 
 -- a word that begins with a character and goes on with others
 pub word_passed : (bytes : List ℕ) (i j k c : ℕ) → IsTrue (begins_word c) → Steps bytes i c j → i < j → IsCharBoundary bytes k → j ≤ k → Many is_in_word (rest bytes j) (rest bytes k) → EndsWord (next (rest bytes k)) → Between PassesWord bytes i k

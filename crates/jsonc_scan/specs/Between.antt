@@ -1,25 +1,9 @@
--- What stands between two places of a text.
-use Rattle.std.specs.Prelude.{ℕ, ◌+◌, ◌≡◌, ◌≤◌, ◌<◌, Bool, List, ◌++◌, IsCharBoundary, IsTrue, ◌==◌, ◌||◌, ◌&&◌, nat_lt, not, chars, slice_range}
+-- Characters, words and block comments at places of a text.
+use Rattle.std.specs.Prelude.{ℕ, ◌+◌, ◌≡◌, ◌≤◌, ◌<◌, Bool, List, ◌++◌, IsCharBoundary, IsTrue, ◌==◌, ◌||◌, ◌&&◌, nat_lt, chars, slice_range}
 use Rattle.jsonc_text.specs.Gaps.{is_blank, HasNoEndInside}
-use Rattle.jsonc_text.specs.Text.{rest, next, no, starts, Many}
+use Rattle.jsonc_text.specs.Text.{next, starts, Many}
 use Rattle.jsonc_text.specs.Chars.{Steps}
 use Rattle.jsonc_text.specs.Words.{EndsThere, EndsWhole, EndsWord, begins_word, is_in_word}
-
--- from one place to another stands a piece such as R says
-pub record Between (R : List ℕ → List ℕ → Type 0) (bytes : List ℕ) (start end : ℕ) : Type 0 where
-  pub boundary : IsCharBoundary bytes end
-  pub order : start < end
-  pub piece : R (rest bytes start) (rest bytes end)
-
--- the same, where the piece may be empty
-pub record Reaches (R : List ℕ → List ℕ → Type 0) (bytes : List ℕ) (start end : ℕ) : Type 0 where
-  pub boundary : IsCharBoundary bytes end
-  pub order : start ≤ end
-  pub piece : R (rest bytes start) (rest bytes end)
-
--- no piece such as R says stands at a place
-abbrev pub NoneFrom : (List ℕ → List ℕ → Type 0) → List ℕ → ℕ → Type 0
-NoneFrom R bytes start = (r : List ℕ) → R (rest bytes start) r → ⊥
 
 -- a character of one byte that passes the test stands at a place
 abbrev pub HasAt : (ℕ → Bool) → List ℕ → ℕ → Type 0
@@ -28,10 +12,6 @@ HasAt p bytes place = (c : ℕ) × IsTrue (p c) × Steps bytes place c (place + 
 -- a character that passes the test stands from one place to another
 abbrev pub PassesOne : (ℕ → Bool) → List ℕ → ℕ → ℕ → Type 0
 PassesOne p bytes start end = (c : ℕ) × IsTrue (p c) × Steps bytes start c end × (start < end)
-
--- no character that passes the test stands at a place
-abbrev pub LacksAt : (ℕ → Bool) → List ℕ → ℕ → Type 0
-LacksAt p bytes place = IsTrue (no p (next (rest bytes place)))
 
 -- t is the text s, which ends there as a keyword does, and then r
 abbrev pub IsAlone : List ℕ → List ℕ → List ℕ → Type 0
@@ -50,10 +30,6 @@ pub record PassesWord (t r : List ℕ) : Type 0 where
 -- a character that may stand after a word
 abbrev pub may_follow_word : ℕ → Bool
 may_follow_word c = c == 0x3A || c == 0x20 || c == 0x09 || c == 0x0A || c == 0x0C || c == 0x0D || (nat_lt 0x7F c && is_blank c)
-
--- neither of two characters
-abbrev pub is_neither : ℕ → ℕ → ℕ → Bool
-is_neither a b c = not (c == a || c == b)
 
 -- the text of a block comment begins at a place, and its `*/` stands at another
 pub record HoldsBlock (bytes : List ℕ) (start close : ℕ) : Type 0 where

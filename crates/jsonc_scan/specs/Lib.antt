@@ -1,6 +1,4 @@
 pub mod Between
-pub mod Escapes
-pub mod Parsed
 pub mod Reads
 pub mod Refusals
 pub mod Scanner

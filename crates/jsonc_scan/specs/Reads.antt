@@ -1,18 +1,18 @@
 -- What a lexeme stands for, and where it was read.
-use Rattle.std.specs.Prelude.{ℕ, ◌+◌, ◌≡◌, ◌<◌, Bool, true, false, List, [], ◌∷◌, chars, codes, IsTrue, ◌==◌, ◌||◌, ◌&&◌}
+use Rattle.std.specs.Prelude.{ℕ, ◌+◌, ◌≡◌, Bool, true, false, List, [], ◌∷◌, chars, codes, IsTrue, ◌==◌, ◌||◌, ◌&&◌}
 use Rattle.jsonc_scan.specs.declared.lexeme.Lexeme.{Lexeme}
 use Rattle.jsonc_scan.specs.declared.lexeme.Lexeme.TheVariants.{Word, Boolean, Number, Null, CommentLine, CommentBlock}
 use Rattle.jsonc_scan.specs.declared.lexeme.Read.{Read}
 use Rattle.jsonc_scan.specs.declared.lexeme.Mark.{Mark}
 use Rattle.jsonc_scan.specs.declared.string.StringRead.{StringRead}
-use Rattle.jsonc_scan.specs.Escapes.{IsLentUnescaped}
+use Rattle.jsonc_string.specs.Escapes.{IsLentUnescaped}
 use Rattle.std.specs.Cow.{cow_str_bytes}
 use Rattle.jsonc_text.specs.Options.{Options}
 use Rattle.jsonc_text.specs.Lexemes.{Scanned, lexeme, line_comment, block_comment, punctuation, string, word, number, keyword, is_punctuation, Lexeme as IsLexeme, IsScanned}
 use Rattle.jsonc_text.specs.Words.{boolean, null}
-use Rattle.jsonc_scan.specs.Between.{Between, HasAt, NoneFrom, LacksAt, IsWhole, IsAlone}
+use Rattle.jsonc_string.specs.Between.{Between, NoneFrom, LacksAt}
+use Rattle.jsonc_scan.specs.Between.{HasAt, IsWhole, IsAlone}
 use Rattle.jsonc_text.specs.Chars.{Steps}
-use Rattle.jsonc_text.specs.Strings.{IsQuote}
 use Rattle.jsonc_text.specs.Numbers.{Fraction, Unsigned, is_x, Number as IsNumber}
 use Rattle.jsonc_text.specs.Text.{rest, next, starts, is_digit}
 
@@ -120,16 +120,6 @@ NoNameOrWord o bytes start = NoName o bytes start × NoWord o bytes start
 -- no lexeme and no comment stands at a place
 abbrev pub NothingAt : Options → List ℕ → ℕ → Type 0
 NothingAt o bytes start = (what : Scanned) → NoneFrom (IsScanned o what) bytes start
-
--- a quote that opens a string stands at a place
-pub record OpensString (o : Options) (bytes : List ℕ) (start quote : ℕ) : Type 0 where
-  pub allowed : IsQuote o quote
-  pub ascii : quote < 128
-  pub here : Steps bytes start quote (start + 1)
-
--- none does
-abbrev pub OpensNoString : Options → List ℕ → ℕ → Type 0
-OpensNoString o bytes start = LacksAt (λ c. c == 0x22 || (c == 0x27 && o.single_quoted_strings)) bytes start
 
 module _ {A : Type 0} where
   -- the string stands at a place, ends where it was read to, and was given away as it was kept

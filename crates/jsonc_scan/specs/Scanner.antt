@@ -9,7 +9,7 @@ use Rattle.jsonc_text.specs.Gaps.{is_blank}
 use Rattle.jsonc_text.specs.Lexemes.{Scanned, IsScanned}
 use Rattle.jsonc_text.specs.Tokens.{scanned_of}
 use Rattle.jsonc_scan.specs.Reads.{NothingAt}
-use Rattle.jsonc_scan.specs.Escapes.{IsLentUnescaped, HoldsBackslash}
+use Rattle.jsonc_string.specs.Escapes.{IsLentUnescaped, HoldsBackslash}
 use Rattle.jsonc_text.specs.declared.tokens.Token.TheVariants.{String}
 
 module _ {A : Type 0} where

@@ -4,12 +4,9 @@
 #![tactic(auto)]
 
 mod comment;
-mod decode;
-mod escape;
 mod faults;
 mod lexeme;
 mod number;
-pub mod provider;
 mod reads;
 pub mod scanner;
 mod stops;

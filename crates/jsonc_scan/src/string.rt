@@ -4,11 +4,12 @@ ghost use Rattle.std.specs.Cow.{cow_str_bytes, IsBorrowedStr, IsOwnedStr};
 ghost use Rattle.jsonc_text.specs.Faults.{IsFault, kind_of};
 ghost use Rattle.jsonc_text.specs.OptionsOf.{parse_options};
 ghost use Rattle.jsonc_text.specs.Text.{Spans};
-ghost use Rattle.jsonc_scan.specs.Escapes.{HoldsBackslash};
-ghost use Rattle.jsonc_scan.specs.Reads.{IsStringRead, NothingAt, OpensString};
+ghost use Rattle.jsonc_string.specs.Escapes.{HoldsBackslash};
+ghost use Rattle.jsonc_scan.specs.Reads.{IsStringRead, NothingAt};
+ghost use Rattle.jsonc_string.specs.Quotes.{OpensString};
 
-use crate::decode::decode_string;
-use crate::escape::{Literal, StringFault};
+use jsonc_string::decode::decode_string;
+use jsonc_string::escape::{Literal, StringFault};
 use jsonc_text::errors::{ParseError, ParseErrorKind, ParseStringErrorKind};
 use jsonc_text::options::ParseOptions;
 use std::alloc::{AllocError, Allocator};

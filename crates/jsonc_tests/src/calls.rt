@@ -15,7 +15,7 @@ use jsonc_parser::{
     CollectOptions, CommentCollectionStrategy, JsonValue, ParseOptions, ParseResult, Scanner,
     ScannerOptions, parse_to_ast, parse_to_value,
 };
-use jsonc_scan::provider::parse_string;
+use jsonc_string::provider::parse_string;
 use refusing::Refusing;
 use std::alloc::Global;
 use std::borrow::CowStr;

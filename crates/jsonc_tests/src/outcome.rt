@@ -4,7 +4,7 @@ use jsonc_engine::fault::Fault;
 use jsonc_parser::ParseStringErrorKind;
 use jsonc_parser::cst::EditError;
 use jsonc_parser::errors::{ParseError, ParseErrorKind};
-use jsonc_scan::provider::ParseStringError;
+use jsonc_string::provider::ParseStringError;
 use std::alloc::{AllocError, AllocFailed};
 
 /// What came of a call.

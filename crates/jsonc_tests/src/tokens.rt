@@ -2,7 +2,7 @@
 ghost use Rattle.std.specs.Prelude.{IsCharBoundary};
 
 use crate::outcome::Outcome;
-use jsonc_scan::provider::{CharProvider, parse_string_with_char_provider};
+use jsonc_string::provider::{CharProvider, parse_string_with_char_provider};
 use jsonc_text::chars::{char_at, char_end};
 use std::alloc::Allocator;
 

@@ -1,4 +1,4 @@
-use Rattle.jsonc_scan.proofs.Words.{char_spans}
+use Rattle.jsonc_string.proofs.Providers.{char_spans}
 use Rattle.jsonc_scan.proofs.faults.fault_at.Goals as goal
 
 pub fault-requires-clause-spans : goal.fault-requires-clause-spans

@@ -1,4 +1,4 @@
-use Rattle.jsonc_scan.proofs.ByteRuns.{block_found, no_block}
+use Rattle.jsonc_scan.proofs.BlockCloses.{block_found, no_block}
 use Rattle.jsonc_scan.proofs.stops.block_close.Goals as goal
 
 pub returns-then-bytes-place-clause-found : goal.returns-then-bytes-place-clause-found

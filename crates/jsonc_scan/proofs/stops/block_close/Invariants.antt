@@ -1,5 +1,5 @@
 use Rattle.std.proofs.Common.{◌-◌, ◌≡◌, length}
-use Rattle.jsonc_scan.proofs.ByteRuns.{NoClose}
+use Rattle.jsonc_scan.proofs.BlockCloses.{NoClose}
 use Rattle.jsonc_scan.proofs.stops.block_close.Given as goal
 
 abbrev pub invariant-loop-place : goal.invariant-loop-place

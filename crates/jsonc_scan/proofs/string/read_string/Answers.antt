@@ -1,7 +1,7 @@
 use Rattle.std.proofs.Common.{ap, sym, ◌∙◌, chars}
 use Rattle.jsonc_text.proofs.FaultLemmas.{out_of_memory_is_fault}
 use Rattle.jsonc_scan.proofs.NoLexemes.{string_nothing}
-use Rattle.jsonc_scan.proofs.QuotedStrings.{scanned_of_quoted, holds_more}
+use Rattle.jsonc_string.proofs.QuotedStrings.{scanned_of_quoted, holds_more}
 use Rattle.jsonc_scan.proofs.string.read_string.Goals as goal
 
 pub returns-in-Err-clause-none : goal.returns-in-Err-clause-none

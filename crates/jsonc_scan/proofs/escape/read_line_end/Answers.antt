@@ -1,8 +1,0 @@
-use Rattle.jsonc_scan.proofs.Escapes.{cr_lf_found, lone_cr_found, line_feed_after}
-use Rattle.jsonc_scan.proofs.escape.read_line_end.Goals as goal
-
-pub returns-then-c-eq10-clause-found : goal.returns-then-c-eq10-clause-found
-returns-then-c-eq10-clause-found c = cr_lf_found _ _ _ _ c.requires.backslash c.requires.cr c.in-Some.ensures.some c.if-c-eq10.true (line_feed_after _ _ c.if-c-eq10.true)
-
-pub returns-else-c-eq10-clause-found : goal.returns-else-c-eq10-clause-found
-returns-else-c-eq10-clause-found c = lone_cr_found _ _ _ _ c.requires.backslash c.requires.cr c.in-Some.ensures.some c.if-c-eq10.false

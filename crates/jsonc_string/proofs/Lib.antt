@@ -1,0 +1,5 @@
+pub mod ByteRuns
+pub mod Decoding
+pub mod Escapes
+pub mod Providers
+pub mod QuotedStrings

@@ -1,0 +1,16 @@
+use Rattle.std.proofs.Common.{refl, ◌+◌}
+use Rattle.jsonc_string.proofs.Decoding.{quoted_run, no_close_run, run_holds_none, before_quote}
+use Rattle.jsonc_string.proofs.decode.decode_string.Goals as goal
+
+pub returns-then-has_byte-clause-found : goal.returns-then-has_byte-clause-found
+returns-then-has_byte-clause-found g c = quoted_run _ _ _ _ _ _ c.utf8.text c.requires.opens c.stop_place-stop.ensures.passed c.range.ensures.value (c.if-has_byte.ensures.here refl)
+
+pub returns-then-has_byte-clause-lent : goal.returns-then-has_byte-clause-lent
+returns-then-has_byte-clause-lent g c = record {
+  copied = (λ b. absurd b, λ h. absurd (run_holds_none _ _ _ _ c.utf8.text c.requires.quote c.requires.opens c.stop_place-stop.ensures.passed (c.if-has_byte.ensures.here refl) h));
+  slice = λ b. before_quote c.args.text.now _ (c.args.literal.start + 1) c.stop_place-stop.result c.range.ensures.value;
+}
+
+pub returns-then-not-has_byte-clause-none : goal.returns-then-not-has_byte-clause-none
+returns-then-not-has_byte-clause-none g c = λ k.
+    no_close_run _ _ _ _ _ c.requires.quote c.requires.opens c.stop_place-stop.ensures.passed c.stop_place-stop.ensures.stops (c.if-has_byte.ensures.other refl) (c.if-not-has_byte.ensures.other refl)

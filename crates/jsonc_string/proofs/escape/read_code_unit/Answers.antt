@@ -1,0 +1,11 @@
+use Rattle.jsonc_string.proofs.Escapes.{no_unit, lone_low, low_of, alone_found, alone_left}
+use Rattle.jsonc_string.proofs.escape.read_code_unit.Goals as goal
+
+pub returns-in-Err-clause-none : goal.returns-in-Err-clause-none
+returns-in-Err-clause-none c = no_unit _ _ c.requires.backslash c.requires.u c.in-Err.ensures.none
+
+pub returns-then-unit-clause-none : goal.returns-then-unit-clause-none
+returns-then-unit-clause-none c = lone_low _ _ _ _ c.in-Ok.ensures.found (low_of c.in-Ok.unit.value c.if-unit.true)
+
+pub returns-clause-found : goal.returns-clause-found
+returns-clause-found c = alone_found _ _ _ _ _ c.in-Ok.ensures.found (alone_left c.in-Ok.unit.value c.if-unit.false c.if-unit-2.false) c.in-Some.ensures.value.1

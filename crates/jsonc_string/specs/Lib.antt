@@ -1,0 +1,4 @@
+pub mod Between
+pub mod Escapes
+pub mod Parsed
+pub mod Quotes
