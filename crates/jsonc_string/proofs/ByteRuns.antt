@@ -1,5 +1,5 @@
 -- Runs of bytes, and the characters that they are.
-use Rattle.std.proofs.Common.{ℕ, ◌+◌, ◌-◌, ◌<◌, ◌≤◌, ◌≡◌, ◌∙◌, sym, ap, subst, List, [], ◌∷◌, ◌++◌, length, get_or, arith, IsUtf8, IsTrue, Bool, true, false, not, IsCharBoundary, chars, encode_utf8, encode_utf8_all, slice_range, ◌⊎◌, inl, inr, length-append}
+use Rattle.std.proofs.Common.{ℕ, ◌+◌, ◌<◌, ◌≤◌, ◌≡◌, ◌∙◌, sym, ap, subst, List, [], ◌∷◌, ◌++◌, length, get_or, arith, IsUtf8, IsTrue, Bool, true, false, not, IsCharBoundary, chars, encode_utf8, encode_utf8_all, slice_range, ◌⊎◌, inl, inr, length-append}
 use Rattle.std.proofs.lemmas.Bool.{cases_lt}
 use Rattle.std.proofs.lemmas.List.{get_or-append-add}
 use Rattle.std.proofs.lemmas.List.Edits.{get_or-between, length-between}
