@@ -1,5 +1,5 @@
 -- Values of one content are equal.
-use Rattle.std.proofs.Common.{ℕ, ◌≡◌, ◌∙◌, ap, sym, Bool, true, false, cond, ◌&&◌, List, [], ◌∷◌, map, Option, Some, None, Bor, IsTrue, refl, subst, rules, nat_eq}
+use Rattle.std.proofs.Common.{ℕ, ◌≡◌, ◌∙◌, sym, Bool, true, false, cond, ◌&&◌, List, [], ◌∷◌, Option, Some, Bor, IsTrue, refl, subst, rules}
 use denote.RattleType.{RattleType}
 use mir.Syntax.{Dict}
 use denote.Hole.Carrier
