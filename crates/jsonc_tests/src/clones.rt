@@ -8,9 +8,19 @@ use std::default::Default;
 /// An object in which a name and a string own their texts.
 const OBJECT: &str = "{'l\\x61st': [true, 2.5, {}, null], first: 't\\x65xt'}";
 
-fn some_object<'h>(heap: Heap<'h>) -> Result<JsonObject<'static, Heap<'h>>, Outcome> {
+fn some_value<'h>(heap: Heap<'h>) -> Result<JsonValue<'static, Heap<'h>>, Outcome> {
     match parse_to_value(heap, OBJECT, &ParseOptions::default())? {
-        Some(JsonValue::Object(object)) => Ok(object),
+        Some(value) => Ok(value),
+        None => Err(Outcome::Other),
+    }
+}
+
+/// The object that a value is.
+fn object_of<'h>(
+    value: JsonValue<'static, Heap<'h>>,
+) -> Result<JsonObject<'static, Heap<'h>>, Outcome> {
+    match value {
+        JsonValue::Object(object) => Ok(object),
         _ => Err(Outcome::Other),
     }
 }
@@ -26,17 +36,14 @@ fn has_names(object: JsonObject<'static, Heap<'_>>, first: &str, second: &str) -
 }
 
 fn is_value_copied(heap: Heap<'_>) -> Result<bool, Outcome> {
-    let value = JsonValue::Object(some_object(heap)?);
+    let value = some_value(heap)?;
     let copy = value.try_clone()?;
     let is_equal = copy == value;
-    let JsonValue::Object(object) = copy else {
-        return Ok(false);
-    };
-    Ok(is_equal && has_names(object, "last", "first"))
+    Ok(is_equal && has_names(object_of(copy)?, "last", "first"))
 }
 
 fn are_parts_copied(heap: Heap<'_>) -> Result<bool, Outcome> {
-    let object = some_object(heap)?;
+    let object = object_of(some_value(heap)?)?;
     let is_equal = object.try_clone()? == object;
     let Some(array) = object.get_array("last") else {
         return Ok(false);
