@@ -35,10 +35,11 @@ def seconds(program, call, count, path):
 
 
 def calls(program, call, path):
-    """How many calls are long enough to be timed."""
-    count = 1
-    while (taken := seconds(program, call, count, path)[0] - seconds(program, call, 0, path)[0]) < LONG_ENOUGH:
-        count = max(2 * count, min(100 * count, int(1.2 * count * LONG_ENOUGH / max(taken, 1e-4))))
+    """How many calls are long enough to be timed, and no shorter than what the process does besides."""
+    count, besides = 1, seconds(program, call, 0, path)[0]
+    wanted = max(LONG_ENOUGH, besides)
+    while (taken := seconds(program, call, count, path)[0] - besides) < wanted:
+        count = max(2 * count, min(100 * count, int(1.2 * count * wanted / max(taken, 1e-4))))
     return count
 
 
@@ -63,6 +64,7 @@ def peak(program, path, preload):
 
 
 def has_value(program, path):
+    """Whether the program has the call `value`."""
     with open(path, 'rb') as text:
         return not subprocess.run([program, 'value', '0'], stdin=text, capture_output=True).returncode
 

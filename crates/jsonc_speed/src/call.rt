@@ -6,6 +6,7 @@ use jsonc_engine::fault::Fault;
 use jsonc_parser::cst::{CstRootNode, EditError};
 use jsonc_parser::{
     CollectOptions, CommentCollectionStrategy, ParseOptions, Scanner, ScannerOptions, parse_to_ast,
+    parse_to_value,
 };
 use std::alloc::Global;
 
@@ -20,6 +21,8 @@ pub enum Call {
     Ast,
     /// `parse_to_ast`, with tokens and the comments among them.
     Tokens,
+    /// `parse_to_value`.
+    Value,
     /// `CstRootNode::parse`.
     Document,
     /// `text` of a document that is parsed once.
@@ -36,6 +39,7 @@ impl Call {
             "scan" => Some(Call::Scan),
             "ast" => Some(Call::Ast),
             "tokens" => Some(Call::Tokens),
+            "value" => Some(Call::Value),
             "document" => Some(Call::Document),
             "print" => Some(Call::Print),
             "program" => Some(Call::Program),
@@ -64,6 +68,7 @@ impl Call {
             Call::Scan => scan(alloc, text),
             Call::Ast => ast(alloc, text),
             Call::Tokens => tokens(alloc, text),
+            Call::Value => value(alloc, text),
             Call::Document => document(alloc, text),
             Call::Program => program(alloc, text),
         }
@@ -114,6 +119,19 @@ fn tokens(alloc: Global, text: &str) -> Result<usize, Fault> {
             Some(tokens) => Ok(tokens.len()),
             None => Ok(0),
         },
+        Err(error) => Err(Fault::Input(error)),
+    }
+}
+
+/// 1 for a text with a value, 0 for one without.
+fn value(alloc: Global, text: &str) -> Result<usize, Fault> {
+    match parse_to_value(alloc, text, &ParseOptions::default()) {
+        Ok(found) => {
+            if found.is_some() {
+                return Ok(1);
+            }
+            Ok(0)
+        }
         Err(error) => Err(Fault::Input(error)),
     }
 }
