@@ -88,14 +88,14 @@ pub struct Array<'a, A: Allocator> {
 }
 
 /// An array of these elements.
-pub(crate) fn array_of<'a, A: Allocator>(range: Range, elements: Vec<Value<'a, A>, A>) -> Value<'a, A>
+pub fn array_of<'a, A: Allocator>(range: Range, elements: Vec<Value<'a, A>, A>) -> Value<'a, A>
     ensures { located result ≡ array_at range (items_located elements.entry.items) }
 {
     Value::Array(Array { range, elements })
 }
 
 /// An object of these properties.
-pub(crate) fn object_of<'a, A: Allocator>(
+pub fn object_of<'a, A: Allocator>(
     range: Range,
     properties: Vec<ObjectProp<'a, A>, A>,
 ) -> Value<'a, A>
@@ -105,7 +105,7 @@ pub(crate) fn object_of<'a, A: Allocator>(
 }
 
 /// A property of this name and value.
-pub(crate) fn property_of<'a, A: Allocator>(
+pub fn property_of<'a, A: Allocator>(
     range: Range,
     name: ObjectPropName<'a, A>,
     value: Value<'a, A>,
@@ -116,7 +116,7 @@ pub(crate) fn property_of<'a, A: Allocator>(
 }
 
 /// One element more.
-pub(crate) fn push_value<'a, A: Allocator>(
+pub fn push_value<'a, A: Allocator>(
     elements: &mut Vec<Value<'a, A>, A>,
     value: Value<'a, A>,
 ) -> Result<(), AllocError>
@@ -127,7 +127,7 @@ pub(crate) fn push_value<'a, A: Allocator>(
 }
 
 /// One property more.
-pub(crate) fn push_property<'a, A: Allocator>(
+pub fn push_property<'a, A: Allocator>(
     properties: &mut Vec<ObjectProp<'a, A>, A>,
     property: ObjectProp<'a, A>,
 ) -> Result<(), AllocError>
