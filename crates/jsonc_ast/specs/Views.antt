@@ -1,12 +1,11 @@
 -- What the values of `ast` stand for.
-use Rattle.std.specs.Prelude.{◌≡◌, List, [], ◌∷◌, ◌++◌, map, chars, Option, option_map}
+use Rattle.std.specs.Prelude.{◌≡◌, List, [], ◌∷◌, ◌++◌, map, chars}
 use Rattle.std.specs.Cow.{cow_str_bytes}
 use Rattle.jsonc_text.specs.declared.common.Range.{Range}
 use Rattle.jsonc_text.specs.Plain.{Plain, null, boolean, number, string}
 use Rattle.jsonc_ast.specs.Located.{Located, LocatedItems, LocatedMembers, LocatedName, leaf_at, array_at, object_at, no_items_at, item_at, no_members_at, member_at, value_at}
 use Rattle.jsonc_ast.specs.declared.ast.ObjectPropName.{ObjectPropName}
 use Rattle.jsonc_ast.specs.declared.ast.ObjectPropName.TheVariants.{String, Word}
-use Rattle.jsonc_ast.specs.declared.collect.ParseResult.{ParseResult}
 use Rattle.jsonc_ast.specs.declared.ast.Value.{Value, fold-Value}
 use Rattle.jsonc_ast.specs.declared.ast.ObjectProp.{ObjectProp, fold-ObjectProp}
 use Rattle.jsonc_ast.specs.declared.ast.Object.{Object, fold-Object}
@@ -72,13 +71,6 @@ members_located ms = members_of (map member_of ms)
 -- the plain value of a value
 abbrev pub plain : {A : Type 0} → Value A → Plain
 plain v = value_at (located v)
-
--- the values of a text's parse
-abbrev pub located_in : {A : Type 0} → ParseResult A → Option Located
-located_in r = option_map located r.value
-
-abbrev pub plain_in : {A : Type 0} → ParseResult A → Option Plain
-plain_in r = option_map plain r.value
 
 -- one more at the end, seen through f
 abbrev pub Grown : {X Y : Type 0} → (X → Y) → List X → List X → X → Type 0

@@ -2,9 +2,3 @@
 #![tactic(auto)]
 
 pub mod ast;
-pub mod collect;
-pub mod container;
-pub mod context;
-mod values;
-
-pub use values::parse_to_ast;

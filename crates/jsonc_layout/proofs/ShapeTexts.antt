@@ -20,7 +20,7 @@ use Rattle.jsonc_tree.specs.OrderedTree.{OrderedTree, none, more, printed}
 use Rattle.jsonc_tree.proofs.OrderedTrees.{printed-more}
 use Rattle.jsonc_tree.specs.Values as values
 use Rattle.jsonc_tree.specs.Values.{is_passed_over, HasNoValue, ItemsOf, MembersOf, HoldsValue}
-use Rattle.jsonc_ast.proofs.Gaps.{gap_append}
+use Rattle.jsonc_to_ast.proofs.Gaps.{gap_append}
 use Rattle.jsonc_layout.specs.Leaves.{is_inner_blank}
 use Rattle.jsonc_layout.specs.Lines.{is_line_comment, ends_line, LinesEnd}
 use Rattle.jsonc_layout.specs.Shape.{IsTrivia, Trivia, nothing, trivia, printed_text}

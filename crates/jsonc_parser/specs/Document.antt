@@ -1,7 +1,7 @@
 -- What a document is: its ordered tree, and what it prints.
 use Rattle.std.specs.Prelude.{ℕ, List, codes}
 use Rattle.jsonc_tree.specs.OrderedTree.{OrderedTree, ordered_tree, printed}
-pub use Rattle.jsonc_ast.specs.Refusals.{RefusesText}
+pub use Rattle.jsonc_to_ast.specs.Refusals.{RefusesText}
 use Rattle.jsonc_parser.specs.declared.cst.CstRootNode.{CstRootNode}
 use Rattle.jsonc_parser.specs.declared.cst.EditError.{EditError}
 use Rattle.jsonc_parser.specs.declared.cst.EditError.TheVariants.{OutOfMemory, MissingBrackets, MissingName, NoSuchPlace}

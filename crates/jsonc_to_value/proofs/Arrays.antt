@@ -7,8 +7,8 @@ use Rattle.jsonc_text.specs.Plain.{Plain, array, depth, items_depth, collapse, c
 use Rattle.jsonc_text.specs.Grammar.{IsValue, literal, empty_array, array as an_array, empty_object, object, AreElements, last_element, element, Separates, Closes}
 use Rattle.jsonc_text.proofs.Basics.{tails, apart}
 use Rattle.jsonc_text.proofs.UniqueValues.{no_literal, value_unique}
-use Rattle.jsonc_ast.specs.Refusals.{AtItem}
-use Rattle.jsonc_ast.proofs.NoValues.{elements_item}
+use Rattle.jsonc_to_ast.specs.Refusals.{AtItem}
+use Rattle.jsonc_to_ast.proofs.NoValues.{elements_item}
 use Rattle.jsonc_to_value.specs.Refusals.{NoValue}
 use Rattle.jsonc_to_value.specs.Views.{items_of}
 

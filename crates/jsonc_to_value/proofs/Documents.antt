@@ -10,12 +10,12 @@ use Rattle.jsonc_text.proofs.Steps.{rest_end}
 use Rattle.jsonc_text.proofs.UniqueValues.{value_unique}
 use Rattle.jsonc_scan.specs.Scanner.{StandsAt}
 use Rattle.jsonc_value.specs.declared.value.JsonValue.{JsonValue}
-use Rattle.jsonc_ast.specs.declared.context.Context.{Context}
-use Rattle.jsonc_ast.specs.Context.{text_in, options_in, token_start, token_end, Keeps, Finds, IsNoComment}
-use Rattle.jsonc_ast.specs.Refusals.{here, after, NoTokenAfter}
-use Rattle.jsonc_ast.proofs.NoValues.{value_lexeme}
-use Rattle.jsonc_ast.proofs.Refusals.{only_there, only_here, no_lexeme_at_end, lexeme_there}
-use Rattle.jsonc_ast.proofs.Scans.{moved, kept_on}
+use Rattle.jsonc_to_ast.specs.declared.context.Context.{Context}
+use Rattle.jsonc_to_ast.specs.Context.{text_in, options_in, token_start, token_end, Keeps, Finds, IsNoComment}
+use Rattle.jsonc_to_ast.specs.Refusals.{here, after, NoTokenAfter}
+use Rattle.jsonc_to_ast.proofs.NoValues.{value_lexeme}
+use Rattle.jsonc_to_ast.proofs.Refusals.{only_there, only_here, no_lexeme_at_end, lexeme_there}
+use Rattle.jsonc_to_ast.proofs.Scans.{moved, kept_on}
 use Rattle.jsonc_to_value.specs.Reads.{Reads, IsValueOf}
 use Rattle.jsonc_to_value.specs.Refusals.{NoValueHere, NoDocument}
 

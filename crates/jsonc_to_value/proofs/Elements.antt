@@ -6,14 +6,14 @@ use Rattle.jsonc_text.specs.Gaps.{Gap}
 use Rattle.jsonc_text.specs.Grammar.{IsValue, AreElements, Separates, Closes}
 use Rattle.jsonc_text.specs.Plain.{array, Items, no_items, items_depth, depth, collapse_items}
 use Rattle.jsonc_value.specs.declared.value.JsonValue.{JsonValue}
-use Rattle.jsonc_ast.specs.declared.container.Container.TheVariants.{Array}
-use Rattle.jsonc_ast.specs.declared.context.Context.{Context}
-use Rattle.jsonc_ast.specs.Context.{text_in, options_in, token_start, token_end, Keeps, IsBracket, Leads}
+use Rattle.jsonc_to_ast.specs.declared.container.Container.TheVariants.{Array}
+use Rattle.jsonc_to_ast.specs.declared.context.Context.{Context}
+use Rattle.jsonc_to_ast.specs.Context.{text_in, options_in, token_start, token_end, Keeps, IsBracket, Leads}
 use Rattle.jsonc_ast.specs.Located.{Ends}
-use Rattle.jsonc_ast.specs.Refusals.{LeadsNowhere, LeadsOnlyTo, here, after, NothingFirst, NothingNext, OnlyFirst, OnlyNext}
-use Rattle.jsonc_ast.proofs.Loops.{AtHand, leads_hand, leads_on}
-use Rattle.jsonc_ast.proofs.NoValues.{elements_item}
-use Rattle.jsonc_ast.proofs.Scans.{moved, kept_on}
+use Rattle.jsonc_to_ast.specs.Refusals.{LeadsNowhere, LeadsOnlyTo, here, after, NothingFirst, NothingNext, OnlyFirst, OnlyNext}
+use Rattle.jsonc_to_ast.proofs.Loops.{AtHand, leads_hand, leads_on}
+use Rattle.jsonc_to_ast.proofs.NoValues.{elements_item}
+use Rattle.jsonc_to_ast.proofs.Scans.{moved, kept_on}
 use Rattle.jsonc_to_value.specs.Reads.{Reads}
 use Rattle.jsonc_to_value.specs.Refusals.{NoValue, NoValueHere}
 use Rattle.jsonc_to_value.specs.Views.{plain, items_of, items_plain}

@@ -10,12 +10,12 @@ use Rattle.jsonc_text.specs.Plain.{Plain, depth, collapse}
 use Rattle.jsonc_text.specs.Tokens.{scanned_of}
 use Rattle.jsonc_text.specs.Words.{boolean, null}
 use Rattle.jsonc_value.specs.declared.value.JsonValue.{JsonValue}
-use Rattle.jsonc_ast.specs.declared.context.Context.{Context}
-use Rattle.jsonc_ast.specs.Context.{options_in, IsToken}
-use Rattle.jsonc_ast.specs.Refusals.{here, after, NoLiteral}
-use Rattle.jsonc_ast.specs.Scanned.{leaf_value}
-use Rattle.jsonc_ast.proofs.NoValues.{bracket_token, brace_token}
-use Rattle.jsonc_ast.proofs.Refusals.{one_token}
+use Rattle.jsonc_to_ast.specs.declared.context.Context.{Context}
+use Rattle.jsonc_to_ast.specs.Context.{options_in, IsToken}
+use Rattle.jsonc_to_ast.specs.Refusals.{here, after, NoLiteral}
+use Rattle.jsonc_to_ast.specs.Scanned.{leaf_value}
+use Rattle.jsonc_to_ast.proofs.NoValues.{bracket_token, brace_token}
+use Rattle.jsonc_to_ast.proofs.Refusals.{one_token}
 use Rattle.jsonc_to_value.specs.Reads.{Reads}
 use Rattle.jsonc_to_value.specs.Refusals.{NoValue, NoValueHere}
 use Rattle.jsonc_to_value.specs.Views.{plain}

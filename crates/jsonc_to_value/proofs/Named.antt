@@ -7,13 +7,13 @@ use Rattle.jsonc_text.specs.Text.{rest}
 use Rattle.jsonc_text.specs.Gaps.{Gap}
 use Rattle.jsonc_text.specs.Grammar.{IsValue, IsProperty, named}
 use Rattle.jsonc_value.specs.declared.value.JsonValue.{JsonValue}
-use Rattle.jsonc_ast.specs.declared.context.Context.{Context}
-use Rattle.jsonc_ast.specs.Context.{text_in, options_in, token_start, token_end, Keeps, Finds, IsNoComment, IsNameHere, PassesColon}
+use Rattle.jsonc_to_ast.specs.declared.context.Context.{Context}
+use Rattle.jsonc_to_ast.specs.Context.{text_in, options_in, token_start, token_end, Keeps, Finds, IsNoComment, IsNameHere, PassesColon}
 use Rattle.jsonc_ast.specs.Located.{LocatedName}
-use Rattle.jsonc_ast.specs.Refusals.{here, after, NoTokenAfter, NoColon, NoName}
-use Rattle.jsonc_ast.proofs.NoValues.{value_lexeme}
-use Rattle.jsonc_ast.proofs.Refusals.{only_here, nothing_at_end}
-use Rattle.jsonc_ast.proofs.Scans.{moved, kept_on}
+use Rattle.jsonc_to_ast.specs.Refusals.{here, after, NoTokenAfter, NoColon, NoName}
+use Rattle.jsonc_to_ast.proofs.NoValues.{value_lexeme}
+use Rattle.jsonc_to_ast.proofs.Refusals.{only_here, nothing_at_end}
+use Rattle.jsonc_to_ast.proofs.Scans.{moved, kept_on}
 use Rattle.jsonc_to_value.specs.Reads.{Reads, ReadsProperty}
 use Rattle.jsonc_to_value.specs.Refusals.{NoValue, NoValueHere, NoPropertyHere}
 use Rattle.jsonc_to_value.specs.Views.{name_of}

@@ -7,8 +7,8 @@ use Rattle.jsonc_text.specs.Plain.{Plain, object, depth, members_depth, Members,
 use Rattle.jsonc_text.specs.Grammar.{IsValue, literal, empty_array, array, empty_object, object as an_object, AreProperties, last_property, property, IsProperty, IsName, named, Separates, Closes}
 use Rattle.jsonc_text.proofs.Basics.{tails, apart}
 use Rattle.jsonc_text.proofs.UniqueValues.{gap_after, no_literal}
-use Rattle.jsonc_ast.specs.Refusals.{AtItem}
-use Rattle.jsonc_ast.proofs.NoValues.{properties_item, property_end, name_end}
+use Rattle.jsonc_to_ast.specs.Refusals.{AtItem}
+use Rattle.jsonc_to_ast.proofs.NoValues.{properties_item, property_end, name_end}
 use Rattle.jsonc_to_value.specs.Refusals.{NoValue, NoProperty}
 use Rattle.jsonc_to_value.proofs.Collapse.{push}
 

@@ -7,14 +7,14 @@ use Rattle.jsonc_text.specs.Gaps.{Gap}
 use Rattle.jsonc_text.specs.Grammar.{AreProperties, IsProperty, Separates, Closes}
 use Rattle.jsonc_text.specs.Plain.{object, Members, no_members, members_depth, depth, collapse_members}
 use Rattle.jsonc_value.specs.declared.value.JsonValue.{JsonValue}
-use Rattle.jsonc_ast.specs.declared.container.Container.TheVariants.{Object}
-use Rattle.jsonc_ast.specs.declared.context.Context.{Context}
-use Rattle.jsonc_ast.specs.Context.{text_in, options_in, token_start, token_end, Keeps, IsBracket, Leads}
+use Rattle.jsonc_to_ast.specs.declared.container.Container.TheVariants.{Object}
+use Rattle.jsonc_to_ast.specs.declared.context.Context.{Context}
+use Rattle.jsonc_to_ast.specs.Context.{text_in, options_in, token_start, token_end, Keeps, IsBracket, Leads}
 use Rattle.jsonc_ast.specs.Located.{Ends}
-use Rattle.jsonc_ast.specs.Refusals.{LeadsNowhere, LeadsOnlyTo, here, after, NothingFirst, NothingNext, OnlyFirst, OnlyNext}
-use Rattle.jsonc_ast.proofs.Loops.{AtHand, leads_hand, leads_on}
-use Rattle.jsonc_ast.proofs.NoValues.{properties_item}
-use Rattle.jsonc_ast.proofs.Scans.{moved, kept_on}
+use Rattle.jsonc_to_ast.specs.Refusals.{LeadsNowhere, LeadsOnlyTo, here, after, NothingFirst, NothingNext, OnlyFirst, OnlyNext}
+use Rattle.jsonc_to_ast.proofs.Loops.{AtHand, leads_hand, leads_on}
+use Rattle.jsonc_to_ast.proofs.NoValues.{properties_item}
+use Rattle.jsonc_to_ast.proofs.Scans.{moved, kept_on}
 use Rattle.jsonc_to_value.specs.Reads.{Reads, ReadsProperty}
 use Rattle.jsonc_to_value.specs.Refusals.{NoProperty, NoValueHere, NoPropertyHere}
 use Rattle.jsonc_to_value.specs.Views.{plain, name_of, inserted, members_plain}

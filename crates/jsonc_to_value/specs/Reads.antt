@@ -8,9 +8,9 @@ use Rattle.jsonc_text.specs.Text.{rest}
 use Rattle.jsonc_text.specs.Plain.{Plain, depth, collapse}
 use Rattle.jsonc_text.specs.Grammar.{IsValue, IsProperty, IsDocument}
 use Rattle.jsonc_value.specs.declared.value.JsonValue.{JsonValue}
-use Rattle.jsonc_ast.specs.declared.context.Context.{Context}
-use Rattle.jsonc_ast.specs.Context.{text_in, options_in, token_end}
-use Rattle.jsonc_ast.specs.Refusals.{here}
+use Rattle.jsonc_to_ast.specs.declared.context.Context.{Context}
+use Rattle.jsonc_to_ast.specs.Context.{text_in, options_in, token_end}
+use Rattle.jsonc_to_ast.specs.Refusals.{here}
 use Rattle.jsonc_to_value.specs.Views.{plain, name_of}
 use Rattle.jsonc_to_value.specs.Refusals.{IsWithin}
 

@@ -4,9 +4,9 @@ use Rattle.jsonc_text.specs.declared.errors.ParseError.{ParseError}
 use Rattle.jsonc_text.specs.Options.{Options}
 use Rattle.jsonc_text.specs.Plain.{Plain, depth}
 use Rattle.jsonc_text.specs.Grammar.{IsValue, IsProperty, IsDocument}
-use Rattle.jsonc_ast.specs.declared.context.Context.{Context}
-use Rattle.jsonc_ast.specs.Context.{options_in}
-use Rattle.jsonc_ast.specs.Refusals.{WantsMemory, here}
+use Rattle.jsonc_to_ast.specs.declared.context.Context.{Context}
+use Rattle.jsonc_to_ast.specs.Context.{options_in}
+use Rattle.jsonc_to_ast.specs.Refusals.{WantsMemory, here}
 
 -- no value stands at the front of t that can stand inside of so many containers
 abbrev pub NoValue : Options → List ℕ → ℕ → Type 0

@@ -1,11 +1,11 @@
 use Rattle.std.proofs.Common.{subst, inr}
 use Rattle.jsonc_text.specs.Grammar.{Separates, Closes}
-use Rattle.jsonc_ast.specs.Context.{options_in}
-use Rattle.jsonc_ast.specs.Refusals.{Tells}
+use Rattle.jsonc_to_ast.specs.Context.{options_in}
+use Rattle.jsonc_to_ast.specs.Refusals.{Tells}
 use Rattle.jsonc_ast.specs.Views.{name_at}
-use Rattle.jsonc_ast.proofs.Loops.{AtHand, smaller, leads_on}
-use Rattle.jsonc_ast.proofs.Refusals.{err_of, err_some, still}
-use Rattle.jsonc_ast.proofs.Scans.{kept_on}
+use Rattle.jsonc_to_ast.proofs.Loops.{AtHand, smaller, leads_on}
+use Rattle.jsonc_to_ast.proofs.Refusals.{err_of, err_some, still}
+use Rattle.jsonc_to_ast.proofs.Scans.{kept_on}
 use Rattle.jsonc_to_value.specs.Refusals.{NoValueHere, NoPropertyHere}
 use Rattle.jsonc_to_value.proofs.Elements as elements
 use Rattle.jsonc_to_value.proofs.Properties as properties

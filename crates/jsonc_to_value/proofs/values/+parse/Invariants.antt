@@ -1,5 +1,5 @@
 use Rattle.std.proofs.Common.{◌+◌, ◌-◌, ◌*◌, length}
-use Rattle.jsonc_ast.specs.Context.{text_in, token_start}
+use Rattle.jsonc_to_ast.specs.Context.{text_in, token_start}
 use Rattle.jsonc_to_value.proofs.Elements.{Elements}
 use Rattle.jsonc_to_value.proofs.Properties.{Properties}
 use Rattle.jsonc_to_value.proofs.values.+parse.Given as goal

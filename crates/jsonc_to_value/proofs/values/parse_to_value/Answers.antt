@@ -1,6 +1,6 @@
 use Rattle.std.proofs.Common.{Some, None, inr}
 use Rattle.jsonc_text.specs.OptionsOf.{parse_options}
-use Rattle.jsonc_ast.proofs.Refusals.{err_of, still}
+use Rattle.jsonc_to_ast.proofs.Refusals.{err_of, still}
 use Rattle.jsonc_to_value.specs.Reads.{IsValueOf}
 use Rattle.jsonc_to_value.specs.Refusals.{NoDocument, RefusesText}
 use Rattle.jsonc_to_value.proofs.Documents.{from_start, empty_document, value_document, document_no_token, document_no_value, document_no_end, document_goes_on}

@@ -3,7 +3,7 @@ use Rattle.jsonc_text.specs.Options.{Options}
 use Rattle.jsonc_text.specs.OptionsOf.{parse_options}
 use Rattle.jsonc_text.proofs.FaultLemmas.{out_of_memory_is_fault}
 use Rattle.jsonc_ast.specs.Located.{IsLocatedDocument, value_at}
-use Rattle.jsonc_ast.proofs.Grammar.{located_document}
+use Rattle.jsonc_to_ast.proofs.Grammar.{located_document}
 use Rattle.jsonc_layout.specs.Given.{located_in}
 use Rattle.jsonc_parser.proofs.Lent.{located_there}
 use Rattle.jsonc_parser.proofs.cst.CstRootNode.parse.Goals as goal

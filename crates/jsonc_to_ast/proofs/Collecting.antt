@@ -1,0 +1,176 @@
+-- What a parser collects on its way.
+use Rattle.std.proofs.Common.{ℕ, ◌+◌, ◌≡◌, ◌∙◌, sym, ap, subst, refl, arith, Bool, true, false, not, ◌||◌, List, [], ◌∷◌, ◌++◌, length, append_assoc, Option, Some, None, Result, Ok, Err, OnOk, IfSome, is_some, Vec, IsTrue, IsUtf8, IsCharBoundary, chars, slice_range}
+use Rattle.std.proofs.lemmas.List.{append-nil}
+use Rattle.std.proofs.lemmas.List.Elements.{filter-append}
+use Rattle.std.proofs.lemmas.Str.{IsUtf8-from_is_utf8}
+use Rattle.jsonc_text.specs.declared.tokens.Token.{Token}
+use Rattle.jsonc_text.specs.declared.tokens.TokenAndRange.{TokenAndRange}
+use Rattle.jsonc_text.specs.Gaps.{is_blank}
+use Rattle.jsonc_text.specs.Lexemes.{Scanned, IsScanned}
+use Rattle.jsonc_text.specs.Options.{Options}
+use Rattle.jsonc_text.specs.Places.{Placed, AreTokens, no_more, blank, one, is_comment}
+use Rattle.jsonc_text.specs.Text.{rest, byte_length, Many, stop, step, Spans}
+use Rattle.jsonc_text.specs.Tokens.{scanned_of}
+use Rattle.jsonc_text.proofs.Cuts.{byte_length-append, many_split, place_after, chars_between}
+use Rattle.jsonc_text.proofs.Steps.{rest_end}
+use Rattle.jsonc_scan.specs.declared.scanner.Scanner.{Scanner}
+use Rattle.jsonc_scan.specs.Scanner.{start_of, end_of, PassesBlanks, StandsAt, left}
+use Rattle.jsonc_to_ast.specs.declared.context.Context.{Context}
+use Rattle.jsonc_to_ast.specs.declared.collect.CommentCollectionStrategy.{CommentCollectionStrategy}
+use Rattle.jsonc_to_ast.specs.Collected.{takes_comments, taken, all_placed, collected, AreCollected, CollectsMore, Collects}
+use Rattle.jsonc_to_ast.specs.Context.{text_in, options_in, token_end, tokens_asked, Keeps}
+use Rattle.jsonc_to_ast.proofs.Gaps.{stands}
+
+-- blanks before tokens
+blanks_before : (o : Options) (r : List ℕ) (ts : List Placed) {s : List ℕ} (at : ℕ) → Many is_blank s [] → AreTokens o (at + byte_length s) r ts → AreTokens o at (s ++ r) ts
+blanks_before o r ts at stop h = let P : ℕ → Type 0 = λ i. AreTokens o i r ts in let e : at + byte_length [] ≡ at = omega arith in subst P e h
+blanks_before o r ts at (step {c = c} {t = s} b m) h =
+    let e : at + byte_length (c ∷ s) ≡ at + byte_length (c ∷ []) + byte_length s = omega (arith, byte_length-append (c ∷ []) s) in
+    let P : ℕ → Type 0 = λ i. AreTokens o i r ts in
+    blank b (blanks_before o r ts (at + byte_length (c ∷ [])) m (subst P e h))
+
+module _ (bytes : List ℕ) (u : IsUtf8 bytes) (o : Options) (ts : List Placed) where
+  -- the same, between two places
+  pub tokens_past_blanks : (i j : ℕ) → IsCharBoundary bytes i → IsCharBoundary bytes j → Many is_blank (rest bytes i) (rest bytes j) → AreTokens o j (rest bytes j) ts → AreTokens o i (rest bytes i) ts
+  tokens_past_blanks i j b d m h =
+      let part = many_split is_blank m in
+      let P : ℕ → Type 0 = λ k. AreTokens o k (rest bytes j) ts in
+      subst (λ t. AreTokens o i t ts) (sym part.1) (blanks_before o (rest bytes j) ts i part.2 (subst P (place_after bytes part.0 i j u b d part.1) h))
+
+  -- a lexeme or comment before tokens
+  pub tokens_past_one : (w : Scanned) (i j : ℕ) → Spans bytes i j → IsScanned o w (rest bytes i) (rest bytes j) → AreTokens o j (rest bytes j) ts → AreTokens o i (rest bytes i) (record { what = w; start = i; end = j } ∷ ts)
+  tokens_past_one w i j s x h =
+      let between = chars (slice_range bytes i j) in
+      let split : rest bytes i ≡ between ++ rest bytes j = chars_between bytes i j u s in
+      let after : j ≡ i + byte_length between = place_after bytes between i j u s.from s.to split in
+      let P : ℕ → Type 0 = λ k. AreTokens o k (rest bytes j) ts in
+      let Q : ℕ → Type 0 = λ k. AreTokens o i (rest bytes i) (record { what = w; start = i; end = k } ∷ ts) in
+      subst Q (sym after) (one w between x split (subst P after h))
+
+-- what of one token is taken
+pub taken_comment : (b : Bool) (p : Placed) → b ≡ true → taken b (p ∷ []) ≡ p ∷ []
+taken_comment b p e = rw e refl
+
+pub taken_lexeme : (b : Bool) (p : Placed) → is_comment p.what ≡ false → taken b (p ∷ []) ≡ p ∷ []
+taken_lexeme true p e = refl
+taken_lexeme false p e = rw e refl
+
+pub not_taken : (b : Bool) (p : Placed) → b ≡ false → is_comment p.what ≡ true → taken b (p ∷ []) ≡ []
+not_taken b p e f = rw (e, f) refl
+
+taken_append : (b : Bool) (ps qs : List Placed) → taken b (ps ++ qs) ≡ taken b ps ++ taken b qs
+taken_append b ps qs = filter-append (λ p. b || not (is_comment p.what)) ps qs
+
+-- a fact of a call that went well, and one that holds anyhow
+pub ok_is : {X E P : Type 0} (r : Result X E) → P → OnOk r P
+ok_is (Ok x) p = p
+ok_is (Err e) p = tt
+
+-- a fact of a call that went well leads to another
+pub ok_collects : {X E P Q : Type 0} (r : Result X E) → (P → Q) → OnOk r P → OnOk r Q
+ok_collects (Ok x) f h = f h
+ok_collects (Err e) f h = tt
+
+module _ {A : Type 0} where
+  utf8_of : (c : Context A) → IsUtf8 (text_in c)
+  utf8_of c = IsUtf8-from_is_utf8 (text_in c) c.utf8
+
+  -- nothing is passed
+  pub collects_same : (c : Context A) → Collects c c
+  collects_same c = record { passed = []; stand = λ ts h. h; more = λ asked. sym (append-nil (collected c)) }
+
+  pub collects_on : (a b c : Context A) → Keeps a b → Collects a b → Collects b c → Collects a c
+  collects_on a b c kept h k =
+      let P : Options → List ℕ → Type 0 = λ o t. (ts : List Placed) → AreTokens o (token_end c) (rest t (token_end c)) ts → AreTokens o (token_end b) (rest t (token_end b)) (k.passed ++ ts) in
+      let stand : P (options_in a) (text_in a) = subst (λ o. P o (text_in a)) kept.options (subst (λ t. P (options_in b) t) kept.text k.stand) in
+      record {
+        passed = h.passed ++ k.passed;
+        stand = λ ts all. subst (λ l. AreTokens (options_in a) (token_end a) (rest (text_in a) (token_end a)) l) (sym (append_assoc h.passed k.passed ts)) (h.stand (k.passed ++ ts) (stand ts all));
+        more = λ asked. more_on asked;
+      }
+    where
+      more_on : IsTrue (tokens_asked a) → collected c ≡ collected a ++ taken a.comments_are_tokens (h.passed ++ k.passed)
+      more_on asked =
+          let first = h.more asked in
+          let second = k.more (kept.tokens ∙ asked) in
+          let same : taken b.comments_are_tokens k.passed ≡ taken a.comments_are_tokens k.passed = ap (λ m. taken m k.passed) kept.comments in
+          second ∙ ap (λ l. collected b ++ l) same ∙ ap (λ l. l ++ taken a.comments_are_tokens k.passed) first
+          ∙ append_assoc (collected a) (taken a.comments_are_tokens h.passed) (taken a.comments_are_tokens k.passed)
+          ∙ ap (λ l. collected a ++ l) (sym (taken_append a.comments_are_tokens h.passed k.passed))
+
+  -- a turn of a loop
+  pub collects_turn : (a b c d : Context A) → Keeps a b → Collects a b → Keeps b c → Collects b c → Collects c d → Collects a d
+  collects_turn a b c d kept h on k l = collects_on a b d kept h (collects_on b c d on k l)
+
+  -- what stands where a scanner's token is
+  abbrev pub placed_here : Scanner A → Scanned → Placed
+  placed_here s w = record { what = w; start = start_of s; end = end_of s }
+
+  module _ (now new : Context A) (s : Scanner A) (blanks : PassesBlanks now.scanner s) (same : new.scanner ≡ s) where
+    past_blanks : (ts : List Placed) → AreTokens (options_in now) (start_of s) (rest (text_in now) (start_of s)) ts → AreTokens (options_in now) (token_end now) (rest (text_in now) (token_end now)) ts
+    past_blanks ts h =
+        let boundary = subst (λ b. IsCharBoundary b (start_of s)) blanks.text s.starts_at_place in
+        let m = subst (λ b. Many is_blank (left now.scanner) (rest b (start_of s))) blanks.text blanks.blanks in
+        tokens_past_blanks (text_in now) (utf8_of now) (options_in now) ts (token_end now) (start_of s) now.scanner.at_place boundary m h
+
+    past_one : (t : Token A) → StandsAt s (Some t) → (ts : List Placed) → AreTokens (options_in now) (token_end new) (rest (text_in now) (token_end new)) ts
+        → AreTokens (options_in now) (token_end now) (rest (text_in now) (token_end now)) (placed_here s (scanned_of t) ∷ ts)
+    past_one t at ts h =
+        let here = stands (text_in now) (options_in now) s t blanks.text blanks.options at in
+        let after = subst (λ x. AreTokens (options_in now) (end_of x) (rest (text_in now) (end_of x)) ts) same h in
+        past_blanks (placed_here s (scanned_of t) ∷ ts) (tokens_past_one (text_in now) (utf8_of now) (options_in now) ts (scanned_of t) (start_of s) (end_of s) here.spans here.stands after)
+
+    one_passed : (t : Token A) → StandsAt s (Some t) → CollectsMore now new (taken now.comments_are_tokens (placed_here s (scanned_of t) ∷ [])) → Collects now new
+    one_passed t at more = record { passed = placed_here s (scanned_of t) ∷ []; stand = past_one t at; more = more }
+
+  -- a token that is no comment, after blanks
+  pub collects_lexeme : (start now new : Context A) (s : Scanner A) (f : Option (Token A)) (t : Token A) → Keeps start now → Collects start now → PassesBlanks now.scanner s → new.scanner ≡ s → StandsAt s f → f ≡ Some t
+      → is_comment (scanned_of t) ≡ false → CollectsMore now new (placed_here s (scanned_of t) ∷ []) → Collects start new
+  collects_lexeme start now new s f t kept so_far blanks same at is lexeme more =
+      let p = placed_here s (scanned_of t) in
+      let here = taken_lexeme now.comments_are_tokens p lexeme in
+      collects_on start now new kept so_far (one_passed now new s blanks same t (subst (StandsAt s) is at) (λ asked. more asked ∙ ap (λ l. collected now ++ l) (sym here)))
+
+  -- a comment
+  pub collects_comment : (start now new : Context A) (s : Scanner A) (f : Option (Token A)) (t : Token A) → Keeps start now → Collects start now → PassesBlanks now.scanner s → new.scanner ≡ s → StandsAt s f → f ≡ Some t
+      → is_comment (scanned_of t) ≡ true → (now.comments_are_tokens ≡ true → CollectsMore now new (placed_here s (scanned_of t) ∷ [])) → (now.comments_are_tokens ≡ false → collected new ≡ collected now) → Collects start new
+  collects_comment start now new s f t kept so_far blanks same at is comment more none =
+      let p = placed_here s (scanned_of t) in
+      collects_on start now new kept so_far (one_passed now new s blanks same t (subst (StandsAt s) is at) (λ asked. either now.comments_are_tokens refl asked))
+    where
+      either : (b : Bool) → now.comments_are_tokens ≡ b → IsTrue (tokens_asked now) → collected new ≡ collected now ++ taken now.comments_are_tokens (placed_here s (scanned_of t) ∷ [])
+      either true e asked = more e asked ∙ ap (λ l. collected now ++ l) (sym (taken_comment now.comments_are_tokens (placed_here s (scanned_of t)) e))
+      either false e asked = none e ∙ sym (append-nil (collected now)) ∙ ap (λ l. collected now ++ l) (sym (not_taken now.comments_are_tokens (placed_here s (scanned_of t)) e comment))
+
+  -- blanks up to the end of the text
+  pub collects_end : (start now new : Context A) (s : Scanner A) (f : Option (Token A)) → Keeps start now → Collects start now → PassesBlanks now.scanner s → new.scanner ≡ s → StandsAt s f → f ≡ None
+      → collected new ≡ collected now → Collects start new
+  collects_end start now new s f kept so_far blanks same at is none =
+      let here = subst (StandsAt s) is at in
+      let e : token_end new ≡ start_of s = ap end_of same ∙ here.1 ∙ sym here.0 in
+      collects_on start now new kept so_far (record {
+        passed = [];
+        stand = λ ts h. past_blanks now new s blanks same ts (subst (λ k. AreTokens (options_in now) k (rest (text_in now) k) ts) e h);
+        more = λ asked. none ∙ sym (append-nil (collected now));
+      })
+
+  -- from the start of a text to its end
+  pub all_collected : (start end : Context A) (f : Option (Token A)) (o : Options) (bytes : List ℕ) (k : CommentCollectionStrategy) → text_in start ≡ bytes → options_in start ≡ o → token_end start ≡ 0 → start.comments_are_tokens ≡ takes_comments k → collected start ≡ []
+      → Keeps start end → Collects start end → StandsAt end.scanner f → f ≡ None → IfSome end.tokens (AreCollected o (chars bytes) k)
+  all_collected start end f o bytes k text options zero comments empty kept h at is = each end.tokens refl
+    where
+      last : token_end end ≡ length (text_in start)
+      last = (subst (StandsAt end.scanner) is at).1 ∙ ap length kept.text
+
+      none_left : AreTokens (options_in start) (token_end end) (rest (text_in start) (token_end end)) []
+      none_left = subst (λ t. AreTokens (options_in start) (token_end end) t []) (sym (rest_end (text_in start) (token_end end) (omega (arith, last)))) no_more
+
+      all : AreTokens o 0 (chars bytes) h.passed
+      all =
+          let whole = subst (λ l. AreTokens (options_in start) (token_end start) (rest (text_in start) (token_end start)) l) (append-nil h.passed) (h.stand [] none_left) in
+          let from = subst (λ i. AreTokens (options_in start) i (rest (text_in start) i) h.passed) zero whole in
+          subst (λ p. AreTokens p 0 (chars bytes) h.passed) options (subst (λ b. AreTokens (options_in start) 0 (rest b 0) h.passed) text from)
+
+      each : (tokens : Option (Vec (TokenAndRange A) A)) → end.tokens ≡ tokens → IfSome tokens (AreCollected o (chars bytes) k)
+      each None e = tt
+      each (Some v) e = (h.passed, all, sym (ap all_placed e) ∙ h.more (sym kept.tokens ∙ ap is_some e) ∙ ap (λ l. l ++ taken start.comments_are_tokens h.passed) empty ∙ ap (λ m. taken m h.passed) comments)

@@ -1,0 +1,30 @@
+use Rattle.std.proofs.Common.{inr, sym, ap, ◌∙◌}
+use Rattle.jsonc_to_ast.specs.Context.{options_in}
+use Rattle.jsonc_to_ast.specs.Refusals.{after}
+use Rattle.jsonc_to_ast.proofs.Refusals.{err_of, still, refuted, no_token_lexeme, nowhere_comma, nothing_at_end, only_after_comma, trailing_refused}
+use Rattle.jsonc_to_ast.proofs.context.Context.item_after_comma.Goals as goal
+
+pub returns-in_err-token-clause-refused : goal.returns-in_err-token-clause-refused
+returns-in_err-token-clause-refused g c =
+    let old = c.args.self.now in
+    err_of _ c.in_err-token.field-0.0 c.from_residual.result c.from_residual.ensures.1
+    (still (λ n. nowhere_comma (options_in old) c.args.container (after old) (no_token_lexeme old n)) c.in_err-token.ensures.refused)
+
+pub returns-in_default-clause-refused : goal.returns-in_default-clause-refused
+returns-in_default-clause-refused g c =
+    let old = c.args.self.now in
+    let read = c.in_ok-token.ensures in
+    inr (nowhere_comma (options_in old) c.args.container (after old) (nothing_at_end old c.scan.new.self c.in_ok-token.field-0 c.scan.ensures.kept read.found read.lexeme c.in_default.is))
+
+pub returns-then-not-is_closed_by-clause-only : goal.returns-then-not-is_closed_by-clause-only
+returns-then-not-is_closed_by-clause-only g c =
+    let read = c.in_ok-token.ensures in
+    only_after_comma c.args.self.now c.scan.new.self c.in_ok-token.field-0 c.scan.ensures.kept read.found read.lexeme c.in-Some.token c.in-Some.is c.args.container
+    (refuted c.is_closed_by.ensures.1 c.if-not-is_closed_by.true)
+
+pub returns-then-not-self-clause-refused : goal.returns-then-not-self-clause-refused
+returns-then-not-self-clause-refused g c =
+    let read = c.in_ok-token.ensures in
+    let new = c.scan.new.self in
+    inr (trailing_refused c.args.self.now new c.in_ok-token.field-0 c.scan.ensures.kept read.found read.lexeme c.in-Some.token c.in-Some.is c.args.container
+    (c.is_closed_by.ensures.0 c.if-not-is_closed_by.false) (ap (λ p. p.trailing_commas) (sym (new.same ∙ c.scan.ensures.kept.options)) ∙ c.if-not-self.true))

@@ -1,0 +1,22 @@
+use Rattle.std.proofs.Common.{◌≡◌, ◌∙◌, sym, ap, Some, None, chars}
+use Rattle.jsonc_text.specs.Tokens.{scanned_of}
+use Rattle.jsonc_to_ast.specs.Scanned.{loose_text}
+use Rattle.jsonc_to_ast.proofs.Names.{loose_name_here}
+use Rattle.jsonc_to_ast.proofs.Refusals.{name_refused, loose_refused, string_token}
+use Rattle.jsonc_to_ast.proofs.context.Context.name.Goals as goal
+
+pub returns-else-not-self : goal.returns-else-not-self
+returns-else-not-self g c =
+    let e : loose_text (scanned_of c.args.token) ≡ Some (chars c.in-Some.value.now) = cc c.in-Some.ensures in
+    record { name = loose_name_here c.args.self.now c.args.token c.requires (chars c.in-Some.value.now) c.if-not-self.false e; range = c.range-range.ensures; refused = tt; fault = tt }
+
+pub returns-in_default-loose_name-clause-refused : goal.returns-in_default-loose_name-clause-refused
+returns-in_default-loose_name-clause-refused g c =
+    let e : loose_text (scanned_of c.args.token) ≡ None = cc c.in_default-loose_name.ensures in
+    name_refused c.args.self.now c.args.token c.requires e (string_token c.args.token c.in_default.not-String)
+
+pub returns-then-not-self-clause-refused : goal.returns-then-not-self-clause-refused
+returns-then-not-self-clause-refused g c =
+    let context = c.args.self.now in
+    let e : loose_text (scanned_of c.args.token) ≡ Some (chars c.in-Some.value.now) = cc c.in-Some.ensures in
+    loose_refused context c.args.token c.requires (chars c.in-Some.value.now) e (ap (λ p. p.loose_names) (sym context.same) ∙ c.if-not-self.true)

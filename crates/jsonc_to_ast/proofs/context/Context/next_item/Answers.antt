@@ -1,0 +1,69 @@
+use Rattle.std.proofs.Common.{inr, sym, ap, ◌∙◌}
+use Rattle.jsonc_text.specs.Grammar.{plain, Closes}
+use Rattle.jsonc_to_ast.specs.Containers.{closing}
+use Rattle.jsonc_to_ast.specs.Context.{options_in}
+use Rattle.jsonc_to_ast.proofs.Scans.{closed, without_comma, after_comma}
+use Rattle.jsonc_to_ast.specs.Refusals.{after}
+use Rattle.jsonc_to_ast.proofs.Collecting.{collects_on, ok_collects}
+use Rattle.jsonc_to_ast.proofs.Refusals.{err_of, ok_some, err_some, still, refuted, no_token_lexeme, nowhere_next, nothing_at_end, nothing_next, next_after_comma, missing_refused, only_next}
+use Rattle.jsonc_to_ast.proofs.context.Context.next_item.Goals as goal
+
+pub returns-then-is_closed_by-clause-found : goal.returns-then-is_closed_by-clause-found
+returns-then-is_closed_by-clause-found g c =
+    closed c.args.self.now c.scan.new.self c.in_ok-token.field-0 c.in-Some.token (closing c.args.container) c.scan.ensures.kept c.in_ok-token.ensures.found c.in-Some.is
+    (Closes (options_in c.args.self.now) (closing c.args.container)) (λ t r g. plain g) (c.is_closed_by.ensures.0 c.if-is_closed_by.true)
+
+pub returns-then-is_comma-clause-found : goal.returns-then-is_comma-clause-found
+returns-then-is_comma-clause-found g c =
+    after_comma c.args.self.now c.scan.new.self c.item_after_comma.new.self c.in_ok-token.field-0 c.in-Some.token (closing c.args.container) c.item_after_comma.result c.scan.ensures.kept c.in_ok-token.ensures.found c.in-Some.is
+    (c.is_comma.ensures.0 c.if-is_comma.true) c.item_after_comma.ensures.found
+
+pub returns-clause-found : goal.returns-clause-found
+returns-clause-found g c =
+    without_comma c.args.self.now c.scan.new.self c.in_ok-token.field-0 c.in-Some.token 0 c.scan.ensures.kept c.in_ok-token.ensures.found c.in-Some.is c.if-not-self.false
+
+pub returns-in_err-token-clause-refused : goal.returns-in_err-token-clause-refused
+returns-in_err-token-clause-refused g c =
+    let old = c.args.self.now in
+    err_of _ c.in_err-token.field-0.0 c.from_residual.result c.from_residual.ensures.1
+    (still (λ n. nowhere_next (options_in old) c.args.container (after old) (no_token_lexeme old n)) c.in_err-token.ensures.refused)
+
+pub returns-in_default-clause-refused : goal.returns-in_default-clause-refused
+returns-in_default-clause-refused g c =
+    let old = c.args.self.now in
+    let read = c.in_ok-token.ensures in
+    inr (nowhere_next (options_in old) c.args.container (after old) (nothing_at_end old c.scan.new.self c.in_ok-token.field-0 c.scan.ensures.kept read.found read.lexeme c.in_default.is))
+
+pub returns-then-is_comma-clause-only : goal.returns-then-is_comma-clause-only
+returns-then-is_comma-clause-only g c =
+    let read = c.in_ok-token.ensures in
+    ok_some c.item_after_comma.result
+    (λ t. next_after_comma c.args.self.now c.scan.new.self c.in_ok-token.field-0 c.scan.ensures.kept read.found read.lexeme c.in-Some.token c.in-Some.is c.args.container (c.is_comma.ensures.0 c.if-is_comma.true) c.item_after_comma.new.self)
+    c.item_after_comma.ensures.only
+
+pub returns-then-is_comma-clause-refused : goal.returns-then-is_comma-clause-refused
+returns-then-is_comma-clause-refused g c =
+    let read = c.in_ok-token.ensures in
+    let old = c.args.self.now in
+    let new = c.scan.new.self in
+    err_some c.item_after_comma.result
+    (λ e. still (nothing_next old new c.in_ok-token.field-0 c.scan.ensures.kept read.found read.lexeme c.in-Some.token c.in-Some.is c.args.container (c.is_comma.ensures.0 c.if-is_comma.true)))
+    c.item_after_comma.ensures.refused
+
+pub returns-then-not-self-clause-refused : goal.returns-then-not-self-clause-refused
+returns-then-not-self-clause-refused g c =
+    let read = c.in_ok-token.ensures in
+    let new = c.scan.new.self in
+    inr (missing_refused c.args.self.now new c.in_ok-token.field-0 c.scan.ensures.kept read.found read.lexeme c.in-Some.token c.in-Some.is c.args.container
+    (refuted c.is_closed_by.ensures.1 c.if-is_closed_by.false) (refuted c.is_comma.ensures.1 c.if-is_comma.false)
+    (ap (λ p. p.missing_commas) (sym (new.same ∙ c.scan.ensures.kept.options)) ∙ c.if-not-self.true))
+
+pub returns-clause-only : goal.returns-clause-only
+returns-clause-only g c =
+    let read = c.in_ok-token.ensures in
+    only_next c.args.self.now c.scan.new.self c.in_ok-token.field-0 c.scan.ensures.kept read.found read.lexeme c.in-Some.token c.in-Some.is c.args.container
+    (refuted c.is_closed_by.ensures.1 c.if-is_closed_by.false) (refuted c.is_comma.ensures.1 c.if-is_comma.false)
+
+pub returns-then-is_comma-clause-collects : goal.returns-then-is_comma-clause-collects
+returns-then-is_comma-clause-collects g c =
+    ok_collects c.item_after_comma.result (collects_on c.args.self.now c.scan.new.self c.item_after_comma.new.self c.scan.ensures.kept c.in_ok-token.ensures.collects) c.item_after_comma.ensures.collects

@@ -1,0 +1,18 @@
+use Rattle.std.proofs.Common.{inr}
+use Rattle.jsonc_to_ast.proofs.Refusals.{err_of, still, refuted, no_token_colon, no_colon_at_end, no_colon}
+use Rattle.jsonc_to_ast.proofs.context.Context.pass_colon.Goals as goal
+
+pub returns-in_err-token-clause-refused : goal.returns-in_err-token-clause-refused
+returns-in_err-token-clause-refused g c =
+    err_of _ c.in_err-token.field-0.0 c.from_residual.result c.from_residual.ensures.1 (still (no_token_colon c.args.self.now) c.in_err-token.ensures.refused)
+
+pub returns-in_default-clause-refused : goal.returns-in_default-clause-refused
+returns-in_default-clause-refused g c =
+    let read = c.in_ok-token.ensures in
+    inr (no_colon_at_end c.args.self.now c.scan.new.self c.in_ok-token.field-0 c.scan.ensures.kept read.found read.lexeme c.in_default.is)
+
+pub returns-then-not-is_colon-clause-refused : goal.returns-then-not-is_colon-clause-refused
+returns-then-not-is_colon-clause-refused g c =
+    let read = c.in_ok-token.ensures in
+    inr (no_colon c.args.self.now c.scan.new.self c.in_ok-token.field-0 c.scan.ensures.kept read.found read.lexeme c.in-Some.token c.in-Some.is
+    (refuted c.is_colon.ensures.1 c.if-not-is_colon.true))

@@ -1,0 +1,225 @@
+use Rattle.std.proofs.Common.{◌+◌, ◌≤◌, ◌∙◌, ap, sym, subst, arith, map, inr}
+use Rattle.jsonc_text.specs.Plain.{around}
+use Rattle.jsonc_ast.specs.Located.{value_at}
+use Rattle.jsonc_to_ast.specs.Reads.{Reads}
+use Rattle.jsonc_ast.specs.Views.{located, member_of}
+use Rattle.jsonc_to_ast.proofs.Scans.{kept_on}
+use Rattle.jsonc_to_ast.proofs.Collecting.{ok_is, collects_same, collects_turn}
+use Rattle.jsonc_to_ast.proofs.Loops.{AtHand, start_spans, smaller, leads_on, elements_start, elements_turn, elements_whole}
+use Rattle.jsonc_to_ast.proofs.Properties.{properties_start, properties_turn, properties_whole}
+use Rattle.jsonc_to_ast.proofs.NoValues.{ElementsLeft, PropertiesLeft, elements_left_start, elements_left_turn, properties_left_start, properties_left_turn, leaf_nowhere, nothing_in_array, nothing_in_object, element_refused, nesting_refused, next_element_refused, property_refused, next_property_refused, name_missing, colon_missing, no_token_for_value, end_for_value, value_refused}
+use Rattle.jsonc_text.specs.Grammar.{Separates, Closes}
+use Rattle.jsonc_to_ast.specs.Context.{options_in}
+use Rattle.jsonc_ast.specs.Views.{name_at}
+use Rattle.jsonc_to_ast.proofs.Refusals.{err_of, err_some, still}
+use Rattle.jsonc_to_ast.specs.Refusals.{NoPropertyHere, NoValueHere, Tells}
+use Rattle.jsonc_to_ast.proofs.values.+parse.Goals as goal
+
+pub parse_array-loop-next-init : goal.parse_array-loop-next-init
+parse_array-loop-next-init g t c =
+    let read = c.in_ok-next.ensures in record {
+      so_far = elements_start c.args.context.now c.first_item.new.self c.in_ok-next.next (map located c.new-elements.result.items) c.args.count (ap (map located) c.new-elements.ensures.items)
+          c.first_item.ensures.kept read.found c.requires.around;
+      left = elements_left_start c.args.context.now c.first_item.new.self c.in_ok-next.next c.args.count c.requires.token c.first_item.ensures.kept read.only;
+      collects = read.collects;
+    }
+
+pub parse_array-check_nesting-requires : goal.parse_array-check_nesting-requires
+parse_array-check_nesting-requires g t c =
+    let inv = c.loop-next.invariant.so_far in
+    let now = c.loop-next.context in
+    start_spans c.args.context.now now c.token_start-start.result c.token_start-start.ensures inv.kept (omega (arith, inv.on, now.scanner.order))
+
+pub parse_array-next_item-requires : goal.parse_array-next_item-requires
+parse_array-next_item-requires g t c =
+    let inv = c.loop-next.invariant.so_far in
+    let now = c.loop-next.context in
+    let read = c.in_ok-value.ensures in
+    start_spans c.args.context.now c.parse_value.new.context c.token_start-start.result c.token_start-start.ensures (kept_on c.args.context.now now c.parse_value.new.context inv.kept read.kept) (omega (arith, inv.on, now.scanner.order, read.found.on))
+
+pub parse_array-loop-next-smaller : goal.parse_array-loop-next-smaller
+parse_array-loop-next-smaller g t c =
+    let now = c.loop-next.context in
+    let mid = c.parse_value.new.context in
+    let read = c.in_ok-value.ensures in
+    smaller now mid c.next_item.new.self c.in-Some.token (subst (AtHand 0x5D now) c.in-Some.is c.loop-next.invariant.so_far.hand) (kept_on now mid c.next_item.new.self read.kept c.next_item.ensures.kept) read.found.on
+    (leads_on (Separates (options_in mid)) (Closes (options_in mid) 0x5D) 0x5D mid c.next_item.new.self c.in_ok-next-2.next c.in_ok-next-2.ensures.found)
+
+pub parse_array-loop-next-preserved : goal.parse_array-loop-next-preserved
+parse_array-loop-next-preserved g t c =
+    let read = c.in_ok-value.ensures in
+    let old = c.args.context.now in
+    let now = c.loop-next.context in
+    let inv = c.loop-next.invariant in record {
+      so_far = elements_turn old now c.parse_value.new.context c.next_item.new.self c.loop-next.next c.in_ok-next-2.next c.in-Some.token (located c.in_ok-value.value)
+          (map located c.loop-next.elements.items) (map located c.push_value.new.elements.items) c.args.count
+          inv.so_far c.in-Some.is read.kept read.found c.next_item.ensures.kept c.in_ok-next-2.ensures.found c.in-Ok.ensures read.within;
+      left = elements_left_turn old now inv.so_far.kept c.in-Some.token c.args.count (subst (λ n. ElementsLeft old now n c.args.count) c.in-Some.is inv.left)
+          c.parse_value.new.context (located c.in_ok-value.value) read.kept read.found c.next_item.new.self c.in_ok-next-2.next c.next_item.ensures.kept c.in_ok-next-2.ensures.only;
+      collects = collects_turn old now c.parse_value.new.context c.next_item.new.self inv.so_far.kept inv.collects read.kept read.collects c.in_ok-next-2.ensures.collects;
+    }
+
+pub parse_array-returns-clause-found : goal.parse_array-returns-clause-found
+parse_array-returns-clause-found g t c =
+    let whole = elements_whole c.args.context.now c.loop-next.context c.loop-next.next (map located c.loop-next.elements.items) c.args.count c.new.result c.loop-next.invariant.so_far c.in_default.is c.requires.token
+    (c.new.ensures.start ∙ c.token_start-start.ensures) (c.new.ensures.end ∙ c.token_end.ensures) in
+    subst (λ x. Reads c.args.context.now c.loop-next.context x) (sym c.array_of.ensures) whole
+
+pub parse_object-loop-next-init : goal.parse_object-loop-next-init
+parse_object-loop-next-init g t c =
+    let read = c.in_ok-next.ensures in record {
+      so_far = properties_start c.args.context.now c.first_item.new.self c.in_ok-next.next (map member_of c.new-properties.result.items) c.args.count (ap (map member_of) c.new-properties.ensures.items)
+          c.first_item.ensures.kept read.found c.requires.around;
+      left = properties_left_start c.args.context.now c.first_item.new.self c.in_ok-next.next c.args.count c.requires.token c.first_item.ensures.kept read.only;
+      collects = read.collects;
+    }
+
+pub parse_object-next_item-requires : goal.parse_object-next_item-requires
+parse_object-next_item-requires g t c =
+    let inv = c.loop-next.invariant.so_far in
+    let now = c.loop-next.context in
+    let read = c.in_ok-property.ensures in
+    start_spans c.args.context.now c.parse_property.new.context c.token_start-start.result c.token_start-start.ensures (kept_on c.args.context.now now c.parse_property.new.context inv.kept read.kept) (omega (arith, inv.on, now.scanner.order, read.found.on))
+
+pub parse_object-loop-next-smaller : goal.parse_object-loop-next-smaller
+parse_object-loop-next-smaller g t c =
+    let now = c.loop-next.context in
+    let mid = c.parse_property.new.context in
+    let read = c.in_ok-property.ensures in
+    smaller now mid c.next_item.new.self c.in-Some.token (subst (AtHand 0x7D now) c.in-Some.is c.loop-next.invariant.so_far.hand) (kept_on now mid c.next_item.new.self read.kept c.next_item.ensures.kept) read.found.on
+    (leads_on (Separates (options_in mid)) (Closes (options_in mid) 0x7D) 0x7D mid c.next_item.new.self c.in_ok-next-2.next c.in_ok-next-2.ensures.found)
+
+pub parse_object-loop-next-preserved : goal.parse_object-loop-next-preserved
+parse_object-loop-next-preserved g t c =
+    let read = c.in_ok-property.ensures in
+    let small : around (value_at (member_of c.in_ok-property.property).value) + (c.args.count + 2) ≤ 512 = omega (arith, read.within) in
+    let old = c.args.context.now in
+    let now = c.loop-next.context in
+    let inv = c.loop-next.invariant in record {
+      so_far = properties_turn old now c.parse_property.new.context c.next_item.new.self c.loop-next.next c.in_ok-next-2.next c.in-Some.token (member_of c.in_ok-property.property)
+          (map member_of c.loop-next.properties.items) (map member_of c.push_property.new.properties.items) c.args.count
+          inv.so_far c.in-Some.is read.kept read.found c.next_item.ensures.kept c.in_ok-next-2.ensures.found c.in-Ok.ensures small;
+      left = properties_left_turn old now inv.so_far.kept c.in-Some.token c.args.count (subst (λ n. PropertiesLeft old now n c.args.count) c.in-Some.is inv.left)
+          c.parse_property.new.context (member_of c.in_ok-property.property) read.kept read.found c.next_item.new.self c.in_ok-next-2.next c.next_item.ensures.kept c.in_ok-next-2.ensures.only;
+      collects = collects_turn old now c.parse_property.new.context c.next_item.new.self inv.so_far.kept inv.collects read.kept read.collects c.in_ok-next-2.ensures.collects;
+    }
+
+pub parse_object-returns-clause-found : goal.parse_object-returns-clause-found
+parse_object-returns-clause-found g t c =
+    let whole = properties_whole c.args.context.now c.loop-next.context c.loop-next.next (map member_of c.loop-next.properties.items) c.args.count c.new.result c.loop-next.invariant.so_far c.in_default.is c.requires.token
+    (c.new.ensures.start ∙ c.token_start-start.ensures) (c.new.ensures.end ∙ c.token_end.ensures) in
+    subst (λ x. Reads c.args.context.now c.loop-next.context x) (sym c.object_of.ensures) whole
+
+pub parse_array-returns-in_err-next-clause-refused : goal.parse_array-returns-in_err-next-clause-refused
+parse_array-returns-in_err-next-clause-refused g t c =
+    err_of (Tells (NoValueHere c.args.context.now c.args.count)) c.in_err-next.field-0.0 c.from_residual.result c.from_residual.ensures.1 (still (nothing_in_array c.args.context.now c.args.count c.requires.token) c.in_err-next.ensures.refused)
+
+pub parse_array-returns-in_err-check_nesting-clause-refused : goal.parse_array-returns-in_err-check_nesting-clause-refused
+parse_array-returns-in_err-check_nesting-clause-refused g t c =
+    let old = c.args.context.now in
+    let now = c.loop-next.context in
+    let inv = c.loop-next.invariant in
+    let left = subst (λ n. ElementsLeft old now n c.args.count) c.in-Some.is inv.left in
+    err_of (Tells (NoValueHere c.args.context.now c.args.count)) c.in_err-check_nesting.field-0.0 c.from_residual-in_err-check_nesting.result c.from_residual-in_err-check_nesting.ensures.1 (inr (nesting_refused old now inv.so_far.kept c.in-Some.token c.args.count left c.in_err-check_nesting.ensures.refused))
+
+pub parse_array-returns-in_err-value-clause-refused : goal.parse_array-returns-in_err-value-clause-refused
+parse_array-returns-in_err-value-clause-refused g t c =
+    let old = c.args.context.now in
+    let now = c.loop-next.context in
+    let inv = c.loop-next.invariant in
+    let left = subst (λ n. ElementsLeft old now n c.args.count) c.in-Some.is inv.left in
+    let e = c.in_err-value.field-0.0 in
+    err_of (Tells (NoValueHere c.args.context.now c.args.count)) e c.from_residual-in_err-value.result c.from_residual-in_err-value.ensures.1 (still (element_refused old now inv.so_far.kept c.in-Some.token c.args.count left) c.in_err-value.ensures.refused)
+
+pub parse_array-returns-in_err-next-2-clause-refused : goal.parse_array-returns-in_err-next-2-clause-refused
+parse_array-returns-in_err-next-2-clause-refused g t c =
+    let old = c.args.context.now in
+    let now = c.loop-next.context in
+    let inv = c.loop-next.invariant in
+    let left = subst (λ n. ElementsLeft old now n c.args.count) c.in-Some.is inv.left in
+    let mid = c.parse_value.new.context in
+    let read = c.in_ok-value.ensures in
+    let e = c.in_err-next-2.field-0.0 in
+    err_of (Tells (NoValueHere c.args.context.now c.args.count)) e c.from_residual-in_err-next-2.result c.from_residual-in_err-next-2.ensures.1
+    (still
+    (next_element_refused old now inv.so_far.kept c.in-Some.token c.args.count left mid (located c.in_ok-value.value) read.kept read.found) c.in_err-next-2.ensures.refused)
+
+pub parse_object-returns-in_err-next-clause-refused : goal.parse_object-returns-in_err-next-clause-refused
+parse_object-returns-in_err-next-clause-refused g t c =
+    err_of (Tells (NoValueHere c.args.context.now c.args.count)) c.in_err-next.field-0.0 c.from_residual.result c.from_residual.ensures.1 (still (nothing_in_object c.args.context.now c.args.count c.requires.token) c.in_err-next.ensures.refused)
+
+pub parse_object-returns-in_err-property-clause-refused : goal.parse_object-returns-in_err-property-clause-refused
+parse_object-returns-in_err-property-clause-refused g t c =
+    let old = c.args.context.now in
+    let now = c.loop-next.context in
+    let inv = c.loop-next.invariant in
+    let left = subst (λ n. PropertiesLeft old now n c.args.count) c.in-Some.is inv.left in
+    let e = c.in_err-property.field-0.0 in
+    err_of (Tells (NoValueHere c.args.context.now c.args.count)) e c.from_residual-in_err-property.result c.from_residual-in_err-property.ensures.1 (still (property_refused old now inv.so_far.kept c.in-Some.token c.args.count left) c.in_err-property.ensures.refused)
+
+pub parse_object-returns-in_err-next-2-clause-refused : goal.parse_object-returns-in_err-next-2-clause-refused
+parse_object-returns-in_err-next-2-clause-refused g t c =
+    let old = c.args.context.now in
+    let now = c.loop-next.context in
+    let inv = c.loop-next.invariant in
+    let left = subst (λ n. PropertiesLeft old now n c.args.count) c.in-Some.is inv.left in
+    let mid = c.parse_property.new.context in
+    let read = c.in_ok-property.ensures in
+    let e = c.in_err-next-2.field-0.0 in
+    err_of (Tells (NoValueHere c.args.context.now c.args.count)) e c.from_residual-in_err-next-2.result c.from_residual-in_err-next-2.ensures.1
+    (still
+    (next_property_refused old now inv.so_far.kept c.in-Some.token c.args.count left mid (member_of c.in_ok-property.property) read.kept read.found) c.in_err-next-2.ensures.refused)
+
+pub parse_property-returns-in_err-name-clause-refused : goal.parse_property-returns-in_err-name-clause-refused
+parse_property-returns-in_err-name-clause-refused g t c =
+    err_of (Tells (NoPropertyHere c.args.context.now c.args.count)) c.in_err-name.field-0.0 c.from_residual.result c.from_residual.ensures.1 (inr (name_missing c.args.context.now c.args.count c.in_err-name.ensures.refused))
+
+pub parse_property-returns-in_err-pass_colon-clause-refused : goal.parse_property-returns-in_err-pass_colon-clause-refused
+parse_property-returns-in_err-pass_colon-clause-refused g t c =
+    err_of (Tells (NoPropertyHere c.args.context.now c.args.count)) c.in_err-pass_colon.field-0.0 c.from_residual-in_err-pass_colon.result c.from_residual-in_err-pass_colon.ensures.1
+    (still (colon_missing c.args.context.now (name_at c.in_ok-name.name) c.args.count c.in_ok-name.ensures.name) c.in_err-pass_colon.ensures.refused)
+
+pub parse_property-returns-in_err-found-clause-refused : goal.parse_property-returns-in_err-found-clause-refused
+parse_property-returns-in_err-found-clause-refused g t c =
+    let old = c.args.context.now in
+    let mid = c.pass_colon.new.self in
+    let name = c.in_ok-name.ensures.name in
+    let colon = c.in_ok-pass_colon.ensures in
+    let e = c.in_err-found.field-0.0 in
+    err_of (Tells (NoPropertyHere c.args.context.now c.args.count)) e c.from_residual-in_err-found.result c.from_residual-in_err-found.ensures.1
+    (still (no_token_for_value old mid (name_at c.in_ok-name.name) c.args.count name colon.kept colon.found) c.in_err-found.ensures.refused)
+
+pub parse_property-returns-in_default-clause-refused : goal.parse_property-returns-in_default-clause-refused
+parse_property-returns-in_default-clause-refused g t c =
+    let old = c.args.context.now in
+    let mid = c.pass_colon.new.self in
+    let name = c.in_ok-name.ensures.name in
+    let colon = c.in_ok-pass_colon.ensures in
+    let found = c.in_ok-found.ensures in
+    inr (end_for_value old mid (name_at c.in_ok-name.name) c.args.count name colon.kept colon.found c.scan.new.self c.in_ok-found.found found.kept found.found found.lexeme c.in_default.is)
+
+pub parse_property-returns-in_err-value-clause-refused : goal.parse_property-returns-in_err-value-clause-refused
+parse_property-returns-in_err-value-clause-refused g t c =
+    let old = c.args.context.now in
+    let mid = c.pass_colon.new.self in
+    let name = c.in_ok-name.ensures.name in
+    let colon = c.in_ok-pass_colon.ensures in
+    let found = c.in_ok-found.ensures in
+    let at = c.scan.new.self in
+    let e = c.in_err-value.field-0.0 in
+    err_of (Tells (NoPropertyHere c.args.context.now c.args.count)) e c.from_residual-in_err-value.result c.from_residual-in_err-value.ensures.1
+    (still
+    (value_refused old mid (name_at c.in_ok-name.name) c.args.count name colon.kept colon.found at c.in_ok-found.found found.kept found.found found.lexeme) c.in_err-value.ensures.refused)
+
+pub parse_value-returns-in_default-clause-refused : goal.parse_value-returns-in_default-clause-refused
+parse_value-returns-in_default-clause-refused g t c =
+    err_some c.parse_leaf.result (λ e n. inr (leaf_nowhere c.args.context.now c.args.token c.args.count c.requires.token c.in_default.not-OpenBracket c.in_default.not-OpenBrace n)) c.parse_leaf.ensures.refused
+
+pub parse_property-returns-clause-collects : goal.parse_property-returns-clause-collects
+parse_property-returns-clause-collects g t c =
+    let colon = c.in_ok-pass_colon.ensures in
+    let found = c.in_ok-found.ensures in
+    collects_turn c.args.context.now c.pass_colon.new.self c.scan.new.self c.parse_value.new.context colon.kept colon.collects found.kept found.collects c.in_ok-value.ensures.collects
+
+pub parse_value-returns-in_default-clause-collects : goal.parse_value-returns-in_default-clause-collects
+parse_value-returns-in_default-clause-collects g t c = ok_is c.parse_leaf.result (collects_same c.args.context.now)

@@ -1,0 +1,92 @@
+-- What a parser has before it.
+use Rattle.std.specs.Prelude.{ℕ, ◌≡◌, ◌≤◌, Bool, false, List, Option, Some, None, is_some}
+use Rattle.jsonc_text.specs.declared.common.Range.{Range}
+use Rattle.jsonc_text.specs.declared.tokens.Token.{Token}
+use Rattle.jsonc_text.specs.Options.{Options}
+use Rattle.jsonc_text.specs.Places.{is_comment}
+use Rattle.jsonc_text.specs.Tokens.{scanned_of}
+use Rattle.jsonc_scan.specs.Scanner.{text_of, start_of, end_of, options_of, StandsAt}
+use Rattle.jsonc_text.specs.Gaps.{Gap}
+use Rattle.jsonc_text.specs.Grammar.{IsName, Separates, Closes}
+use Rattle.jsonc_to_ast.specs.declared.container.Container.{Container}
+use Rattle.jsonc_to_ast.specs.declared.context.Context.{Context}
+use Rattle.jsonc_to_ast.specs.Containers.{closing}
+use Rattle.jsonc_ast.specs.Located.{LocatedName, Between, In, One, Ends, TrailingComma}
+
+module _ {A : Type 0} where
+  -- the bytes of the whole text
+  abbrev pub text_in : Context A → List ℕ
+  text_in c = text_of c.scanner
+
+  -- what the text may hold
+  abbrev pub options_in : Context A → Options
+  options_in c = options_of c.scanner
+
+  -- the place where the last token began
+  abbrev pub token_start : Context A → ℕ
+  token_start c = start_of c.scanner
+
+  -- the place where it ended: what comes after it is still to be parsed
+  abbrev pub token_end : Context A → ℕ
+  token_end c = end_of c.scanner
+
+  -- from the one to the other
+  abbrev pub token_range : Context A → Range
+  token_range c = record { start = token_start c; end = token_end c }
+
+  -- whether tokens are collected
+  abbrev pub tokens_asked : Context A → Bool
+  tokens_asked c = is_some c.tokens
+
+  -- the token is the last one
+  abbrev pub IsToken : Context A → Token A → Type 0
+  IsToken c t = StandsAt c.scanner (Some t)
+
+  -- it is none, or a lexeme
+  abbrev pub IsNoComment : Option (Token A) → Type 0
+  IsNoComment None = Unit {0}
+  IsNoComment (Some t) = is_comment (scanned_of t) ≡ false
+
+  -- the text and the options stay, and whether tokens are collected, and comments among them
+  pub record Keeps (old new : Context A) : Type 0 where
+    pub text : text_in new ≡ text_in old
+    pub options : options_in new ≡ options_in old
+    pub tokens : tokens_asked new ≡ tokens_asked old
+    pub comments : new.comments_are_tokens ≡ old.comments_are_tokens
+
+  -- what gap says stands between the two last tokens
+  abbrev pub Passes : (List ℕ → List ℕ → Type 0) → Context A → Context A → Type 0
+  Passes gap old new = Between (text_in old) gap (token_end old) (token_start new)
+
+  -- the end of the text, after a gap; or a token after one
+  abbrev pub Finds : (List ℕ → List ℕ → Type 0) → Context A → Context A → Option (Token A) → Type 0
+  Finds gap old new found = Passes gap old new × StandsAt new.scanner found
+
+  -- the last token is this punctuation
+  abbrev pub IsBracket : ℕ → Context A → Type 0
+  IsBracket bracket c = Between (text_in c) (One bracket) (token_start c) (token_end c)
+
+  -- a token, with what gap says before it; or none past a closing bracket, with what close says up to there
+  abbrev pub Leads : (List ℕ → List ℕ → Type 0) → (List ℕ → List ℕ → Type 0) → ℕ → Context A → Context A → Option (Token A) → Type 0
+  Leads gap close bracket old new None = Between (text_in old) close (token_end old) (token_end new) × IsBracket bracket new × (token_end old ≤ token_start new)
+  Leads gap close bracket old new (Some t) = Passes gap old new × IsToken new t
+
+  -- after an opening bracket: the first item, or the closing bracket
+  abbrev pub LeadsToFirst : Container → Context A → Context A → Option (Token A) → Type 0
+  LeadsToFirst k old new = Leads (Gap (options_in old)) (Ends (options_in old) (closing k)) (closing k) old new
+
+  -- after an item: the next item, or the closing bracket
+  abbrev pub LeadsToNext : Container → Context A → Context A → Option (Token A) → Type 0
+  LeadsToNext k old new = Leads (Separates (options_in old)) (Closes (options_in old) (closing k)) (closing k) old new
+
+  -- the same after an item and a comma
+  abbrev pub LeadsAfterComma : Container → Context A → Context A → Option (Token A) → Type 0
+  LeadsAfterComma k old new = Leads (Gap (options_in old)) (TrailingComma (options_in old) (closing k)) (closing k) old new
+
+  -- a colon is the last token, after a gap
+  abbrev pub PassesColon : Context A → Context A → Type 0
+  PassesColon old new = Between (text_in old) (Ends (options_in old) 0x3A) (token_end old) (token_end new)
+
+  -- the last token is the name
+  abbrev pub IsNameHere : Context A → LocatedName → Type 0
+  IsNameHere c n = In (text_in c) (λ t r. IsName (options_in c) t n.name r) (token_range c)

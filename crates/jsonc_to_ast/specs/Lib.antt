@@ -1,0 +1,7 @@
+pub mod Results
+pub mod Scanned
+pub mod Containers
+pub mod Context
+pub mod Reads
+pub mod Refusals
+pub mod Collected

@@ -1,0 +1,55 @@
+//! What a parse answers, and what it is asked to collect.
+ghost use Rattle.std.specs.Prelude.{◌≡◌, false};
+ghost use Rattle.jsonc_to_ast.specs.declared.collect.CommentCollectionStrategy.TheVariants.{Off};
+
+use jsonc_ast::ast::Value;
+use jsonc_text::tokens::TokenAndRange;
+use std::alloc::Allocator;
+use std::default::Default;
+
+/// What happens to comments.
+#[derive(Clone, Copy, Debug, PartialEq, Eq, Drop)]
+pub enum CommentCollectionStrategy {
+    /// They are passed over.
+    Off,
+    /// They stand among the tokens, where tokens are collected.
+    AsTokens,
+}
+
+impl Default for CommentCollectionStrategy {
+    fn default() -> Self
+        ensures { result ≡ Off }
+    {
+        CommentCollectionStrategy::Off
+    }
+}
+
+/// What is collected besides the value.
+#[derive(Clone, Copy, Drop)]
+pub struct CollectOptions {
+    /// What happens to comments.
+    pub comments: CommentCollectionStrategy,
+    /// Whether the tokens are collected.
+    pub tokens: bool,
+}
+
+impl Default for CollectOptions {
+    fn default() -> Self
+        ensures { result ≡ record { comments = Off; tokens = false } }
+    {
+        CollectOptions {
+            comments: CommentCollectionStrategy::Off,
+            tokens: false,
+        }
+    }
+}
+
+/// What a text holds.
+#[derive(Drop)]
+pub struct ParseResult<'a, A: Allocator> {
+    /// Its value, or none where it holds blanks and comments alone.
+    pub value: Option<Value<'a, A>>,
+    /// Its tokens in order, where they were asked for: all the lexemes, and the comments among them
+    /// where they stand among the tokens.
+    pub tokens: Option<Vec<TokenAndRange<'a, A>, A>>,
+}

@@ -1,0 +1,356 @@
+//! What a parser has before it: the scanner, the options, and the tokens collected so far.
+ghost use Rattle.std.specs.Prelude.{◌≡◌, true};
+ghost use Rattle.std.specs.Str.{is_utf8};
+ghost use Rattle.jsonc_text.specs.OptionsOf.{parse_options};
+ghost use Rattle.jsonc_scan.specs.Scanner.{options_of};
+
+use crate::collect::{CollectOptions, CommentCollectionStrategy};
+use crate::container::{Container, is_colon, is_comma, is_comment, loose_name};
+use jsonc_ast::ast::{ObjectPropName, StringLit, WordLit};
+use jsonc_scan::scanner::Scanner;
+use jsonc_text::common::Range;
+use jsonc_text::errors::{ParseError, ParseErrorKind};
+use jsonc_text::options::ParseOptions;
+use jsonc_text::tokens::{Token, TokenAndRange};
+use std::alloc::Allocator;
+
+/// How many containers, or containers and properties, may be around a value.
+pub const MAXIMUM_NESTING: usize = 512;
+
+#[derive(Drop)]
+pub struct Context<'a, A: Allocator> {
+    pub scanner: Scanner<'a, A>,
+    pub alloc: A,
+    pub options: ParseOptions,
+    pub tokens: Option<Vec<TokenAndRange<'a, A>, A>>,
+    pub comments_are_tokens: bool,
+    pub ghost same: { parse_options options ≡ options_of scanner },
+    pub ghost utf8: { is_utf8 scanner.file_text.now ≡ true },
+}
+
+impl<'a, A: Allocator + Copy> Context<'a, A> {
+    ghost use Rattle.std.specs.Prelude.{◌≡◌, ◌≢◌, ◌≤◌, ◌<◌, [], IfOk, IfErr, IfSome, OnOk, IsTrue};
+    ghost use Rattle.jsonc_to_ast.specs.Refusals.{Tells, WhereSome, RefusesComment, NoTokenAfter, NothingFirst, NothingAfterComma, NothingNext, OnlyFirst, OnlyAfterComma, OnlyNext, NoColon, NoName};
+    ghost use Rattle.jsonc_text.specs.Faults.{IsFault, IsOutOfMemory, range_of, kind_of};
+    ghost use Rattle.jsonc_text.specs.Gaps.{Gap};
+    ghost use Rattle.jsonc_text.specs.Places.{is_comment as is_a_comment};
+    ghost use Rattle.jsonc_text.specs.Text.{Spans};
+    ghost use Rattle.jsonc_text.specs.Tokens.{scanned_of};
+    ghost use Rattle.jsonc_to_ast.specs.Context.{text_in, options_in, token_end, token_range, tokens_asked, Keeps, Finds, LeadsToFirst, LeadsAfterComma, LeadsToNext, PassesColon, IsToken, IsNameHere, IsNoComment};
+    ghost use Rattle.jsonc_ast.specs.Views.{name_at};
+    ghost use Rattle.jsonc_to_ast.specs.Collected.{takes_comments, collected, CollectsLast, CollectsComment, OmitsComment, Collects};
+
+    /// A parser at the start of a text.
+    pub fn new(
+        alloc: A,
+        text: &'a str,
+        collect: &CollectOptions,
+        options: &ParseOptions,
+    ) -> Context<'a, A>
+        ensures text { text_in result ≡ text.now }
+        ensures options { options_in result ≡ parse_options options.now }
+        ensures start { token_end result ≡ 0 }
+        ensures tokens { tokens_asked result ≡ collect.now.tokens }
+        ensures comments { result.comments_are_tokens ≡ takes_comments collect.now.comments }
+        ensures collected { collected result ≡ [] }
+    {
+        let tokens = if collect.tokens {
+            Some(Vec::new(alloc))
+        } else {
+            None
+        };
+        Context {
+            scanner: Scanner::with_options(alloc, text, options.copied()),
+            alloc,
+            options: options.copied(),
+            tokens,
+            comments_are_tokens: collect.comments == CommentCollectionStrategy::AsTokens,
+        }
+    }
+
+    /// The range of the last token.
+    pub(crate) fn range(&self) -> Range
+        ensures { result ≡ token_range self.now }
+    {
+        Range::new(self.scanner.token_start(), self.scanner.token_end())
+    }
+
+    /// A fault told of these bytes.
+    #[cold]
+    pub(crate) fn fault(&self, range: Range, kind: ParseErrorKind) -> ParseError
+        requires range { Spans (text_in self.now) range.start range.end }
+        requires kind { kind ≢ ParseErrorKind.OutOfMemory }
+        ensures fault { IsFault (text_in self.now) result }
+        ensures range { range_of result ≡ range }
+        ensures kind { kind_of result ≡ kind }
+    {
+        ParseError::new(range, kind, self.scanner.file_text())
+    }
+
+    /// A fault told of the last token.
+    #[cold]
+    pub fn fault_here(&self, kind: ParseErrorKind) -> ParseError
+        requires { kind ≢ ParseErrorKind.OutOfMemory }
+        ensures fault { IsFault (text_in self.now) result }
+        ensures range { range_of result ≡ token_range self.now }
+        ensures kind { kind_of result ≡ kind }
+    {
+        self.fault(self.range(), kind)
+    }
+
+    /// A fault told of the bytes from a place through the last token.
+    #[cold]
+    pub(crate) fn fault_from(&self, start: usize, kind: ParseErrorKind) -> ParseError
+        requires start { Spans (text_in self.now) start (token_end self.now) }
+        requires kind { kind ≢ ParseErrorKind.OutOfMemory }
+        ensures fault { IsFault (text_in self.now) result }
+        ensures range { range_of result ≡ record { start = start; end = token_end self.now } }
+        ensures kind { kind_of result ≡ kind }
+    {
+        self.fault(Range::new(start, self.scanner.token_end()), kind)
+    }
+
+    /// A fault of a container that the text ends in, told of the bytes from where the container
+    /// began, or else of the end.
+    fn unterminated(&self, container: Container, start: Option<usize>) -> ParseError
+        requires { IfSome start (λ i. Spans (text_in self.now) i (token_end self.now)) }
+        ensures { IsFault (text_in self.now) result }
+    {
+        match start {
+            Some(start) => self.fault_from(start, container.unterminated()),
+            None => self.fault_here(container.unterminated()),
+        }
+    }
+
+    /// Want of memory.
+    pub fn out_of_memory(&self) -> ParseError
+        ensures fault { IsFault (text_in self.now) result }
+        ensures memory { IsOutOfMemory result }
+    {
+        ParseError::out_of_memory()
+    }
+
+    /// Refuses a value that too many containers and properties are around.
+    /// The innermost of them begins at the place.
+    #[inline(always)]
+    pub fn check_nesting(&self, start: usize, around: usize) -> Result<(), ParseError>
+        requires { Spans (text_in self.now) start (token_end self.now) }
+        ensures within { OnOk result (around ≤ 512) }
+        ensures refused { IfErr result (λ _. 512 < around) }
+        ensures fault { IfErr result (IsFault (text_in self.now)) }
+    {
+        if around > MAXIMUM_NESTING {
+            return Err(self.fault_from(start, ParseErrorKind::NestingDepthExceeded));
+        }
+        Ok(())
+    }
+
+    /// Collects the last token, where tokens are asked for.
+    #[cold]
+    fn collect(&mut self, token: &Token<'a, A>) -> Result<(), ParseError>
+        ensures scanner { self.new.scanner ≡ self.old.scanner }
+        ensures tokens { tokens_asked self.new ≡ tokens_asked self.old }
+        ensures comments { self.new.comments_are_tokens ≡ self.old.comments_are_tokens }
+        ensures collected { OnOk result (CollectsLast self.old self.new (scanned_of token.now)) }
+        ensures memory { IfErr result (λ e. kind_of e ≡ ParseErrorKind.OutOfMemory) }
+        ensures fault { IfErr result (IsFault (text_in self.old)) }
+    {
+        let range = self.range();
+        let Some(tokens) = &mut self.tokens else {
+            return Ok(());
+        };
+        let Ok(token) = token.try_clone() else {
+            return Err(self.out_of_memory());
+        };
+        let Ok(()) = tokens.push(TokenAndRange { range, token }) else {
+            return Err(self.out_of_memory());
+        };
+        Ok(())
+    }
+
+    /// Passes a comment, the last token, where comments are allowed.
+    #[cold]
+    fn pass_comment(&mut self, comment: &Token<'a, A>) -> Result<(), ParseError>
+        ensures scanner { self.new.scanner ≡ self.old.scanner }
+        ensures tokens { tokens_asked self.new ≡ tokens_asked self.old }
+        ensures comments { self.new.comments_are_tokens ≡ self.old.comments_are_tokens }
+        ensures collected { OnOk result (CollectsComment self.old self.new (scanned_of comment.now)) }
+        ensures omitted { OnOk result (OmitsComment self.old self.new) }
+        ensures allowed { OnOk result (IsTrue (options_in self.old).comments) }
+        ensures refused { IfErr result (RefusesComment self.old) }
+        ensures fault { IfErr result (IsFault (text_in self.old)) }
+    {
+        if !self.options.allow_comments {
+            return Err(self.fault_here(ParseErrorKind::CommentsNotAllowed));
+        }
+        if self.comments_are_tokens {
+            self.collect(comment)?;
+        }
+        Ok(())
+    }
+
+    /// Passes a gap, and answers the token after it, or none at the end of the text.
+    pub fn scan(&mut self) -> Result<Option<Token<'a, A>>, ParseError>
+        ensures kept { Keeps self.old self.new }
+        ensures found { IfOk result (Finds (Gap (options_in self.old)) self.old self.new) }
+        ensures lexeme { IfOk result IsNoComment }
+        ensures collects { OnOk result (Collects self.old self.new) }
+        ensures refused { IfErr result (Tells (NoTokenAfter self.old)) }
+        ensures fault { IfErr result (IsFault (text_in self.old)) }
+    {
+        loop {
+            let Some(token) = self.scanner.scan()? else {
+                return Ok(None);
+            };
+            if !is_comment(&token) {
+                if self.tokens.is_none() {
+                    return Ok(Some(token));
+                }
+                let lexeme = token;
+                self.collect(&lexeme)?;
+                return Ok(Some(lexeme));
+            }
+            let comment = token;
+            self.pass_comment(&comment)?;
+        }
+    }
+
+    /// Passes what stands after an opening bracket: answers the token that the first element or
+    /// property begins with, or none past the closing bracket. Where the text ends in the
+    /// container, the fault is told from the place where that began, if one is given.
+    #[inline(always)]
+    pub fn first_item(
+        &mut self,
+        container: Container,
+        start: Option<usize>,
+    ) -> Result<Option<Token<'a, A>>, ParseError>
+        requires { IfSome start (λ i. Spans (text_in self.old) i (token_end self.old)) }
+        ensures kept { Keeps self.old self.new }
+        ensures found { IfOk result (LeadsToFirst container self.old self.new) }
+        ensures only { IfOk result (WhereSome (OnlyFirst container self.old self.new)) }
+        ensures collects { OnOk result (Collects self.old self.new) }
+        ensures refused { IfErr result (Tells (NothingFirst container self.old)) }
+        ensures fault { IfErr result (IsFault (text_in self.old)) }
+    {
+        let Some(first) = self.scan()? else {
+            return Err(self.unterminated(container, start));
+        };
+        if container.is_closed_by(&first) {
+            return Ok(None);
+        }
+        Ok(Some(first))
+    }
+
+    /// Passes what stands after a comma, the last token, as `first_item` does.
+    #[inline(always)]
+    fn item_after_comma(
+        &mut self,
+        container: Container,
+        start: Option<usize>,
+    ) -> Result<Option<Token<'a, A>>, ParseError>
+        requires { IfSome start (λ i. Spans (text_in self.old) i (token_end self.old)) }
+        ensures kept { Keeps self.old self.new }
+        ensures found { IfOk result (LeadsAfterComma container self.old self.new) }
+        ensures only { IfOk result (WhereSome (OnlyAfterComma container self.old self.new)) }
+        ensures collects { OnOk result (Collects self.old self.new) }
+        ensures refused { IfErr result (Tells (NothingAfterComma container self.old)) }
+        ensures fault { IfErr result (IsFault (text_in self.old)) }
+    {
+        let comma = self.range();
+        let Some(token) = self.scan()? else {
+            return Err(self.unterminated(container, start));
+        };
+        if !container.is_closed_by(&token) {
+            return Ok(Some(token));
+        }
+        if !self.options.allow_trailing_commas {
+            return Err(self.fault(comma, ParseErrorKind::TrailingCommasNotAllowed));
+        }
+        Ok(None)
+    }
+
+    /// What is wrong with the last token where a comma must stand, after what ended at a place.
+    #[cold]
+    fn missing_comma(&self, container: Container, token: &Token<'a, A>, end: usize) -> ParseError
+        requires { Spans (text_in self.now) end (token_end self.now) }
+        ensures { IsFault (text_in self.now) result }
+    {
+        if container.begins_with(token) {
+            return self.fault(Range::from_byte_index(end), ParseErrorKind::ExpectedComma);
+        }
+        self.fault_here(container.misplaced(token))
+    }
+
+    /// Passes what stands after an element or a property: answers the token that the next one
+    /// begins with, or none past the closing bracket.
+    #[inline(always)]
+    pub fn next_item(
+        &mut self,
+        container: Container,
+        start: Option<usize>,
+    ) -> Result<Option<Token<'a, A>>, ParseError>
+        requires { IfSome start (λ i. Spans (text_in self.old) i (token_end self.old)) }
+        ensures kept { Keeps self.old self.new }
+        ensures found { IfOk result (LeadsToNext container self.old self.new) }
+        ensures only { IfOk result (WhereSome (OnlyNext container self.old self.new)) }
+        ensures collects { OnOk result (Collects self.old self.new) }
+        ensures refused { IfErr result (Tells (NothingNext container self.old)) }
+        ensures fault { IfErr result (IsFault (text_in self.old)) }
+    {
+        let end = self.scanner.token_end();
+        let Some(token) = self.scan()? else {
+            return Err(self.unterminated(container, start));
+        };
+        if container.is_closed_by(&token) {
+            return Ok(None);
+        }
+        if is_comma(&token) {
+            return self.item_after_comma(container, start);
+        }
+        if !self.options.allow_missing_commas {
+            return Err(self.missing_comma(container, &token, end));
+        }
+        Ok(Some(token))
+    }
+    /// The name that the last token is, where the options allow it.
+    #[inline(always)]
+    pub fn name(&self, token: Token<'a, A>) -> Result<ObjectPropName<'a, A>, ParseError>
+        requires { IsToken self.now token }
+        ensures name { IfOk result (λ n. IsNameHere self.now (name_at n)) }
+        ensures range { IfOk result (λ n. (name_at n).range ≡ token_range self.now) }
+        ensures refused { IfErr result (λ _. NoName self.now) }
+        ensures fault { IfErr result (IsFault (text_in self.now)) }
+    {
+        let range = self.range();
+        match token {
+            Token::String(value) => Ok(ObjectPropName::String(StringLit { range, value })),
+            token => {
+                let Some(value) = loose_name(&token) else {
+                    return Err(self.fault_here(ParseErrorKind::UnexpectedTokenInObject));
+                };
+                if !self.options.allow_loose_object_property_names {
+                    return Err(self.fault_here(ParseErrorKind::ExpectedStringObjectProperty));
+                }
+                Ok(ObjectPropName::Word(WordLit { range, value }))
+            }
+        }
+    }
+
+    /// Passes a gap and the colon after it.
+    #[inline(always)]
+    pub fn pass_colon(&mut self) -> Result<(), ParseError>
+        ensures kept { Keeps self.old self.new }
+        ensures found { OnOk result (PassesColon self.old self.new) }
+        ensures collects { OnOk result (Collects self.old self.new) }
+        ensures refused { IfErr result (Tells (NoColon self.old)) }
+        ensures fault { IfErr result (IsFault (text_in self.old)) }
+    {
+        let Some(token) = self.scan()? else {
+            return Err(self.fault_here(ParseErrorKind::ExpectedColonAfterObjectKey));
+        };
+        if !is_colon(&token) {
+            return Err(self.fault_here(ParseErrorKind::ExpectedColonAfterObjectKey));
+        }
+        Ok(())
+    }
+}

@@ -1,0 +1,9 @@
+//! From a text to its syntax tree; and the walk over gaps, brackets, commas and colons.
+#![tactic(auto)]
+
+pub mod collect;
+pub mod container;
+pub mod context;
+mod values;
+
+pub use values::parse_to_ast;

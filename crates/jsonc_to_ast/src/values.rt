@@ -1,0 +1,209 @@
+//! Values read by recursive descent.
+ghost use Rattle.std.specs.Prelude.{◌≡◌, ◌+◌, ◌≤◌, IfOk, IfErr, OnOk, IfSome, option_map, is_some, chars};
+ghost use Rattle.jsonc_text.specs.Faults.{IsFault};
+ghost use Rattle.jsonc_text.specs.Grammar.{IsDocument};
+ghost use Rattle.jsonc_text.specs.OptionsOf.{parse_options};
+ghost use Rattle.jsonc_text.specs.Plain.{around};
+ghost use Rattle.jsonc_text.specs.Tokens.{scanned_of};
+ghost use Rattle.jsonc_to_ast.specs.Collected.{HoldsCollected, Collects};
+ghost use Rattle.jsonc_to_ast.specs.Context.{text_in, options_in, token_start, token_end, Keeps, IsToken, IsBracket};
+ghost use Rattle.jsonc_ast.specs.Located.{leaf_at, range_at, value_at, IsLocatedDocument};
+ghost use Rattle.jsonc_to_ast.specs.Reads.{Reads, ReadsMember};
+ghost use Rattle.jsonc_to_ast.specs.Refusals.{NoLiteral, NoPropertyHere, NoValueHere, RefusesText, Tells};
+ghost use Rattle.jsonc_to_ast.specs.Scanned.{leaf_value};
+ghost use Rattle.jsonc_ast.specs.Views.{located, member_of, plain};
+ghost use Rattle.jsonc_to_ast.specs.Results.{located_in, plain_in};
+
+use crate::collect::{CollectOptions, ParseResult};
+use crate::container::{Container, unexpected};
+use crate::context::Context;
+use jsonc_ast::ast::{
+    BooleanLit, NullKeyword, NumberLit, ObjectProp, StringLit, Value, array_of, object_of,
+    property_of, push_property, push_value,
+};
+use jsonc_text::common::Range;
+use jsonc_text::errors::{ParseError, ParseErrorKind};
+use jsonc_text::options::ParseOptions;
+use jsonc_text::tokens::Token;
+use std::alloc::Allocator;
+
+/// The value that a token is by itself.
+#[inline(always)]
+fn leaf<'a, A: Allocator>(token: Token<'a, A>, range: Range) -> Option<Value<'a, A>>
+    ensures { option_map located result ≡ option_map (leaf_at range) (leaf_value (scanned_of token.entry)) }
+{
+    match token {
+        Token::String(value) => Some(Value::StringLit(StringLit { range, value })),
+        Token::Number(value) => Some(Value::NumberLit(NumberLit { range, value })),
+        Token::Boolean(value) => Some(Value::BooleanLit(BooleanLit { range, value })),
+        Token::Null => Some(Value::NullKeyword(NullKeyword { range })),
+        _ => None,
+    }
+}
+
+/// The value that the last token is by itself.
+#[inline(always)]
+fn parse_leaf<'a, A: Allocator + Copy>(
+    context: &Context<'a, A>,
+    token: Token<'a, A>,
+) -> Result<Value<'a, A>, ParseError>
+    requires { IsToken context.now token }
+    ensures found { IfOk result (λ v. Reads context.now context.now (located v)) }
+    ensures within { IfOk result (λ v. around (plain v) ≡ 0) }
+    ensures refused { IfErr result (λ _. NoLiteral context.now) }
+    ensures fault { IfErr result (IsFault (text_in context.now)) }
+{
+    let kind = unexpected(&token);
+    let Some(value) = leaf(token, context.range()) else {
+        return Err(context.fault_here(kind));
+    };
+    Ok(value)
+}
+
+/// The value that begins with the last token, inside of so many containers and properties.
+#[cycle(parse)]
+#[inline(always)]
+fn parse_value<'a, A: Allocator + Copy>(
+    context: &mut Context<'a, A>,
+    token: Token<'a, A>,
+    count: usize,
+) -> Result<Value<'a, A>, ParseError>
+    requires token { IsToken context.old token }
+    requires around { count ≤ 512 }
+    ensures kept { OnOk result (Keeps context.old context.new) }
+    ensures collects { OnOk result (Collects context.old context.new) }
+    ensures found { IfOk result (λ v. Reads context.old context.new (located v)) }
+    ensures within { IfOk result (λ v. around (plain v) + count ≤ 512) }
+    ensures refused { IfErr result (Tells (NoValueHere context.old count)) }
+    ensures fault { IfErr result (IsFault (text_in context.old)) }
+{
+    match token {
+        Token::OpenBracket => parse_array(context, count),
+        Token::OpenBrace => parse_object(context, count),
+        token => parse_leaf(context, token),
+    }
+}
+
+/// The array that begins with the last token, a `[`.
+#[cycle(parse)]
+#[inline(never)]
+fn parse_array<'a, A: Allocator + Copy>(
+    context: &mut Context<'a, A>,
+    count: usize,
+) -> Result<Value<'a, A>, ParseError>
+    requires token { IsBracket 0x5B context.old }
+    requires around { count ≤ 512 }
+    ensures kept { OnOk result (Keeps context.old context.new) }
+    ensures collects { OnOk result (Collects context.old context.new) }
+    ensures found { IfOk result (λ v. Reads context.old context.new (located v)) }
+    ensures within { IfOk result (λ v. around (plain v) + count ≤ 512) }
+    ensures refused { IfErr result (Tells (NoValueHere context.old count)) }
+    ensures fault { IfErr result (IsFault (text_in context.old)) }
+{
+    let start = context.scanner.token_start();
+    let mut elements = Vec::new(context.alloc);
+    let mut next = context.first_item(Container::Array, Some(start))?;
+    while let Some(token) = next {
+        context.check_nesting(start, count + 1)?;
+        let value = parse_value(context, token, count + 1)?;
+        let Ok(()) = push_value(&mut elements, value) else {
+            return Err(context.out_of_memory());
+        };
+        next = context.next_item(Container::Array, Some(start))?;
+    }
+    Ok(array_of(Range::new(start, context.scanner.token_end()), elements))
+}
+
+/// The object that begins with the last token, a `{`.
+#[cycle(parse)]
+#[inline(never)]
+fn parse_object<'a, A: Allocator + Copy>(
+    context: &mut Context<'a, A>,
+    count: usize,
+) -> Result<Value<'a, A>, ParseError>
+    requires token { IsBracket 0x7B context.old }
+    requires around { count ≤ 512 }
+    ensures kept { OnOk result (Keeps context.old context.new) }
+    ensures collects { OnOk result (Collects context.old context.new) }
+    ensures found { IfOk result (λ v. Reads context.old context.new (located v)) }
+    ensures within { IfOk result (λ v. around (plain v) + count ≤ 512) }
+    ensures refused { IfErr result (Tells (NoValueHere context.old count)) }
+    ensures fault { IfErr result (IsFault (text_in context.old)) }
+{
+    let start = context.scanner.token_start();
+    let mut properties = Vec::new(context.alloc);
+    let mut next = context.first_item(Container::Object, Some(start))?;
+    while let Some(token) = next {
+        let property = parse_property(context, token, count + 1)?;
+        let Ok(()) = push_property(&mut properties, property) else {
+            return Err(context.out_of_memory());
+        };
+        next = context.next_item(Container::Object, Some(start))?;
+    }
+    Ok(object_of(Range::new(start, context.scanner.token_end()), properties))
+}
+
+/// The property that begins with the last token, inside of so many containers and properties.
+#[cycle(parse)]
+#[inline(always)]
+fn parse_property<'a, A: Allocator + Copy>(
+    context: &mut Context<'a, A>,
+    token: Token<'a, A>,
+    count: usize,
+) -> Result<ObjectProp<'a, A>, ParseError>
+    requires token { IsToken context.old token }
+    requires around { count ≤ 513 }
+    ensures kept { OnOk result (Keeps context.old context.new) }
+    ensures collects { OnOk result (Collects context.old context.new) }
+    ensures found { IfOk result (λ p. ReadsMember context.old context.new (member_of p)) }
+    ensures within { IfOk result (λ p. around (value_at (member_of p).value) + (count + 1) ≤ 512) }
+    ensures refused { IfErr result (Tells (NoPropertyHere context.old count)) }
+    ensures fault { IfErr result (IsFault (text_in context.old)) }
+{
+    let start = context.scanner.token_start();
+    let name = context.name(token)?;
+    context.pass_colon()?;
+    let found = context.scan()?;
+    context.check_nesting(start, count + 1)?;
+    let Some(token) = found else {
+        return Err(context.fault_here(ParseErrorKind::ExpectedObjectValue));
+    };
+    let value = parse_value(context, token, count + 1)?;
+    Ok(property_of(Range::new(start, context.scanner.token_end()), name, value))
+}
+
+/// Parses a text to its value, with the range of each node.
+///
+/// Places are bytes of the text. The value is none where the text holds blanks and comments alone.
+/// A value that more than 512 containers and properties are around is refused. The error says what
+/// is wrong, in which bytes, and in which line and column; want of memory is an error too.
+pub fn parse_to_ast<'a, A: Allocator + Copy>(
+    alloc: A,
+    text: &'a str,
+    collect: &CollectOptions,
+    options: &ParseOptions,
+) -> Result<ParseResult<'a, A>, ParseError>
+    ensures accepted { IfOk result (λ r. IsDocument (parse_options options.now) (chars text.now) (plain_in r)) }
+    ensures located { IfOk result (λ r. IsLocatedDocument (parse_options options.now) text.now (located_in r)) }
+    ensures within { IfOk result (λ r. IfSome r.value (λ v. around (plain v) ≤ 512)) }
+    ensures refused { IfErr result (RefusesText (parse_options options.now) text.now) }
+    ensures tokens { IfOk result (λ r. is_some r.tokens ≡ collect.now.tokens) }
+    ensures collected { IfOk result (HoldsCollected (parse_options options.now) text.now collect.now) }
+    ensures fault { IfErr result (IsFault text.now) }
+{
+    let mut context = Context::new(alloc, text, collect, options);
+    let Some(token) = context.scan()? else {
+        return Ok(ParseResult {
+            value: None,
+            tokens: context.tokens,
+        });
+    };
+    let value = parse_value(&mut context, token, 0)?;
+    let None = context.scan()? else {
+        return Err(context.fault_here(ParseErrorKind::MultipleRootJsonValues));
+    };
+    Ok(ParseResult {
+        value: Some(value),
+        tokens: context.tokens,
+    })
+}
