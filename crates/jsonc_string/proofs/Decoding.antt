@@ -109,7 +109,7 @@ no_quoted taken q bytes v start place quote s so_far none lacks w r (inside, e, 
     stuck done g = no_starts (λ c. c == q) (next (rest bytes place)) lacks (rw g (eq_test q q refl))
     stuck (piece k g a) h = none _ _ k
 
-no_piece_at_end : {o : Options} {q : ℕ} {t p r : List ℕ} → t ≡ [] → Piece o q t p r → ⊥
+pub no_piece_at_end : {o : Options} {q : ℕ} {t p r : List ℕ} → t ≡ [] → Piece o q t p r → ⊥
 no_piece_at_end e (itself a b) = cc
 no_piece_at_end e (Piece.plain h) = cc
 no_piece_at_end e (Piece.unit h k) = cc
@@ -122,7 +122,7 @@ no_piece_at_end e (Piece.lone_cr h k) = cc
 no_piece_at_end e (Piece.cr_lf h) = cc
 
 -- where neither the quote, a backslash nor another character stands, the text ends
-run_ends : (q : ℕ) (t : List ℕ) → IsTrue (no (is_neither q 0x5C) (next t)) → IsTrue (no (λ c. c == q) (next t)) → IsTrue (no (λ c. c == 0x5C) (next t)) → t ≡ []
+pub run_ends : (q : ℕ) (t : List ℕ) → IsTrue (no (is_neither q 0x5C) (next t)) → IsTrue (no (λ c. c == q) (next t)) → IsTrue (no (λ c. c == 0x5C) (next t)) → t ≡ []
 run_ends q [] a b d = refl
 run_ends q (c ∷ t) a b d = absurd (neither_left (c == q) (c == 0x5C) a b d)
   where
