@@ -122,7 +122,7 @@ no_piece_at_end e (Piece.lone_cr h k) = cc
 no_piece_at_end e (Piece.cr_lf h) = cc
 
 -- where neither the quote, a backslash nor another character stands, the text ends
-run_ends : (q : ℕ) (t : List ℕ) → IsTrue (no (is_neither q 0x5C) (next t)) → IsTrue (no (λ c. c == q) (next t)) → IsTrue (no (λ c. c == 0x5C) (next t)) → t ≡ []
+pub run_ends : (q : ℕ) (t : List ℕ) → IsTrue (no (is_neither q 0x5C) (next t)) → IsTrue (no (λ c. c == q) (next t)) → IsTrue (no (λ c. c == 0x5C) (next t)) → t ≡ []
 run_ends q [] a b d = refl
 run_ends q (c ∷ t) a b d = absurd (neither_left (c == q) (c == 0x5C) a b d)
   where

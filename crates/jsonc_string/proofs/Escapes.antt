@@ -93,7 +93,7 @@ pub steps_known : (bytes : List ℕ) (i c d j k : ℕ) → Steps bytes i c j →
 steps_known bytes i c d j k s e f = let P : ℕ → Type 0 = λ x. Steps bytes i x k in subst P e (leads bytes i c j k s f)
 
 -- the two marks of a unit, and its digits so far
-two : (bytes : List ℕ) (i x y : ℕ) → Steps bytes i x (i + 1) → Steps bytes (i + 1) y (i + 2) → rest bytes i ≡ x ∷ y ∷ rest bytes (i + 2)
+pub two : (bytes : List ℕ) (i x y : ℕ) → Steps bytes i x (i + 1) → Steps bytes (i + 1) y (i + 2) → rest bytes i ≡ x ∷ y ∷ rest bytes (i + 2)
 two bytes i x y s u = rw (s.0, u.0) refl
 
 one_on : (bytes : List ℕ) (i x j k : ℕ) → Steps bytes j x (j + 1) → j + 1 ≡ k → rest bytes j ≡ x ∷ rest bytes k
@@ -105,7 +105,7 @@ three bytes i x y a s u sa = rw (two bytes i x y s u, one_on bytes i a (i + 2) (
 four : (bytes : List ℕ) (i x y a b : ℕ) → Steps bytes i x (i + 1) → Steps bytes (i + 1) y (i + 2) → Steps bytes (i + 2) a (i + 2 + 1) → Steps bytes (i + 3) b (i + 3 + 1) → rest bytes i ≡ x ∷ y ∷ a ∷ b ∷ rest bytes (i + 4)
 four bytes i x y a b s u sa sb = rw (three bytes i x y a s u sa, one_on bytes i b (i + 3) (i + 4) sb (omega arith)) refl
 
-five : (bytes : List ℕ) (i x y a b c : ℕ) → Steps bytes i x (i + 1) → Steps bytes (i + 1) y (i + 2) → Steps bytes (i + 2) a (i + 2 + 1) → Steps bytes (i + 3) b (i + 3 + 1) → Steps bytes (i + 4) c (i + 4 + 1) → rest bytes i ≡ x ∷ y ∷ a ∷ b ∷ c ∷ rest bytes (i + 5)
+pub five : (bytes : List ℕ) (i x y a b c : ℕ) → Steps bytes i x (i + 1) → Steps bytes (i + 1) y (i + 2) → Steps bytes (i + 2) a (i + 2 + 1) → Steps bytes (i + 3) b (i + 3 + 1) → Steps bytes (i + 4) c (i + 4 + 1) → rest bytes i ≡ x ∷ y ∷ a ∷ b ∷ c ∷ rest bytes (i + 5)
 five bytes i x y a b c s u sa sb sc = rw (four bytes i x y a b s u sa sb, one_on bytes i c (i + 4) (i + 5) sc (omega arith)) refl
 
 pub unit_found : (bytes : List ℕ) (i n a b c d : ℕ) → Steps bytes i 0x5C (i + 1) → Steps bytes (i + 1) 0x75 (i + 2) → Steps bytes (i + 2) a (i + 2 + 1) → Steps bytes (i + 3) b (i + 3 + 1) → Steps bytes (i + 4) c (i + 4 + 1) → Steps bytes (i + 5) d (i + 5 + 1)
@@ -200,6 +200,14 @@ byte_found bytes i a b c x y s u sa sb ha hb ea eb e q =
     let text : rest bytes i ≡ 0x5C ∷ 0x78 ∷ a ∷ b ∷ rest bytes (i + 4) = rw (three bytes i 0x5C 0x78 a s u sa, last.0) refl in
     let value : c ≡ hex2 a b = e ∙ ap (λ n. n * 16 + y) ea ∙ ap (λ n. digit_value a * 16 + n) eb in
     record { boundary = last.1; order = omega arith; piece = rw (text, value) (byte refl both) }
+
+byte_first : {u t : List ℕ} → StartsByte t → t ≡ u → IsTrue (no is_hex_digit (next u)) → ⊥
+byte_first (two_digits {a = a} {b = b} h) e l = clash (is_hex_digit a) (rw (sym e) at l) (and_both (is_hex_digit a) (is_hex_digit b) h).0
+
+pub no_byte_first : (bytes : List ℕ) (i : ℕ) → Steps bytes i 0x5C (i + 1) → Steps bytes (i + 1) 0x78 (i + 2) → LacksAt is_hex_digit bytes (i + 2) → (q : ℕ) → NoPiece true q bytes i
+no_byte_first bytes i s u l q p r k =
+    let w : IsTrue true × StartsByte (rest bytes (i + 2)) = needs true q 0x78 (rest bytes (i + 2)) (rw (two bytes i 0x5C 0x78 s u) at k) in
+    byte_first w.1 refl l
 
 byte_second : {a : ℕ} {u t : List ℕ} → StartsByte t → t ≡ a ∷ u → IsTrue (no is_hex_digit (next u)) → ⊥
 byte_second (two_digits {a = a} {b = b} h) e l = clash (is_hex_digit b) (rw (sym (tails e)) at l) (and_both (is_hex_digit a) (is_hex_digit b) h).1
@@ -306,7 +314,7 @@ pub counted : (bytes : List ℕ) (i c n : ℕ) → Steps bytes (i + 1) c (i + 1 
 counted bytes i c n s e = leads bytes (i + 1) c (i + 1 + len_utf8 c) (i + 1 + n) s (ap (λ k. i + 1 + k) (sym e))
 
 -- what is taken, or is not
-not_taken : (x y : Bool) → (x || y) ≡ false → (x ≡ false) × (y ≡ false)
+pub not_taken : (x y : Bool) → (x || y) ≡ false → (x ≡ false) × (y ≡ false)
 not_taken true y h = cc
 not_taken false y h = (refl, h)
 

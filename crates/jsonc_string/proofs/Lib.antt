@@ -1,5 +1,6 @@
 pub mod ByteRuns
 pub mod Decoding
 pub mod Escapes
+pub mod Faults
 pub mod Providers
 pub mod QuotedStrings

@@ -12,6 +12,7 @@ use Rattle.jsonc_text.specs.Lexemes.{IsScanned, lexeme, string}
 use Rattle.jsonc_string.specs.Between.{Between, NoneFrom}
 use Rattle.jsonc_string.specs.Escapes.{escapes, HoldsBackslash, IsLentUnescaped}
 use Rattle.jsonc_string.specs.Quotes.{OpensString}
+use Rattle.jsonc_string.specs.Told.{TellsError}
 
 -- the character at a place, or none at the end
 abbrev pub StandsHere : List ℕ → ℕ → Option ℕ → Type 0
@@ -37,6 +38,7 @@ pub record IsStringError (taken : Bool) (bytes : List ℕ) (start : ℕ) (e : Pa
   pub order : start ≤ e.byte_index
   pub none : e.kind ≢ OutOfMemory → NoString taken bytes start
   pub memory : e.kind ≡ OutOfMemory → HoldsBackslash bytes start (length bytes)
+  pub told : e.kind ≢ OutOfMemory → TellsError taken e.kind (rest bytes start) (rest bytes e.byte_index)
 
 module _ {A : Type 0} where
   -- a string stands from one place to another, and stands for s, which the text lends where no backslash is in it

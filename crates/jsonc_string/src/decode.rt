@@ -8,6 +8,7 @@ ghost use Rattle.jsonc_text.specs.Strings.{IsQuote};
 ghost use Rattle.jsonc_text.specs.Text.{Many};
 ghost use Rattle.jsonc_string.specs.Between.{Between, Reaches, is_neither};
 ghost use Rattle.jsonc_string.specs.Escapes.{IsQuoted, NoQuoted, IsLentUnescaped, HoldsBackslash, IsStringRefusal, given};
+ghost use Rattle.jsonc_string.specs.Told.{IsTold};
 
 use crate::escape::{Literal, StringFault, read_escape, unterminated};
 use crate::stops::stop_place;
@@ -37,6 +38,7 @@ pub fn decode_string<'a, A: Allocator>(
     ensures lent { IfOk result (λ d. IsLentUnescaped text.now literal.start d.end d.string) }
     ensures none { IfErr result (λ f. f.kind ≢ ParseStringErrorKind.OutOfMemory → NoQuoted literal.extended literal.quote text.now literal.start) }
     ensures places { IfErr result (IsStringRefusal text.now literal.start) }
+    ensures told { IfErr result (IsTold literal.extended literal.quote text.now literal.start) }
     ensures memory { IfErr result (λ f. f.kind ≡ ParseStringErrorKind.OutOfMemory → HoldsBackslash text.now literal.start (length text.now)) }
 {
     let first = literal.start + 1;
@@ -85,6 +87,7 @@ fn decode_escaped<'a, A: Allocator>(
     ensures lent { IfOk result (λ d. IsLentUnescaped text.now literal.start d.end d.string) }
     ensures none { IfErr result (λ f. f.kind ≢ ParseStringErrorKind.OutOfMemory → NoQuoted literal.extended literal.quote text.now literal.start) }
     ensures places { IfErr result (IsStringRefusal text.now literal.start) }
+    ensures told { IfErr result (IsTold literal.extended literal.quote text.now literal.start) }
 {
     let no_memory = StringFault {
         range: Range {

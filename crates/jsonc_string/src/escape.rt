@@ -1,11 +1,12 @@
 //! Escapes in strings (RFC 8259, 7; JSON5, 5).
-ghost use Rattle.std.specs.Prelude.{◌≡◌, ◌≢◌, ◌+◌, ◌<◌, ◌≤◌, ◌||◌, IsTrue, IfOk, IfErr, IfSome, IfNone, IsCharBoundary, true, ℕ};
+ghost use Rattle.std.specs.Prelude.{◌≡◌, ◌≢◌, ◌+◌, ◌<◌, ◌≤◌, ◌||◌, [], IsTrue, IfOk, IfErr, IfSome, IfNone, IsCharBoundary, true, ℕ};
 ghost use Rattle.std.specs.Char.{digit_value};
 ghost use Rattle.jsonc_text.specs.Chars.{Steps};
-ghost use Rattle.jsonc_text.specs.Text.{is_hex_digit, Spans};
+ghost use Rattle.jsonc_text.specs.Text.{is_hex_digit, rest, Spans};
 ghost use Rattle.jsonc_text.specs.Strings.{hex4, meaning, is_high_surrogate, is_low_surrogate, pair_char};
 ghost use Rattle.jsonc_string.specs.Between.{Between, LacksAt, NoneFrom};
 ghost use Rattle.jsonc_string.specs.Escapes.{IsUnit, IsEscape, IsEscapeAnyhow, NoPiece, NoPieceAnyhow, IsStringFault, meaning_of, is_plain};
+ghost use Rattle.jsonc_string.specs.Told.{IsWritten, LacksDigits, IsToldOnceRead, IsToldAnyhow, IsToldEscape, past};
 
 use jsonc_text::chars::{char_at, char_end, has_byte};
 use jsonc_text::common::Range;
@@ -154,9 +155,12 @@ fn read_unit(text: &str, place: usize) -> Result<CodeUnit, usize>
     requires u { Steps text.now (place + 1) 0x75 (place + 2) }
     ensures found { IfOk result (λ unit. Between (IsUnit unit.value) text.now place (place + 6)) }
     ensures last { IfOk result (λ _. Spans text.now place (place + 5)) }
+    ensures through { IfOk result (λ _. past (rest text.now (place + 5)) ≡ rest text.now (place + 6)) }
     ensures small { IfOk result (λ unit. unit.value < 65536) }
+    ensures digits { IfOk result (λ unit. IsWritten unit.digits unit.value text.now place) }
     ensures none { IfErr result (λ _. (n : ℕ) → NoneFrom (IsUnit n) text.now place) }
     ensures stop { IfErr result (Spans text.now place) }
+    ensures few { IfErr result (LacksDigits 4 text.now (place + 2)) }
 {
     let Some(a) = hex_digit_at(text, place + 2) else {
         return Err(place + 2);
@@ -180,7 +184,10 @@ fn read_unit(text: &str, place: usize) -> Result<CodeUnit, usize>
 fn string_fault(text: &str, start: usize, stop: usize, kind: ParseStringErrorKind) -> StringFault
     requires spans { Spans text.now start stop }
     requires kind { kind ≢ ParseStringErrorKind.OutOfMemory }
-    ensures { IsStringFault text.now start result }
+    ensures fault { IsStringFault text.now start result }
+    ensures start { result.range.start ≡ start }
+    ensures end { rest text.now result.range.end ≡ past (rest text.now stop) }
+    ensures kind { result.kind ≡ kind }
 {
     let end = char_end(text, stop);
     StringFault {
@@ -192,7 +199,10 @@ fn string_fault(text: &str, start: usize, stop: usize, kind: ParseStringErrorKin
 /// The fault of a string that does not end.
 pub(crate) fn unterminated(text: &str, start: usize) -> StringFault
     requires { IsCharBoundary text.now start }
-    ensures { IsStringFault text.now start result }
+    ensures fault { IsStringFault text.now start result }
+    ensures start { result.range.start ≡ start }
+    ensures end { rest text.now result.range.end ≡ [] }
+    ensures kind { result.kind ≡ ParseStringErrorKind.UnterminatedStringLiteral }
 {
     let kind = ParseStringErrorKind::UnterminatedStringLiteral;
     string_fault(text, start, text.len(), kind)
@@ -219,6 +229,7 @@ fn read_code_unit(text: &str, place: usize) -> Result<Escape, StringFault>
     ensures found { IfOk result (IsEscapeAnyhow text.now place) }
     ensures none { IfErr result (λ _. NoPieceAnyhow text.now place) }
     ensures fault { IfErr result (IsStringFault text.now place) }
+    ensures told { IfErr result (IsToldAnyhow text.now place) }
 {
     let unit = match read_unit(text, place) {
         Ok(unit) => unit,
@@ -249,9 +260,11 @@ fn read_pair(text: &str, place: usize, high: CodeUnit) -> Result<Escape, StringF
     requires boundary { IsCharBoundary text.now place }
     requires first { Between (IsUnit high.value) text.now place (place + 6) }
     requires high { IsTrue (is_high_surrogate high.value) }
+    requires digits { IsWritten high.digits high.value text.now place }
     ensures found { IfOk result (IsEscapeAnyhow text.now place) }
     ensures none { IfErr result (λ _. NoPieceAnyhow text.now place) }
     ensures fault { IfErr result (IsStringFault text.now place) }
+    ensures told { IfErr result (IsToldAnyhow text.now place) }
 {
     let unpaired = SurrogateFault::UnpairedHighSurrogate;
     if !has_byte(text, place + 6, b'\\') {
@@ -288,6 +301,7 @@ fn read_code_byte(text: &str, place: usize) -> Result<Escape, StringFault>
     ensures found { IfOk result (λ e. (q : ℕ) → IsEscape true q text.now place e) }
     ensures none { IfErr result (λ _. (q : ℕ) → NoPiece true q text.now place) }
     ensures fault { IfErr result (IsStringFault text.now place) }
+    ensures told { IfErr result (λ f. (q : ℕ) → IsToldEscape true q text.now place f) }
 {
     let kind = ParseStringErrorKind::ExpectedTwoHexDigits;
     let Some(a) = hex_digit_at(text, place + 2) else {
@@ -314,6 +328,7 @@ fn read_nul(text: &str, start: usize, place: usize) -> Result<Escape, StringFaul
     ensures found { IfOk result (λ e. (q : ℕ) → IsEscape true q text.now place e) }
     ensures none { IfErr result (λ _. (q : ℕ) → NoPiece true q text.now place) }
     ensures fault { IfErr result (IsStringFault text.now start) }
+    ensures told { IfErr result (λ f. (q : ℕ) → IsToldOnceRead true q text.now start place f) }
 {
     let Some(c) = char_at(text, place + 2) else {
         return Err(unterminated(text, start));
@@ -336,6 +351,7 @@ fn read_line_end(text: &str, start: usize, place: usize) -> Result<Escape, Strin
     ensures found { IfOk result (λ e. (q : ℕ) → IsEscape true q text.now place e) }
     ensures none { IfErr result (λ _. (q : ℕ) → NoPiece true q text.now place) }
     ensures fault { IfErr result (IsStringFault text.now start) }
+    ensures told { IfErr result (λ f. (q : ℕ) → IsToldOnceRead true q text.now start place f) }
 {
     let Some(c) = char_at(text, place + 2) else {
         return Err(unterminated(text, start));
@@ -349,7 +365,10 @@ fn read_line_end(text: &str, start: usize, place: usize) -> Result<Escape, Strin
 
 /// Why a backslash may not stand before `c` where extended escapes are not taken.
 fn refusal(c: char) -> ParseStringErrorKind
-    ensures { result ≢ ParseStringErrorKind.OutOfMemory }
+    ensures memory { result ≢ ParseStringErrorKind.OutOfMemory }
+    ensures double { c ≡ 0x22 → result ≡ ParseStringErrorKind.InvalidEscapeInSingleQuoteString }
+    ensures single { c ≡ 0x27 → result ≡ ParseStringErrorKind.InvalidEscapeInDoubleQuoteString }
+    ensures other { c ≢ 0x22 → c ≢ 0x27 → result ≡ ParseStringErrorKind.InvalidEscape }
 {
     match c {
         '"' => ParseStringErrorKind::InvalidEscapeInSingleQuoteString,
@@ -365,6 +384,7 @@ pub(crate) fn read_escape(text: &str, place: usize, literal: Literal) -> Result<
     ensures found { IfOk result (IsEscape literal.extended literal.quote text.now place) }
     ensures none { IfErr result (λ _. NoPiece literal.extended literal.quote text.now place) }
     ensures fault { IfErr result (IsStringFault text.now literal.start) }
+    ensures told { IfErr result (IsToldOnceRead literal.extended literal.quote text.now literal.start place) }
 {
     let Some(c) = char_at(text, place + 1) else {
         return Err(unterminated(text, literal.start));

@@ -1,5 +1,6 @@
 use Rattle.std.proofs.Common.{arith, refl}
 use Rattle.jsonc_string.proofs.Decoding.{decoding_start, decoding_more, quoted_copy, no_escape, no_close}
+use Rattle.jsonc_string.proofs.Faults.{read_decoding, told_unclosed}
 use Rattle.jsonc_string.proofs.decode.decode_escaped.Goals as goal
 
 pub loop-escape-init : goal.loop-escape-init
@@ -35,3 +36,13 @@ returns-clause-lent g c =
       copied = (λ b. record { place = c.args.first_stop; boundary = c.requires.run.boundary; after = omega (arith, c.requires.run.order); before = omega (arith, d.past); backslash = c.requires.backslash }, λ h. tt);
       slice = λ b. absurd b;
     }
+
+pub returns-in-Err-clause-told : goal.returns-in-Err-clause-told
+returns-in-Err-clause-told g c =
+    c.in-Err.ensures.told (read_decoding _ _ _ _ _ _ _ c.utf8.text c.requires.quote c.requires.opens c.loop-escape.invariant.decoding)
+
+pub returns-then-not-has_byte-clause-told : goal.returns-then-not-has_byte-clause-told
+returns-then-not-has_byte-clause-told g c =
+    let fault = c.unterminated.ensures in
+    let read = read_decoding _ _ _ _ _ _ _ c.utf8.text c.requires.quote c.requires.opens c.loop-escape.invariant.decoding in
+    told_unclosed _ _ _ _ _ _ fault.start fault.end fault.kind read c.loop-escape.invariant.decoding.stops (c.if-not-has_byte.ensures.other refl) (c.loop-escape-test.ensures.other refl)

@@ -1,5 +1,6 @@
 use Rattle.std.proofs.Common.{refl, ◌+◌}
 use Rattle.jsonc_string.proofs.Decoding.{quoted_run, no_close_run, run_holds_none, before_quote}
+use Rattle.jsonc_string.proofs.Faults.{read_run, told_unclosed}
 use Rattle.jsonc_string.proofs.decode.decode_string.Goals as goal
 
 pub returns-then-has_byte-clause-found : goal.returns-then-has_byte-clause-found
@@ -14,3 +15,9 @@ returns-then-has_byte-clause-lent g c = record {
 pub returns-then-not-has_byte-clause-none : goal.returns-then-not-has_byte-clause-none
 returns-then-not-has_byte-clause-none g c = λ k.
     no_close_run _ _ _ _ _ c.requires.quote c.requires.opens c.stop_place-stop.ensures.passed c.stop_place-stop.ensures.stops (c.if-has_byte.ensures.other refl) (c.if-not-has_byte.ensures.other refl)
+
+pub returns-then-not-has_byte-clause-told : goal.returns-then-not-has_byte-clause-told
+returns-then-not-has_byte-clause-told g c =
+    let fault = c.unterminated.ensures in
+    let read = read_run c.args.literal.extended _ _ _ _ c.requires.quote c.requires.opens c.stop_place-stop.ensures.passed in
+    told_unclosed _ _ _ _ _ _ fault.start fault.end fault.kind read c.stop_place-stop.ensures.stops (c.if-has_byte.ensures.other refl) (c.if-not-has_byte.ensures.other refl)

@@ -1,4 +1,5 @@
 use Rattle.jsonc_string.specs.Escapes.{escapes}
+use Rattle.jsonc_string.specs.Told.{of_string}
 use Rattle.jsonc_string.proofs.QuotedStrings.{quoted_of_string}
 use Rattle.jsonc_string.proofs.provider.decode_at.Goals as goal
 
@@ -10,4 +11,5 @@ returns-in-Err-clause-fault g c =
       order = read.places.order;
       none = λ k v r x. read.none k v r (quoted_of_string (escapes c.args.extended) c.requires.quote.here.0 x);
       memory = read.memory;
+      told = λ k. of_string c.requires.quote.allowed (read.told k);
     }

@@ -1,6 +1,9 @@
 use Rattle.std.proofs.Common.{arith, true}
 use Rattle.std.proofs.lemmas.Str.{IsCharBoundary-start}
 use Rattle.jsonc_string.specs.Escapes.{escapes}
+use Rattle.jsonc_text.specs.Text.{next, rest}
+use Rattle.jsonc_string.specs.Told.{no_quote}
+use Rattle.jsonc_string.proofs.Faults.{no_either}
 use Rattle.jsonc_string.proofs.QuotedStrings.{no_string}
 use Rattle.jsonc_string.proofs.provider.parse_string.Goals as goal
 
@@ -13,6 +16,7 @@ returns-in_default-clause-fault g c = record {
   order = omega arith;
   none = λ k v r x. no_string (escapes true) c.in_default.ensures.none x;
   memory = λ k. absurd cc;
+  told = λ k. no_quote (no_either (next (rest c.args.text.now 0)) c.in_default.ensures.none);
 }
 
 pub decode_at-requires-clause-boundary : goal.decode_at-requires-clause-boundary
