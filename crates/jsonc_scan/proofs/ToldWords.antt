@@ -8,9 +8,12 @@ use Rattle.jsonc_text.specs.Gaps.{UpToBlockEnd}
 use Rattle.jsonc_text.specs.Options.{Options}
 use Rattle.jsonc_text.specs.Text.{rest, next, Many, step, is_digit}
 use Rattle.jsonc_text.specs.Words.{begins_word, is_in_word, EndsWord}
+use Rattle.jsonc_text.specs.Strings.{IsQuote}
+use Rattle.jsonc_string.specs.declared.escape.StringFault.{StringFault}
+use Rattle.jsonc_string.specs.Told.{Tells as TellsOfString}
 use Rattle.jsonc_string.specs.Between.{LacksAt, NoneFrom}
 use Rattle.jsonc_string.specs.Quotes.{OpensNoString}
-use Rattle.jsonc_scan.specs.Refusals.{IsTold, IsToldOfNext, BeginsNoOther}
+use Rattle.jsonc_scan.specs.Refusals.{IsTold, IsToldOfNext, IsToldOfString, BeginsNoOther}
 use Rattle.jsonc_scan.specs.Told as t
 use Rattle.jsonc_scan.specs.Told.{IsNext, Tells, IsTrueOf, BreaksWord, begins_other}
 use Rattle.jsonc_text.proofs.Basics.{or_left}
@@ -64,5 +67,6 @@ quote_told o bytes i e s n x =
     told_from o bytes i i (i + 1) _ e x (rw s.0 (t.single_quote (quote_off o.single_quoted_strings (rw s.0 at n))))
 
 -- a string's fault
-pub string_told : (o : Options) (bytes : List ℕ) (i : ℕ) (e : ParseError) → {j k : ℕ} {what : _} → IsTold j k (kind.String what) e → IsTrueOf o bytes i e
-string_told o bytes i e {j} {k} x = told_from o bytes i j k _ e x t.string_fault
+pub string_told : (o : Options) (bytes : List ℕ) (i q : ℕ) (fault : StringFault) (e : ParseError) → IsQuote o q → TellsOfString o.extended_escapes q fault.kind (rest bytes i) (rest bytes fault.range.start) (rest bytes fault.range.end) → IsToldOfString fault e → IsTrueOf o bytes i e
+string_told o bytes i q fault e a s x =
+    told_from o bytes i fault.range.start fault.range.end _ e x (t.string_fault a s)

@@ -10,8 +10,10 @@ use Rattle.jsonc_text.specs.Gaps.{UpToBlockEnd}
 use Rattle.jsonc_text.specs.Lexemes.{is_punctuation}
 use Rattle.jsonc_text.specs.Numbers.{Sign, Whole, Fraction, is_x, is_e, is_sign}
 use Rattle.jsonc_text.specs.Options.{Options}
+use Rattle.jsonc_text.specs.Strings.{IsQuote}
 use Rattle.jsonc_text.specs.Text.{rest, next, no, starts, Many, AllOf, is_digit, is_hex_digit}
 use Rattle.jsonc_text.specs.Words.{begins_word, is_in_word, EndsWord}
+use Rattle.jsonc_string.specs.Told.{Tells as TellsOfString}
 use Rattle.jsonc_scan.specs.Between.{IsAlone}
 use Rattle.jsonc_scan.specs.Reads.{begins_number}
 
@@ -82,7 +84,8 @@ pub data Tells (o : Options) : ParseErrorKind → List ℕ → List ℕ → List
   lone_character : {c : ℕ} {r : List ℕ} → IsTrue (not (begins_word c)) → IsTrue (not (begins_other (c ∷ r))) → Tells o UnexpectedToken (c ∷ r) (c ∷ r) r
   -- `/*` and all that follows, where no `*/` begins after it
   open_block : {t : List ℕ} → ((r : List ℕ) → UpToBlockEnd t r → ⊥) → Tells o UnterminatedCommentBlock (0x2F ∷ 0x2A ∷ t) (0x2F ∷ 0x2A ∷ t) []
-  string_fault : {kind : ParseStringErrorKind} {s t r : List ℕ} → Tells o (String kind) s t r
+  -- the fault of a string
+  string_fault : {q : ℕ} {kind : ParseStringErrorKind} {s t r : List ℕ} → IsQuote o q → TellsOfString o.extended_escapes q kind s t r → Tells o (String kind) s t r
 
 -- what the fault's kind says of its range is true of the lexeme at a place
 abbrev pub IsTrueOf : Options → List ℕ → ℕ → ParseError → Type 0

@@ -25,4 +25,6 @@ returns-clause-found g c =
     }
 
 pub returns-in-Err-clause-told : goal.returns-in-Err-clause-told
-returns-in-Err-clause-told g c = λ k. string_told _ _ _ _ (c.string_error.ensures.told (λ e. k (c.string_error.ensures.memory.1 e)))
+returns-in-Err-clause-told g c = λ k.
+    let wanted = c.string_error.ensures.memory.1 in
+    string_told _ _ _ _ c.in-Err.fault _ c.requires.quote.allowed (c.in-Err.ensures.told (λ e. k (wanted e))) (c.string_error.ensures.told (λ e. k (wanted e)))
