@@ -57,7 +57,7 @@ no_keyword_first bytes i c e n k r x = clash (begins_keyword c) n (rw e at (keyw
 no_comment_first : {t r u : List ℕ} (c : ℕ) → t ≡ c ∷ u → IsTrue (not (c == 0x2F)) → IsComment t r → ⊥
 no_comment_first c e n x = clash (c == 0x2F) n (rw e at (comment_begins x))
 
-slash_word : IsTrue (not (begins_word 0x2F))
+pub slash_word : IsTrue (not (begins_word 0x2F))
 unfolding is_wide_letter
 slash_word = refl
 

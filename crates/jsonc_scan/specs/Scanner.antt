@@ -1,6 +1,7 @@
 -- What a scanner has before it.
 use Rattle.std.specs.Prelude.{ℕ, ◌≡◌, ◌≤◌, ◌<◌, List, Option, Some, None, option_map, length, IsTrue}
 use Rattle.jsonc_scan.specs.declared.scanner.Scanner.{Scanner}
+use Rattle.jsonc_text.specs.declared.errors.ParseError.{ParseError}
 use Rattle.jsonc_text.specs.declared.tokens.Token.{Token}
 use Rattle.jsonc_text.specs.Options.{Options}
 use Rattle.jsonc_text.specs.OptionsOf.{parse_options}
@@ -9,6 +10,7 @@ use Rattle.jsonc_text.specs.Gaps.{is_blank}
 use Rattle.jsonc_text.specs.Lexemes.{Scanned, IsScanned}
 use Rattle.jsonc_text.specs.Tokens.{scanned_of}
 use Rattle.jsonc_scan.specs.Reads.{NothingAt}
+use Rattle.jsonc_scan.specs.Told.{IsTrueOf}
 use Rattle.jsonc_string.specs.Escapes.{IsLentUnescaped, HoldsBackslash}
 use Rattle.jsonc_text.specs.declared.tokens.Token.TheVariants.{String}
 
@@ -51,6 +53,10 @@ module _ {A : Type 0} where
   -- no token stands where the scanner's token would begin
   abbrev pub NothingStands : Scanner A → Type 0
   NothingStands s = NothingAt (options_of s) (text_of s) (start_of s)
+
+  -- what the fault's kind says of the lexeme where the scanner's token would begin, and of the fault's range, is true
+  abbrev pub IsTrueThere : Scanner A → ParseError → Type 0
+  IsTrueThere s e = IsTrueOf (options_of s) (text_of s) (start_of s) e
 
   -- a string token is lent by the text exactly where its literal holds no backslash
   abbrev pub IsLent : Scanner A → Option (Token A) → Type 0

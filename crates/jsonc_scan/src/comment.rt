@@ -4,7 +4,7 @@ ghost use Rattle.jsonc_string.specs.Between.{NoneFrom};
 ghost use Rattle.jsonc_text.specs.Chars.{Steps};
 ghost use Rattle.jsonc_text.specs.Gaps.{IsComment};
 ghost use Rattle.jsonc_scan.specs.Reads.{IsReadAnyhow};
-ghost use Rattle.jsonc_scan.specs.Refusals.{IsTextFault};
+ghost use Rattle.jsonc_scan.specs.Refusals.{IsTextFault, IsFaultOfComment};
 
 use crate::faults::fault;
 use crate::lexeme::{Lexeme, Read};
@@ -20,6 +20,7 @@ pub(crate) fn read_comment<'a>(text: &'a str, start: usize) -> Result<Read<'a>, 
     ensures found { IfOk result (IsReadAnyhow text.now start) }
     ensures none { IfErr result (λ _. NoneFrom IsComment text.now start) }
     ensures fault { IfErr result (IsTextFault text.now) }
+    ensures told { IfErr result (IsFaultOfComment text.now start) }
 {
     if has_byte(text, start + 1, b'/') {
         let end = stop_place(text, start + 2, b'\n', b'\r');

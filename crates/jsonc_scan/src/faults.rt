@@ -2,7 +2,7 @@
 ghost use Rattle.std.specs.Prelude.{◌≡◌, ◌≢◌};
 ghost use Rattle.jsonc_text.specs.Text.{Spans};
 ghost use Rattle.jsonc_text.specs.Faults.{kind_of};
-ghost use Rattle.jsonc_scan.specs.Refusals.{IsTextFault, IsTold};
+ghost use Rattle.jsonc_scan.specs.Refusals.{IsTextFault, IsTold, IsToldOfNext};
 
 use jsonc_text::chars::char_end;
 use jsonc_text::common::Range;
@@ -26,6 +26,7 @@ pub(crate) fn fault_at(text: &str, place: usize, kind: ParseErrorKind) -> ParseE
     requires kind { kind ≢ ParseErrorKind.OutOfMemory }
     ensures fault { IsTextFault text.now result }
     ensures kind { kind_of result ≡ kind }
+    ensures next { IsToldOfNext text.now place result }
 {
     let end = char_end(text, place);
     fault(text, place, end, kind)

@@ -87,7 +87,7 @@ impl<'a, A: Allocator> Scanner<'a, A> {
 
 impl<'a, A: Allocator + Copy> Scanner<'a, A> {
     ghost use Rattle.jsonc_text.specs.Faults.{IsFault, kind_of};
-    ghost use Rattle.jsonc_scan.specs.Scanner.{text_of, start_of, end_of, token_of, PassesBlanks, StandsAt, NothingStands, GoesOn, IsLent, HoldsEscape};
+    ghost use Rattle.jsonc_scan.specs.Scanner.{text_of, start_of, end_of, token_of, PassesBlanks, StandsAt, NothingStands, GoesOn, IsLent, HoldsEscape, IsTrueThere};
     ghost use Rattle.jsonc_text.specs.Tokens.{scanned_of};
 
     /// Moves to the next token, and answers it; or none at the end of the text.
@@ -102,6 +102,7 @@ impl<'a, A: Allocator + Copy> Scanner<'a, A> {
         ensures nothing { IfErr result (λ e. kind_of e ≢ ParseErrorKind.OutOfMemory → NothingStands self.new) }
         ensures begins { IfErr result (λ _. GoesOn self.new) }
         ensures fault { IfErr result (IsFault (text_of self.new)) }
+        ensures told { IfErr result (λ e. kind_of e ≢ ParseErrorKind.OutOfMemory → IsTrueThere self.new e) }
         ensures memory { IfErr result (λ e. kind_of e ≡ ParseErrorKind.OutOfMemory → HoldsEscape self.new) }
         ensures refused { OnErr result (token_of self.new ≡ token_of self.old) }
         ensures stays { OnErr result (end_of self.new ≡ start_of self.new) }

@@ -6,6 +6,7 @@ ghost use Rattle.jsonc_text.specs.OptionsOf.{parse_options};
 ghost use Rattle.jsonc_text.specs.Text.{Spans};
 ghost use Rattle.jsonc_string.specs.Escapes.{HoldsBackslash};
 ghost use Rattle.jsonc_scan.specs.Reads.{IsStringRead, NothingAt};
+ghost use Rattle.jsonc_scan.specs.Refusals.{IsFaultOfString, IsToldOfString};
 ghost use Rattle.jsonc_string.specs.Quotes.{OpensString};
 
 use jsonc_string::decode::decode_string;
@@ -36,6 +37,7 @@ pub(crate) fn read_string<'a, A: Allocator + Copy>(
     ensures found { IfOk result (IsStringRead (parse_options options.now) text.now start) }
     ensures none { IfErr result (λ e. kind_of e ≢ ParseErrorKind.OutOfMemory → NothingAt (parse_options options.now) text.now start) }
     ensures fault { IfErr result (IsFault text.now) }
+    ensures told { IfErr result (IsFaultOfString (parse_options options.now) text.now start) }
     ensures memory { IfErr result (λ e. kind_of e ≡ ParseErrorKind.OutOfMemory → HoldsBackslash text.now start (length text.now)) }
 {
     let literal = Literal {
@@ -62,6 +64,7 @@ fn string_error(text: &str, fault: StringFault) -> ParseError
     requires { Spans text.now fault.range.start fault.range.end }
     ensures fault { IsFault text.now result }
     ensures memory { kind_of result ≡ ParseErrorKind.OutOfMemory ↔ fault.kind ≡ ParseStringErrorKind.OutOfMemory }
+    ensures told { fault.kind ≢ ParseStringErrorKind.OutOfMemory → IsToldOfString fault result }
 {
     match fault.kind {
         ParseStringErrorKind::OutOfMemory => ParseError::out_of_memory(),

@@ -6,7 +6,7 @@ ghost use Rattle.jsonc_scan.specs.Between.{IsAlone, PassesOne, PassesWord, may_f
 ghost use Rattle.jsonc_text.specs.Letters.{is_wide_letter};
 ghost use Rattle.jsonc_text.specs.OptionsOf.{parse_options};
 ghost use Rattle.jsonc_scan.specs.Reads.{IsRead, IsReadAnyhow, NoName, NoWord};
-ghost use Rattle.jsonc_scan.specs.Refusals.{IsTextFault};
+ghost use Rattle.jsonc_scan.specs.Refusals.{IsTextFault, IsFaultOfWord};
 ghost use Rattle.jsonc_text.specs.Text.{rest, next, Many};
 ghost use Rattle.jsonc_text.specs.Words.{goes_on, is_in_word, begins_word, EndsWord, Keyword, IsKeyword};
 ghost use Rattle.jsonc_text.specs.Faults.{kind_of};
@@ -163,6 +163,7 @@ pub(crate) fn word_end(text: &str, start: usize) -> Result<usize, ParseError>
     ensures none { IfErr result (λ _. NoneFrom PassesWord text.now start) }
     ensures fault { IfErr result (IsTextFault text.now) }
     ensures kind { IfErr result (λ e. kind_of e ≡ ParseErrorKind.UnexpectedToken) }
+    ensures told { IfErr result (IsFaultOfWord text.now start) }
 {
     let Some(first) = first_end(text, start) else {
         return Err(fault_at(text, start, ParseErrorKind::UnexpectedToken));
@@ -209,6 +210,7 @@ pub(crate) fn read_word<'a>(
     ensures found { IfOk result (IsRead (parse_options options.now) text.now start) }
     ensures none { IfErr result (λ _. NoWord (parse_options options.now) text.now start) }
     ensures fault { IfErr result (IsTextFault text.now) }
+    ensures told { IfErr result (IsFaultOfWord text.now start) }
 {
     let end = word_end(text, start)?;
     let lexeme = Lexeme::Word(&text[start..end]);

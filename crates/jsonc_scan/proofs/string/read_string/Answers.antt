@@ -2,6 +2,7 @@ use Rattle.std.proofs.Common.{ap, sym, ◌∙◌, chars}
 use Rattle.jsonc_text.proofs.FaultLemmas.{out_of_memory_is_fault}
 use Rattle.jsonc_scan.proofs.NoLexemes.{string_nothing}
 use Rattle.jsonc_string.proofs.QuotedStrings.{scanned_of_quoted, holds_more}
+use Rattle.jsonc_scan.proofs.ToldWords.{string_told}
 use Rattle.jsonc_scan.proofs.string.read_string.Goals as goal
 
 pub returns-in-Err-clause-none : goal.returns-in-Err-clause-none
@@ -22,3 +23,8 @@ returns-clause-found g c =
       lent = record { copied = (λ b. lent.copied.0 (copy.owned.0 b), λ h. copy.owned.1 (lent.copied.1 h)); slice = λ b. copy.bytes ∙ lent.slice (copy.borrowed b) };
       same = sym copy.bytes;
     }
+
+pub returns-in-Err-clause-told : goal.returns-in-Err-clause-told
+returns-in-Err-clause-told g c = λ k.
+    let wanted = c.string_error.ensures.memory.1 in
+    string_told _ _ _ _ c.in-Err.fault _ c.requires.quote.allowed (c.in-Err.ensures.told (λ e. k (wanted e))) (c.string_error.ensures.told (λ e. k (wanted e)))

@@ -1,0 +1,72 @@
+-- What each fault of a word, a comment, a quote and a string says is true.
+use Rattle.std.proofs.Common.{ℕ, ◌+◌, ◌≡◌, ◌∙◌, ap, refl, Bool, true, false, not, List, [], ◌∷◌, length, IsTrue, arith, ◌==◌, ◌||◌, IsUtf8, IsCharBoundary}
+use Rattle.jsonc_text.specs.declared.errors.ParseError.{ParseError}
+use Rattle.jsonc_text.specs.declared.errors.ParseErrorKind.TheVariants as kind
+use Rattle.jsonc_text.specs.Chars.{Steps}
+use Rattle.jsonc_text.specs.Faults.{kind_of}
+use Rattle.jsonc_text.specs.Gaps.{UpToBlockEnd}
+use Rattle.jsonc_text.specs.Options.{Options}
+use Rattle.jsonc_text.specs.Text.{rest, next, Many, step, is_digit}
+use Rattle.jsonc_text.specs.Words.{begins_word, is_in_word, EndsWord}
+use Rattle.jsonc_text.specs.Strings.{IsQuote}
+use Rattle.jsonc_string.specs.declared.escape.StringFault.{StringFault}
+use Rattle.jsonc_string.specs.Told.{Tells as TellsOfString}
+use Rattle.jsonc_string.specs.Between.{LacksAt, NoneFrom}
+use Rattle.jsonc_string.specs.Quotes.{OpensNoString}
+use Rattle.jsonc_scan.specs.Refusals.{IsTold, IsToldOfNext, IsToldOfString, BeginsNoOther}
+use Rattle.jsonc_scan.specs.Told as t
+use Rattle.jsonc_scan.specs.Told.{IsNext, Tells, IsTrueOf, BreaksWord, begins_other}
+use Rattle.jsonc_text.proofs.Basics.{or_left}
+use Rattle.jsonc_text.proofs.Cuts.{end_place}
+use Rattle.jsonc_text.proofs.Steps.{rest_end}
+use Rattle.jsonc_scan.proofs.NoLexemes.{slash_word}
+use Rattle.jsonc_scan.proofs.Told.{told_from, told_next, next_of, no_either, not_starts}
+
+-- a word that breaks off
+broken_word : (bytes : List ℕ) (i j k c : ℕ) → IsTrue (begins_word c) → Steps bytes i c j → Many is_in_word (rest bytes j) (rest bytes k) → LacksAt is_in_word bytes k → (EndsWord (next (rest bytes k)) → ⊥) → BreaksWord (rest bytes i) (rest bytes k)
+broken_word bytes i j k c h s many all f =
+    let within : IsTrue (is_in_word c) = or_left (begins_word c || is_digit c) (c == 0x2D) (or_left (begins_word c) (is_digit c) h) in
+    record { begins = rw s.0 h; goes_on = rw s.0 (step within many); all = all; no_end = f }
+
+pub word_told : (bytes : List ℕ) (i j k c : ℕ) (e : ParseError) → IsTrue (begins_word c) → Steps bytes i c j → Many is_in_word (rest bytes j) (rest bytes k) → LacksAt is_in_word bytes k → (EndsWord (next (rest bytes k)) → ⊥) → IsTold i k kind.UnexpectedToken e → (o : Options) → IsTrueOf o bytes i e
+word_told bytes i j k c e h s many all f x o = told_from o bytes i i k _ e x (t.broken_word (broken_word bytes i j k c h s many all f))
+
+lone_tells : {o : Options} {c : ℕ} {s u r : List ℕ} → s ≡ c ∷ u → IsTrue (not (begins_word c)) → IsTrue (not (begins_other (c ∷ u))) → IsNext s r → Tells o kind.UnexpectedToken s s r
+lone_tells e w h n = rw (e, next_of (rw e at n)) (t.lone_character w h)
+
+-- a character with which nothing begins
+pub character_told : (bytes : List ℕ) (i : ℕ) (e : ParseError) → IsUtf8 bytes → IsCharBoundary bytes i → LacksAt begins_word bytes i → kind_of e ≡ kind.UnexpectedToken → IsToldOfNext bytes i e → BeginsNoOther bytes i → (o : Options) → IsTrueOf o bytes i e
+character_told bytes i e u b w k n h o = go (rest bytes i) refl
+  where
+    go : (t : List ℕ) → rest bytes i ≡ t → IsTrueOf o bytes i e
+    go [] z = let last = end_place bytes i u b z in absurd (omega (arith, h.inside, last))
+    go (c ∷ t) z = told_next o bytes i i _ e k n (λ x. lone_tells z (rw z at w) (rw z at h.other) x)
+
+-- a slash that begins no comment
+pub slash_told : (bytes : List ℕ) (i : ℕ) (e : ParseError) → Steps bytes i 0x2F (i + 1) → LacksAt (λ c. c == 0x2F) bytes (i + 1) → LacksAt (λ c. c == 0x2A) bytes (i + 1) → IsTold i (i + 1) kind.UnexpectedToken e → (o : Options) → IsTrueOf o bytes i e
+slash_told bytes i e s a b x o =
+    let n = next (rest bytes (i + 1)) in
+    let alone = not_starts (λ c. c == 0x2F || c == 0x2A) n (no_either (λ c. c == 0x2F) (λ c. c == 0x2A) n a b) in
+    told_from o bytes i i (i + 1) _ e x (rw s.0 (t.lone_character slash_word alone))
+
+-- a block comment that does not end
+pub block_told : (bytes : List ℕ) (i : ℕ) (e : ParseError) → Steps bytes i 0x2F (i + 1) → Steps bytes (i + 1) 0x2A (i + 1 + 1) → NoneFrom UpToBlockEnd bytes (i + 2) → IsTold i (length bytes) kind.UnterminatedCommentBlock e → (o : Options) → IsTrueOf o bytes i e
+block_told bytes i e s d n x o =
+    let two : i + 1 + 1 ≡ i + 2 = omega arith in
+    let star = rw two at d in
+    let opening : rest bytes i ≡ 0x2F ∷ 0x2A ∷ rest bytes (i + 2) = s.0 ∙ ap (λ t. 0x2F ∷ t) star.0 in
+    told_from o bytes i i (length bytes) _ e x (rw (opening, rest_end bytes (length bytes) (omega arith)) (t.open_block n))
+
+-- a single quote where it opens no string
+quote_off : (b : Bool) → IsTrue (not b) → b ≡ false
+quote_off true h = cc
+quote_off false h = refl
+
+pub quote_told : (o : Options) (bytes : List ℕ) (i : ℕ) (e : ParseError) → Steps bytes i 0x27 (i + 1) → OpensNoString o bytes i → IsTold i (i + 1) kind.SingleQuotedStringsNotAllowed e → IsTrueOf o bytes i e
+quote_told o bytes i e s n x =
+    told_from o bytes i i (i + 1) _ e x (rw s.0 (t.single_quote (quote_off o.single_quoted_strings (rw s.0 at n))))
+
+-- a string's fault
+pub string_told : (o : Options) (bytes : List ℕ) (i q : ℕ) (fault : StringFault) (e : ParseError) → IsQuote o q → TellsOfString o.extended_escapes q fault.kind (rest bytes i) (rest bytes fault.range.start) (rest bytes fault.range.end) → IsToldOfString fault e → IsTrueOf o bytes i e
+string_told o bytes i q fault e a s x =
+    told_from o bytes i fault.range.start fault.range.end _ e x (t.string_fault a s)
