@@ -10,3 +10,4 @@ pub mod Properties
 pub mod Refusals
 pub mod NoValues
 pub mod Leaves
+pub mod Firsts

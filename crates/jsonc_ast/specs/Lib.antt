@@ -6,3 +6,6 @@ pub mod Context
 pub mod Reads
 pub mod Refusals
 pub mod Collected
+pub mod Access
+pub mod Node
+pub mod Comment
