@@ -11,3 +11,4 @@ pub mod Refusals
 pub mod NoValues
 pub mod Leaves
 pub mod Firsts
+pub mod Copies

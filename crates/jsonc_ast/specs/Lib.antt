@@ -9,3 +9,4 @@ pub mod Collected
 pub mod Access
 pub mod Node
 pub mod Comment
+pub mod Copies

@@ -1,7 +1,6 @@
 -- What a node of the syntax tree holds.
-use Rattle.std.specs.Prelude.{Bool, List, Option, Some, None}
+use Rattle.std.specs.Prelude.{Option, Some, None}
 use Rattle.jsonc_text.specs.declared.common.Range.{Range}
-use Rattle.jsonc_ast.specs.Located.{range_at}
 use Rattle.jsonc_ast.specs.Views.{member_of}
 use Rattle.jsonc_ast.specs.Access.{range_of}
 use Rattle.jsonc_ast.specs.declared.ast.StringLit.{StringLit}

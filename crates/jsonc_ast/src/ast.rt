@@ -5,6 +5,7 @@ ghost use Rattle.jsonc_ast.specs.Views.{located, object_located, items_located, 
 
 mod access;
 mod comment;
+mod copies;
 mod node;
 
 pub use comment::{Comment, CommentBlock, CommentKind, CommentLine};
@@ -23,14 +24,14 @@ pub struct StringLit<'a, A: Allocator> {
 }
 
 /// A name without quotes.
-#[derive(PartialEq, Eq, Drop)]
+#[derive(Clone, PartialEq, Eq, Drop)]
 pub struct WordLit<'a> {
     pub range: Range,
     pub value: &'a str,
 }
 
 /// A number, as `123` or `-1.2e+2`.
-#[derive(PartialEq, Eq, Drop)]
+#[derive(Clone, PartialEq, Eq, Drop)]
 pub struct NumberLit<'a> {
     pub range: Range,
     /// Its text.
@@ -38,14 +39,14 @@ pub struct NumberLit<'a> {
 }
 
 /// `true` or `false`.
-#[derive(PartialEq, Eq, Drop)]
+#[derive(Clone, PartialEq, Eq, Drop)]
 pub struct BooleanLit {
     pub range: Range,
     pub value: bool,
 }
 
 /// `null`.
-#[derive(PartialEq, Eq, Drop)]
+#[derive(Clone, PartialEq, Eq, Drop)]
 pub struct NullKeyword {
     pub range: Range,
 }
