@@ -3,12 +3,20 @@ ghost use Rattle.std.specs.Prelude.{◌≡◌, OnOk};
 ghost use Rattle.jsonc_ast.specs.Located.{array_at, object_at, range_at};
 ghost use Rattle.jsonc_ast.specs.Views.{located, object_located, items_located, member_of, members_located, name_at, Grown};
 
+mod access;
+mod comment;
+mod copies;
+mod node;
+
+pub use comment::{Comment, CommentBlock, CommentKind, CommentLine};
 use jsonc_text::common::{Range, Ranged};
+pub use node::{Node, NodeKind};
 use std::alloc::{AllocError, Allocator};
 use std::borrow::CowStr;
 
 /// A text in quotes, as `"name"`.
-#[derive(PartialEq, Eq, Drop)]
+#[derive(Drop)]
+#[derive_where(PartialEq, Eq)]
 pub struct StringLit<'a, A: Allocator> {
     pub range: Range,
     /// What stands between the quotes, with its escapes decoded.
@@ -16,14 +24,14 @@ pub struct StringLit<'a, A: Allocator> {
 }
 
 /// A name without quotes.
-#[derive(PartialEq, Eq, Drop)]
+#[derive(Clone, PartialEq, Eq, Drop)]
 pub struct WordLit<'a> {
     pub range: Range,
     pub value: &'a str,
 }
 
 /// A number, as `123` or `-1.2e+2`.
-#[derive(PartialEq, Eq, Drop)]
+#[derive(Clone, PartialEq, Eq, Drop)]
 pub struct NumberLit<'a> {
     pub range: Range,
     /// Its text.
@@ -31,20 +39,21 @@ pub struct NumberLit<'a> {
 }
 
 /// `true` or `false`.
-#[derive(PartialEq, Eq, Drop)]
+#[derive(Clone, PartialEq, Eq, Drop)]
 pub struct BooleanLit {
     pub range: Range,
     pub value: bool,
 }
 
 /// `null`.
-#[derive(PartialEq, Eq, Drop)]
+#[derive(Clone, PartialEq, Eq, Drop)]
 pub struct NullKeyword {
     pub range: Range,
 }
 
 /// The name of a property, with or without quotes.
-#[derive(PartialEq, Eq, Drop)]
+#[derive(Drop)]
+#[derive_where(PartialEq, Eq)]
 pub enum ObjectPropName<'a, A: Allocator> {
     String(StringLit<'a, A>),
     Word(WordLit<'a>),
@@ -52,7 +61,8 @@ pub enum ObjectPropName<'a, A: Allocator> {
 
 /// A value.
 #[cycle(ast)]
-#[derive(PartialEq, Eq, Drop)]
+#[derive(Drop)]
+#[derive_where(PartialEq, Eq)]
 pub enum Value<'a, A: Allocator> {
     StringLit(StringLit<'a, A>),
     NumberLit(NumberLit<'a>),
@@ -64,7 +74,8 @@ pub enum Value<'a, A: Allocator> {
 
 /// An object, as `{ "name": 4 }`, from its `{` to its `}`.
 #[cycle(ast)]
-#[derive(PartialEq, Eq, Drop)]
+#[derive(Drop)]
+#[derive_where(PartialEq, Eq)]
 pub struct Object<'a, A: Allocator> {
     pub range: Range,
     pub properties: Vec<ObjectProp<'a, A>, A>,
@@ -72,7 +83,8 @@ pub struct Object<'a, A: Allocator> {
 
 /// A property of an object, from its name to its value.
 #[cycle(ast)]
-#[derive(PartialEq, Eq, Drop)]
+#[derive(Drop)]
+#[derive_where(PartialEq, Eq)]
 pub struct ObjectProp<'a, A: Allocator> {
     pub range: Range,
     pub name: ObjectPropName<'a, A>,
@@ -81,7 +93,8 @@ pub struct ObjectProp<'a, A: Allocator> {
 
 /// An array, as `[5, 6]`, from its `[` to its `]`.
 #[cycle(ast)]
-#[derive(PartialEq, Eq, Drop)]
+#[derive(Drop)]
+#[derive_where(PartialEq, Eq)]
 pub struct Array<'a, A: Allocator> {
     pub range: Range,
     pub elements: Vec<Value<'a, A>, A>,

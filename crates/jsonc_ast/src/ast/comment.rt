@@ -1,0 +1,86 @@
+//! Comments, and where they stand in their text.
+ghost use Rattle.std.specs.Prelude.{◌≡◌};
+ghost use Rattle.jsonc_ast.specs.Comment.{comment_text, comment_kind, comment_range};
+
+use jsonc_text::common::{Range, Ranged};
+
+/// What marks a comment.
+#[derive(Clone, Copy, Debug, PartialEq, Eq)]
+pub enum CommentKind {
+    /// `//`, up to the end of the line.
+    Line,
+    /// `/*`, up to the next `*/`.
+    Block,
+}
+
+/// A comment to the end of its line, as `// why`.
+#[derive(Clone, PartialEq, Eq, Drop)]
+pub struct CommentLine<'a> {
+    pub range: Range,
+    /// What stands after its `//`.
+    pub text: &'a str,
+}
+
+/// A comment in marks, as `/* why */`.
+#[derive(Clone, PartialEq, Eq, Drop)]
+pub struct CommentBlock<'a> {
+    pub range: Range,
+    /// What stands between its `/*` and its `*/`.
+    pub text: &'a str,
+}
+
+/// A comment.
+#[derive(Clone, PartialEq, Eq, Drop)]
+pub enum Comment<'a> {
+    Line(CommentLine<'a>),
+    Block(CommentBlock<'a>),
+}
+
+impl<'a> Comment<'a> {
+    /// What stands inside its marks.
+    pub fn text(&self) -> &'a str
+        ensures { result ≡ comment_text self.now }
+    {
+        match self {
+            Comment::Line(line) => line.text,
+            Comment::Block(block) => block.text,
+        }
+    }
+
+    /// What marks it.
+    pub fn kind(&self) -> CommentKind
+        ensures { result ≡ comment_kind self.now }
+    {
+        match self {
+            Comment::Line(_) => CommentKind::Line,
+            Comment::Block(_) => CommentKind::Block,
+        }
+    }
+}
+
+impl<'a> Ranged for CommentLine<'a> {
+    ghost range_of = { λ x. x.range };
+
+    fn range(&self) -> Range {
+        self.range
+    }
+}
+
+impl<'a> Ranged for CommentBlock<'a> {
+    ghost range_of = { λ x. x.range };
+
+    fn range(&self) -> Range {
+        self.range
+    }
+}
+
+impl<'a> Ranged for Comment<'a> {
+    ghost range_of = { λ x. comment_range x };
+
+    fn range(&self) -> Range {
+        match self {
+            Comment::Line(line) => line.range,
+            Comment::Block(block) => block.range,
+        }
+    }
+}

@@ -1,0 +1,131 @@
+//! Copies of values.
+ghost use Rattle.std.specs.Prelude.{◌≡◌, IfOk, map};
+ghost use Rattle.std.specs.Cow.{cow_str_bytes};
+ghost use Rattle.jsonc_ast.specs.Views.{located, object_located, member_of, name_at};
+ghost use Rattle.jsonc_ast.specs.Copies.{array_located, in_quotes, quotes, quotes_in_array, quotes_in_object, quotes_in_property};
+
+use super::{Array, Object, ObjectProp, ObjectPropName, StringLit, Value};
+use std::alloc::{AllocError, Allocator};
+
+impl<'a, A: Allocator + Copy> StringLit<'a, A> {
+    /// The same text at the same place.
+    pub fn try_clone(&self) -> Result<Self, AllocError>
+        ensures range { IfOk result (λ s. s.range ≡ self.now.range) }
+        ensures text { IfOk result (λ s. cow_str_bytes s.value ≡ cow_str_bytes self.now.value) }
+    {
+        Ok(StringLit {
+            range: self.range,
+            value: self.value.clone()?,
+        })
+    }
+}
+
+impl<'a, A: Allocator + Copy> ObjectPropName<'a, A> {
+    /// The same name at the same place, in quotes where it is so.
+    pub fn try_clone(&self) -> Result<Self, AllocError>
+        ensures name { IfOk result (λ n. name_at n ≡ name_at self.now) }
+        ensures quotes { IfOk result (λ n. in_quotes n ≡ in_quotes self.now) }
+    {
+        match self {
+            ObjectPropName::String(name) => Ok(ObjectPropName::String(name.try_clone()?)),
+            ObjectPropName::Word(name) => Ok(ObjectPropName::Word(name.clone()?)),
+        }
+    }
+}
+
+impl<'a, A: Allocator + Copy> Value<'a, A> {
+    /// The same value, with the same places of its nodes.
+    #[cycle(copy)]
+    pub fn try_clone(&self) -> Result<Self, AllocError>
+        ensures value { IfOk result (λ v. located v ≡ located self.now) }
+        ensures quotes { IfOk result (λ v. quotes v ≡ quotes self.now) }
+    {
+        match self {
+            Value::StringLit(string) => Ok(Value::StringLit(string.try_clone()?)),
+            Value::NumberLit(number) => Ok(Value::NumberLit(number.clone()?)),
+            Value::BooleanLit(boolean) => Ok(Value::BooleanLit(boolean.clone()?)),
+            Value::Object(object) => Ok(Value::Object(object.try_clone()?)),
+            Value::Array(array) => Ok(Value::Array(array.try_clone()?)),
+            Value::NullKeyword(null) => Ok(Value::NullKeyword(null.clone()?)),
+        }
+    }
+}
+
+impl<'a, A: Allocator + Copy> Object<'a, A> {
+    /// The same properties in the same order, with the same places of their nodes.
+    #[cycle(copy)]
+    pub fn try_clone(&self) -> Result<Self, AllocError>
+        ensures value { IfOk result (λ o. object_located o ≡ object_located self.now) }
+        ensures quotes { IfOk result (λ o. quotes_in_object o ≡ quotes_in_object self.now) }
+    {
+        let copies = copy_properties(*self.properties.allocator(), self.properties.as_slice())?;
+        Ok(Object {
+            range: self.range,
+            properties: copies,
+        })
+    }
+}
+
+impl<'a, A: Allocator + Copy> ObjectProp<'a, A> {
+    /// The same name and value, with the same places of their nodes.
+    #[cycle(copy)]
+    pub fn try_clone(&self) -> Result<Self, AllocError>
+        ensures value { IfOk result (λ p. member_of p ≡ member_of self.now) }
+        ensures quotes { IfOk result (λ p. quotes_in_property p ≡ quotes_in_property self.now) }
+    {
+        let name = self.name.try_clone()?;
+        let value = self.value.try_clone()?;
+        Ok(ObjectProp {
+            range: self.range,
+            name,
+            value,
+        })
+    }
+}
+
+impl<'a, A: Allocator + Copy> Array<'a, A> {
+    /// The same elements in the same order, with the same places of their nodes.
+    #[cycle(copy)]
+    pub fn try_clone(&self) -> Result<Self, AllocError>
+        ensures value { IfOk result (λ a. array_located a ≡ array_located self.now) }
+        ensures quotes { IfOk result (λ a. quotes_in_array a ≡ quotes_in_array self.now) }
+    {
+        let copies = copy_elements(*self.elements.allocator(), self.elements.as_slice())?;
+        Ok(Array {
+            range: self.range,
+            elements: copies,
+        })
+    }
+}
+
+// The same values again, in a vector of this allocator.
+#[cycle(copy)]
+fn copy_elements<'a, A: Allocator + Copy>(
+    alloc: A,
+    values: &[Value<'a, A>],
+) -> Result<Vec<Value<'a, A>, A>, AllocError>
+    ensures values { IfOk result (λ v. map located v.items ≡ map located values.now) }
+    ensures quotes { IfOk result (λ v. map quotes v.items ≡ map quotes values.now) }
+{
+    let mut copies = Vec::with_capacity(alloc, values.len())?;
+    for value in values {
+        copies.push(value.try_clone()?)?;
+    }
+    Ok(copies)
+}
+
+// The same of properties.
+#[cycle(copy)]
+fn copy_properties<'a, A: Allocator + Copy>(
+    alloc: A,
+    properties: &[ObjectProp<'a, A>],
+) -> Result<Vec<ObjectProp<'a, A>, A>, AllocError>
+    ensures values { IfOk result (λ v. map member_of v.items ≡ map member_of properties.now) }
+    ensures quotes { IfOk result (λ v. map quotes_in_property v.items ≡ map quotes_in_property properties.now) }
+{
+    let mut copies = Vec::with_capacity(alloc, properties.len())?;
+    for property in properties {
+        copies.push(property.try_clone()?)?;
+    }
+    Ok(copies)
+}
