@@ -14,6 +14,7 @@ ghost use Rattle.jsonc_layout.specs.Growth.{Grows};
 ghost use Rattle.jsonc_layout.specs.Laid.{FillsBetween};
 ghost use Rattle.jsonc_layout.specs.Leaves.{GapLeaf, LeafAt, is_inner_blank};
 
+use crate::room::make_room;
 use jsonc_text::chars::char_at;
 use jsonc_tree::{CstNewlineKind, Kind, Part, Tree};
 use std::alloc::{AllocError, Allocator};
@@ -200,7 +201,7 @@ fn leaf_at<A: Allocator>(
 }
 
 // Adds the leaves between two places to the end of a container.
-pub(crate) fn fill_between<A: Allocator + Copy>(
+fn fill_gap<A: Allocator + Copy>(
     tree: &mut Tree<A>,
     container: usize,
     whole: &RcStr<A>,
@@ -224,4 +225,23 @@ pub(crate) fn fill_between<A: Allocator + Copy>(
         place = end;
     }
     Ok(())
+}
+
+// Makes room for nodes, and adds the leaves between two places to the end of a container.
+pub(crate) fn fill_between<A: Allocator + Copy>(
+    tree: &mut Tree<A>,
+    container: usize,
+    whole: &RcStr<A>,
+    text: &str,
+    from: usize,
+    to: usize,
+) -> Result<(), AllocError>
+    requires whole { rc_str_bytes whole.now ≡ text.now }
+    requires there { container < length tree.old.nodes }
+    requires container { IsTrue (is_container_at tree.old.nodes container) }
+    requires fillable { IsFillable text.now from to }
+    ensures { OnOk result ((row : OrderedTree) × Grows tree.old.nodes tree.new.nodes container row × FillsBetween text.now from to row) }
+{
+    make_room(tree, from, text.len());
+    fill_gap(tree, container, whole, text, from, to)
 }
