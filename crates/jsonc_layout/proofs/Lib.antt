@@ -17,3 +17,4 @@ pub mod Shapes
 pub mod ShapeTexts
 pub mod ShapeValues
 pub mod Building
+pub mod Parts

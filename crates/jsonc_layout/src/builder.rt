@@ -1,5 +1,6 @@
 //! From a syntax tree to the tree of its text.
-ghost use Rattle.std.specs.Prelude.{◌≡◌, ◌+◌, ◌-◌, ◌<◌, ◌≤◌, IfOk, IsTrue, OnOk, IsCharBoundary, length, option_map, slice_range, string_bytes};
+ghost use Rattle.std.specs.Prelude.{◌≡◌, ◌+◌, ◌-◌, ◌<◌, ◌≤◌, IfOk, IsTrue, OnOk, IsCharBoundary, length, option_map, slice_range};
+ghost use Rattle.std.specs.Rc.{rc_str_bytes};
 ghost use Rattle.jsonc_text.specs.Options.{Options};
 ghost use Rattle.jsonc_text.specs.Text.{Spans};
 ghost use Rattle.jsonc_tree.specs.Content.{Content};
@@ -18,15 +19,16 @@ use crate::fill::fill_between;
 use jsonc_ast::ast::{ObjectProp, Value};
 use jsonc_text::chars::char_at;
 use jsonc_text::common::{Range, Ranged};
-use jsonc_tree::{Kind, Tree};
+use jsonc_tree::{Kind, Part, Tree};
 use std::alloc::{AllocError, Allocator};
+use std::rc::RcStr;
 
 // The text in a range, as written.
-fn written<A: Allocator>(alloc: A, text: &str, range: Range) -> Result<String<A>, AllocError>
-    requires { Spans text.now range.start range.end }
-    ensures { IfOk result (λ s. string_bytes s ≡ slice_range text.now range.start range.end) }
+fn written<A: Allocator>(whole: &RcStr<A>, range: Range) -> Result<Part<A>, AllocError>
+    requires { Spans (rc_str_bytes whole.now) range.start range.end }
+    ensures { IfOk result (λ s. s ≡ slice_range (rc_str_bytes whole.now) range.start range.end) }
 {
-    String::from_str(alloc, &text[range.start..range.end])
+    Part::new(whole, range.start, range.end)
 }
 
 // Whether a quote stands at a place.
@@ -44,21 +46,22 @@ fn is_quote_at(text: &str, place: usize) -> bool
 fn build_name<A: Allocator + Copy>(
     tree: &mut Tree<A>,
     container: usize,
-    alloc: A,
+    whole: &RcStr<A>,
     text: &str,
     range: Range,
 ) -> Result<(), AllocError>
+    requires whole { rc_str_bytes whole.now ≡ text.now }
     requires there { container < length tree.old.nodes }
     requires container { IsTrue (is_container_at tree.old.nodes container) }
     requires spans { Spans text.now range.start range.end }
     ensures { OnOk result ((content : Content) × Grows tree.old.nodes tree.new.nodes container (more content none none) × NameLaid text.now range content) }
 {
-    let name = written(alloc, text, range)?;
+    let name = written(whole, range)?;
     if is_quote_at(text, range.start) {
-        tree.push_child(container, Kind::String(name))?;
+        tree.push_child(container, Kind::StringPart(name))?;
         return Ok(());
     }
-    tree.push_child(container, Kind::Word(name))?;
+    tree.push_child(container, Kind::WordPart(name))?;
     Ok(())
 }
 
@@ -76,10 +79,11 @@ fn inside(range: Range) -> Range
 fn build_value<A: Allocator + Copy>(
     tree: &mut Tree<A>,
     container: usize,
-    alloc: A,
+    whole: &RcStr<A>,
     text: &str,
     value: &Value<'_, A>,
 ) -> Result<(), AllocError>
+    requires whole { rc_str_bytes whole.now ≡ text.now }
     requires there { container < length tree.old.nodes }
     requires container { IsTrue (is_container_at tree.old.nodes container) }
     requires lies { CanLay text.now (located value.now) }
@@ -87,13 +91,13 @@ fn build_value<A: Allocator + Copy>(
 {
     match value {
         Value::StringLit(value) => {
-            let text = written(alloc, text, value.range)?;
-            tree.push_child(container, Kind::String(text))?;
+            let text = written(whole, value.range)?;
+            tree.push_child(container, Kind::StringPart(text))?;
             Ok(())
         }
         Value::NumberLit(value) => {
-            let text = written(alloc, text, value.range)?;
-            tree.push_child(container, Kind::Number(text))?;
+            let text = written(whole, value.range)?;
+            tree.push_child(container, Kind::NumberPart(text))?;
             Ok(())
         }
         Value::BooleanLit(value) => {
@@ -108,7 +112,7 @@ fn build_value<A: Allocator + Copy>(
             let node = tree.push_child(container, Kind::Array)?;
             tree.push_child(node, Kind::Token('['))?;
             let range = inside(array.range);
-            build_elements(tree, node, alloc, text, &array.elements, range)?;
+            build_elements(tree, node, whole, text, &array.elements, range)?;
             tree.push_child(node, Kind::Token(']'))?;
             Ok(())
         }
@@ -116,7 +120,7 @@ fn build_value<A: Allocator + Copy>(
             let node = tree.push_child(container, Kind::Object)?;
             tree.push_child(node, Kind::Token('{'))?;
             let range = inside(object.range);
-            build_properties(tree, node, alloc, text, &object.properties, range)?;
+            build_properties(tree, node, whole, text, &object.properties, range)?;
             tree.push_child(node, Kind::Token('}'))?;
             Ok(())
         }
@@ -128,11 +132,12 @@ fn build_value<A: Allocator + Copy>(
 fn build_elements<A: Allocator + Copy>(
     tree: &mut Tree<A>,
     container: usize,
-    alloc: A,
+    whole: &RcStr<A>,
     text: &str,
     elements: &[Value<'_, A>],
     range: Range,
 ) -> Result<(), AllocError>
+    requires whole { rc_str_bytes whole.now ≡ text.now }
     requires there { container < length tree.old.nodes }
     requires container { IsTrue (is_container_at tree.old.nodes container) }
     requires lie { CanLayItems text.now range.start (items_located elements.now) range.end }
@@ -141,11 +146,11 @@ fn build_elements<A: Allocator + Copy>(
     let mut from = range.start;
     for element in elements {
         let range = element.range();
-        fill_between(tree, container, alloc, text, from, range.start)?;
-        build_value(tree, container, alloc, text, element)?;
+        fill_between(tree, container, whole, text, from, range.start)?;
+        build_value(tree, container, whole, text, element)?;
         from = range.end;
     }
-    fill_between(tree, container, alloc, text, from, range.end)
+    fill_between(tree, container, whole, text, from, range.end)
 }
 
 // Adds the properties of an object, and the leaves before, between and after them, from one place to another.
@@ -153,11 +158,12 @@ fn build_elements<A: Allocator + Copy>(
 fn build_properties<A: Allocator + Copy>(
     tree: &mut Tree<A>,
     container: usize,
-    alloc: A,
+    whole: &RcStr<A>,
     text: &str,
     properties: &[ObjectProp<'_, A>],
     range: Range,
 ) -> Result<(), AllocError>
+    requires whole { rc_str_bytes whole.now ≡ text.now }
     requires there { container < length tree.old.nodes }
     requires container { IsTrue (is_container_at tree.old.nodes container) }
     requires lie { CanLayMembers text.now range.start (members_located properties.now) range.end }
@@ -166,12 +172,12 @@ fn build_properties<A: Allocator + Copy>(
     let mut from = range.start;
     for property in properties {
         let range = property.range();
-        fill_between(tree, container, alloc, text, from, range.start)?;
+        fill_between(tree, container, whole, text, from, range.start)?;
         let node = tree.push_child(container, Kind::Property)?;
-        build_property(tree, node, alloc, text, property)?;
+        build_property(tree, node, whole, text, property)?;
         from = range.end;
     }
-    fill_between(tree, container, alloc, text, from, range.end)
+    fill_between(tree, container, whole, text, from, range.end)
 }
 
 // Adds a property's name, its value, and the leaves between them.
@@ -179,10 +185,11 @@ fn build_properties<A: Allocator + Copy>(
 fn build_property<A: Allocator + Copy>(
     tree: &mut Tree<A>,
     container: usize,
-    alloc: A,
+    whole: &RcStr<A>,
     text: &str,
     property: &ObjectProp<'_, A>,
 ) -> Result<(), AllocError>
+    requires whole { rc_str_bytes whole.now ≡ text.now }
     requires there { container < length tree.old.nodes }
     requires container { IsTrue (is_container_at tree.old.nodes container) }
     requires lies { CanLayProperty text.now (member_of property.now).name (member_of property.now).value }
@@ -190,31 +197,32 @@ fn build_property<A: Allocator + Copy>(
 {
     let name = property.name.range();
     let value = property.value.range();
-    build_name(tree, container, alloc, text, name)?;
-    fill_between(tree, container, alloc, text, name.end, value.start)?;
-    build_value(tree, container, alloc, text, &property.value)
+    build_name(tree, container, whole, text, name)?;
+    fill_between(tree, container, whole, text, name.end, value.start)?;
+    build_value(tree, container, whole, text, &property.value)
 }
 
 // Adds the leaves of a text, and its value, if it has one, to the root.
 fn build_root<A: Allocator + Copy>(
     tree: &mut Tree<A>,
-    alloc: A,
+    whole: &RcStr<A>,
     text: &str,
     value: Option<&Value<'_, A>>,
 ) -> Result<(), AllocError>
+    requires whole { rc_str_bytes whole.now ≡ text.now }
     requires there { 0 < length tree.old.nodes }
     requires container { IsTrue (is_container_at tree.old.nodes 0) }
     requires lies { CanLayDocument text.now (located_in value) }
     ensures { OnOk result ((row : OrderedTree) × Grows tree.old.nodes tree.new.nodes 0 row × RootLaid text.now (located_in value.entry) row) }
 {
     let Some(value) = value else {
-        fill_between(tree, 0, alloc, text, 0, text.len())?;
+        fill_between(tree, 0, whole, text, 0, text.len())?;
         return Ok(());
     };
     let range = value.range();
-    fill_between(tree, 0, alloc, text, 0, range.start)?;
-    build_value(tree, 0, alloc, text, value)?;
-    fill_between(tree, 0, alloc, text, range.end, text.len())?;
+    fill_between(tree, 0, whole, text, 0, range.start)?;
+    build_value(tree, 0, whole, text, value)?;
+    fill_between(tree, 0, whole, text, range.end, text.len())?;
     Ok(())
 }
 
@@ -239,7 +247,8 @@ pub fn build<A: Allocator + Copy>(
     ensures tree { IfOk result (λ tree. IsTree tree.nodes) }
 {
     let mut tree = Tree::new(alloc)?;
-    build_root(&mut tree, alloc, text, value)?;
+    let whole = RcStr::from_str(alloc, text)?;
+    build_root(&mut tree, &whole, text, value)?;
     let _ = tree.len();
     Ok(tree)
 }

@@ -1,6 +1,7 @@
 //! The leaves between values: commas and colons, comments, line ends and blanks.
 ghost use Rattle.std.specs.Prelude.{◌≡◌, ◌+◌, ◌<◌, ◌≤◌, ◌⊎◌, ℕ, [], ◌∷◌, List, ◌==◌, IfNone, IfOk, IfSome, IsCharBoundary, IsTrue, OnOk, length};
 ghost use Rattle.std.specs.Char.{len_utf8};
+ghost use Rattle.std.specs.Rc.{rc_str_bytes};
 ghost use Rattle.jsonc_text.specs.Text.{Many, next, no, rest, starts};
 ghost use Rattle.jsonc_text.specs.Chars.{Steps};
 ghost use Rattle.jsonc_text.specs.Gaps.{ends_block, is_in_line, IsComment, UpToBlockEnd};
@@ -13,9 +14,11 @@ ghost use Rattle.jsonc_layout.specs.Growth.{Grows};
 ghost use Rattle.jsonc_layout.specs.Laid.{FillsBetween};
 ghost use Rattle.jsonc_layout.specs.Leaves.{GapLeaf, LeafAt, is_inner_blank};
 
+use crate::room::make_room;
 use jsonc_text::chars::char_at;
-use jsonc_tree::{CstNewlineKind, Kind, Tree};
+use jsonc_tree::{CstNewlineKind, Kind, Part, Tree};
 use std::alloc::{AllocError, Allocator};
+use std::rc::RcStr;
 
 fn is_inner_blank(c: char) -> bool
     ensures { result ≡ is_inner_blank c }
@@ -165,11 +168,12 @@ fn comment_end(text: &str, place: usize) -> usize
 
 // The leaf that begins at a place with the character `c`, and where it ends.
 fn leaf_at<A: Allocator>(
-    alloc: A,
+    whole: &RcStr<A>,
     text: &str,
     place: usize,
     c: char,
 ) -> Result<(Kind<A>, usize), AllocError>
+    requires whole { rc_str_bytes whole.now ≡ text.now }
     requires place { IsCharBoundary text.now place }
     requires stands { Steps text.now place c (place + len_utf8 c) }
     requires filling { IsTrue (is_filling c) ⊎ BeginsComment (rest text.now place) }
@@ -177,8 +181,8 @@ fn leaf_at<A: Allocator>(
 {
     if c == '/' {
         let end = comment_end(text, place);
-        let comment = String::from_str(alloc, &text[place..end])?;
-        return Ok((Kind::Comment(comment), end));
+        let comment = Part::new(whole, place, end)?;
+        return Ok((Kind::CommentPart(comment), end));
     }
     let after = place + c.len_utf8();
     if is_separator(c) {
@@ -192,19 +196,20 @@ fn leaf_at<A: Allocator>(
         return Ok((Kind::Newline(newline), end));
     }
     let end = blanks_end(text, after);
-    let blanks = String::from_str(alloc, &text[place..end])?;
-    Ok((Kind::Whitespace(blanks), end))
+    let blanks = Part::new(whole, place, end)?;
+    Ok((Kind::WhitespacePart(blanks), end))
 }
 
 // Adds the leaves between two places to the end of a container.
-pub(crate) fn fill_between<A: Allocator + Copy>(
+fn fill_gap<A: Allocator + Copy>(
     tree: &mut Tree<A>,
     container: usize,
-    alloc: A,
+    whole: &RcStr<A>,
     text: &str,
     from: usize,
     to: usize,
 ) -> Result<(), AllocError>
+    requires whole { rc_str_bytes whole.now ≡ text.now }
     requires there { container < length tree.old.nodes }
     requires container { IsTrue (is_container_at tree.old.nodes container) }
     requires fillable { IsFillable text.now from to }
@@ -215,9 +220,28 @@ pub(crate) fn fill_between<A: Allocator + Copy>(
         let Some(c) = char_at(text, place) else {
             unreachable!()
         };
-        let (kind, end) = leaf_at(alloc, text, place, c)?;
+        let (kind, end) = leaf_at(whole, text, place, c)?;
         tree.push_child(container, kind)?;
         place = end;
     }
     Ok(())
+}
+
+// Makes room for nodes, and adds the leaves between two places to the end of a container.
+pub(crate) fn fill_between<A: Allocator + Copy>(
+    tree: &mut Tree<A>,
+    container: usize,
+    whole: &RcStr<A>,
+    text: &str,
+    from: usize,
+    to: usize,
+) -> Result<(), AllocError>
+    requires whole { rc_str_bytes whole.now ≡ text.now }
+    requires there { container < length tree.old.nodes }
+    requires container { IsTrue (is_container_at tree.old.nodes container) }
+    requires fillable { IsFillable text.now from to }
+    ensures { OnOk result ((row : OrderedTree) × Grows tree.old.nodes tree.new.nodes container row × FillsBetween text.now from to row) }
+{
+    make_room(tree, from, text.len());
+    fill_gap(tree, container, whole, text, from, to)
 }

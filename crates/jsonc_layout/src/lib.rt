@@ -4,5 +4,6 @@
 mod builder;
 mod fill;
 pub mod laws;
+mod room;
 
 pub use builder::build;

@@ -6,7 +6,7 @@ use Rattle.jsonc_tree.specs.Content.{with_text}
 use Rattle.jsonc_tree.specs.Tree as tree
 use Rattle.jsonc_tree.specs.declared.node.Kind.{Kind}
 use Rattle.jsonc_tree.specs.declared.node.Node.{Node}
-use Rattle.jsonc_tree.specs.declared.node.Kind.TheVariants.{Root, Object, Array, Property, String, Word, Number, Boolean, Null, Token, Whitespace, Newline, Comment}
+use Rattle.jsonc_tree.specs.declared.node.Kind.TheVariants.{Root, Object, Array, Property, String, Word, Number, Boolean, Null, Token, Whitespace, Newline, Comment, StringPart, WordPart, NumberPart, WhitespacePart, CommentPart}
 
 -- the nodes, but for the parent of one
 abbrev pub parent_set : List tree.Node → ℕ → Option ℕ → List tree.Node
@@ -59,6 +59,11 @@ module _ {A : Type 0} where
   content_of (Whitespace s) = content.whitespace (string_bytes s)
   content_of (Newline k) = content.newline k
   content_of (Comment s) = content.comment (string_bytes s)
+  content_of (StringPart s) = content.string s
+  content_of (WordPart s) = content.word s
+  content_of (NumberPart s) = content.number s
+  content_of (WhitespacePart s) = content.whitespace s
+  content_of (CommentPart s) = content.comment s
 
   abbrev pub node_of : Node A → tree.Node
   node_of n = record { content = content_of n.kind; parent = n.parent; children = n.children.items; room = vec_capacity n.children - vec_len n.children }

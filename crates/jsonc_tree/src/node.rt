@@ -4,6 +4,7 @@ ghost use Rattle.std.specs.Prelude.{◌≡◌, IsTrue, string_bytes};
 ghost use Rattle.jsonc_tree.specs.Content.{has_text, is_container, with_text};
 ghost use Rattle.jsonc_tree.specs.Stored.{content_of};
 
+use crate::part::Part;
 use std::alloc::Allocator;
 
 /// How a line ends.
@@ -17,7 +18,8 @@ pub enum CstNewlineKind {
 
 /// What a node is, a leaf with its text.
 ///
-/// The text of a string has its quotes, that of a comment its marks.
+/// The text of a string has its quotes, that of a comment its marks. A leaf that was parsed has a part
+/// of the document's text, one that was made anew a text of its own.
 #[derive(Drop)]
 pub enum Kind<A: Allocator> {
     Root,
@@ -33,6 +35,11 @@ pub enum Kind<A: Allocator> {
     Whitespace(String<A>),
     Newline(CstNewlineKind),
     Comment(String<A>),
+    StringPart(Part<A>),
+    WordPart(Part<A>),
+    NumberPart(Part<A>),
+    WhitespacePart(Part<A>),
+    CommentPart(Part<A>),
 }
 
 impl<A: Allocator> Kind<A> {
@@ -57,6 +64,11 @@ impl<A: Allocator> Kind<A> {
             Kind::Number(s) => *s = text,
             Kind::Whitespace(s) => *s = text,
             Kind::Comment(s) => *s = text,
+            Kind::StringPart(_) => *self = Kind::String(text),
+            Kind::WordPart(_) => *self = Kind::Word(text),
+            Kind::NumberPart(_) => *self = Kind::Number(text),
+            Kind::WhitespacePart(_) => *self = Kind::Whitespace(text),
+            Kind::CommentPart(_) => *self = Kind::Comment(text),
             _ => unreachable!(),
         }
     }

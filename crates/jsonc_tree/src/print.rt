@@ -30,6 +30,11 @@ fn write_own<A: Allocator, W: fmt::Write>(kind: &Kind<A>, f: &mut fmt::Formatter
         Kind::Newline(CstNewlineKind::CarriageReturnLineFeed) => f.write_str("\r\n"),
         Kind::Newline(CstNewlineKind::CarriageReturn) => f.write_str("\r"),
         Kind::Comment(s) => f.write_str(s.as_str()),
+        Kind::StringPart(s) => f.write_str(s.as_str()),
+        Kind::WordPart(s) => f.write_str(s.as_str()),
+        Kind::NumberPart(s) => f.write_str(s.as_str()),
+        Kind::WhitespacePart(s) => f.write_str(s.as_str()),
+        Kind::CommentPart(s) => f.write_str(s.as_str()),
     }
 }
 

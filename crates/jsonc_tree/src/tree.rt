@@ -65,6 +65,10 @@ fn replace_stretch<A: Allocator>(list: &mut Vec<usize, A>, from: usize, to: usiz
     ensures items { list.new.items ≡ splice list.old.items from to new.now }
     ensures capacity { vec_capacity list.old ≤ vec_capacity list.new }
 {
+    if from == list.len() {
+        let _ = list.extend_from_slice(new);
+        return;
+    }
     list.drain(from..to);
     let _ = list.extend_from_slice(new);
     list[from..].rotate_right(new.len());
@@ -184,6 +188,25 @@ impl<A: Allocator> Tree<A> {
         ensures tree { IsTree self.now.nodes }
     {
         self.nodes.len()
+    }
+
+    /// How many more nodes there is memory for.
+    pub fn spare(&self) -> usize
+        ensures { result ≡ self.now.room }
+    {
+        self.nodes.capacity() - self.nodes.len()
+    }
+
+    /// Makes room for so many more nodes, and for no more than that where it takes memory.
+    ///
+    /// A refusal leaves the tree as it was.
+    pub fn reserve_nodes(&mut self, additional: usize) -> Result<(), AllocError>
+        ensures nodes { self.new.nodes ≡ self.old.nodes }
+        ensures room { OnOk result (additional ≤ self.new.room) }
+        ensures spare { self.old.room ≤ self.new.room }
+        ensures tree { IsTree self.new.nodes }
+    {
+        self.nodes.reserve_exact(additional)
     }
 
     /// Makes room for so many more children, so that a splice that adds as many needs no memory.

@@ -1,4 +1,5 @@
 use Rattle.std.proofs.Common.{◌≡◌, ◌<◌, ◌∙◌, sym, ap, subst, refl, arith, length, IsTrue}
+use Rattle.std.specs.Rc.{rc_str_bytes}
 use Rattle.jsonc_tree.specs.Content as content
 use Rattle.jsonc_tree.specs.Tree.{is_container_at}
 use Rattle.jsonc_ast.specs.Located.{range_at, array_at, object_at}
@@ -13,6 +14,7 @@ use Rattle.jsonc_layout.specs.Filling.{IsFillable}
 use Rattle.jsonc_layout.proofs.Growing.{grows_append, grows_leaf, container_kept}
 use Rattle.jsonc_layout.proofs.Building.{elements_start, elements_at, elements_more, elements_end, items_none_left, properties_start, properties_at, properties_more, properties_end, members_none_left, property_built, on_ok, pushed_there, pushed_container, still_there, bracketed_into, items_within, members_within, items_inside, members_inside, laid_as, can_lay_as}
 use Rattle.jsonc_layout.proofs.Views.{view-Array, view-Object, view-StringLit, view-NumberLit, view-BooleanLit, view-NullKeyword, view-property, size-Array, size-Object, size-element, size-member}
+use Rattle.jsonc_layout.proofs.Parts.{part_of_same}
 use Rattle.jsonc_layout.proofs.builder.+build.Goals as goal
 
 pub build_elements-loop-element-init : goal.build_elements-loop-element-init
@@ -33,6 +35,7 @@ build_elements-fill_between-requires-clause-fillable g t c =
 
 pub build_elements-build_value-requires : goal.build_elements-build_value-requires
 build_elements-build_value-requires g t c κs within =
+    let whole : rc_str_bytes c.args.whole.now ≡ c.args.text.now = assumption c.requires in
     let so_far = elements_at c.args.elements.now c.loop-element.element-index c.element-item.result c.loop-element-test.true c.element-item.is c.loop-element.invariant in
     let filled = c.in_ok-fill_between.ensures in
     let there : c.args.container < length c.args.tree.now.nodes = assumption c.requires in
@@ -41,7 +44,7 @@ build_elements-build_value-requires g t c κs within =
     let still_container : IsTrue (is_container_at c.fill_between.new.tree.nodes c.args.container) = container_kept there container (grows_append there so_far.grows filled.1) in
     let lies : CanLay c.args.text.now (located c.element-item.result) = so_far.lies.1 in
     let deep = size-element g.row.A.Denot c.args.elements.now c.loop-element.element-index c.element-item.result c.loop-element-test.true c.element-item.is in
-    (omega (arith, c.requires.0, deep), (within, (still_there, (still_container, lies))))
+    (omega (arith, c.requires.0, deep), (within, (whole, (still_there, (still_container, lies)))))
 
 pub build_elements-loop-element-preserved : goal.build_elements-loop-element-preserved
 build_elements-loop-element-preserved g t c =
@@ -88,13 +91,14 @@ build_properties-push_child-requires-clause-container g t c =
 
 pub build_properties-build_property-requires : goal.build_properties-build_property-requires
 build_properties-build_property-requires g t c κs within =
+    let whole : rc_str_bytes c.args.whole.now ≡ c.args.text.now = assumption c.requires in
     let so_far = properties_at c.args.properties.now c.loop-property.property-index c.property-item.result c.loop-property-test.true c.property-item.is c.loop-property.invariant in
     let node = c.in_ok-node.ensures in
     let there : c.in_ok-node.node < length c.push_child.new.self.nodes = pushed_there c.in_ok-node.node node.number node.pushes in
     let container : IsTrue (is_container_at c.push_child.new.self.nodes c.in_ok-node.node) = pushed_container c.in_ok-node.node node.number node.pushes refl in
     let lies : CanLayProperty c.args.text.now (member_of c.property-item.result).name (member_of c.property-item.result).value = (so_far.lies.1, so_far.lies.2, so_far.lies.3) in
     let deep = size-member g.row.A.Denot c.args.properties.now c.loop-property.property-index c.property-item.result c.loop-property-test.true c.property-item.is in
-    (omega (arith, c.requires.0, deep), (within, (there, (container, lies))))
+    (omega (arith, c.requires.0, deep), (within, (whole, (there, (container, lies)))))
 
 pub build_properties-loop-property-preserved : goal.build_properties-loop-property-preserved
 build_properties-loop-property-preserved g t c =
@@ -138,6 +142,7 @@ build_value-inside-range-requires g t c =
 
 pub build_value-build_elements-requires : goal.build_value-build_elements-requires
 build_value-build_elements-requires g t c κs within =
+    let whole : rc_str_bytes c.args.whole.now ≡ c.args.text.now = assumption c.requires in
     let o = c.in-Array.array in
     let node = c.in_ok-node-in-Array.ensures in
     let bracket = c.in_ok-push_child-in-Array.ensures in
@@ -152,7 +157,7 @@ build_value-build_elements-requires g t c κs within =
     let deep = size-Array g.row.A.Denot c.in-Array.array in
     let same = ap (λ x. size-Value g.row.A.Denot x) c.in-Array.is in
     let inside = ap (λ xs. most (λ x. size-Value g.row.A.Denot x) xs) c.deref.ensures.value in
-    (omega (arith, c.requires.0, deep, same, inside), (within, (there, (still, inner))))
+    (omega (arith, c.requires.0, deep, same, inside), (within, (whole, (there, (still, inner)))))
 
 pub build_value-returns-in_ok-push_child-in-Array-2 : goal.build_value-returns-in_ok-push_child-in-Array-2
 build_value-returns-in_ok-push_child-in-Array-2 g t c =
@@ -172,6 +177,7 @@ build_value-inside-range-requires-in-Object g t c =
 
 pub build_value-build_properties-requires : goal.build_value-build_properties-requires
 build_value-build_properties-requires g t c κs within =
+    let whole : rc_str_bytes c.args.whole.now ≡ c.args.text.now = assumption c.requires in
     let o = object_parts.out-Object g.row.A.Denot c.in-Object.object in
     let node = c.in_ok-node-in-Object.ensures in
     let bracket = c.in_ok-push_child-in-Object.ensures in
@@ -186,7 +192,7 @@ build_value-build_properties-requires g t c κs within =
     let deep = size-Object g.row.A.Denot c.in-Object.object in
     let same = ap (λ x. size-Value g.row.A.Denot x) c.in-Object.is in
     let inside = ap (λ xs. most (λ x. size-ObjectProp g.row.A.Denot x) xs) c.deref-in-Object.ensures.value in
-    (omega (arith, c.requires.0, deep, same, inside), (within, (there, (still, inner))))
+    (omega (arith, c.requires.0, deep, same, inside), (within, (whole, (there, (still, inner)))))
 
 pub build_value-returns-in_ok-push_child-in-Object-2 : goal.build_value-returns-in_ok-push_child-in-Object-2
 build_value-returns-in_ok-push_child-in-Object-2 g t c =
@@ -201,19 +207,21 @@ build_value-returns-in_ok-push_child-in-Object-2 g t c =
 
 pub build_value-returns-in_ok-push_child-in-StringLit : goal.build_value-returns-in_ok-push_child-in-StringLit
 build_value-returns-in_ok-push_child-in-StringLit g t c =
+    let whole : rc_str_bytes c.args.whole.now ≡ c.args.text.now = assumption c.requires in
     let s = c.in-StringLit.value in
     let is = ap located c.in-StringLit.is ∙ view-StringLit s in
     let there : c.args.container < length c.args.tree.now.nodes = assumption c.requires in
     let before : CanLay c.args.text.now (located c.args.value.now) = assumption c.requires in
-    (_, _, grows_leaf there c.in_ok-push_child-in-StringLit.ensures.pushes, laid_as is (string_leaf (can_lay_as c.args.text.now is before) c.in_ok-text-in-StringLit.ensures))
+    (_, _, grows_leaf there c.in_ok-push_child-in-StringLit.ensures.pushes, laid_as is (string_leaf (can_lay_as c.args.text.now is before) (part_of_same _ _ _ c.in_ok-text-in-StringLit.ensures whole)))
 
 pub build_value-returns-in_ok-push_child-in-NumberLit : goal.build_value-returns-in_ok-push_child-in-NumberLit
 build_value-returns-in_ok-push_child-in-NumberLit g t c =
+    let whole : rc_str_bytes c.args.whole.now ≡ c.args.text.now = assumption c.requires in
     let s = c.in-NumberLit.value in
     let is = ap located c.in-NumberLit.is ∙ view-NumberLit g.row.A.Denot s in
     let there : c.args.container < length c.args.tree.now.nodes = assumption c.requires in
     let before : CanLay c.args.text.now (located c.args.value.now) = assumption c.requires in
-    (_, _, grows_leaf there c.in_ok-push_child-in-NumberLit.ensures.pushes, laid_as is (number_leaf (can_lay_as c.args.text.now is before) c.in_ok-text-in-NumberLit.ensures))
+    (_, _, grows_leaf there c.in_ok-push_child-in-NumberLit.ensures.pushes, laid_as is (number_leaf (can_lay_as c.args.text.now is before) (part_of_same _ _ _ c.in_ok-text-in-NumberLit.ensures whole)))
 
 pub build_value-returns-in_ok-push_child-in-BooleanLit : goal.build_value-returns-in_ok-push_child-in-BooleanLit
 build_value-returns-in_ok-push_child-in-BooleanLit g t c =

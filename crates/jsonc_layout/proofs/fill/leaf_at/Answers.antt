@@ -1,6 +1,7 @@
 use Rattle.std.proofs.Common.{sym, ◌∙◌}
 use Rattle.jsonc_tree.specs.Content.{newline}
 use Rattle.jsonc_layout.proofs.GapLeaves.{comment_at, comment_begins_at, mark_at, feed_at, return_at, blanks_at}
+use Rattle.jsonc_layout.proofs.Parts.{part_of_same}
 use Rattle.jsonc_layout.proofs.fill.leaf_at.Goals as goal
 
 pub comment_end-end-requires-clause-comment : goal.comment_end-end-requires-clause-comment
@@ -9,7 +10,7 @@ comment_end-end-requires-clause-comment g c = comment_begins_at c.args.c c.requi
 pub returns-then-c-eq47 : goal.returns-then-c-eq47
 returns-then-c-eq47 g c =
     let ends = c.comment_end-end.ensures in
-    comment_at c.args.text.now c.args.place c.comment_end-end.result _ c.utf8.text c.requires.place ends.place ends.order ends.comment (c.in_ok-comment.ensures.ok ∙ c.range.ensures.value)
+    comment_at c.args.text.now c.args.place c.comment_end-end.result _ c.utf8.text c.requires.place ends.place ends.order ends.comment (part_of_same _ _ _ c.in_ok-comment.ensures c.requires.whole)
 
 pub returns-then-is_separator : goal.returns-then-is_separator
 returns-then-is_separator g c = mark_at c.args.text.now c.args.place c.args.c c.len_utf8.result c.requires.stands c.len_utf8.ensures.value (sym c.is_separator.ensures ∙ c.if-is_separator.true)
@@ -28,4 +29,4 @@ returns g c =
     let ends = c.blanks_end-end.ensures in
     blanks_at c.args.text.now c.args.place c.args.c c.len_utf8.result c.blanks_end-end.result _ c.utf8.text c.requires.place c.requires.stands c.len_utf8.ensures.value
     c.requires.filling c.if-c-eq47.false (sym c.is_separator.ensures ∙ c.if-is_separator.false) c.if-c-eq10.false c.if-c-eq13.false
-    ends.order ends.place ends.blanks ends.all (c.in_ok-blanks.ensures.ok ∙ c.range-2.ensures.value)
+    ends.order ends.place ends.blanks ends.all (part_of_same _ _ _ c.in_ok-blanks.ensures c.requires.whole)

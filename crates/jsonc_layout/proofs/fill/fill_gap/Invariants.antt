@@ -5,7 +5,7 @@ use Rattle.jsonc_tree.specs.OrderedTree.{OrderedTree}
 use Rattle.jsonc_layout.specs.Growth.{Grows}
 use Rattle.jsonc_layout.specs.Leaves.{Fills}
 use Rattle.jsonc_layout.specs.Filling.{Filling}
-use Rattle.jsonc_layout.proofs.fill.fill_between.Given as goal
+use Rattle.jsonc_layout.proofs.fill.fill_gap.Given as goal
 
 -- the leaves so far, and what is left
 pub record FilledTo (old now : List Node) (container : ℕ) (text : List ℕ) (from place to : ℕ) : Type 0 where

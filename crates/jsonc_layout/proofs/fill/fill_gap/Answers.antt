@@ -7,7 +7,7 @@ use Rattle.jsonc_layout.specs.Leaves.{end, Fills}
 use Rattle.jsonc_layout.proofs.GapLeaves.{fills_snoc}
 use Rattle.jsonc_layout.proofs.Stretches.{apart_places, begins_leaf, filling_order, past_leaf}
 use Rattle.jsonc_layout.proofs.Growing.{grows_none, grows_append, grows_leaf, container_kept}
-use Rattle.jsonc_layout.proofs.fill.fill_between.Goals as goal
+use Rattle.jsonc_layout.proofs.fill.fill_gap.Goals as goal
 
 pub leaves-init : goal.leaves-init
 leaves-init g c = record {

@@ -1,0 +1,27 @@
+//! Room for the nodes that are still to come.
+ghost use Rattle.std.specs.Prelude.{◌≡◌};
+
+use jsonc_tree::Tree;
+use std::alloc::Allocator;
+
+// So many nodes the rest of a text has, where it goes on as up to this place, and somewhat more; no more
+// than there are already and no less than an eighth of those, so that nodes move seldom.
+fn nodes_to_come(count: usize, place: usize, len: usize) -> usize {
+    if place == 0 {
+        return 16;
+    }
+    let left = len.saturating_sub(place);
+    let expected = count.saturating_mul(left) / place;
+    let most = expected.saturating_add(expected / 16).max(count / 8);
+    most.min(count).saturating_add(16)
+}
+
+// Makes room for nodes before there is none, so that a tree takes little more memory than it fills. It is
+// no matter if there is none to be had: what adds a node asks again.
+pub(crate) fn make_room<A: Allocator>(tree: &mut Tree<A>, place: usize, len: usize)
+    ensures { tree.new.nodes ≡ tree.old.nodes }
+{
+    if tree.spare() < 8 {
+        let _ = tree.reserve_nodes(nodes_to_come(tree.len(), place, len));
+    }
+}
