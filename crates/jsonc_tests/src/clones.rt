@@ -42,15 +42,23 @@ fn is_value_copied(heap: Heap<'_>) -> Result<bool, Outcome> {
     Ok(is_equal && has_names(object_of(copy)?, "last", "first"))
 }
 
-fn are_parts_copied(heap: Heap<'_>) -> Result<bool, Outcome> {
+fn is_object_copied(heap: Heap<'_>) -> Result<bool, Outcome> {
     let object = object_of(some_value(heap)?)?;
-    let is_equal = object.try_clone()? == object;
+    Ok(object.try_clone()? == object)
+}
+
+fn is_array_copied(heap: Heap<'_>) -> Result<bool, Outcome> {
+    let object = object_of(some_value(heap)?)?;
     let Some(array) = object.get_array("last") else {
         return Ok(false);
     };
     let copy = array.try_clone()?;
     let is_true = matches!(copy.get(0), Some(JsonValue::Boolean(true)));
-    Ok(is_equal && is_true && copy == *array && copy.len() == 4)
+    Ok(is_true && copy == *array && copy.len() == 4)
+}
+
+fn are_parts_copied(heap: Heap<'_>) -> Result<bool, Outcome> {
+    Ok(is_object_copied(heap)? && is_array_copied(heap)?)
 }
 
 /// A value, an object and an array are copied, and the copies compared with them.

@@ -44,12 +44,15 @@ fn listed(heap: Heap<'_>) -> Result<Map<char, u32, Heap<'_>>, AllocError> {
     Map::from_list(heap, pairs)
 }
 
+/// Whether a copy of a changed map has the pairs that it was given.
+fn is_map_copied(heap: Heap<'_>) -> Result<bool, Outcome> {
+    let copy = extended(heap)?.try_clone()?;
+    Ok(copy == listed(heap)?)
+}
+
 /// Each call of a map that may want memory, one after another.
 pub fn changed_map(heap: Heap<'_>) -> Result<Outcome, Outcome> {
-    let map = extended(heap)?;
-    let copy = map.try_clone()?;
-    let is_same = copy == listed(heap)?;
-    Ok(Outcome::of(is_same && object_of_one(heap)?))
+    Ok(Outcome::of(is_map_copied(heap)? && object_of_one(heap)?))
 }
 
 /// Whether an object with room for one property has the one that is put there.
@@ -96,15 +99,33 @@ fn pairs_are_changed_and_copied(rt: HostRuntime) -> Result<(), Fail> {
 }
 
 #[test]
-fn pairs_are_removed(rt: HostRuntime) -> Result<(), Fail> {
+fn an_entry_is_removed(rt: HostRuntime) -> Result<(), Fail> {
     let mut map = changed_pairs(rt.alloc())?;
-    assert!(rt; map.remove_entry(&'y') == Some(('y', 7)) && map.contains_key(&'z'));
+    let removed = map.remove_entry(&'y');
+    assert!(rt; removed == Some(('y', 7)) && map.contains_key(&'z'));
+    Ok(())
+}
+
+#[test]
+fn a_cleared_map_is_empty(rt: HostRuntime) -> Result<(), Fail> {
+    let mut map = some_pairs(rt.alloc())?;
     map.clear();
     assert!(rt; map.is_empty());
+    Ok(())
+}
+
+#[test]
+fn the_last_value_stands_at_the_first_place(rt: HostRuntime) -> Result<(), Fail> {
+    let map = some_pairs(rt.alloc())?;
+    assert!(rt; has(rt.alloc(), &map, " x3 y2")?);
+    Ok(())
+}
+
+#[test]
+fn a_removal_closes_up(rt: HostRuntime) -> Result<(), Fail> {
     let mut map = some_pairs(rt.alloc())?;
-    let is_listed = has(rt.alloc(), &map, " x3 y2")?;
-    let is_removed = map.remove(&'x') == Some(3);
-    assert!(rt; is_listed && is_removed && has(rt.alloc(), &map, " y2")?);
+    let removed = map.remove(&'x');
+    assert!(rt; removed == Some(3) && has(rt.alloc(), &map, " y2")?);
     Ok(())
 }
 
