@@ -2,6 +2,8 @@ pub mod Between
 pub mod BlockCloses
 pub mod NoLexemes
 pub mod NoNumbers
+pub mod OneFault
+pub mod OneNumberFault
 pub mod Reading
 pub mod Told
 pub mod ToldWords
