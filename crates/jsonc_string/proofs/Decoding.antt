@@ -109,7 +109,7 @@ no_quoted taken q bytes v start place quote s so_far none lacks w r (inside, e, 
     stuck done g = no_starts (λ c. c == q) (next (rest bytes place)) lacks (rw g (eq_test q q refl))
     stuck (piece k g a) h = none _ _ k
 
-no_piece_at_end : {o : Options} {q : ℕ} {t p r : List ℕ} → t ≡ [] → Piece o q t p r → ⊥
+pub no_piece_at_end : {o : Options} {q : ℕ} {t p r : List ℕ} → t ≡ [] → Piece o q t p r → ⊥
 no_piece_at_end e (itself a b) = cc
 no_piece_at_end e (Piece.plain h) = cc
 no_piece_at_end e (Piece.unit h k) = cc

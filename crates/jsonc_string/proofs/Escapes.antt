@@ -64,7 +64,7 @@ none_at_end taken q e (cr_lf h) = let f = tails e in cc
 pub unit_unique : {n m : ℕ} {t r s : List ℕ} → IsUnit n t r → IsUnit m t s → (n ≡ m) × (r ≡ s)
 unit_unique (unit_of h e) (unit_of k f) = (e ∙ sym f, refl)
 
-hex_parts : (a b c d : ℕ) → AreHex4 a b c d → IsTrue (is_hex_digit a) × IsTrue (is_hex_digit b) × IsTrue (is_hex_digit c) × IsTrue (is_hex_digit d)
+pub hex_parts : (a b c d : ℕ) → AreHex4 a b c d → IsTrue (is_hex_digit a) × IsTrue (is_hex_digit b) × IsTrue (is_hex_digit c) × IsTrue (is_hex_digit d)
 hex_parts a b c d h =
     let p = and_both (is_hex_digit a && is_hex_digit b && is_hex_digit c) (is_hex_digit d) h in
     let q = and_both (is_hex_digit a && is_hex_digit b) (is_hex_digit c) p.0 in
@@ -153,16 +153,16 @@ no_unit bytes i s u none = no_units bytes (rest bytes (i + 2)) i (two bytes i 0x
     go (alone n r w k) = none n r w
     go (paired n m v r w h x l) = none n v w
 
-is_neither_half : (n : ℕ) → IsTrue (is_low_surrogate n) → IsTrue (not (is_surrogate n)) → ⊥
+pub is_neither_half : (n : ℕ) → IsTrue (is_low_surrogate n) → IsTrue (not (is_surrogate n)) → ⊥
 is_neither_half n h k = grind arith
 
-is_either_half : (n : ℕ) → IsTrue (is_low_surrogate n) → IsTrue (is_high_surrogate n) → ⊥
+pub is_either_half : (n : ℕ) → IsTrue (is_low_surrogate n) → IsTrue (is_high_surrogate n) → ⊥
 is_either_half n h k = grind arith
 
-is_no_high : (n : ℕ) → IsTrue (is_high_surrogate n) → IsTrue (not (is_surrogate n)) → ⊥
+pub is_no_high : (n : ℕ) → IsTrue (is_high_surrogate n) → IsTrue (not (is_surrogate n)) → ⊥
 is_no_high n h k = grind arith
 
-unit_begins : {n : ℕ} {t r : List ℕ} → IsUnit n t r → (u : List ℕ) × (t ≡ 0x5C ∷ 0x75 ∷ u)
+pub unit_begins : {n : ℕ} {t r : List ℕ} → IsUnit n t r → (u : List ℕ) × (t ≡ 0x5C ∷ 0x75 ∷ u)
 unit_begins (unit_of {a = a} {b = b} {c = c} {d = d} {r = r} h e) = (a ∷ b ∷ c ∷ d ∷ r, refl)
 
 pub lone_low : (bytes : List ℕ) (i j n : ℕ) → Between (IsUnit n) bytes i j → IsTrue (is_low_surrogate n) → NoPieceAnyhow bytes i

@@ -8,7 +8,7 @@ use Rattle.jsonc_text.specs.declared.errors.ParseStringErrorKind.TheVariants as 
 use Rattle.jsonc_text.specs.Options.{all_on}
 use Rattle.jsonc_text.specs.Text.{rest, next, no, starts, is_digit, is_hex_digit}
 use Rattle.jsonc_text.specs.Strings.{meaning, refused, AreHex4, hex4, is_high_surrogate, is_low_surrogate, IsQuote}
-use Rattle.jsonc_string.specs.Escapes.{is_plain, ArePieces}
+use Rattle.jsonc_string.specs.Escapes.{is_plain, ArePieces, IsQuoted}
 
 -- what follows the first character, or the end where the text is at its end
 abbrev pub past : List ℕ → List ℕ
@@ -42,15 +42,17 @@ pub data LacksUnit : List ℕ → List ℕ → Type 0 where
   no_backslash : {t r : List ℕ} → Stops (λ c. c == 0x5C) t r → LacksUnit t r
   no_u : {t r : List ℕ} → Stops (λ c. c == 0x75) t r → LacksUnit (0x5C ∷ t) r
 
--- these digits, the first after `\u`, are those of a surrogate without its other half, for this reason
+-- t is `\u` and these digits, those of a surrogate without its other half for this reason, and r is what follows the character where that shows
 abbrev pub IsLone : SurrogateFault → List ℕ → List ℕ → List ℕ → Type 0
 IsLone surrogate.UnpairedLowSurrogate ds t r = Writes is_low_surrogate ds t r
 IsLone surrogate.UnpairedHighSurrogate ds t r = (u : List ℕ) × Writes is_high_surrogate ds t u × LacksUnit u r
 IsLone surrogate.HighSurrogateNotFollowedByLowSurrogate ds t r = (u es : List ℕ) × Writes is_high_surrogate ds t u × Writes (λ n. not (is_low_surrogate n)) es u r
 
--- a backslash before a character that is no escape of JSON nor a quote, or, of the extended ones, before a digit that is none or a `0` with a digit after it
+-- a backslash before a character that it may not stand before
 pub data IsNoEscape (taken : Bool) (q : ℕ) : List ℕ → List ℕ → Type 0 where
+  -- where extended escapes are not taken: one that JSON has no escape for, and no quote
   unknown : {c : ℕ} {r : List ℕ} → IsTrue (not taken) → IsTrue (not (is_plain (meaning q c))) → IsTrue (not (c == 0x22 || c == 0x27)) → IsNoEscape taken q (0x5C ∷ c ∷ r) r
+  -- where they are taken: a digit other than `0`, or a `0` that a digit follows
   decimal : {c : ℕ} {r : List ℕ} → IsTrue taken → meaning q c ≡ refused → IsNoEscape taken q (0x5C ∷ c ∷ r) r
   octal : {r : List ℕ} → IsTrue taken → IsTrue (starts is_digit (next r)) → IsNoEscape taken q (0x5C ∷ 0x30 ∷ r) r
 
@@ -82,11 +84,24 @@ pub data Tells (taken : Bool) (q : ℕ) : ParseStringErrorKind → List ℕ → 
 abbrev pub IsTold : Bool → ℕ → List ℕ → ℕ → StringFault → Type 0
 IsTold taken q bytes start fault = fault.kind ≢ kind.OutOfMemory → Tells taken q fault.kind (rest bytes start) (rest bytes fault.range.start) (rest bytes fault.range.end)
 
+-- the string at the front of s has a fault of this kind, told from where t begins; or no quote begins s, and that is told as a string that does not end
+pub data TellsError (taken : Bool) : ParseStringErrorKind → List ℕ → List ℕ → Type 0 where
+  of_string : {q : ℕ} {k : ParseStringErrorKind} {s t r : List ℕ} → IsQuote all_on q → Tells taken q k s t r → TellsError taken k s t
+  no_quote : {s : List ℕ} → IsTrue (no (λ c. c == 0x22 || c == 0x27) (next s)) → TellsError taken kind.UnterminatedStringLiteral s s
+
+-- of the string at the front of s no two faults are told, nor one of two ranges
+abbrev pub HasOneFault : Bool → ℕ → List ℕ → Type 0
+HasOneFault taken q s = (k l : ParseStringErrorKind) (t u r w : List ℕ) → Tells taken q k s t r → Tells taken q l s u w → (k ≡ l) × (t ≡ u) × (r ≡ w)
+
+-- where a fault is told, no string stands
+abbrev pub HasNoStringToo : Bool → ℕ → List ℕ → Type 0
+HasNoStringToo taken q s = (k : ParseStringErrorKind) (t r v u : List ℕ) → Tells taken q k s t r → IsQuoted taken q v s u → ⊥
+
 -- a string in quotes q begins at one place, and pieces of it stand up to another
 abbrev pub ReadTo : Bool → ℕ → List ℕ → ℕ → ℕ → Type 0
 ReadTo taken q bytes start place = (s v : List ℕ) × IsQuote all_on q × (rest bytes start ≡ q ∷ s) × ArePieces taken q v s (rest bytes place)
 
--- the same, where the string was read up to a place
+-- the fault of a string that was read up to a place is told truly
 abbrev pub IsToldOnceRead : Bool → ℕ → List ℕ → ℕ → ℕ → StringFault → Type 0
 IsToldOnceRead taken q bytes start place fault = ReadTo taken q bytes start place → IsTold taken q bytes start fault
 
@@ -106,8 +121,3 @@ pub record IsToldEscape (taken : Bool) (q : ℕ) (bytes : List ℕ) (place : ℕ
 -- the same, whichever quotes enclose it, and whether extended escapes are taken or not
 abbrev pub IsToldAnyhow : List ℕ → ℕ → StringFault → Type 0
 IsToldAnyhow bytes place fault = (taken : Bool) (q : ℕ) → IsToldEscape taken q bytes place fault
-
--- the fault of a string is told from where t begins; where s begins with no quote, it is a string that does not end
-pub data TellsError (taken : Bool) : ParseStringErrorKind → List ℕ → List ℕ → Type 0 where
-  of_string : {q : ℕ} {k : ParseStringErrorKind} {s t r : List ℕ} → IsQuote all_on q → Tells taken q k s t r → TellsError taken k s t
-  no_quote : {s : List ℕ} → IsTrue (no (λ c. c == 0x22 || c == 0x27) (next s)) → TellsError taken kind.UnterminatedStringLiteral s s
