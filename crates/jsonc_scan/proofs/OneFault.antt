@@ -1,5 +1,5 @@
 -- A lexeme is refused in one way.
-use Rattle.std.proofs.Common.{inl, inr, ℕ, ◌≡◌, ◌∙◌, ◌⊎◌, sym, refl, Bool, true, false, not, List, [], ◌∷◌, Some, IsTrue, arith, ◌==◌, ◌||◌, ◌&&◌}
+use Rattle.std.proofs.Common.{ℕ, ◌≡◌, ◌∙◌, sym, ap, refl, Bool, true, false, not, List, [], ◌∷◌, Some, IsTrue, arith, ◌==◌, ◌||◌, ◌&&◌}
 use Rattle.jsonc_text.specs.declared.errors.ParseErrorKind.{ParseErrorKind}
 use Rattle.jsonc_text.specs.declared.errors.ParseErrorKind.TheVariants as kind
 use Rattle.jsonc_text.specs.declared.errors.ParseStringErrorKind.{ParseStringErrorKind}
@@ -11,12 +11,13 @@ use Rattle.jsonc_text.specs.Options.{Options}
 use Rattle.jsonc_text.specs.Strings.{IsQuote}
 use Rattle.jsonc_text.specs.Text.{next, starts, is_digit}
 use Rattle.jsonc_text.specs.Words.{begins_word}
-use Rattle.jsonc_scan.specs.Laws.{IsOfString, HasOneFault}
+use Rattle.jsonc_scan.specs.Laws.{HasOneFault}
 use Rattle.jsonc_scan.specs.Told as t
 use Rattle.jsonc_scan.specs.Told.{IsNext, IsName, Tells, BarePoint, Mantissa, BreaksExponent, BreaksWord, GoesOnNoNumber, begins_digits, begins_other}
-use Rattle.jsonc_text.proofs.Basics.{clash, tails, no_both, starts_also, or_left, or_right, test_eq}
+use Rattle.jsonc_text.proofs.Basics.{clash, heads, tails, no_both, starts_also, or_left, or_right, test_eq}
 use Rattle.jsonc_text.proofs.UniqueGaps.{many_unique}
 use Rattle.jsonc_text.proofs.Begins.{is_quote, begins_plain_number, quote_word, plain_number_word}
+use Rattle.jsonc_string.proofs.OneFault.{fault_unique}
 use Rattle.jsonc_scan.proofs.NoLexemes.{slash_word}
 use Rattle.jsonc_scan.proofs.OneNumberFault.{Same, NumberTells, after, never, false_of, number_tells_one, point_tells, exponent_tells, sign_tells, hex_digits_tells, hexadecimal_tells, name_tells}
 
@@ -49,21 +50,31 @@ group_of o (c ∷ s) =
 -- a refusal, by what it begins as
 data Grouped (o : Options) (s : List ℕ) : Group → ParseErrorKind → List ℕ → List ℕ → Type 0 where
   of_comment : Grouped o s comment kind.UnterminatedCommentBlock s []
-  of_string : {k : ParseErrorKind} {t r : List ℕ} → IsOfString k → Grouped o s string k t r
+  of_string : {q : ℕ} {k : ParseStringErrorKind} {t r : List ℕ} → TellsOfString o.extended_escapes q k s t r → Grouped o s string (kind.String k) t r
   of_quote : {r : List ℕ} → s ≡ 0x27 ∷ r → Grouped o s quote kind.SingleQuotedStringsNotAllowed s r
   of_plus : {r : List ℕ} → s ≡ 0x2B ∷ r → Grouped o s plus kind.UnaryPlusNumbersNotAllowed s r
   of_number : {k : ParseErrorKind} {t r : List ℕ} → NumberTells o s k t r → Grouped o s number k t r
   of_word : {r : List ℕ} → BreaksWord s r → Grouped o s word kind.UnexpectedToken s r
   of_nothing : {c : ℕ} {r : List ℕ} → s ≡ c ∷ r → Grouped o s nothing kind.UnexpectedToken s r
 
-grouped_one : {o : Options} {s : List ℕ} {g : Group} {k l : ParseErrorKind} {t u r v : List ℕ} → Grouped o s g k t r → Grouped o s g l u v → (IsOfString k × IsOfString l) ⊎ Same k l t u r v
-grouped_one of_comment of_comment = inr (refl, refl, refl)
-grouped_one (of_string a) (of_string b) = inl (a, b)
-grouped_one (of_quote e) (of_quote f) = inr (refl, refl, tails (sym e ∙ f))
-grouped_one (of_plus e) (of_plus f) = inr (refl, refl, tails (sym e ∙ f))
-grouped_one (of_number x) (of_number y) = inr (number_tells_one x y)
-grouped_one (of_word x) (of_word y) = inr (refl, refl, many_unique x.goes_on y.goes_on x.all y.all)
-grouped_one (of_nothing e) (of_nothing f) = inr (refl, refl, tails (sym e ∙ f))
+string_begins : {taken : Bool} {q : ℕ} {k : ParseStringErrorKind} {s t r : List ℕ} → TellsOfString taken q k s t r → (u : List ℕ) × (s ≡ q ∷ u)
+string_begins (told.escape {s = u} p x) = (u, refl)
+string_begins (told.unterminated {s = u} p x) = (u, refl)
+
+strings_one : {taken : Bool} {p q : ℕ} {k l : ParseStringErrorKind} {s t u r v : List ℕ} → TellsOfString taken p k s t r → TellsOfString taken q l s u v → Same (kind.String k) (kind.String l) t u r v
+strings_one {taken} {p} {q} {k} {l} {s} {t} {u} {r} {v} x y =
+    let same : p ≡ q = heads (sym (string_begins x).1 ∙ (string_begins y).1) in
+    let one = fault_unique taken p k l s t u r v x (rw same y) in
+    (ap kind.String one.0, one.1, one.2)
+
+grouped_one : {o : Options} {s : List ℕ} {g : Group} {k l : ParseErrorKind} {t u r v : List ℕ} → Grouped o s g k t r → Grouped o s g l u v → Same k l t u r v
+grouped_one of_comment of_comment = (refl, refl, refl)
+grouped_one (of_string x) (of_string y) = strings_one x y
+grouped_one (of_quote e) (of_quote f) = (refl, refl, tails (sym e ∙ f))
+grouped_one (of_plus e) (of_plus f) = (refl, refl, tails (sym e ∙ f))
+grouped_one (of_number x) (of_number y) = number_tells_one x y
+grouped_one (of_word x) (of_word y) = (refl, refl, many_unique x.goes_on y.goes_on x.all y.all)
+grouped_one (of_nothing e) (of_nothing f) = (refl, refl, tails (sym e ∙ f))
 
 -- the group of each
 number_group : (c : ℕ) (o : Options) (s : List ℕ) → IsTrue (begins_digits (c ∷ s)) → group_of o (c ∷ s) ≡ number
@@ -147,10 +158,6 @@ nothing_group o c s w h = go (c == 0x2F) (starts (λ d. d == 0x2A) (next s)) (st
     go true false any false false false one false false false false f false a b h = refl
     go false star any false false false one false false false false f false a b h = refl
 
-string_begins : {taken : Bool} {q : ℕ} {k : ParseStringErrorKind} {s t r : List ℕ} → TellsOfString taken q k s t r → (u : List ℕ) × (s ≡ q ∷ u)
-string_begins (told.escape {s = u} p x) = (u, refl)
-string_begins (told.unterminated {s = u} p x) = (u, refl)
-
 by_number : {o : Options} {k : ParseErrorKind} {s t r : List ℕ} → NumberTells o s k t r → Grouped o s (group_of o s) k t r
 by_number (after a f x) = rw (signed_group a f) (of_number (after a f x))
 
@@ -158,8 +165,10 @@ by_word : (o : Options) (s : List ℕ) {r : List ℕ} → BreaksWord s r → Gro
 by_word o [] b = absurd (never b.begins)
 by_word o (c ∷ s) b = rw (word_group o c s b.begins) (of_word b)
 
-by_string : {o : Options} {q : ℕ} {k : ParseStringErrorKind} {s t r : List ℕ} → (u : List ℕ) × (s ≡ q ∷ u) → IsQuote o q → Grouped o s (group_of o s) (kind.String k) t r
-by_string {o = o} {q = q} {k = k} (u, e) a = rw (e, string_group o q u a) (of_string (k, refl))
+by_string : {o : Options} {q : ℕ} {k : ParseStringErrorKind} {s t r : List ℕ} → (u : List ℕ) × (s ≡ q ∷ u) → IsQuote o q → TellsOfString o.extended_escapes q k s t r → Grouped o s (group_of o s) (kind.String k) t r
+by_string {o = o} {q = q} {s = s} (u, e) a x =
+    let string_here : group_of o s ≡ string = ap (group_of o) e ∙ string_group o q u a in
+    rw string_here (of_string x)
 
 grouped : {o : Options} {k : ParseErrorKind} {s t r : List ℕ} → Tells o k s t r → Grouped o s (group_of o s) k t r
 grouped (t.bare_point f b) = by_number (point_tells f b)
@@ -173,7 +182,7 @@ grouped (t.single_quote f) = rw f (of_quote refl)
 grouped {o = o} (t.broken_word {t = s} b) = by_word o s b
 grouped {o = o} (t.lone_character {c = c} {r = r} w h) = rw (nothing_group o c r w h) (of_nothing refl)
 grouped (t.open_block f) = of_comment
-grouped (t.string_fault a x) = by_string (string_begins x) a
+grouped (t.string_fault a x) = by_string (string_begins x) a x
 
 pub one_fault : (o : Options) (s : List ℕ) → HasOneFault o s
 one_fault o s k l t u r v x y = grouped_one (grouped x) (grouped y)
