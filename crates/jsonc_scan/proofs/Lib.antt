@@ -5,6 +5,7 @@ pub mod NoNumbers
 pub mod OneFault
 pub mod OneNumberFault
 pub mod Reading
+pub mod RefusedLexemes
 pub mod Told
 pub mod ToldWords
 pub mod Words

@@ -3,6 +3,7 @@ use Rattle.std.proofs.Common.{ℕ, ◌≡◌, ◌∙◌, sym, ap, refl, Bool, tr
 use Rattle.jsonc_text.specs.declared.errors.ParseErrorKind.{ParseErrorKind}
 use Rattle.jsonc_text.specs.declared.errors.ParseErrorKind.TheVariants as kind
 use Rattle.jsonc_text.specs.declared.errors.ParseStringErrorKind.{ParseStringErrorKind}
+use Rattle.jsonc_text.specs.Gaps.{UpToBlockEnd}
 use Rattle.jsonc_text.specs.Lexemes.{is_punctuation}
 use Rattle.jsonc_string.specs.Told as told
 use Rattle.jsonc_string.specs.Told.{Tells as TellsOfString}
@@ -22,7 +23,7 @@ use Rattle.jsonc_scan.proofs.NoLexemes.{slash_word}
 use Rattle.jsonc_scan.proofs.OneNumberFault.{Same, NumberTells, after, never, false_of, number_tells_one, point_tells, exponent_tells, sign_tells, hex_digits_tells, hexadecimal_tells, name_tells}
 
 -- what a refused lexeme begins as, by its first characters
-data Group : Type 0 where
+pub data Group : Type 0 where
   comment : Group
   string : Group
   quote : Group
@@ -31,7 +32,7 @@ data Group : Type 0 where
   word : Group
   nothing : Group
 
-abbrev group : (slash star opens quoted plus allowed digits word : Bool) → Group
+abbrev pub group : (slash star opens quoted plus allowed digits word : Bool) → Group
 group true true o q p a d w = comment
 group true false o q p a d w = nothing
 group false s true q p a d w = string
@@ -42,22 +43,22 @@ group false s false false false a true w = number
 group false s false false false a false true = word
 group false s false false false a false false = nothing
 
-abbrev group_of : Options → List ℕ → Group
+abbrev pub group_of : Options → List ℕ → Group
 group_of o [] = nothing
 group_of o (c ∷ s) =
     group (c == 0x2F) (starts (λ d. d == 0x2A) (next s)) (c == 0x22 || (c == 0x27 && o.single_quoted_strings)) (c == 0x27) (c == 0x2B) o.unary_plus_numbers (begins_digits (c ∷ s) || c == 0x2D) (begins_word c)
 
 -- a refusal, by what it begins as
-data Grouped (o : Options) (s : List ℕ) : Group → ParseErrorKind → List ℕ → List ℕ → Type 0 where
-  of_comment : Grouped o s comment kind.UnterminatedCommentBlock s []
+pub data Grouped (o : Options) (s : List ℕ) : Group → ParseErrorKind → List ℕ → List ℕ → Type 0 where
+  of_comment : {r : List ℕ} → s ≡ 0x2F ∷ 0x2A ∷ r → ((u : List ℕ) → UpToBlockEnd r u → ⊥) → Grouped o s comment kind.UnterminatedCommentBlock s []
   of_string : {q : ℕ} {k : ParseStringErrorKind} {t r : List ℕ} → TellsOfString o.extended_escapes q k s t r → Grouped o s string (kind.String k) t r
   of_quote : {r : List ℕ} → s ≡ 0x27 ∷ r → Grouped o s quote kind.SingleQuotedStringsNotAllowed s r
   of_plus : {r : List ℕ} → s ≡ 0x2B ∷ r → Grouped o s plus kind.UnaryPlusNumbersNotAllowed s r
   of_number : {k : ParseErrorKind} {t r : List ℕ} → NumberTells o s k t r → Grouped o s number k t r
-  of_word : {r : List ℕ} → BreaksWord s r → Grouped o s word kind.UnexpectedToken s r
-  of_nothing : {c : ℕ} {r : List ℕ} → s ≡ c ∷ r → Grouped o s nothing kind.UnexpectedToken s r
+  of_word : {r : List ℕ} → BreaksWord o s r → Grouped o s word kind.UnexpectedToken s r
+  of_nothing : {c : ℕ} {r : List ℕ} → s ≡ c ∷ r → IsTrue (not (begins_other (c ∷ r))) → Grouped o s nothing kind.UnexpectedToken s r
 
-string_begins : {taken : Bool} {q : ℕ} {k : ParseStringErrorKind} {s t r : List ℕ} → TellsOfString taken q k s t r → (u : List ℕ) × (s ≡ q ∷ u)
+pub string_begins : {taken : Bool} {q : ℕ} {k : ParseStringErrorKind} {s t r : List ℕ} → TellsOfString taken q k s t r → (u : List ℕ) × (s ≡ q ∷ u)
 string_begins (told.escape {s = u} p x) = (u, refl)
 string_begins (told.unterminated {s = u} p x) = (u, refl)
 
@@ -68,16 +69,16 @@ strings_one {taken} {p} {q} {k} {l} {s} {t} {u} {r} {v} x y =
     (ap kind.String one.0, one.1, one.2)
 
 grouped_one : {o : Options} {s : List ℕ} {g : Group} {k l : ParseErrorKind} {t u r v : List ℕ} → Grouped o s g k t r → Grouped o s g l u v → Same k l t u r v
-grouped_one of_comment of_comment = (refl, refl, refl)
+grouped_one (of_comment e f) (of_comment g h) = (refl, refl, refl)
 grouped_one (of_string x) (of_string y) = strings_one x y
 grouped_one (of_quote e) (of_quote f) = (refl, refl, tails (sym e ∙ f))
 grouped_one (of_plus e) (of_plus f) = (refl, refl, tails (sym e ∙ f))
 grouped_one (of_number x) (of_number y) = number_tells_one x y
 grouped_one (of_word x) (of_word y) = (refl, refl, many_unique x.goes_on y.goes_on x.all y.all)
-grouped_one (of_nothing e) (of_nothing f) = (refl, refl, tails (sym e ∙ f))
+grouped_one (of_nothing e h) (of_nothing f g) = (refl, refl, tails (sym e ∙ f))
 
 -- the group of each
-number_group : (c : ℕ) (o : Options) (s : List ℕ) → IsTrue (begins_digits (c ∷ s)) → group_of o (c ∷ s) ≡ number
+pub number_group : (c : ℕ) (o : Options) (s : List ℕ) → IsTrue (begins_digits (c ∷ s)) → group_of o (c ∷ s) ≡ number
 number_group c o s h = go (c == 0x2F) (starts (λ d. d == 0x2A) (next s)) (c == 0x22 || (c == 0x27 && o.single_quoted_strings)) (c == 0x27) (c == 0x2B) o.unary_plus_numbers (begins_digits (c ∷ s) || c == 0x2D) (begins_word c) (false_of _ (no_slash c s h)) (false_of _ (no_open c o.single_quoted_strings s h)) (false_of _ (no_quote c s h)) (false_of _ (no_plus c s h)) (or_left (begins_digits (c ∷ s)) (c == 0x2D) h)
   where
     go : (a b c d e f g h : Bool) → a ≡ false → c ≡ false → d ≡ false → e ≡ false → IsTrue g → group a b c d e f g h ≡ number
@@ -96,13 +97,13 @@ number_group c o s h = go (c == 0x2F) (starts (λ d. d == 0x2A) (next s)) (c == 
     no_plus : (c : ℕ) (s : List ℕ) → IsTrue (begins_digits (c ∷ s)) → IsTrue (c == 0x2B) → ⊥
     no_plus c s h e = grind arith
 
-signed_group : {o : Options} {b : Bool} {s m : List ℕ} → Sign o b s m → (b ≡ false → IsTrue (begins_digits m)) → group_of o s ≡ number
+pub signed_group : {o : Options} {b : Bool} {s m : List ℕ} → Sign o b s m → (b ≡ false → IsTrue (begins_digits m)) → group_of o s ≡ number
 signed_group {o = o} (Sign.none {r = []}) f = absurd (never (f refl))
 signed_group {o = o} (Sign.none {r = c ∷ m}) f = number_group c o m (f refl)
 signed_group Sign.minus f = refl
 signed_group (Sign.plus p) f = rw p refl
 
-string_group : (o : Options) (q : ℕ) (s : List ℕ) → IsQuote o q → group_of o (q ∷ s) ≡ string
+pub string_group : (o : Options) (q : ℕ) (s : List ℕ) → IsQuote o q → group_of o (q ∷ s) ≡ string
 string_group o q s h = go (q == 0x2F) (starts (λ d. d == 0x2A) (next s)) (q == 0x22 || (q == 0x27 && o.single_quoted_strings)) (q == 0x27) (q == 0x2B) o.unary_plus_numbers (begins_digits (q ∷ s) || q == 0x2D) (begins_word q) (false_of _ (no_slash q o.single_quoted_strings h)) h
   where
     go : (a b c d e f g h : Bool) → a ≡ false → IsTrue c → group a b c d e f g h ≡ string
@@ -112,7 +113,7 @@ string_group o q s h = go (q == 0x2F) (starts (λ d. d == 0x2A) (next s)) (q == 
     no_slash q true h e = grind arith
     no_slash q false h e = grind arith
 
-word_group : (o : Options) (c : ℕ) (s : List ℕ) → IsTrue (begins_word c) → group_of o (c ∷ s) ≡ word
+pub word_group : (o : Options) (c : ℕ) (s : List ℕ) → IsTrue (begins_word c) → group_of o (c ∷ s) ≡ word
 unfolding begins_plain_number
 word_group o c s h = go (c == 0x2F) (starts (λ d. d == 0x2A) (next s)) (c == 0x22 || (c == 0x27 && o.single_quoted_strings)) (c == 0x27) (c == 0x2B) o.unary_plus_numbers (begins_digits (c ∷ s) || c == 0x2D) (begins_word c) (false_of _ no_slash) (false_of _ (λ e. word_no_quote (open_quote c o.single_quoted_strings e))) (false_of _ (λ e. word_no_quote (single_quote c e))) (false_of _ (λ e. word_no_number (plain_plus c e))) (false_of _ (λ e. word_no_number (plain_digits c s e))) h
   where
@@ -161,7 +162,7 @@ nothing_group o c s w h = go (c == 0x2F) (starts (λ d. d == 0x2A) (next s)) (st
 by_number : {o : Options} {k : ParseErrorKind} {s t r : List ℕ} → NumberTells o s k t r → Grouped o s (group_of o s) k t r
 by_number (after a f x) = rw (signed_group a f) (of_number (after a f x))
 
-by_word : (o : Options) (s : List ℕ) {r : List ℕ} → BreaksWord s r → Grouped o s (group_of o s) kind.UnexpectedToken s r
+by_word : (o : Options) (s : List ℕ) {r : List ℕ} → BreaksWord o s r → Grouped o s (group_of o s) kind.UnexpectedToken s r
 by_word o [] b = absurd (never b.begins)
 by_word o (c ∷ s) b = rw (word_group o c s b.begins) (of_word b)
 
@@ -170,18 +171,18 @@ by_string {o = o} {q = q} {s = s} (u, e) a x =
     let string_here : group_of o s ≡ string = ap (group_of o) e ∙ string_group o q u a in
     rw string_here (of_string x)
 
-grouped : {o : Options} {k : ParseErrorKind} {s t r : List ℕ} → Tells o k s t r → Grouped o s (group_of o s) k t r
+pub grouped : {o : Options} {k : ParseErrorKind} {s t r : List ℕ} → Tells o k s t r → Grouped o s (group_of o s) k t r
 grouped (t.bare_point f b) = by_number (point_tells f b)
 grouped (t.lone_sign s g n) = by_number (sign_tells s g n)
-grouped (t.hex_digits a s h n c) = by_number (hex_digits_tells a s h c)
+grouped (t.hex_digits a s h n c) = by_number (hex_digits_tells a s h n c)
 grouped (t.exponent s m b n) = by_number (exponent_tells s m b n)
 grouped (t.hexadecimal f s h) = by_number (hexadecimal_tells f s h)
-grouped (t.non_finite f s n) = by_number (name_tells s n)
+grouped (t.non_finite f s n) = by_number (name_tells f s n)
 grouped (t.unary_plus f) = rw f (of_plus refl)
 grouped (t.single_quote f) = rw f (of_quote refl)
 grouped {o = o} (t.broken_word {t = s} b) = by_word o s b
-grouped {o = o} (t.lone_character {c = c} {r = r} w h) = rw (nothing_group o c r w h) (of_nothing refl)
-grouped (t.open_block f) = of_comment
+grouped {o = o} (t.lone_character {c = c} {r = r} w h) = rw (nothing_group o c r w h) (of_nothing refl h)
+grouped (t.open_block f) = of_comment refl f
 grouped (t.string_fault a x) = by_string (string_begins x) a x
 
 pub one_fault : (o : Options) (s : List ℕ) → HasOneFault o s

@@ -60,7 +60,7 @@ sign_no_digit : (c : ℕ) → IsTrue (is_sign c) → IsTrue (is_digit c) → ⊥
 sign_no_digit c g h = grind arith
 
 -- where an exponent breaks off there is none
-broken : {k : ParseErrorKind} {v t r : List ℕ} → BreaksExponent k v t → Exponent v r → ⊥
+pub broken : {k : ParseErrorKind} {v t r : List ℕ} → BreaksExponent k v t → Exponent v r → ⊥
 broken (t.after_sign {e = e} p q n) (Exponent.none m) = clash (is_e e) m p
 broken (t.after_sign {c = c} p q n) (Exponent.digits a (all_of h g m)) = sign_no_digit c q h
 broken (t.after_sign p q n) (Exponent.signed a b g) = all_no g n
