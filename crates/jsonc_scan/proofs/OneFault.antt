@@ -181,7 +181,7 @@ grouped (t.non_finite f s n) = by_number (name_tells f s n)
 grouped (t.unary_plus f) = rw f (of_plus refl)
 grouped (t.single_quote f) = rw f (of_quote refl)
 grouped {o = o} (t.broken_word {t = s} b) = by_word o s b
-grouped {o = o} (t.lone_character {c = c} {r = r} w h) = rw (nothing_group o c r w h) (of_nothing refl h)
+grouped {o = o} (t.lone_character {c = c} {r = r} b w h) = rw (nothing_group o c r w h) (of_nothing refl h)
 grouped (t.open_block f) = of_comment refl f
 grouped (t.string_fault a x) = by_string (string_begins x) a x
 

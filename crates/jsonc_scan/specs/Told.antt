@@ -6,7 +6,7 @@ use Rattle.jsonc_text.specs.declared.errors.ParseErrorKind.{ParseErrorKind}
 use Rattle.jsonc_text.specs.declared.errors.ParseStringErrorKind.{ParseStringErrorKind}
 use Rattle.jsonc_text.specs.declared.errors.ParseErrorKind.TheVariants.{BareDecimalPointNumbersNotAllowed, ExpectedDigit, ExpectedDigitFollowingNegativeSign, ExpectedPlusMinusOrDigitInNumberLiteral, HexadecimalNumbersNotAllowed, NonFiniteNumbersNotAllowed, SingleQuotedStringsNotAllowed, String, UnaryPlusNumbersNotAllowed, UnexpectedToken, UnterminatedCommentBlock}
 use Rattle.jsonc_text.specs.Faults.{kind_of, range_of}
-use Rattle.jsonc_text.specs.Gaps.{UpToBlockEnd}
+use Rattle.jsonc_text.specs.Gaps.{is_blank, UpToBlockEnd}
 use Rattle.jsonc_text.specs.Lexemes.{is_punctuation}
 use Rattle.jsonc_text.specs.Numbers.{Sign, Whole, Fraction, Number, is_x, is_e, is_sign}
 use Rattle.jsonc_text.specs.Options.{Options}
@@ -82,8 +82,8 @@ pub data Tells (o : Options) : ParseErrorKind → List ℕ → List ℕ → List
   unary_plus : {r : List ℕ} → o.unary_plus_numbers ≡ false → Tells o UnaryPlusNumbersNotAllowed (0x2B ∷ r) (0x2B ∷ r) r
   single_quote : {r : List ℕ} → o.single_quoted_strings ≡ false → Tells o SingleQuotedStringsNotAllowed (0x27 ∷ r) (0x27 ∷ r) r
   broken_word : {t r : List ℕ} → BreaksWord o t r → Tells o UnexpectedToken t t r
-  -- one character, with which nothing begins
-  lone_character : {c : ℕ} {r : List ℕ} → IsTrue (not (begins_word c)) → IsTrue (not (begins_other (c ∷ r))) → Tells o UnexpectedToken (c ∷ r) (c ∷ r) r
+  -- one character, no blank, with which nothing begins
+  lone_character : {c : ℕ} {r : List ℕ} → IsTrue (not (is_blank c)) → IsTrue (not (begins_word c)) → IsTrue (not (begins_other (c ∷ r))) → Tells o UnexpectedToken (c ∷ r) (c ∷ r) r
   -- `/*` and all that follows, where no `*/` begins after it
   open_block : {t : List ℕ} → ((r : List ℕ) → UpToBlockEnd t r → ⊥) → Tells o UnterminatedCommentBlock (0x2F ∷ 0x2A ∷ t) (0x2F ∷ 0x2A ∷ t) []
   -- the fault of a string
