@@ -2,7 +2,10 @@ pub mod Between
 pub mod BlockCloses
 pub mod NoLexemes
 pub mod NoNumbers
+pub mod OneFault
+pub mod OneNumberFault
 pub mod Reading
+pub mod RefusedLexemes
 pub mod Told
 pub mod ToldWords
 pub mod Words

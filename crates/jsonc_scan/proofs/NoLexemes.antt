@@ -157,7 +157,7 @@ unsigned_name h i n (Unsigned.bare_point p (all_of k g a) e) = differ h k
 unsigned_name {r = r} h i n (Unsigned.infinity p m) = i p r (refl, m)
 unsigned_name {r = r} h i n (Unsigned.nan p m) = n p r (refl, m)
 
-number_name : {o : Options} {t r : List ℕ} → begins_number t ≡ false → (IsTrue o.non_finite_numbers → (s : List ℕ) → IsWhole (codes "Infinity") t s → ⊥) → (IsTrue o.non_finite_numbers → (s : List ℕ) → IsWhole (codes "NaN") t s → ⊥) → Number o t r → ⊥
+pub number_name : {o : Options} {t r : List ℕ} → begins_number t ≡ false → (IsTrue o.non_finite_numbers → (s : List ℕ) → IsWhole (codes "Infinity") t s → ⊥) → (IsTrue o.non_finite_numbers → (s : List ℕ) → IsWhole (codes "NaN") t s → ⊥) → Number o t r → ⊥
 number_name h i n (b, u, s, x) = signed s h i n x
   where
     signed : {o : Options} {b : Bool} {t u r : List ℕ} → Sign o b t u → begins_number t ≡ false → (IsTrue o.non_finite_numbers → (s : List ℕ) → IsWhole (codes "Infinity") t s → ⊥) → (IsTrue o.non_finite_numbers → (s : List ℕ) → IsWhole (codes "NaN") t s → ⊥) → Unsigned o b u r → ⊥

@@ -16,6 +16,7 @@ use Rattle.jsonc_scan.specs.Refusals.{IsTold, IsToldOfNext, IsExponentFault, Lac
 use Rattle.jsonc_scan.specs.Told as t
 use Rattle.jsonc_scan.specs.Told.{IsNext, IsName, Tells, IsTrueOf, BreaksExponent, Mantissa, BarePoint, GoesOnNoNumber, begins_digits}
 use Rattle.jsonc_text.proofs.Basics.{clash}
+use Rattle.jsonc_text.proofs.UniqueGaps.{all_starts}
 use Rattle.jsonc_text.proofs.UniqueNumbers.{all_no}
 
 -- what is true of the error
@@ -39,7 +40,7 @@ no_either p q (Some c) g h = go (p c) (q c) g h
     go true b g h = g
     go false b g h = h
 
-no_left : (p q : ℕ → Bool) (n : Option ℕ) → IsTrue (no (λ c. p c || q c) n) → IsTrue (no p n)
+pub no_left : (p q : ℕ → Bool) (n : Option ℕ) → IsTrue (no (λ c. p c || q c) n) → IsTrue (no p n)
 no_left p q None h = refl
 no_left p q (Some c) h = go (p c) (q c) h
   where
@@ -47,7 +48,7 @@ no_left p q (Some c) h = go (p c) (q c) h
     go true b h = h
     go false b h = refl
 
-no_right : (p q : ℕ → Bool) (n : Option ℕ) → IsTrue (no (λ c. p c || q c) n) → IsTrue (no q n)
+pub no_right : (p q : ℕ → Bool) (n : Option ℕ) → IsTrue (no (λ c. p c || q c) n) → IsTrue (no q n)
 no_right p q None h = refl
 no_right p q (Some c) h = go (p c) (q c) h
   where
@@ -59,7 +60,7 @@ sign_no_digit : (c : ℕ) → IsTrue (is_sign c) → IsTrue (is_digit c) → ⊥
 sign_no_digit c g h = grind arith
 
 -- where an exponent breaks off there is none
-broken : {k : ParseErrorKind} {v t r : List ℕ} → BreaksExponent k v t → Exponent v r → ⊥
+pub broken : {k : ParseErrorKind} {v t r : List ℕ} → BreaksExponent k v t → Exponent v r → ⊥
 broken (t.after_sign {e = e} p q n) (Exponent.none m) = clash (is_e e) m p
 broken (t.after_sign {c = c} p q n) (Exponent.digits a (all_of h g m)) = sign_no_digit c q h
 broken (t.after_sign p q n) (Exponent.signed a b g) = all_no g n
@@ -151,9 +152,6 @@ pub sign_told : (o : Options) (bytes : List ℕ) (number start : ℕ) (e : Parse
 sign_told o bytes number start e d k h (unsigned p b) n = absurd (clash (begins_digits (rest bytes start)) d b)
 sign_told o bytes number start e d k h (signed l s) n =
     told_next o bytes number start _ e k h (λ c. t.lone_sign s (record { digits = d; name = no_name_here bytes start n }) c)
-
-all_starts : {p : ℕ → Bool} {t r : List ℕ} → AllOf p t r → IsTrue (starts p (next t))
-all_starts (all_of h m n) = h
 
 -- a point before digits, after the sign or alone
 pub signed_point_told : (o : Options) (bytes : List ℕ) (number start digits : ℕ) (e : ParseError) → o.bare_decimal_points ≡ false → number < start → Steps bytes start 0x2E (start + 1) → Between (AllOf is_digit) bytes (start + 1) digits → IsTold number start kind.BareDecimalPointNumbersNotAllowed e → PassesSign o bytes number start → IsTrueOf o bytes number e

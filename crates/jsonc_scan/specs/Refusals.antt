@@ -6,11 +6,13 @@ use Rattle.jsonc_text.specs.declared.errors.ParseErrorKind.TheVariants.{OutOfMem
 use Rattle.jsonc_string.specs.declared.escape.StringFault.{StringFault}
 use Rattle.jsonc_text.specs.Chars.{Steps}
 use Rattle.jsonc_text.specs.Faults.{IsFault, kind_of, range_of}
+use Rattle.jsonc_text.specs.Gaps.{is_blank}
 use Rattle.jsonc_text.specs.Numbers.{Sign}
 use Rattle.jsonc_text.specs.Options.{Options}
 use Rattle.jsonc_text.specs.Text.{rest, is_digit}
-use Rattle.jsonc_string.specs.Between.{LacksAt}
-use Rattle.jsonc_scan.specs.Reads.{NoNames, begins_number}
+use Rattle.jsonc_text.specs.Words.{Keyword, IsKeyword}
+use Rattle.jsonc_string.specs.Between.{LacksAt, NoneFrom}
+use Rattle.jsonc_scan.specs.Reads.{NoName, NoNames, begins_number}
 use Rattle.jsonc_scan.specs.Told.{IsNext, BreaksExponent, IsTrueOf, begins_digits, begins_other}
 
 -- a fault of the text itself, and no want of memory
@@ -61,22 +63,28 @@ IsSignedFault o bytes sign e = Sign o true (rest bytes sign) (rest bytes (sign +
 abbrev pub IsFaultOfNumber : Options → List ℕ → ℕ → ParseError → Type 0
 IsFaultOfNumber o bytes start e = begins_number (rest bytes start) ≡ true → IsTrueOf o bytes start e
 
--- the text goes on at a place with what begins no comment, and no lexeme that is no word
+-- the text goes on at a place with what is no blank, and begins no comment, and no lexeme that is no word or name
 pub record BeginsNoOther (bytes : List ℕ) (start : ℕ) : Type 0 where
   pub inside : start < length bytes
+  pub blank : LacksAt is_blank bytes start
   pub other : IsTrue (not (begins_other (rest bytes start)))
+  pub keyword : (k : Keyword) → NoneFrom (IsKeyword k) bytes start
 
--- a fault of what begins as a word or as nothing
+-- a fault of what begins as a word or as nothing, where no name stands as a number
 abbrev pub IsFaultOfWord : List ℕ → ℕ → ParseError → Type 0
-IsFaultOfWord bytes start e = BeginsNoOther bytes start → (o : Options) → IsTrueOf o bytes start e
+IsFaultOfWord bytes start e = BeginsNoOther bytes start → (o : Options) → NoName o bytes start → IsTrueOf o bytes start e
+
+-- a fault of what begins as a word, a name or as nothing
+abbrev pub IsFaultOfNameOrWord : Options → List ℕ → ℕ → ParseError → Type 0
+IsFaultOfNameOrWord o bytes start e = BeginsNoOther bytes start → IsTrueOf o bytes start e
 
 -- a fault of what begins as a comment
 abbrev pub IsFaultOfComment : List ℕ → ℕ → ParseError → Type 0
 IsFaultOfComment bytes start e = (o : Options) → IsTrueOf o bytes start e
 
--- a fault of the lexeme at a place before the end
+-- a fault of the lexeme at a place before the end, where no blank stands
 abbrev pub IsFaultOfLexeme : Options → List ℕ → ℕ → ParseError → Type 0
-IsFaultOfLexeme o bytes start e = start < length bytes → IsTrueOf o bytes start e
+IsFaultOfLexeme o bytes start e = start < length bytes → LacksAt is_blank bytes start → IsTrueOf o bytes start e
 
 -- a fault of the string at a place, or want of memory
 abbrev pub IsFaultOfString : Options → List ℕ → ℕ → ParseError → Type 0

@@ -6,13 +6,13 @@ use Rattle.jsonc_text.specs.declared.errors.ParseErrorKind.{ParseErrorKind}
 use Rattle.jsonc_text.specs.declared.errors.ParseStringErrorKind.{ParseStringErrorKind}
 use Rattle.jsonc_text.specs.declared.errors.ParseErrorKind.TheVariants.{BareDecimalPointNumbersNotAllowed, ExpectedDigit, ExpectedDigitFollowingNegativeSign, ExpectedPlusMinusOrDigitInNumberLiteral, HexadecimalNumbersNotAllowed, NonFiniteNumbersNotAllowed, SingleQuotedStringsNotAllowed, String, UnaryPlusNumbersNotAllowed, UnexpectedToken, UnterminatedCommentBlock}
 use Rattle.jsonc_text.specs.Faults.{kind_of, range_of}
-use Rattle.jsonc_text.specs.Gaps.{UpToBlockEnd}
+use Rattle.jsonc_text.specs.Gaps.{is_blank, UpToBlockEnd}
 use Rattle.jsonc_text.specs.Lexemes.{is_punctuation}
-use Rattle.jsonc_text.specs.Numbers.{Sign, Whole, Fraction, is_x, is_e, is_sign}
+use Rattle.jsonc_text.specs.Numbers.{Sign, Whole, Fraction, Number, is_x, is_e, is_sign}
 use Rattle.jsonc_text.specs.Options.{Options}
 use Rattle.jsonc_text.specs.Strings.{IsQuote}
 use Rattle.jsonc_text.specs.Text.{rest, next, no, starts, Many, AllOf, is_digit, is_hex_digit}
-use Rattle.jsonc_text.specs.Words.{begins_word, is_in_word, EndsWord}
+use Rattle.jsonc_text.specs.Words.{begins_word, is_in_word, EndsWord, Keyword, IsKeyword}
 use Rattle.jsonc_string.specs.Told.{Tells as TellsOfString}
 use Rattle.jsonc_scan.specs.Between.{IsAlone}
 use Rattle.jsonc_scan.specs.Reads.{begins_number}
@@ -52,12 +52,14 @@ pub data BreaksExponent : ParseErrorKind → List ℕ → List ℕ → Type 0 wh
   after_sign : {e c : ℕ} {t : List ℕ} → IsTrue (is_e e) → IsTrue (is_sign c) → IsTrue (no is_digit (next t)) → BreaksExponent ExpectedDigit (e ∷ c ∷ t) t
   after_e : {e : ℕ} {t : List ℕ} → IsTrue (is_e e) → IsTrue (no (λ c. is_sign c || is_digit c) (next t)) → BreaksExponent ExpectedPlusMinusOrDigitInNumberLiteral (e ∷ t) t
 
--- t is all the characters of a word, and then r, before which no word may end
-pub record BreaksWord (t r : List ℕ) : Type 0 where
+-- t is all the characters of a word, which neither a keyword nor a number begins, and then r, before which no word may end
+pub record BreaksWord (o : Options) (t r : List ℕ) : Type 0 where
   pub begins : IsTrue (starts begins_word (next t))
   pub goes_on : Many is_in_word t r
   pub all : IsTrue (no is_in_word (next r))
   pub no_end : EndsWord (next r) → ⊥
+  pub no_keyword : (k : Keyword) (u : List ℕ) → IsKeyword k t u → ⊥
+  pub no_number : (u : List ℕ) → Number o t u → ⊥
 
 -- t begins as punctuation, a string, a number that is no name, or a comment
 abbrev pub begins_other : List ℕ → Bool
@@ -79,9 +81,9 @@ pub data Tells (o : Options) : ParseErrorKind → List ℕ → List ℕ → List
   non_finite : {t u r : List ℕ} → o.non_finite_numbers ≡ false → Sign o true t u → IsName u r → Tells o NonFiniteNumbersNotAllowed t t r
   unary_plus : {r : List ℕ} → o.unary_plus_numbers ≡ false → Tells o UnaryPlusNumbersNotAllowed (0x2B ∷ r) (0x2B ∷ r) r
   single_quote : {r : List ℕ} → o.single_quoted_strings ≡ false → Tells o SingleQuotedStringsNotAllowed (0x27 ∷ r) (0x27 ∷ r) r
-  broken_word : {t r : List ℕ} → BreaksWord t r → Tells o UnexpectedToken t t r
-  -- one character, with which nothing begins
-  lone_character : {c : ℕ} {r : List ℕ} → IsTrue (not (begins_word c)) → IsTrue (not (begins_other (c ∷ r))) → Tells o UnexpectedToken (c ∷ r) (c ∷ r) r
+  broken_word : {t r : List ℕ} → BreaksWord o t r → Tells o UnexpectedToken t t r
+  -- one character, no blank, with which nothing begins
+  lone_character : {c : ℕ} {r : List ℕ} → IsTrue (not (is_blank c)) → IsTrue (not (begins_word c)) → IsTrue (not (begins_other (c ∷ r))) → Tells o UnexpectedToken (c ∷ r) (c ∷ r) r
   -- `/*` and all that follows, where no `*/` begins after it
   open_block : {t : List ℕ} → ((r : List ℕ) → UpToBlockEnd t r → ⊥) → Tells o UnterminatedCommentBlock (0x2F ∷ 0x2A ∷ t) (0x2F ∷ 0x2A ∷ t) []
   -- the fault of a string

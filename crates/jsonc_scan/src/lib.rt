@@ -5,6 +5,7 @@
 
 mod comment;
 mod faults;
+pub mod laws;
 mod lexeme;
 mod number;
 mod reads;

@@ -5,7 +5,7 @@ ghost use Rattle.jsonc_text.specs.Lexemes.{is_punctuation};
 ghost use Rattle.jsonc_text.specs.OptionsOf.{parse_options};
 ghost use Rattle.jsonc_scan.specs.Reads.{IsMarkAt, IsRead, IsReadAnyhow, NoNameOrWord, NothingAt};
 ghost use Rattle.jsonc_string.specs.Quotes.{OpensNoString, OpensString};
-ghost use Rattle.jsonc_scan.specs.Refusals.{IsTextFault, IsFaultOfLexeme, IsFaultOfWord};
+ghost use Rattle.jsonc_scan.specs.Refusals.{IsTextFault, IsFaultOfLexeme, IsFaultOfNameOrWord};
 ghost use Rattle.jsonc_text.specs.Words.{Keyword, IsKeyword};
 
 use crate::comment::read_comment;
@@ -92,7 +92,7 @@ fn read_name_or_word<'a>(
     ensures found { IfOk result (IsRead (parse_options options.now) text.now start) }
     ensures none { IfErr result (λ _. NoNameOrWord (parse_options options.now) text.now start) }
     ensures fault { IfErr result (IsTextFault text.now) }
-    ensures told { IfErr result (IsFaultOfWord text.now start) }
+    ensures told { IfErr result (IsFaultOfNameOrWord (parse_options options.now) text.now start) }
 {
     if !options.allow_non_finite_numbers {
         return read_word(text, start, options);

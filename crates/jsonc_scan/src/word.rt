@@ -6,7 +6,7 @@ ghost use Rattle.jsonc_scan.specs.Between.{IsAlone, PassesOne, PassesWord, may_f
 ghost use Rattle.jsonc_text.specs.Letters.{is_wide_letter};
 ghost use Rattle.jsonc_text.specs.OptionsOf.{parse_options};
 ghost use Rattle.jsonc_scan.specs.Reads.{IsRead, IsReadAnyhow, NoName, NoWord};
-ghost use Rattle.jsonc_scan.specs.Refusals.{IsTextFault, IsFaultOfWord};
+ghost use Rattle.jsonc_scan.specs.Refusals.{IsTextFault, IsFaultOfNameOrWord, IsFaultOfWord};
 ghost use Rattle.jsonc_text.specs.Text.{rest, next, Many};
 ghost use Rattle.jsonc_text.specs.Words.{goes_on, is_in_word, begins_word, EndsWord, Keyword, IsKeyword};
 ghost use Rattle.jsonc_text.specs.Faults.{kind_of};
@@ -210,7 +210,7 @@ pub(crate) fn read_word<'a>(
     ensures found { IfOk result (IsRead (parse_options options.now) text.now start) }
     ensures none { IfErr result (λ _. NoWord (parse_options options.now) text.now start) }
     ensures fault { IfErr result (IsTextFault text.now) }
-    ensures told { IfErr result (IsFaultOfWord text.now start) }
+    ensures told { IfErr result (IsFaultOfNameOrWord (parse_options options.now) text.now start) }
 {
     let end = word_end(text, start)?;
     let lexeme = Lexeme::Word(&text[start..end]);

@@ -37,4 +37,4 @@ returns-clause-none c =
     c.read_name_or_word.ensures.none
 
 pub returns-then-has_byte-2-clause-told : goal.returns-then-has_byte-2-clause-told
-returns-then-has_byte-2-clause-told c = λ l. quote_told _ _ _ _ (c.if-has_byte-2.ensures.here refl) c.requires.quote c.fault.ensures.told
+returns-then-has_byte-2-clause-told c = λ l b. quote_told _ _ _ _ (c.if-has_byte-2.ensures.here refl) c.requires.quote c.fault.ensures.told

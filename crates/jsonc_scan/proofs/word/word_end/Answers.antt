@@ -20,7 +20,7 @@ returns-in_default-clause-told c =
     character_told _ _ _ c.utf8.text c.requires c.in_default.ensures.none c.fault_at.ensures.kind c.fault_at.ensures.next
 
 pub returns-clause-told : goal.returns-clause-told
-returns-clause-told c = λ h.
+returns-clause-told c =
     let first = c.in-Some.ensures.found in
     let others = c.word_chars_end-end.ensures in
     word_told _ _ _ _ _ _ first.1 first.2 others.chars others.all (λ ends. let both : false ≡ true = c.if-ends_word.ensures.1 ends in cc) c.fault.ensures.told
