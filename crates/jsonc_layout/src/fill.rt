@@ -242,6 +242,6 @@ pub(crate) fn fill_between<A: Allocator + Copy>(
     requires fillable { IsFillable text.now from to }
     ensures { OnOk result ((row : OrderedTree) × Grows tree.old.nodes tree.new.nodes container row × FillsBetween text.now from to row) }
 {
-    make_room(tree, from, text.len());
+    make_room(tree, from, text.len())?;
     fill_gap(tree, container, whole, text, from, to)
 }

@@ -2,10 +2,11 @@
 ghost use Rattle.std.specs.Prelude.{◌≡◌};
 
 use jsonc_tree::Tree;
-use std::alloc::Allocator;
+use std::alloc::{AllocError, Allocator};
 
-// So many nodes the rest of a text has, where it goes on as up to this place, and somewhat more; no more
-// than there are already and no less than an eighth of those, so that nodes move seldom.
+// How many nodes to make room for: as many as the rest of a text has where it goes on as up to this place,
+// and somewhat more. No more than there are already, as a guess may be wrong, and no less than an eighth of
+// those, so that nodes move seldom.
 fn nodes_to_come(count: usize, place: usize, len: usize) -> usize {
     if place == 0 {
         return 16;
@@ -16,12 +17,16 @@ fn nodes_to_come(count: usize, place: usize, len: usize) -> usize {
     most.min(count).saturating_add(16)
 }
 
-// Makes room for nodes before there is none, so that a tree takes little more memory than it fills. It is
-// no matter if there is none to be had: what adds a node asks again.
-pub(crate) fn make_room<A: Allocator>(tree: &mut Tree<A>, place: usize, len: usize)
+// Makes room for nodes before there is none, so that a tree takes little more memory than it fills.
+pub(crate) fn make_room<A: Allocator>(
+    tree: &mut Tree<A>,
+    place: usize,
+    len: usize,
+) -> Result<(), AllocError>
     ensures { tree.new.nodes ≡ tree.old.nodes }
 {
-    if tree.spare() < 8 {
-        let _ = tree.reserve_nodes(nodes_to_come(tree.len(), place, len));
+    if tree.spare() >= 8 {
+        return Ok(());
     }
+    tree.reserve_nodes(nodes_to_come(tree.len(), place, len))
 }

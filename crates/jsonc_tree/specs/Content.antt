@@ -1,5 +1,5 @@
 -- What a node is, and the bytes that it prints itself.
-use Rattle.std.specs.Prelude.{ℕ, Bool, true, false, List, [], ◌∷◌, codes, encode_utf8}
+use Rattle.std.specs.Prelude.{ℕ, Bool, true, false, List, [], ◌∷◌, Option, Some, None, codes, encode_utf8}
 use Rattle.jsonc_tree.specs.declared.node.CstNewlineKind.{CstNewlineKind}
 use Rattle.jsonc_tree.specs.declared.node.CstNewlineKind.TheVariants.{LineFeed, CarriageReturnLineFeed, CarriageReturn}
 
@@ -58,6 +58,15 @@ has_text (number s) = true
 has_text (whitespace s) = true
 has_text (comment s) = true
 has_text _ = false
+
+-- that text, if the leaf keeps one
+abbrev pub kept_text : Content → Option (List ℕ)
+kept_text (string s) = Some s
+kept_text (word s) = Some s
+kept_text (number s) = Some s
+kept_text (whitespace s) = Some s
+kept_text (comment s) = Some s
+kept_text _ = None
 
 -- the same kind of leaf with another text
 abbrev pub with_text : Content → List ℕ → Content

@@ -1,6 +1,6 @@
 -- The plain value of an ordered tree, by the kinds of its nodes and the texts of its leaves.
 -- Passed over: whitespace, newlines, comments and tokens, wherever they stand.
-use Rattle.std.specs.Prelude.{ℕ, ◌≡◌, ◌⊎◌, Bool, true, false, List, [], ◌∷◌, Option, Some, None, IsTrue, chars}
+use Rattle.std.specs.Prelude.{ℕ, ◌≡◌, Bool, true, false, List, [], Option, Some, None, IsTrue, chars}
 use Rattle.jsonc_text.specs.Options.{Options}
 use Rattle.jsonc_text.specs.Strings.{IsString}
 use Rattle.jsonc_text.specs.Plain.{Plain, Items, no_items, item, Members, no_members, member}

@@ -1,7 +1,7 @@
 //! What a node is.
 
-ghost use Rattle.std.specs.Prelude.{◌≡◌, IsTrue, string_bytes};
-ghost use Rattle.jsonc_tree.specs.Content.{has_text, is_container, with_text};
+ghost use Rattle.std.specs.Prelude.{◌≡◌, IsTrue, option_map, string_bytes};
+ghost use Rattle.jsonc_tree.specs.Content.{has_text, is_container, kept_text, with_text};
 ghost use Rattle.jsonc_tree.specs.Stored.{content_of};
 
 use crate::part::Part;
@@ -50,6 +50,25 @@ impl<A: Allocator> Kind<A> {
         match self {
             Kind::Root | Kind::Object | Kind::Array | Kind::Property => true,
             _ => false,
+        }
+    }
+
+    /// The text that a leaf keeps: a string, word, number, whitespace or comment.
+    pub fn text(&self) -> Option<&str>
+        ensures { option_map (λ s. s.now) result ≡ kept_text (content_of self.now) }
+    {
+        match self {
+            Kind::String(s)
+            | Kind::Word(s)
+            | Kind::Number(s)
+            | Kind::Whitespace(s)
+            | Kind::Comment(s) => Some(s.as_str()),
+            Kind::StringPart(s)
+            | Kind::WordPart(s)
+            | Kind::NumberPart(s)
+            | Kind::WhitespacePart(s)
+            | Kind::CommentPart(s) => Some(s.as_str()),
+            _ => None,
         }
     }
 

@@ -181,6 +181,13 @@ fn set_text_at<A: Allocator>(nodes: &mut Vec<Node<A>, A>, n: usize, text: String
     nodes[n].kind.set_text(text);
 }
 
+// How many more nodes there is memory for.
+fn spare_of<A: Allocator>(nodes: &Vec<Node<A>, A>) -> usize
+    ensures { result ≡ vec_capacity nodes.now - vec_len nodes.now }
+{
+    nodes.capacity() - nodes.len()
+}
+
 impl<A: Allocator> Tree<A> {
     /// How many nodes there are, those that were taken out included.
     pub fn len(&self) -> usize
@@ -194,7 +201,7 @@ impl<A: Allocator> Tree<A> {
     pub fn spare(&self) -> usize
         ensures { result ≡ self.now.room }
     {
-        self.nodes.capacity() - self.nodes.len()
+        spare_of(&self.nodes)
     }
 
     /// Makes room for so many more nodes, and for no more than that where it takes memory.
