@@ -82,7 +82,7 @@ def comments_shown(tokens):
 
 
 def shown(case, answer):
-    """What a case and its answer show."""
+    """What a case and its answer show; of look-ups in syntax trees, which are few, each shows itself."""
     kind, fields = case[1], case[2:]
     if vectors.is_not_yet(case):
         yield kind, 'not yet', kind == 'ast' and fields[1], kind == 'jsonc' and fields[0].split(' ')[0]
@@ -94,6 +94,9 @@ def shown(case, answer):
     yield from escapes_shown(case, fault)
     if kind == 'decode':
         yield kind, fault or answer[1]
+        return
+    if kind == 'aobj':
+        yield kind, case[0]
         return
     if kind == 'jobj':
         for lookup, found in zip(fields[2].split(' ; '), answer[2:]):

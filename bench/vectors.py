@@ -22,7 +22,7 @@ def is_not_yet(case):
         return is_program_to_come(fields[0])
     if kind == 'ast':
         return fields[1].startswith('S')
-    return kind not in ('scan', 'value', 'equal', 'jobj', 'decode', 'print')
+    return kind not in ('scan', 'value', 'equal', 'jobj', 'aobj', 'decode', 'print')
 
 
 def read(folder):

@@ -3,6 +3,7 @@
 use crate::case::Question;
 use crate::decoded::decoded;
 use crate::lookup::looked_up;
+use crate::member::looked_up_in_tree;
 use crate::program::{outcome, printed};
 use crate::scanned::tokens;
 use crate::syntax::syntax;
@@ -27,6 +28,11 @@ pub fn answer(alloc: Global, question: &Question) -> Result<Option<String>, Allo
             text,
             lookups,
         } => Ok(Some(looked_up(alloc, text.as_str(), options, lookups.as_slice())?)),
+        Question::TreeObject {
+            options,
+            text,
+            lookups,
+        } => Ok(Some(looked_up_in_tree(alloc, text.as_str(), options, lookups.as_slice())?)),
         Question::Decode { text } => Ok(Some(decoded(alloc, text.as_str())?)),
         Question::Ast {
             options,

@@ -37,6 +37,12 @@ pub enum Question {
         text: String,
         lookups: Vec<Lookup>,
     },
+    /// What is looked up in the object of a text's syntax tree.
+    TreeObject {
+        options: ParseOptions,
+        text: String,
+        lookups: Vec<Lookup>,
+    },
     /// The string at the front of a text.
     Decode {
         text: String,
@@ -76,14 +82,7 @@ impl<'a> Case<'a> {
 
 fn is_kind_to_come(kind: &str) -> bool {
     match kind {
-        "aobj" | "edit" | "trace" | "read" | "settings" | "detached" => true,
-        _ => false,
-    }
-}
-
-fn is_kind(kind: &str) -> bool {
-    match kind {
-        "scan" | "ast" | "value" | "equal" | "jobj" | "decode" | "print" | "jsonc" => true,
+        "edit" | "trace" | "read" | "settings" | "detached" => true,
         _ => false,
     }
 }
@@ -96,12 +95,13 @@ impl Question {
             ("value", [options, text]) => value(alloc, options, text),
             ("equal", [options, one, other]) => equal(alloc, options, one, other),
             ("jobj", [options, text, lookups]) => object(alloc, options, text, lookups),
+            ("aobj", [options, text, lookups]) => tree_object(alloc, options, text, lookups),
             ("decode", [text]) => Ok(Question::Decode {
                 text: unescaped_text(alloc, text)?,
             }),
             ("print", [options, input]) => print(alloc, options, input),
             ("jsonc", [words, input]) => program(alloc, words, input),
-            ("scan" | "ast" | "value" | "jobj" | "decode" | "jsonc", _) => Err(
+            ("scan" | "ast" | "value" | "jobj" | "aobj" | "decode" | "jsonc", _) => Err(
                 CaseError::FieldCount,
             ),
             (kind, _) if is_kind_to_come(kind) => Ok(Question::NotBuilt),
@@ -154,6 +154,19 @@ fn print(alloc: Global, options: &str, input: &str) -> Result<Question, CaseErro
 
 fn object(alloc: Global, options: &str, text: &str, lookups: &str) -> Result<Question, CaseError> {
     Ok(Question::Object {
+        options: read_options(options)?,
+        text: unescaped_text(alloc, text)?,
+        lookups: read_lookups(alloc, lookups)?,
+    })
+}
+
+fn tree_object(
+    alloc: Global,
+    options: &str,
+    text: &str,
+    lookups: &str,
+) -> Result<Question, CaseError> {
+    Ok(Question::TreeObject {
         options: read_options(options)?,
         text: unescaped_text(alloc, text)?,
         lookups: read_lookups(alloc, lookups)?,

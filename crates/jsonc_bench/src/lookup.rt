@@ -1,4 +1,4 @@
-//! Look-ups by name in the object of a text.
+//! Look-ups by name in the object of a text, as `JsonObject` answers them.
 
 use crate::error::CaseError;
 use crate::escape::unescaped_text;
@@ -8,7 +8,7 @@ use std::alloc::{AllocError, Global};
 
 /// The value that is wanted.
 #[derive(Clone, Copy, Drop)]
-enum Kind {
+pub enum Kind {
     Any,
     String,
     Number,
@@ -20,10 +20,10 @@ enum Kind {
 /// A look-up of a name.
 #[derive(Drop)]
 pub struct Lookup {
-    name: String,
-    kind: Kind,
+    pub name: String,
+    pub kind: Kind,
     /// Whether the name is taken out of the object.
-    takes: bool,
+    pub takes: bool,
 }
 
 /// The look-ups that a field lists, as `get_string 'a ; take 'b`.

@@ -10,6 +10,7 @@ mod document;
 mod error;
 mod escape;
 mod lookup;
+mod member;
 mod program;
 mod scanned;
 mod show;

@@ -57,8 +57,9 @@ fn push_text(out: &mut String, mark: &str, range: Range, text: &str) -> Result<(
     write!(out, ":{}", Escaped::word(text))
 }
 
+/// A value with its range, and those in it.
 #[cycle(show)]
-fn push_value(out: &mut String, value: &Value<'_, Global>) -> Result<(), AllocError> {
+pub fn push_value(out: &mut String, value: &Value<'_, Global>) -> Result<(), AllocError> {
     match value {
         Value::NullKeyword(null) => push_range(out, "N", null.range),
         Value::BooleanLit(boolean) if boolean.value => push_range(out, "T", boolean.range),
@@ -81,8 +82,9 @@ fn push_array(out: &mut String, array: &Array<'_, Global>) -> Result<(), AllocEr
     Ok(())
 }
 
+/// An object with its range, and what is in it.
 #[cycle(show)]
-fn push_object(out: &mut String, object: &Object<'_, Global>) -> Result<(), AllocError> {
+pub fn push_object(out: &mut String, object: &Object<'_, Global>) -> Result<(), AllocError> {
     push_range(out, "{", object.range)?;
     write!(out, "*{}", object.properties.len())?;
     for property in object.properties.iter() {

@@ -5,6 +5,7 @@ use crate::clones::copies;
 use crate::maps::changed_map;
 use crate::outcome::Outcome;
 use crate::tokens::decode_provided;
+use crate::tree_copies::tree_copies;
 use crate::trees::changed_tree;
 use jsonc_engine::calls::{FromReader, ToWriter};
 use jsonc_engine::command::Command;
@@ -31,6 +32,7 @@ pub enum Call {
     DecodeProvided,
     Scan,
     SyntaxTree,
+    SyntaxTreeCopies,
     Value,
     ValueCopies,
     Document,
@@ -42,11 +44,12 @@ pub enum Call {
 }
 
 /// All of them.
-pub const CALLS: [Call; 12] = [
+pub const CALLS: [Call; 13] = [
     Call::Decode,
     Call::DecodeProvided,
     Call::Scan,
     Call::SyntaxTree,
+    Call::SyntaxTreeCopies,
     Call::Value,
     Call::ValueCopies,
     Call::Document,
@@ -78,6 +81,7 @@ pub fn outcome_of(call: Call, heap: Heap<'_>) -> Outcome {
         Call::DecodeProvided => decode_provided(heap),
         Call::Scan => scan(heap),
         Call::SyntaxTree => syntax_tree(heap),
+        Call::SyntaxTreeCopies => tree_copies(heap),
         Call::Value => value(heap),
         Call::ValueCopies => copies(heap),
         Call::Document => document(heap),

@@ -20,6 +20,8 @@ mod streams;
 #[cfg(test)]
 mod tokens;
 #[cfg(test)]
+mod tree_copies;
+#[cfg(test)]
 mod trees;
 #[cfg(test)]
 mod unasked;
