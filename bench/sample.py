@@ -81,11 +81,19 @@ def comments_shown(tokens):
             yield name, 'before', after
 
 
+def gaps_shown(places):
+    """How many places have comments, how many are among those of each, and of what kinds."""
+    yield 'places', min(len(places), 8)
+    for place in places:
+        key, *comments = place.split(' ')
+        yield 'comments', key == '0:', [comment[0] for comment in comments][:3]
+
+
 def shown(case, answer):
     """What a case and its answer show; of look-ups in syntax trees, which are few, each shows itself."""
     kind, fields = case[1], case[2:]
     if vectors.is_not_yet(case):
-        yield kind, 'not yet', kind == 'ast' and fields[1], kind == 'jsonc' and fields[0].split(' ')[0]
+        yield kind, 'not yet', kind == 'jsonc' and fields[0].split(' ')[0]
         return
     if kind == 'jsonc':
         yield kind, fields[0], answer[1:4]
@@ -115,7 +123,10 @@ def shown(case, answer):
         for word in answer[2].split(' '):
             yield kind, 'node', word if word[0] in '[{' else word[0]
         return
-    tokens = answer[2:] if kind == 'scan' else answer[5:]
+    places = int(answer[3].split(' ')[1]) if kind == 'ast' and answer[3] != 'no-map' else 0
+    if places:
+        yield from gaps_shown(answer[4:4 + places])
+    tokens = answer[2:] if kind == 'scan' else answer[5 + places:]
     for token in tokens:
         name, _, _, text = token.split(' ', 3)
         yield kind, name, shape(name, text)

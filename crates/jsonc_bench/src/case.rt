@@ -14,7 +14,7 @@ pub enum Question {
         options: ParseOptions,
         text: String,
     },
-    /// The syntax tree of a text, and its tokens where they are to be collected.
+    /// The syntax tree of a text, and its tokens and comments where they are to be collected.
     Ast {
         options: ParseOptions,
         collect: CollectOptions,
@@ -118,15 +118,10 @@ fn scan(alloc: Global, options: &str, text: &str) -> Result<Question, CaseError>
 }
 
 fn ast(alloc: Global, options: &str, collect: &str, text: &str) -> Result<Question, CaseError> {
-    let options = read_options(options)?;
-    let text = unescaped_text(alloc, text)?;
-    let Some(collect) = read_collection(collect)? else {
-        return Ok(Question::NotBuilt);
-    };
     Ok(Question::Ast {
-        options,
-        collect,
-        text,
+        options: read_options(options)?,
+        collect: read_collection(collect)?,
+        text: unescaped_text(alloc, text)?,
     })
 }
 
@@ -219,17 +214,18 @@ fn read_options(flags: &str) -> Result<ParseOptions, CaseError> {
     })
 }
 
-/// What is to be collected, or none where comments are to be collected apart, which no call does yet.
-fn read_collection(letters: &str) -> Result<Option<CollectOptions>, CaseError> {
+/// What is to be collected.
+fn read_collection(letters: &str) -> Result<CollectOptions, CaseError> {
     let (comments, tokens) = match letters {
         "O-" => (CommentCollectionStrategy::Off, false),
         "Ot" => (CommentCollectionStrategy::Off, true),
         "T-" => (CommentCollectionStrategy::AsTokens, false),
         "Tt" => (CommentCollectionStrategy::AsTokens, true),
-        "S-" | "St" => return Ok(None),
+        "S-" => (CommentCollectionStrategy::Separate, false),
+        "St" => (CommentCollectionStrategy::Separate, true),
         _ => return Err(CaseError::Collection),
     };
-    Ok(Some(CollectOptions { comments, tokens }))
+    Ok(CollectOptions { comments, tokens })
 }
 
 /// The words of a command line, each after a `'`.

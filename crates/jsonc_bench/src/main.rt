@@ -5,6 +5,7 @@
 
 mod answer;
 mod case;
+mod comments;
 mod decoded;
 mod document;
 mod error;

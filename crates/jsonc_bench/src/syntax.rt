@@ -1,4 +1,5 @@
 //! The syntax tree of a text.
+use crate::comments::push_comments;
 use crate::document::push_reprint;
 use crate::escape::Escaped;
 use crate::show::{push_fault, push_token};
@@ -18,7 +19,7 @@ pub fn syntax(
     let mut out = String::new(alloc);
     match parse_to_ast(alloc, text, collect, options) {
         Ok(parsed) => {
-            push_parsed(&mut out, &parsed)?;
+            push_parsed(alloc, &mut out, &parsed)?;
             push_reprint(alloc, &mut out, text, options)?;
         }
         Err(error) => push_fault(alloc, &mut out, &error)?,
@@ -26,13 +27,20 @@ pub fn syntax(
     Ok(out)
 }
 
-fn push_parsed(out: &mut String, parsed: &ParseResult<'_, Global>) -> Result<(), AllocError> {
+fn push_parsed(
+    alloc: Global,
+    out: &mut String,
+    parsed: &ParseResult<'_, Global>,
+) -> Result<(), AllocError> {
     out.push_str("ok\t")?;
     match &parsed.value {
         Some(value) => push_value(out, value)?,
         None => out.push('-')?,
     }
-    out.push_str("\tno-map")?;
+    match &parsed.comments {
+        Some(comments) => push_comments(alloc, out, comments)?,
+        None => out.push_str("\tno-map")?,
+    }
     match &parsed.tokens {
         Some(tokens) => push_tokens(out, tokens.as_slice()),
         None => out.push_str("\tno-tokens"),
@@ -52,7 +60,7 @@ fn push_range(out: &mut String, mark: &str, range: Range) -> Result<(), AllocErr
     write!(out, "{mark}@{}-{}", range.start, range.end)
 }
 
-fn push_text(out: &mut String, mark: &str, range: Range, text: &str) -> Result<(), AllocError> {
+pub fn push_text(out: &mut String, mark: &str, range: Range, text: &str) -> Result<(), AllocError> {
     push_range(out, mark, range)?;
     write!(out, ":{}", Escaped::word(text))
 }

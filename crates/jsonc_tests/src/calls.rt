@@ -13,8 +13,8 @@ use jsonc_engine::engine::{engine, run_on};
 use jsonc_parser::cst::CstRootNode;
 use jsonc_parser::tokens::Token;
 use jsonc_parser::{
-    CollectOptions, CommentCollectionStrategy, JsonValue, ParseOptions, ParseResult, Scanner,
-    ScannerOptions, parse_to_ast, parse_to_value,
+    CollectOptions, CommentCollectionStrategy, CommentMap, JsonValue, ParseOptions, ParseResult,
+    Scanner, ScannerOptions, parse_to_ast, parse_to_value,
 };
 use jsonc_string::provider::parse_string;
 use refusing::Refusing;
@@ -33,6 +33,7 @@ pub enum Call {
     Scan,
     SyntaxTree,
     SyntaxTreeCopies,
+    CommentMap,
     Value,
     ValueCopies,
     Document,
@@ -50,6 +51,7 @@ pub const CALLS: [Call; 13] = [
     Call::Scan,
     Call::SyntaxTree,
     Call::SyntaxTreeCopies,
+    Call::CommentMap,
     Call::Value,
     Call::ValueCopies,
     Call::Document,
@@ -67,6 +69,9 @@ const PLAIN: &str =
 /// One with comments, an escape and looser spelling.
 const LOOSE: &str = "// one\n[{a: '\\x62', 0x1F: +.5, c: Infinity,}, /* two */ [NaN -1]]";
 
+/// One with comments in three gaps, and with two in the first of them, which ends at 17.
+const COMMENTED: &str = "// one\n/* two */ [1, /* three */ 2] // four";
+
 /// One of two elements, with an escape in a name and in a string.
 const VALUES: &str = "[true, {'\\x61': '\\x62', 0x1F: +.5, c: Infinity,}] // end";
 
@@ -82,6 +87,7 @@ pub fn outcome_of(call: Call, heap: Heap<'_>) -> Outcome {
         Call::Scan => scan(heap),
         Call::SyntaxTree => syntax_tree(heap),
         Call::SyntaxTreeCopies => tree_copies(heap),
+        Call::CommentMap => comment_map(heap),
         Call::Value => value(heap),
         Call::ValueCopies => copies(heap),
         Call::Document => document(heap),
@@ -120,6 +126,26 @@ fn syntax_tree(heap: Heap<'_>) -> Result<Outcome, Outcome> {
 fn token_count(parsed: &ParseResult<'_, Heap<'_>>) -> usize {
     match &parsed.tokens {
         Some(tokens) => tokens.len(),
+        None => 0,
+    }
+}
+
+fn comment_map(heap: Heap<'_>) -> Result<Outcome, Outcome> {
+    let collect = CollectOptions {
+        comments: CommentCollectionStrategy::Separate,
+        tokens: false,
+    };
+    let parsed = parse_to_ast(heap, COMMENTED, &collect, &ParseOptions::default())?;
+    let Some(comments) = &parsed.comments else {
+        return Err(Outcome::Other);
+    };
+    let has_first = comment_count(comments, 0) == 2 && comment_count(comments, 17) == 2;
+    Ok(Outcome::of(has_first && comments.len() == 6))
+}
+
+fn comment_count(comments: &CommentMap<'_, Heap<'_>>, place: usize) -> usize {
+    match comments.get(&place) {
+        Some(shared) => shared.len(),
         None => 0,
     }
 }

@@ -14,8 +14,8 @@ use Rattle.jsonc_text.specs.Tokens.{scanned_of}
 use Rattle.std.proofs.lemmas.Str.{encode_ascii}
 use Rattle.jsonc_text.proofs.Cuts.{place_after}
 use Rattle.jsonc_to_ast.specs.declared.context.Context.{Context}
-use Rattle.jsonc_to_ast.specs.Collected.{collected, CollectsMore, Collects}
-use Rattle.jsonc_to_ast.specs.Context.{text_in, options_in, token_start, token_end, tokens_asked, Keeps, Passes, Finds, IsBracket, Leads, IsToken}
+use Rattle.jsonc_to_ast.specs.Collected.{collected, CollectsMore, NotesMore, Collects}
+use Rattle.jsonc_to_ast.specs.Context.{text_in, options_in, token_start, token_end, tokens_asked, comments_asked, Keeps, Passes, Finds, IsBracket, Leads, IsToken}
 use Rattle.jsonc_ast.specs.Located.{Between, One, Ends, TrailingComma}
 use Rattle.jsonc_to_ast.proofs.Collecting.{placed_here, collects_same, collects_comment}
 use Rattle.jsonc_to_ast.proofs.Gaps.{join, change, nothing, passed, stands, comment_passed, gap_append}
@@ -41,10 +41,10 @@ module _ {A : Type 0} where
     pub collects : Collects start now
 
   pub kept_same : (c : Context A) → Keeps c c
-  kept_same c = record { text = refl; options = refl; tokens = refl; comments = refl }
+  kept_same c = record { text = refl; options = refl; tokens = refl; comments = refl; apart = refl }
 
   pub kept_on : (a b c : Context A) → Keeps a b → Keeps b c → Keeps a c
-  kept_on a b c h k = record { text = k.text ∙ h.text; options = k.options ∙ h.options; tokens = k.tokens ∙ h.tokens; comments = k.comments ∙ h.comments }
+  kept_on a b c h k = record { text = k.text ∙ h.text; options = k.options ∙ h.options; tokens = k.tokens ∙ h.tokens; comments = k.comments ∙ h.comments; apart = k.apart ∙ h.apart }
 
   pub passing_start : (c : Context A) → Passing c c
   passing_start c = record { kept = kept_same c; gap = nothing (text_in c) (Gap (options_in c)) (token_end c) c.scanner.at_place none; collects = collects_same c }
@@ -60,16 +60,16 @@ module _ {A : Type 0} where
       )
 
   -- a comment after a gap
-  pub passing_on : (start now new : Context A) (s : Scanner A) (f : Option (Token A)) (t : Token A) → f ≡ Some t → new.scanner ≡ s → tokens_asked new ≡ tokens_asked now → new.comments_are_tokens ≡ now.comments_are_tokens
+  pub passing_on : (start now new : Context A) (s : Scanner A) (f : Option (Token A)) (t : Token A) → f ≡ Some t → new.scanner ≡ s → tokens_asked new ≡ tokens_asked now → new.comments_are_tokens ≡ now.comments_are_tokens → comments_asked new ≡ comments_asked now
       → Passing start now → PassesBlanks now.scanner s → StandsAt s f → is_comment (scanned_of t) ≡ true → IsTrue (options_of s).comments
-      → (now.comments_are_tokens ≡ true → CollectsMore now new (placed_here s (scanned_of t) ∷ [])) → (now.comments_are_tokens ≡ false → collected new ≡ collected now) → Passing start new
-  passing_on start now new s f t is same asked strategy h blanks at comment allowed more none_more =
+      → (now.comments_are_tokens ≡ true → CollectsMore now new (placed_here s (scanned_of t) ∷ [])) → (now.comments_are_tokens ≡ false → collected new ≡ collected now) → NotesMore now new (placed_here s (scanned_of t) ∷ []) → Passing start new
+  passing_on start now new s f t is same asked strategy apart h blanks at comment allowed more none_more noted =
       let may : IsTrue (options_in start).comments = ap (λ p. p.comments) (sym (blanks.options ∙ h.kept.options)) ∙ allowed in
       let gap = comment_passed (text_in start) (options_in start) (token_end start) now.scanner s t h.kept.text h.kept.options blanks h.gap (subst (StandsAt s) is at) comment may in
       record {
-        kept = record { text = ap text_of same ∙ blanks.text ∙ h.kept.text; options = ap options_of same ∙ blanks.options ∙ h.kept.options; tokens = asked ∙ h.kept.tokens; comments = strategy ∙ h.kept.comments };
+        kept = record { text = ap text_of same ∙ blanks.text ∙ h.kept.text; options = ap options_of same ∙ blanks.options ∙ h.kept.options; tokens = asked ∙ h.kept.tokens; comments = strategy ∙ h.kept.comments; apart = apart ∙ h.kept.apart };
         gap = subst (λ x. Between (text_in start) (Gap (options_in start)) (token_end start) (end_of x)) (sym same) gap;
-        collects = collects_comment start now new s f t h.kept h.collects blanks same at is comment more none_more;
+        collects = collects_comment start now new s f t h.kept h.collects blanks same at is comment more none_more noted (ap (λ p. p.comments) (sym blanks.options) ∙ allowed);
       }
 
   -- a token that is punctuation

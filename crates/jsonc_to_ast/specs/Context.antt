@@ -38,6 +38,10 @@ module _ {A : Type 0} where
   abbrev pub tokens_asked : Context A → Bool
   tokens_asked c = is_some c.tokens
 
+  -- whether comments are collected apart
+  abbrev pub comments_asked : Context A → Bool
+  comments_asked c = is_some c.comments
+
   -- the token is the last one
   abbrev pub IsToken : Context A → Token A → Type 0
   IsToken c t = StandsAt c.scanner (Some t)
@@ -47,12 +51,13 @@ module _ {A : Type 0} where
   IsNoComment None = Unit {0}
   IsNoComment (Some t) = is_comment (scanned_of t) ≡ false
 
-  -- the text and the options stay, and whether tokens are collected, and comments among them
+  -- the text and the options stay, and whether tokens are collected, and comments among them or apart
   pub record Keeps (old new : Context A) : Type 0 where
     pub text : text_in new ≡ text_in old
     pub options : options_in new ≡ options_in old
     pub tokens : tokens_asked new ≡ tokens_asked old
     pub comments : new.comments_are_tokens ≡ old.comments_are_tokens
+    pub apart : comments_asked new ≡ comments_asked old
 
   -- what gap says stands between the two last tokens
   abbrev pub Passes : (List ℕ → List ℕ → Type 0) → Context A → Context A → Type 0

@@ -3,5 +3,6 @@ pub mod Scanned
 pub mod Containers
 pub mod Context
 pub mod Reads
+pub mod Comments
 pub mod Refusals
 pub mod Collected

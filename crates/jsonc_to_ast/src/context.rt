@@ -1,10 +1,11 @@
-//! What a parser has before it: the scanner, the options, and the tokens collected so far.
+//! What a parser has before it: the scanner, the options, and what is collected so far.
 ghost use Rattle.std.specs.Prelude.{◌≡◌, true};
 ghost use Rattle.std.specs.Str.{is_utf8};
 ghost use Rattle.jsonc_text.specs.OptionsOf.{parse_options};
 ghost use Rattle.jsonc_scan.specs.Scanner.{options_of};
 
-use crate::collect::{CollectOptions, CommentCollectionStrategy};
+use crate::collect::{CollectOptions, CommentCollectionStrategy, CommentMap};
+use crate::comments::{GapComments, comment_of};
 use crate::container::{Container, is_colon, is_comma, is_comment, loose_name};
 use jsonc_ast::ast::{ObjectPropName, StringLit, WordLit};
 use jsonc_scan::scanner::Scanner;
@@ -24,21 +25,22 @@ pub struct Context<'a, A: Allocator> {
     pub options: ParseOptions,
     pub tokens: Option<Vec<TokenAndRange<'a, A>, A>>,
     pub comments_are_tokens: bool,
+    pub comments: Option<GapComments<'a, A>>,
     pub ghost same: { parse_options options ≡ options_of scanner },
     pub ghost utf8: { is_utf8 scanner.file_text.now ≡ true },
 }
 
 impl<'a, A: Allocator + Copy> Context<'a, A> {
-    ghost use Rattle.std.specs.Prelude.{◌≡◌, ◌≢◌, ◌≤◌, ◌<◌, [], IfOk, IfErr, IfSome, OnOk, IsTrue};
+    ghost use Rattle.std.specs.Prelude.{◌≡◌, ◌≢◌, ◌≤◌, ◌<◌, [], false, is_some, IfOk, IfErr, IfSome, OnOk, IsTrue};
     ghost use Rattle.jsonc_to_ast.specs.Refusals.{Tells, WhereSome, RefusesComment, NoTokenAfter, NothingFirst, NothingAfterComma, NothingNext, OnlyFirst, OnlyAfterComma, OnlyNext, NoColon, NoName};
     ghost use Rattle.jsonc_text.specs.Faults.{IsFault, IsOutOfMemory, range_of, kind_of};
     ghost use Rattle.jsonc_text.specs.Gaps.{Gap};
     ghost use Rattle.jsonc_text.specs.Places.{is_comment as is_a_comment};
     ghost use Rattle.jsonc_text.specs.Text.{Spans};
     ghost use Rattle.jsonc_text.specs.Tokens.{scanned_of};
-    ghost use Rattle.jsonc_to_ast.specs.Context.{text_in, options_in, token_end, token_range, tokens_asked, Keeps, Finds, LeadsToFirst, LeadsAfterComma, LeadsToNext, PassesColon, IsToken, IsNameHere, IsNoComment};
+    ghost use Rattle.jsonc_to_ast.specs.Context.{text_in, options_in, token_end, token_range, tokens_asked, comments_asked, Keeps, Finds, LeadsToFirst, LeadsAfterComma, LeadsToNext, PassesColon, IsToken, IsNameHere, IsNoComment};
     ghost use Rattle.jsonc_ast.specs.Views.{name_at};
-    ghost use Rattle.jsonc_to_ast.specs.Collected.{takes_comments, collected, CollectsLast, CollectsComment, OmitsComment, Collects};
+    ghost use Rattle.jsonc_to_ast.specs.Collected.{takes_comments, is_separate, collected, CollectsLast, CollectsComment, OmitsComment, HasNoted, NotesComment, NotesLexeme, ShowsNoted, Collects};
 
     /// A parser at the start of a text.
     pub fn new(
@@ -53,11 +55,17 @@ impl<'a, A: Allocator + Copy> Context<'a, A> {
         ensures tokens { tokens_asked result ≡ collect.now.tokens }
         ensures comments { result.comments_are_tokens ≡ takes_comments collect.now.comments }
         ensures collected { collected result ≡ [] }
+        ensures apart { comments_asked result ≡ is_separate collect.now.comments }
+        ensures noted { HasNoted [] result }
     {
         let tokens = if collect.tokens {
             Some(Vec::new(alloc))
         } else {
             None
+        };
+        let comments = match collect.comments {
+            CommentCollectionStrategy::Separate => Some(GapComments::new(alloc)),
+            _ => None,
         };
         Context {
             scanner: Scanner::with_options(alloc, text, options.copied()),
@@ -65,6 +73,7 @@ impl<'a, A: Allocator + Copy> Context<'a, A> {
             options: options.copied(),
             tokens,
             comments_are_tokens: collect.comments == CommentCollectionStrategy::AsTokens,
+            comments,
         }
     }
 
@@ -145,12 +154,25 @@ impl<'a, A: Allocator + Copy> Context<'a, A> {
         Ok(())
     }
 
+    /// Whether anything is collected.
+    #[inline(always)]
+    fn collects(&self) -> bool
+        ensures tokens { result ≡ false → tokens_asked self.now ≡ false }
+        ensures comments { result ≡ false → comments_asked self.now ≡ false }
+    {
+        if self.tokens.is_some() {
+            return true;
+        }
+        self.comments.is_some()
+    }
+
     /// Collects the last token, where tokens are asked for.
     #[cold]
     fn collect(&mut self, token: &Token<'a, A>) -> Result<(), ParseError>
         ensures scanner { self.new.scanner ≡ self.old.scanner }
         ensures tokens { tokens_asked self.new ≡ tokens_asked self.old }
         ensures comments { self.new.comments_are_tokens ≡ self.old.comments_are_tokens }
+        ensures apart { self.new.comments ≡ self.old.comments }
         ensures collected { OnOk result (CollectsLast self.old self.new (scanned_of token.now)) }
         ensures memory { IfErr result (λ e. kind_of e ≡ ParseErrorKind.OutOfMemory) }
         ensures fault { IfErr result (IsFault (text_in self.old)) }
@@ -168,12 +190,75 @@ impl<'a, A: Allocator + Copy> Context<'a, A> {
         Ok(())
     }
 
+    /// Notes a comment, the last token, where comments are asked for apart.
+    fn note(&mut self, comment: &Token<'a, A>) -> Result<(), ParseError>
+        ensures scanner { self.new.scanner ≡ self.old.scanner }
+        ensures tokens { self.new.tokens ≡ self.old.tokens }
+        ensures comments { self.new.comments_are_tokens ≡ self.old.comments_are_tokens }
+        ensures apart { comments_asked self.new ≡ comments_asked self.old }
+        ensures noted { OnOk result (NotesComment self.old self.new (scanned_of comment.now)) }
+        ensures memory { IfErr result (λ e. kind_of e ≡ ParseErrorKind.OutOfMemory) }
+        ensures fault { IfErr result (IsFault (text_in self.old)) }
+    {
+        let Some(comment) = comment_of(comment, self.range()) else {
+            return Ok(());
+        };
+        let Some(comments) = &mut self.comments else {
+            return Ok(());
+        };
+        let Ok(()) = comments.pass_comment(comment) else {
+            return Err(self.out_of_memory());
+        };
+        Ok(())
+    }
+
+    /// Notes that the gap before a lexeme, the last token, has ended, where comments are asked for
+    /// apart.
+    #[cold]
+    fn end_gap(&mut self) -> Result<(), ParseError>
+        ensures scanner { self.new.scanner ≡ self.old.scanner }
+        ensures tokens { self.new.tokens ≡ self.old.tokens }
+        ensures comments { self.new.comments_are_tokens ≡ self.old.comments_are_tokens }
+        ensures apart { comments_asked self.new ≡ comments_asked self.old }
+        ensures noted { OnOk result (NotesLexeme self.old self.new) }
+        ensures memory { IfErr result (λ e. kind_of e ≡ ParseErrorKind.OutOfMemory) }
+        ensures fault { IfErr result (IsFault (text_in self.old)) }
+    {
+        let range = self.range();
+        let Some(comments) = &mut self.comments else {
+            return Ok(());
+        };
+        let Ok(()) = comments.pass_lexeme(range) else {
+            return Err(self.out_of_memory());
+        };
+        Ok(())
+    }
+
+    /// Takes the comments of the whole text, where they are asked for apart, at its end.
+    pub(crate) fn take_comments(&mut self) -> Result<Option<CommentMap<'a, A>>, ParseError>
+        ensures tokens { self.new.tokens ≡ self.old.tokens }
+        ensures apart { IfOk result (λ m. is_some m ≡ comments_asked self.old) }
+        ensures shown { IfOk result (ShowsNoted self.old) }
+        ensures memory { IfErr result (λ e. kind_of e ≡ ParseErrorKind.OutOfMemory) }
+        ensures fault { IfErr result (IsFault (text_in self.old)) }
+    {
+        let Some(comments) = self.comments.take() else {
+            return Ok(None);
+        };
+        let Ok(found) = comments.finish(self.scanner.token_end()) else {
+            return Err(self.out_of_memory());
+        };
+        Ok(Some(found))
+    }
+
     /// Passes a comment, the last token, where comments are allowed.
     #[cold]
     fn pass_comment(&mut self, comment: &Token<'a, A>) -> Result<(), ParseError>
         ensures scanner { self.new.scanner ≡ self.old.scanner }
         ensures tokens { tokens_asked self.new ≡ tokens_asked self.old }
         ensures comments { self.new.comments_are_tokens ≡ self.old.comments_are_tokens }
+        ensures apart { comments_asked self.new ≡ comments_asked self.old }
+        ensures noted { OnOk result (NotesComment self.old self.new (scanned_of comment.now)) }
         ensures collected { OnOk result (CollectsComment self.old self.new (scanned_of comment.now)) }
         ensures omitted { OnOk result (OmitsComment self.old self.new) }
         ensures allowed { OnOk result (IsTrue (options_in self.old).comments) }
@@ -183,6 +268,7 @@ impl<'a, A: Allocator + Copy> Context<'a, A> {
         if !self.options.allow_comments {
             return Err(self.fault_here(ParseErrorKind::CommentsNotAllowed));
         }
+        self.note(comment)?;
         if self.comments_are_tokens {
             self.collect(comment)?;
         }
@@ -203,11 +289,12 @@ impl<'a, A: Allocator + Copy> Context<'a, A> {
                 return Ok(None);
             };
             if !is_comment(&token) {
-                if self.tokens.is_none() {
+                if !self.collects() {
                     return Ok(Some(token));
                 }
                 let lexeme = token;
                 self.collect(&lexeme)?;
+                self.end_gap()?;
                 return Ok(Some(lexeme));
             }
             let comment = token;

@@ -2,6 +2,7 @@
 #![tactic(auto)]
 
 pub mod collect;
+pub mod comments;
 pub mod container;
 pub mod context;
 mod values;

@@ -5,7 +5,7 @@ ghost use Rattle.jsonc_text.specs.Grammar.{IsDocument};
 ghost use Rattle.jsonc_text.specs.OptionsOf.{parse_options};
 ghost use Rattle.jsonc_text.specs.Plain.{around};
 ghost use Rattle.jsonc_text.specs.Tokens.{scanned_of};
-ghost use Rattle.jsonc_to_ast.specs.Collected.{HoldsCollected, Collects};
+ghost use Rattle.jsonc_to_ast.specs.Collected.{HoldsCollected, is_separate, HoldsComments, Collects};
 ghost use Rattle.jsonc_to_ast.specs.Context.{text_in, options_in, token_start, token_end, Keeps, IsToken, IsBracket};
 ghost use Rattle.jsonc_ast.specs.Located.{leaf_at, range_at, value_at, IsLocatedDocument};
 ghost use Rattle.jsonc_to_ast.specs.Reads.{Reads, ReadsMember};
@@ -189,11 +189,14 @@ pub fn parse_to_ast<'a, A: Allocator + Copy>(
     ensures refused { IfErr result (RefusesText (parse_options options.now) text.now) }
     ensures tokens { IfOk result (λ r. is_some r.tokens ≡ collect.now.tokens) }
     ensures collected { IfOk result (HoldsCollected (parse_options options.now) text.now collect.now) }
+    ensures apart { IfOk result (λ r. is_some r.comments ≡ is_separate collect.now.comments) }
+    ensures comments { IfOk result (HoldsComments (parse_options options.now) text.now) }
     ensures fault { IfErr result (IsFault text.now) }
 {
     let mut context = Context::new(alloc, text, collect, options);
     let Some(token) = context.scan()? else {
         return Ok(ParseResult {
+            comments: context.take_comments()?,
             value: None,
             tokens: context.tokens,
         });
@@ -203,6 +206,7 @@ pub fn parse_to_ast<'a, A: Allocator + Copy>(
         return Err(context.fault_here(ParseErrorKind::MultipleRootJsonValues));
     };
     Ok(ParseResult {
+        comments: context.take_comments()?,
         value: Some(value),
         tokens: context.tokens,
     })

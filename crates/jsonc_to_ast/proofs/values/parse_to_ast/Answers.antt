@@ -3,7 +3,7 @@ use Rattle.jsonc_ast.specs.Located.{IsLocatedDocument}
 use Rattle.jsonc_ast.specs.Views.{located}
 use Rattle.jsonc_to_ast.proofs.Grammar.{located_document}
 use Rattle.jsonc_to_ast.proofs.Leaves.{empty_document, value_document}
-use Rattle.jsonc_to_ast.proofs.Collecting.{collects_turn, all_collected}
+use Rattle.jsonc_to_ast.proofs.Collecting.{collects_turn, all_collected, all_noted}
 use Rattle.jsonc_to_ast.proofs.Scans.{moved, kept_on}
 use Rattle.std.proofs.Common.{inr}
 use Rattle.jsonc_to_ast.proofs.NoValues.{document_no_token, document_no_value, document_no_end, document_goes_on, document_from_start}
@@ -75,7 +75,15 @@ pub returns-in_default-clause-collected : goal.returns-in_default-clause-collect
 returns-in_default-clause-collected g c =
     let start = c.new-context.ensures in
     let read = c.in_ok-token.ensures in
-    all_collected c.new-context.result c.scan.new.self c.in_ok-token.field-0 _ _ c.args.collect.now.comments start.text start.options start.start start.comments start.collected read.kept read.collects read.found.1 c.in_default.is
+    all_collected c.new-context.result c.scan.new.self c.in_ok-token.field-0 _ _ start.text start.options start.start read.kept read.collects read.found.1 c.in_default.is
+    c.args.collect.now.comments start.comments start.collected _ c.take_comments.ensures.tokens
+
+pub returns-in_default-clause-comments : goal.returns-in_default-clause-comments
+returns-in_default-clause-comments g c =
+    let start = c.new-context.ensures in
+    let read = c.in_ok-token.ensures in
+    all_noted c.new-context.result c.scan.new.self c.in_ok-token.field-0 _ _ start.text start.options start.start read.kept read.collects read.found.1 c.in_default.is
+    _ start.noted c.in_ok-take_comments.ensures.shown
 
 pub returns-clause-collected : goal.returns-clause-collected
 returns-clause-collected g c =
@@ -87,5 +95,18 @@ returns-clause-collected g c =
     let read = c.in_ok-token.ensures in
     let value = c.in_ok-value.ensures in
     let last = c.in_ok-scan.ensures in
-    all_collected old end c.in_ok-scan.field-0 _ _ c.args.collect.now.comments start.text start.options start.start start.comments start.collected (kept_on old now end read.kept (kept_on now mid end value.kept last.kept))
-    (collects_turn old now mid end read.kept read.collects value.kept value.collects last.collects) last.found.1 c.in-None.is
+    all_collected old end c.in_ok-scan.field-0 _ _ start.text start.options start.start (kept_on old now end read.kept (kept_on now mid end value.kept last.kept))
+    (collects_turn old now mid end read.kept read.collects value.kept value.collects last.collects) last.found.1 c.in-None.is c.args.collect.now.comments start.comments start.collected _ c.take_comments-2.ensures.tokens
+
+pub returns-clause-comments : goal.returns-clause-comments
+returns-clause-comments g c =
+    let start = c.new-context.ensures in
+    let old = c.new-context.result in
+    let now = c.scan.new.self in
+    let mid = c.parse_value.new.context in
+    let end = c.scan-2.new.self in
+    let read = c.in_ok-token.ensures in
+    let value = c.in_ok-value.ensures in
+    let last = c.in_ok-scan.ensures in
+    all_noted old end c.in_ok-scan.field-0 _ _ start.text start.options start.start (kept_on old now end read.kept (kept_on now mid end value.kept last.kept))
+    (collects_turn old now mid end read.kept read.collects value.kept value.collects last.collects) last.found.1 c.in-None.is _ start.noted c.in_ok-take_comments-2.ensures.shown

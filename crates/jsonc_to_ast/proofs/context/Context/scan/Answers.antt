@@ -1,14 +1,8 @@
 use Rattle.std.proofs.Common.{sym, ◌∙◌, refl}
 use Rattle.jsonc_to_ast.proofs.Scans.{passing_start, scan_found, passing_on}
-use Rattle.jsonc_to_ast.proofs.Collecting.{collects_end, collects_lexeme}
+use Rattle.jsonc_to_ast.proofs.Collecting.{collects_end, collects_nothing, collects_on_lexeme}
 use Rattle.jsonc_to_ast.proofs.Refusals.{err_of, scan_refused, comment_refused}
-use Rattle.std.proofs.Common.{◌≡◌, true, false, not, Bool, IsTrue}
 use Rattle.jsonc_to_ast.proofs.context.Context.scan.Goals as goal
-
-unasked : (asked none : Bool) → asked ≡ not none → none ≡ true → IsTrue asked → ⊥
-unasked true true h k a = cc
-unasked true false h k a = cc
-unasked false none h k a = cc
 
 pub loop-token-init : goal.loop-token-init
 loop-token-init g c = passing_start c.args.self.now
@@ -19,12 +13,13 @@ returns-in_default-clause-found g c =
 
 pub returns-then-not-is_comment-clause-found : goal.returns-then-not-is_comment-clause-found
 returns-then-not-is_comment-clause-found g c =
-    scan_found c.args.self.now c.loop-token.self c.scan.new.self c.collect.new.self.scanner c.in_ok-token.field-0 _ c.in-Some.is c.collect.ensures.scanner c.loop-token.invariant c.scan.ensures.blanks c.in_ok-token.ensures.found
+    scan_found c.args.self.now c.loop-token.self c.scan.new.self c.end_gap.new.self.scanner c.in_ok-token.field-0 _ c.in-Some.is (c.end_gap.ensures.scanner ∙ c.collect.ensures.scanner) c.loop-token.invariant c.scan.ensures.blanks c.in_ok-token.ensures.found
 
 pub loop-token-preserved : goal.loop-token-preserved
 loop-token-preserved g c =
-    passing_on c.args.self.now c.loop-token.self c.pass_comment.new.self c.scan.new.self c.in_ok-token.field-0 c.in-Some.token c.in-Some.is c.pass_comment.ensures.scanner c.pass_comment.ensures.tokens c.pass_comment.ensures.comments
+    passing_on c.args.self.now c.loop-token.self c.pass_comment.new.self c.scan.new.self c.in_ok-token.field-0 c.in-Some.token c.in-Some.is c.pass_comment.ensures.scanner c.pass_comment.ensures.tokens c.pass_comment.ensures.comments c.pass_comment.ensures.apart
     c.loop-token.invariant c.scan.ensures.blanks c.in_ok-token.ensures.found (sym c.is_comment.ensures ∙ c.if-not-is_comment.false) c.in_ok-pass_comment.ensures.allowed c.in_ok-pass_comment.ensures.collected c.in_ok-pass_comment.ensures.omitted
+    (c.in_ok-pass_comment.ensures.noted (sym c.is_comment.ensures ∙ c.if-not-is_comment.false))
 
 pub returns-in_err-token-clause-refused : goal.returns-in_err-token-clause-refused
 returns-in_err-token-clause-refused g c =
@@ -42,20 +37,20 @@ returns-in_err-pass_comment-clause-refused g c =
 pub returns-in_default-clause-collects : goal.returns-in_default-clause-collects
 returns-in_default-clause-collects g c =
     let so_far = c.loop-token.invariant in
-    collects_end c.args.self.now c.loop-token.self _ c.scan.new.self c.in_ok-token.field-0 so_far.kept so_far.collects c.scan.ensures.blanks refl c.in_ok-token.ensures.found c.in_default.is refl
+    collects_end c.args.self.now c.loop-token.self _ c.scan.new.self c.in_ok-token.field-0 so_far.kept so_far.collects c.scan.ensures.blanks refl c.in_ok-token.ensures.found c.in_default.is refl (λ ts h. h)
 
 pub returns-then-not-is_comment-clause-collects : goal.returns-then-not-is_comment-clause-collects
 returns-then-not-is_comment-clause-collects g c =
     let so_far = c.loop-token.invariant in
-    collects_lexeme c.args.self.now c.loop-token.self c.collect.new.self c.scan.new.self c.in_ok-token.field-0 c.in-Some.token so_far.kept so_far.collects c.scan.ensures.blanks c.collect.ensures.scanner c.in_ok-token.ensures.found c.in-Some.is
-    (sym c.is_comment.ensures ∙ c.if-not-is_comment.true) c.in_ok-collect.ensures.collected
+    collects_on_lexeme c.args.self.now c.loop-token.self c.collect.new.self c.end_gap.new.self c.scan.new.self c.in_ok-token.field-0 c.in-Some.token so_far.kept so_far.collects c.scan.ensures.blanks c.collect.ensures.scanner c.in_ok-token.ensures.found c.in-Some.is
+    (sym c.is_comment.ensures ∙ c.if-not-is_comment.true) c.in_ok-collect.ensures.collected c.collect.ensures.apart c.end_gap.ensures.scanner c.end_gap.ensures.tokens c.in_ok-end_gap.ensures.noted
 
-pub returns-then-is_none-clause-found : goal.returns-then-is_none-clause-found
-returns-then-is_none-clause-found g c =
+pub returns-then-not-collects-clause-found : goal.returns-then-not-collects-clause-found
+returns-then-not-collects-clause-found g c =
     scan_found c.args.self.now c.loop-token.self c.scan.new.self c.scan.new.self c.in_ok-token.field-0 _ c.in-Some.is refl c.loop-token.invariant c.scan.ensures.blanks c.in_ok-token.ensures.found
 
-pub returns-then-is_none-clause-collects : goal.returns-then-is_none-clause-collects
-returns-then-is_none-clause-collects g c =
+pub returns-then-not-collects-clause-collects : goal.returns-then-not-collects-clause-collects
+returns-then-not-collects-clause-collects g c =
     let so_far = c.loop-token.invariant in
-    collects_lexeme c.args.self.now c.loop-token.self _ c.scan.new.self c.in_ok-token.field-0 c.in-Some.token so_far.kept so_far.collects c.scan.ensures.blanks refl c.in_ok-token.ensures.found c.in-Some.is
-    (sym c.is_comment.ensures ∙ c.if-not-is_comment.true) (λ asked. absurd (unasked _ _ c.is_none.ensures c.if-is_none.true asked))
+    collects_nothing c.args.self.now c.loop-token.self c.scan.new.self c.in_ok-token.field-0 c.in-Some.token _ so_far.kept so_far.collects c.scan.ensures.blanks refl c.in_ok-token.ensures.found c.in-Some.is
+    (sym c.is_comment.ensures ∙ c.if-not-is_comment.true) (c.collects.ensures.tokens c.if-not-collects.true) (c.collects.ensures.comments c.if-not-collects.true)

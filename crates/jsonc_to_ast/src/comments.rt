@@ -1,0 +1,113 @@
+//! The comments of a text, put into a map as a parser passes them.
+ghost use Rattle.std.specs.Prelude.{◌≡◌, map, IfSome, IfNone, OnOk, false};
+ghost use Rattle.jsonc_text.specs.Places.{is_comment};
+ghost use Rattle.jsonc_text.specs.Tokens.{scanned_of};
+ghost use Rattle.jsonc_to_ast.specs.Comments.{comment_at, placed_from, PutsUnder};
+
+use crate::collect::CommentMap;
+use jsonc_ast::ast::{Comment, CommentBlock, CommentLine};
+use jsonc_text::common::Range;
+use jsonc_text::tokens::Token;
+use std::alloc::{AllocError, Allocator};
+use std::collections::HashMap;
+use std::mem::replace;
+use std::rc::Rc;
+
+/// The comment that a token is, with its range.
+pub(crate) fn comment_of<'a, A: Allocator>(
+    token: &Token<'a, A>,
+    range: Range,
+) -> Option<Comment<'a>>
+    ensures some { IfSome result (λ c. comment_at c ≡ placed_from (scanned_of token.now) range) }
+    ensures none { IfNone result (is_comment (scanned_of token.now) ≡ false) }
+{
+    match token {
+        Token::CommentLine(text) => Some(Comment::Line(CommentLine { range, text: *text })),
+        Token::CommentBlock(text) => Some(Comment::Block(CommentBlock { range, text: *text })),
+        _ => None,
+    }
+}
+
+/// Puts comments under two places.
+fn share<'a, A: Allocator + Copy>(
+    alloc: A,
+    places: &mut CommentMap<'a, A>,
+    start: usize,
+    end: usize,
+    comments: Vec<Comment<'a>, A>,
+) -> Result<(), AllocError>
+    ensures { OnOk result (PutsUnder places.old places.new start end (map comment_at comments.entry.items)) }
+{
+    let shared = Rc::new(alloc, comments)?;
+    places.insert(start, shared.clone()?)?;
+    places.insert(end, shared)?;
+    Ok(())
+}
+
+/// The comments of the gaps that a parser has passed, each gap's under both of its ends, and those
+/// of the gap that it is in.
+#[derive(Drop)]
+pub struct GapComments<'a, A: Allocator> {
+    pub alloc: A,
+    pub places: CommentMap<'a, A>,
+    /// Where the gap begins that the parser is in.
+    pub start: usize,
+    /// The comments of that gap so far.
+    pub held: Vec<Comment<'a>, A>,
+}
+
+impl<'a, A: Allocator + Copy> GapComments<'a, A> {
+    ghost use Rattle.std.specs.Prelude.{ℕ, ◌≡◌, List, [], IfOk, OnOk, false};
+    ghost use Rattle.jsonc_text.specs.Lexemes.{Scanned};
+    ghost use Rattle.jsonc_text.specs.Places.{Placed, is_comment, gaps_of};
+    ghost use Rattle.jsonc_to_ast.specs.Comments.{comment_at, placed_from, HasPassed, PassesOne, PutsHeld, ShowsGaps};
+
+    /// At the start of a text.
+    pub fn new(alloc: A) -> GapComments<'a, A>
+        ensures { HasPassed [] result }
+    {
+        GapComments {
+            alloc,
+            places: HashMap::new(alloc),
+            start: 0,
+            held: Vec::new(alloc),
+        }
+    }
+
+    /// Passes a comment.
+    pub fn pass_comment(&mut self, comment: Comment<'a>) -> Result<(), AllocError>
+        ensures { OnOk result (PassesOne self.old self.new (comment_at comment.entry)) }
+    {
+        self.held.push(comment)?;
+        Ok(())
+    }
+
+    /// Puts the comments of a gap that ends at a place under its ends.
+    fn end_gap(&mut self, end: usize) -> Result<(), AllocError>
+        ensures { OnOk result (PutsHeld self.old self.new end) }
+    {
+        if self.held.is_empty() {
+            return Ok(());
+        }
+        let comments = replace(&mut self.held, Vec::new(self.alloc));
+        share(self.alloc, &mut self.places, self.start, end, comments)
+    }
+
+    /// Passes a lexeme in a range.
+    pub fn pass_lexeme(&mut self, range: Range) -> Result<(), AllocError>
+        ensures { OnOk result ((w : Scanned) → is_comment w ≡ false → PassesOne self.old self.new (placed_from w range)) }
+    {
+        self.end_gap(range.start)?;
+        self.start = range.end;
+        Ok(())
+    }
+
+    /// Passes the end of the text, and answers the comments of its gaps.
+    pub fn finish(self, end: usize) -> Result<CommentMap<'a, A>, AllocError>
+        ensures { IfOk result (λ m. (ts : List Placed) → HasPassed ts self.entry → ShowsGaps (gaps_of end 0 [] ts) m) }
+    {
+        let mut passed = self;
+        passed.end_gap(end)?;
+        Ok(passed.places)
+    }
+}
