@@ -1,11 +1,11 @@
 -- The comments of a text in a map: those of each gap under both of its ends.
-use Rattle.std.specs.Prelude.{ℕ, ◌≡◌, ◌≢◌, cond, ◌==◌, nat_eq, List, [], ◌∷◌, ◌++◌, map, Option, Some, None, option_map, Vec, chars}
+use Rattle.std.specs.Prelude.{ℕ, ◌≡◌, ◌≢◌, cond, ◌==◌, nat_eq, false, List, [], ◌∷◌, ◌++◌, map, Option, Some, None, option_map, Vec, chars}
 use Rattle.std.specs.List.{All}
 use Rattle.std.specs.HashMap.{HashMap, get}
 use Rattle.std.specs.declared.rc.Rc.{Rc}
 use Rattle.jsonc_text.specs.declared.common.Range.{Range}
 use Rattle.jsonc_text.specs.Lexemes.{Scanned, line_comment, block_comment}
-use Rattle.jsonc_text.specs.Places.{Placed, CommentGap, gaps_of, noted}
+use Rattle.jsonc_text.specs.Places.{Placed, CommentGap, gaps_of, noted, is_comment}
 use Rattle.jsonc_ast.specs.declared.ast.comment.Comment.{Comment}
 use Rattle.jsonc_ast.specs.declared.ast.comment.Comment.TheVariants.{Line, Block}
 use Rattle.jsonc_to_ast.specs.declared.comments.GapComments.{GapComments}
@@ -19,13 +19,17 @@ abbrev pub comment_at : Comment → Placed
 comment_at (Line c) = placed_from (line_comment (chars c.text.now)) c.range
 comment_at (Block c) = placed_from (block_comment (chars c.text.now)) c.range
 
+-- what comments are, and where, in order
+abbrev pub comments_in : {Z : Type 0} → Vec Comment Z → List Placed
+comments_in cs = map comment_at cs.items
+
 -- a map from places to shared lists of comments
 abbrev pub MapOf : Type 0 → Type 0 → Type 0
 MapOf S Z = HashMap ℕ (Rc (Vec Comment Z) Z) S
 
 -- the comments that a map has under a place
 abbrev pub comments_at : {S Z : Type 0} → MapOf S Z → ℕ → Option (List Placed)
-comments_at m place = option_map (λ shared. map comment_at shared.value.items) (get nat_eq m place)
+comments_at m place = option_map (λ shared. comments_in shared.value) (get nat_eq m place)
 
 -- the place is no end of the gap
 abbrev pub IsNoEnd : ℕ → CommentGap → Type 0
@@ -57,7 +61,7 @@ ShowsGaps gs m = (place : ℕ) → comments_at m place ≡ put gs place None
 module _ {A : Type 0} where
   -- the comments of the gap that a parser is in
   abbrev pub held_in : GapComments A → List Placed
-  held_in c = map comment_at c.held.items
+  held_in c = comments_in c.held
 
   -- these lexemes and comments are passed: the map has the gaps that they end, and whatever follows, its gaps go on from the comments held
   pub record HasPassed (ts : List Placed) (c : GapComments A) : Type 0 where
@@ -68,6 +72,14 @@ module _ {A : Type 0} where
   -- this lexeme or comment is passed too
   abbrev pub PassesOne : GapComments A → GapComments A → Placed → Type 0
   PassesOne old new x = (ts : List Placed) → HasPassed ts old → HasPassed (ts ++ x ∷ []) new
+
+  -- a lexeme in a range is, whichever it is
+  abbrev pub PassesLexeme : GapComments A → GapComments A → Range → Type 0
+  PassesLexeme old new range = (w : Scanned) → is_comment w ≡ false → PassesOne old new (placed_from w range)
+
+  -- the map has all the gaps of what is passed, where the text ends at this place
+  abbrev pub ShowsPassed : {S : Type 0} → GapComments A → ℕ → MapOf S A → Type 0
+  ShowsPassed c end m = (ts : List Placed) → HasPassed ts c → ShowsGaps (gaps_of end 0 [] ts) m
 
   -- the comments held are put under the ends of their gap, and none is held
   pub record PutsHeld (old new : GapComments A) (end : ℕ) : Type 0 where

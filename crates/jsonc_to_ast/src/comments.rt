@@ -1,8 +1,8 @@
 //! The comments of a text, put into a map as a parser passes them.
-ghost use Rattle.std.specs.Prelude.{◌≡◌, map, IfSome, IfNone, OnOk, false};
+ghost use Rattle.std.specs.Prelude.{◌≡◌, IfSome, IfNone, OnOk, false};
 ghost use Rattle.jsonc_text.specs.Places.{is_comment};
 ghost use Rattle.jsonc_text.specs.Tokens.{scanned_of};
-ghost use Rattle.jsonc_to_ast.specs.Comments.{comment_at, placed_from, PutsUnder};
+ghost use Rattle.jsonc_to_ast.specs.Comments.{comment_at, comments_in, placed_from, PutsUnder};
 
 use crate::collect::CommentMap;
 use jsonc_ast::ast::{Comment, CommentBlock, CommentLine};
@@ -36,7 +36,7 @@ fn share<'a, A: Allocator + Copy>(
     end: usize,
     comments: Vec<Comment<'a>, A>,
 ) -> Result<(), AllocError>
-    ensures { OnOk result (PutsUnder places.old places.new start end (map comment_at comments.entry.items)) }
+    ensures { OnOk result (PutsUnder places.old places.new start end (comments_in comments.entry)) }
 {
     let shared = Rc::new(alloc, comments)?;
     places.insert(start, shared.clone()?)?;
@@ -57,10 +57,8 @@ pub struct GapComments<'a, A: Allocator> {
 }
 
 impl<'a, A: Allocator + Copy> GapComments<'a, A> {
-    ghost use Rattle.std.specs.Prelude.{ℕ, ◌≡◌, List, [], IfOk, OnOk, false};
-    ghost use Rattle.jsonc_text.specs.Lexemes.{Scanned};
-    ghost use Rattle.jsonc_text.specs.Places.{Placed, is_comment, gaps_of};
-    ghost use Rattle.jsonc_to_ast.specs.Comments.{comment_at, placed_from, HasPassed, PassesOne, PutsHeld, ShowsGaps};
+    ghost use Rattle.std.specs.Prelude.{[], IfOk, OnOk};
+    ghost use Rattle.jsonc_to_ast.specs.Comments.{comment_at, HasPassed, PassesOne, PassesLexeme, PutsHeld, ShowsPassed};
 
     /// At the start of a text.
     pub fn new(alloc: A) -> GapComments<'a, A>
@@ -95,7 +93,7 @@ impl<'a, A: Allocator + Copy> GapComments<'a, A> {
 
     /// Passes a lexeme in a range.
     pub fn pass_lexeme(&mut self, range: Range) -> Result<(), AllocError>
-        ensures { OnOk result ((w : Scanned) → is_comment w ≡ false → PassesOne self.old self.new (placed_from w range)) }
+        ensures { OnOk result (PassesLexeme self.old self.new range) }
     {
         self.end_gap(range.start)?;
         self.start = range.end;
@@ -104,7 +102,7 @@ impl<'a, A: Allocator + Copy> GapComments<'a, A> {
 
     /// Passes the end of the text, and answers the comments of its gaps.
     pub fn finish(self, end: usize) -> Result<CommentMap<'a, A>, AllocError>
-        ensures { IfOk result (λ m. (ts : List Placed) → HasPassed ts self.entry → ShowsGaps (gaps_of end 0 [] ts) m) }
+        ensures { IfOk result (ShowsPassed self.entry end) }
     {
         let mut passed = self;
         passed.end_gap(end)?;
