@@ -43,9 +43,17 @@ fn object_of<'a>(
         comments: CommentCollectionStrategy::Off,
         tokens: false,
     };
-    let Ok(ParseResult { value, tokens }) = parse_to_ast(alloc, text, &collect, options) else {
+    let Ok(
+        ParseResult {
+            comments,
+            value,
+            tokens,
+        },
+    ) = parse_to_ast(alloc, text, &collect, options)
+    else {
         return None;
     };
+    drop(comments);
     drop(tokens);
     match value {
         Some(Value::Object(object)) => Some(object),

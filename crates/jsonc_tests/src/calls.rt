@@ -45,7 +45,7 @@ pub enum Call {
 }
 
 /// All of them.
-pub const CALLS: [Call; 13] = [
+pub const CALLS: [Call; 14] = [
     Call::Decode,
     Call::DecodeProvided,
     Call::Scan,

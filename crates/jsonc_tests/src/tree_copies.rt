@@ -10,12 +10,17 @@ use std::default::Default;
 const OBJECT: &str = "{'l\\x61st': [true, 2.5, {}, null], first: 't\\x65xt'}";
 
 fn some_object<'h>(heap: Heap<'h>) -> Result<Object<'static, Heap<'h>>, Outcome> {
-    let ParseResult { value, tokens } = parse_to_ast(
+    let ParseResult {
+        comments,
+        value,
+        tokens,
+    } = parse_to_ast(
         heap,
         OBJECT,
         &CollectOptions::default(),
         &ParseOptions::default(),
     )?;
+    drop(comments);
     drop(tokens);
     match value {
         Some(Value::Object(object)) => Ok(object),
