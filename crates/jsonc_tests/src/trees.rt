@@ -19,16 +19,16 @@ fn can_hold(tree: &Tree<Heap<'_>>, node: usize) -> bool
     tree.kind(node).is_container()
 }
 
-/// Whether a node keeps a text of its own.
+/// Whether a node keeps a text, its own or a part of one.
 fn keeps_text(kind: &Kind<Heap<'_>>) -> bool
     ensures { result ≡ has_text (content_of kind.now) }
 {
     match kind {
-        Kind::String(_)
-        | Kind::Word(_)
-        | Kind::Number(_)
-        | Kind::Whitespace(_)
-        | Kind::Comment(_) => true,
+        Kind::String(_) | Kind::StringPart(_) => true,
+        Kind::Word(_) | Kind::WordPart(_) => true,
+        Kind::Number(_) | Kind::NumberPart(_) => true,
+        Kind::Whitespace(_) | Kind::WhitespacePart(_) => true,
+        Kind::Comment(_) | Kind::CommentPart(_) => true,
         _ => false,
     }
 }
