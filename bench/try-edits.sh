@@ -4,7 +4,7 @@ set -eu
 cd "$(dirname "$0")/.."
 room=$(mktemp -d)
 trap 'rm -rf "$room"' EXIT
-cp -a . "$room/all"
-cd "$room/all"
+tar -c --exclude=.git --exclude=incremental . | tar -x -C "$room"
+cd "$room"
 for edit in crates/*/must-fail/*.edit.md; do mv "$edit" "${edit%.md}"; done
 rt must-fail "$@"
