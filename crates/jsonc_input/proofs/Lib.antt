@@ -1,0 +1,4 @@
+pub mod Views
+pub mod Decimals
+pub mod Spelled
+pub mod Written

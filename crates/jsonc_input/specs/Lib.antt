@@ -1,0 +1,4 @@
+pub mod Views
+pub mod Numbers
+pub mod Spelling
+pub mod Rows
