@@ -2,6 +2,7 @@
 
 use crate::awaited::Awaited;
 use crate::clones::copies;
+use crate::inputs::inputs;
 use crate::maps::changed_map;
 use crate::outcome::Outcome;
 use crate::tokens::decode_provided;
@@ -30,6 +31,7 @@ pub type Heap<'a> = &'a Refusing<Global>;
 pub enum Call {
     Decode,
     DecodeProvided,
+    Inputs,
     Scan,
     SyntaxTree,
     SyntaxTreeCopies,
@@ -45,9 +47,10 @@ pub enum Call {
 }
 
 /// All of them.
-pub const CALLS: [Call; 14] = [
+pub const CALLS: [Call; 15] = [
     Call::Decode,
     Call::DecodeProvided,
+    Call::Inputs,
     Call::Scan,
     Call::SyntaxTree,
     Call::SyntaxTreeCopies,
@@ -84,6 +87,7 @@ pub fn outcome_of(call: Call, heap: Heap<'_>) -> Outcome {
     Outcome::within(match call {
         Call::Decode => decode(heap),
         Call::DecodeProvided => decode_provided(heap),
+        Call::Inputs => inputs(heap),
         Call::Scan => scan(heap),
         Call::SyntaxTree => syntax_tree(heap),
         Call::SyntaxTreeCopies => tree_copies(heap),
