@@ -1,0 +1,153 @@
+-- What the kind of a parser's fault says of the text.
+-- Throughout, the fault is told of the bytes from the place i to the place j.
+use Rattle.std.specs.Prelude.{ℕ, ◌≡◌, ◌≢◌, ◌≤◌, ◌⊎◌, Bool, true, false, cond, List, length, Option, Some, None, IsTrue, IsCharBoundary}
+use Rattle.jsonc_text.specs.declared.common.Range.{Range}
+use Rattle.jsonc_text.specs.declared.errors.ParseError.{ParseError}
+use Rattle.jsonc_text.specs.declared.errors.ParseErrorKind.{ParseErrorKind}
+use Rattle.jsonc_text.specs.declared.errors.ParseErrorKind.TheVariants.{CommentsNotAllowed, ExpectedColonAfterObjectKey, ExpectedObjectValue, ExpectedStringObjectProperty, ExpectedComma, MultipleRootJsonValues, TrailingCommasNotAllowed, UnexpectedTokenInObject, NestingDepthExceeded}
+use Rattle.jsonc_text.specs.declared.tokens.Token.{Token}
+use Rattle.jsonc_text.specs.Faults.{kind_of, range_of}
+use Rattle.jsonc_text.specs.Gaps.{Gap, IsComment}
+use Rattle.jsonc_text.specs.Grammar.{may_name, IsValue, IsName, IsProperty, Separates}
+use Rattle.jsonc_text.specs.Lexemes.{LexemeKind, punctuation, lexeme, Lexeme}
+use Rattle.jsonc_text.specs.Options.{Options}
+use Rattle.jsonc_text.specs.Plain.{Plain}
+use Rattle.jsonc_text.specs.Text.{rest}
+use Rattle.jsonc_text.specs.Tokens.{scanned_of}
+use Rattle.jsonc_scan.specs.Told.{Tells as TellsOfLexeme}
+use Rattle.jsonc_ast.specs.Located.{Between, One, Ends, Colon}
+use Rattle.jsonc_to_ast.specs.declared.container.Container.{Container}
+use Rattle.jsonc_to_ast.specs.declared.container.Container.TheVariants.{Array, Object}
+use Rattle.jsonc_to_ast.specs.declared.context.Context.{Context}
+use Rattle.jsonc_to_ast.specs.Containers.{opening, closing, unterminated_kind, begins}
+use Rattle.jsonc_to_ast.specs.Context.{text_in, options_in, token_start, token_end, IsBracket}
+use Rattle.jsonc_to_ast.specs.Refusals.{WantsMemory}
+use Rattle.jsonc_to_ast.specs.Scanned.{begins_value, unexpected_kind}
+
+-- t is a lexeme that passes the test, and then r
+abbrev pub LexemeThat : Options → (LexemeKind → Bool) → List ℕ → List ℕ → Type 0
+LexemeThat o p t r = (k : LexemeKind) × IsTrue (p k) × Lexeme o k t r
+
+-- t is a lexeme other than this punctuation, and then r
+abbrev pub OtherThan : Options → ℕ → List ℕ → List ℕ → Type 0
+OtherThan o c t r = (k : LexemeKind) × (k ≢ punctuation c) × Lexeme o k t r
+
+-- t is a name, and then r
+abbrev pub SomeName : Options → List ℕ → List ℕ → Type 0
+SomeName o t r = (name : List ℕ) × IsName o t name r
+
+-- t is an element, a value, or a property, and then r
+abbrev pub Item : Options → Container → List ℕ → List ℕ → Type 0
+Item o Array t r = (v : Plain) × IsValue o t v r
+Item o Object t r = (name : List ℕ) × (v : Plain) × IsProperty o t name v r
+
+-- t is what may stand between two items, with a comma or without one, and then r
+abbrev pub GoesOn : Options → List ℕ → List ℕ → Type 0
+GoesOn o t r = Gap o t r ⊎ Separates o t r
+
+-- the bytes of no length at the end of the text
+abbrev pub IsEnd : List ℕ → ℕ → ℕ → Type 0
+IsEnd bytes i j = (i ≡ length bytes) × (j ≡ length bytes)
+
+-- at i an item of the container must stand: after its opening bracket, or after an item
+pub data ItemIsDue (o : Options) (bytes : List ℕ) (k : Container) (i : ℕ) : Type 0 where
+  first_item : {a b : ℕ} → Between bytes (One (opening k)) a b → Between bytes (Gap o) b i → ItemIsDue o bytes k i
+  further_item : {a b : ℕ} → Between bytes (Item o k) a b → Between bytes (GoesOn o) b i → ItemIsDue o bytes k i
+
+-- at i a value must stand: the text's, that of an array, or that of a property
+pub data ValueIsDue (o : Options) (bytes : List ℕ) (i : ℕ) : Type 0 where
+  root : Between bytes (Gap o) 0 i → ValueIsDue o bytes i
+  of_array : ItemIsDue o bytes Array i → ValueIsDue o bytes i
+  of_property : {a b : ℕ} → Between bytes (SomeName o) a b → Between bytes (Colon o) b i → ValueIsDue o bytes i
+
+-- the fault of this kind is told of the bytes from i to j; of a container from where it begins, or else of what shows it alone
+pub data Told (o : Options) (bytes : List ℕ) (whole : Bool) : ParseErrorKind → ℕ → ℕ → Type 0 where
+  -- a lexeme that is refused
+  no_lexeme : {kind : ParseErrorKind} {place i j : ℕ} → IsCharBoundary bytes place → TellsOfLexeme o kind (rest bytes place) (rest bytes i) (rest bytes j) → Told o bytes whole kind i j
+  comment : {i j : ℕ} → o.comments ≡ false → Between bytes IsComment i j → Told o bytes whole CommentsNotAllowed i j
+  no_colon : {a b i j : ℕ} → Between bytes (SomeName o) a b → Between bytes (Gap o) b i → Between bytes (OtherThan o 0x3A) i j ⊎ IsEnd bytes i j → Told o bytes whole ExpectedColonAfterObjectKey i j
+  no_value : {a b i j : ℕ} → Between bytes (SomeName o) a b → Between bytes (Colon o) b i → IsEnd bytes i j → Told o bytes whole ExpectedObjectValue i j
+  loose_name : {i j : ℕ} → o.loose_names ≡ false → ItemIsDue o bytes Object i → Between bytes (LexemeThat o may_name) i j → Told o bytes whole ExpectedStringObjectProperty i j
+  -- punctuation that does not close the object
+  no_name : {c i j : ℕ} → ItemIsDue o bytes Object i → c ≢ closing Object → Between bytes (Lexeme o (punctuation c)) i j → Told o bytes whole UnexpectedTokenInObject i j
+  -- where an item ends, and past a gap another one begins
+  no_comma : (k : Container) {a i b c : ℕ} → o.missing_commas ≡ false → Between bytes (Item o k) a i → Between bytes (Gap o) i b → Between bytes (LexemeThat o (λ l. begins k (lexeme l))) b c → Told o bytes whole ExpectedComma i i
+  trailing_comma : (k : Container) {a b i j c : ℕ} → o.trailing_commas ≡ false → Between bytes (Item o k) a b → Between bytes (Gap o) b i → Between bytes (One 0x2C) i j → Between bytes (Ends o (closing k)) j c → Told o bytes whole TrailingCommasNotAllowed i j
+  second_value : {a b i j : ℕ} → Between bytes (Gap o) 0 a → Between bytes (Item o Array) a b → Between bytes (Gap o) b i → Between bytes (LexemeThat o (λ l. true)) i j → Told o bytes whole MultipleRootJsonValues i j
+  -- a lexeme that no value begins with
+  unexpected : (l : LexemeKind) {i j : ℕ} → ValueIsDue o bytes i → begins_value (lexeme l) ≡ false → Between bytes (Lexeme o l) i j → Told o bytes whole (unexpected_kind (lexeme l)) i j
+  -- a bracket at a, from which no value stands
+  unterminated : (k : Container) {a b : ℕ} → Between bytes (One (opening k)) a b → ((v : Plain) (r : List ℕ) → IsValue o (rest bytes a) v r → ⊥) → Told o bytes whole (unterminated_kind k) (cond whole a (length bytes)) (length bytes)
+  -- from the innermost bracket or name through the token in it that is one too many, or the end
+  deep_element : {i a b j : ℕ} → IsTrue whole → Between bytes (One (opening Array)) i a → a ≤ b → ItemIsDue o bytes Array b → Between bytes (LexemeThat o (λ l. true)) b j → Told o bytes whole NestingDepthExceeded i j
+  deep_property : {i a b j : ℕ} → IsTrue whole → Between bytes (SomeName o) i a → Between bytes (Colon o) a b → Between bytes (LexemeThat o (λ l. true)) b j ⊎ IsEnd bytes b j → Told o bytes whole NestingDepthExceeded i j
+  -- or the bracket that is
+  deep_container : (k : Container) {i j : ℕ} → whole ≡ false → ValueIsDue o bytes i → Between bytes (One (opening k)) i j → Told o bytes whole NestingDepthExceeded i j
+
+-- memory was wanting, or what the fault tells of the text is true
+abbrev pub IsTold : Options → List ℕ → Bool → ParseError → Type 0
+IsTold o bytes whole e = WantsMemory e ⊎ Told o bytes whole (kind_of e) (range_of e).start (range_of e).end
+
+-- the fault is of this kind, and told of these bytes
+pub record IsFaultOf (what : ParseErrorKind) (bytes : Range) (e : ParseError) : Type 0 where
+  pub kind : kind_of e ≡ what
+  pub range : range_of e ≡ bytes
+
+-- the place, or else the end of the text
+abbrev pub or_end : List ℕ → Option ℕ → ℕ
+or_end bytes None = length bytes
+or_end bytes (Some i) = i
+
+-- the fault is that of a container that the text ends in, told from a place or of the end
+pub record IsOpen (k : Container) (bytes : List ℕ) (place : Option ℕ) (e : ParseError) : Type 0 where
+  pub kind : kind_of e ≡ unterminated_kind k
+  pub start : (range_of e).start ≡ or_end bytes place
+  pub end : (range_of e).end ≡ length bytes
+
+module _ {A : Type 0} where
+  -- the same of a parser's text
+  abbrev pub IsToldIn : Context A → Bool → ParseError → Type 0
+  IsToldIn c whole e = IsTold (options_in c) (text_in c) whole e
+
+  -- whichever way it is told
+  abbrev pub IsToldAnyhow : Context A → ParseError → Type 0
+  IsToldAnyhow c e = (whole : Bool) → IsToldIn c whole e
+
+  -- or it is that of a container that the text ends in
+  abbrev pub IsToldOrOpen : Container → Option ℕ → Context A → ParseError → Type 0
+  IsToldOrOpen k start c e = IsToldAnyhow c e ⊎ IsOpen k (text_in c) start e
+
+  -- the last token is the end of the text
+  abbrev pub AtEnd : Context A → Type 0
+  AtEnd c = IsEnd (text_in c) (token_start c) (token_end c)
+
+  -- a name ends where the last token does
+  abbrev pub EndsName : Context A → Type 0
+  EndsName c = (a : ℕ) × Between (text_in c) (SomeName (options_in c)) a (token_end c)
+
+  -- an item ends where the last token does
+  abbrev pub EndsItem : Container → Context A → Type 0
+  EndsItem k c = (a : ℕ) × Between (text_in c) (Item (options_in c) k) a (token_end c)
+
+  -- the last token is a comma after an item
+  pub record IsCommaAfter (k : Container) (c : Context A) : Type 0 where
+    pub first : ℕ
+    pub last : ℕ
+    pub item : Between (text_in c) (Item (options_in c) k) first last
+    pub gap : Between (text_in c) (Gap (options_in c)) last (token_start c)
+    pub comma : IsBracket 0x2C c
+
+  -- at the last token a value must stand, or an item
+  abbrev pub ValueIsDueHere : Context A → Type 0
+  ValueIsDueHere c = ValueIsDue (options_in c) (text_in c) (token_start c)
+
+  abbrev pub ItemIsDueHere : Container → Context A → Type 0
+  ItemIsDueHere k c = ItemIsDue (options_in c) (text_in c) k (token_start c)
+
+  -- the token is a lexeme, and does not close the container
+  abbrev pub ClosesNone : Container → Token A → Type 0
+  ClosesNone k t = (l : LexemeKind) × (scanned_of t ≡ lexeme l) × (l ≢ punctuation (closing k))
+
+  -- it is one that opens none
+  abbrev pub OpensNone : Token A → Type 0
+  OpensNone t = (l : LexemeKind) × (scanned_of t ≡ lexeme l) × (l ≢ punctuation 0x5B) × (l ≢ punctuation 0x7B)
