@@ -20,7 +20,7 @@ use Rattle.jsonc_to_ast.specs.Told.{no_value, deep_property, second_value, unexp
 use Rattle.jsonc_to_ast.proofs.Gaps.{change, join, stands}
 use Rattle.jsonc_to_ast.proofs.NoValues.{bracket_token, brace_token}
 use Rattle.jsonc_to_ast.proofs.Scans.{moved, kept_on}
-use Rattle.jsonc_to_ast.proofs.Telling.{told_as, lexeme_of, lexeme_found, lexeme_stands, end_here}
+use Rattle.jsonc_to_ast.proofs.Telling.{told_as, lexeme_found, lexeme_stands, end_here}
 
 -- a lexeme that is neither a value nor an opening bracket
 begins_none : (l : LexemeKind) → leaf_value (lexeme l) ≡ None → l ≢ punctuation 0x5B → l ≢ punctuation 0x7B → begins_value (lexeme l) ≡ false
@@ -38,14 +38,14 @@ begins_none (LexemeKind.punctuation c) e a b = go (c == 0x5B) (c == 0x7B) refl r
 
 module _ {A : Type 0} where
   -- a token with which no value begins
-  pub unexpected_told : (c : Context A) (t : Token A) (e : ParseError) → IsToken c t → leaf_value (scanned_of t) ≡ None → kind_of e ≡ unexpected_kind (scanned_of t) → range_of e ≡ token_range c → OpensNone t → ValueIsDueHere c → IsToldAnyhow c e
+  pub unexpected_told : (c : Context A) (t : Token A) (e : ParseError) → IsToken c t → leaf_value (scanned_of t) ≡ None → kind_of e ≡ unexpected_kind (scanned_of t) → range_of e ≡ token_range c → OpensNone t → ValueIsDueHere c t → IsToldAnyhow c e
   unexpected_told c t e at none kind range other due = λ whole.
-      let one = subst (λ w. Between (text_in c) (IsScanned (options_in c) w) (token_start c) (token_end c)) other.1 (stands (text_in c) (options_in c) c.scanner t refl refl at) in
-      told_as (options_in c) (text_in c) whole e (unexpected_kind (lexeme other.0)) _ (kind ∙ ap unexpected_kind other.1) range
-      (unexpected other.0 due (begins_none other.0 (ap leaf_value (sym other.1) ∙ none) other.2 other.3) one)
+      let one = subst (λ w. Between (text_in c) (IsScanned (options_in c) w) (token_start c) (token_end c)) due.1 (stands (text_in c) (options_in c) c.scanner t refl refl at) in
+      told_as (options_in c) (text_in c) whole e (unexpected_kind (lexeme due.0)) _ (kind ∙ ap unexpected_kind due.1) range
+      (unexpected due.0 due.2 (begins_none due.0 (ap leaf_value (sym due.1) ∙ none) (λ f. other.0 (due.1 ∙ ap lexeme f)) (λ f. other.1 (due.1 ∙ ap lexeme f))) one)
 
-  pub opens_none : (t : Token A) → (t ≡ token.OpenBracket → ⊥) → (t ≡ token.OpenBrace → ⊥) → IsNoComment (Some t) → OpensNone t
-  opens_none t a b n = let l = lexeme_of (scanned_of t) n in (l.0, l.1, λ e. bracket_token t a (l.1 ∙ ap lexeme e), λ e. brace_token t b (l.1 ∙ ap lexeme e))
+  pub opens_none : (t : Token A) → (t ≡ token.OpenBracket → ⊥) → (t ≡ token.OpenBrace → ⊥) → OpensNone t
+  opens_none t a b = (λ e. bracket_token t a e, λ e. brace_token t b e)
 
   module _ (c : Context A) (n : LocatedName) (name : IsNameHere c n) where
     name_here : Between (text_in c) (SomeName (options_in c)) (token_start c) (token_end c)
@@ -82,17 +82,19 @@ module _ {A : Type 0} where
           (deep_property refl name_here colon_there (lexeme_or_end f refl))
 
       -- a fault of the value
-      pub value_told : (t : Token A) → f ≡ Some t → (whole : Bool) (x : ParseError) → (IsNoComment (Some t) → ValueIsDueHere e → IsToldIn e whole x) → IsToldIn c whole x
+      pub value_told : (t : Token A) → f ≡ Some t → (whole : Bool) (x : ParseError) → (ValueIsDueHere e t → IsToldIn e whole x) → IsToldIn c whole x
       value_told t is whole x h =
-          let due = moved (λ p b. ValueIsDue p b (token_start e)) (sym all.options) (sym all.text) (of_property name_here colon_there) in
-          moved (λ p b. IsTold p b whole x) all.options all.text (h (subst IsNoComment is no_comment) due)
+          let l = lexeme_found d e f further found no_comment t is in
+          let due = moved (λ p b. ValueIsDue p b l.0 (token_start e)) (sym all.options) (sym all.text) (of_property name_here colon_there) in
+          moved (λ p b. IsTold p b whole x) all.options all.text (h (l.0, l.1, due))
 
   -- the text's value
-  pub root_told : (c d : Context A) (f : Option (Token A)) → Keeps c d → Finds (Gap (options_in c)) c d f → IsNoComment f → token_end c ≡ 0 → (t : Token A) → f ≡ Some t → (whole : Bool) (x : ParseError) → (IsNoComment (Some t) → ValueIsDueHere d → IsToldIn d whole x) → IsToldIn c whole x
+  pub root_told : (c d : Context A) (f : Option (Token A)) → Keeps c d → Finds (Gap (options_in c)) c d f → IsNoComment f → token_end c ≡ 0 → (t : Token A) → f ≡ Some t → (whole : Bool) (x : ParseError) → (ValueIsDueHere d t → IsToldIn d whole x) → IsToldIn c whole x
   root_told c d f kept found no_comment zero t is whole x h =
       let gap = subst (λ i. Between (text_in c) (Gap (options_in c)) i (token_start d)) zero found.0 in
-      let due = moved (λ p b. ValueIsDue p b (token_start d)) (sym kept.options) (sym kept.text) (root gap) in
-      moved (λ p b. IsTold p b whole x) kept.options kept.text (h (subst IsNoComment is no_comment) due)
+      let l = lexeme_found c d f kept found no_comment t is in
+      let due = moved (λ p b. ValueIsDue p b l.0 (token_start d)) (sym kept.options) (sym kept.text) (root gap) in
+      moved (λ p b. IsTold p b whole x) kept.options kept.text (h (l.0, l.1, due))
 
   -- a token after it
   pub second_told : (c d m e : Context A) (f h : Option (Token A)) → Keeps c d → Finds (Gap (options_in c)) c d f → token_end c ≡ 0 → Keeps d m → Between (text_in d) (Item (options_in d) Array) (token_start d) (token_end m)

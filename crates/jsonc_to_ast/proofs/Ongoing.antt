@@ -6,10 +6,10 @@ use Rattle.jsonc_text.specs.declared.tokens.Token.{Token}
 use Rattle.jsonc_text.specs.Faults.{kind_of, range_of}
 use Rattle.jsonc_text.specs.Gaps.{Gap}
 use Rattle.jsonc_text.specs.Grammar.{IsValue, literal, empty_array, array, empty_object, object, AreElements, last_element, element, AreProperties, last_property, property, Separates, Closes}
-use Rattle.jsonc_text.specs.Lexemes.{Lexeme, IsScanned}
+use Rattle.jsonc_text.specs.Lexemes.{LexemeKind, lexeme, punctuation, Lexeme, IsScanned}
 use Rattle.jsonc_text.specs.Options.{Options}
-use Rattle.jsonc_text.specs.Places.{is_comment}
 use Rattle.jsonc_text.specs.Plain.{Plain, Items, Members}
+use Rattle.jsonc_text.specs.Tokens.{scanned_of}
 use Rattle.jsonc_text.specs.Text.{rest, Spans}
 use Rattle.jsonc_text.proofs.Basics.{tails, apart}
 use Rattle.jsonc_text.proofs.UniqueValues.{no_literal, value_unique}
@@ -20,11 +20,11 @@ use Rattle.jsonc_to_ast.specs.declared.container.Container.TheVariants.{Array, O
 use Rattle.jsonc_to_ast.specs.declared.context.Context.{Context}
 use Rattle.jsonc_to_ast.specs.Containers.{opening, closing, unterminated_kind}
 use Rattle.jsonc_to_ast.specs.Collected.{Collects}
-use Rattle.jsonc_to_ast.specs.Context.{text_in, options_in, token_start, token_end, token_range, Keeps, IsToken, IsNoComment, IsBracket, Leads}
+use Rattle.jsonc_to_ast.specs.Context.{text_in, options_in, token_start, token_end, token_range, Keeps, IsToken, IsBracket, Leads}
 use Rattle.jsonc_to_ast.specs.Reads.{Reads, ReadsMember}
 use Rattle.jsonc_to_ast.specs.Refusals.{AtItem, LeadsNowhere, LeadsOnlyTo, Tells, here, after, NothingFirst, NothingNext, OnlyFirst, OnlyNext}
-use Rattle.jsonc_to_ast.specs.Told.{IsTold, GoesOn, unterminated, deep_element, deep_container, IsToldIn, IsToldOrOpen, IsOpen, or_end, EndsItem, ValueIsDueHere, ItemIsDueHere, ClosesNone, Item, LexemeThat, ItemIsDue, first_item, further_item, of_array}
-use Rattle.jsonc_to_ast.proofs.Gaps.{change, stands}
+use Rattle.jsonc_to_ast.specs.Told.{IsTold, AfterComma, Comes, OpensValue, ValueIsDue, unterminated, deep_element, deep_container, IsToldIn, IsToldOrOpen, IsOpen, or_end, EndsItem, ValueIsDueHere, ItemIsDueHere, ClosesNone, Item, ItemIsDue, first_item, next_item, without_comma, of_array}
+use Rattle.jsonc_to_ast.proofs.Gaps.{stands}
 use Rattle.jsonc_to_ast.proofs.Loops.{Elements}
 use Rattle.jsonc_to_ast.proofs.NoValues.{elements_item, properties_item, property_end, value_read, property_read, ElementsLeft, PropertiesLeft}
 use Rattle.jsonc_to_ast.proofs.Properties.{Properties}
@@ -93,19 +93,22 @@ module _ (o : Options) where
         | inr x ↦ none r (subst (λ y. AreItems k y r) (n.only x.0 (subst (λ y. Separates o y x.0) same x.1) (begins_item k x.0 r x.2)) x.2)
       ]
 
+lexeme_same : (l m : LexemeKind) → lexeme l ≡ lexeme m → l ≡ m
+lexeme_same l m e = cc
+
 module _ {A : Type 0} (k : Container) where
   -- the item at hand is due, and where no further items stand from it on, no value does from the container's bracket on
   pub record Ongoing (old now : Context A) (t : Token A) : Type 0 where
-    pub due : ItemIsDue (options_in old) (text_in old) k (token_start now)
     pub other : ClosesNone k t
+    pub due : ItemIsDue (options_in old) (text_in old) k other.0 (token_start now)
     pub left : NoItems (options_in old) k (rest (text_in old) (token_start now)) → NoValueAt (options_in old) (here old)
 
   pub ongoing_first : (old new : Context A) (next : Option (Token A)) → IsBracket (opening k) old → Keeps old new → Leads (Gap (options_in old)) (Ends (options_in old) (closing k)) (closing k) old new next → IfSome next (λ t. OnlyFirst k old new)
       → IfSome next (ClosesNone k) → IfSome next (Ongoing old new)
   ongoing_first old new None opens kept h only other = tt
   ongoing_first old new (Some t) opens kept h only other = record {
-    due = first_item opens h.0;
     other = other;
+    due = first_item opens h.0;
     left = only_first (options_in old) k (here old) (after old) (rest (text_in old) (token_start new)) opens.stands
         (subst (λ b. LeadsOnlyTo (options_in old) (Gap (options_in old)) (Ends (options_in old) (closing k)) (after old) (rest b (token_start new))) kept.text only);
   }
@@ -122,11 +125,12 @@ module _ {A : Type 0} (k : Container) where
   first_told old start whole e opens at (inr n) (inr h) = open_told old start whole e opens at (no_first (options_in old) k (here old) (after old) opens.stands n) h
 
   module _ (old now : Context A) (kept : Keeps old now) (t : Token A) (going : Ongoing old now t) where
-    pub no_comment : IsNoComment (Some t)
-    no_comment = ap is_comment going.other.1
+    pub due_here : ItemIsDueHere k now t
+    due_here = (going.other.0, going.other.1, going.other.2, moved (λ p b. ItemIsDue p b k going.other.0 (token_start now)) (sym kept.options) (sym kept.text) going.due)
 
-    pub due_here : ItemIsDueHere k now
-    due_here = moved (λ p b. ItemIsDue p b k (token_start now)) (sym kept.options) (sym kept.text) going.due
+    further_due : (mid new : Context A) (u : Token A) (other : ClosesNone k u) → Keeps old mid → Comes mid new u → Between (text_in old) (Item (options_in old) k) (token_start now) (token_end mid) → ItemIsDue (options_in old) (text_in old) k other.0 (token_start new)
+    further_due mid new u other both (inl comma) item = next_item item (moved (λ p b. Between b (AfterComma p) (token_end mid) (token_start new)) both.options both.text comma)
+    further_due mid new u other both (inr none) item = without_comma (λ e. none.1 (other.1 ∙ ap lexeme e)) item (moved (λ p b. Between b (Gap p) (token_end mid) (token_start new)) both.options both.text none.0)
 
     -- a fault of the item
     pub told_of_item : (whole : Bool) (e : ParseError) → IsToldIn now whole e → IsToldIn old whole e
@@ -148,19 +152,18 @@ module _ {A : Type 0} (k : Container) where
           open_told old start whole e opens at (going.left (no_next (options_in old) k (rest (text_in old) (token_start now)) (rest (text_in old) (token_end mid)) item_old.stands nowhere))
           (subst (λ b. IsOpen k b start e) both.text h)
 
-      pub ongoing_turn : (new : Context A) (next : Option (Token A)) → Keeps mid new → Leads (Separates (options_in mid)) (Closes (options_in mid) (closing k)) (closing k) mid new next → IfSome next (λ t. OnlyNext k mid new)
-          → IfSome next (ClosesNone k) → IfSome next (Ongoing old new)
-      ongoing_turn new None further h only other = tt
-      ongoing_turn new (Some u) further h only other =
+      pub ongoing_turn : (new : Context A) (next : Option (Token A)) → Keeps mid new → IfSome next (λ t. OnlyNext k mid new)
+          → IfSome next (ClosesNone k) → IfSome next (Comes mid new) → IfSome next (Ongoing old new)
+      ongoing_turn new None further only other comes = tt
+      ongoing_turn new (Some u) further only other comes =
           let both = kept_on old now mid kept kept_mid in
           let all = kept_on old mid new both further in
           let o = options_in old in
-          let gap = moved (λ p b. Between b (Separates p) (token_end mid) (token_start new)) both.options both.text h.0 in
           let n = moved (λ p b. LeadsOnlyTo p (Separates p) (Closes p (closing k)) (rest b (token_end mid)) (here new)) both.options both.text only in
           let m = subst (λ b. LeadsOnlyTo o (Separates o) (Closes o (closing k)) (rest (text_in old) (token_end mid)) (rest b (token_start new))) all.text n in
           record {
-            due = further_item item_old (change (GoesOn o) (λ u r g. inr g) gap);
             other = other;
+            due = further_due mid new u other both comes item_old;
             left = λ none. going.left (only_next o k (rest (text_in old) (token_start now)) (rest (text_in old) (token_end mid)) (rest (text_in old) (token_start new)) item_old.stands m none);
           }
 
@@ -171,15 +174,19 @@ module _ {A : Type 0} where
   deep_element_told old now t start e kept opens going at on from kind range =
       let one = subst (λ w. Between (text_in old) (IsScanned (options_in old) w) (token_start now) (token_end now)) going.other.1 (stands (text_in old) (options_in old) now.scanner t kept.text kept.options at) in
       told_as (options_in old) (text_in old) true e NestingDepthExceeded _ kind (range ∙ ap (λ i. record { start = i; end = token_end now }) from)
-      (deep_element refl opens on going.due (change (LexemeThat (options_in old) (λ l. true)) (λ u r l. (going.other.0, refl, l)) one))
+      (deep_element going.other.0 refl opens on going.due one)
 
   -- a container that is
-  pub deep_container_told : (k : Container) (c : Context A) (e : ParseError) → IsBracket (opening k) c → kind_of e ≡ NestingDepthExceeded → range_of e ≡ token_range c → ValueIsDueHere c → IsToldIn c false e
+  pub deep_container_told : (k : Container) (c : Context A) (e : ParseError) → IsBracket (opening k) c → kind_of e ≡ NestingDepthExceeded → range_of e ≡ token_range c → OpensValue (opening k) c → IsToldIn c false e
   deep_container_told k c e opens kind range due = told_as (options_in c) (text_in c) false e NestingDepthExceeded _ kind range (deep_container k refl due opens)
 
   -- an element is a value
-  pub element_due : (now : Context A) → ItemIsDueHere Array now → ValueIsDueHere now
-  element_due now h = of_array h
+  pub element_due : (now : Context A) (t : Token A) → ItemIsDueHere Array now t → ValueIsDueHere now t
+  element_due now t h = (h.0, h.1, of_array h.2 h.3)
+
+  -- an opening bracket is
+  pub bracket_due : (c : Context A) (t : Token A) (bracket : ℕ) → scanned_of t ≡ lexeme (punctuation bracket) → ValueIsDueHere c t → OpensValue bracket c
+  bracket_due c t bracket e h = let same : h.0 ≡ punctuation bracket = lexeme_same h.0 (punctuation bracket) (sym h.1 ∙ e) in subst (λ l. ValueIsDue (options_in c) (text_in c) l (token_start c)) same h.2
 
   -- an element that was read, and a property
   pub spans_read : (now mid : Context A) → Keeps now mid → token_end now ≤ token_end mid → Spans (text_in now) (token_start now) (token_end mid)

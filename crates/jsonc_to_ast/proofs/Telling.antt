@@ -1,5 +1,5 @@
 -- What the steps of a parser tell when they refuse.
-use Rattle.std.proofs.Common.{ℕ, ◌≡◌, ◌≢◌, ◌∙◌, sym, ap, subst, refl, Bool, true, false, List, length, Option, Some, None, IsTrue, IsCharBoundary, ◌⊎◌, inl, inr}
+use Rattle.std.proofs.Common.{ℕ, ◌≡◌, ◌≢◌, ◌∙◌, sym, ap, subst, refl, Bool, true, false, List, length, Option, Some, None, IsTrue, IsCharBoundary, ◌⊎◌, inl, inr, Result, Ok, Err, IfOk, IfSome}
 use Rattle.jsonc_text.specs.declared.common.Range.{Range}
 use Rattle.jsonc_text.specs.declared.errors.ParseError.{ParseError}
 use Rattle.jsonc_text.specs.declared.errors.ParseErrorKind.{ParseErrorKind}
@@ -21,10 +21,10 @@ use Rattle.jsonc_to_ast.specs.declared.container.Container.{Container}
 use Rattle.jsonc_to_ast.specs.declared.container.Container.TheVariants.{Array, Object}
 use Rattle.jsonc_to_ast.specs.declared.context.Context.{Context}
 use Rattle.jsonc_to_ast.specs.Containers.{closing, begins, misplaced_kind}
-use Rattle.jsonc_to_ast.specs.Context.{text_in, options_in, token_start, token_end, token_range, Keeps, Finds, IsToken, IsNoComment}
+use Rattle.jsonc_to_ast.specs.Context.{text_in, options_in, LeadsAfterComma, token_start, token_end, token_range, Keeps, Finds, IsToken, IsNoComment}
 use Rattle.jsonc_to_ast.specs.Scanned.{begins_value, begins_name, unexpected_kind, loose_text}
-use Rattle.jsonc_to_ast.specs.Told.{Told, no_lexeme, comment, no_colon, loose_name, no_name, no_comma, trailing_comma, unexpected, IsTold, IsToldAnyhow, IsToldOrOpen, IsFaultOf, IsOpen, AtEnd, EndsName, EndsItem, IsCommaAfter, ItemIsDueHere, ClosesNone, LexemeThat, OtherThan, Item, GoesOn, of_array, further_item}
-use Rattle.jsonc_to_ast.proofs.Gaps.{change, stands}
+use Rattle.jsonc_to_ast.specs.Told.{Told, no_lexeme, comment, no_colon, loose_name, no_name, no_comma, trailing_comma, unexpected, IsTold, IsToldAnyhow, IsToldOrOpen, IsFaultOf, IsOpen, AtEnd, EndsName, EndsItem, IsCommaAfter, ItemIsDueHere, ClosesNone, LexemeThat, OtherThan, Item, AfterComma, Comes, ItemIsDue, of_array, without_comma}
+use Rattle.jsonc_to_ast.proofs.Gaps.{join, change, stands}
 use Rattle.jsonc_to_ast.proofs.Refusals.{memory_or_not, comment_at}
 use Rattle.jsonc_to_ast.proofs.Scans.{Passing, moved, mark_passed, token_is, at_token}
 
@@ -137,6 +137,17 @@ module _ {A : Type 0} where
               comma = token_is (text_in new) (options_in new) new.scanner t 0x2C refl refl (at_token old new f t 0x2C kept found is) mark;
             }
 
+        -- a token after a comma
+        pub comes_after : (last : Context A) (u : Token A) → scanned_of t ≡ lexeme (punctuation 0x2C) → LeadsAfterComma k new last (Some u) → Comes old last u
+        comes_after last u mark h =
+            let before = mark_passed old new f t 0x2C kept found is (Ends (options_in old) 0x2C) (λ t r g. g) mark in
+            inl (join (AfterComma (options_in old)) (λ t u r g k. (u, g, k)) before (moved (λ p b. Between b (Gap p) (token_end new) (token_start last)) kept.options kept.text h.0))
+
+        pub comes_after_ok : (last : Context A) (r : Result (Option (Token A)) ParseError) → scanned_of t ≡ lexeme (punctuation 0x2C) → IfOk r (LeadsAfterComma k new last) → IfOk r (λ f. IfSome f (Comes old last))
+        comes_after_ok last (Err x) mark h = tt
+        comes_after_ok last (Ok None) mark h = tt
+        comes_after_ok last (Ok (Some u)) mark h = comes_after last u mark h
+
         -- a comma that is missing before an item
         pub comma_told : (e : ParseError) (end : ℕ) → (options_in old).missing_commas ≡ false → IsTrue (begins k (scanned_of t)) → end ≡ token_end old → IsFaultOf ExpectedComma (record { start = end; end = end }) e → EndsItem k old → IsToldOrOpen k start old e
         comma_told e end off first at fault h =
@@ -147,30 +158,30 @@ module _ {A : Type 0} where
             (no_comma k off h.1 found.0 (change (LexemeThat (options_in old) (λ l. begins k (lexeme l))) (λ u r s. (l.0, test, s)) (lexeme_stands l.0 l.1))))
 
       -- what stands instead of a comma or an item
-      pub misplaced_told : (k : Container) (start : Option ℕ) (e : ParseError) → begins k (scanned_of t) ≡ false → (scanned_of t ≡ lexeme (punctuation (closing k)) → ⊥) → IsFaultOf (misplaced_kind k (scanned_of t)) (token_range new) e
+      pub misplaced_told : (k : Container) (start : Option ℕ) (e : ParseError) → begins k (scanned_of t) ≡ false → (scanned_of t ≡ lexeme (punctuation (closing k)) → ⊥) → (scanned_of t ≡ lexeme (punctuation 0x2C) → ⊥) → IsFaultOf (misplaced_kind k (scanned_of t)) (token_range new) e
           → EndsItem k old → IsToldOrOpen k start old e
-      misplaced_told Array start e none n fault h =
+      misplaced_told Array start e none n m fault h =
           let l = lexeme_found in
           inl (λ whole.
           told_as (options_in old) (text_in old) whole e (unexpected_kind (lexeme l.0)) _ (fault.kind ∙ ap unexpected_kind l.1) fault.range
-          (unexpected l.0 (of_array (further_item h.1 (change (GoesOn (options_in old)) (λ u r g. inl g) found.0))) (subst (λ w. begins_value w ≡ false) l.1 none) (lexeme_stands l.0 l.1)))
-      misplaced_told Object start e none n fault h =
+          (unexpected l.0 (of_array (λ c. n (l.1 ∙ ap lexeme c)) (without_comma (λ c. m (l.1 ∙ ap lexeme c)) h.1 found.0)) (subst (λ w. begins_value w ≡ false) l.1 none) (lexeme_stands l.0 l.1)))
+      misplaced_told Object start e none n m fault h =
           let l = lexeme_found in
           let mark = no_name_mark l.0 (subst (λ w. begins_name w ≡ false) l.1 none) in
           inl (λ whole.
           told_as (options_in old) (text_in old) whole e UnexpectedTokenInObject _ fault.kind fault.range
-          (no_name (further_item h.1 (change (GoesOn (options_in old)) (λ u r g. inl g) found.0))
+          (no_name (without_comma (λ c. m (l.1 ∙ ap lexeme (mark.1 ∙ c))) h.1 found.0)
           (λ c. n (l.1 ∙ ap lexeme (mark.1 ∙ ap punctuation c)))
           (subst (λ x. Between (text_in old) (Lexeme (options_in old) x) (token_start new) (token_end new)) mark.1 (lexeme_stands l.0 l.1))))
 
       -- an item stands there, or something else
-      pub missing_told : (k : Container) (start : Option ℕ) (e : ParseError) (end : ℕ) → (options_in old).missing_commas ≡ false → end ≡ token_end old → (scanned_of t ≡ lexeme (punctuation (closing k)) → ⊥)
+      pub missing_told : (k : Container) (start : Option ℕ) (e : ParseError) (end : ℕ) → (options_in old).missing_commas ≡ false → end ≡ token_end old → (scanned_of t ≡ lexeme (punctuation (closing k)) → ⊥) → (scanned_of t ≡ lexeme (punctuation 0x2C) → ⊥)
           → (IsTrue (begins k (scanned_of t)) → IsFaultOf ExpectedComma (record { start = end; end = end }) e) → (begins k (scanned_of t) ≡ false → IsFaultOf (misplaced_kind k (scanned_of t)) (token_range new) e) → EndsItem k old → IsToldOrOpen k start old e
-      missing_told k start e end off at n first other h = go (begins k (scanned_of t)) refl
+      missing_told k start e end off at n m first other h = go (begins k (scanned_of t)) refl
         where
           go : (b : Bool) → begins k (scanned_of t) ≡ b → IsToldOrOpen k start old e
           go true is = comma_told k start e end off is at (first is) h
-          go false is = misplaced_told k start e is n (other is) h
+          go false is = misplaced_told k start e is n m (other is) h
 
       -- no colon after a name
       pub colon_told : (e : ParseError) → (scanned_of t ≡ lexeme (punctuation 0x3A) → ⊥) → kind_of e ≡ ExpectedColonAfterObjectKey → range_of e ≡ token_range new → EndsName old → IsToldAnyhow old e
@@ -185,18 +196,18 @@ module _ {A : Type 0} where
         let same = ap length kept.text in
         told_as (options_in old) (text_in old) whole e ExpectedColonAfterObjectKey _ kind range (no_colon h.1 found.0 (inr (end.0 ∙ same, end.1 ∙ same)))
 
-  module _ (c : Context A) (t : Token A) (at : IsToken c t) (e : ParseError) (due : ItemIsDueHere Object c) (other : ClosesNone Object t) where
-    lexeme_here : Between (text_in c) (Lexeme (options_in c) other.0) (token_start c) (token_end c)
-    lexeme_here = subst (λ w. Between (text_in c) (IsScanned (options_in c) w) (token_start c) (token_end c)) other.1 (stands (text_in c) (options_in c) c.scanner t refl refl at)
+  module _ (c : Context A) (t : Token A) (at : IsToken c t) (e : ParseError) (due : ItemIsDueHere Object c t) where
+    lexeme_here : Between (text_in c) (Lexeme (options_in c) due.0) (token_start c) (token_end c)
+    lexeme_here = subst (λ w. Between (text_in c) (IsScanned (options_in c) w) (token_start c) (token_end c)) due.1 (stands (text_in c) (options_in c) c.scanner t refl refl at)
 
     -- a name that is not allowed, or none
     pub loose_told : (s : List ℕ) → loose_text (scanned_of t) ≡ Some s → (options_in c).loose_names ≡ false → kind_of e ≡ ExpectedStringObjectProperty → range_of e ≡ token_range c → IsToldAnyhow c e
     loose_told s text off kind range = λ whole.
         told_as (options_in c) (text_in c) whole e ExpectedStringObjectProperty _ kind range
-        (loose_name off due (change (LexemeThat (options_in c) may_name) (λ u r l. (other.0, is_loose other.0 s (ap loose_text (sym other.1) ∙ text), l)) lexeme_here))
+        (loose_name due.0 off due.3 (is_loose due.0 s (ap loose_text (sym due.1) ∙ text)) lexeme_here)
 
     pub no_name_told : loose_text (scanned_of t) ≡ None → ((v : List ℕ) → scanned_of t ≡ lexeme (string v) → ⊥) → kind_of e ≡ UnexpectedTokenInObject → range_of e ≡ token_range c → IsToldAnyhow c e
     no_name_told text n kind range = λ whole.
-        let mark = no_loose_mark other.0 (ap loose_text (sym other.1) ∙ text) (λ v f. n v (other.1 ∙ ap lexeme f)) in
+        let mark = no_loose_mark due.0 (ap loose_text (sym due.1) ∙ text) (λ v f. n v (due.1 ∙ ap lexeme f)) in
         told_as (options_in c) (text_in c) whole e UnexpectedTokenInObject _ kind range
-        (no_name due (λ f. other.2 (mark.1 ∙ ap punctuation f)) (subst (λ x. Between (text_in c) (Lexeme (options_in c) x) (token_start c) (token_end c)) mark.1 lexeme_here))
+        (no_name (subst (λ x. ItemIsDue (options_in c) (text_in c) Object x (token_start c)) mark.1 due.3) (λ f. due.2 (mark.1 ∙ ap punctuation f)) (subst (λ x. Between (text_in c) (Lexeme (options_in c) x) (token_start c) (token_end c)) mark.1 lexeme_here))

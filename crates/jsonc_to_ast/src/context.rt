@@ -41,7 +41,7 @@ impl<'a, A: Allocator + Copy> Context<'a, A> {
     ghost use Rattle.jsonc_to_ast.specs.Context.{text_in, options_in, token_end, token_range, tokens_asked, comments_asked, Keeps, Finds, LeadsToFirst, LeadsAfterComma, LeadsToNext, PassesColon, IsToken, IsNameHere, IsNoComment};
     ghost use Rattle.jsonc_ast.specs.Views.{name_at};
     ghost use Rattle.jsonc_to_ast.specs.Containers.{misplaced_kind, begins};
-    ghost use Rattle.jsonc_to_ast.specs.Told.{IsFaultOf, AtEnd, IsOpen, IsToldAnyhow, IsToldOrOpen, ClosesNone, EndsItem, EndsName, IsCommaAfter, ItemIsDueHere};
+    ghost use Rattle.jsonc_to_ast.specs.Told.{IsFaultOf, AtEnd, IsOpen, IsToldAnyhow, IsToldOrOpen, ClosesNone, Comes, EndsItem, EndsName, IsCommaAfter, ItemIsDueHere};
     ghost use Rattle.jsonc_to_ast.specs.declared.container.Container.TheVariants.{Object};
     ghost use Rattle.jsonc_to_ast.specs.Collected.{takes_comments, is_separate, collected, CollectsLast, CollectsComment, OmitsComment, HasNoted, NotesComment, NotesLexeme, ShowsNoted, Collects};
 
@@ -398,6 +398,7 @@ impl<'a, A: Allocator + Copy> Context<'a, A> {
         ensures fault { IfErr result (IsFault (text_in self.old)) }
         ensures told { IfErr result (λ e. EndsItem container self.old → IsToldOrOpen container start self.old e) }
         ensures stands { IfOk result (λ f. IfSome f (ClosesNone container)) }
+        ensures comes { IfOk result (λ f. IfSome f (Comes self.old self.new)) }
     {
         let end = self.scanner.token_end();
         let Some(token) = self.scan()? else {
@@ -422,7 +423,7 @@ impl<'a, A: Allocator + Copy> Context<'a, A> {
         ensures range { IfOk result (λ n. (name_at n).range ≡ token_range self.now) }
         ensures refused { IfErr result (λ _. NoName self.now) }
         ensures fault { IfErr result (IsFault (text_in self.now)) }
-        ensures told { IfErr result (λ e. ItemIsDueHere Object self.now → ClosesNone Object token.entry → IsToldAnyhow self.now e) }
+        ensures told { IfErr result (λ e. ItemIsDueHere Object self.now token.entry → IsToldAnyhow self.now e) }
     {
         let range = self.range();
         match token {

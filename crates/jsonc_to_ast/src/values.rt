@@ -1,17 +1,17 @@
 //! Values read by recursive descent.
-ghost use Rattle.std.specs.Prelude.{◌≡◌, ◌+◌, ◌≤◌, IfOk, IfErr, OnOk, IfSome, Some, true, option_map, is_some, chars};
+ghost use Rattle.std.specs.Prelude.{◌≡◌, ◌+◌, ◌≤◌, IfOk, IfErr, OnOk, IfSome, true, option_map, is_some, chars};
 ghost use Rattle.jsonc_text.specs.Faults.{IsFault};
 ghost use Rattle.jsonc_text.specs.Grammar.{IsDocument};
 ghost use Rattle.jsonc_text.specs.OptionsOf.{parse_options};
 ghost use Rattle.jsonc_text.specs.Plain.{around};
 ghost use Rattle.jsonc_text.specs.Tokens.{scanned_of};
 ghost use Rattle.jsonc_to_ast.specs.Collected.{HoldsCollected, is_separate, HoldsComments, Collects};
-ghost use Rattle.jsonc_to_ast.specs.Context.{text_in, options_in, token_start, token_end, Keeps, IsToken, IsNoComment, IsBracket};
+ghost use Rattle.jsonc_to_ast.specs.Context.{text_in, options_in, token_start, token_end, Keeps, IsToken, IsBracket};
 ghost use Rattle.jsonc_ast.specs.Located.{leaf_at, range_at, value_at, IsLocatedDocument};
 ghost use Rattle.jsonc_to_ast.specs.Reads.{Reads, ReadsMember};
 ghost use Rattle.jsonc_to_ast.specs.Refusals.{NoLiteral, NoPropertyHere, NoValueHere, RefusesText, Tells};
 ghost use Rattle.jsonc_to_ast.specs.Scanned.{leaf_value};
-ghost use Rattle.jsonc_to_ast.specs.Told.{IsTold, IsToldIn, IsToldAnyhow, ItemIsDueHere, ValueIsDueHere, ClosesNone, OpensNone};
+ghost use Rattle.jsonc_to_ast.specs.Told.{IsTold, IsToldIn, IsToldAnyhow, ItemIsDueHere, ValueIsDueHere, OpensNone};
 ghost use Rattle.jsonc_to_ast.specs.declared.container.Container.TheVariants.{Object};
 ghost use Rattle.jsonc_ast.specs.Views.{located, member_of, plain};
 ghost use Rattle.jsonc_to_ast.specs.Results.{located_in, plain_in};
@@ -54,7 +54,7 @@ fn parse_leaf<'a, A: Allocator + Copy>(
     ensures within { IfOk result (λ v. around (plain v) ≡ 0) }
     ensures refused { IfErr result (λ _. NoLiteral context.now) }
     ensures fault { IfErr result (IsFault (text_in context.now)) }
-    ensures told { IfErr result (λ e. OpensNone token.entry → ValueIsDueHere context.now → IsToldAnyhow context.now e) }
+    ensures told { IfErr result (λ e. OpensNone token.entry → ValueIsDueHere context.now token.entry → IsToldAnyhow context.now e) }
 {
     let kind = unexpected(&token);
     let Some(value) = leaf(token, context.range()) else {
@@ -79,7 +79,7 @@ fn parse_value<'a, A: Allocator + Copy>(
     ensures within { IfOk result (λ v. around (plain v) + count ≤ 512) }
     ensures refused { IfErr result (Tells (NoValueHere context.old count)) }
     ensures fault { IfErr result (IsFault (text_in context.old)) }
-    ensures told { IfErr result (λ e. IsNoComment (Some token.entry) → ValueIsDueHere context.old → IsToldIn context.old true e) }
+    ensures told { IfErr result (λ e. ValueIsDueHere context.old token.entry → IsToldIn context.old true e) }
 {
     match token {
         Token::OpenBracket => parse_array(context, count),
@@ -165,7 +165,7 @@ fn parse_property<'a, A: Allocator + Copy>(
     ensures within { IfOk result (λ p. around (value_at (member_of p).value) + (count + 1) ≤ 512) }
     ensures refused { IfErr result (Tells (NoPropertyHere context.old count)) }
     ensures fault { IfErr result (IsFault (text_in context.old)) }
-    ensures told { IfErr result (λ e. ItemIsDueHere Object context.old → ClosesNone Object token.entry → IsToldIn context.old true e) }
+    ensures told { IfErr result (λ e. ItemIsDueHere Object context.old token.entry → IsToldIn context.old true e) }
 {
     let start = context.scanner.token_start();
     let name = context.name(token)?;

@@ -13,7 +13,7 @@ use Rattle.jsonc_ast.specs.Located.{Between, Ends}
 use Rattle.jsonc_to_ast.specs.Refusals.{LeadsNowhere, LeadsOnlyTo, here, after, NothingFirst, NothingNext, OnlyFirst, OnlyNext}
 use Rattle.jsonc_to_ast.proofs.Loops.{AtHand, leads_hand, leads_on}
 use Rattle.jsonc_to_ast.proofs.NoValues.{elements_item}
-use Rattle.jsonc_to_ast.specs.Told.{ClosesNone, Item}
+use Rattle.jsonc_to_ast.specs.Told.{ClosesNone, Comes, Item}
 use Rattle.jsonc_to_ast.proofs.Ongoing.{Ongoing, ongoing_first, ongoing_turn, spans_read}
 use Rattle.jsonc_to_ast.proofs.Scans.{moved, kept_on}
 use Rattle.jsonc_to_value.specs.Reads.{Reads}
@@ -124,8 +124,8 @@ module _ {A : Type 0} where
 
       -- one more element
       pub elements_turn : (new : Context A) (further : Option (Token A)) (ys : List (JsonValue A)) → Keeps mid new → Leads (Separates (options_in mid)) (Closes (options_in mid) 0x5D) 0x5D mid new further
-          → IfSome further (λ t. OnlyNext Array mid new) → IfSome further (ClosesNone Array) → map plain ys ≡ map plain xs ++ plain x ∷ [] → Elements old new further count ys
-      elements_turn new further ys kept h only other grown =
+          → IfSome further (λ t. OnlyNext Array mid new) → IfSome further (ClosesNone Array) → IfSome further (Comes mid new) → map plain ys ≡ map plain xs ++ plain x ∷ [] → Elements old new further count ys
+      elements_turn new further ys kept h only other comes grown =
           let most : items_depth (push inv.values read.value) ≡ max (items_depth inv.values) (depth read.value) = push_depth inv.values read.value in
           let on : token_end mid ≤ token_start new = leads_on _ _ 0x5D mid new further h in
           record {
@@ -137,7 +137,7 @@ module _ {A : Type 0} where
             so_far = turn_so_far new further h;
             within = omega (arith, most, inv.within, read.within);
             left = turn_left new further kept only;
-            going = ongoing_turn Array old now inv.kept t going_some mid kept_mid (value_item now mid (count + 1) x kept_mid read) new further kept h only other;
+            going = ongoing_turn Array old now inv.kept t going_some mid kept_mid (value_item now mid (count + 1) x kept_mid read) new further kept only other comes;
           }
 
   -- the whole array

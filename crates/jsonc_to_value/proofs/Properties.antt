@@ -14,7 +14,7 @@ use Rattle.jsonc_ast.specs.Located.{Between, Ends}
 use Rattle.jsonc_to_ast.specs.Refusals.{LeadsNowhere, LeadsOnlyTo, here, after, NothingFirst, NothingNext, OnlyFirst, OnlyNext}
 use Rattle.jsonc_to_ast.proofs.Loops.{AtHand, leads_hand, leads_on}
 use Rattle.jsonc_to_ast.proofs.NoValues.{properties_item}
-use Rattle.jsonc_to_ast.specs.Told.{ClosesNone, Item}
+use Rattle.jsonc_to_ast.specs.Told.{ClosesNone, Comes, Item}
 use Rattle.jsonc_to_ast.proofs.Ongoing.{Ongoing, ongoing_first, ongoing_turn, spans_read}
 use Rattle.jsonc_to_ast.proofs.Scans.{moved, kept_on}
 use Rattle.jsonc_to_value.specs.Reads.{Reads, ReadsProperty}
@@ -129,8 +129,8 @@ module _ {A : Type 0} where
 
       -- one more property
       pub properties_turn : (new : Context A) (further : Option (Token A)) (qs : List (CowStr A × JsonValue A)) → Keeps mid new → Leads (Separates (options_in mid)) (Closes (options_in mid) 0x7D) 0x7D mid new further
-          → IfSome further (λ t. OnlyNext Object mid new) → IfSome further (ClosesNone Object) → qs ≡ inserted ps x.0 x.1 → Properties old new further count qs
-      properties_turn new further qs kept h only other e =
+          → IfSome further (λ t. OnlyNext Object mid new) → IfSome further (ClosesNone Object) → IfSome further (Comes mid new) → qs ≡ inserted ps x.0 x.1 → Properties old new further count qs
+      properties_turn new further qs kept h only other comes e =
           let most : members_depth (push inv.members (name_of x.0) read.value) ≡ max (members_depth inv.members) (depth read.value) = push_depth inv.members (name_of x.0) read.value in
           let on : token_end mid ≤ token_start new = leads_on _ _ 0x7D mid new further h in
           record {
@@ -144,7 +144,7 @@ module _ {A : Type 0} where
             so_far = turn_so_far new further h;
             within = omega (arith, most, inv.within, read.within);
             left = turn_left new further kept only;
-            going = ongoing_turn Object old now inv.kept t going_some mid kept_mid (property_item now mid (count + 1) x kept_mid read) new further kept h only other;
+            going = ongoing_turn Object old now inv.kept t going_some mid kept_mid (property_item now mid (count + 1) x kept_mid read) new further kept only other comes;
           }
 
   -- the whole object

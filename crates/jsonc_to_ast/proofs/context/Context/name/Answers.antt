@@ -23,12 +23,12 @@ returns-then-not-self-clause-refused g c =
     loose_refused context c.args.token c.requires (chars c.in-Some.value.now) e (ap (λ p. p.loose_names) (sym context.same) ∙ c.if-not-self.true)
 
 pub returns-in_default-loose_name-clause-told : goal.returns-in_default-loose_name-clause-told
-returns-in_default-loose_name-clause-told g c = λ due other.
+returns-in_default-loose_name-clause-told g c = λ due.
     let e : loose_text (scanned_of c.args.token) ≡ None = cc c.in_default-loose_name.ensures in
-    no_name_told c.args.self.now c.args.token c.requires c.fault_here.result due other e (string_token c.args.token c.in_default.not-String) c.fault_here.ensures.kind c.fault_here.ensures.range
+    no_name_told c.args.self.now c.args.token c.requires c.fault_here.result due e (string_token c.args.token c.in_default.not-String) c.fault_here.ensures.kind c.fault_here.ensures.range
 
 pub returns-then-not-self-clause-told : goal.returns-then-not-self-clause-told
-returns-then-not-self-clause-told g c = λ due other.
+returns-then-not-self-clause-told g c = λ due.
     let context = c.args.self.now in
     let e : loose_text (scanned_of c.args.token) ≡ Some (chars c.in-Some.value.now) = cc c.in-Some.ensures in
-    loose_told context c.args.token c.requires c.fault_here-then-not-self.result due other (chars c.in-Some.value.now) e (ap (λ p. p.loose_names) (sym context.same) ∙ c.if-not-self.true) c.fault_here-then-not-self.ensures.kind c.fault_here-then-not-self.ensures.range
+    loose_told context c.args.token c.requires c.fault_here-then-not-self.result due (chars c.in-Some.value.now) e (ap (λ p. p.loose_names) (sym context.same) ∙ c.if-not-self.true) c.fault_here-then-not-self.ensures.kind c.fault_here-then-not-self.ensures.range

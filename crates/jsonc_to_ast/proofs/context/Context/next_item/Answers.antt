@@ -7,7 +7,7 @@ use Rattle.jsonc_to_ast.specs.Refusals.{after}
 use Rattle.jsonc_to_ast.proofs.Collecting.{collects_on, ok_collects}
 use Rattle.jsonc_to_ast.proofs.Refusals.{err_of, ok_some, err_some, still, refuted, no_token_lexeme, nowhere_next, nothing_at_end, nothing_next, next_after_comma, missing_refused, only_next}
 use Rattle.jsonc_to_ast.specs.Told.{IsToldOrOpen, EndsItem}
-use Rattle.jsonc_to_ast.proofs.Telling.{open_before, end_here, closes_none, step_before, comma_after, missing_told}
+use Rattle.jsonc_to_ast.proofs.Telling.{open_before, end_here, closes_none, step_before, comma_after, comes_after_ok, missing_told}
 use Rattle.jsonc_to_ast.proofs.context.Context.next_item.Goals as goal
 
 pub returns-then-is_closed_by-clause-found : goal.returns-then-is_closed_by-clause-found
@@ -98,10 +98,19 @@ returns-then-not-self-clause-told g c =
     let new = c.scan.new.self in
     let read = c.in_ok-token.ensures in
     missing_told old new c.in_ok-token.field-0 c.scan.ensures.kept read.found read.lexeme c.in-Some.token c.in-Some.is c.args.container c.args.start c.missing_comma.result c.token_end-end.result
-    (ap (λ p. p.missing_commas) (sym (new.same ∙ c.scan.ensures.kept.options)) ∙ c.if-not-self.true) c.token_end-end.ensures (refuted c.is_closed_by.ensures.1 c.if-is_closed_by.false)
+    (ap (λ p. p.missing_commas) (sym (new.same ∙ c.scan.ensures.kept.options)) ∙ c.if-not-self.true) c.token_end-end.ensures (refuted c.is_closed_by.ensures.1 c.if-is_closed_by.false) (refuted c.is_comma.ensures.1 c.if-is_comma.false)
     c.missing_comma.ensures.comma c.missing_comma.ensures.misplaced
 
 pub returns-clause-stands : goal.returns-clause-stands
 returns-clause-stands g c =
     let read = c.in_ok-token.ensures in
     closes_none c.args.self.now c.scan.new.self c.in_ok-token.field-0 c.scan.ensures.kept read.found read.lexeme c.in-Some.token c.in-Some.is c.args.container (refuted c.is_closed_by.ensures.1 c.if-is_closed_by.false)
+
+pub returns-then-is_comma-clause-comes : goal.returns-then-is_comma-clause-comes
+returns-then-is_comma-clause-comes g c =
+    let read = c.in_ok-token.ensures in
+    comes_after_ok c.args.self.now c.scan.new.self c.in_ok-token.field-0 c.scan.ensures.kept read.found read.lexeme c.in-Some.token c.in-Some.is c.args.container c.args.start c.item_after_comma.new.self c.item_after_comma.result
+    (c.is_comma.ensures.0 c.if-is_comma.true) c.item_after_comma.ensures.found
+
+pub returns-clause-comes : goal.returns-clause-comes
+returns-clause-comes g c = inr (c.in_ok-token.ensures.found.0, refuted c.is_comma.ensures.1 c.if-is_comma.false)
