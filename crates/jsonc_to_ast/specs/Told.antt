@@ -45,7 +45,7 @@ Item o Object t r = (name : List ℕ) × (v : Plain) × IsProperty o t name v r
 abbrev pub AfterComma : Options → List ℕ → List ℕ → Type 0
 AfterComma o t r = (u : List ℕ) × Gap o t (0x2C ∷ u) × Gap o u r
 
--- the bytes of no length at the end of the text
+-- i and j are the end of the text
 abbrev pub IsEnd : List ℕ → ℕ → ℕ → Type 0
 IsEnd bytes i j = (i ≡ length bytes) × (j ≡ length bytes)
 
@@ -61,7 +61,7 @@ pub data ValueIsDue (o : Options) (bytes : List ℕ) (l : LexemeKind) (i : ℕ) 
   of_array : l ≢ punctuation (closing Array) → ItemIsDue o bytes Array l i → ValueIsDue o bytes l i
   of_property : {a b : ℕ} → Between bytes (SomeName o) a b → Between bytes (Colon o) b i → ValueIsDue o bytes l i
 
--- the fault of this kind is told of the bytes from i to j; of a container from where it begins, or else of what shows it alone
+-- a fault of this kind is told of the bytes from i to j; whole: what is wrong with a container is told from where it begins, and else of its end or its bracket alone
 pub data Told (o : Options) (bytes : List ℕ) (whole : Bool) : ParseErrorKind → ℕ → ℕ → Type 0 where
   -- a lexeme that is refused
   no_lexeme : {kind : ParseErrorKind} {place i j : ℕ} → IsCharBoundary bytes place → TellsOfLexeme o kind (rest bytes place) (rest bytes i) (rest bytes j) → Told o bytes whole kind i j
@@ -71,7 +71,7 @@ pub data Told (o : Options) (bytes : List ℕ) (whole : Bool) : ParseErrorKind �
   loose_name : (l : LexemeKind) {i j : ℕ} → o.loose_names ≡ false → ItemIsDue o bytes Object l i → IsTrue (may_name l) → Between bytes (Lexeme o l) i j → Told o bytes whole ExpectedStringObjectProperty i j
   -- punctuation that does not close the object
   no_name : {c i j : ℕ} → ItemIsDue o bytes Object (punctuation c) i → c ≢ closing Object → Between bytes (Lexeme o (punctuation c)) i j → Told o bytes whole UnexpectedTokenInObject i j
-  -- where an item ends, and past a gap another one begins
+  -- told where an item ends; past a gap another one begins
   no_comma : (k : Container) {a i b c : ℕ} → o.missing_commas ≡ false → Between bytes (Item o k) a i → Between bytes (Gap o) i b → Between bytes (LexemeThat o (λ l. begins k (lexeme l))) b c → Told o bytes whole ExpectedComma i i
   trailing_comma : (k : Container) {a b i j c : ℕ} → o.trailing_commas ≡ false → Between bytes (Item o k) a b → Between bytes (Gap o) b i → Between bytes (One 0x2C) i j → Between bytes (Ends o (closing k)) j c → Told o bytes whole TrailingCommasNotAllowed i j
   second_value : {a b i j : ℕ} → Between bytes (Gap o) 0 a → Between bytes (Item o Array) a b → Between bytes (Gap o) b i → Between bytes (LexemeThat o (λ l. true)) i j → Told o bytes whole MultipleRootJsonValues i j
@@ -79,7 +79,7 @@ pub data Told (o : Options) (bytes : List ℕ) (whole : Bool) : ParseErrorKind �
   unexpected : (l : LexemeKind) {i j : ℕ} → ValueIsDue o bytes l i → begins_value (lexeme l) ≡ false → Between bytes (Lexeme o l) i j → Told o bytes whole (unexpected_kind (lexeme l)) i j
   -- a bracket at a, from which no value stands
   unterminated : (k : Container) {a b : ℕ} → Between bytes (One (opening k)) a b → ((v : Plain) (r : List ℕ) → IsValue o (rest bytes a) v r → ⊥) → Told o bytes whole (unterminated_kind k) (cond whole a (length bytes)) (length bytes)
-  -- from the innermost bracket or name through the token in it that is one too many, or the end
+  -- from a bracket or a name through the token in it that is one too many, or the end
   deep_element : (l : LexemeKind) {i a b j : ℕ} → IsTrue whole → Between bytes (One (opening Array)) i a → a ≤ b → ItemIsDue o bytes Array l b → Between bytes (Lexeme o l) b j → Told o bytes whole NestingDepthExceeded i j
   deep_property : {i a b j : ℕ} → IsTrue whole → Between bytes (SomeName o) i a → Between bytes (Colon o) a b → Between bytes (LexemeThat o (λ l. true)) b j ⊎ IsEnd bytes b j → Told o bytes whole NestingDepthExceeded i j
   -- or the bracket that is
@@ -154,10 +154,10 @@ module _ {A : Type 0} where
   abbrev pub ClosesNone : Container → Token A → Type 0
   ClosesNone k t = (l : LexemeKind) × (scanned_of t ≡ lexeme l) × (l ≢ punctuation (closing k))
 
-  -- between an item, the last token before, and the token now stands a comma; or none does, and the token is none
+  -- between the end of an item and the token stands a comma and gaps; or a gap alone, and the token is no comma
   abbrev pub Comes : Context A → Context A → Token A → Type 0
   Comes old new t = Between (text_in old) (AfterComma (options_in old)) (token_end old) (token_start new) ⊎ Between (text_in old) (Gap (options_in old)) (token_end old) (token_start new) × (scanned_of t ≢ lexeme (punctuation 0x2C))
 
-  -- it opens no container
+  -- the token opens no container
   abbrev pub OpensNone : Token A → Type 0
   OpensNone t = (scanned_of t ≢ lexeme (punctuation 0x5B)) × (scanned_of t ≢ lexeme (punctuation 0x7B))
