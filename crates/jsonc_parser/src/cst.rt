@@ -1,11 +1,12 @@
 //! The document: the tree of a text, in which every byte of it stands.
-ghost use Rattle.std.specs.Prelude.{◌≡◌, IfErr, IfOk, Option, Some, chars, string_bytes};
+ghost use Rattle.std.specs.Prelude.{◌≡◌, IfErr, IfOk, Option, Some, true, chars, string_bytes};
 ghost use Rattle.jsonc_text.specs.Faults.{IsFault};
 ghost use Rattle.jsonc_text.specs.Grammar.{IsDocument};
 ghost use Rattle.jsonc_text.specs.OptionsOf.{parse_options};
 ghost use Rattle.jsonc_text.specs.Plain.{Plain};
 ghost use Rattle.jsonc_tree.specs.Values.{DocumentValueOf};
 ghost use Rattle.jsonc_to_ast.specs.Refusals.{RefusesText};
+ghost use Rattle.jsonc_to_ast.specs.Told.{IsTold};
 ghost use Rattle.jsonc_layout.specs.Lines.{DocumentLinesEnd};
 ghost use Rattle.jsonc_layout.specs.Shape.{DocumentShaped};
 ghost use Rattle.jsonc_parser.specs.Document.{edit_error_text, printed_of, tree_of};
@@ -70,6 +71,7 @@ impl<A: Allocator + Copy> CstRootNode<A> {
         ensures value { IfOk result (λ d. (w : Option Plain) × IsDocument (parse_options options.now) (chars text.now) w × DocumentValueOf (parse_options options.now) (tree_of d) w) }
         ensures refused { IfErr result (RefusesText (parse_options options.now) text.now) }
         ensures fault { IfErr result (IsFault text.now) }
+        ensures told { IfErr result (IsTold (parse_options options.now) text.now true) }
     {
         let collect = CollectOptions::default();
         let parsed = parse_to_ast(alloc, text, &collect, options)?;

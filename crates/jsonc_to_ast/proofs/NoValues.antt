@@ -17,7 +17,6 @@ use Rattle.jsonc_text.proofs.UniqueLexemes.{lexeme_unique}
 use Rattle.jsonc_text.proofs.UniqueValues.{gap_after, not_gap, no_literal, value_begins, elements_begin, properties_begin, value_unique}
 use Rattle.jsonc_to_ast.specs.declared.container.Container.TheVariants.{Array, Object}
 use Rattle.jsonc_to_ast.specs.declared.context.Context.{Context}
-use Rattle.jsonc_to_ast.specs.Collected.{Collects}
 use Rattle.jsonc_to_ast.specs.Context.{text_in, options_in, token_start, token_end, Keeps, Finds, IsToken, IsNoComment, IsBracket, IsNameHere, PassesColon}
 use Rattle.jsonc_ast.specs.Located.{Located, LocatedName, leaf_at, range_at, value_at}
 use Rattle.jsonc_to_ast.specs.Reads.{Reads, ReadsMember}
@@ -27,8 +26,6 @@ use Rattle.jsonc_ast.specs.Views.{LocatedMember}
 use Rattle.jsonc_to_ast.proofs.Grammar.{located_value, is_property}
 use Rattle.jsonc_to_ast.proofs.Refusals.{mark_same, one_token, only_there, only_here, nothing_at_end, no_lexeme_at_end, lexeme_there}
 use Rattle.jsonc_to_ast.proofs.Scans.{moved, kept_on}
-use Rattle.jsonc_to_ast.proofs.Loops.{Elements}
-use Rattle.jsonc_to_ast.proofs.Properties.{Properties}
 
 -- what an item begins with
 may_first : (c : ℕ) → IsTrue (begins_item c) → IsTrue (may_begin_item c)
@@ -141,7 +138,7 @@ module _ (o : Options) where
   deep_property : (t : List ℕ) (count : ℕ) → 512 < count + 1 → NoProperty o t count
   deep_property t count l name v r h small = omega arith
 
-map_none : {X Y : Type 0} (f : X → Y) (q : Option X) → option_map f q ≡ None → q ≡ None
+pub map_none : {X Y : Type 0} (f : X → Y) (q : Option X) → option_map f q ≡ None → q ≡ None
 map_none f None e = refl
 map_none f (Some x) e = cc
 
@@ -195,13 +192,13 @@ module _ {A : Type 0} where
       leaf_refused (options_in c) (here c) count n (λ u e. bracket_token t a (one_token c t at (punctuation 0x5B) u (refl, e))) (λ u e. brace_token t b (one_token c t at (punctuation 0x7B) u (refl, e)))
 
   -- a value that was read, and a property
-  value_read : (now mid : Context A) (x : Located) → Reads now mid x → IsValue (options_in now) (here now) (value_at x) (rest (text_in now) (token_end mid))
+  pub value_read : (now mid : Context A) (x : Located) → Reads now mid x → IsValue (options_in now) (here now) (value_at x) (rest (text_in now) (token_end mid))
   value_read now mid x read =
       let o = options_in now in
       let b = text_in now in
       subst (λ i. IsValue o (rest b i) (value_at x) (rest b (token_end mid))) read.starts (subst (λ j. IsValue o (rest b (range_at x).start) (value_at x) (rest b j)) read.ends (located_value o b x read.value))
 
-  property_read : (now mid : Context A) (m : LocatedMember) → ReadsMember now mid m → IsProperty (options_in now) (here now) m.name.name (value_at m.value) (rest (text_in now) (token_end mid))
+  pub property_read : (now mid : Context A) (m : LocatedMember) → ReadsMember now mid m → IsProperty (options_in now) (here now) m.name.name (value_at m.value) (rest (text_in now) (token_end mid))
   property_read now mid m read =
       let o = options_in now in
       let b = text_in now in
@@ -362,15 +359,3 @@ module _ {A : Type 0} where
   pub document_from_start : (c : Context A) (o : Options) (bytes : List ℕ) → token_end c ≡ 0 → text_in c ≡ bytes → options_in c ≡ o → NoDocument (options_in c) (after c) → NoDocument o (chars bytes)
   document_from_start c o bytes start t e n =
       subst (λ p. NoDocument p (chars bytes)) e (subst (λ b. NoDocument (options_in c) (chars b)) t (subst (λ i. NoDocument (options_in c) (rest (text_in c) i)) start n))
-
-  -- an array's elements so far, and what is left of it
-  pub record ElementsGoOn (old now : Context A) (next : Option (Token A)) (xs : List Located) (count : ℕ) : Type 0 where
-    pub so_far : Elements old now next xs count
-    pub left : ElementsLeft old now next count
-    pub collects : Collects old now
-
-  -- an object's properties
-  pub record PropertiesGoOn (old now : Context A) (next : Option (Token A)) (xs : List LocatedMember) (count : ℕ) : Type 0 where
-    pub so_far : Properties old now next xs count
-    pub left : PropertiesLeft old now next count
-    pub collects : Collects old now

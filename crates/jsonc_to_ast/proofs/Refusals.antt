@@ -4,11 +4,11 @@ use Rattle.std.proofs.lemmas.Str.{IsUtf8-from_is_utf8}
 use Rattle.jsonc_text.specs.declared.errors.ParseError.{ParseError}
 use Rattle.jsonc_text.specs.declared.errors.ParseErrorKind.{ParseErrorKind}
 use Rattle.jsonc_text.specs.declared.errors.ParseErrorKind.TheVariants as kind
-use Rattle.jsonc_text.specs.declared.errors.ParseErrorKind.TheVariants.{OutOfMemory}
+use Rattle.jsonc_text.specs.declared.errors.ParseErrorKind.TheVariants.{OutOfMemory, CommentsNotAllowed}
 use Rattle.jsonc_text.specs.declared.tokens.Token.{Token}
 use Rattle.jsonc_text.specs.declared.tokens.Token.TheVariants as token
 use Rattle.jsonc_text.specs.Options.{Options}
-use Rattle.jsonc_text.specs.Faults.{kind_of}
+use Rattle.jsonc_text.specs.Faults.{kind_of, range_of}
 use Rattle.jsonc_text.specs.Text.{rest, next, no, starts}
 use Rattle.jsonc_text.specs.Gaps.{Gap, none, blank, comment, is_blank, IsComment, line, block}
 use Rattle.jsonc_text.specs.Grammar.{Separates, comma, no_comma, Closes, plain, trailing_comma, may_name}
@@ -24,7 +24,7 @@ use Rattle.jsonc_text.proofs.UniqueGaps.{begins_gap, gap_unique, comment_unique,
 use Rattle.jsonc_text.proofs.UniqueLexemes.{scanned_unique}
 use Rattle.jsonc_scan.specs.Reads.{NothingAt}
 use Rattle.jsonc_scan.specs.declared.scanner.Scanner.{Scanner}
-use Rattle.jsonc_scan.specs.Scanner.{text_of, start_of, options_of, PassesBlanks, StandsAt, NothingStands, GoesOn}
+use Rattle.jsonc_scan.specs.Scanner.{text_of, start_of, end_of, options_of, PassesBlanks, StandsAt, NothingStands, GoesOn}
 use Rattle.jsonc_to_ast.specs.declared.container.Container.{Container}
 use Rattle.jsonc_to_ast.specs.declared.container.Container.TheVariants.{Array, Object}
 use Rattle.jsonc_to_ast.specs.declared.context.Context.{Context}
@@ -42,7 +42,7 @@ still f (inl s) = inl s
 still f (inr x) = inr (f x)
 
 -- a fault is want of memory, or it is not
-memory_or_not : (k : ParseErrorKind) → (k ≡ OutOfMemory) ⊎ (k ≢ OutOfMemory)
+pub memory_or_not : (k : ParseErrorKind) → (k ≡ OutOfMemory) ⊎ (k ≢ OutOfMemory)
 memory_or_not kind.OutOfMemory = inl refl
 memory_or_not kind.BareDecimalPointNumbersNotAllowed = inr (λ e. cc)
 memory_or_not kind.CommentsNotAllowed = inr (λ e. cc)
@@ -142,12 +142,12 @@ nothing_after o n end b none (inr (k, r, l)) = n (lexeme k) r l
 nothing_after o n end b (blank {c} e g) at = clash (is_blank c) b e
 nothing_after o n end b (comment {u = u} a k g) at = comment_scanned o k (λ w x. n w u x)
 
-lexeme_at : (o : Options) (w : Scanned) (t r : List ℕ) → is_comment w ≡ false → IsScanned o w t r → AtLexeme o t
+pub lexeme_at : (o : Options) (w : Scanned) (t r : List ℕ) → is_comment w ≡ false → IsScanned o w t r → AtLexeme o t
 lexeme_at o (lexeme k) t r e h = (k, r, h)
 lexeme_at o (line_comment s) t r e h = cc
 lexeme_at o (block_comment s) t r e h = cc
 
-comment_at : (o : Options) (w : Scanned) (t r : List ℕ) → is_comment w ≡ true → IsScanned o w t r → IsComment t r
+pub comment_at : (o : Options) (w : Scanned) (t r : List ℕ) → is_comment w ≡ true → IsScanned o w t r → IsComment t r
 comment_at o (lexeme k) t r e h = cc
 comment_at o (line_comment s) t r e h = inl h.0
 comment_at o (block_comment s) t r e h = inr h.0
@@ -193,14 +193,14 @@ module _ {A : Type 0} where
 
   -- a comment that is not allowed
   pub comment_refused : (start now : Context A) (s : Scanner A) (f : Option (Token A)) (t : Token A) (e : ParseError) → f ≡ Some t → Passing start now → PassesBlanks now.scanner s → StandsAt s f
-      → is_comment (scanned_of t) ≡ true → (kind_of e ≡ OutOfMemory) ⊎ ((options_of s).comments ≡ false) → WantsMemory e ⊎ NoTokenAfter start
+      → is_comment (scanned_of t) ≡ true → (kind_of e ≡ OutOfMemory) ⊎ (((options_of s).comments ≡ false) × (kind_of e ≡ CommentsNotAllowed) × (range_of e ≡ record { start = start_of s; end = end_of s })) → WantsMemory e ⊎ NoTokenAfter start
   comment_refused start now s f t e is h blanks at found (inl m) = inl m
   comment_refused start now s f t e is h blanks at found (inr n) =
       let o = options_in start in
       let same = blanks.options ∙ h.kept.options in
       let one = stands (text_in start) o s t (blanks.text ∙ h.kept.text) same (subst (StandsAt s) is at) in
       let here = comment_at o (scanned_of t) _ _ found one.stands in
-      inr (λ u g a. no_gap_past_comment o here (ap (λ p. p.comments) (sym same) ∙ n) (gap_past (gap_to start now s h blanks) g (token_no_gap o u a)) a)
+      inr (λ u g a. no_gap_past_comment o here (ap (λ p. p.comments) (sym same) ∙ n.0) (gap_past (gap_to start now s h blanks) g (token_no_gap o u a)) a)
 
 -- the error that a `?` hands on
 pub err_of : {X E : Type 0} (P : E → Type 0) (e : E) (r : Result X E) → IsErrAnd r (λ y. y ≡ e) → P e → IfErr r P
@@ -301,7 +301,7 @@ module _ {A : Type 0} where
         no_lexeme_at_end (options_in old) u (only_there u g (inr i) ∙ none) i
 
     module _ (t : Token A) (is : f ≡ Some t) where
-      token_stands : IsScanned (options_in old) (scanned_of t) (rest (text_in old) (token_start new)) (rest (text_in old) (token_end new))
+      pub token_stands : IsScanned (options_in old) (scanned_of t) (rest (text_in old) (token_start new)) (rest (text_in old) (token_end new))
       token_stands = (stands (text_in old) (options_in old) new.scanner t kept.text kept.options (subst (StandsAt new.scanner) is found.1)).stands
 
       pub lexeme_there : AtLexeme (options_in old) (rest (text_in old) (token_start new))

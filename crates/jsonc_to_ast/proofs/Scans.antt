@@ -79,7 +79,7 @@ module _ {A : Type 0} where
       change (One c) (λ t r k. k.1) (subst (λ w. Between bytes (IsScanned o w) (start_of s) (end_of s)) is (stands bytes o s t e f at))
 
   module _ (old new : Context A) (f : Option (Token A)) (t : Token A) (c : ℕ) (kept : Keeps old new) (found : Finds (Gap (options_in old)) old new f) (is : f ≡ Some t) where
-    at_token : IsToken new t
+    pub at_token : IsToken new t
     at_token = subst (StandsAt new.scanner) is found.1
 
     -- a gap, and punctuation

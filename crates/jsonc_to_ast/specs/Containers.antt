@@ -7,6 +7,11 @@ use Rattle.jsonc_to_ast.specs.Scanned.{begins_value, begins_name, unexpected_kin
 use Rattle.jsonc_text.specs.declared.errors.ParseErrorKind.{ParseErrorKind}
 use Rattle.jsonc_text.specs.declared.errors.ParseErrorKind.TheVariants as kind
 
+-- the bracket that opens it
+abbrev pub opening : Container → ℕ
+opening Array = 0x5B
+opening Object = 0x7B
+
 -- the bracket that closes it
 abbrev pub closing : Container → ℕ
 closing Array = 0x5D

@@ -6,3 +6,4 @@ pub mod Reads
 pub mod Comments
 pub mod Refusals
 pub mod Collected
+pub mod Told

@@ -1,10 +1,10 @@
 -- What a refusal of a parser says of the text.
 use Rattle.std.specs.Prelude.{ℕ, ◌+◌, ◌≤◌, ◌≡◌, Bool, false, not, ◌||◌, ◌==◌, List, [], Option, Some, None, IfSome, IsTrue, ◌⊎◌, chars}
 use Rattle.jsonc_text.specs.declared.errors.ParseError.{ParseError}
-use Rattle.jsonc_text.specs.declared.errors.ParseErrorKind.TheVariants.{OutOfMemory}
+use Rattle.jsonc_text.specs.declared.errors.ParseErrorKind.TheVariants.{OutOfMemory, CommentsNotAllowed}
 use Rattle.jsonc_text.specs.declared.tokens.Token.{Token}
 use Rattle.jsonc_text.specs.Options.{Options}
-use Rattle.jsonc_text.specs.Faults.{kind_of}
+use Rattle.jsonc_text.specs.Faults.{kind_of, range_of}
 use Rattle.jsonc_text.specs.Text.{rest, next, starts}
 use Rattle.jsonc_text.specs.Gaps.{Gap}
 use Rattle.jsonc_text.specs.Lexemes.{LexemeKind, Lexeme}
@@ -14,7 +14,7 @@ use Rattle.jsonc_ast.specs.Located.{Ends, TrailingComma}
 use Rattle.jsonc_to_ast.specs.declared.container.Container.{Container}
 use Rattle.jsonc_to_ast.specs.declared.context.Context.{Context}
 use Rattle.jsonc_to_ast.specs.Containers.{closing}
-use Rattle.jsonc_to_ast.specs.Context.{text_in, options_in, token_start, token_end}
+use Rattle.jsonc_to_ast.specs.Context.{text_in, options_in, token_start, token_end, token_range}
 
 -- memory was wanting
 abbrev pub WantsMemory : ParseError → Type 0
@@ -85,9 +85,9 @@ module _ {A : Type 0} where
   abbrev pub WhereSome : Type 0 → Option (Token A) → Type 0
   WhereSome fact found = IfSome found (λ t. fact)
 
-  -- memory was wanting, or comments are not allowed
+  -- memory was wanting, or comments are not allowed, and that is told of the last token
   abbrev pub RefusesComment : Context A → ParseError → Type 0
-  RefusesComment c e = WantsMemory e ⊎ ((options_in c).comments ≡ false)
+  RefusesComment c e = WantsMemory e ⊎ (((options_in c).comments ≡ false) × (kind_of e ≡ CommentsNotAllowed) × (range_of e ≡ token_range c))
 
   -- no gap leads to a token
   abbrev pub NoTokenAfter : Context A → Type 0

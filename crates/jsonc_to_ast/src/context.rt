@@ -31,8 +31,8 @@ pub struct Context<'a, A: Allocator> {
 }
 
 impl<'a, A: Allocator + Copy> Context<'a, A> {
-    ghost use Rattle.std.specs.Prelude.{◌≡◌, ◌≢◌, ◌≤◌, ◌<◌, [], false, is_some, IfOk, IfErr, IfSome, OnOk, IsTrue};
-    ghost use Rattle.jsonc_to_ast.specs.Refusals.{Tells, WhereSome, RefusesComment, NoTokenAfter, NothingFirst, NothingAfterComma, NothingNext, OnlyFirst, OnlyAfterComma, OnlyNext, NoColon, NoName};
+    ghost use Rattle.std.specs.Prelude.{◌≡◌, ◌≢◌, ◌≤◌, ◌<◌, ◌⊎◌, [], true, false, is_some, IfOk, IfErr, IfSome, OnOk, IsTrue};
+    ghost use Rattle.jsonc_to_ast.specs.Refusals.{Tells, WantsMemory, WhereSome, RefusesComment, NoTokenAfter, NothingFirst, NothingAfterComma, NothingNext, OnlyFirst, OnlyAfterComma, OnlyNext, NoColon, NoName};
     ghost use Rattle.jsonc_text.specs.Faults.{IsFault, IsOutOfMemory, range_of, kind_of};
     ghost use Rattle.jsonc_text.specs.Gaps.{Gap};
     ghost use Rattle.jsonc_text.specs.Places.{is_comment as is_a_comment};
@@ -40,6 +40,9 @@ impl<'a, A: Allocator + Copy> Context<'a, A> {
     ghost use Rattle.jsonc_text.specs.Tokens.{scanned_of};
     ghost use Rattle.jsonc_to_ast.specs.Context.{text_in, options_in, token_end, token_range, tokens_asked, comments_asked, Keeps, Finds, LeadsToFirst, LeadsAfterComma, LeadsToNext, PassesColon, IsToken, IsNameHere, IsNoComment};
     ghost use Rattle.jsonc_ast.specs.Views.{name_at};
+    ghost use Rattle.jsonc_to_ast.specs.Containers.{misplaced_kind, begins};
+    ghost use Rattle.jsonc_to_ast.specs.Told.{IsFaultOf, AtEnd, IsOpen, IsToldAnyhow, IsToldOrOpen, ClosesNone, Comes, EndsItem, EndsName, IsCommaAfter, ItemIsDueHere};
+    ghost use Rattle.jsonc_to_ast.specs.declared.container.Container.TheVariants.{Object};
     ghost use Rattle.jsonc_to_ast.specs.Collected.{takes_comments, is_separate, collected, CollectsLast, CollectsComment, OmitsComment, HasNoted, NotesComment, NotesLexeme, ShowsNoted, Collects};
 
     /// A parser at the start of a text.
@@ -123,7 +126,8 @@ impl<'a, A: Allocator + Copy> Context<'a, A> {
     /// began, or else of the end.
     fn unterminated(&self, container: Container, start: Option<usize>) -> ParseError
         requires { IfSome start (λ i. Spans (text_in self.now) i (token_end self.now)) }
-        ensures { IsFault (text_in self.now) result }
+        ensures fault { IsFault (text_in self.now) result }
+        ensures told { AtEnd self.now → IsOpen container (text_in self.now) start result }
     {
         match start {
             Some(start) => self.fault_from(start, container.unterminated()),
@@ -147,6 +151,8 @@ impl<'a, A: Allocator + Copy> Context<'a, A> {
         ensures within { OnOk result (around ≤ 512) }
         ensures refused { IfErr result (λ _. 512 < around) }
         ensures fault { IfErr result (IsFault (text_in self.now)) }
+        ensures kind { IfErr result (λ e. kind_of e ≡ ParseErrorKind.NestingDepthExceeded) }
+        ensures range { IfErr result (λ e. range_of e ≡ record { start = start; end = token_end self.now }) }
     {
         if around > MAXIMUM_NESTING {
             return Err(self.fault_from(start, ParseErrorKind::NestingDepthExceeded));
@@ -283,6 +289,7 @@ impl<'a, A: Allocator + Copy> Context<'a, A> {
         ensures collects { OnOk result (Collects self.old self.new) }
         ensures refused { IfErr result (Tells (NoTokenAfter self.old)) }
         ensures fault { IfErr result (IsFault (text_in self.old)) }
+        ensures told { IfErr result (IsToldAnyhow self.old) }
     {
         loop {
             let Some(token) = self.scanner.scan()? else {
@@ -318,6 +325,8 @@ impl<'a, A: Allocator + Copy> Context<'a, A> {
         ensures collects { OnOk result (Collects self.old self.new) }
         ensures refused { IfErr result (Tells (NothingFirst container self.old)) }
         ensures fault { IfErr result (IsFault (text_in self.old)) }
+        ensures told { IfErr result (IsToldOrOpen container start self.old) }
+        ensures stands { IfOk result (λ f. IfSome f (ClosesNone container)) }
     {
         let Some(first) = self.scan()? else {
             return Err(self.unterminated(container, start));
@@ -342,6 +351,8 @@ impl<'a, A: Allocator + Copy> Context<'a, A> {
         ensures collects { OnOk result (Collects self.old self.new) }
         ensures refused { IfErr result (Tells (NothingAfterComma container self.old)) }
         ensures fault { IfErr result (IsFault (text_in self.old)) }
+        ensures told { IfErr result (λ e. IsCommaAfter container self.old → IsToldOrOpen container start self.old e) }
+        ensures stands { IfOk result (λ f. IfSome f (ClosesNone container)) }
     {
         let comma = self.range();
         let Some(token) = self.scan()? else {
@@ -360,7 +371,9 @@ impl<'a, A: Allocator + Copy> Context<'a, A> {
     #[cold]
     fn missing_comma(&self, container: Container, token: &Token<'a, A>, end: usize) -> ParseError
         requires { Spans (text_in self.now) end (token_end self.now) }
-        ensures { IsFault (text_in self.now) result }
+        ensures fault { IsFault (text_in self.now) result }
+        ensures comma { IsTrue (begins container (scanned_of token.now)) → IsFaultOf ParseErrorKind.ExpectedComma (record { start = end; end = end }) result }
+        ensures misplaced { begins container (scanned_of token.now) ≡ false → IsFaultOf (misplaced_kind container (scanned_of token.now)) (token_range self.now) result }
     {
         if container.begins_with(token) {
             return self.fault(Range::from_byte_index(end), ParseErrorKind::ExpectedComma);
@@ -383,6 +396,9 @@ impl<'a, A: Allocator + Copy> Context<'a, A> {
         ensures collects { OnOk result (Collects self.old self.new) }
         ensures refused { IfErr result (Tells (NothingNext container self.old)) }
         ensures fault { IfErr result (IsFault (text_in self.old)) }
+        ensures told { IfErr result (λ e. EndsItem container self.old → IsToldOrOpen container start self.old e) }
+        ensures stands { IfOk result (λ f. IfSome f (ClosesNone container)) }
+        ensures comes { IfOk result (λ f. IfSome f (Comes self.old self.new)) }
     {
         let end = self.scanner.token_end();
         let Some(token) = self.scan()? else {
@@ -407,6 +423,7 @@ impl<'a, A: Allocator + Copy> Context<'a, A> {
         ensures range { IfOk result (λ n. (name_at n).range ≡ token_range self.now) }
         ensures refused { IfErr result (λ _. NoName self.now) }
         ensures fault { IfErr result (IsFault (text_in self.now)) }
+        ensures told { IfErr result (λ e. ItemIsDueHere Object self.now token.entry → IsToldAnyhow self.now e) }
     {
         let range = self.range();
         match token {
@@ -431,6 +448,7 @@ impl<'a, A: Allocator + Copy> Context<'a, A> {
         ensures collects { OnOk result (Collects self.old self.new) }
         ensures refused { IfErr result (Tells (NoColon self.old)) }
         ensures fault { IfErr result (IsFault (text_in self.old)) }
+        ensures told { IfErr result (λ e. EndsName self.old → IsToldAnyhow self.old e) }
     {
         let Some(token) = self.scan()? else {
             return Err(self.fault_here(ParseErrorKind::ExpectedColonAfterObjectKey));

@@ -1,5 +1,5 @@
 //! Values read by recursive descent.
-ghost use Rattle.std.specs.Prelude.{◌≡◌, ◌+◌, ◌≤◌, IfOk, IfErr, OnOk, IfSome, option_map, is_some, chars};
+ghost use Rattle.std.specs.Prelude.{◌≡◌, ◌+◌, ◌≤◌, IfOk, IfErr, OnOk, IfSome, true, option_map, is_some, chars};
 ghost use Rattle.jsonc_text.specs.Faults.{IsFault};
 ghost use Rattle.jsonc_text.specs.Grammar.{IsDocument};
 ghost use Rattle.jsonc_text.specs.OptionsOf.{parse_options};
@@ -11,6 +11,8 @@ ghost use Rattle.jsonc_ast.specs.Located.{leaf_at, range_at, value_at, IsLocated
 ghost use Rattle.jsonc_to_ast.specs.Reads.{Reads, ReadsMember};
 ghost use Rattle.jsonc_to_ast.specs.Refusals.{NoLiteral, NoPropertyHere, NoValueHere, RefusesText, Tells};
 ghost use Rattle.jsonc_to_ast.specs.Scanned.{leaf_value};
+ghost use Rattle.jsonc_to_ast.specs.Told.{IsTold, IsToldIn, IsToldAnyhow, ItemIsDueHere, ValueIsDueHere, OpensNone};
+ghost use Rattle.jsonc_to_ast.specs.declared.container.Container.TheVariants.{Object};
 ghost use Rattle.jsonc_ast.specs.Views.{located, member_of, plain};
 ghost use Rattle.jsonc_to_ast.specs.Results.{located_in, plain_in};
 
@@ -52,6 +54,7 @@ fn parse_leaf<'a, A: Allocator + Copy>(
     ensures within { IfOk result (λ v. around (plain v) ≡ 0) }
     ensures refused { IfErr result (λ _. NoLiteral context.now) }
     ensures fault { IfErr result (IsFault (text_in context.now)) }
+    ensures told { IfErr result (λ e. OpensNone token.entry → ValueIsDueHere context.now token.entry → IsToldAnyhow context.now e) }
 {
     let kind = unexpected(&token);
     let Some(value) = leaf(token, context.range()) else {
@@ -76,6 +79,7 @@ fn parse_value<'a, A: Allocator + Copy>(
     ensures within { IfOk result (λ v. around (plain v) + count ≤ 512) }
     ensures refused { IfErr result (Tells (NoValueHere context.old count)) }
     ensures fault { IfErr result (IsFault (text_in context.old)) }
+    ensures told { IfErr result (λ e. ValueIsDueHere context.old token.entry → IsToldIn context.old true e) }
 {
     match token {
         Token::OpenBracket => parse_array(context, count),
@@ -99,6 +103,7 @@ fn parse_array<'a, A: Allocator + Copy>(
     ensures within { IfOk result (λ v. around (plain v) + count ≤ 512) }
     ensures refused { IfErr result (Tells (NoValueHere context.old count)) }
     ensures fault { IfErr result (IsFault (text_in context.old)) }
+    ensures told { IfErr result (IsToldIn context.old true) }
 {
     let start = context.scanner.token_start();
     let mut elements = Vec::new(context.alloc);
@@ -129,6 +134,7 @@ fn parse_object<'a, A: Allocator + Copy>(
     ensures within { IfOk result (λ v. around (plain v) + count ≤ 512) }
     ensures refused { IfErr result (Tells (NoValueHere context.old count)) }
     ensures fault { IfErr result (IsFault (text_in context.old)) }
+    ensures told { IfErr result (IsToldIn context.old true) }
 {
     let start = context.scanner.token_start();
     let mut properties = Vec::new(context.alloc);
@@ -159,6 +165,7 @@ fn parse_property<'a, A: Allocator + Copy>(
     ensures within { IfOk result (λ p. around (value_at (member_of p).value) + (count + 1) ≤ 512) }
     ensures refused { IfErr result (Tells (NoPropertyHere context.old count)) }
     ensures fault { IfErr result (IsFault (text_in context.old)) }
+    ensures told { IfErr result (λ e. ItemIsDueHere Object context.old token.entry → IsToldIn context.old true e) }
 {
     let start = context.scanner.token_start();
     let name = context.name(token)?;
@@ -192,6 +199,7 @@ pub fn parse_to_ast<'a, A: Allocator + Copy>(
     ensures apart { IfOk result (λ r. is_some r.comments ≡ is_separate collect.now.comments) }
     ensures comments { IfOk result (HoldsComments (parse_options options.now) text.now) }
     ensures fault { IfErr result (IsFault text.now) }
+    ensures told { IfErr result (IsTold (parse_options options.now) text.now true) }
 {
     let mut context = Context::new(alloc, text, collect, options);
     let Some(token) = context.scan()? else {

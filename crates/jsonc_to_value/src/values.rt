@@ -1,14 +1,16 @@
 //! Values read by recursive descent.
-ghost use Rattle.std.specs.Prelude.{◌≡◌, ◌+◌, ◌<◌, ◌≤◌, IfOk, IfErr, OnOk, option_map, chars};
+ghost use Rattle.std.specs.Prelude.{◌≡◌, ◌+◌, ◌<◌, ◌≤◌, IfOk, IfErr, OnOk, false, option_map, chars};
 ghost use Rattle.std.specs.Str.{IsUtf8};
 ghost use Rattle.std.specs.Cow.{cow_str_bytes};
-ghost use Rattle.jsonc_text.specs.Faults.{IsFault};
+ghost use Rattle.jsonc_text.specs.Faults.{IsFault, kind_of, range_of};
 ghost use Rattle.jsonc_text.specs.OptionsOf.{parse_options};
 ghost use Rattle.jsonc_text.specs.Plain.{array, object};
 ghost use Rattle.jsonc_text.specs.Tokens.{scanned_of};
-ghost use Rattle.jsonc_to_ast.specs.Context.{text_in, Keeps, IsToken, IsBracket};
+ghost use Rattle.jsonc_to_ast.specs.Context.{text_in, token_range, Keeps, IsToken, IsBracket};
 ghost use Rattle.jsonc_to_ast.specs.Refusals.{NoLiteral, Tells};
 ghost use Rattle.jsonc_to_ast.specs.Scanned.{leaf_value};
+ghost use Rattle.jsonc_to_ast.specs.Told.{IsTold, IsToldIn, IsToldAnyhow, ItemIsDueHere, ValueIsDueHere, OpensValue, OpensNone};
+ghost use Rattle.jsonc_to_ast.specs.declared.container.Container.TheVariants.{Object};
 ghost use Rattle.jsonc_ast.specs.Views.{name_at, Grown};
 ghost use Rattle.jsonc_to_value.specs.Reads.{Reads, ReadsProperty, IsValueOf};
 ghost use Rattle.jsonc_to_value.specs.Refusals.{NoValueHere, NoPropertyHere, RefusesText};
@@ -47,6 +49,7 @@ fn parse_leaf<'a, A: Allocator + Copy>(
     ensures found { IfOk result (Reads context.now context.now 512) }
     ensures refused { IfErr result (λ _. NoLiteral context.now) }
     ensures fault { IfErr result (IsFault (text_in context.now)) }
+    ensures told { IfErr result (λ e. OpensNone token.entry → ValueIsDueHere context.now token.entry → IsToldAnyhow context.now e) }
 {
     let kind = unexpected(&token);
     let Some(value) = leaf(token) else {
@@ -135,6 +138,8 @@ fn check_depth<'a, A: Allocator + Copy>(
     ensures within { OnOk result (count + 1 ≤ 512) }
     ensures refused { IfErr result (λ _. 512 < count + 1) }
     ensures fault { IfErr result (IsFault (text_in context.now)) }
+    ensures kind { IfErr result (λ e. kind_of e ≡ ParseErrorKind.NestingDepthExceeded) }
+    ensures range { IfErr result (λ e. range_of e ≡ token_range context.now) }
 {
     context.check_nesting(context.scanner.token_start(), count + 1)
 }
@@ -152,6 +157,7 @@ fn parse_value<'a, A: Allocator + Copy>(
     ensures found { IfOk result (Reads context.old context.new count) }
     ensures refused { IfErr result (Tells (NoValueHere context.old count)) }
     ensures fault { IfErr result (IsFault (text_in context.old)) }
+    ensures told { IfErr result (λ e. ValueIsDueHere context.old token.entry → IsToldIn context.old false e) }
 {
     match token {
         Token::OpenBracket => parse_array(context, count),
@@ -172,6 +178,7 @@ fn parse_array<'a, A: Allocator + Copy>(
     ensures found { IfOk result (Reads context.old context.new count) }
     ensures refused { IfErr result (Tells (NoValueHere context.old count)) }
     ensures fault { IfErr result (IsFault (text_in context.old)) }
+    ensures told { IfErr result (λ e. OpensValue 0x5B context.old → IsToldIn context.old false e) }
 {
     check_depth(context, count)?;
     let mut elements = Vec::new(context.alloc);
@@ -198,6 +205,7 @@ fn parse_object<'a, A: Allocator + Copy>(
     ensures found { IfOk result (Reads context.old context.new count) }
     ensures refused { IfErr result (Tells (NoValueHere context.old count)) }
     ensures fault { IfErr result (IsFault (text_in context.old)) }
+    ensures told { IfErr result (λ e. OpensValue 0x7B context.old → IsToldIn context.old false e) }
 {
     check_depth(context, count)?;
     let mut properties = Map::new(context.alloc);
@@ -225,6 +233,7 @@ fn parse_property<'a, A: Allocator + Copy>(
     ensures found { IfOk result (ReadsProperty context.old context.new count) }
     ensures refused { IfErr result (Tells (NoPropertyHere context.old count)) }
     ensures fault { IfErr result (IsFault (text_in context.old)) }
+    ensures told { IfErr result (λ e. ItemIsDueHere Object context.old token.entry → IsToldIn context.old false e) }
 {
     let name = name_text(context.name(token)?);
     context.pass_colon()?;
@@ -249,6 +258,7 @@ pub fn parse_to_value<'a, A: Allocator + Copy>(
     ensures accepted { IfOk result (IsValueOf (parse_options options.now) (chars text.now)) }
     ensures refused { IfErr result (RefusesText (parse_options options.now) text.now) }
     ensures fault { IfErr result (IsFault text.now) }
+    ensures told { IfErr result (IsTold (parse_options options.now) text.now false) }
 {
     let mut context = Context::new(alloc, text, &CollectOptions::default(), options);
     let Some(token) = context.scan()? else {

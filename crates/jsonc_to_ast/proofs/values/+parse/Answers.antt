@@ -1,4 +1,4 @@
-use Rattle.std.proofs.Common.{◌+◌, ◌≤◌, ◌∙◌, ap, sym, subst, arith, map, inr}
+use Rattle.std.proofs.Common.{◌+◌, ◌≤◌, ◌∙◌, ap, sym, subst, arith, map, true, Some, IfSome, inr}
 use Rattle.jsonc_text.specs.Plain.{around}
 use Rattle.jsonc_ast.specs.Located.{value_at}
 use Rattle.jsonc_to_ast.specs.Reads.{Reads}
@@ -13,6 +13,11 @@ use Rattle.jsonc_to_ast.specs.Context.{options_in}
 use Rattle.jsonc_ast.specs.Views.{name_at}
 use Rattle.jsonc_to_ast.proofs.Refusals.{err_of, err_some, still}
 use Rattle.jsonc_to_ast.specs.Refusals.{NoPropertyHere, NoValueHere, Tells}
+use Rattle.jsonc_to_ast.specs.declared.container.Container.TheVariants.{Array, Object}
+use Rattle.jsonc_to_ast.specs.Told.{IsToldIn, ItemIsDueHere}
+use Rattle.jsonc_to_ast.proofs.Telling.{told_before}
+use Rattle.jsonc_to_ast.proofs.Ongoing.{Ongoing, ongoing_first, ongoing_turn, first_told, next_told, told_of_item, due_here, element_due, ends_item, value_item, property_item, deep_element_told}
+use Rattle.jsonc_to_ast.proofs.Due.{opens_none, ends_name, deep_property_told, no_value_told, value_told}
 use Rattle.jsonc_to_ast.proofs.values.+parse.Goals as goal
 
 pub parse_array-loop-next-init : goal.parse_array-loop-next-init
@@ -22,6 +27,7 @@ parse_array-loop-next-init g t c =
           c.first_item.ensures.kept read.found c.requires.around;
       left = elements_left_start c.args.context.now c.first_item.new.self c.in_ok-next.next c.args.count c.requires.token c.first_item.ensures.kept read.only;
       collects = read.collects;
+      going = ongoing_first Array c.args.context.now c.first_item.new.self c.in_ok-next.next c.requires.token c.first_item.ensures.kept read.found read.only read.stands;
     }
 
 pub parse_array-check_nesting-requires : goal.parse_array-check_nesting-requires
@@ -57,6 +63,8 @@ parse_array-loop-next-preserved g t c =
       left = elements_left_turn old now inv.so_far.kept c.in-Some.token c.args.count (subst (λ n. ElementsLeft old now n c.args.count) c.in-Some.is inv.left)
           c.parse_value.new.context (located c.in_ok-value.value) read.kept read.found c.next_item.new.self c.in_ok-next-2.next c.next_item.ensures.kept c.in_ok-next-2.ensures.only;
       collects = collects_turn old now c.parse_value.new.context c.next_item.new.self inv.so_far.kept inv.collects read.kept read.collects c.in_ok-next-2.ensures.collects;
+      going = ongoing_turn Array old now inv.so_far.kept c.in-Some.token (subst (λ n. IfSome n (Ongoing Array old now)) c.in-Some.is inv.going) c.parse_value.new.context read.kept (value_item now c.parse_value.new.context (located c.in_ok-value.value) read.kept read.found)
+          c.next_item.new.self c.in_ok-next-2.next c.next_item.ensures.kept c.in_ok-next-2.ensures.only c.in_ok-next-2.ensures.stands c.in_ok-next-2.ensures.comes;
     }
 
 pub parse_array-returns-clause-found : goal.parse_array-returns-clause-found
@@ -72,6 +80,7 @@ parse_object-loop-next-init g t c =
           c.first_item.ensures.kept read.found c.requires.around;
       left = properties_left_start c.args.context.now c.first_item.new.self c.in_ok-next.next c.args.count c.requires.token c.first_item.ensures.kept read.only;
       collects = read.collects;
+      going = ongoing_first Object c.args.context.now c.first_item.new.self c.in_ok-next.next c.requires.token c.first_item.ensures.kept read.found read.only read.stands;
     }
 
 pub parse_object-next_item-requires : goal.parse_object-next_item-requires
@@ -102,6 +111,8 @@ parse_object-loop-next-preserved g t c =
       left = properties_left_turn old now inv.so_far.kept c.in-Some.token c.args.count (subst (λ n. PropertiesLeft old now n c.args.count) c.in-Some.is inv.left)
           c.parse_property.new.context (member_of c.in_ok-property.property) read.kept read.found c.next_item.new.self c.in_ok-next-2.next c.next_item.ensures.kept c.in_ok-next-2.ensures.only;
       collects = collects_turn old now c.parse_property.new.context c.next_item.new.self inv.so_far.kept inv.collects read.kept read.collects c.in_ok-next-2.ensures.collects;
+      going = ongoing_turn Object old now inv.so_far.kept c.in-Some.token (subst (λ n. IfSome n (Ongoing Object old now)) c.in-Some.is inv.going) c.parse_property.new.context read.kept (property_item now c.parse_property.new.context (member_of c.in_ok-property.property) read.kept read.found)
+          c.next_item.new.self c.in_ok-next-2.next c.next_item.ensures.kept c.in_ok-next-2.ensures.only c.in_ok-next-2.ensures.stands c.in_ok-next-2.ensures.comes;
     }
 
 pub parse_object-returns-clause-found : goal.parse_object-returns-clause-found
@@ -223,3 +234,128 @@ parse_property-returns-clause-collects g t c =
 
 pub parse_value-returns-in_default-clause-collects : goal.parse_value-returns-in_default-clause-collects
 parse_value-returns-in_default-clause-collects g t c = ok_is c.parse_leaf.result (collects_same c.args.context.now)
+
+pub parse_array-returns-in_err-next-clause-told : goal.parse_array-returns-in_err-next-clause-told
+parse_array-returns-in_err-next-clause-told g t c =
+    let e = c.in_err-next.field-0.0 in
+    err_of (IsToldIn c.args.context.now true) e c.from_residual.result c.from_residual.ensures.1
+    (first_told Array c.args.context.now (Some c.token_start-start.result) true e c.requires.token c.token_start-start.ensures c.in_err-next.ensures.refused c.in_err-next.ensures.told)
+
+pub parse_array-returns-in_err-check_nesting-clause-told : goal.parse_array-returns-in_err-check_nesting-clause-told
+parse_array-returns-in_err-check_nesting-clause-told g t c =
+    let old = c.args.context.now in
+    let now = c.loop-next.context in
+    let inv = c.loop-next.invariant in
+    let going = subst (λ n. IfSome n (Ongoing Array old now)) c.in-Some.is inv.going in
+    let e = c.in_err-check_nesting.field-0.0 in
+    err_of (IsToldIn old true) e c.from_residual-in_err-check_nesting.result c.from_residual-in_err-check_nesting.ensures.1
+    (deep_element_told old now c.in-Some.token c.token_start-start.result e inv.so_far.kept c.requires.token going (subst (AtHand 0x5D now) c.in-Some.is inv.so_far.hand) inv.so_far.on c.token_start-start.ensures c.in_err-check_nesting.ensures.kind c.in_err-check_nesting.ensures.range)
+
+pub parse_array-returns-in_err-value-clause-told : goal.parse_array-returns-in_err-value-clause-told
+parse_array-returns-in_err-value-clause-told g t c =
+    let old = c.args.context.now in
+    let now = c.loop-next.context in
+    let inv = c.loop-next.invariant in
+    let going = subst (λ n. IfSome n (Ongoing Array old now)) c.in-Some.is inv.going in
+    let kept = inv.so_far.kept in
+    let e = c.in_err-value.field-0.0 in
+    err_of (IsToldIn old true) e c.from_residual-in_err-value.result c.from_residual-in_err-value.ensures.1
+    (told_of_item Array old now kept c.in-Some.token going true e (c.in_err-value.ensures.told (element_due now c.in-Some.token (due_here Array old now kept c.in-Some.token going))))
+
+pub parse_array-returns-in_err-next-2-clause-told : goal.parse_array-returns-in_err-next-2-clause-told
+parse_array-returns-in_err-next-2-clause-told g t c =
+    let old = c.args.context.now in
+    let now = c.loop-next.context in
+    let inv = c.loop-next.invariant in
+    let going = subst (λ n. IfSome n (Ongoing Array old now)) c.in-Some.is inv.going in
+    let kept = inv.so_far.kept in
+    let mid = c.parse_value.new.context in
+    let read = c.in_ok-value.ensures in
+    let item = value_item now mid (located c.in_ok-value.value) read.kept read.found in
+    let e = c.in_err-next-2.field-0.0 in
+    err_of (IsToldIn old true) e c.from_residual-in_err-next-2.result c.from_residual-in_err-next-2.ensures.1
+    (next_told Array old now kept c.in-Some.token going mid read.kept item (Some c.token_start-start.result) true e c.requires.token c.token_start-start.ensures c.in_err-next-2.ensures.refused
+    (c.in_err-next-2.ensures.told (ends_item Array old now kept c.in-Some.token going mid read.kept item)))
+
+pub parse_object-returns-in_err-next-clause-told : goal.parse_object-returns-in_err-next-clause-told
+parse_object-returns-in_err-next-clause-told g t c =
+    let e = c.in_err-next.field-0.0 in
+    err_of (IsToldIn c.args.context.now true) e c.from_residual.result c.from_residual.ensures.1
+    (first_told Object c.args.context.now (Some c.token_start-start.result) true e c.requires.token c.token_start-start.ensures c.in_err-next.ensures.refused c.in_err-next.ensures.told)
+
+pub parse_object-returns-in_err-property-clause-told : goal.parse_object-returns-in_err-property-clause-told
+parse_object-returns-in_err-property-clause-told g t c =
+    let old = c.args.context.now in
+    let now = c.loop-next.context in
+    let inv = c.loop-next.invariant in
+    let going = subst (λ n. IfSome n (Ongoing Object old now)) c.in-Some.is inv.going in
+    let kept = inv.so_far.kept in
+    let e = c.in_err-property.field-0.0 in
+    err_of (IsToldIn old true) e c.from_residual-in_err-property.result c.from_residual-in_err-property.ensures.1
+    (told_of_item Object old now kept c.in-Some.token going true e (c.in_err-property.ensures.told (due_here Object old now kept c.in-Some.token going)))
+
+pub parse_object-returns-in_err-next-2-clause-told : goal.parse_object-returns-in_err-next-2-clause-told
+parse_object-returns-in_err-next-2-clause-told g t c =
+    let old = c.args.context.now in
+    let now = c.loop-next.context in
+    let inv = c.loop-next.invariant in
+    let going = subst (λ n. IfSome n (Ongoing Object old now)) c.in-Some.is inv.going in
+    let kept = inv.so_far.kept in
+    let mid = c.parse_property.new.context in
+    let read = c.in_ok-property.ensures in
+    let item = property_item now mid (member_of c.in_ok-property.property) read.kept read.found in
+    let e = c.in_err-next-2.field-0.0 in
+    err_of (IsToldIn old true) e c.from_residual-in_err-next-2.result c.from_residual-in_err-next-2.ensures.1
+    (next_told Object old now kept c.in-Some.token going mid read.kept item (Some c.token_start-start.result) true e c.requires.token c.token_start-start.ensures c.in_err-next-2.ensures.refused
+    (c.in_err-next-2.ensures.told (ends_item Object old now kept c.in-Some.token going mid read.kept item)))
+
+pub parse_property-returns-in_err-name-clause-told : goal.parse_property-returns-in_err-name-clause-told
+parse_property-returns-in_err-name-clause-told g t c =
+    err_of (λ e. ItemIsDueHere Object c.args.context.now c.args.token → IsToldIn c.args.context.now true e) c.in_err-name.field-0.0 c.from_residual.result c.from_residual.ensures.1
+    (λ due. c.in_err-name.ensures.told due true)
+
+pub parse_property-returns-in_err-pass_colon-clause-told : goal.parse_property-returns-in_err-pass_colon-clause-told
+parse_property-returns-in_err-pass_colon-clause-told g t c =
+    let old = c.args.context.now in
+    err_of (λ e. ItemIsDueHere Object old c.args.token → IsToldIn old true e) c.in_err-pass_colon.field-0.0 c.from_residual-in_err-pass_colon.result c.from_residual-in_err-pass_colon.ensures.1
+    (λ due. c.in_err-pass_colon.ensures.told (ends_name old (name_at c.in_ok-name.name) c.in_ok-name.ensures.name) true)
+
+pub parse_property-returns-in_err-found-clause-told : goal.parse_property-returns-in_err-found-clause-told
+parse_property-returns-in_err-found-clause-told g t c =
+    let old = c.args.context.now in
+    let e = c.in_err-found.field-0.0 in
+    err_of (λ e. ItemIsDueHere Object old c.args.token → IsToldIn old true e) e c.from_residual-in_err-found.result c.from_residual-in_err-found.ensures.1
+    (λ due. told_before old c.pass_colon.new.self e c.in_ok-pass_colon.ensures.kept c.in_err-found.ensures.told true)
+
+pub parse_property-returns-in_err-check_nesting-clause-told : goal.parse_property-returns-in_err-check_nesting-clause-told
+parse_property-returns-in_err-check_nesting-clause-told g t c =
+    let old = c.args.context.now in
+    let mid = c.pass_colon.new.self in
+    let colon = c.in_ok-pass_colon.ensures in
+    let found = c.in_ok-found.ensures in
+    let e = c.in_err-check_nesting.field-0.0 in
+    err_of (λ e. ItemIsDueHere Object old c.args.token → IsToldIn old true e) e c.from_residual-in_err-check_nesting.result c.from_residual-in_err-check_nesting.ensures.1
+    (λ due. deep_property_told old (name_at c.in_ok-name.name) c.in_ok-name.ensures.name mid c.scan.new.self c.in_ok-found.found colon.kept colon.found found.kept found.found found.lexeme e c.token_start-start.result c.token_start-start.ensures
+    c.in_err-check_nesting.ensures.kind c.in_err-check_nesting.ensures.range)
+
+pub parse_property-returns-in_default-clause-told : goal.parse_property-returns-in_default-clause-told
+parse_property-returns-in_default-clause-told g t c = λ due.
+    let old = c.args.context.now in
+    let mid = c.pass_colon.new.self in
+    let colon = c.in_ok-pass_colon.ensures in
+    let found = c.in_ok-found.ensures in
+    no_value_told old (name_at c.in_ok-name.name) c.in_ok-name.ensures.name mid c.scan.new.self c.in_ok-found.found colon.kept colon.found found.kept found.found found.lexeme c.in_default.is c.fault_here.result c.fault_here.ensures.kind c.fault_here.ensures.range true
+
+pub parse_property-returns-in_err-value-clause-told : goal.parse_property-returns-in_err-value-clause-told
+parse_property-returns-in_err-value-clause-told g t c =
+    let old = c.args.context.now in
+    let mid = c.pass_colon.new.self in
+    let colon = c.in_ok-pass_colon.ensures in
+    let found = c.in_ok-found.ensures in
+    let e = c.in_err-value.field-0.0 in
+    err_of (λ e. ItemIsDueHere Object old c.args.token → IsToldIn old true e) e c.from_residual-in_err-value.result c.from_residual-in_err-value.ensures.1
+    (λ due. value_told old (name_at c.in_ok-name.name) c.in_ok-name.ensures.name mid c.scan.new.self c.in_ok-found.found colon.kept colon.found found.kept found.found found.lexeme c.in-Some.token c.in-Some.is true e c.in_err-value.ensures.told)
+
+pub parse_value-returns-in_default-clause-told : goal.parse_value-returns-in_default-clause-told
+parse_value-returns-in_default-clause-told g t c =
+    err_some c.parse_leaf.result (λ e told due. told (opens_none c.args.token c.in_default.not-OpenBracket c.in_default.not-OpenBrace) due true) c.parse_leaf.ensures.told

@@ -1,7 +1,11 @@
 use Rattle.jsonc_to_ast.proofs.Leaves.{leaf_reads}
-use Rattle.std.proofs.Common.{ap, option_map}
+use Rattle.std.proofs.Common.{ap, sym, ◌∙◌, option_map}
 use Rattle.jsonc_ast.specs.Views.{located}
-use Rattle.jsonc_to_ast.proofs.NoValues.{no_literal_here}
+use Rattle.jsonc_to_ast.proofs.NoValues.{map_none, no_literal_here}
+use Rattle.jsonc_text.specs.Tokens.{scanned_of}
+use Rattle.jsonc_ast.specs.Located.{leaf_at}
+use Rattle.jsonc_to_ast.specs.Scanned.{leaf_value}
+use Rattle.jsonc_to_ast.proofs.Due.{unexpected_told}
 use Rattle.jsonc_to_ast.proofs.values.parse_leaf.Goals as goal
 
 pub returns-clause-found : goal.returns-clause-found
@@ -9,3 +13,8 @@ returns-clause-found g c = leaf_reads c.args.context.now c.args.token c.in-Some.
 
 pub returns-in_default-clause-refused : goal.returns-in_default-clause-refused
 returns-in_default-clause-refused g c = no_literal_here c.args.context.now c.args.token _ c.range.result c.requires (ap (option_map located) c.in_default.is) c.leaf.ensures
+
+pub returns-in_default-clause-told : goal.returns-in_default-clause-told
+returns-in_default-clause-told g c =
+    let none = map_none (leaf_at c.range.result) (leaf_value (scanned_of c.args.token)) (sym c.leaf.ensures ∙ ap (option_map located) c.in_default.is) in
+    unexpected_told c.args.context.now c.args.token c.fault_here.result c.requires none (c.fault_here.ensures.kind ∙ c.unexpected-kind.ensures.kind) c.fault_here.ensures.range

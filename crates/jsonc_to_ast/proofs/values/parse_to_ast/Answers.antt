@@ -1,4 +1,4 @@
-use Rattle.std.proofs.Common.{Some, None}
+use Rattle.std.proofs.Common.{true, Some, None}
 use Rattle.jsonc_ast.specs.Located.{IsLocatedDocument}
 use Rattle.jsonc_ast.specs.Views.{located}
 use Rattle.jsonc_to_ast.proofs.Grammar.{located_document}
@@ -10,6 +10,10 @@ use Rattle.jsonc_to_ast.proofs.NoValues.{document_no_token, document_no_value, d
 use Rattle.jsonc_to_ast.proofs.Refusals.{err_of, still}
 use Rattle.jsonc_text.specs.OptionsOf.{parse_options}
 use Rattle.jsonc_to_ast.specs.Refusals.{RefusesText}
+use Rattle.jsonc_to_ast.specs.Told.{IsTold}
+use Rattle.jsonc_to_ast.proofs.Telling.{told_before}
+use Rattle.jsonc_to_ast.proofs.Ongoing.{value_item}
+use Rattle.jsonc_to_ast.proofs.Due.{told_of_text, root_told, second_told}
 use Rattle.jsonc_to_ast.proofs.values.parse_to_ast.Goals as goal
 
 pub returns-in_default-clause-accepted : goal.returns-in_default-clause-accepted
@@ -110,3 +114,41 @@ returns-clause-comments g c =
     let last = c.in_ok-scan.ensures in
     all_noted old end c.in_ok-scan.field-0 _ _ start.text start.options start.start (kept_on old now end read.kept (kept_on now mid end value.kept last.kept))
     (collects_turn old now mid end read.kept read.collects value.kept value.collects last.collects) last.found.1 c.in-None.is _ start.noted c.in_ok-take_comments-2.ensures.shown
+
+pub returns-in_err-token-clause-told : goal.returns-in_err-token-clause-told
+returns-in_err-token-clause-told g c =
+    let start = c.new-context.ensures in
+    let e = c.in_err-token.field-0.0 in
+    err_of (IsTold (parse_options c.args.options.now) c.args.text.now true) e c.from_residual.result c.from_residual.ensures.1
+    (told_of_text c.new-context.result _ _ true e start.text start.options (c.in_err-token.ensures.told true))
+
+pub returns-in_err-value-clause-told : goal.returns-in_err-value-clause-told
+returns-in_err-value-clause-told g c =
+    let start = c.new-context.ensures in
+    let old = c.new-context.result in
+    let read = c.in_ok-token.ensures in
+    let e = c.in_err-value.field-0.0 in
+    err_of (IsTold (parse_options c.args.options.now) c.args.text.now true) e c.from_residual-in_err-value.result c.from_residual-in_err-value.ensures.1
+    (told_of_text old _ _ true e start.text start.options
+    (root_told old c.scan.new.self c.in_ok-token.field-0 c.scan.ensures.kept read.found read.lexeme start.start c.in-Some.token c.in-Some.is true e c.in_err-value.ensures.told))
+
+pub returns-in_err-scan-clause-told : goal.returns-in_err-scan-clause-told
+returns-in_err-scan-clause-told g c =
+    let start = c.new-context.ensures in
+    let old = c.new-context.result in
+    let mid = c.parse_value.new.context in
+    let e = c.in_err-scan.field-0.0 in
+    err_of (IsTold (parse_options c.args.options.now) c.args.text.now true) e c.from_residual-in_err-scan.result c.from_residual-in_err-scan.ensures.1
+    (told_of_text old _ _ true e start.text start.options (told_before old mid e (kept_on old c.scan.new.self mid c.scan.ensures.kept c.in_ok-value.ensures.kept) c.in_err-scan.ensures.told true))
+
+pub returns-in_default-2-clause-told : goal.returns-in_default-2-clause-told
+returns-in_default-2-clause-told g c =
+    let start = c.new-context.ensures in
+    let old = c.new-context.result in
+    let now = c.scan.new.self in
+    let mid = c.parse_value.new.context in
+    let value = c.in_ok-value.ensures in
+    let last = c.in_ok-scan.ensures in
+    told_of_text old _ _ true c.fault_here.result start.text start.options
+    (second_told old now mid c.scan-2.new.self c.in_ok-token.field-0 c.in_ok-scan.field-0 c.scan.ensures.kept c.in_ok-token.ensures.found start.start value.kept (value_item now mid (located c.in_ok-value.value) value.kept value.found)
+    c.scan-2.ensures.kept last.found last.lexeme c.in_default-2.not-None true c.fault_here.result c.fault_here.ensures.kind c.fault_here.ensures.range)

@@ -1,4 +1,5 @@
-use Rattle.std.proofs.Common.{subst, inr}
+use Rattle.std.proofs.Common.{◌+◌, ap, refl, subst, false, None, inr}
+use Rattle.jsonc_text.specs.Tokens.{scanned_of}
 use Rattle.jsonc_text.specs.Grammar.{Separates, Closes}
 use Rattle.jsonc_to_ast.specs.Context.{options_in}
 use Rattle.jsonc_to_ast.specs.Refusals.{Tells}
@@ -11,12 +12,17 @@ use Rattle.jsonc_to_value.proofs.Elements as elements
 use Rattle.jsonc_to_value.proofs.Properties as properties
 use Rattle.jsonc_to_value.proofs.Leaves.{fewer, leaf_nowhere}
 use Rattle.jsonc_to_value.proofs.Named.{name_missing, colon_missing, no_token_for_value, end_for_value, value_refused, property_read}
+use Rattle.jsonc_to_ast.specs.declared.container.Container.TheVariants.{Array, Object}
+use Rattle.jsonc_to_ast.specs.Told.{IsToldIn, ItemIsDueHere, OpensValue}
+use Rattle.jsonc_to_ast.proofs.Telling.{told_before}
+use Rattle.jsonc_to_ast.proofs.Ongoing.{first_told, next_told, told_of_item, due_here, element_due, bracket_due, ends_item, deep_container_told}
+use Rattle.jsonc_to_ast.proofs.Due.{opens_none, ends_name, no_value_told, value_told}
 use Rattle.jsonc_to_value.proofs.values.+parse.Goals as goal
 
 pub parse_array-loop-next-init : goal.parse_array-loop-next-init
 parse_array-loop-next-init g t c =
     let read = c.in_ok-next.ensures in
-    elements.elements_start c.args.context.now c.first_item.new.self c.in_ok-next.next c.args.count c.new-elements.result.items c.new-elements.ensures.items c.requires.token c.first_item.ensures.kept read.found read.only c.in_ok-check_depth.ensures.within
+    elements.elements_start c.args.context.now c.first_item.new.self c.in_ok-next.next c.args.count c.new-elements.result.items c.new-elements.ensures.items c.requires.token c.first_item.ensures.kept read.found read.only read.stands c.in_ok-check_depth.ensures.within
 
 pub parse_array-loop-next-smaller : goal.parse_array-loop-next-smaller
 parse_array-loop-next-smaller g t c =
@@ -33,7 +39,7 @@ parse_array-loop-next-preserved g t c =
     let read = c.in_ok-value.ensures in
     let next = c.in_ok-next-2.ensures in
     elements.elements_turn c.args.context.now now c.loop-next.next c.in-Some.token c.args.count c.loop-next.elements.items c.loop-next.invariant c.in-Some.is mid c.in_ok-value.value read.kept read.found
-    c.next_item.new.self c.in_ok-next-2.next c.push_value.new.elements.items c.next_item.ensures.kept next.found next.only c.in-Ok.ensures
+    c.next_item.new.self c.in_ok-next-2.next c.push_value.new.elements.items c.next_item.ensures.kept next.found next.only next.stands next.comes c.in-Ok.ensures
 
 pub parse_array-returns-clause-found : goal.parse_array-returns-clause-found
 parse_array-returns-clause-found g t c =
@@ -69,7 +75,7 @@ parse_array-returns-in_err-next-2-clause-refused g t c =
 pub parse_object-loop-next-init : goal.parse_object-loop-next-init
 parse_object-loop-next-init g t c =
     let read = c.in_ok-next.ensures in
-    properties.properties_start c.args.context.now c.first_item.new.self c.in_ok-next.next c.args.count c.new-properties.result c.new-properties.ensures c.requires.token c.first_item.ensures.kept read.found read.only c.in_ok-check_depth.ensures.within
+    properties.properties_start c.args.context.now c.first_item.new.self c.in_ok-next.next c.args.count c.new-properties.result c.new-properties.ensures c.requires.token c.first_item.ensures.kept read.found read.only read.stands c.in_ok-check_depth.ensures.within
 
 pub parse_object-returns-in_err-check_depth-clause-refused : goal.parse_object-returns-in_err-check_depth-clause-refused
 parse_object-returns-in_err-check_depth-clause-refused g t c =
@@ -113,7 +119,7 @@ parse_object-loop-next-preserved g t c =
     let read = c.in_ok-name.ensures in
     let next = c.in_ok-next-2.ensures in
     properties.properties_turn c.args.context.now now c.loop-next.next c.in-Some.token c.args.count c.loop-next.properties c.loop-next.invariant c.in-Some.is mid (c.in_ok-name.name, c.in_ok-name.value) read.kept read.found
-    c.next_item.new.self c.in_ok-next-2.next c.put_property.new.properties c.next_item.ensures.kept next.found next.only c.in-Ok.ensures
+    c.next_item.new.self c.in_ok-next-2.next c.put_property.new.properties c.next_item.ensures.kept next.found next.only next.stands next.comes c.in-Ok.ensures
 
 pub parse_object-returns-clause-found : goal.parse_object-returns-clause-found
 parse_object-returns-clause-found g t c =
@@ -165,3 +171,123 @@ parse_value-returns-in_default-clause-found g t c = fewer c.args.context.now c.a
 pub parse_value-returns-in_default-clause-refused : goal.parse_value-returns-in_default-clause-refused
 parse_value-returns-in_default-clause-refused g t c =
     err_some c.parse_leaf.result (λ e n. inr (leaf_nowhere c.args.context.now c.args.token c.args.count c.requires.token c.in_default.not-OpenBracket c.in_default.not-OpenBrace n)) c.parse_leaf.ensures.refused
+
+pub parse_array-returns-in_err-check_depth-clause-told : goal.parse_array-returns-in_err-check_depth-clause-told
+parse_array-returns-in_err-check_depth-clause-told g t c =
+    let old = c.args.context.now in
+    let e = c.in_err-check_depth.field-0.0 in
+    err_of (λ e. OpensValue 0x5B old → IsToldIn old false e) e c.from_residual.result c.from_residual.ensures.1 (deep_container_told Array old e c.requires.token c.in_err-check_depth.ensures.kind c.in_err-check_depth.ensures.range)
+
+pub parse_array-returns-in_err-next-clause-told : goal.parse_array-returns-in_err-next-clause-told
+parse_array-returns-in_err-next-clause-told g t c =
+    let old = c.args.context.now in
+    let e = c.in_err-next.field-0.0 in
+    err_of (λ e. OpensValue 0x5B old → IsToldIn old false e) e c.from_residual-in_err-next.result c.from_residual-in_err-next.ensures.1
+    (λ due. first_told Array old None false e c.requires.token refl c.in_err-next.ensures.refused c.in_err-next.ensures.told)
+
+pub parse_array-returns-in_err-value-clause-told : goal.parse_array-returns-in_err-value-clause-told
+parse_array-returns-in_err-value-clause-told g t c =
+    let old = c.args.context.now in
+    let now = c.loop-next.context in
+    let inv = c.loop-next.invariant in
+    let going = elements.going_some old now c.loop-next.next c.in-Some.token c.args.count c.loop-next.elements.items inv c.in-Some.is in
+    let e = c.in_err-value.field-0.0 in
+    err_of (λ e. OpensValue 0x5B old → IsToldIn old false e) e c.from_residual-in_err-value.result c.from_residual-in_err-value.ensures.1
+    (λ due. told_of_item Array old now inv.kept c.in-Some.token going false e (c.in_err-value.ensures.told (element_due now c.in-Some.token (due_here Array old now inv.kept c.in-Some.token going))))
+
+pub parse_array-returns-in_err-next-2-clause-told : goal.parse_array-returns-in_err-next-2-clause-told
+parse_array-returns-in_err-next-2-clause-told g t c =
+    let old = c.args.context.now in
+    let now = c.loop-next.context in
+    let inv = c.loop-next.invariant in
+    let going = elements.going_some old now c.loop-next.next c.in-Some.token c.args.count c.loop-next.elements.items inv c.in-Some.is in
+    let mid = c.parse_value.new.context in
+    let read = c.in_ok-value.ensures in
+    let item = elements.value_item now mid (c.args.count + 1) c.in_ok-value.value read.kept read.found in
+    let e = c.in_err-next-2.field-0.0 in
+    err_of (λ e. OpensValue 0x5B old → IsToldIn old false e) e c.from_residual-in_err-next-2.result c.from_residual-in_err-next-2.ensures.1
+    (λ due. next_told Array old now inv.kept c.in-Some.token going mid read.kept item None false e c.requires.token refl c.in_err-next-2.ensures.refused
+    (c.in_err-next-2.ensures.told (ends_item Array old now inv.kept c.in-Some.token going mid read.kept item)))
+
+pub parse_object-returns-in_err-check_depth-clause-told : goal.parse_object-returns-in_err-check_depth-clause-told
+parse_object-returns-in_err-check_depth-clause-told g t c =
+    let old = c.args.context.now in
+    let e = c.in_err-check_depth.field-0.0 in
+    err_of (λ e. OpensValue 0x7B old → IsToldIn old false e) e c.from_residual.result c.from_residual.ensures.1 (deep_container_told Object old e c.requires.token c.in_err-check_depth.ensures.kind c.in_err-check_depth.ensures.range)
+
+pub parse_object-returns-in_err-next-clause-told : goal.parse_object-returns-in_err-next-clause-told
+parse_object-returns-in_err-next-clause-told g t c =
+    let old = c.args.context.now in
+    let e = c.in_err-next.field-0.0 in
+    err_of (λ e. OpensValue 0x7B old → IsToldIn old false e) e c.from_residual-in_err-next.result c.from_residual-in_err-next.ensures.1
+    (λ due. first_told Object old None false e c.requires.token refl c.in_err-next.ensures.refused c.in_err-next.ensures.told)
+
+pub parse_object-returns-in_err-name-clause-told : goal.parse_object-returns-in_err-name-clause-told
+parse_object-returns-in_err-name-clause-told g t c =
+    let old = c.args.context.now in
+    let now = c.loop-next.context in
+    let inv = c.loop-next.invariant in
+    let going = properties.going_some old now c.loop-next.next c.in-Some.token c.args.count c.loop-next.properties inv c.in-Some.is in
+    let e = c.in_err-name.field-0.0 in
+    err_of (λ e. OpensValue 0x7B old → IsToldIn old false e) e c.from_residual-in_err-name.result c.from_residual-in_err-name.ensures.1
+    (λ due. told_of_item Object old now inv.kept c.in-Some.token going false e (c.in_err-name.ensures.told (due_here Object old now inv.kept c.in-Some.token going)))
+
+pub parse_object-returns-in_err-next-2-clause-told : goal.parse_object-returns-in_err-next-2-clause-told
+parse_object-returns-in_err-next-2-clause-told g t c =
+    let old = c.args.context.now in
+    let now = c.loop-next.context in
+    let inv = c.loop-next.invariant in
+    let going = properties.going_some old now c.loop-next.next c.in-Some.token c.args.count c.loop-next.properties inv c.in-Some.is in
+    let mid = c.parse_property.new.context in
+    let read = c.in_ok-name.ensures in
+    let item = properties.property_item now mid (c.args.count + 1) (c.in_ok-name.name, c.in_ok-name.value) read.kept read.found in
+    let e = c.in_err-next-2.field-0.0 in
+    err_of (λ e. OpensValue 0x7B old → IsToldIn old false e) e c.from_residual-in_err-next-2.result c.from_residual-in_err-next-2.ensures.1
+    (λ due. next_told Object old now inv.kept c.in-Some.token going mid read.kept item None false e c.requires.token refl c.in_err-next-2.ensures.refused
+    (c.in_err-next-2.ensures.told (ends_item Object old now inv.kept c.in-Some.token going mid read.kept item)))
+
+pub parse_property-returns-in_err-name-clause-told : goal.parse_property-returns-in_err-name-clause-told
+parse_property-returns-in_err-name-clause-told g t c =
+    let old = c.args.context.now in
+    err_of (λ e. ItemIsDueHere Object old c.args.token → IsToldIn old false e) c.in_err-name.field-0.0 c.from_residual.result c.from_residual.ensures.1 (λ due. c.in_err-name.ensures.told due false)
+
+pub parse_property-returns-in_err-pass_colon-clause-told : goal.parse_property-returns-in_err-pass_colon-clause-told
+parse_property-returns-in_err-pass_colon-clause-told g t c =
+    let old = c.args.context.now in
+    err_of (λ e. ItemIsDueHere Object old c.args.token → IsToldIn old false e) c.in_err-pass_colon.field-0.0 c.from_residual-in_err-pass_colon.result c.from_residual-in_err-pass_colon.ensures.1
+    (λ due. c.in_err-pass_colon.ensures.told (ends_name old (name_at c.in_ok-name.field-0) c.in_ok-name.ensures.name) false)
+
+pub parse_property-returns-in_err-token-clause-told : goal.parse_property-returns-in_err-token-clause-told
+parse_property-returns-in_err-token-clause-told g t c =
+    let old = c.args.context.now in
+    let e = c.in_err-token.field-0.0 in
+    err_of (λ e. ItemIsDueHere Object old c.args.token → IsToldIn old false e) e c.from_residual-in_err-token.result c.from_residual-in_err-token.ensures.1
+    (λ due. told_before old c.pass_colon.new.self e c.in_ok-pass_colon.ensures.kept c.in_err-token.ensures.told false)
+
+pub parse_property-returns-in_default-clause-told : goal.parse_property-returns-in_default-clause-told
+parse_property-returns-in_default-clause-told g t c = λ due.
+    let colon = c.in_ok-pass_colon.ensures in
+    let read = c.in_ok-token.ensures in
+    no_value_told c.args.context.now (name_at c.in_ok-name.field-0) c.in_ok-name.ensures.name c.pass_colon.new.self c.scan.new.self c.in_ok-token.field-0 colon.kept colon.found read.kept read.found read.lexeme c.in_default.is
+    c.fault_here.result c.fault_here.ensures.kind c.fault_here.ensures.range false
+
+pub parse_property-returns-in_err-value-clause-told : goal.parse_property-returns-in_err-value-clause-told
+parse_property-returns-in_err-value-clause-told g t c =
+    let old = c.args.context.now in
+    let colon = c.in_ok-pass_colon.ensures in
+    let read = c.in_ok-token.ensures in
+    let e = c.in_err-value.field-0.0 in
+    err_of (λ e. ItemIsDueHere Object old c.args.token → IsToldIn old false e) e c.from_residual-in_err-value.result c.from_residual-in_err-value.ensures.1
+    (λ due. value_told old (name_at c.in_ok-name.field-0) c.in_ok-name.ensures.name c.pass_colon.new.self c.scan.new.self c.in_ok-token.field-0 colon.kept colon.found read.kept read.found read.lexeme c.in-Some.token c.in-Some.is false e c.in_err-value.ensures.told)
+
+pub parse_value-returns-in_default-clause-told : goal.parse_value-returns-in_default-clause-told
+parse_value-returns-in_default-clause-told g t c =
+    err_some c.parse_leaf.result (λ e told due. told (opens_none c.args.token c.in_default.not-OpenBracket c.in_default.not-OpenBrace) due false) c.parse_leaf.ensures.told
+
+pub parse_value-returns-in-OpenBracket-clause-told : goal.parse_value-returns-in-OpenBracket-clause-told
+parse_value-returns-in-OpenBracket-clause-told g t c =
+    err_some c.parse_array.result (λ e told due. told (bracket_due c.args.context.now c.args.token 0x5B (ap scanned_of c.in-OpenBracket.is) due)) c.parse_array.ensures.told
+
+pub parse_value-returns-in-OpenBrace-clause-told : goal.parse_value-returns-in-OpenBrace-clause-told
+parse_value-returns-in-OpenBrace-clause-told g t c =
+    err_some c.parse_object.result (λ e told due. told (bracket_due c.args.context.now c.args.token 0x7B (ap scanned_of c.in-OpenBrace.is) due)) c.parse_object.ensures.told

@@ -1,7 +1,9 @@
-use Rattle.std.proofs.Common.{inr}
+use Rattle.std.proofs.Common.{inl, inr}
 use Rattle.jsonc_to_ast.specs.Context.{options_in}
 use Rattle.jsonc_to_ast.specs.Refusals.{after}
 use Rattle.jsonc_to_ast.proofs.Refusals.{err_of, still, refuted, no_token_lexeme, nowhere_first, nothing_at_end, only_first}
+use Rattle.jsonc_to_ast.specs.Told.{IsToldOrOpen}
+use Rattle.jsonc_to_ast.proofs.Telling.{open_before, end_here, closes_none}
 use Rattle.jsonc_to_ast.proofs.context.Context.first_item.Goals as goal
 
 pub returns-in_err-first-clause-refused : goal.returns-in_err-first-clause-refused
@@ -21,3 +23,19 @@ returns-clause-only g c =
     let read = c.in_ok-first.ensures in
     only_first c.args.self.now c.scan.new.self c.in_ok-first.field-0 c.scan.ensures.kept read.found read.lexeme c.in-Some.first c.in-Some.is c.args.container
     (refuted c.is_closed_by.ensures.1 c.if-is_closed_by.false)
+
+pub returns-in_err-first-clause-told : goal.returns-in_err-first-clause-told
+returns-in_err-first-clause-told g c =
+    err_of (IsToldOrOpen c.args.container c.args.start c.args.self.now) c.in_err-first.field-0.0 c.from_residual.result c.from_residual.ensures.1 (inl c.in_err-first.ensures.told)
+
+pub returns-in_default-clause-told : goal.returns-in_default-clause-told
+returns-in_default-clause-told g c =
+    let old = c.args.self.now in
+    let read = c.in_ok-first.ensures in
+    let kept = c.scan.ensures.kept in
+    inr (open_before old c.scan.new.self c.args.container c.args.start c.unterminated.result kept (c.unterminated.ensures.told (end_here old c.scan.new.self c.in_ok-first.field-0 kept read.found read.lexeme c.in_default.is)))
+
+pub returns-clause-stands : goal.returns-clause-stands
+returns-clause-stands g c =
+    let read = c.in_ok-first.ensures in
+    closes_none c.args.self.now c.scan.new.self c.in_ok-first.field-0 c.scan.ensures.kept read.found read.lexeme c.in-Some.first c.in-Some.is c.args.container (refuted c.is_closed_by.ensures.1 c.if-is_closed_by.false)

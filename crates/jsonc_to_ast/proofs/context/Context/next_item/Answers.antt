@@ -1,4 +1,4 @@
-use Rattle.std.proofs.Common.{inr, sym, ap, ◌∙◌}
+use Rattle.std.proofs.Common.{inl, inr, sym, ap, ◌∙◌}
 use Rattle.jsonc_text.specs.Grammar.{plain, Closes}
 use Rattle.jsonc_to_ast.specs.Containers.{closing}
 use Rattle.jsonc_to_ast.specs.Context.{options_in}
@@ -6,6 +6,8 @@ use Rattle.jsonc_to_ast.proofs.Scans.{closed, without_comma, after_comma}
 use Rattle.jsonc_to_ast.specs.Refusals.{after}
 use Rattle.jsonc_to_ast.proofs.Collecting.{collects_on, ok_collects}
 use Rattle.jsonc_to_ast.proofs.Refusals.{err_of, ok_some, err_some, still, refuted, no_token_lexeme, nowhere_next, nothing_at_end, nothing_next, next_after_comma, missing_refused, only_next}
+use Rattle.jsonc_to_ast.specs.Told.{IsToldOrOpen, EndsItem}
+use Rattle.jsonc_to_ast.proofs.Telling.{open_before, end_here, closes_none, step_before, comma_after, comes_after_ok, missing_told}
 use Rattle.jsonc_to_ast.proofs.context.Context.next_item.Goals as goal
 
 pub returns-then-is_closed_by-clause-found : goal.returns-then-is_closed_by-clause-found
@@ -67,3 +69,48 @@ returns-clause-only g c =
 pub returns-then-is_comma-clause-collects : goal.returns-then-is_comma-clause-collects
 returns-then-is_comma-clause-collects g c =
     ok_collects c.item_after_comma.result (collects_on c.args.self.now c.scan.new.self c.item_after_comma.new.self c.scan.ensures.kept c.in_ok-token.ensures.collects) c.item_after_comma.ensures.collects
+
+pub returns-in_err-token-clause-told : goal.returns-in_err-token-clause-told
+returns-in_err-token-clause-told g c =
+    let old = c.args.self.now in
+    err_of (λ e. EndsItem c.args.container old → IsToldOrOpen c.args.container c.args.start old e) c.in_err-token.field-0.0 c.from_residual.result c.from_residual.ensures.1 (λ h. inl c.in_err-token.ensures.told)
+
+pub returns-in_default-clause-told : goal.returns-in_default-clause-told
+returns-in_default-clause-told g c = λ h.
+    let old = c.args.self.now in
+    let read = c.in_ok-token.ensures in
+    let kept = c.scan.ensures.kept in
+    inr (open_before old c.scan.new.self c.args.container c.args.start c.unterminated.result kept (c.unterminated.ensures.told (end_here old c.scan.new.self c.in_ok-token.field-0 kept read.found read.lexeme c.in_default.is)))
+
+pub returns-then-is_comma-clause-told : goal.returns-then-is_comma-clause-told
+returns-then-is_comma-clause-told g c =
+    let old = c.args.self.now in
+    let new = c.scan.new.self in
+    let read = c.in_ok-token.ensures in
+    let kept = c.scan.ensures.kept in
+    err_some c.item_after_comma.result
+    (λ e told h. step_before old new c.args.container c.args.start e kept (told (comma_after old new c.in_ok-token.field-0 kept read.found read.lexeme c.in-Some.token c.in-Some.is c.args.container c.args.start (c.is_comma.ensures.0 c.if-is_comma.true) h)))
+    c.item_after_comma.ensures.told
+
+pub returns-then-not-self-clause-told : goal.returns-then-not-self-clause-told
+returns-then-not-self-clause-told g c =
+    let old = c.args.self.now in
+    let new = c.scan.new.self in
+    let read = c.in_ok-token.ensures in
+    missing_told old new c.in_ok-token.field-0 c.scan.ensures.kept read.found read.lexeme c.in-Some.token c.in-Some.is c.args.container c.args.start c.missing_comma.result c.token_end-end.result
+    (ap (λ p. p.missing_commas) (sym (new.same ∙ c.scan.ensures.kept.options)) ∙ c.if-not-self.true) c.token_end-end.ensures (refuted c.is_closed_by.ensures.1 c.if-is_closed_by.false) (refuted c.is_comma.ensures.1 c.if-is_comma.false)
+    c.missing_comma.ensures.comma c.missing_comma.ensures.misplaced
+
+pub returns-clause-stands : goal.returns-clause-stands
+returns-clause-stands g c =
+    let read = c.in_ok-token.ensures in
+    closes_none c.args.self.now c.scan.new.self c.in_ok-token.field-0 c.scan.ensures.kept read.found read.lexeme c.in-Some.token c.in-Some.is c.args.container (refuted c.is_closed_by.ensures.1 c.if-is_closed_by.false)
+
+pub returns-then-is_comma-clause-comes : goal.returns-then-is_comma-clause-comes
+returns-then-is_comma-clause-comes g c =
+    let read = c.in_ok-token.ensures in
+    comes_after_ok c.args.self.now c.scan.new.self c.in_ok-token.field-0 c.scan.ensures.kept read.found read.lexeme c.in-Some.token c.in-Some.is c.args.container c.args.start c.item_after_comma.new.self c.item_after_comma.result
+    (c.is_comma.ensures.0 c.if-is_comma.true) c.item_after_comma.ensures.found
+
+pub returns-clause-comes : goal.returns-clause-comes
+returns-clause-comes g c = inr (c.in_ok-token.ensures.found.0, refuted c.is_comma.ensures.1 c.if-is_comma.false)
