@@ -1,0 +1,10 @@
+//! How a document is laid out: what the lines of a [`Tree`](jsonc_tree::Tree) begin and end with.
+//!
+//! Each call asks for a node by its number and changes nothing. Trivia are whitespace, lines' ends
+//! and comments; an element is a child of a container that is neither trivia nor a token.
+#![tactic(auto)]
+
+mod kinds;
+mod siblings;
+
+pub use siblings::{has_blank_line_before, trailing_comma};
