@@ -1,6 +1,6 @@
 -- Walks over siblings, a step.
-use Rattle.std.proofs.Common.{◌≡◌, ℕ, ◌+◌, ◌-◌, ◌<◌, ◌≤◌, Bool, true, false, cond, not, List, [], ◌∷◌, ◌++◌, map, reverse, take, drop, length, get_or, Option, Some, None, ◌||◌, ◌&&◌, refl, ap, sym, ◌∙◌, arith}
-use Rattle.std.specs.List.{find, take_while}
+use Rattle.std.proofs.Common.{◌≡◌, ℕ, ◌+◌, ◌-◌, ◌<◌, ◌≤◌, Bool, true, false, cond, not, List, [], ◌∷◌, map, reverse, take, drop, length, get_or, Some, None, ◌||◌, ◌&&◌, refl, ap, sym, ◌∙◌, arith}
+use Rattle.std.specs.List.{take_while}
 use Rattle.std.proofs.lemmas.List.{take_more, drop_more, drop_all, map-append, reverse-append}
 use Rattle.std.proofs.lemmas.List.Sums.{take_while-cons}
 use Rattle.jsonc_tree.specs.Content.{Content}

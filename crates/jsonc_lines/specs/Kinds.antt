@@ -1,10 +1,15 @@
 -- Kinds of nodes, as a layout is told from them.
-use Rattle.std.specs.Prelude.{◌==◌, Bool, true, false, not}
+use Rattle.std.specs.Prelude.{◌==◌, Bool, true, false, not, ℕ, List, Option, Some, None}
 use Rattle.jsonc_tree.specs.Content.{Content, token, whitespace, newline, comment}
 
 abbrev pub is_whitespace : Content → Bool
 is_whitespace (whitespace s) = true
 is_whitespace _ = false
+
+-- the text of whitespace
+abbrev pub blank_of : Content → Option (List ℕ)
+blank_of (whitespace s) = Some s
+blank_of _ = None
 
 abbrev pub is_newline : Content → Bool
 is_newline (newline k) = true

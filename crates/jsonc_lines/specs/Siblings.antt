@@ -1,5 +1,5 @@
 -- The siblings of a node.
-use Rattle.std.specs.Prelude.{◌≡◌, ℕ, ◌+◌, ◌<◌, not, List, map, reverse, take, drop, length, Option, Some, None, if◌then◌else◌}
+use Rattle.std.specs.Prelude.{◌≡◌, ℕ, ◌+◌, ◌<◌, not, List, map, reverse, take, drop, length, slice_range, Option, Some, None, if◌then◌else◌}
 use Rattle.std.specs.List.{find}
 use Rattle.jsonc_tree.specs.Content.{Content}
 use Rattle.jsonc_tree.specs.Order.{with_parent}
@@ -21,6 +21,10 @@ pub record StandsAt (ns : List Node) (n container place count : ℕ) : Type 0 wh
 -- what stands before a place of a row, nearest first
 abbrev pub back : List Node → List ℕ → ℕ → List Content
 back ns row place = reverse (map (content_at ns) (take place row))
+
+-- what a container's children from one place up to another are
+abbrev pub contents_between : List Node → ℕ → ℕ → ℕ → List Content
+contents_between ns container from to = map (content_at ns) (slice_range (children_at ns container) from to)
 
 -- what the siblings before the node are, nearest first
 abbrev pub before_at : List Node → ℕ → List Content

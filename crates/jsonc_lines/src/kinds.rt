@@ -1,7 +1,7 @@
 //! Kinds of nodes, as a layout is told from them.
-ghost use Rattle.std.specs.Prelude.{◌≡◌};
+ghost use Rattle.std.specs.Prelude.{◌≡◌, option_map};
 ghost use Rattle.jsonc_tree.specs.Stored.{content_of};
-ghost use Rattle.jsonc_lines.specs.Kinds.{is_comma, is_element, is_newline, is_trivia, is_whitespace};
+ghost use Rattle.jsonc_lines.specs.Kinds.{blank_of, is_comma, is_element, is_newline, is_trivia, is_whitespace};
 
 use jsonc_tree::Kind;
 use std::alloc::Allocator;
@@ -13,6 +13,16 @@ pub(crate) fn is_whitespace<A: Allocator>(kind: &Kind<A>) -> bool
     match kind {
         Kind::Whitespace(_) | Kind::WhitespacePart(_) => true,
         _ => false,
+    }
+}
+
+// The text of a node that is whitespace.
+pub(crate) fn blank_of<A: Allocator>(kind: &Kind<A>) -> Option<&str>
+    ensures { option_map (λ s. s.now) result ≡ blank_of (content_of kind.now) }
+{
+    match kind {
+        Kind::Whitespace(_) | Kind::WhitespacePart(_) => kind.text(),
+        _ => None,
     }
 }
 

@@ -4,7 +4,9 @@
 //! and comments; an element is a child of a container that is neither trivia nor a token.
 #![tactic(auto)]
 
+mod indent;
 mod kinds;
 mod siblings;
 
+pub use indent::indent_text;
 pub use siblings::{has_blank_line_before, trailing_comma};

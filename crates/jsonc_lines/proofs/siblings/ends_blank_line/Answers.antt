@@ -1,4 +1,4 @@
-use Rattle.std.proofs.Common.{◌≡◌, ◌-◌, ◌||◌, ◌&&◌, Bool, true, false, sym, ap, ◌∙◌, arith}
+use Rattle.std.proofs.Common.{◌≡◌, ◌-◌, ◌||◌, ◌&&◌, true, false, sym, ap, ◌∙◌, arith}
 use Rattle.jsonc_tree.specs.Tree.{children_at}
 use Rattle.jsonc_tree.specs.Stored.{content_of}
 use Rattle.jsonc_lines.specs.Kinds.{is_newline, is_whitespace}

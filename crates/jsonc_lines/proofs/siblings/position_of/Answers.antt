@@ -1,5 +1,4 @@
-use Rattle.std.proofs.Common.{sym, refl, ap, ◌∙◌, length}
-use Rattle.jsonc_tree.specs.Tree.{children_at}
+use Rattle.std.proofs.Common.{sym}
 use Rattle.jsonc_tree.proofs.Order.{parent_there}
 use Rattle.jsonc_lines.proofs.siblings.position_of.Goals as goal
 
