@@ -1,6 +1,6 @@
 -- Kinds of nodes, as a layout is told from them.
 use Rattle.std.specs.Prelude.{◌==◌, Bool, true, false, not, ℕ, List, Option, Some, None}
-use Rattle.jsonc_tree.specs.Content.{Content, token, whitespace, newline, comment}
+use Rattle.jsonc_tree.specs.Content.{Content, array, object, token, whitespace, newline, comment}
 
 abbrev pub is_whitespace : Content → Bool
 is_whitespace (whitespace s) = true
@@ -30,3 +30,9 @@ is_comma _ = false
 abbrev pub is_element : Content → Bool
 is_element (token c) = false
 is_element content = not (is_trivia content)
+
+-- an array or an object
+abbrev pub holds_values : Content → Bool
+holds_values array = true
+holds_values object = true
+holds_values _ = false

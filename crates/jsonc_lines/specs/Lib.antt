@@ -1,3 +1,4 @@
 pub mod Kinds
 pub mod Siblings
 pub mod Lines
+pub mod Breadth

@@ -1,7 +1,7 @@
 //! Kinds of nodes, as a layout is told from them.
 ghost use Rattle.std.specs.Prelude.{◌≡◌, option_map};
 ghost use Rattle.jsonc_tree.specs.Stored.{content_of};
-ghost use Rattle.jsonc_lines.specs.Kinds.{blank_of, is_comma, is_element, is_newline, is_trivia, is_whitespace};
+ghost use Rattle.jsonc_lines.specs.Kinds.{blank_of, holds_values, is_comma, is_element, is_newline, is_trivia, is_whitespace};
 
 use jsonc_tree::Kind;
 use std::alloc::Allocator;
@@ -65,5 +65,15 @@ pub(crate) fn is_element<A: Allocator>(kind: &Kind<A>) -> bool
     match kind {
         Kind::Token(_) => false,
         _ => !is_trivia(kind),
+    }
+}
+
+// Whether a node is an array or an object.
+pub(crate) fn holds_values<A: Allocator>(kind: &Kind<A>) -> bool
+    ensures { result ≡ holds_values (content_of kind.now) }
+{
+    match kind {
+        Kind::Array | Kind::Object => true,
+        _ => false,
     }
 }

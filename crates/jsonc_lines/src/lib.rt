@@ -4,9 +4,11 @@
 //! and comments; an element is a child of a container that is neither trivia nor a token.
 #![tactic(auto)]
 
+mod breadth;
 mod indent;
 mod kinds;
 mod siblings;
 
+pub use breadth::{newline_kind, uses_trailing_commas};
 pub use indent::indent_text;
 pub use siblings::{has_blank_line_before, trailing_comma};
