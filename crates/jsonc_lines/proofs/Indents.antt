@@ -1,6 +1,6 @@
 -- The siblings on a line, and the whitespace that it begins with.
-use Rattle.std.proofs.Common.{◌≡◌, ℕ, suc, ◌+◌, ◌-◌, ◌<◌, ◌≤◌, Bool, true, false, cond, not, ◌&&◌, List, [], ◌∷◌, ◌++◌, map, reverse, take, drop, length, get_or, slice_range, Some, None, refl, ap, sym, ◌∙◌, arith}
-use Rattle.std.specs.List.{list_all, take_while}
+use Rattle.std.proofs.Common.{◌≡◌, ℕ, suc, ◌+◌, ◌-◌, ◌<◌, ◌≤◌, Bool, true, false, cond, not, ◌&&◌, ◌||◌, List, [], ◌∷◌, ◌++◌, map, reverse, take, drop, length, get_or, slice_range, Some, None, refl, ap, sym, ◌∙◌, arith}
+use Rattle.std.specs.List.{list_all, list_any, take_while}
 use Rattle.std.proofs.lemmas.List.{drop_more, append_assoc}
 use Rattle.std.proofs.lemmas.List.Edits.{between_none}
 use Rattle.std.proofs.lemmas.List.Folds.{list_all-append}
@@ -11,7 +11,7 @@ use Rattle.jsonc_tree.specs.Tree.{Node, content_at, children_at, place_at}
 use Rattle.jsonc_tree.specs.Order.{with_parent}
 use Rattle.jsonc_lines.specs.Kinds.{blank_of, is_trivia, is_newline, is_whitespace}
 use Rattle.jsonc_lines.specs.Siblings.{back, contents_between, StandsAt}
-use Rattle.jsonc_lines.specs.Lines.{blanks, indent_at, indent_of, leading_blanks, line_to}
+use Rattle.jsonc_lines.specs.Lines.{blanks, first_blank, indent_at, indent_of, leading_blanks, line_to, opening_at}
 use Rattle.jsonc_lines.proofs.Walking.{back_less}
 
 -- a stretch of a container's children, its first apart
@@ -103,3 +103,26 @@ leading_some _ line rest same e = cc
 pub leading_none : (kind : Content) (line rest : List Content) → line ≡ kind ∷ rest → is_whitespace kind ≡ false → leading_blanks line ≡ None
 leading_none (Content.whitespace s) line rest same e = cc
 leading_none _ line rest same e = ap leading_blanks same
+
+-- a line's end is among the siblings before, by the nearest
+pub newline_step : (ns : List Node) (row : List ℕ) (at child : ℕ) (kind : Content) → 0 < at → at ≤ length row → child ≡ get_or row (at - 1) 0 → kind ≡ content_at ns child → list_any is_newline (back ns row at) ≡ (is_newline kind || list_any is_newline (back ns row (at - 1)))
+newline_step ns row at child kind some within here is =
+    let same : content_at ns (get_or row (at - 1) 0) ≡ kind = sym (is ∙ ap (content_at ns) here) in
+    ap (list_any is_newline) (back_less ns row at some within ∙ ap (λ c. c ∷ back ns row (at - 1)) same)
+
+opening_stands : (ns : List Node) (n container place count : ℕ) → StandsAt ns n container place count → opening_at ns n ≡ cond (list_any is_newline (back ns (children_at ns container) place)) (first_blank (line_to ns (children_at ns container) place)) None
+opening_stands ns n container place count stands =
+    ap (λ o. cond (list_any is_newline (back ns (with_parent o (children_at ns)) (place_at ns n))) (first_blank (line_to ns (with_parent o (children_at ns)) (place_at ns n))) None) stands.named
+    ∙ ap (λ k. cond (list_any is_newline (back ns (children_at ns container) k)) (first_blank (line_to ns (children_at ns container) k)) None) stands.placed
+
+-- what a line opens with, by where it begins
+pub opening_by : (ns : List Node) (n container place count : ℕ) (line : List Content) → StandsAt ns n container place count → line_to ns (children_at ns container) place ≡ line → list_any is_newline (back ns (children_at ns container) place) ≡ true → opening_at ns n ≡ first_blank line
+opening_by ns n container place count line stands same any =
+    opening_stands ns n container place count stands
+    ∙ ap (λ b. cond b (first_blank (line_to ns (children_at ns container) place)) None) any
+    ∙ ap first_blank same
+
+pub opening_none : (ns : List Node) (n container place count : ℕ) → StandsAt ns n container place count → list_any is_newline (back ns (children_at ns container) place) ≡ false → opening_at ns n ≡ None
+opening_none ns n container place count stands any =
+    opening_stands ns n container place count stands
+    ∙ ap (λ b. cond b (first_blank (line_to ns (children_at ns container) place)) None) any

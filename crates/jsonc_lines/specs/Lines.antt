@@ -1,10 +1,10 @@
 -- Lines, and what they begin with.
-use Rattle.std.specs.Prelude.{Bool, false, not, ◌||◌, ◌&&◌, ℕ, List, [], ◌∷◌, ◌++◌, reverse, Option, Some, None, if◌then◌else◌}
-use Rattle.std.specs.List.{take_while, list_all}
+use Rattle.std.specs.Prelude.{Bool, false, not, ◌||◌, ◌&&◌, ℕ, List, [], ◌∷◌, ◌++◌, reverse, Option, Some, None, option_and_then, if◌then◌else◌}
+use Rattle.std.specs.List.{take_while, list_all, list_any}
 use Rattle.jsonc_tree.specs.Content.{Content, whitespace}
 use Rattle.jsonc_tree.specs.Tree.{Node, place_at}
-use Rattle.jsonc_lines.specs.Kinds.{is_newline, is_trivia, is_whitespace}
-use Rattle.jsonc_lines.specs.Siblings.{back, before_at, row_at}
+use Rattle.jsonc_lines.specs.Kinds.{blank_of, is_newline, is_trivia, is_whitespace}
+use Rattle.jsonc_lines.specs.Siblings.{back, before_at, first_element_of, row_at}
 
 -- a line's end stands here, or after whitespace
 abbrev pub comes_to_newline : List Content → Bool
@@ -41,3 +41,16 @@ indent_of line = if list_all is_trivia line then leading_blanks line else None
 -- the indent of the node: what its line begins with, if nothing but trivia stands before it there
 abbrev pub indent_at : List Node → ℕ → Option (List ℕ)
 indent_at ns n = indent_of (line_to ns (row_at ns n) (place_at ns n))
+
+-- the whitespace leaf that a line begins with
+abbrev pub first_blank : List Content → Option (List ℕ)
+first_blank [] = None
+first_blank (c ∷ rest) = blank_of c
+
+-- the whitespace leaf directly after the nearest line's end before the node
+abbrev pub opening_at : List Node → ℕ → Option (List ℕ)
+opening_at ns n = if list_any is_newline (before_at ns n) then first_blank (line_to ns (row_at ns n) (place_at ns n)) else None
+
+-- one level's indent: that leaf before the first element of the document's value
+abbrev pub single_indent_of : List Node → Option (List ℕ)
+single_indent_of ns = option_and_then (opening_at ns) (option_and_then (first_element_of ns) (first_element_of ns 0))

@@ -4,7 +4,7 @@ use Rattle.std.specs.List.{find}
 use Rattle.jsonc_tree.specs.Content.{Content}
 use Rattle.jsonc_tree.specs.Order.{with_parent}
 use Rattle.jsonc_tree.specs.Tree.{Node, content_at, parent_at, children_at, place_at}
-use Rattle.jsonc_lines.specs.Kinds.{is_trivia, is_comma}
+use Rattle.jsonc_lines.specs.Kinds.{is_comma, is_element, is_trivia}
 
 -- the row that the node stands in: its parent's children
 abbrev pub row_at : List Node → ℕ → List ℕ
@@ -33,6 +33,10 @@ before_at ns n = back ns (row_at ns n) (place_at ns n)
 -- the siblings after the node, in order
 abbrev pub after_at : List Node → ℕ → List ℕ
 after_at ns n = drop (place_at ns n + 1) (row_at ns n)
+
+-- the first element among the children of a node
+abbrev pub first_element_of : List Node → ℕ → Option ℕ
+first_element_of ns n = find (λ m. is_element (content_at ns m)) (children_at ns n)
 
 -- the first of these nodes that is no trivia
 abbrev pub first_beyond_trivia : List Node → List ℕ → Option ℕ

@@ -10,5 +10,5 @@ mod kinds;
 mod siblings;
 
 pub use breadth::{newline_kind, uses_trailing_commas};
-pub use indent::indent_text;
+pub use indent::{indent_text, single_indent_text};
 pub use siblings::{has_blank_line_before, trailing_comma};

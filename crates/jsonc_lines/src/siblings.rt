@@ -4,9 +4,9 @@ ghost use Rattle.std.specs.List.{take_while};
 ghost use Rattle.jsonc_tree.specs.Tree.{children_at, parent_at};
 ghost use Rattle.jsonc_lines.specs.Kinds.{is_trivia};
 ghost use Rattle.jsonc_lines.specs.Lines.{blank_line_before, has_blank_line};
-ghost use Rattle.jsonc_lines.specs.Siblings.{back, first_beyond_trivia, trailing_comma_at, StandsAt};
+ghost use Rattle.jsonc_lines.specs.Siblings.{back, first_beyond_trivia, first_element_of, trailing_comma_at, StandsAt};
 
-use crate::kinds::{is_comma, is_newline, is_trivia, is_whitespace};
+use crate::kinds::{is_comma, is_element, is_newline, is_trivia, is_whitespace};
 use jsonc_tree::Tree;
 use std::alloc::Allocator;
 
@@ -34,6 +34,21 @@ pub(crate) fn position_of<A: Allocator>(tree: &Tree<A>, node: usize) -> Option<P
         place: tree.child_index(node),
         count: tree.child_count(container),
     })
+}
+
+// The first element among the children of a node.
+pub(crate) fn first_element<A: Allocator>(tree: &Tree<A>, node: usize) -> Option<usize>
+    requires { node < length tree.now.nodes }
+    ensures first { result ≡ first_element_of tree.now.nodes node }
+    ensures there { IfSome result (λ m. m < length tree.now.nodes) }
+{
+    for place in 0..tree.child_count(node) {
+        let child = tree.child_at(node, place);
+        if is_element(tree.kind(child)) {
+            return Some(child);
+        }
+    }
+    None
 }
 
 // The first child of a container from a place on that is no trivia.
