@@ -1,3 +1,4 @@
 pub mod Walking
-pub mod Indents
+pub mod LineStarts
 pub mod Levels
+pub mod Climbing

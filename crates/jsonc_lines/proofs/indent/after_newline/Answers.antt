@@ -5,7 +5,7 @@ use Rattle.jsonc_tree.specs.Stored.{content_of}
 use Rattle.jsonc_lines.specs.Kinds.{is_newline}
 use Rattle.jsonc_lines.specs.Siblings.{back}
 use Rattle.jsonc_lines.specs.Lines.{line_to}
-use Rattle.jsonc_lines.proofs.Indents.{contents_back, line_on, newline_step}
+use Rattle.jsonc_lines.proofs.LineStarts.{contents_back, line_on, newline_step}
 use Rattle.jsonc_lines.proofs.indent.after_newline.Goals as goal
 
 pub loop-at-preserved : goal.loop-at-preserved

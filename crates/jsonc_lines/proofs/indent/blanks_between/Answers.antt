@@ -3,7 +3,7 @@ use Rattle.std.proofs.lemmas.List.{append-nil, append_assoc}
 use Rattle.jsonc_tree.specs.Stored.{content_of}
 use Rattle.jsonc_lines.specs.Siblings.{contents_between}
 use Rattle.jsonc_lines.specs.Lines.{blanks}
-use Rattle.jsonc_lines.proofs.Indents.{contents_from, blanks_more, blanks_over}
+use Rattle.jsonc_lines.proofs.LineStarts.{contents_from, blanks_more, blanks_over}
 use Rattle.jsonc_lines.proofs.indent.blanks_between.Goals as goal
 
 pub returns-in_default : goal.returns-in_default

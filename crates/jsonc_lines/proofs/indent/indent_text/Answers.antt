@@ -3,7 +3,7 @@ use Rattle.std.specs.List.{list_all}
 use Rattle.jsonc_tree.specs.Stored.{content_of}
 use Rattle.jsonc_lines.specs.Kinds.{is_trivia}
 use Rattle.jsonc_lines.specs.Siblings.{contents_between}
-use Rattle.jsonc_lines.proofs.Indents.{contents_from, indent_by, leading_some, leading_none}
+use Rattle.jsonc_lines.proofs.LineStarts.{contents_from, indent_by, leading_some, leading_none}
 use Rattle.jsonc_lines.proofs.indent.indent_text.Goals as goal
 
 pub returns-then-not-is_whitespace : goal.returns-then-not-is_whitespace

@@ -5,7 +5,7 @@ use Rattle.jsonc_tree.specs.Stored.{content_of}
 use Rattle.jsonc_lines.specs.Kinds.{is_trivia}
 use Rattle.jsonc_lines.specs.Siblings.{contents_between}
 use Rattle.jsonc_lines.specs.Lines.{line_to}
-use Rattle.jsonc_lines.proofs.Indents.{contents_back, line_on, line_not_trivia}
+use Rattle.jsonc_lines.proofs.LineStarts.{contents_back, line_on, line_not_trivia}
 use Rattle.jsonc_lines.proofs.indent.line_start.Goals as goal
 
 pub returns-then-not-is_trivia-clause-none : goal.returns-then-not-is_trivia-clause-none

@@ -2,7 +2,7 @@ use Rattle.std.proofs.Common.{Some, ap, sym, ◌∙◌, arith}
 use Rattle.jsonc_tree.specs.Stored.{content_of}
 use Rattle.jsonc_lines.specs.Siblings.{contents_between}
 use Rattle.jsonc_lines.specs.Lines.{first_blank}
-use Rattle.jsonc_lines.proofs.Indents.{contents_from, opening_by}
+use Rattle.jsonc_lines.proofs.LineStarts.{contents_from, opening_by}
 use Rattle.jsonc_lines.proofs.indent.opening.Goals as goal
 
 pub returns-in_default-blank_of : goal.returns-in_default-blank_of
