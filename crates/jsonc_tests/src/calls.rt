@@ -2,6 +2,7 @@
 
 use crate::awaited::Awaited;
 use crate::clones::copies;
+use crate::lines::laid_out;
 use crate::maps::changed_map;
 use crate::outcome::Outcome;
 use crate::tokens::decode_provided;
@@ -40,12 +41,13 @@ pub enum Call {
     TokenCopy,
     MapChanges,
     TreeChanges,
+    Layout,
     BytesToBytes,
     WholeRun,
 }
 
 /// All of them.
-pub const CALLS: [Call; 14] = [
+pub const CALLS: [Call; 15] = [
     Call::Decode,
     Call::DecodeProvided,
     Call::Scan,
@@ -58,6 +60,7 @@ pub const CALLS: [Call; 14] = [
     Call::TokenCopy,
     Call::MapChanges,
     Call::TreeChanges,
+    Call::Layout,
     Call::BytesToBytes,
     Call::WholeRun,
 ];
@@ -94,6 +97,7 @@ pub fn outcome_of(call: Call, heap: Heap<'_>) -> Outcome {
         Call::TokenCopy => token_copy(heap),
         Call::MapChanges => changed_map(heap),
         Call::TreeChanges => changed_tree(heap),
+        Call::Layout => laid_out(heap),
         Call::BytesToBytes => bytes_to_bytes(heap),
         Call::WholeRun => whole_run(heap),
     })

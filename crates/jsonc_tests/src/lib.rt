@@ -10,6 +10,8 @@ mod calls;
 #[cfg(test)]
 mod clones;
 #[cfg(test)]
+mod lines;
+#[cfg(test)]
 mod maps;
 #[cfg(test)]
 mod outcome;
