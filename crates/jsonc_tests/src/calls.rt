@@ -2,7 +2,11 @@
 
 use crate::awaited::Awaited;
 use crate::clones::copies;
+<<<<<<< HEAD
 use crate::inputs::inputs;
+=======
+use crate::lines::laid_out;
+>>>>>>> lines
 use crate::maps::changed_map;
 use crate::outcome::Outcome;
 use crate::tokens::decode_provided;
@@ -42,6 +46,7 @@ pub enum Call {
     TokenCopy,
     MapChanges,
     TreeChanges,
+    Layout,
     BytesToBytes,
     WholeRun,
 }
@@ -61,6 +66,7 @@ pub const CALLS: [Call; 15] = [
     Call::TokenCopy,
     Call::MapChanges,
     Call::TreeChanges,
+    Call::Layout,
     Call::BytesToBytes,
     Call::WholeRun,
 ];
@@ -98,6 +104,7 @@ pub fn outcome_of(call: Call, heap: Heap<'_>) -> Outcome {
         Call::TokenCopy => token_copy(heap),
         Call::MapChanges => changed_map(heap),
         Call::TreeChanges => changed_tree(heap),
+        Call::Layout => laid_out(heap),
         Call::BytesToBytes => bytes_to_bytes(heap),
         Call::WholeRun => whole_run(heap),
     })

@@ -12,6 +12,8 @@ mod clones;
 #[cfg(test)]
 mod inputs;
 #[cfg(test)]
+mod lines;
+#[cfg(test)]
 mod maps;
 #[cfg(test)]
 mod outcome;

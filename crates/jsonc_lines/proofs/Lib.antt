@@ -1,0 +1,4 @@
+pub mod Walking
+pub mod LineStarts
+pub mod Levels
+pub mod Climbing

@@ -1,0 +1,6 @@
+pub mod Kinds
+pub mod Siblings
+pub mod Lines
+pub mod Breadth
+pub mod Indents
+pub mod IndentViews

@@ -1,0 +1,16 @@
+//! How a document is laid out: what the lines of a [`Tree`](jsonc_tree::Tree) begin and end with.
+//!
+//! Each call asks for a node by its number and changes nothing. Trivia are whitespace, lines' ends
+//! and comments; an element is a child of a container that is neither trivia nor a token.
+#![tactic(auto)]
+
+mod breadth;
+mod indent;
+mod indents;
+mod kinds;
+mod siblings;
+
+pub use breadth::{newline_kind, uses_trailing_commas};
+pub use indent::{indent_text, single_indent_text};
+pub use indents::{Indents, indents_at};
+pub use siblings::{has_blank_line_before, trailing_comma};
