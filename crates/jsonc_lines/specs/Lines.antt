@@ -2,7 +2,7 @@
 use Rattle.std.specs.Prelude.{Bool, false, not, ◌||◌, ◌&&◌, ℕ, List, [], ◌∷◌, ◌++◌, reverse, Option, Some, None, option_and_then, if◌then◌else◌}
 use Rattle.std.specs.List.{take_while, list_all, list_any}
 use Rattle.jsonc_tree.specs.Content.{Content, whitespace}
-use Rattle.jsonc_tree.specs.Tree.{Node, place_at}
+use Rattle.jsonc_tree.specs.Tree.{Node, children_at, place_at}
 use Rattle.jsonc_lines.specs.Kinds.{blank_of, is_newline, is_trivia, is_whitespace}
 use Rattle.jsonc_lines.specs.Siblings.{back, before_at, first_element_of, row_at}
 
@@ -23,6 +23,14 @@ blank_line_before ns n = has_blank_line (take_while is_trivia (before_at ns n))
 -- what stands before a place of a row on its line, in order
 abbrev pub line_to : List Node → List ℕ → ℕ → List Content
 line_to ns row place = reverse (take_while (λ c. not (is_newline c)) (back ns row place))
+
+-- the same before a place of a container's children
+abbrev pub line_in : List Node → ℕ → ℕ → List Content
+line_in ns container place = line_to ns (children_at ns container) place
+
+-- a line ends before a place of a container's children
+abbrev pub has_newline_before : List Node → ℕ → ℕ → Bool
+has_newline_before ns container place = list_any is_newline (back ns (children_at ns container) place)
 
 -- the whitespace that a line begins with, joined
 abbrev pub blanks : List Content → List ℕ

@@ -1,10 +1,10 @@
 //! What the line of a node begins with.
-ghost use Rattle.std.specs.Prelude.{◌≡◌, ◌<◌, ◌≤◌, ◌++◌, true, false, map, option_map, string_bytes, IfNone, IfOk, IfSome, length, slice_range};
-ghost use Rattle.std.specs.List.{list_all, list_any};
-ghost use Rattle.jsonc_tree.specs.Tree.{children_at, content_at};
-ghost use Rattle.jsonc_lines.specs.Kinds.{is_newline, is_trivia};
-ghost use Rattle.jsonc_lines.specs.Siblings.{back, contents_between};
-ghost use Rattle.jsonc_lines.specs.Lines.{blanks, indent_at, leading_blanks, line_to, opening_at, single_indent_of};
+ghost use Rattle.std.specs.Prelude.{◌≡◌, ◌<◌, ◌≤◌, true, false, option_map, string_bytes, IfNone, IfOk, IfSome, length};
+ghost use Rattle.std.specs.List.{list_all};
+ghost use Rattle.jsonc_tree.specs.Tree.{children_at};
+ghost use Rattle.jsonc_lines.specs.Kinds.{is_trivia};
+ghost use Rattle.jsonc_lines.specs.Siblings.{contents_between};
+ghost use Rattle.jsonc_lines.specs.Lines.{blanks, indent_at, has_newline_before, line_in, opening_at, single_indent_of};
 
 use crate::kinds::{blank_of, is_newline, is_trivia, is_whitespace};
 use crate::siblings::{first_element, position_of};
@@ -15,10 +15,10 @@ use std::alloc::{AllocError, Allocator};
 fn line_start<A: Allocator>(tree: &Tree<A>, container: usize, place: usize) -> Option<usize>
     requires there { container < length tree.now.nodes }
     requires within { place ≤ length (children_at tree.now.nodes container) }
-    ensures none { IfNone result (list_all is_trivia (line_to tree.now.nodes (children_at tree.now.nodes container) place) ≡ false) }
+    ensures none { IfNone result (list_all is_trivia (line_in tree.now.nodes container place) ≡ false) }
     ensures order { IfSome result (λ start. start ≤ place) }
-    ensures trivia { IfSome result (λ start. list_all is_trivia (line_to tree.now.nodes (children_at tree.now.nodes container) place) ≡ true) }
-    ensures line { IfSome result (λ start. line_to tree.now.nodes (children_at tree.now.nodes container) place ≡ contents_between tree.now.nodes container start place) }
+    ensures trivia { IfSome result (λ start. list_all is_trivia (line_in tree.now.nodes container place) ≡ true) }
+    ensures line { IfSome result (λ start. line_in tree.now.nodes container place ≡ contents_between tree.now.nodes container start place) }
 {
     let mut at = place;
     while at > 0 {
@@ -89,10 +89,10 @@ pub fn indent_text<A: Allocator>(
 fn after_newline<A: Allocator>(tree: &Tree<A>, container: usize, place: usize) -> Option<usize>
     requires there { container < length tree.now.nodes }
     requires within { place ≤ length (children_at tree.now.nodes container) }
-    ensures none { IfNone result (list_any is_newline (back tree.now.nodes (children_at tree.now.nodes container) place) ≡ false) }
-    ensures some { IfSome result (λ start. list_any is_newline (back tree.now.nodes (children_at tree.now.nodes container) place) ≡ true) }
+    ensures none { IfNone result (has_newline_before tree.now.nodes container place ≡ false) }
+    ensures some { IfSome result (λ start. has_newline_before tree.now.nodes container place ≡ true) }
     ensures order { IfSome result (λ start. start ≤ place) }
-    ensures line { IfSome result (λ start. line_to tree.now.nodes (children_at tree.now.nodes container) place ≡ contents_between tree.now.nodes container start place) }
+    ensures line { IfSome result (λ start. line_in tree.now.nodes container place ≡ contents_between tree.now.nodes container start place) }
 {
     let mut at = place;
     while at > 0 {
