@@ -1,0 +1,4 @@
+pub mod Kinds
+pub mod Siblings
+pub mod Properties
+pub mod Comments
