@@ -2,3 +2,4 @@ pub mod Kinds
 pub mod Siblings
 pub mod Properties
 pub mod Comments
+pub mod Names

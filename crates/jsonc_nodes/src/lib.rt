@@ -7,11 +7,13 @@
 
 mod comments;
 mod kinds;
+mod names;
 mod property;
 mod siblings;
 mod within;
 
 pub use comments::{leading_comments_same_line, trailing_comments_same_line};
+pub use names::{decoded_name, decoded_value, get};
 pub use property::{name_of, value_of};
 pub use siblings::{
     Children, PreviousSiblings, child_at_index, children_from, next_sibling, next_siblings,

@@ -1,6 +1,6 @@
 //! The name and the value of a property, and the value of the root.
 
-ghost use Rattle.std.specs.Prelude.{◌≡◌, ◌<◌, length, position};
+ghost use Rattle.std.specs.Prelude.{◌≡◌, ◌<◌, length, position, IfSome};
 ghost use Rattle.std.specs.List.{find};
 ghost use Rattle.jsonc_tree.specs.Tree.{children_at};
 ghost use Rattle.jsonc_nodes.specs.Kinds.{is_colon_at};
@@ -53,8 +53,10 @@ pub fn value_of<A: Allocator>(tree: &Tree<A>, node: usize) -> Option<usize>
 // The first element or colon of a container.
 fn first_element_or_colon<A: Allocator>(tree: &Tree<A>, node: usize) -> Option<usize>
     requires { node < length tree.now.nodes }
-    ensures { result ≡ find (is_element_or_colon_at tree.now.nodes) (children_at tree.now.nodes node) }
+    ensures first { result ≡ find (is_element_or_colon_at tree.now.nodes) (children_at tree.now.nodes node) }
+    ensures there { IfSome result (λ m. m < length tree.now.nodes) }
 {
+    let _ = tree.len();
     children_from(tree, node, 0).find(|child| is_element(tree, *child) | is_colon(tree, *child))
 }
 
@@ -62,7 +64,8 @@ fn first_element_or_colon<A: Allocator>(tree: &Tree<A>, node: usize) -> Option<u
 /// `null`, and no colon stands before it.
 pub fn name_of<A: Allocator>(tree: &Tree<A>, property: usize) -> Option<usize>
     requires { property < length tree.now.nodes }
-    ensures { result ≡ name_at tree.now.nodes property }
+    ensures name { result ≡ name_at tree.now.nodes property }
+    ensures there { IfSome result (λ m. m < length tree.now.nodes) }
 {
     let first = first_element_or_colon(tree, property)?;
     if is_name(tree, first) {
