@@ -1,6 +1,6 @@
 -- Who stands beside a node, above and below one.
-use Rattle.std.specs.Prelude.{ℕ, ◌+◌, ◌==◌, List, drop, take, reverse, filter, length, Option, option_map}
-use Rattle.std.specs.List.{find, slice_get}
+use Rattle.std.specs.Prelude.{ℕ, ◌+◌, ◌<◌, ◌==◌, List, drop, take, reverse, filter, length, Option, option_map, IfSome}
+use Rattle.std.specs.List.{find, slice_get, All}
 use Rattle.jsonc_tree.specs.Tree.{Node, parent_at, children_at, place_at}
 use Rattle.jsonc_tree.specs.Order.{upward, with_parent}
 use Rattle.jsonc_nodes.specs.Kinds.{is_element_at}
@@ -16,6 +16,14 @@ siblings_after ns n = drop (place_at ns n + 1) (row_of ns n)
 -- the siblings before a node, nearest first
 abbrev pub siblings_before : List Node → ℕ → List ℕ
 siblings_before ns n = reverse (take (place_at ns n) (row_of ns n))
+
+-- each of these nodes is there
+abbrev pub AreThere : List Node → List ℕ → Type 0
+AreThere ns ms = All (λ m. m < length ns) ms
+
+-- the node is there, if there is one
+abbrev pub IsThere : List Node → Option ℕ → Type 0
+IsThere ns found = IfSome found (λ m. m < length ns)
 
 -- the first of a list, if there is one
 abbrev pub first : List ℕ → Option ℕ

@@ -4,7 +4,7 @@ ghost use Rattle.std.specs.Prelude.{◌≡◌, ◌<◌, length, IfOk};
 ghost use Rattle.std.specs.List.{find};
 ghost use Rattle.jsonc_nodes.specs.Comments.{comments_beside, ends_line, is_not_beside_at};
 ghost use Rattle.jsonc_nodes.specs.Comments.{leading_comments, trailing_comments};
-ghost use Rattle.jsonc_nodes.specs.Siblings.{siblings_after};
+ghost use Rattle.jsonc_nodes.specs.Siblings.{AreThere, IsThere, siblings_after};
 
 use crate::kinds::{is_beside, is_comment, is_newline};
 use crate::siblings::{next_siblings, previous_siblings};
@@ -14,7 +14,8 @@ use std::alloc::{AllocError, Allocator};
 // The nearest sibling after a node that is neither whitespace nor a comment.
 fn after_beside<A: Allocator>(tree: &Tree<A>, node: usize) -> Option<usize>
     requires { node < length tree.now.nodes }
-    ensures { result ≡ find (is_not_beside_at tree.now.nodes) (siblings_after tree.now.nodes node) }
+    ensures sibling { result ≡ find (is_not_beside_at tree.now.nodes) (siblings_after tree.now.nodes node) }
+    ensures there { IsThere tree.now.nodes result }
 {
     next_siblings(tree, node).find(|sibling| !is_beside(tree, *sibling))
 }
@@ -37,7 +38,8 @@ fn comments_after<A: Allocator, B: Allocator>(
     node: usize,
 ) -> Result<Vec<usize, B>, AllocError>
     requires { node < length tree.now.nodes }
-    ensures { IfOk result (λ v. v.items ≡ comments_beside tree.now.nodes (siblings_after tree.now.nodes node)) }
+    ensures comments { IfOk result (λ v. v.items ≡ comments_beside tree.now.nodes (siblings_after tree.now.nodes node)) }
+    ensures there { IfOk result (λ v. AreThere tree.now.nodes v.items) }
 {
     next_siblings(tree, node)
         .take_while(|sibling| is_beside(tree, *sibling))
@@ -52,7 +54,8 @@ pub fn leading_comments_same_line<A: Allocator, B: Allocator>(
     node: usize,
 ) -> Result<Vec<usize, B>, AllocError>
     requires { node < length tree.now.nodes }
-    ensures { IfOk result (λ v. v.items ≡ leading_comments tree.now.nodes node) }
+    ensures comments { IfOk result (λ v. v.items ≡ leading_comments tree.now.nodes node) }
+    ensures there { IfOk result (λ v. AreThere tree.now.nodes v.items) }
 {
     previous_siblings(tree, node)
         .take_while(|sibling| is_beside(tree, *sibling))
@@ -68,7 +71,8 @@ pub fn trailing_comments_same_line<A: Allocator, B: Allocator>(
     node: usize,
 ) -> Result<Vec<usize, B>, AllocError>
     requires { node < length tree.now.nodes }
-    ensures { IfOk result (λ v. v.items ≡ trailing_comments tree.now.nodes node) }
+    ensures comments { IfOk result (λ v. v.items ≡ trailing_comments tree.now.nodes node) }
+    ensures there { IfOk result (λ v. AreThere tree.now.nodes v.items) }
 {
     if !ends_its_line(tree, node) {
         return Ok(Vec::new(alloc));

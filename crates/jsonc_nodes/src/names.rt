@@ -9,6 +9,7 @@ ghost use Rattle.jsonc_tree.specs.Stored.{content_of};
 ghost use Rattle.jsonc_tree.specs.Tree.{children_at, content_at};
 ghost use Rattle.jsonc_nodes.specs.Names.{FirstNamed, HasName, IsNamed, IsNoString, Names, NameReads, ReadsAs, StandsFor};
 ghost use Rattle.jsonc_nodes.specs.Names.{is_string, loose_name, string_text};
+ghost use Rattle.jsonc_nodes.specs.Siblings.{IsThere};
 
 use crate::property::name_of;
 use crate::siblings::children_from;
@@ -171,7 +172,8 @@ pub fn get<A: Allocator, B: Allocator + Copy>(
     name: &str,
 ) -> Result<Option<usize>, AllocError>
     requires { object < length tree.now.nodes }
-    ensures { IfOk result (FirstNamed tree.now.nodes (chars name.now) (children_at tree.now.nodes object)) }
+    ensures found { IfOk result (FirstNamed tree.now.nodes (chars name.now) (children_at tree.now.nodes object)) }
+    ensures there { IfOk result (IsThere tree.now.nodes) }
 {
     let count = tree.child_count(object);
     for place in 0..count {

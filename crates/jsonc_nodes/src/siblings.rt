@@ -3,8 +3,8 @@
 ghost use Rattle.std.specs.Prelude.{◌≡◌, ◌<◌, drop, length, IfSome};
 ghost use Rattle.std.specs.List.{slice_get};
 ghost use Rattle.std.specs.Iterator.{YieldsFirst, item_count};
-ghost use Rattle.jsonc_tree.specs.Tree.{children_at, parent_at, place_at};
-ghost use Rattle.jsonc_nodes.specs.Siblings.{first, root_above, siblings_after, siblings_before};
+ghost use Rattle.jsonc_tree.specs.Tree.{children_at, parent_at, place_at, IsTree};
+ghost use Rattle.jsonc_nodes.specs.Siblings.{AreThere, IsThere, first, root_above, siblings_after, siblings_before};
 
 use jsonc_tree::Tree;
 use std::alloc::Allocator;
@@ -86,8 +86,9 @@ impl<'a, A: Allocator> Iterator for PreviousSiblings<'a, A> {
 fn parent_of<A: Allocator>(tree: &Tree<A>, node: usize) -> Option<usize>
     requires { node < length tree.now.nodes }
     ensures parent { result ≡ parent_at tree.now.nodes node }
-    ensures there { IfSome result (λ p. p < length tree.now.nodes) }
+    ensures there { IsThere tree.now.nodes result }
     ensures within { IfSome result (λ p. place_at tree.now.nodes node < length (children_at tree.now.nodes p)) }
+    ensures tree { IsTree tree.now.nodes }
 {
     let _ = tree.len();
     tree.parent(node)
@@ -100,8 +101,10 @@ pub fn children_from<A: Allocator>(
     place: usize,
 ) -> Children<'_, A>
     requires { container < length tree.now.nodes }
-    ensures { result ≡ drop place (children_at tree.now.nodes container) }
+    ensures children { result ≡ drop place (children_at tree.now.nodes container) }
+    ensures there { AreThere tree.now.nodes result }
 {
+    let _ = tree.len();
     let count = tree.child_count(container);
     Children {
         tree,
@@ -114,7 +117,8 @@ pub fn children_from<A: Allocator>(
 /// The siblings after a node, nearest first.
 pub fn next_siblings<A: Allocator>(tree: &Tree<A>, node: usize) -> Children<'_, A>
     requires { node < length tree.now.nodes }
-    ensures { result ≡ siblings_after tree.now.nodes node }
+    ensures siblings { result ≡ siblings_after tree.now.nodes node }
+    ensures there { AreThere tree.now.nodes result }
 {
     let Some(container) = parent_of(tree, node) else {
         return Children {
@@ -136,7 +140,8 @@ pub fn next_siblings<A: Allocator>(tree: &Tree<A>, node: usize) -> Children<'_, 
 /// The siblings before a node, nearest first.
 pub fn previous_siblings<A: Allocator>(tree: &Tree<A>, node: usize) -> PreviousSiblings<'_, A>
     requires { node < length tree.now.nodes }
-    ensures { result ≡ siblings_before tree.now.nodes node }
+    ensures siblings { result ≡ siblings_before tree.now.nodes node }
+    ensures there { AreThere tree.now.nodes result }
 {
     let Some(container) = parent_of(tree, node) else {
         return PreviousSiblings {
@@ -155,7 +160,8 @@ pub fn previous_siblings<A: Allocator>(tree: &Tree<A>, node: usize) -> PreviousS
 /// The sibling directly after a node.
 pub fn next_sibling<A: Allocator>(tree: &Tree<A>, node: usize) -> Option<usize>
     requires { node < length tree.now.nodes }
-    ensures { result ≡ first (siblings_after tree.now.nodes node) }
+    ensures sibling { result ≡ first (siblings_after tree.now.nodes node) }
+    ensures there { IsThere tree.now.nodes result }
 {
     next_siblings(tree, node).next()
 }
@@ -163,7 +169,8 @@ pub fn next_sibling<A: Allocator>(tree: &Tree<A>, node: usize) -> Option<usize>
 /// The sibling directly before a node.
 pub fn previous_sibling<A: Allocator>(tree: &Tree<A>, node: usize) -> Option<usize>
     requires { node < length tree.now.nodes }
-    ensures { result ≡ first (siblings_before tree.now.nodes node) }
+    ensures sibling { result ≡ first (siblings_before tree.now.nodes node) }
+    ensures there { IsThere tree.now.nodes result }
 {
     previous_siblings(tree, node).next()
 }
@@ -171,7 +178,8 @@ pub fn previous_sibling<A: Allocator>(tree: &Tree<A>, node: usize) -> Option<usi
 /// The child at a place, counted from 0, or none where there is no child.
 pub fn child_at_index<A: Allocator>(tree: &Tree<A>, node: usize, index: usize) -> Option<usize>
     requires { node < length tree.now.nodes }
-    ensures { result ≡ slice_get (children_at tree.now.nodes node) index }
+    ensures child { result ≡ slice_get (children_at tree.now.nodes node) index }
+    ensures there { IsThere tree.now.nodes result }
 {
     if index >= tree.child_count(node) {
         return None;
@@ -182,7 +190,8 @@ pub fn child_at_index<A: Allocator>(tree: &Tree<A>, node: usize, index: usize) -
 /// The root, if the node stands below it: none of the root itself and of what was taken out.
 pub fn root_node<A: Allocator>(tree: &Tree<A>, node: usize) -> Option<usize>
     requires { node < length tree.now.nodes }
-    ensures { result ≡ root_above tree.now.nodes node }
+    ensures root { result ≡ root_above tree.now.nodes node }
+    ensures there { IsThere tree.now.nodes result }
 {
     tree.ancestors(node).find(|ancestor| *ancestor == 0)
 }

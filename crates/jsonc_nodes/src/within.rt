@@ -4,7 +4,7 @@ ghost use Rattle.std.specs.Prelude.{◌≡◌, ◌<◌, length, IfOk};
 ghost use Rattle.std.specs.List.{find};
 ghost use Rattle.jsonc_tree.specs.Tree.{children_at};
 ghost use Rattle.jsonc_nodes.specs.Kinds.{is_element_at};
-ghost use Rattle.jsonc_nodes.specs.Siblings.{element_index_at, elements_at, siblings_after, siblings_before};
+ghost use Rattle.jsonc_nodes.specs.Siblings.{AreThere, IsThere, element_index_at, elements_at, siblings_after, siblings_before};
 
 use crate::kinds::is_element;
 use crate::siblings::{children_from, next_siblings, previous_siblings};
@@ -18,7 +18,8 @@ pub fn children<A: Allocator, B: Allocator>(
     node: usize,
 ) -> Result<Vec<usize, B>, AllocError>
     requires { node < length tree.now.nodes }
-    ensures { IfOk result (λ v. v.items ≡ children_at tree.now.nodes node) }
+    ensures children { IfOk result (λ v. v.items ≡ children_at tree.now.nodes node) }
+    ensures there { IfOk result (λ v. AreThere tree.now.nodes v.items) }
 {
     children_from(tree, node, 0).collect(alloc)
 }
@@ -30,7 +31,8 @@ pub fn elements<A: Allocator, B: Allocator>(
     node: usize,
 ) -> Result<Vec<usize, B>, AllocError>
     requires { node < length tree.now.nodes }
-    ensures { IfOk result (λ v. v.items ≡ elements_at tree.now.nodes node) }
+    ensures elements { IfOk result (λ v. v.items ≡ elements_at tree.now.nodes node) }
+    ensures there { IfOk result (λ v. AreThere tree.now.nodes v.items) }
 {
     children_from(tree, node, 0)
         .filter(|child| is_element(tree, *child))
@@ -55,7 +57,8 @@ pub fn element_index<A: Allocator>(tree: &Tree<A>, node: usize) -> Option<usize>
 /// The nearest element after a node, among its siblings.
 pub fn next_element<A: Allocator>(tree: &Tree<A>, node: usize) -> Option<usize>
     requires { node < length tree.now.nodes }
-    ensures { result ≡ find (is_element_at tree.now.nodes) (siblings_after tree.now.nodes node) }
+    ensures element { result ≡ find (is_element_at tree.now.nodes) (siblings_after tree.now.nodes node) }
+    ensures there { IsThere tree.now.nodes result }
 {
     next_siblings(tree, node).find(|sibling| is_element(tree, *sibling))
 }
@@ -63,7 +66,8 @@ pub fn next_element<A: Allocator>(tree: &Tree<A>, node: usize) -> Option<usize>
 /// The nearest element before a node, among its siblings.
 pub fn previous_element<A: Allocator>(tree: &Tree<A>, node: usize) -> Option<usize>
     requires { node < length tree.now.nodes }
-    ensures { result ≡ find (is_element_at tree.now.nodes) (siblings_before tree.now.nodes node) }
+    ensures element { result ≡ find (is_element_at tree.now.nodes) (siblings_before tree.now.nodes node) }
+    ensures there { IsThere tree.now.nodes result }
 {
     previous_siblings(tree, node).find(|sibling| is_element(tree, *sibling))
 }
