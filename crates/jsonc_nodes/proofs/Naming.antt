@@ -1,5 +1,5 @@
 -- Names of leaves and of properties.
-use Rattle.std.proofs.Common.{◌≡◌, ◌+◌, ◌<◌, ◌≤◌, ◌∷◌, ℕ, Bool, false, List, length, get_or, drop, Option, None, Some, refl, sym, ap, subst, ◌∙◌, IsTrue, chars}
+use Rattle.std.proofs.Common.{◌≡◌, ◌+◌, ◌<◌, ◌≤◌, ◌∷◌, ℕ, Bool, false, List, length, get_or, drop, Option, None, Some, sym, ap, subst, ◌∙◌, IsTrue, chars}
 use Rattle.std.specs.Bool.{Decides}
 use Rattle.std.proofs.lemmas.Bool.{false≢true}
 use Rattle.std.proofs.lemmas.List.{drop_all, drop_more}

@@ -1,6 +1,6 @@
 -- What a chain over a row of nodes answers.
-use Rattle.std.proofs.Common.{◌≡◌, ◌∙◌, sym, refl, ℕ, Bool, true, false, List, Option, None, Some}
-use Rattle.std.specs.List.{find, position, FoldsTo}
+use Rattle.std.proofs.Common.{◌≡◌, ◌∙◌, sym, refl, ℕ, Bool, List, Option, None, Some}
+use Rattle.std.specs.List.{find, position}
 use Rattle.std.specs.Option.{option_map}
 use Rattle.std.specs.Iterator.{YieldsFirst, FindsItem, FindsPosition}
 use Rattle.std.specs.Fn.{Called, CalledAt}

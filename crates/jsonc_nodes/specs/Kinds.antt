@@ -1,5 +1,5 @@
 -- The kinds of nodes that stand in a row, as readings tell them apart.
-use Rattle.std.specs.Prelude.{ℕ, Bool, true, false, List, ◌==◌, ◌||◌, not}
+use Rattle.std.specs.Prelude.{ℕ, Bool, true, false, List, ◌==◌, not}
 use Rattle.jsonc_tree.specs.Content.{Content, token, whitespace, newline, comment}
 use Rattle.jsonc_tree.specs.Tree.{Node, content_at}
 use Rattle.jsonc_tree.specs.Values.{is_passed_over}

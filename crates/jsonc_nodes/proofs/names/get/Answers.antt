@@ -1,4 +1,4 @@
-use Rattle.std.proofs.Common.{◌∙◌, sym, chars, Some, None, arith}
+use Rattle.std.proofs.Common.{◌∙◌, sym, chars, None, arith}
 use Rattle.std.proofs.lemmas.Bool.{false≢true}
 use Rattle.jsonc_tree.specs.Tree.{children_at}
 use Rattle.jsonc_nodes.proofs.Naming.{first_here, first_later, first_none}

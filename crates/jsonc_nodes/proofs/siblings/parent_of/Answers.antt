@@ -1,4 +1,4 @@
-use Rattle.std.proofs.Common.{◌≡◌, refl, sym}
+use Rattle.std.proofs.Common.{refl}
 use Rattle.jsonc_tree.proofs.Order.{parent_within}
 use Rattle.jsonc_nodes.proofs.siblings.parent_of.Goals as goal
 
