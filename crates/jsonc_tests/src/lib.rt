@@ -16,6 +16,8 @@ mod lines;
 #[cfg(test)]
 mod maps;
 #[cfg(test)]
+mod nodes;
+#[cfg(test)]
 mod outcome;
 #[cfg(test)]
 mod refusals;

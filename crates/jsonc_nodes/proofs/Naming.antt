@@ -1,0 +1,90 @@
+-- Names of leaves and of properties.
+use Rattle.std.proofs.Common.{◌≡◌, ◌+◌, ◌<◌, ◌≤◌, ◌∷◌, ℕ, Bool, false, List, length, get_or, drop, Option, None, Some, sym, ap, subst, ◌∙◌, IsTrue, chars}
+use Rattle.std.specs.Bool.{Decides}
+use Rattle.std.proofs.lemmas.Bool.{false≢true}
+use Rattle.std.proofs.lemmas.List.{drop_all, drop_more}
+use Rattle.std.proofs.lemmas.Slice.Eq.{bytes_eq-Decides}
+use Rattle.std.proofs.lemmas.Str.{encodes-chars}
+use Rattle.std.specs.Str.{IsUtf8, bytes_eq}
+use lib.Utf8.{encodes}
+use Rattle.jsonc_text.proofs.UniqueStrings.{string_unique}
+use Rattle.jsonc_tree.specs.Tree.{Node, content_at}
+use Rattle.jsonc_tree.specs.Values.{is_loose_name}
+use Rattle.jsonc_tree.specs.Content.{Content, root, object, array, property, string, word, number, boolean, null, token, whitespace, newline, comment, text_of}
+use Rattle.jsonc_nodes.specs.Names.{FirstNamed, none, here, later, HasName, IsNamed, Names, string_text}
+
+Some_same : (s t : List ℕ) → Some s ≡ Some t → s ≡ t
+Some_same s t e = cc
+
+not_Some : {X : Type 0} (s : List ℕ) → None ≡ Some s → X
+not_Some s e = absurd (let wrong : None ≡ Some s = e in cc)
+
+-- only a string has the text of one
+pub string_from_text : (content : Content) (s : List ℕ) → string_text content ≡ Some s → content ≡ string s
+string_from_text root s e = not_Some s e
+string_from_text object s e = not_Some s e
+string_from_text array s e = not_Some s e
+string_from_text property s e = not_Some s e
+string_from_text (string t) s e = ap string (Some_same t s e)
+string_from_text (word t) s e = not_Some s e
+string_from_text (number t) s e = not_Some s e
+string_from_text (boolean b) s e = not_Some s e
+string_from_text null s e = not_Some s e
+string_from_text (token c) s e = not_Some s e
+string_from_text (whitespace t) s e = not_Some s e
+string_from_text (newline k) s e = not_Some s e
+string_from_text (comment t) s e = not_Some s e
+
+loose_once : (content : Content) (v w : List ℕ) → (IsTrue (is_loose_name content) × (v ≡ chars (text_of content))) → (IsTrue (is_loose_name content) × (w ≡ chars (text_of content))) → v ≡ w
+loose_once content v w h k = h.1 ∙ sym k.1
+
+-- a leaf is at most one name
+pub names_once : (content : Content) (v w : List ℕ) → Names content v → Names content w → v ≡ w
+names_once (string s) v w h k = (string_unique h.1 k.1).0
+names_once root v w h k = loose_once root v w h k
+names_once object v w h k = loose_once object v w h k
+names_once array v w h k = loose_once array v w h k
+names_once property v w h k = loose_once property v w h k
+names_once (word s) v w h k = loose_once (word s) v w h k
+names_once (number s) v w h k = loose_once (number s) v w h k
+names_once (boolean b) v w h k = loose_once (boolean b) v w h k
+names_once null v w h k = loose_once null v w h k
+names_once (token c) v w h k = loose_once (token c) v w h k
+names_once (whitespace s) v w h k = loose_once (whitespace s) v w h k
+names_once (newline e) v w h k = loose_once (newline e) v w h k
+names_once (comment s) v w h k = loose_once (comment s) v w h k
+
+Some_number : (m n : ℕ) → Some m ≡ Some n → m ≡ n
+Some_number m n e = cc
+
+-- a property has at most one name
+pub has_name_once : (ns : List Node) (n : ℕ) (v w : List ℕ) → HasName ns n v → HasName ns n w → v ≡ w
+has_name_once ns n v w (m, e, h) (l, f, k) =
+    let same : l ≡ m = Some_number l m (sym f ∙ e) in
+    names_once (content_at ns m) v w h (subst (λ i. Names (content_at ns i) w) same k)
+
+pub same_text : (s t : List ℕ) → IsUtf8 s → IsUtf8 t → chars s ≡ chars t → s ≡ t
+same_text s t u w e = sym (encodes-chars s u) ∙ ap encodes e ∙ encodes-chars t w
+
+-- a text that stands for the one name that R allows, compared with another
+pub name_compared : (R : List ℕ → Type 0) (s t : List ℕ) (b : Bool) → ((v w : List ℕ) → R v → R w → v ≡ w) → IsUtf8 s → IsUtf8 t → R (chars s) → b ≡ bytes_eq s t → Decides b (R (chars t))
+name_compared R s t b once u w h is =
+    let same = bytes_eq-Decides s t in
+    (λ e. subst (λ z. R (chars z)) (same.0 (sym is ∙ e)) h, λ k. is ∙ same.1 (same_text s t u w (once (chars s) (chars t) h k)))
+
+-- where no name is allowed, none is this one
+pub name_missing : (R : List ℕ → Type 0) (v : List ℕ) → ((w : List ℕ) → R w → ⊥) → Decides false (R v)
+name_missing R v nobody = (λ e. absurd (false≢true e), λ h. absurd (nobody v h))
+
+module _ (ns : List Node) (v cs : List ℕ) (i n : ℕ) (h : i < length cs) (e : n ≡ get_or cs i 0) where
+  here_on : drop i cs ≡ n ∷ drop (i + 1) cs
+  here_on = drop_more cs i 0 h ∙ ap (λ m. m ∷ drop (i + 1) cs) (sym e)
+
+  pub first_here : IsNamed ns v n → FirstNamed ns v (drop i cs) (Some n)
+  first_here named = subst (λ l. FirstNamed ns v l (Some n)) (sym here_on) (here named)
+
+  pub first_later : (IsNamed ns v n → ⊥) → (found : Option ℕ) → FirstNamed ns v (drop (i + 1) cs) found → FirstNamed ns v (drop i cs) found
+  first_later other found rest = subst (λ l. FirstNamed ns v l found) (sym here_on) (later other rest)
+
+pub first_none : (ns : List Node) (v cs : List ℕ) (i : ℕ) → length cs ≤ i → FirstNamed ns v (drop i cs) None
+first_none ns v cs i h = subst (λ l. FirstNamed ns v l None) (sym (drop_all i cs h)) none

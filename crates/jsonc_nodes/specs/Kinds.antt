@@ -1,0 +1,43 @@
+-- The kinds of nodes that stand in a row, as readings tell them apart.
+use Rattle.std.specs.Prelude.{ℕ, Bool, true, false, List, ◌==◌, not}
+use Rattle.jsonc_tree.specs.Content.{Content, token, whitespace, newline, comment}
+use Rattle.jsonc_tree.specs.Tree.{Node, content_at}
+use Rattle.jsonc_tree.specs.Values.{is_passed_over}
+
+-- neither whitespace, a newline, a comment nor a token
+abbrev pub is_element : Content → Bool
+is_element content = not (is_passed_over content)
+
+abbrev pub is_colon : Content → Bool
+is_colon (token c) = c == 0x3A
+is_colon _ = false
+
+abbrev pub is_newline : Content → Bool
+is_newline (newline k) = true
+is_newline _ = false
+
+abbrev pub is_comment : Content → Bool
+is_comment (comment s) = true
+is_comment _ = false
+
+-- what may stand beside a node on its line: whitespace or a comment
+abbrev pub is_beside : Content → Bool
+is_beside (whitespace s) = true
+is_beside (comment s) = true
+is_beside _ = false
+
+-- the same of the nodes by their numbers
+abbrev pub is_element_at : List Node → ℕ → Bool
+is_element_at ns n = is_element (content_at ns n)
+
+abbrev pub is_colon_at : List Node → ℕ → Bool
+is_colon_at ns n = is_colon (content_at ns n)
+
+abbrev pub is_newline_at : List Node → ℕ → Bool
+is_newline_at ns n = is_newline (content_at ns n)
+
+abbrev pub is_comment_at : List Node → ℕ → Bool
+is_comment_at ns n = is_comment (content_at ns n)
+
+abbrev pub is_beside_at : List Node → ℕ → Bool
+is_beside_at ns n = is_beside (content_at ns n)

@@ -1,0 +1,5 @@
+pub mod Kinds
+pub mod Siblings
+pub mod Properties
+pub mod Comments
+pub mod Names

@@ -1,0 +1,64 @@
+-- What string leaves stand for, and the names of properties.
+use Rattle.std.specs.Prelude.{◌≡◌, ℕ, Bool, true, false, List, [], ◌∷◌, Option, Some, None, IsTrue, chars, String, string_bytes, if◌then◌else◌}
+use Rattle.std.specs.declared.borrow.CowStr.{CowStr}
+use Rattle.std.specs.Cow.{cow_str_bytes}
+use Rattle.jsonc_text.specs.Options.{all_on}
+use Rattle.jsonc_text.specs.Strings.{IsString}
+use Rattle.jsonc_text.specs.Text.{rest}
+use Rattle.jsonc_text.specs.declared.errors.ParseStringErrorKind.{ParseStringErrorKind}
+use Rattle.jsonc_string.specs.Told.{TellsError}
+use Rattle.jsonc_tree.specs.Content.{Content, property, string, text_of}
+use Rattle.jsonc_tree.specs.Tree.{Node, content_at}
+use Rattle.jsonc_tree.specs.Values.{is_loose_name}
+use Rattle.jsonc_nodes.specs.Properties.{name_at}
+
+-- a string stands at the front of the text, and stands for these characters, whatever follows it
+abbrev pub StandsFor : List ℕ → List ℕ → Type 0
+StandsFor bytes v = (r : List ℕ) × IsString all_on (chars bytes) v r
+
+-- no string stands at the front of the text, and the kind of fault is true of it
+pub record IsNoString (bytes : List ℕ) (kind : ParseStringErrorKind) : Type 0 where
+  pub none : (v : List ℕ) → StandsFor bytes v → ⊥
+  pub told : (i : ℕ) × TellsError true kind (rest bytes 0) (rest bytes i)
+
+-- a leaf of this content is this name: a string by what it stands for, a loose name by its text
+abbrev pub Names : Content → List ℕ → Type 0
+Names (string s) v = StandsFor s v
+Names content v = IsTrue (is_loose_name content) × (v ≡ chars (text_of content))
+
+-- the property has this name
+abbrev pub HasName : List Node → ℕ → List ℕ → Type 0
+HasName ns n v = (m : ℕ) × (name_at ns n ≡ Some m) × Names (content_at ns m) v
+
+-- the node is a property that has this name
+abbrev pub IsNamed : List Node → List ℕ → ℕ → Type 0
+IsNamed ns v n = (content_at ns n ≡ property) × HasName ns n v
+
+-- the first of these nodes that is a property of this name, if there is one
+pub data FirstNamed (ns : List Node) (v : List ℕ) : List ℕ → Option ℕ → Type 0 where
+  none : FirstNamed ns v [] None
+  here : {n : ℕ} {rest : List ℕ} → IsNamed ns v n → FirstNamed ns v (n ∷ rest) (Some n)
+  later : {n : ℕ} {rest : List ℕ} {found : Option ℕ} → (IsNamed ns v n → ⊥) → FirstNamed ns v rest found → FirstNamed ns v (n ∷ rest) found
+
+-- what R says of the characters of a text that was read, or none where R holds of no characters
+abbrev pub ReadsAs : {A : Type 0} → (List ℕ → Type 0) → Option (CowStr A) → Type 0
+ReadsAs R None = (v : List ℕ) → R v → ⊥
+ReadsAs R (Some s) = R (chars (cow_str_bytes s))
+
+-- the same of a text of its own
+abbrev pub NameReads : {A : Type 0} → (List ℕ → Type 0) → Option (String A) → Type 0
+NameReads R None = (v : List ℕ) → R v → ⊥
+NameReads R (Some s) = R (chars (string_bytes s))
+
+-- the text of a string leaf
+abbrev pub string_text : Content → Option (List ℕ)
+string_text (string s) = Some s
+string_text content = None
+
+abbrev pub is_string : Content → Bool
+is_string (string s) = true
+is_string _ = false
+
+-- the text of a loose name
+abbrev pub loose_name : Content → Option (List ℕ)
+loose_name content = if is_loose_name content then Some (text_of content) else None

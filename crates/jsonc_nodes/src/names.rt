@@ -1,0 +1,186 @@
+//! Decoded strings, and the names of properties.
+
+ghost use Rattle.std.specs.Prelude.{◌≡◌, ◌≢◌, ◌<◌, chars, length, string_bytes, IfErr, IfOk, IsTrue};
+ghost use Rattle.std.specs.Bool.{Decides};
+ghost use Rattle.std.specs.Option.{option_map};
+ghost use Rattle.jsonc_text.specs.declared.errors.ParseStringErrorKind.TheVariants.{OutOfMemory};
+ghost use Rattle.jsonc_tree.specs.Order.{text_at};
+ghost use Rattle.jsonc_tree.specs.Stored.{content_of};
+ghost use Rattle.jsonc_tree.specs.Tree.{children_at, content_at};
+ghost use Rattle.jsonc_nodes.specs.Names.{FirstNamed, HasName, IsNamed, IsNoString, Names, NameReads, ReadsAs, StandsFor};
+ghost use Rattle.jsonc_nodes.specs.Names.{is_string, loose_name, string_text};
+ghost use Rattle.jsonc_nodes.specs.Siblings.{IsThere};
+
+use crate::property::name_of;
+use crate::siblings::children_from;
+use jsonc_string::provider::parse_string;
+use jsonc_text::errors::ParseStringErrorKind;
+use jsonc_tree::{Kind, Tree};
+use std::alloc::{AllocError, Allocator};
+use std::borrow::CowStr;
+
+// The text of a string leaf.
+fn text_of_string<A: Allocator>(kind: &Kind<A>) -> Option<&str>
+    ensures { option_map (λ s. s.now) result ≡ string_text (content_of kind.now) }
+{
+    match kind {
+        Kind::String(s) => Some(s.as_str()),
+        Kind::StringPart(s) => Some(s.as_str()),
+        _ => None,
+    }
+}
+
+// The text of a word, number, `true`, `false` or `null`.
+fn text_of_loose_name<A: Allocator>(kind: &Kind<A>) -> Option<&str>
+    ensures { option_map (λ s. s.now) result ≡ loose_name (content_of kind.now) }
+{
+    match kind {
+        Kind::Word(s) | Kind::Number(s) => Some(s.as_str()),
+        Kind::WordPart(s) | Kind::NumberPart(s) => Some(s.as_str()),
+        Kind::Boolean(true) => Some("true"),
+        Kind::Boolean(false) => Some("false"),
+        Kind::Null => Some("null"),
+        _ => None,
+    }
+}
+
+// What the string at the front of a text stands for, or none where none stands there.
+fn front_string<'a, B: Allocator>(
+    alloc: B,
+    text: &'a str,
+) -> Result<Option<CowStr<'a, B>>, AllocError>
+    ensures { IfOk result (ReadsAs (StandsFor text.now)) }
+{
+    match parse_string(alloc, text) {
+        Ok(string) => Ok(Some(string)),
+        Err(fault) => match fault.kind {
+            ParseStringErrorKind::OutOfMemory => Err(AllocError),
+            _ => Ok(None),
+        },
+    }
+}
+
+/// What a string leaf stands for. What follows its closing quote is ignored.
+///
+/// A leaf's text with no quote in front is `UnterminatedStringLiteral`, want of memory `OutOfMemory`.
+pub fn decoded_value<A: Allocator, B: Allocator + Copy>(
+    alloc: B,
+    tree: &Tree<A>,
+    leaf: usize,
+) -> Result<String<B>, ParseStringErrorKind>
+    requires there { leaf < length tree.now.nodes }
+    requires string { IsTrue (is_string (content_at tree.now.nodes leaf)) }
+    ensures found { IfOk result (λ s. StandsFor (text_at tree.now.nodes leaf) (chars (string_bytes s))) }
+    ensures fault { IfErr result (λ k. k ≢ OutOfMemory → IsNoString (text_at tree.now.nodes leaf) k) }
+{
+    let Some(text) = text_of_string(tree.kind(leaf)) else {
+        unreachable!();
+    };
+    match parse_string(alloc, text) {
+        Ok(string) => match string.into_owned(alloc) {
+            Ok(string) => Ok(string),
+            Err(_) => Err(ParseStringErrorKind::OutOfMemory),
+        },
+        Err(fault) => Err(fault.kind),
+    }
+}
+
+// The name that a leaf is, or none where it is none.
+fn name_in<'a, A: Allocator, B: Allocator>(
+    alloc: B,
+    kind: &'a Kind<A>,
+) -> Result<Option<CowStr<'a, B>>, AllocError>
+    ensures { IfOk result (ReadsAs (Names (content_of kind.now))) }
+{
+    if let Some(text) = text_of_string(kind) {
+        return front_string(alloc, text);
+    }
+    match text_of_loose_name(kind) {
+        Some(text) => Ok(Some(CowStr::Borrowed(text))),
+        None => Ok(None),
+    }
+}
+
+// A property's name, decoded, or none where it has none that decodes.
+fn name_read<'a, A: Allocator, B: Allocator>(
+    alloc: B,
+    tree: &'a Tree<A>,
+    property: usize,
+) -> Result<Option<CowStr<'a, B>>, AllocError>
+    requires { property < length tree.now.nodes }
+    ensures { IfOk result (ReadsAs (HasName tree.now.nodes property)) }
+{
+    match name_of(tree, property) {
+        Some(leaf) => name_in(alloc, tree.kind(leaf)),
+        None => Ok(None),
+    }
+}
+
+/// A property's name with its escapes resolved, or none where it has no name that decodes.
+pub fn decoded_name<A: Allocator, B: Allocator + Copy>(
+    alloc: B,
+    tree: &Tree<A>,
+    property: usize,
+) -> Result<Option<String<B>>, AllocError>
+    requires { property < length tree.now.nodes }
+    ensures { IfOk result (NameReads (HasName tree.now.nodes property)) }
+{
+    match name_read(alloc, tree, property)? {
+        Some(name) => Ok(Some(name.into_owned(alloc)?)),
+        None => Ok(None),
+    }
+}
+
+// Whether a property has this name.
+fn has_name<A: Allocator, B: Allocator>(
+    alloc: B,
+    tree: &Tree<A>,
+    property: usize,
+    name: &str,
+) -> Result<bool, AllocError>
+    requires { property < length tree.now.nodes }
+    ensures { IfOk result (λ b. Decides b (HasName tree.now.nodes property (chars name.now))) }
+{
+    match name_read(alloc, tree, property)? {
+        Some(read) => Ok(read.as_str() == name),
+        None => Ok(false),
+    }
+}
+
+// Whether a node is there and is a property that has this name.
+fn is_named<A: Allocator, B: Allocator>(
+    alloc: B,
+    tree: &Tree<A>,
+    node: usize,
+    name: &str,
+) -> Result<bool, AllocError>
+    requires { node < length tree.now.nodes }
+    ensures { IfOk result (λ b. Decides b (IsNamed tree.now.nodes (chars name.now) node)) }
+{
+    match tree.kind(node) {
+        Kind::Property => has_name(alloc, tree, node, name),
+        _ => Ok(false),
+    }
+}
+
+/// The first property of a name among the children of an object. A name in quotes is decoded, and
+/// one that does not decode is passed over; any other name is its text.
+pub fn get<A: Allocator, B: Allocator + Copy>(
+    alloc: B,
+    tree: &Tree<A>,
+    object: usize,
+    name: &str,
+) -> Result<Option<usize>, AllocError>
+    requires { object < length tree.now.nodes }
+    ensures found { IfOk result (FirstNamed tree.now.nodes (chars name.now) (children_at tree.now.nodes object)) }
+    ensures there { IfOk result (IsThere tree.now.nodes) }
+{
+    let count = tree.child_count(object);
+    for place in 0..count {
+        let child = tree.child_at(object, place);
+        if is_named(alloc, tree, child, name)? {
+            return Ok(Some(child));
+        }
+    }
+    Ok(None)
+}

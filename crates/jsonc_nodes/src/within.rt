@@ -1,0 +1,73 @@
+//! The elements of a container: its children but trivia and tokens.
+
+ghost use Rattle.std.specs.Prelude.{◌≡◌, ◌<◌, length, IfOk};
+ghost use Rattle.std.specs.List.{find};
+ghost use Rattle.jsonc_tree.specs.Tree.{children_at};
+ghost use Rattle.jsonc_nodes.specs.Kinds.{is_element_at};
+ghost use Rattle.jsonc_nodes.specs.Siblings.{AreThere, IsThere, element_index_at, elements_at, siblings_after, siblings_before};
+
+use crate::kinds::is_element;
+use crate::siblings::{children_from, next_siblings, previous_siblings};
+use jsonc_tree::Tree;
+use std::alloc::{AllocError, Allocator};
+
+/// The children of a node, in order.
+pub fn children<A: Allocator, B: Allocator>(
+    alloc: B,
+    tree: &Tree<A>,
+    node: usize,
+) -> Result<Vec<usize, B>, AllocError>
+    requires { node < length tree.now.nodes }
+    ensures children { IfOk result (λ v. v.items ≡ children_at tree.now.nodes node) }
+    ensures there { IfOk result (λ v. AreThere tree.now.nodes v.items) }
+{
+    children_from(tree, node, 0).collect(alloc)
+}
+
+/// The elements of a node, in order.
+pub fn elements<A: Allocator, B: Allocator>(
+    alloc: B,
+    tree: &Tree<A>,
+    node: usize,
+) -> Result<Vec<usize, B>, AllocError>
+    requires { node < length tree.now.nodes }
+    ensures elements { IfOk result (λ v. v.items ≡ elements_at tree.now.nodes node) }
+    ensures there { IfOk result (λ v. AreThere tree.now.nodes v.items) }
+{
+    children_from(tree, node, 0)
+        .filter(|child| is_element(tree, *child))
+        .collect(alloc)
+}
+
+/// How many elements of its parent stand before a node, or none where it has no parent.
+///
+/// Of an element this is its place among the elements.
+pub fn element_index<A: Allocator>(tree: &Tree<A>, node: usize) -> Option<usize>
+    requires { node < length tree.now.nodes }
+    ensures { result ≡ element_index_at tree.now.nodes node }
+{
+    tree.parent(node)?;
+    Some(
+        previous_siblings(tree, node)
+            .filter(|sibling| is_element(tree, *sibling))
+            .count(),
+    )
+}
+
+/// The nearest element after a node, among its siblings.
+pub fn next_element<A: Allocator>(tree: &Tree<A>, node: usize) -> Option<usize>
+    requires { node < length tree.now.nodes }
+    ensures element { result ≡ find (is_element_at tree.now.nodes) (siblings_after tree.now.nodes node) }
+    ensures there { IsThere tree.now.nodes result }
+{
+    next_siblings(tree, node).find(|sibling| is_element(tree, *sibling))
+}
+
+/// The nearest element before a node, among its siblings.
+pub fn previous_element<A: Allocator>(tree: &Tree<A>, node: usize) -> Option<usize>
+    requires { node < length tree.now.nodes }
+    ensures element { result ≡ find (is_element_at tree.now.nodes) (siblings_before tree.now.nodes node) }
+    ensures there { IsThere tree.now.nodes result }
+{
+    previous_siblings(tree, node).find(|sibling| is_element(tree, *sibling))
+}
