@@ -10,6 +10,10 @@ ghost use Rattle.jsonc_layout.specs.Lines.{DocumentLinesEnd};
 ghost use Rattle.jsonc_layout.specs.Shape.{DocumentShaped};
 ghost use Rattle.jsonc_parser.specs.Document.{edit_error_text, printed_of, tree_of};
 
+mod access;
+mod into;
+mod node;
+
 use jsonc_layout::build;
 use jsonc_text::errors::ParseError;
 use jsonc_text::options::ParseOptions;
@@ -17,6 +21,11 @@ use jsonc_to_ast::collect::CollectOptions;
 use jsonc_to_ast::parse_to_ast;
 pub use jsonc_tree::CstNewlineKind;
 use jsonc_tree::Tree;
+pub use node::{
+    CstArray, CstBooleanLit, CstComment, CstContainerNode, CstLeafNode, CstNewline, CstNode,
+    CstNullKeyword, CstNumberLit, CstObject, CstObjectProp, CstRoot, CstStringLit, CstToken,
+    CstWhitespace, CstWordLit, ObjectPropName,
+};
 use std::alloc::Allocator;
 use std::error::Error;
 use std::fmt;
