@@ -1,7 +1,8 @@
 -- The nodes that a caller holds: the number of each, and the kind that it says.
-use Rattle.std.specs.Prelude.{◌≡◌, ◌↔◌, ℕ, ◌<◌, Bool, true, false, List, length, Option, Some}
+use Rattle.std.specs.Prelude.{◌≡◌, ◌↔◌, ℕ, ◌<◌, Bool, true, false, List, length, map, Option, Some, option_map}
 use Rattle.jsonc_tree.specs.Content.{Content}
-use Rattle.jsonc_tree.specs.Tree.{Node, content_at}
+use Rattle.jsonc_tree.specs.Tree.{Node, content_at, parent_at, children_at}
+use Rattle.jsonc_tree.specs.Order.{upward}
 use Rattle.jsonc_parser.specs.declared.cst.node.CstRoot.{CstRoot}
 use Rattle.jsonc_parser.specs.declared.cst.node.CstArray.{CstArray}
 use Rattle.jsonc_parser.specs.declared.cst.node.CstObject.{CstObject}
@@ -128,3 +129,25 @@ typed_at ns n = typed (content_at ns n) n
 -- there is a node of this number, and it is of this kind
 abbrev pub IsNodeOf : List Node → CstNode → Type 0
 IsNodeOf ns node = (number_of node < length ns) × (typed_at ns (number_of node) ≡ node)
+
+-- the container of this number, by what it is; no clause asks for that of a leaf
+abbrev pub typed_container : Content → ℕ → CstContainerNode
+typed_container Content.array n = Array (record { number = n })
+typed_container Content.object n = Object (record { number = n })
+typed_container Content.property n = ObjectProp (record { number = n })
+typed_container _ n = Root (record { number = n })
+
+abbrev pub container_of : List Node → ℕ → CstContainerNode
+container_of ns n = typed_container (content_at ns n) n
+
+-- the container that a node is a child of
+abbrev pub parent_node : List Node → ℕ → Option CstContainerNode
+parent_node ns n = option_map (container_of ns) (parent_at ns n)
+
+-- the containers above a node, nearest first
+abbrev pub nodes_above : List Node → ℕ → List CstContainerNode
+nodes_above ns n = map (container_of ns) (upward ns (parent_at ns n))
+
+-- a node's children, in order
+abbrev pub child_nodes : List Node → ℕ → List CstNode
+child_nodes ns n = map (typed_at ns) (children_at ns n)

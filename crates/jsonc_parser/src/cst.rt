@@ -12,15 +12,17 @@ ghost use Rattle.jsonc_parser.specs.Document.{edit_error_text, printed_of, tree_
 
 mod access;
 mod into;
+mod leaf;
 mod node;
 
+pub use access::AncestorIterator;
 use jsonc_layout::build;
 use jsonc_text::errors::ParseError;
 use jsonc_text::options::ParseOptions;
 use jsonc_to_ast::collect::CollectOptions;
 use jsonc_to_ast::parse_to_ast;
-pub use jsonc_tree::CstNewlineKind;
 use jsonc_tree::Tree;
+pub use jsonc_tree::{CstNewlineKind, Shown};
 pub use node::{
     CstArray, CstBooleanLit, CstComment, CstContainerNode, CstLeafNode, CstNewline, CstNode,
     CstNullKeyword, CstNumberLit, CstObject, CstObjectProp, CstRoot, CstStringLit, CstToken,
