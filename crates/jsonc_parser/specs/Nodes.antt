@@ -98,14 +98,15 @@ is_trivia_node (Leaf (Newline x)) = true
 is_trivia_node (Leaf (Comment x)) = true
 is_trivia_node _ = false
 
-module _ {T N : Type 0} (of : T → N) where
-  -- the node is one of these
+-- what follows speaks of one kind of node, or of content, by what makes it
+module _ {T N : Type 0} (kind : T → N) where
+  -- the node is of this kind
   abbrev pub IsOf : N → Type 0
-  IsOf node = (x : T) × (node ≡ of x)
+  IsOf node = (x : T) × (node ≡ kind x)
 
-  -- the result is the one that the node is of, or None where it is of none
+  -- the result is what a node of this kind is made of, and None of another node
   abbrev pub IsAs : N → Option T → Type 0
-  IsAs node result = (x : T) → (result ≡ Some x) ↔ (node ≡ of x)
+  IsAs node result = (x : T) → (result ≡ Some x) ↔ (node ≡ kind x)
 
 -- the node of this number, by what it is
 abbrev pub typed : Content → ℕ → CstNode

@@ -1,4 +1,9 @@
 //! The document: the tree of a text, in which every byte of it stands.
+//!
+//! A [`CstRootNode`] owns its nodes and names each by a number. A caller holds a [`CstNode`], or a
+//! node of one kind as [`CstObject`]: a number that says what it is the number of, and can be copied.
+//! It is asked together with its document, and [`CstRootNode::holds`] tells whether that has it; all
+//! nodes that a call answers are nodes of the document that was asked.
 ghost use Rattle.std.specs.Prelude.{◌≡◌, IfErr, IfOk, Option, Some, chars, string_bytes};
 ghost use Rattle.jsonc_text.specs.Faults.{IsFault};
 ghost use Rattle.jsonc_text.specs.Grammar.{IsDocument};

@@ -118,6 +118,8 @@ impl<A: Allocator> CstRootNode<A> {
     }
 
     /// Whether the document has this node: under its number stands one of its kind.
+    ///
+    /// That may be so of a node of another document too, since nodes are known by their numbers.
     pub fn holds(&self, node: CstNode) -> bool
         ensures { IsTrue result ↔ Holds self.now node }
     {
