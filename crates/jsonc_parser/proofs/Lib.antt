@@ -1,1 +1,2 @@
 pub mod Lent
+pub mod Family

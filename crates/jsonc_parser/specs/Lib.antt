@@ -1,1 +1,2 @@
 pub mod Document
+pub mod Nodes

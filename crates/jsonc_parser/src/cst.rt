@@ -1,4 +1,9 @@
 //! The document: the tree of a text, in which every byte of it stands.
+//!
+//! A [`CstRootNode`] owns its nodes and names each by a number. A caller holds a [`CstNode`], or a
+//! node of one kind as [`CstObject`]: a number that says what it is the number of, and can be copied.
+//! It is asked together with its document, and [`CstRootNode::holds`] tells whether that has it; all
+//! nodes that a call answers are nodes of the document that was asked.
 ghost use Rattle.std.specs.Prelude.{◌≡◌, IfErr, IfOk, Option, Some, true, chars, string_bytes};
 ghost use Rattle.jsonc_text.specs.Faults.{IsFault};
 ghost use Rattle.jsonc_text.specs.Grammar.{IsDocument};
@@ -11,13 +16,24 @@ ghost use Rattle.jsonc_layout.specs.Lines.{DocumentLinesEnd};
 ghost use Rattle.jsonc_layout.specs.Shape.{DocumentShaped};
 ghost use Rattle.jsonc_parser.specs.Document.{edit_error_text, printed_of, tree_of};
 
+mod access;
+mod into;
+mod leaf;
+mod node;
+
+pub use access::AncestorIterator;
 use jsonc_layout::build;
 use jsonc_text::errors::ParseError;
 use jsonc_text::options::ParseOptions;
 use jsonc_to_ast::collect::CollectOptions;
 use jsonc_to_ast::parse_to_ast;
-pub use jsonc_tree::CstNewlineKind;
 use jsonc_tree::Tree;
+pub use jsonc_tree::{CstNewlineKind, Shown};
+pub use node::{
+    CstArray, CstBooleanLit, CstComment, CstContainerNode, CstLeafNode, CstNewline, CstNode,
+    CstNullKeyword, CstNumberLit, CstObject, CstObjectProp, CstRoot, CstStringLit, CstToken,
+    CstWhitespace, CstWordLit, ObjectPropName,
+};
 use std::alloc::Allocator;
 use std::error::Error;
 use std::fmt;
