@@ -3,6 +3,7 @@
 use crate::awaited::Awaited;
 use crate::clones::copies;
 use crate::maps::changed_map;
+use crate::nodes::children;
 use crate::outcome::Outcome;
 use crate::tokens::decode_provided;
 use crate::tree_copies::tree_copies;
@@ -37,6 +38,7 @@ pub enum Call {
     Value,
     ValueCopies,
     Document,
+    Children,
     TokenCopy,
     MapChanges,
     TreeChanges,
@@ -45,7 +47,7 @@ pub enum Call {
 }
 
 /// All of them.
-pub const CALLS: [Call; 14] = [
+pub const CALLS: [Call; 15] = [
     Call::Decode,
     Call::DecodeProvided,
     Call::Scan,
@@ -55,6 +57,7 @@ pub const CALLS: [Call; 14] = [
     Call::Value,
     Call::ValueCopies,
     Call::Document,
+    Call::Children,
     Call::TokenCopy,
     Call::MapChanges,
     Call::TreeChanges,
@@ -91,6 +94,7 @@ pub fn outcome_of(call: Call, heap: Heap<'_>) -> Outcome {
         Call::Value => value(heap),
         Call::ValueCopies => copies(heap),
         Call::Document => document(heap),
+        Call::Children => children(heap),
         Call::TokenCopy => token_copy(heap),
         Call::MapChanges => changed_map(heap),
         Call::TreeChanges => changed_tree(heap),

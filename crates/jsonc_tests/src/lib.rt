@@ -12,6 +12,8 @@ mod clones;
 #[cfg(test)]
 mod maps;
 #[cfg(test)]
+mod nodes;
+#[cfg(test)]
 mod outcome;
 #[cfg(test)]
 mod refusals;
