@@ -2,16 +2,14 @@
 
 use crate::awaited::Awaited;
 use crate::clones::copies;
-<<<<<<< HEAD
 use crate::inputs::inputs;
-=======
 use crate::lines::laid_out;
->>>>>>> lines
 use crate::maps::changed_map;
 use crate::outcome::Outcome;
 use crate::tokens::decode_provided;
 use crate::tree_copies::tree_copies;
 use crate::trees::changed_tree;
+use crate::typed::children;
 use jsonc_engine::calls::{FromReader, ToWriter};
 use jsonc_engine::command::Command;
 use jsonc_engine::engine::{engine, run_on};
@@ -43,6 +41,7 @@ pub enum Call {
     Value,
     ValueCopies,
     Document,
+    Children,
     TokenCopy,
     MapChanges,
     TreeChanges,
@@ -52,7 +51,7 @@ pub enum Call {
 }
 
 /// All of them.
-pub const CALLS: [Call; 15] = [
+pub const CALLS: [Call; 17] = [
     Call::Decode,
     Call::DecodeProvided,
     Call::Inputs,
@@ -63,6 +62,7 @@ pub const CALLS: [Call; 15] = [
     Call::Value,
     Call::ValueCopies,
     Call::Document,
+    Call::Children,
     Call::TokenCopy,
     Call::MapChanges,
     Call::TreeChanges,
@@ -101,6 +101,7 @@ pub fn outcome_of(call: Call, heap: Heap<'_>) -> Outcome {
         Call::Value => value(heap),
         Call::ValueCopies => copies(heap),
         Call::Document => document(heap),
+        Call::Children => children(heap),
         Call::TokenCopy => token_copy(heap),
         Call::MapChanges => changed_map(heap),
         Call::TreeChanges => changed_tree(heap),

@@ -30,4 +30,6 @@ mod tree_copies;
 #[cfg(test)]
 mod trees;
 #[cfg(test)]
+mod typed;
+#[cfg(test)]
 mod unasked;
