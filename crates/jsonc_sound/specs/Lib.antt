@@ -1,3 +1,5 @@
 pub mod Changes
 pub mod TreeChanges
 pub mod Sound
+pub mod Followers
+pub mod Laws
