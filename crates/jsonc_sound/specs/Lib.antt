@@ -3,3 +3,4 @@ pub mod TreeChanges
 pub mod Sound
 pub mod Followers
 pub mod Laws
+pub mod Worked

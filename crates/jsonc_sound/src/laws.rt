@@ -5,6 +5,7 @@ ghost use Rattle.jsonc_text.specs.Plain.{Plain};
 ghost use Rattle.jsonc_tree.specs.OrderedTree.{OrderedTree};
 ghost use Rattle.jsonc_sound.specs.Followers.{StandsInRows};
 ghost use Rattle.jsonc_sound.specs.Laws.{StaysSound, ChangesValue, KeepsLeavesAround};
+ghost use Rattle.jsonc_sound.specs.Worked.{AreElements, IsWorkedChange};
 ghost use Rattle.jsonc_sound.specs.Sound.{IsValueBefore};
 ghost use Rattle.jsonc_sound.specs.TreeChanges.{Top};
 
@@ -29,4 +30,9 @@ pub fn changed_documents_have_changed_values()
 /// The leaves before and after a value that gives way stay, and with them what they print.
 pub fn changes_keep_the_leaves_around()
     ensures { (t : OrderedTree) → KeepsLeavesAround t }
+{}
+
+/// A worked row: in `{a:[1,_]}` the value in the place of the `_` stands at the path 0, 1.
+pub fn worked_changes()
+    ensures { (was now : Top) → AreElements was now → IsWorkedChange was now }
 {}
