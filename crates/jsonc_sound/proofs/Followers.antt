@@ -19,7 +19,8 @@ use Rattle.jsonc_layout.specs.Shape.{IsTrivia, Trivia, IsLiteralBefore, IsNameBe
 use Rattle.jsonc_layout.proofs.ShapeTexts.{text_leaf, trivia_utf8}
 use Rattle.jsonc_layout.proofs.ShapeValues.{Mark, comma_mark, mark_text}
 use Rattle.jsonc_sound.specs.Followers.{ends_literals, EndsLiterals}
-use Rattle.jsonc_sound.proofs.NumberEnds.{alike_next, alike_ends, goes_on_apart, may_follow_swapped}
+use Rattle.jsonc_sound.proofs.Characters.{goes_on_apart}
+use Rattle.jsonc_sound.proofs.NumberEnds.{alike_next, alike_ends, may_follow_swapped}
 
 -- a lexeme before another text before which it can end
 lexeme_moved : (o : Options) (k : LexemeKind) (s r z : List ℕ) → (CanEndBefore (lexeme k) s r → CanEndBefore (lexeme k) s z) → Lexeme o k (s ++ r) r → Lexeme o k (s ++ z) z

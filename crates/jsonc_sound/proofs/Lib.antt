@@ -1,5 +1,6 @@
 pub mod FirstNodes
 pub mod LeavesAround
+pub mod Characters
 pub mod NumberEnds
 pub mod Followers
 pub mod Rows
