@@ -2,7 +2,7 @@
 use Rattle.std.proofs.Common.{ℕ, ◌+◌, ◌<◌, ◌≤◌, ◌≡◌, ◌∙◌, sym, ap, subst, refl, inl, inr, List, [], ◌∷◌, ◌++◌, ◌==◌, length, arith, IsTrue, Bool, true, false, not, IsUtf8, IsCharBoundary, chars, encode_utf8_all}
 use Rattle.std.proofs.lemmas.Str.{IsUtf8-between}
 use Rattle.jsonc_text.specs.Options.{Options}
-use Rattle.jsonc_text.specs.Text.{rest, next, no, starts, byte_length, Many, stop, step, AllOf, all_of}
+use Rattle.jsonc_text.specs.Text.{rest, next, no, starts, byte_length, Many, stop, step, all_of}
 use Rattle.jsonc_text.specs.Gaps as gaps
 use Rattle.jsonc_text.specs.Gaps.{Gap, is_blank, is_in_line, LineComment, line, BlockComment, block, UpToBlockEnd, here, later, IsComment}
 use Rattle.jsonc_text.specs.Lexemes.{line_comment, block_comment}
@@ -22,11 +22,11 @@ use Rattle.jsonc_layout.proofs.LexemeEnds.{many_length}
 use Rattle.jsonc_layout.proofs.Stretches.{separator_no_slash}
 
 -- what stands at the front of a text, alone
-all_alone : {p : ℕ → Bool} {t r : List ℕ} (s : List ℕ) → AllOf p t r → t ≡ s ++ r → AllOf p s []
-all_alone {r = r} s (all_of {c = c} h g n) e =
+many_alone : {p : ℕ → Bool} {t r : List ℕ} (s : List ℕ) → Many p t r → t ≡ s ++ r → Many p s []
+many_alone {r = r} s g e =
     let k = many_cut [] r g refl in
-    let same : s ≡ c ∷ k.text = front_same refl (sym e ∙ ap (λ x. c ∷ x) k.split) in
-    rw same (all_of h k.here refl)
+    let same : s ≡ k.text = front_same refl (sym e ∙ k.split) in
+    rw same k.here
 
 comment_alone : (o : Options) {t r : List ℕ} (s : List ℕ) → IsComment t r → t ≡ s ++ r → IsComment s []
 comment_alone o {r = r} s (inl (line m n)) e =
@@ -119,7 +119,7 @@ module _ (o : Options) where
     peel cr_lf x (gaps.comment a k g) n = absurd (comment_no_blank k refl)
     peel (cr d) x (gaps.blank h g) n = goes_on tt g
     peel (cr d) x (gaps.comment a k g) n = absurd (comment_no_blank k refl)
-    peel {u = u} (blanks s e (all_of h m last) split) x (gaps.blank k g) n = goes_on (is_text (AllOf is_inner_blank) s u x split e (all_alone s (all_of h m last) split)) (gap_past_blanks m n g)
+    peel {u = u} (blanks s e (all_of h m last) split) x (gaps.blank k g) n = goes_on (is_text (Many is_inner_blank) s u x split e (many_alone s (step h m) split)) (gap_past_blanks m n g)
     peel (blanks s e (all_of {c = c} h m last) split) x (gaps.comment a k g) n = absurd (comment_no_blank k (and_both (is_blank c) _ h).0)
     peel (a_comment s e k split) x (gaps.blank h g) n = absurd (comment_no_blank k h)
     peel {u = u} {r = r} (a_comment s e k split) x (gaps.comment a l g) n = goes_on (a, is_text IsComment s u x split e (comment_alone o s k split)) (subst (λ v. Gap o v r) (comment_unique l k) g)

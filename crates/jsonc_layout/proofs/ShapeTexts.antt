@@ -4,7 +4,7 @@ use Rattle.std.proofs.lemmas.List.{append_assoc}
 use Rattle.std.proofs.lemmas.Str.{chars-nil, chars-append, chars-IsAscii, IsUtf8-append, IsUtf8-from_ascii, encodes-chars}
 use lib.Utf8.{encode}
 use Rattle.jsonc_text.specs.Options.{Options}
-use Rattle.jsonc_text.specs.Text.{next, no, Many, stop, step, AllOf, all_of}
+use Rattle.jsonc_text.specs.Text.{next, no, Many, stop, step}
 use Rattle.jsonc_text.specs.Gaps as gaps
 use Rattle.jsonc_text.specs.Gaps.{Gap, is_blank, is_in_line, LineComment, line, BlockComment, block, IsComment}
 use Rattle.jsonc_text.specs.Plain.{Plain, Items, Members}
@@ -77,9 +77,6 @@ blanks_gap : {o : Options} {s u : List ℕ} (t : List ℕ) → Many is_inner_bla
 blanks_gap t stop e = rw e gaps.none
 blanks_gap t (step {c = c} h g) e = gaps.blank (and_both (is_blank c) _ h).0 (blanks_gap t g e)
 
-all_gap : {o : Options} {s u : List ℕ} (t : List ℕ) → AllOf is_inner_blank s u → u ≡ [] → Gap o (s ++ t) t
-all_gap t (all_of {c = c} h g n) e = gaps.blank (and_both (is_blank c) _ h).0 (blanks_gap t g e)
-
 -- a comment alone is one before a text that ends its line, if it is a line comment
 begins_line : (s : List ℕ) {t : List ℕ} → IsUtf8 s → chars s ≡ 0x2F ∷ 0x2F ∷ t → IsTrue (is_line_comment (Content.comment s))
 unfolding encode
@@ -117,7 +114,7 @@ row_ends at_end z f (more (Content.comment s) below after) h = cc
 
 -- leaves of trivia are gaps, and have no value
 leaf_gap : (o : Options) (content : Content) (x : List ℕ) → IsTrivia o content → (IsTrue (is_line_comment content) → IsTrue (no is_in_line (next x))) → Gap o (chars (text_of content) ++ x) x
-leaf_gap o (Content.whitespace s) x h f = all_gap x h.1 refl
+leaf_gap o (Content.whitespace s) x h f = blanks_gap x h.1 refl
 leaf_gap o (Content.newline k) x h f = subst (λ t. Gap o (t ++ x) x) (sym (newline_chars k)) (newline_gap o k x)
 leaf_gap o (Content.comment s) x h f = gaps.comment h.0 (comment_before o s x h.1.0 h.1.1 f) gaps.none
 leaf_gap o Content.root x h f = absurd h

@@ -25,16 +25,16 @@ use Rattle.jsonc_layout.proofs.LexemeEnds.{lexeme_more}
 use Rattle.jsonc_layout.proofs.ShapeTexts.{text_more, text_leaf, trivia_gap, trivia_items, trivia_members, trivia_value, trivia_none, trivia_row_utf8, trivia_some}
 
 -- punctuation is one byte
-record Mark (c : ℕ) : Type 0 where
+pub record Mark (c : ℕ) : Type 0 where
   bytes : encode_utf8 c ≡ c ∷ []
   utf8 : IsUtf8 (c ∷ [])
   text : chars (c ∷ []) ≡ c ∷ []
 
-comma_mark : Mark 0x2C
+pub comma_mark : Mark 0x2C
 unfolding encode
 comma_mark = record { bytes = refl; utf8 = IsUtf8-from_ascii (0x2C ∷ []) (search rules); text = chars-IsAscii (0x2C ∷ []) (search rules) }
 
-colon_mark : Mark 0x3A
+pub colon_mark : Mark 0x3A
 unfolding encode
 colon_mark = record { bytes = refl; utf8 = IsUtf8-from_ascii (0x3A ∷ []) (search rules); text = chars-IsAscii (0x3A ∷ []) (search rules) }
 
@@ -42,7 +42,7 @@ bracket_mark : Mark 0x5B
 unfolding encode
 bracket_mark = record { bytes = refl; utf8 = IsUtf8-from_ascii (0x5B ∷ []) (search rules); text = chars-IsAscii (0x5B ∷ []) (search rules) }
 
-close_bracket_mark : Mark 0x5D
+pub close_bracket_mark : Mark 0x5D
 unfolding encode
 close_bracket_mark = record { bytes = refl; utf8 = IsUtf8-from_ascii (0x5D ∷ []) (search rules); text = chars-IsAscii (0x5D ∷ []) (search rules) }
 
@@ -50,11 +50,11 @@ brace_mark : Mark 0x7B
 unfolding encode
 brace_mark = record { bytes = refl; utf8 = IsUtf8-from_ascii (0x7B ∷ []) (search rules); text = chars-IsAscii (0x7B ∷ []) (search rules) }
 
-close_brace_mark : Mark 0x7D
+pub close_brace_mark : Mark 0x7D
 unfolding encode
 close_brace_mark = record { bytes = refl; utf8 = IsUtf8-from_ascii (0x7D ∷ []) (search rules); text = chars-IsAscii (0x7D ∷ []) (search rules) }
 
-mark_text : {c : ℕ} → Mark c → (row : OrderedTree) → printed_text (token_then c row) ≡ c ∷ printed_text row
+pub mark_text : {c : ℕ} → Mark c → (row : OrderedTree) → printed_text (token_then c row) ≡ c ∷ printed_text row
 mark_text {c} m row = text_leaf (Content.token c) row (subst IsUtf8 (sym m.bytes) m.utf8) ∙ ap (λ t. t ++ printed_text row) (ap chars m.bytes ∙ m.text)
 
 mark_utf8 : {c : ℕ} → Mark c → (row : OrderedTree) → IsUtf8 (printed row) → IsUtf8 (printed (token_then c row))

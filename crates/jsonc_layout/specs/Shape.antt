@@ -1,7 +1,7 @@
 -- The shape of a document's tree, by the options: what each leaf is, and how the nodes of a row follow one another, in the order of the grammar.
 use Rattle.std.specs.Prelude.{ℕ, Option, List, [], ◌++◌, IsTrue, IsUtf8, chars}
 use Rattle.jsonc_text.specs.Options.{Options}
-use Rattle.jsonc_text.specs.Text.{next, AllOf}
+use Rattle.jsonc_text.specs.Text.{next, Many}
 use Rattle.jsonc_text.specs.Gaps.{IsComment}
 use Rattle.jsonc_text.specs.Words.{EndsThere}
 use Rattle.jsonc_text.specs.Lexemes.{LexemeKind, Lexeme}
@@ -16,9 +16,9 @@ use Rattle.jsonc_layout.specs.Leaves.{is_inner_blank}
 abbrev pub IsText : (List ℕ → List ℕ → Type 0) → List ℕ → Type 0
 IsText R bytes = IsUtf8 bytes × R (chars bytes) []
 
--- a leaf of trivia: blanks without LF and CR, at least one; a line's end; or, where o allows it, a comment
+-- a leaf of trivia: blanks without LF and CR, or none at all, as an indent of no blanks; a line's end; or, where o allows it, a comment
 abbrev pub IsTrivia : Options → Content → Type 0
-IsTrivia o (Content.whitespace s) = IsText (AllOf is_inner_blank) s
+IsTrivia o (Content.whitespace s) = IsText (Many is_inner_blank) s
 IsTrivia o (Content.newline k) = Unit {0}
 IsTrivia o (Content.comment s) = IsTrue o.comments × IsText IsComment s
 IsTrivia o _ = ⊥

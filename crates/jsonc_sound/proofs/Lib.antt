@@ -1,0 +1,9 @@
+pub mod FirstNodes
+pub mod LeavesAround
+pub mod Characters
+pub mod NumberEnds
+pub mod Followers
+pub mod Rows
+pub mod Shapes
+pub mod Lines
+pub mod Values

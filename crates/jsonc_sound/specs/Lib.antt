@@ -1,0 +1,6 @@
+pub mod Changes
+pub mod TreeChanges
+pub mod Sound
+pub mod Followers
+pub mod Laws
+pub mod Worked
