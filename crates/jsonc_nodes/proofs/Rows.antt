@@ -10,7 +10,7 @@ use Rattle.std.proofs.lemmas.Iterator.Search.{find_from_yields_List, position_fr
 use denote.Param.Members.{Mut}
 use denote.Ref.{Bor}
 
-option_map_same : (r : Option ℕ) → option_map (λ x. x) r ≡ r
+pub option_map_same : (r : Option ℕ) → option_map (λ x. x) r ≡ r
 option_map_same None = refl
 option_map_same (Some x) = refl
 

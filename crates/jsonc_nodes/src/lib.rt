@@ -19,4 +19,4 @@ pub use siblings::{
     Children, PreviousSiblings, child_at_index, children_from, next_sibling, next_siblings,
     previous_sibling, previous_siblings, root_node,
 };
-pub use within::{children, element_index, elements, next_element, previous_element};
+pub use within::{children, element_at, element_index, elements, next_element, previous_element};

@@ -1,7 +1,7 @@
 //! The elements of a container: its children but trivia and tokens.
 
 ghost use Rattle.std.specs.Prelude.{◌≡◌, ◌<◌, length, IfOk};
-ghost use Rattle.std.specs.List.{find};
+ghost use Rattle.std.specs.List.{find, slice_get};
 ghost use Rattle.jsonc_tree.specs.Tree.{children_at};
 ghost use Rattle.jsonc_nodes.specs.Kinds.{is_element_at};
 ghost use Rattle.jsonc_nodes.specs.Siblings.{AreThere, IsThere, element_index_at, elements_at, siblings_after, siblings_before};
@@ -37,6 +37,17 @@ pub fn elements<A: Allocator, B: Allocator>(
     children_from(tree, node, 0)
         .filter(|child| is_element(tree, *child))
         .collect(alloc)
+}
+
+/// The element at a place among the elements of a node, counted from 0, or none where there are fewer.
+pub fn element_at<A: Allocator>(tree: &Tree<A>, node: usize, place: usize) -> Option<usize>
+    requires { node < length tree.now.nodes }
+    ensures element { result ≡ slice_get (elements_at tree.now.nodes node) place }
+    ensures there { IsThere tree.now.nodes result }
+{
+    children_from(tree, node, 0)
+        .filter(|candidate| is_element(tree, *candidate))
+        .nth(place)
 }
 
 /// How many elements of its parent stand before a node, or none where it has no parent.

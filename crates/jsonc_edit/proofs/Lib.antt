@@ -1,0 +1,5 @@
+pub mod Elements
+pub mod Uniqueness
+pub mod Walk
+pub mod Splices
+pub mod Finding

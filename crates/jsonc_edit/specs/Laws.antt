@@ -1,0 +1,44 @@
+-- Laws of paths and changes: what is said of each list of nodes, node or change.
+use Rattle.std.specs.Prelude.{◌≡◌, ◌<◌, ℕ, List, length, take, drop}
+use Rattle.jsonc_tree.specs.Content.{with_text}
+use Rattle.jsonc_tree.specs.Tree.{Node, content_at, children_at, IsTree, IsOver}
+use Rattle.jsonc_tree.specs.OrderedTree.{OrderedTree, followed_by, Shows}
+use Rattle.jsonc_edit.specs.Paths.{IsAt}
+use Rattle.jsonc_edit.specs.Changes.{row_below, top_at, ChangesAt, Replaces, Respliced, Rewritten}
+
+-- a path leads to no two nodes
+abbrev pub HasOneNode : List Node → List ℕ → Type 0
+HasOneNode ns path = (n m : ℕ) → IsAt ns path n → IsAt ns path m → n ≡ m
+
+-- in a tree no two paths lead to a node
+abbrev pub HasOnePath : List Node → ℕ → Type 0
+HasOnePath ns n = IsTree ns → (p q : List ℕ) → IsAt ns p n → IsAt ns q n → p ≡ q
+
+-- in a tree a node's children stand for the row below it
+abbrev pub ShowsBelow : List Node → ℕ → Type 0
+ShowsBelow ns n = IsTree ns → n < length ns → Shows ns (children_at ns n) (row_below ns n)
+
+-- where n stood, the document has changed to m with the row below that
+abbrev pub ReplacesAtPath : List Node → List Node → ℕ → ℕ → Type 0
+ReplacesAtPath old new n m = Replaces old new n m → ChangesAt old new n (top_at old m)
+
+-- m and the row below it are what they were
+abbrev pub KeepsReplacement : List Node → List Node → ℕ → ℕ → Type 0
+KeepsReplacement old new n m = Replaces old new n m → top_at new m ≡ top_at old m
+
+-- each node over c, and c itself, has changed where it stands to the row that is now below it
+abbrev pub ChangesOver : List Node → List Node → ℕ → Type 0
+ChangesOver old new c = (n : ℕ) → IsOver old n c → ChangesAt old new n (top_at new n)
+
+-- any other node, and the row below it, are what they were
+abbrev pub KeepsOthers : List Node → List Node → ℕ → Type 0
+KeepsOthers old new c = (n : ℕ) → n < length old → (IsOver old n c → ⊥) → top_at new n ≡ top_at old n
+
+-- the row below c is now what the children before the stretch stood for, what those stand for that were put in, and what those after it stood for
+abbrev pub HasNewRow : {old new : List Node} {c : ℕ} → Respliced old new c → Type 0
+HasNewRow {old} {new} {c} s =
+    (front inner back : OrderedTree) → Shows old (take s.from (children_at old c)) front → Shows old s.put inner → Shows old (drop s.to (children_at old c)) back → row_below new c ≡ followed_by front (followed_by inner back)
+
+-- the leaf has the new text, over what was below it
+abbrev pub HasNewText : {old new : List Node} {leaf : ℕ} → Rewritten old new leaf → Type 0
+HasNewText {old} {new} {leaf} r = top_at new leaf ≡ record { content = with_text (content_at old leaf) r.text; below = row_below old leaf }

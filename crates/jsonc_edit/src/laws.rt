@@ -1,0 +1,42 @@
+//! Laws of the definitions: each is the contract of a function that does nothing.
+ghost use Rattle.std.specs.Prelude.{List, ℕ};
+ghost use Rattle.jsonc_tree.specs.Tree.{Node};
+ghost use Rattle.jsonc_edit.specs.Laws.{HasOneNode, HasOnePath, ShowsBelow};
+ghost use Rattle.jsonc_edit.specs.Laws.{ReplacesAtPath, KeepsReplacement};
+ghost use Rattle.jsonc_edit.specs.Laws.{ChangesOver, KeepsOthers, HasNewRow, HasNewText};
+ghost use Rattle.jsonc_edit.specs.Changes.{Respliced, Rewritten};
+
+/// A path leads to at most one node, and in a tree at most one path leads to a node.
+pub fn one_path()
+    ensures node { (ns : List Node) (path : List ℕ) → HasOneNode ns path }
+    ensures path { (ns : List Node) (n : ℕ) → HasOnePath ns n }
+{}
+
+/// The children of a node stand for the row of ordered trees below it.
+pub fn children_stand_for_the_row_below()
+    ensures { (ns : List Node) (n : ℕ) → ShowsBelow ns n }
+{}
+
+/// An element that gives way to another node changes the document at its path, to that node with
+/// the row below it; and this node and its row are what they were.
+pub fn replaced_nodes_change_their_place()
+    ensures changed { (old new : List Node) (n m : ℕ) → ReplacesAtPath old new n m }
+    ensures kept { (old new : List Node) (n m : ℕ) → KeepsReplacement old new n m }
+{}
+
+/// A splice of a container's children changes the document at the path of the container, or of each
+/// value over it, to the row that is now below. The container's is what stood before the stretch,
+/// what was put in, and what stood after. Any other node is what it was.
+pub fn spliced_rows_change_their_place()
+    ensures changed { (old new : List Node) (c : ℕ) → Respliced old new c → ChangesOver old new c }
+    ensures row { (old new : List Node) (c : ℕ) (s : Respliced old new c) → HasNewRow s }
+    ensures kept { (old new : List Node) (c : ℕ) → Respliced old new c → KeepsOthers old new c }
+{}
+
+/// A leaf that gets another text changes the document at its path, or at that of each value over
+/// it, to the row that is now below. The leaf has the new text, and any other node is what it was.
+pub fn rewritten_leaves_change_their_place()
+    ensures changed { (old new : List Node) (n : ℕ) → Rewritten old new n → ChangesOver old new n }
+    ensures text { (old new : List Node) (n : ℕ) (r : Rewritten old new n) → HasNewText r }
+    ensures kept { (old new : List Node) (n : ℕ) → Rewritten old new n → KeepsOthers old new n }
+{}

@@ -1,0 +1,13 @@
+//! What edits stand on: where a node stands in its document, and what the change of one node makes
+//! of the document.
+//!
+//! A value has a path from the document's value: its place among the elements of its array, or that
+//! of its property among the properties of its object, at each level (`specs/Paths.antt`); [`find`]
+//! answers the value at a path. A change of the list of nodes that touches one node alone is in the
+//! ordered tree a change at that path (`specs/Changes.antt`, `specs/Laws.antt`).
+#![tactic(auto)]
+
+pub mod laws;
+mod paths;
+
+pub use paths::find;

@@ -1,0 +1,48 @@
+//! Nodes by their paths.
+
+ghost use Rattle.std.specs.Prelude.{◌<◌, length};
+ghost use Rattle.jsonc_nodes.specs.Siblings.{IsThere};
+ghost use Rattle.jsonc_edit.specs.Paths.{FindsExactly, IsAt, IsHeldBy, StepsTo};
+
+use jsonc_nodes::element_at;
+use jsonc_tree::{Kind, Tree};
+use std::alloc::Allocator;
+
+// What stands beside the name in a property.
+fn held_by<A: Allocator>(tree: &Tree<A>, property: usize) -> Option<usize>
+    requires { property < length tree.now.nodes }
+    ensures held { FindsExactly result (IsHeldBy tree.now.nodes property) }
+    ensures there { IsThere tree.now.nodes result }
+{
+    match tree.kind(property) {
+        Kind::Property => element_at(tree, property, 1),
+        _ => None,
+    }
+}
+
+// What one step of a path leads to.
+fn step<A: Allocator>(tree: &Tree<A>, value: usize, place: usize) -> Option<usize>
+    requires { value < length tree.now.nodes }
+    ensures stepped { FindsExactly result (StepsTo tree.now.nodes value place) }
+    ensures there { IsThere tree.now.nodes result }
+{
+    match tree.kind(value) {
+        Kind::Array => element_at(tree, value, place),
+        Kind::Object => held_by(tree, element_at(tree, value, place)?),
+        _ => None,
+    }
+}
+
+/// The value at a path from the document's value, where each step is a place among the elements of
+/// an array or among the properties of an object. None where the path leads to nothing.
+pub fn find<A: Allocator>(tree: &Tree<A>, path: &[usize]) -> Option<usize>
+    ensures found { FindsExactly result (IsAt tree.now.nodes path.now) }
+    ensures there { IsThere tree.now.nodes result }
+{
+    let _ = tree.len();
+    let mut value = element_at(tree, 0, 0)?;
+    for place in path {
+        value = step(tree, value, *place)?;
+    }
+    Some(value)
+}
