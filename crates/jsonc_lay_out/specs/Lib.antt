@@ -1,0 +1,4 @@
+pub mod Layout
+pub mod Laid
+pub mod Extending
+pub mod Texts
