@@ -42,7 +42,8 @@ blanks ns row = flat_map (text_at ns) (take_while (is_whitespace_at ns) row)
 abbrev pub blanks_at : List Node → ℕ → List ℕ
 blanks_at ns n = blanks ns (line_before ns n)
 
--- the indent of the node: what its line begins with, if that is a whitespace leaf, and nothing but trivia stands before the node there
+-- the indent of the node: that whitespace, if there is any leaf of it, and nothing but trivia stands
+-- before the node on its line
 abbrev pub indent_at : List Node → ℕ → Option (List ℕ)
 indent_at ns n = if begins_line ns n && is_some (first_blank_at ns n) then Some (blanks_at ns n) else None
 
