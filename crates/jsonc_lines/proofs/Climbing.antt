@@ -1,8 +1,8 @@
 -- The nodes above a node, a step.
-use Rattle.std.proofs.Common.{◌≡◌, ℕ, suc, ◌<◌, ◌||◌, true, false, cond, eqb, List, [], ◌∷◌, length, Option, None, Some, IfSome, refl, ap, sym, subst, ◌∙◌, arith}
+use Rattle.std.proofs.Common.{◌≡◌, ℕ, suc, ◌<◌, true, false, cond, eqb, List, [], ◌∷◌, length, Option, None, Some, IfSome, refl, ap, sym, subst, ◌∙◌, arith}
 use Rattle.std.proofs.lemmas.Bool.{ne_eqb}
 use Rattle.jsonc_tree.specs.Order.{upward}
-use Rattle.jsonc_tree.specs.Tree.{Node, content_at, parent_at, is_in, IsTree}
+use Rattle.jsonc_tree.specs.Tree.{Node, content_at, parent_at, IsTree}
 use Rattle.jsonc_tree.proofs.Order.{levels, one_more, levels_parent, upward_is, upward_none}
 use Rattle.jsonc_lines.specs.Indents.{beyond_properties, is_property, is_property_at, levels_among}
 
@@ -61,15 +61,3 @@ module _ (ns : List Node) (tree : IsTree ns) where
       among_step next at parent is there said
       ∙ ap (λ b. cond b [] (cond (is_property_at ns (parent_at ns at)) (levels_among ns (upward ns parent)) (at ∷ levels_among ns (upward ns parent)))) (ne_eqb at 0 other)
       ∙ ap (λ b. cond b (levels_among ns (upward ns parent)) (at ∷ levels_among ns (upward ns parent))) e
-
-  -- the root among the nodes from here up
-  pub root_here : (next : Option ℕ) (at : ℕ) → next ≡ Some at → IfSome next (λ m. m < length ns) → at ≡ 0 → is_in 0 (upward ns next) ≡ true
-  root_here next at is there e =
-      ap (is_in 0) (climb next at (parent_at ns at) is there refl) ∙ ap (λ k. is_in 0 (k ∷ upward ns (parent_at ns at))) e
-
-  pub root_above : (next : Option ℕ) (at : ℕ) (parent : Option ℕ) → next ≡ Some at → IfSome next (λ m. m < length ns) → parent ≡ parent_at ns at → (at ≡ 0 → ⊥) → is_in 0 (upward ns next) ≡ is_in 0 (upward ns parent)
-  root_above next at parent is there said other =
-      ap (is_in 0) (climb next at parent is there said) ∙ ap (λ b. b || is_in 0 (upward ns parent)) (ne_eqb 0 at (λ e. other (sym e)))
-
-  pub root_nowhere : (next : Option ℕ) → next ≡ None → is_in 0 (upward ns next) ≡ false
-  root_nowhere next is = ap (is_in 0) (climbed next is)

@@ -1,4 +1,3 @@
 pub mod Walking
-pub mod LineStarts
 pub mod Levels
 pub mod Climbing

@@ -5,15 +5,20 @@ use Rattle.jsonc_tree.specs.Content.{Content, newline}
 use Rattle.jsonc_tree.specs.Tree.{Node, content_at, children_at}
 use Rattle.jsonc_tree.specs.declared.node.CstNewlineKind.{CstNewlineKind}
 use Rattle.jsonc_tree.specs.declared.node.CstNewlineKind.TheVariants.{LineFeed}
-use Rattle.jsonc_lines.specs.Kinds.{holds_values, is_element, is_newline, is_whitespace}
+use Rattle.jsonc_nodes.specs.Kinds.{is_element_at, is_newline_at, is_whitespace_at}
+use Rattle.jsonc_lines.specs.Kinds.{holds_values}
 use Rattle.jsonc_lines.specs.Siblings.{trailing_comma_at}
 use Rattle.jsonc_lines.specs.declared.breadth.Sought.{Sought}
 use Rattle.jsonc_lines.specs.declared.breadth.Sought.TheVariants.{LineEnd, SpacedElements}
 
+-- the children of these nodes, in order
+abbrev pub level_below : List Node → List ℕ → List ℕ
+level_below ns level = flat_map (children_at ns) level
+
 -- these nodes and those below them, level after level, down to a depth
 abbrev pub levels : ℕ → List Node → List ℕ → List ℕ
 levels zero ns level = []
-levels (suc depth) ns level = level ++ levels depth ns (flat_map (children_at ns) level)
+levels (suc depth) ns level = level ++ levels depth ns (level_below ns level)
 
 -- a node and those below it, breadth first: no node is deeper than there are nodes
 abbrev pub breadth_first : List Node → ℕ → List ℕ
@@ -21,11 +26,11 @@ breadth_first ns n = levels (length ns) ns (n ∷ [])
 
 -- whitespace is among the children of the node
 abbrev pub has_whitespace : List Node → ℕ → Bool
-has_whitespace ns n = list_any (λ m. is_whitespace (content_at ns m)) (children_at ns n)
+has_whitespace ns n = list_any (is_whitespace_at ns) (children_at ns n)
 
 -- the last element of a row
 abbrev pub last_element : List Node → List ℕ → Option ℕ
-last_element ns row = find (λ m. is_element (content_at ns m)) (reverse row)
+last_element ns row = find (is_element_at ns) (reverse row)
 
 -- an array or object with whitespace and an element
 abbrev pub is_spaced : List Node → ℕ → Bool
@@ -33,7 +38,7 @@ is_spaced ns n = holds_values (content_at ns n) && (has_whitespace ns n && is_so
 
 -- the node is what is looked for
 abbrev pub is_sought : List Node → Sought → ℕ → Bool
-is_sought ns LineEnd n = is_newline (content_at ns n)
+is_sought ns LineEnd n = is_newline_at ns n
 is_sought ns SpacedElements n = is_spaced ns n
 
 -- the first node of a breadth-first walk that is what is looked for

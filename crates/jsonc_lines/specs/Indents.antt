@@ -1,12 +1,13 @@
 -- The indents for what is put in beside a node.
-use Rattle.std.specs.Prelude.{ℕ, zero, suc, ◌+◌, ◌==◌, Bool, true, false, List, [], ◌∷◌, ◌++◌, map, length, drop, Option, Some, None, unwrap_or, option_and_then, option_map, nat_eq, if◌then◌else◌}
+use Rattle.std.specs.Prelude.{ℕ, zero, suc, ◌+◌, ◌==◌, ◌||◌, Bool, true, false, List, [], ◌∷◌, ◌++◌, map, length, drop, Option, Some, None, unwrap_or, option_and_then, option_map, is_some, nat_eq, if◌then◌else◌}
 use Rattle.std.specs.Option.{option_or}
 use Rattle.std.specs.List.{starts_with}
 use Rattle.jsonc_tree.specs.Content.{Content, property}
 use Rattle.jsonc_tree.specs.Order.{upward}
-use Rattle.jsonc_tree.specs.Tree.{Node, content_at, parent_at, children_at, is_in}
+use Rattle.jsonc_tree.specs.Tree.{Node, content_at, parent_at, children_at}
+use Rattle.jsonc_nodes.specs.Properties.{element_from}
+use Rattle.jsonc_nodes.specs.Siblings.{root_above}
 use Rattle.jsonc_lines.specs.Lines.{indent_at}
-use Rattle.jsonc_lines.specs.Siblings.{first_element_of}
 
 -- the indent of a line, and what one level adds
 pub record IndentTexts : Type 0 where
@@ -26,6 +27,10 @@ abbrev pub beyond_properties : List Node → List ℕ → List ℕ
 beyond_properties ns [] = []
 beyond_properties ns (n ∷ rest) = if is_property (content_at ns n) then beyond_properties ns rest else n ∷ rest
 
+-- the nodes above a node but for the properties in front
+abbrev pub above_properties : List Node → ℕ → List ℕ
+above_properties ns n = beyond_properties ns (upward ns (parent_at ns n))
+
 -- of these nodes, up to the root, those that are no property's value: each is a level of indent
 abbrev pub levels_among : List Node → List ℕ → List ℕ
 levels_among ns [] = []
@@ -34,7 +39,7 @@ levels_among ns (n ∷ rest) =
 
 -- the nodes above a node that are levels of indent, nearest first; the property that a node stands in is none
 abbrev pub levels_above : List Node → ℕ → List ℕ
-levels_above ns n = levels_among ns (beyond_properties ns (upward ns (parent_at ns n)))
+levels_above ns n = levels_among ns (above_properties ns n)
 
 -- the text without another at its front, if it begins with that
 abbrev pub without_front : List ℕ → List ℕ → Option (List ℕ)
@@ -65,19 +70,27 @@ told_by passed held [] = None
 told_by passed held (outer ∷ rest) =
     option_or (option_map (levels_in (unwrap_or held []) passed) (more_of held outer)) (told_by (passed + 1) (held_after held outer) rest)
 
--- the node is below the root, or is it
+-- the same, of the lines of a node and of those above it
+abbrev pub told_at : List Node → ℕ → List ℕ → Option IndentTexts
+told_at ns n above = told_by 0 (indent_at ns n) (map (indent_at ns) above)
+
+-- the node is the root, or below it
 abbrev pub is_in_document : List Node → ℕ → Bool
-is_in_document ns n = is_in 0 (upward ns (Some n))
+is_in_document ns n = n == 0 || is_some (root_above ns n)
 
 -- the first indent of these nodes
 abbrev pub first_indent : List Node → List ℕ → Option (List ℕ)
 first_indent ns [] = None
 first_indent ns (n ∷ rest) = option_or (indent_at ns n) (first_indent ns rest)
 
--- those of the children of the document's value, where the node is in the document
+-- the first indent of a node's children
+abbrev pub first_indent_in : List Node → ℕ → Option (List ℕ)
+first_indent_in ns n = first_indent ns (children_at ns n)
+
+-- that of the document's value, where the node is in the document
 abbrev pub document_indent : List Node → ℕ → Option (List ℕ)
 document_indent ns n =
-    if is_in_document ns n then option_and_then (λ value. first_indent ns (children_at ns value)) (first_element_of ns 0) else None
+    if is_in_document ns n then option_and_then (first_indent_in ns) (element_from ns 0 0) else None
 
 -- the node's own, where one level is above it
 abbrev pub only_indent : List Node → ℕ → Option (List ℕ)
@@ -90,4 +103,4 @@ single_at ns n = unwrap_or (option_or (only_indent ns n) (document_indent ns n))
 -- the indents at a node: told by the lines above it, or by what one level adds
 abbrev pub indents_at : List Node → ℕ → IndentTexts
 indents_at ns n =
-    unwrap_or (told_by 0 (indent_at ns n) (map (indent_at ns) (levels_above ns n))) (levels_in [] (length (levels_above ns n)) (single_at ns n))
+    unwrap_or (told_at ns n (levels_above ns n)) (levels_in [] (length (levels_above ns n)) (single_at ns n))

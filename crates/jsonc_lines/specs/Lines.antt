@@ -1,64 +1,60 @@
 -- Lines, and what they begin with.
-use Rattle.std.specs.Prelude.{Bool, false, not, ◌||◌, ◌&&◌, ℕ, List, [], ◌∷◌, ◌++◌, reverse, Option, Some, None, option_and_then, if◌then◌else◌}
-use Rattle.std.specs.List.{take_while, list_all, list_any}
-use Rattle.jsonc_tree.specs.Content.{Content, whitespace}
-use Rattle.jsonc_tree.specs.Tree.{Node, children_at, place_at}
-use Rattle.jsonc_lines.specs.Kinds.{blank_of, is_newline, is_trivia, is_whitespace}
-use Rattle.jsonc_lines.specs.Siblings.{back, before_at, first_element_of, row_at}
+use Rattle.std.specs.Prelude.{Bool, false, ◌||◌, ◌&&◌, ℕ, List, [], ◌∷◌, Option, Some, None, is_some, option_and_then, if◌then◌else◌}
+use Rattle.std.specs.List.{flat_map, take_while, list_all, list_any}
+use Rattle.jsonc_tree.specs.Order.{text_at}
+use Rattle.jsonc_tree.specs.Tree.{Node}
+use Rattle.jsonc_nodes.specs.Kinds.{is_newline_at, is_trivia_at, is_whitespace_at}
+use Rattle.jsonc_nodes.specs.Properties.{element_from}
+use Rattle.jsonc_nodes.specs.Siblings.{first, line_before, siblings_before}
+use Rattle.jsonc_lines.specs.Kinds.{blank_at}
 
 -- a line's end stands here, or after whitespace
-abbrev pub comes_to_newline : List Content → Bool
-comes_to_newline [] = false
-comes_to_newline (c ∷ rest) = is_newline c || (is_whitespace c && comes_to_newline rest)
+abbrev pub comes_to_newline : List Node → List ℕ → Bool
+comes_to_newline ns [] = false
+comes_to_newline ns (m ∷ rest) = is_newline_at ns m || (is_whitespace_at ns m && comes_to_newline ns rest)
 
 -- two lines' ends have nothing but whitespace between them
-abbrev pub has_blank_line : List Content → Bool
-has_blank_line [] = false
-has_blank_line (c ∷ rest) = (is_newline c && comes_to_newline rest) || has_blank_line rest
+abbrev pub has_blank_line : List Node → List ℕ → Bool
+has_blank_line ns [] = false
+has_blank_line ns (m ∷ rest) = (is_newline_at ns m && comes_to_newline ns rest) || has_blank_line ns rest
 
 -- the trivia directly before the node have a blank line
 abbrev pub blank_line_before : List Node → ℕ → Bool
-blank_line_before ns n = has_blank_line (take_while is_trivia (before_at ns n))
+blank_line_before ns n = has_blank_line ns (take_while (is_trivia_at ns) (siblings_before ns n))
 
--- what stands before a place of a row on its line, in order
-abbrev pub line_to : List Node → List ℕ → ℕ → List Content
-line_to ns row place = reverse (take_while (λ c. not (is_newline c)) (back ns row place))
+-- nothing but trivia stands before the node on its line
+abbrev pub begins_line : List Node → ℕ → Bool
+begins_line ns n = list_all (is_trivia_at ns) (line_before ns n)
 
--- the same before a place of a container's children
-abbrev pub line_in : List Node → ℕ → ℕ → List Content
-line_in ns container place = line_to ns (children_at ns container) place
+-- a line ends before the node
+abbrev pub follows_newline : List Node → ℕ → Bool
+follows_newline ns n = list_any (is_newline_at ns) (siblings_before ns n)
 
--- a line ends before a place of a container's children
-abbrev pub has_newline_before : List Node → ℕ → ℕ → Bool
-has_newline_before ns container place = list_any is_newline (back ns (children_at ns container) place)
+-- the whitespace leaf that the node's line begins with
+abbrev pub first_blank_at : List Node → ℕ → Option (List ℕ)
+first_blank_at ns n = option_and_then (blank_at ns) (first (line_before ns n))
 
--- the whitespace that a line begins with, joined
-abbrev pub blanks : List Content → List ℕ
-blanks (whitespace s ∷ rest) = s ++ blanks rest
-blanks _ = []
+-- the whitespace that a row begins with, joined
+abbrev pub blanks : List Node → List ℕ → List ℕ
+blanks ns row = flat_map (text_at ns) (take_while (is_whitespace_at ns) row)
 
--- the same, if there is any leaf of it
-abbrev pub leading_blanks : List Content → Option (List ℕ)
-leading_blanks (whitespace s ∷ rest) = Some (s ++ blanks rest)
-leading_blanks _ = None
+-- the same of the node's line
+abbrev pub blanks_at : List Node → ℕ → List ℕ
+blanks_at ns n = blanks ns (line_before ns n)
 
--- the same, if the line is nothing but trivia
-abbrev pub indent_of : List Content → Option (List ℕ)
-indent_of line = if list_all is_trivia line then leading_blanks line else None
-
--- the indent of the node: what its line begins with, if nothing but trivia stands before it there
+-- the indent of the node: that whitespace, if there is any leaf of it, and nothing but trivia stands
+-- before the node on its line
 abbrev pub indent_at : List Node → ℕ → Option (List ℕ)
-indent_at ns n = indent_of (line_to ns (row_at ns n) (place_at ns n))
-
--- the whitespace leaf that a line begins with
-abbrev pub first_blank : List Content → Option (List ℕ)
-first_blank [] = None
-first_blank (c ∷ rest) = blank_of c
+indent_at ns n = if begins_line ns n && is_some (first_blank_at ns n) then Some (blanks_at ns n) else None
 
 -- the whitespace leaf directly after the nearest line's end before the node
 abbrev pub opening_at : List Node → ℕ → Option (List ℕ)
-opening_at ns n = if list_any is_newline (before_at ns n) then first_blank (line_to ns (row_at ns n) (place_at ns n)) else None
+opening_at ns n = if follows_newline ns n then first_blank_at ns n else None
+
+-- the first element of the document's value
+abbrev pub first_element_of_value : List Node → Option ℕ
+first_element_of_value ns = option_and_then (λ value. element_from ns value 0) (element_from ns 0 0)
 
 -- one level's indent: that leaf before the first element of the document's value
 abbrev pub single_indent_of : List Node → Option (List ℕ)
-single_indent_of ns = option_and_then (opening_at ns) (option_and_then (first_element_of ns) (first_element_of ns 0))
+single_indent_of ns = option_and_then (opening_at ns) (first_element_of_value ns)

@@ -1,13 +1,14 @@
 //! What a walk over the levels of a document tells of its layout.
 ghost use Rattle.std.specs.Prelude.{◌≡◌, ◌<◌, ◌++◌, All, IfOk, IfSome, OnOk, length, reverse};
-ghost use Rattle.std.specs.List.{find, flat_map, list_any};
-ghost use Rattle.jsonc_tree.specs.Content.{Content};
-ghost use Rattle.jsonc_tree.specs.Tree.{children_at, content_at};
-ghost use Rattle.jsonc_lines.specs.Breadth.{first_sought, has_whitespace, is_sought, is_spaced, last_element};
-ghost use Rattle.jsonc_lines.specs.Breadth.{newline_kind_of, uses_trailing_commas_at};
+ghost use Rattle.std.specs.List.{find};
+ghost use Rattle.jsonc_tree.specs.Tree.{children_at};
+ghost use Rattle.jsonc_lines.specs.Breadth.{first_sought, has_whitespace, is_sought, is_spaced};
+ghost use Rattle.jsonc_lines.specs.Breadth.{last_element, level_below, newline_kind_of};
+ghost use Rattle.jsonc_lines.specs.Breadth.{uses_trailing_commas_at};
 
-use crate::kinds::{holds_values, is_element, is_newline, is_whitespace};
+use crate::kinds::holds_values;
 use crate::siblings::trailing_comma;
+use jsonc_nodes::{children_from, is_element, is_newline, is_whitespace};
 use jsonc_tree::{CstNewlineKind, Kind, Tree};
 use std::alloc::{AllocError, Allocator};
 
@@ -23,12 +24,7 @@ fn has_whitespace<A: Allocator>(tree: &Tree<A>, node: usize) -> bool
     requires { node < length tree.now.nodes }
     ensures { result ≡ has_whitespace tree.now.nodes node }
 {
-    for place in 0..tree.child_count(node) {
-        if is_whitespace(tree.kind(tree.child_at(node, place))) {
-            return true;
-        }
-    }
-    false
+    children_from(tree, node, 0).any(|child| is_whitespace(tree, child))
 }
 
 // The last element among the children of a node.
@@ -41,7 +37,7 @@ fn last_element<A: Allocator>(tree: &Tree<A>, node: usize) -> Option<usize>
     while at > 0 {
         at -= 1;
         let child = tree.child_at(node, at);
-        if is_element(tree.kind(child)) {
+        if is_element(tree, child) {
             return Some(child);
         }
     }
@@ -68,7 +64,7 @@ fn is_sought<A: Allocator>(tree: &Tree<A>, sought: Sought, node: usize) -> bool
     ensures { result ≡ is_sought tree.now.nodes sought node }
 {
     match sought {
-        Sought::LineEnd => is_newline(tree.kind(node)),
+        Sought::LineEnd => is_newline(tree, node),
         Sought::SpacedElements => is_spaced(tree, node),
     }
 }
@@ -109,7 +105,7 @@ fn level_below<A: Allocator>(
     level: &[usize],
 ) -> Result<Vec<usize, A>, AllocError>
     requires there { All (λ m. m < length tree.now.nodes) level.now }
-    ensures below { IfOk result (λ v. v.items ≡ flat_map (children_at tree.now.nodes) level.now) }
+    ensures below { IfOk result (λ v. v.items ≡ level_below tree.now.nodes level.now) }
 {
     let mut below = Vec::new(alloc);
     for node in level {

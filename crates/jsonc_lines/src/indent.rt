@@ -1,64 +1,62 @@
 //! What the line of a node begins with.
-ghost use Rattle.std.specs.Prelude.{◌≡◌, ◌<◌, ◌≤◌, true, false, option_map, string_bytes, IfNone, IfOk, IfSome, length};
-ghost use Rattle.std.specs.List.{list_all};
-ghost use Rattle.jsonc_tree.specs.Tree.{children_at};
-ghost use Rattle.jsonc_lines.specs.Kinds.{is_trivia};
-ghost use Rattle.jsonc_lines.specs.Siblings.{contents_between};
-ghost use Rattle.jsonc_lines.specs.Lines.{blanks, indent_at, has_newline_before, line_in, opening_at, single_indent_of};
+ghost use Rattle.std.specs.Prelude.{◌≡◌, ◌<◌, option_map, string_bytes, IfOk, length};
+ghost use Rattle.jsonc_lines.specs.IndentViews.{text_in};
+ghost use Rattle.jsonc_lines.specs.Lines.{begins_line, blanks_at, first_blank_at, follows_newline};
+ghost use Rattle.jsonc_lines.specs.Lines.{indent_at, opening_at, single_indent_of};
 
-use crate::kinds::{blank_of, is_newline, is_trivia, is_whitespace};
-use crate::siblings::{first_element, position_of};
+use crate::kinds::blank_at;
+use jsonc_nodes::{first_element_from, is_newline, is_trivia, line_before, previous_siblings};
 use jsonc_tree::Tree;
 use std::alloc::{AllocError, Allocator};
 
-// The place where the line of a place begins, if nothing but trivia stands between them.
-fn line_start<A: Allocator>(tree: &Tree<A>, container: usize, place: usize) -> Option<usize>
-    requires there { container < length tree.now.nodes }
-    requires within { place ≤ length (children_at tree.now.nodes container) }
-    ensures none { IfNone result (list_all is_trivia (line_in tree.now.nodes container place) ≡ false) }
-    ensures order { IfSome result (λ start. start ≤ place) }
-    ensures trivia { IfSome result (λ start. list_all is_trivia (line_in tree.now.nodes container place) ≡ true) }
-    ensures line { IfSome result (λ start. line_in tree.now.nodes container place ≡ contents_between tree.now.nodes container start place) }
+// Whether nothing but trivia stands before a node on its line.
+fn begins_line<A: Allocator>(tree: &Tree<A>, node: usize) -> bool
+    requires { node < length tree.now.nodes }
+    ensures { result ≡ begins_line tree.now.nodes node }
 {
-    let mut at = place;
-    while at > 0 {
-        let kind = tree.kind(tree.child_at(container, at - 1));
-        if is_newline(kind) {
-            return Some(at);
-        }
-        if !is_trivia(kind) {
-            return None;
-        }
-        at -= 1;
-    }
-    Some(0)
+    line_before(tree, node).all(|sibling| is_trivia(tree, sibling))
 }
 
-// The whitespace that stands from one place of a container's children on, up to another, joined.
-fn blanks_between<A: Allocator>(
+// Whether a line ends before a node.
+fn follows_newline<A: Allocator>(tree: &Tree<A>, node: usize) -> bool
+    requires { node < length tree.now.nodes }
+    ensures { result ≡ follows_newline tree.now.nodes node }
+{
+    previous_siblings(tree, node).any(|sibling| is_newline(tree, sibling))
+}
+
+// The whitespace leaf that a node's line begins with.
+fn first_blank<A: Allocator>(tree: &Tree<A>, node: usize) -> Option<&str>
+    requires { node < length tree.now.nodes }
+    ensures { option_map (λ s. s.now) result ≡ first_blank_at tree.now.nodes node }
+{
+    let Some(first) = line_before(tree, node).next() else {
+        return None;
+    };
+    blank_at(tree, first)
+}
+
+// The whitespace that a node's line begins with, joined.
+fn joined_blanks<A: Allocator>(
     alloc: A,
     tree: &Tree<A>,
-    container: usize,
-    from: usize,
-    to: usize,
+    node: usize,
 ) -> Result<String<A>, AllocError>
-    requires there { container < length tree.now.nodes }
-    requires order { from ≤ to }
-    requires within { to ≤ length (children_at tree.now.nodes container) }
-    ensures { IfOk result (λ s. string_bytes s ≡ blanks (contents_between tree.now.nodes container from to)) }
+    requires { node < length tree.now.nodes }
+    ensures { IfOk result (λ s. string_bytes s ≡ blanks_at tree.now.nodes node) }
 {
-    let mut blanks = String::new(alloc);
-    for place in from..to {
-        let Some(text) = blank_of(tree.kind(tree.child_at(container, place))) else {
-            return Ok(blanks);
+    let mut joined = String::new(alloc);
+    for sibling in line_before(tree, node) {
+        let Some(text) = blank_at(tree, sibling) else {
+            return Ok(joined);
         };
-        blanks.push_str(text)?;
+        joined.push_str(text)?;
     }
-    Ok(blanks)
+    Ok(joined)
 }
 
-/// The whitespace that a node's line begins with, joined, if nothing but trivia stands before the node
-/// on its line.
+/// The whitespace that a node's line begins with, joined, if nothing but trivia stands before the
+/// node on its line.
 ///
 /// None also where the line does not begin with a whitespace leaf; an empty leaf is one.
 pub fn indent_text<A: Allocator>(
@@ -67,41 +65,16 @@ pub fn indent_text<A: Allocator>(
     node: usize,
 ) -> Result<Option<String<A>>, AllocError>
     requires there { node < length tree.now.nodes }
-    ensures indent { IfOk result (λ o. option_map string_bytes o ≡ indent_at tree.now.nodes node) }
+    ensures indent { IfOk result (λ o. text_in o ≡ indent_at tree.now.nodes node) }
 {
-    let Some(at) = position_of(tree, node) else {
-        return Ok(None);
-    };
-    let Some(start) = line_start(tree, at.container, at.place) else {
-        return Ok(None);
-    };
-    if start == at.place {
+    if !begins_line(tree, node) {
         return Ok(None);
     }
-    if !is_whitespace(tree.kind(tree.child_at(at.container, start))) {
+    if first_blank(tree, node).is_none() {
         return Ok(None);
     }
-    let text = blanks_between(alloc, tree, at.container, start, at.place)?;
+    let text = joined_blanks(alloc, tree, node)?;
     Ok(Some(text))
-}
-
-// The place after the nearest line's end before a place.
-fn after_newline<A: Allocator>(tree: &Tree<A>, container: usize, place: usize) -> Option<usize>
-    requires there { container < length tree.now.nodes }
-    requires within { place ≤ length (children_at tree.now.nodes container) }
-    ensures none { IfNone result (has_newline_before tree.now.nodes container place ≡ false) }
-    ensures some { IfSome result (λ start. has_newline_before tree.now.nodes container place ≡ true) }
-    ensures order { IfSome result (λ start. start ≤ place) }
-    ensures line { IfSome result (λ start. line_in tree.now.nodes container place ≡ contents_between tree.now.nodes container start place) }
-{
-    let mut at = place;
-    while at > 0 {
-        if is_newline(tree.kind(tree.child_at(container, at - 1))) {
-            return Some(at);
-        }
-        at -= 1;
-    }
-    None
 }
 
 // The whitespace leaf directly after the nearest line's end before a node.
@@ -111,18 +84,12 @@ fn opening<A: Allocator>(
     node: usize,
 ) -> Result<Option<String<A>>, AllocError>
     requires { node < length tree.now.nodes }
-    ensures { IfOk result (λ o. option_map string_bytes o ≡ opening_at tree.now.nodes node) }
+    ensures { IfOk result (λ o. text_in o ≡ opening_at tree.now.nodes node) }
 {
-    let Some(at) = position_of(tree, node) else {
-        return Ok(None);
-    };
-    let Some(start) = after_newline(tree, at.container, at.place) else {
-        return Ok(None);
-    };
-    if start == at.place {
+    if !follows_newline(tree, node) {
         return Ok(None);
     }
-    let Some(text) = blank_of(tree.kind(tree.child_at(at.container, start))) else {
+    let Some(text) = first_blank(tree, node) else {
         return Ok(None);
     };
     let text = String::from_str(alloc, text)?;
@@ -137,13 +104,13 @@ pub fn single_indent_text<A: Allocator>(
     alloc: A,
     tree: &Tree<A>,
 ) -> Result<Option<String<A>>, AllocError>
-    ensures indent { IfOk result (λ o. option_map string_bytes o ≡ single_indent_of tree.now.nodes) }
+    ensures indent { IfOk result (λ o. text_in o ≡ single_indent_of tree.now.nodes) }
 {
     let _ = tree.len();
-    let Some(value) = first_element(tree, 0) else {
+    let Some(value) = first_element_from(tree, 0, 0) else {
         return Ok(None);
     };
-    let Some(element) = first_element(tree, value) else {
+    let Some(element) = first_element_from(tree, value, 0) else {
         return Ok(None);
     };
     opening(alloc, tree, element)

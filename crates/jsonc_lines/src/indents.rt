@@ -1,16 +1,17 @@
 //! The indents for what is put in beside a node.
-ghost use Rattle.std.specs.Prelude.{◌≡◌, ◌<◌, ◌++◌, [], All, IfOk, IfSome, length, map, option_map, string_bytes, unwrap_or};
+ghost use Rattle.std.specs.Prelude.{◌≡◌, ◌<◌, ◌++◌, [], All, IfOk, IfSome, length};
+ghost use Rattle.std.specs.Prelude.{option_map, string_bytes, unwrap_or};
 ghost use Rattle.jsonc_tree.specs.Order.{upward};
 ghost use Rattle.jsonc_tree.specs.Stored.{content_of};
-ghost use Rattle.jsonc_tree.specs.Tree.{children_at, parent_at};
-ghost use Rattle.jsonc_lines.specs.Indents.{beyond_properties, document_indent, first_indent, held_after, indents_at, is_in_document};
-ghost use Rattle.jsonc_lines.specs.Indents.{is_property, is_property_at, levels_above, levels_in, more_of};
-ghost use Rattle.jsonc_lines.specs.Indents.{repeated, single_at, told_by, without_front};
-ghost use Rattle.jsonc_lines.specs.IndentViews.{texts_of};
-ghost use Rattle.jsonc_lines.specs.Lines.{indent_at};
+ghost use Rattle.jsonc_tree.specs.Tree.{parent_at};
+ghost use Rattle.jsonc_lines.specs.Indents.{above_properties, document_indent, first_indent_in};
+ghost use Rattle.jsonc_lines.specs.Indents.{held_after, indents_at, is_in_document, is_property};
+ghost use Rattle.jsonc_lines.specs.Indents.{is_property_at, levels_above, levels_in, more_of};
+ghost use Rattle.jsonc_lines.specs.Indents.{repeated, single_at, told_at, without_front};
+ghost use Rattle.jsonc_lines.specs.IndentViews.{text_in, texts_of};
 
 use crate::indent::indent_text;
-use crate::siblings::first_element;
+use jsonc_nodes::{first_element_from, root_node};
 use jsonc_tree::{Kind, Tree};
 use std::alloc::{AllocError, Allocator};
 
@@ -46,7 +47,7 @@ fn stands_in_property<A: Allocator>(tree: &Tree<A>, node: usize) -> bool
 // The nearest node above a node that is no object property.
 fn beyond_properties<A: Allocator>(tree: &Tree<A>, node: usize) -> Option<usize>
     requires { node < length tree.now.nodes }
-    ensures above { beyond_properties tree.now.nodes (upward tree.now.nodes (parent_at tree.now.nodes node)) ≡ upward tree.now.nodes result }
+    ensures above { above_properties tree.now.nodes node ≡ upward tree.now.nodes result }
     ensures there { IfSome result (λ m. m < length tree.now.nodes) }
 {
     let _ = tree.len();
@@ -98,7 +99,7 @@ fn more_of<'a, A: Allocator>(
     inner: &'a Option<String<A>>,
     outer: &Option<String<A>>,
 ) -> Option<&'a str>
-    ensures { option_map (λ s. s.now) result ≡ more_of (option_map string_bytes inner.now) (option_map string_bytes outer.now) }
+    ensures { option_map (λ s. s.now) result ≡ more_of (text_in inner.now) (text_in outer.now) }
 {
     match (inner, outer) {
         (Some(inner), Some(outer)) => without_front(outer.as_str(), inner.as_str()),
@@ -108,7 +109,7 @@ fn more_of<'a, A: Allocator>(
 
 // What the next indent outward is held against: this one, where none was held.
 fn held_after<A: Allocator>(held: Option<String<A>>, outer: Option<String<A>>) -> Option<String<A>>
-    ensures { option_map string_bytes result ≡ held_after (option_map string_bytes held) (option_map string_bytes outer) }
+    ensures { text_in result ≡ held_after (text_in held) (text_in outer) }
 {
     match held {
         None => outer,
@@ -118,7 +119,7 @@ fn held_after<A: Allocator>(held: Option<String<A>>, outer: Option<String<A>>) -
 
 // The text that is held, or none.
 fn held_text<A: Allocator>(held: &Option<String<A>>) -> &str
-    ensures { result.now ≡ unwrap_or (option_map string_bytes held.now) [] }
+    ensures { result.now ≡ unwrap_or (text_in held.now) [] }
 {
     match held {
         Some(held) => held.as_str(),
@@ -165,7 +166,7 @@ fn told_by<A: Allocator + Copy>(
 ) -> Result<Option<Indents<A>>, AllocError>
     requires node { node < length tree.now.nodes }
     requires there { All (λ m. m < length tree.now.nodes) levels.now }
-    ensures { IfOk result (λ o. option_map texts_of o ≡ told_by 0 (indent_at tree.now.nodes node) (map (indent_at tree.now.nodes) levels.now)) }
+    ensures { IfOk result (λ o. option_map texts_of o ≡ told_at tree.now.nodes node levels.now) }
 {
     let mut held = indent_text(alloc, tree, node)?;
     for place in 0..levels.len() {
@@ -186,7 +187,7 @@ fn first_indent<A: Allocator + Copy>(
     node: usize,
 ) -> Result<Option<String<A>>, AllocError>
     requires { node < length tree.now.nodes }
-    ensures { IfOk result (λ o. option_map string_bytes o ≡ first_indent tree.now.nodes (children_at tree.now.nodes node)) }
+    ensures { IfOk result (λ o. text_in o ≡ first_indent_in tree.now.nodes node) }
 {
     for place in 0..tree.child_count(node) {
         let text = indent_text(alloc, tree, tree.child_at(node, place))?;
@@ -202,15 +203,10 @@ fn is_in_document<A: Allocator>(tree: &Tree<A>, node: usize) -> bool
     requires { node < length tree.now.nodes }
     ensures { result ≡ is_in_document tree.now.nodes node }
 {
-    let _ = tree.len();
-    let mut next = Some(node);
-    while let Some(at) = next {
-        if at == 0 {
-            return true;
-        }
-        next = tree.parent(at);
+    if node == 0 {
+        return true;
     }
-    false
+    root_node(tree, node).is_some()
 }
 
 // The first indent among the children of the document's value, where the node is in the document.
@@ -220,20 +216,20 @@ fn document_indent<A: Allocator + Copy>(
     node: usize,
 ) -> Result<Option<String<A>>, AllocError>
     requires { node < length tree.now.nodes }
-    ensures { IfOk result (λ o. option_map string_bytes o ≡ document_indent tree.now.nodes node) }
+    ensures { IfOk result (λ o. text_in o ≡ document_indent tree.now.nodes node) }
 {
     if !is_in_document(tree, node) {
         return Ok(None);
     }
     let _ = tree.len();
-    let Some(value) = first_element(tree, 0) else {
+    let Some(value) = first_element_from(tree, 0, 0) else {
         return Ok(None);
     };
     first_indent(alloc, tree, value)
 }
 
-// What one level adds, where no two lines tell: the node's own indent where one level is above it, the
-// document's, or two spaces.
+// What one level adds, where no two lines tell: the node's own indent where one level is above it,
+// the document's, or two spaces.
 fn single_at<A: Allocator + Copy>(
     alloc: A,
     tree: &Tree<A>,

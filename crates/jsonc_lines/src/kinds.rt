@@ -1,23 +1,13 @@
 //! Kinds of nodes, as a layout is told from them.
 ghost use Rattle.std.specs.Prelude.{◌≡◌, option_map};
 ghost use Rattle.jsonc_tree.specs.Stored.{content_of};
-ghost use Rattle.jsonc_lines.specs.Kinds.{blank_of, holds_values, is_comma, is_element, is_newline, is_trivia, is_whitespace};
+ghost use Rattle.jsonc_lines.specs.Kinds.{blank_at, blank_of, holds_values, is_comma};
 
-use jsonc_tree::Kind;
+use jsonc_tree::{Kind, Tree};
 use std::alloc::Allocator;
 
-// Whether a node is whitespace within a line.
-pub(crate) fn is_whitespace<A: Allocator>(kind: &Kind<A>) -> bool
-    ensures { result ≡ is_whitespace (content_of kind.now) }
-{
-    match kind {
-        Kind::Whitespace(_) | Kind::WhitespacePart(_) => true,
-        _ => false,
-    }
-}
-
 // The text of a node that is whitespace.
-pub(crate) fn blank_of<A: Allocator>(kind: &Kind<A>) -> Option<&str>
+fn blank_of<A: Allocator>(kind: &Kind<A>) -> Option<&str>
     ensures { option_map (λ s. s.now) result ≡ blank_of (content_of kind.now) }
 {
     match kind {
@@ -26,26 +16,14 @@ pub(crate) fn blank_of<A: Allocator>(kind: &Kind<A>) -> Option<&str>
     }
 }
 
-// Whether a node is the end of a line.
-pub(crate) fn is_newline<A: Allocator>(kind: &Kind<A>) -> bool
-    ensures { result ≡ is_newline (content_of kind.now) }
+// The text of a node that is whitespace. The number may be any: one that names no node has none.
+pub(crate) fn blank_at<A: Allocator>(tree: &Tree<A>, node: usize) -> Option<&str>
+    ensures { option_map (λ s. s.now) result ≡ blank_at tree.now.nodes node }
 {
-    match kind {
-        Kind::Newline(_) => true,
-        _ => false,
+    if node >= tree.len() {
+        return None;
     }
-}
-
-// Whether a node is whitespace, a line's end or a comment.
-pub(crate) fn is_trivia<A: Allocator>(kind: &Kind<A>) -> bool
-    ensures { result ≡ is_trivia (content_of kind.now) }
-{
-    match kind {
-        Kind::Whitespace(_) | Kind::WhitespacePart(_) => true,
-        Kind::Newline(_) => true,
-        Kind::Comment(_) | Kind::CommentPart(_) => true,
-        _ => false,
-    }
+    blank_of(tree.kind(node))
 }
 
 // Whether a node is a comma.
@@ -55,16 +33,6 @@ pub(crate) fn is_comma<A: Allocator>(kind: &Kind<A>) -> bool
     match kind {
         Kind::Token(c) => *c == ',',
         _ => false,
-    }
-}
-
-// Whether a node is neither trivia nor a token.
-pub(crate) fn is_element<A: Allocator>(kind: &Kind<A>) -> bool
-    ensures { result ≡ is_element (content_of kind.now) }
-{
-    match kind {
-        Kind::Token(_) => false,
-        _ => !is_trivia(kind),
     }
 }
 

@@ -1,7 +1,7 @@
 //! How a document is laid out: what the lines of a [`Tree`](jsonc_tree::Tree) begin and end with.
 //!
-//! Each call asks for a node by its number and changes nothing. Trivia are whitespace, lines' ends
-//! and comments; an element is a child of a container that is neither trivia nor a token.
+//! Each call asks for a node by its number and changes nothing. What trivia and elements are, and
+//! who stands beside a node, [`jsonc_nodes`] says.
 #![tactic(auto)]
 
 mod breadth;

@@ -12,6 +12,10 @@ abbrev pub is_colon : Content → Bool
 is_colon (token c) = c == 0x3A
 is_colon _ = false
 
+abbrev pub is_whitespace : Content → Bool
+is_whitespace (whitespace s) = true
+is_whitespace _ = false
+
 abbrev pub is_newline : Content → Bool
 is_newline (newline k) = true
 is_newline _ = false
@@ -26,12 +30,21 @@ is_beside (whitespace s) = true
 is_beside (comment s) = true
 is_beside _ = false
 
+abbrev pub is_trivia : Content → Bool
+is_trivia (whitespace s) = true
+is_trivia (newline k) = true
+is_trivia (comment s) = true
+is_trivia _ = false
+
 -- the same of the nodes by their numbers
 abbrev pub is_element_at : List Node → ℕ → Bool
 is_element_at ns n = is_element (content_at ns n)
 
 abbrev pub is_colon_at : List Node → ℕ → Bool
 is_colon_at ns n = is_colon (content_at ns n)
+
+abbrev pub is_whitespace_at : List Node → ℕ → Bool
+is_whitespace_at ns n = is_whitespace (content_at ns n)
 
 abbrev pub is_newline_at : List Node → ℕ → Bool
 is_newline_at ns n = is_newline (content_at ns n)
@@ -41,3 +54,6 @@ is_comment_at ns n = is_comment (content_at ns n)
 
 abbrev pub is_beside_at : List Node → ℕ → Bool
 is_beside_at ns n = is_beside (content_at ns n)
+
+abbrev pub is_trivia_at : List Node → ℕ → Bool
+is_trivia_at ns n = is_trivia (content_at ns n)

@@ -1,14 +1,16 @@
 -- What string leaves stand for, and the names of properties.
-use Rattle.std.specs.Prelude.{◌≡◌, ℕ, Bool, true, false, List, [], ◌∷◌, Option, Some, None, IsTrue, chars, String, string_bytes, if◌then◌else◌}
+use Rattle.std.specs.Prelude.{◌≡◌, ◌≢◌, ℕ, Bool, true, false, List, [], ◌∷◌, Option, Some, None, IsTrue, chars, String, string_bytes, if◌then◌else◌}
 use Rattle.std.specs.declared.borrow.CowStr.{CowStr}
 use Rattle.std.specs.Cow.{cow_str_bytes}
 use Rattle.jsonc_text.specs.Options.{all_on}
 use Rattle.jsonc_text.specs.Strings.{IsString}
 use Rattle.jsonc_text.specs.Text.{rest}
 use Rattle.jsonc_text.specs.declared.errors.ParseStringErrorKind.{ParseStringErrorKind}
+use Rattle.jsonc_text.specs.declared.errors.ParseStringErrorKind.TheVariants.{OutOfMemory}
 use Rattle.jsonc_string.specs.Told.{TellsError}
 use Rattle.jsonc_tree.specs.Content.{Content, property, string, text_of}
-use Rattle.jsonc_tree.specs.Tree.{Node, content_at}
+use Rattle.jsonc_tree.specs.Order.{text_at}
+use Rattle.jsonc_tree.specs.Tree.{Node, children_at, content_at}
 use Rattle.jsonc_tree.specs.Values.{is_loose_name}
 use Rattle.jsonc_nodes.specs.Properties.{name_at}
 
@@ -20,6 +22,14 @@ StandsFor bytes v = (r : List ℕ) × IsString all_on (chars bytes) v r
 pub record IsNoString (bytes : List ℕ) (kind : ParseStringErrorKind) : Type 0 where
   pub none : (v : List ℕ) → StandsFor bytes v → ⊥
   pub told : (i : ℕ) × TellsError true kind (rest bytes 0) (rest bytes i)
+
+-- the leaf's text begins with a string that stands for these bytes
+abbrev pub LeafStandsFor : List Node → ℕ → List ℕ → Type 0
+LeafStandsFor ns n bytes = StandsFor (text_at ns n) (chars bytes)
+
+-- memory aside, the leaf's text begins with no string, and the kind of fault is true of it
+abbrev pub LeafIsNoString : List Node → ℕ → ParseStringErrorKind → Type 0
+LeafIsNoString ns n kind = kind ≢ OutOfMemory → IsNoString (text_at ns n) kind
 
 -- a leaf of this content is this name: a string by what it stands for, a loose name by its text
 abbrev pub Names : Content → List ℕ → Type 0
@@ -39,6 +49,10 @@ pub data FirstNamed (ns : List Node) (v : List ℕ) : List ℕ → Option ℕ �
   none : FirstNamed ns v [] None
   here : {n : ℕ} {rest : List ℕ} → IsNamed ns v n → FirstNamed ns v (n ∷ rest) (Some n)
   later : {n : ℕ} {rest : List ℕ} {found : Option ℕ} → (IsNamed ns v n → ⊥) → FirstNamed ns v rest found → FirstNamed ns v (n ∷ rest) found
+
+-- the first property of this name in an object, if there is one
+abbrev pub FirstInObject : List Node → ℕ → List ℕ → Option ℕ → Type 0
+FirstInObject ns object v found = FirstNamed ns v (children_at ns object) found
 
 -- what R says of the characters of a text that was read, or none where R holds of no characters
 abbrev pub ReadsAs : {A : Type 0} → (List ℕ → Type 0) → Option (CowStr A) → Type 0

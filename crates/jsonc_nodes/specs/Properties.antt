@@ -36,6 +36,10 @@ if_name ns m = if is_name (content_at ns m) then Some m else None
 abbrev pub is_element_or_colon_at : List Node → ℕ → Bool
 is_element_or_colon_at ns n = is_element_at ns n || is_colon_at ns n
 
+-- the first element or colon of a container
+abbrev pub element_or_colon_at : List Node → ℕ → Option ℕ
+element_or_colon_at ns n = find (is_element_or_colon_at ns) (children_at ns n)
+
 -- the first element, where it is a name and no colon stands before it
 abbrev pub name_at : List Node → ℕ → Option ℕ
-name_at ns n = option_and_then (if_name ns) (find (is_element_or_colon_at ns) (children_at ns n))
+name_at ns n = option_and_then (if_name ns) (element_or_colon_at ns n)

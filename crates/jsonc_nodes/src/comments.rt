@@ -1,8 +1,7 @@
 //! The comments beside a node on its line.
 
 ghost use Rattle.std.specs.Prelude.{◌≡◌, ◌<◌, length, IfOk};
-ghost use Rattle.std.specs.List.{find};
-ghost use Rattle.jsonc_nodes.specs.Comments.{comments_beside, ends_line, is_not_beside_at};
+ghost use Rattle.jsonc_nodes.specs.Comments.{after_beside_at, comments_after, ends_line};
 ghost use Rattle.jsonc_nodes.specs.Comments.{leading_comments, trailing_comments};
 ghost use Rattle.jsonc_nodes.specs.Siblings.{AreThere, IsThere, siblings_after};
 
@@ -14,7 +13,7 @@ use std::alloc::{AllocError, Allocator};
 // The nearest sibling after a node that is neither whitespace nor a comment.
 fn after_beside<A: Allocator>(tree: &Tree<A>, node: usize) -> Option<usize>
     requires { node < length tree.now.nodes }
-    ensures sibling { result ≡ find (is_not_beside_at tree.now.nodes) (siblings_after tree.now.nodes node) }
+    ensures sibling { result ≡ after_beside_at tree.now.nodes node }
     ensures there { IsThere tree.now.nodes result }
 {
     next_siblings(tree, node).find(|sibling| !is_beside(tree, *sibling))
@@ -38,7 +37,7 @@ fn comments_after<A: Allocator, B: Allocator>(
     node: usize,
 ) -> Result<Vec<usize, B>, AllocError>
     requires { node < length tree.now.nodes }
-    ensures comments { IfOk result (λ v. v.items ≡ comments_beside tree.now.nodes (siblings_after tree.now.nodes node)) }
+    ensures comments { IfOk result (λ v. v.items ≡ comments_after tree.now.nodes node) }
     ensures there { IfOk result (λ v. AreThere tree.now.nodes v.items) }
 {
     next_siblings(tree, node)

@@ -5,8 +5,10 @@
 ghost use Rattle.std.specs.Prelude.{◌≡◌};
 ghost use Rattle.jsonc_tree.specs.Stored.{content_of};
 ghost use Rattle.jsonc_tree.specs.Tree.{content_at};
-ghost use Rattle.jsonc_nodes.specs.Kinds.{is_beside, is_colon, is_comment, is_element, is_newline};
-ghost use Rattle.jsonc_nodes.specs.Kinds.{is_beside_at, is_colon_at, is_comment_at, is_element_at, is_newline_at};
+ghost use Rattle.jsonc_nodes.specs.Kinds.{is_beside, is_colon, is_comment, is_element};
+ghost use Rattle.jsonc_nodes.specs.Kinds.{is_newline, is_trivia, is_whitespace};
+ghost use Rattle.jsonc_nodes.specs.Kinds.{is_beside_at, is_colon_at, is_comment_at, is_element_at};
+ghost use Rattle.jsonc_nodes.specs.Kinds.{is_newline_at, is_trivia_at, is_whitespace_at};
 ghost use Rattle.jsonc_nodes.specs.Properties.{is_name};
 
 use jsonc_tree::{Kind, Tree};
@@ -60,6 +62,26 @@ fn is_newline_kind<A: Allocator>(kind: &Kind<A>) -> bool
     }
 }
 
+fn is_whitespace_kind<A: Allocator>(kind: &Kind<A>) -> bool
+    ensures { result ≡ is_whitespace (content_of kind.now) }
+{
+    match kind {
+        Kind::Whitespace(_) | Kind::WhitespacePart(_) => true,
+        _ => false,
+    }
+}
+
+fn is_trivia_kind<A: Allocator>(kind: &Kind<A>) -> bool
+    ensures { result ≡ is_trivia (content_of kind.now) }
+{
+    match kind {
+        Kind::Newline(_) => true,
+        Kind::Whitespace(_) | Kind::WhitespacePart(_) => true,
+        Kind::Comment(_) | Kind::CommentPart(_) => true,
+        _ => false,
+    }
+}
+
 fn is_name_kind<A: Allocator>(kind: &Kind<A>) -> bool
     ensures { result ≡ is_name (content_of kind.now) }
 {
@@ -72,9 +94,9 @@ fn is_name_kind<A: Allocator>(kind: &Kind<A>) -> bool
     }
 }
 
-// Whether a node is neither trivia nor a token.
-pub(crate) fn is_element<A: Allocator>(tree: &Tree<A>, node: usize) -> bool
-    ensures { result ≡ is_element_at tree.now.nodes node }
+/// Whether a node is neither trivia nor a token.
+pub fn is_element<A: Allocator>(tree: &Tree<A>, node: usize) -> bool
+    ensures element { result ≡ is_element_at tree.now.nodes node }
 {
     if node >= tree.len() {
         return true;
@@ -110,13 +132,34 @@ pub(crate) fn is_colon<A: Allocator>(tree: &Tree<A>, node: usize) -> bool
     is_colon_kind(tree.kind(node))
 }
 
-pub(crate) fn is_newline<A: Allocator>(tree: &Tree<A>, node: usize) -> bool
-    ensures { result ≡ is_newline_at tree.now.nodes node }
+/// Whether a node is a newline.
+pub fn is_newline<A: Allocator>(tree: &Tree<A>, node: usize) -> bool
+    ensures newline { result ≡ is_newline_at tree.now.nodes node }
 {
     if node >= tree.len() {
         return false;
     }
     is_newline_kind(tree.kind(node))
+}
+
+/// Whether a node is whitespace within a line.
+pub fn is_whitespace<A: Allocator>(tree: &Tree<A>, node: usize) -> bool
+    ensures whitespace { result ≡ is_whitespace_at tree.now.nodes node }
+{
+    if node >= tree.len() {
+        return false;
+    }
+    is_whitespace_kind(tree.kind(node))
+}
+
+/// Whether a node is whitespace, a newline or a comment.
+pub fn is_trivia<A: Allocator>(tree: &Tree<A>, node: usize) -> bool
+    ensures trivia { result ≡ is_trivia_at tree.now.nodes node }
+{
+    if node >= tree.len() {
+        return false;
+    }
+    is_trivia_kind(tree.kind(node))
 }
 
 // Whether a node is a leaf that can name a property.

@@ -1,13 +1,12 @@
 //! Decoded strings, and the names of properties.
 
-ghost use Rattle.std.specs.Prelude.{◌≡◌, ◌≢◌, ◌<◌, chars, length, string_bytes, IfErr, IfOk, IsTrue};
+ghost use Rattle.std.specs.Prelude.{◌≡◌, ◌<◌, chars, length, string_bytes, IfErr, IfOk, IsTrue};
 ghost use Rattle.std.specs.Bool.{Decides};
 ghost use Rattle.std.specs.Option.{option_map};
-ghost use Rattle.jsonc_text.specs.declared.errors.ParseStringErrorKind.TheVariants.{OutOfMemory};
-ghost use Rattle.jsonc_tree.specs.Order.{text_at};
 ghost use Rattle.jsonc_tree.specs.Stored.{content_of};
-ghost use Rattle.jsonc_tree.specs.Tree.{children_at, content_at};
-ghost use Rattle.jsonc_nodes.specs.Names.{FirstNamed, HasName, IsNamed, IsNoString, Names, NameReads, ReadsAs, StandsFor};
+ghost use Rattle.jsonc_tree.specs.Tree.{content_at};
+ghost use Rattle.jsonc_nodes.specs.Names.{FirstInObject, HasName, IsNamed, LeafIsNoString};
+ghost use Rattle.jsonc_nodes.specs.Names.{LeafStandsFor, NameReads, Names, ReadsAs, StandsFor};
 ghost use Rattle.jsonc_nodes.specs.Names.{is_string, loose_name, string_text};
 ghost use Rattle.jsonc_nodes.specs.Siblings.{IsThere};
 
@@ -62,7 +61,8 @@ fn front_string<'a, B: Allocator>(
 
 /// What a string leaf stands for. What follows its closing quote is ignored.
 ///
-/// A leaf's text with no quote in front is `UnterminatedStringLiteral`, want of memory `OutOfMemory`.
+/// A leaf's text with no quote in front is `UnterminatedStringLiteral`, want of memory
+/// `OutOfMemory`.
 pub fn decoded_value<A: Allocator, B: Allocator + Copy>(
     alloc: B,
     tree: &Tree<A>,
@@ -70,8 +70,8 @@ pub fn decoded_value<A: Allocator, B: Allocator + Copy>(
 ) -> Result<String<B>, ParseStringErrorKind>
     requires there { leaf < length tree.now.nodes }
     requires string { IsTrue (is_string (content_at tree.now.nodes leaf)) }
-    ensures found { IfOk result (λ s. StandsFor (text_at tree.now.nodes leaf) (chars (string_bytes s))) }
-    ensures fault { IfErr result (λ k. k ≢ OutOfMemory → IsNoString (text_at tree.now.nodes leaf) k) }
+    ensures found { IfOk result (λ s. LeafStandsFor tree.now.nodes leaf (string_bytes s)) }
+    ensures fault { IfErr result (LeafIsNoString tree.now.nodes leaf) }
 {
     let Some(text) = text_of_string(tree.kind(leaf)) else {
         unreachable!();
@@ -123,7 +123,7 @@ pub fn decoded_name<A: Allocator, B: Allocator + Copy>(
     property: usize,
 ) -> Result<Option<String<B>>, AllocError>
     requires { property < length tree.now.nodes }
-    ensures { IfOk result (NameReads (HasName tree.now.nodes property)) }
+    ensures name { IfOk result (NameReads (HasName tree.now.nodes property)) }
 {
     match name_read(alloc, tree, property)? {
         Some(name) => Ok(Some(name.into_owned(alloc)?)),
@@ -172,7 +172,7 @@ pub fn get<A: Allocator, B: Allocator + Copy>(
     name: &str,
 ) -> Result<Option<usize>, AllocError>
     requires { object < length tree.now.nodes }
-    ensures found { IfOk result (FirstNamed tree.now.nodes (chars name.now) (children_at tree.now.nodes object)) }
+    ensures found { IfOk result (FirstInObject tree.now.nodes object (chars name.now)) }
     ensures there { IfOk result (IsThere tree.now.nodes) }
 {
     let count = tree.child_count(object);

@@ -1,11 +1,10 @@
 //! The name and the value of a property, and the value of the root.
 
 ghost use Rattle.std.specs.Prelude.{◌≡◌, ◌<◌, length, position};
-ghost use Rattle.std.specs.List.{find};
 ghost use Rattle.jsonc_tree.specs.Tree.{children_at};
 ghost use Rattle.jsonc_nodes.specs.Kinds.{is_colon_at};
 ghost use Rattle.jsonc_nodes.specs.Properties.{after_colon_at, element_from, name_at, value_at};
-ghost use Rattle.jsonc_nodes.specs.Properties.{is_element_or_colon_at};
+ghost use Rattle.jsonc_nodes.specs.Properties.{element_or_colon_at};
 ghost use Rattle.jsonc_nodes.specs.Siblings.{IsThere};
 
 use crate::kinds::{is_colon, is_element, is_name};
@@ -21,8 +20,8 @@ fn colon_place<A: Allocator>(tree: &Tree<A>, node: usize) -> Option<usize>
     children_from(tree, node, 0).position(|child| is_colon(tree, child))
 }
 
-// The first element from a place on.
-fn first_element_from<A: Allocator>(tree: &Tree<A>, node: usize, place: usize) -> Option<usize>
+/// The first element of a container from a place on.
+pub fn first_element_from<A: Allocator>(tree: &Tree<A>, node: usize, place: usize) -> Option<usize>
     requires { node < length tree.now.nodes }
     ensures element { result ≡ element_from tree.now.nodes node place }
     ensures there { IsThere tree.now.nodes result }
@@ -57,7 +56,7 @@ pub fn value_of<A: Allocator>(tree: &Tree<A>, node: usize) -> Option<usize>
 // The first element or colon of a container.
 fn first_element_or_colon<A: Allocator>(tree: &Tree<A>, node: usize) -> Option<usize>
     requires { node < length tree.now.nodes }
-    ensures first { result ≡ find (is_element_or_colon_at tree.now.nodes) (children_at tree.now.nodes node) }
+    ensures first { result ≡ element_or_colon_at tree.now.nodes node }
     ensures there { IsThere tree.now.nodes result }
 {
     children_from(tree, node, 0).find(|child| is_element(tree, *child) | is_colon(tree, *child))

@@ -1,11 +1,13 @@
 //! Children and siblings, one after another.
 
-ghost use Rattle.std.specs.Prelude.{◌≡◌, ◌<◌, drop, length, IfSome};
+ghost use Rattle.std.specs.Prelude.{◌≡◌, ◌<◌, ◌≤◌, drop, take, reverse, length, IfSome};
 ghost use Rattle.std.specs.List.{slice_get};
 ghost use Rattle.std.specs.Iterator.{YieldsFirst, item_count};
-ghost use Rattle.jsonc_tree.specs.Tree.{children_at, parent_at, place_at, IsTree};
-ghost use Rattle.jsonc_nodes.specs.Siblings.{AreThere, IsThere, first, root_above, siblings_after, siblings_before};
+ghost use Rattle.jsonc_tree.specs.Tree.{children_at, parent_at, IsTree};
+ghost use Rattle.jsonc_nodes.specs.Siblings.{AreThere, IsThere, StandsIn, first, line_before};
+ghost use Rattle.jsonc_nodes.specs.Siblings.{root_above, siblings_after, siblings_before};
 
+use crate::kinds::is_newline;
 use jsonc_tree::Tree;
 use std::alloc::Allocator;
 use std::marker::Model;
@@ -20,14 +22,15 @@ pub struct Children<'a, A: Allocator> {
 }
 
 impl<'a, A: Allocator> Model for Children<'a, A> {
-    ghost use Rattle.std.specs.Prelude.{ℕ, List, ◌≤◌, ◌<◌, length, slice_range};
+    ghost use Rattle.std.specs.Prelude.{ℕ, List, ◌≤◌, slice_range};
     ghost use Rattle.jsonc_tree.specs.Tree.{children_at};
+    ghost use Rattle.jsonc_nodes.specs.Siblings.{HasPlace};
 
     ghost Value = { List ℕ };
 
     ghost view = { λ it. slice_range (children_at it.tree.now.nodes it.container) it.from it.to };
 
-    ghost invariant = { λ it. (it.container < length it.tree.now.nodes) × (it.from ≤ it.to) × (it.to ≤ length (children_at it.tree.now.nodes it.container)) };
+    ghost invariant = { λ it. (it.from ≤ it.to) × HasPlace it.tree.now.nodes it.container it.to };
 }
 
 impl<'a, A: Allocator> Iterator for Children<'a, A> {
@@ -56,14 +59,15 @@ pub struct PreviousSiblings<'a, A: Allocator> {
 }
 
 impl<'a, A: Allocator> Model for PreviousSiblings<'a, A> {
-    ghost use Rattle.std.specs.Prelude.{ℕ, List, ◌≤◌, ◌<◌, length, reverse, take};
+    ghost use Rattle.std.specs.Prelude.{ℕ, List, reverse, take};
     ghost use Rattle.jsonc_tree.specs.Tree.{children_at};
+    ghost use Rattle.jsonc_nodes.specs.Siblings.{HasPlace};
 
     ghost Value = { List ℕ };
 
     ghost view = { λ it. reverse (take it.to (children_at it.tree.now.nodes it.container)) };
 
-    ghost invariant = { λ it. (it.container < length it.tree.now.nodes) × (it.to ≤ length (children_at it.tree.now.nodes it.container)) };
+    ghost invariant = { λ it. HasPlace it.tree.now.nodes it.container it.to };
 }
 
 impl<'a, A: Allocator> Iterator for PreviousSiblings<'a, A> {
@@ -82,12 +86,27 @@ impl<'a, A: Allocator> Iterator for PreviousSiblings<'a, A> {
     }
 }
 
+impl<'a, A: Allocator> PreviousSiblings<'a, A> {
+    // So many of those that are left, the nearest ones, first to last.
+    fn nearest(self, count: usize) -> Children<'a, A>
+        requires { count ≤ length self }
+        ensures { result ≡ reverse (take count self.entry) }
+    {
+        Children {
+            tree: self.tree,
+            container: self.container,
+            from: self.to - count,
+            to: self.to,
+        }
+    }
+}
+
 // The parent of a node, and that the node is among its children.
 fn parent_of<A: Allocator>(tree: &Tree<A>, node: usize) -> Option<usize>
     requires { node < length tree.now.nodes }
     ensures parent { result ≡ parent_at tree.now.nodes node }
     ensures there { IsThere tree.now.nodes result }
-    ensures within { IfSome result (λ p. place_at tree.now.nodes node < length (children_at tree.now.nodes p)) }
+    ensures within { IfSome result (StandsIn tree.now.nodes node) }
     ensures tree { IsTree tree.now.nodes }
 {
     let _ = tree.len();
@@ -155,6 +174,26 @@ pub fn previous_siblings<A: Allocator>(tree: &Tree<A>, node: usize) -> PreviousS
         container,
         to: tree.child_index(node),
     }
+}
+
+// How many siblings stand before a node on its line.
+fn count_on_line<A: Allocator>(tree: &Tree<A>, node: usize) -> usize
+    requires { node < length tree.now.nodes }
+    ensures { result ≡ length (line_before tree.now.nodes node) }
+{
+    previous_siblings(tree, node)
+        .take_while(|sibling| !is_newline(tree, *sibling))
+        .count()
+}
+
+/// The siblings before a node on its line, first to last.
+pub fn line_before<A: Allocator>(tree: &Tree<A>, node: usize) -> Children<'_, A>
+    requires { node < length tree.now.nodes }
+    ensures siblings { result ≡ line_before tree.now.nodes node }
+    ensures there { AreThere tree.now.nodes result }
+{
+    let count = count_on_line(tree, node);
+    previous_siblings(tree, node).nearest(count)
 }
 
 /// The sibling directly after a node.

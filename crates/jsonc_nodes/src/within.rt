@@ -1,10 +1,10 @@
 //! The elements of a container: its children but trivia and tokens.
 
 ghost use Rattle.std.specs.Prelude.{◌≡◌, ◌<◌, length, IfOk};
-ghost use Rattle.std.specs.List.{find, slice_get};
+ghost use Rattle.std.specs.List.{slice_get};
 ghost use Rattle.jsonc_tree.specs.Tree.{children_at};
-ghost use Rattle.jsonc_nodes.specs.Kinds.{is_element_at};
-ghost use Rattle.jsonc_nodes.specs.Siblings.{AreThere, IsThere, element_index_at, elements_at, siblings_after, siblings_before};
+ghost use Rattle.jsonc_nodes.specs.Siblings.{AreThere, IsThere, element_index_at, elements_at};
+ghost use Rattle.jsonc_nodes.specs.Siblings.{next_element_at, previous_element_at};
 
 use crate::kinds::is_element;
 use crate::siblings::{children_from, next_siblings, previous_siblings};
@@ -55,7 +55,7 @@ pub fn element_at<A: Allocator>(tree: &Tree<A>, node: usize, place: usize) -> Op
 /// Of an element this is its place among the elements.
 pub fn element_index<A: Allocator>(tree: &Tree<A>, node: usize) -> Option<usize>
     requires { node < length tree.now.nodes }
-    ensures { result ≡ element_index_at tree.now.nodes node }
+    ensures index { result ≡ element_index_at tree.now.nodes node }
 {
     tree.parent(node)?;
     Some(
@@ -68,7 +68,7 @@ pub fn element_index<A: Allocator>(tree: &Tree<A>, node: usize) -> Option<usize>
 /// The nearest element after a node, among its siblings.
 pub fn next_element<A: Allocator>(tree: &Tree<A>, node: usize) -> Option<usize>
     requires { node < length tree.now.nodes }
-    ensures element { result ≡ find (is_element_at tree.now.nodes) (siblings_after tree.now.nodes node) }
+    ensures element { result ≡ next_element_at tree.now.nodes node }
     ensures there { IsThere tree.now.nodes result }
 {
     next_siblings(tree, node).find(|sibling| is_element(tree, *sibling))
@@ -77,7 +77,7 @@ pub fn next_element<A: Allocator>(tree: &Tree<A>, node: usize) -> Option<usize>
 /// The nearest element before a node, among its siblings.
 pub fn previous_element<A: Allocator>(tree: &Tree<A>, node: usize) -> Option<usize>
     requires { node < length tree.now.nodes }
-    ensures element { result ≡ find (is_element_at tree.now.nodes) (siblings_before tree.now.nodes node) }
+    ensures element { result ≡ previous_element_at tree.now.nodes node }
     ensures there { IsThere tree.now.nodes result }
 {
     previous_siblings(tree, node).find(|sibling| is_element(tree, *sibling))
