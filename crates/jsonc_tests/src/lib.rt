@@ -24,6 +24,8 @@ mod refusals;
 #[cfg(test)]
 mod streams;
 #[cfg(test)]
+mod taken;
+#[cfg(test)]
 mod tokens;
 #[cfg(test)]
 mod tree_copies;

@@ -33,7 +33,8 @@ fn keeps_text(kind: &Kind<Heap<'_>>) -> bool
     }
 }
 
-fn push<'a>(
+/// A new node as the last child of a container.
+pub fn push<'a>(
     tree: &mut Tree<Heap<'a>>,
     container: usize,
     kind: Kind<Heap<'a>>,

@@ -6,7 +6,7 @@ use Rattle.jsonc_text.specs.Plain.{member}
 use Rattle.jsonc_text.proofs.TokenTexts.{same_bytes}
 use Rattle.jsonc_value.specs.declared.value.JsonValue.{JsonValue}
 use Rattle.jsonc_to_value.specs.Views.{plain, name_of, same_name, inserted, members_plain}
-use Rattle.jsonc_to_value.proofs.Collapse.{put}
+use Rattle.jsonc_text.proofs.Collapse.{put}
 
 module _ {A : Type 0} where
   -- the names are texts

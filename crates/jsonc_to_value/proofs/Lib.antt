@@ -1,5 +1,4 @@
 pub mod Plains
-pub mod Collapse
 pub mod Insertions
 pub mod Arrays
 pub mod Objects

@@ -10,7 +10,7 @@ use Rattle.jsonc_text.proofs.UniqueValues.{gap_after, no_literal}
 use Rattle.jsonc_to_ast.specs.Refusals.{AtItem}
 use Rattle.jsonc_to_ast.proofs.NoValues.{properties_item, property_end, name_end}
 use Rattle.jsonc_to_value.specs.Refusals.{NoValue, NoProperty}
-use Rattle.jsonc_to_value.proofs.Collapse.{push}
+use Rattle.jsonc_text.proofs.Collapse.{push}
 
 -- the properties so far, before those that follow
 abbrev chain : Members → Members → Members

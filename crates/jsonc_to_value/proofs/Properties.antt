@@ -20,7 +20,7 @@ use Rattle.jsonc_to_ast.proofs.Scans.{moved, kept_on}
 use Rattle.jsonc_to_value.specs.Reads.{Reads, ReadsProperty}
 use Rattle.jsonc_to_value.specs.Refusals.{NoProperty, NoValueHere, NoPropertyHere}
 use Rattle.jsonc_to_value.specs.Views.{plain, name_of, inserted, members_plain}
-use Rattle.jsonc_to_value.proofs.Collapse.{push, put, collapse_push}
+use Rattle.jsonc_text.proofs.Collapse.{push, put, collapse_push}
 use Rattle.jsonc_to_value.proofs.Insertions.{AreTexts, insert_texts, insert_puts}
 use Rattle.jsonc_to_value.proofs.Objects.{push_depth, Open, Whole, first_open, first_whole, next_open, next_whole, NoProperties, object_refused, deep_object, first_property, further_properties}
 

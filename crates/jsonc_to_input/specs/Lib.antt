@@ -1,0 +1,3 @@
+pub mod Given
+pub mod Taken
+pub mod Laws
