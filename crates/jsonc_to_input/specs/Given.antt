@@ -85,12 +85,12 @@ abbrev pub elements_before_colon : OrderedTree → ℕ
 elements_before_colon none = 0
 elements_before_colon (more content below after) = if is_colon content then 0 else (if is_element content then elements_before_colon after + 1 else elements_before_colon after)
 
--- a property has its first colon after its first element and before its second
+-- one element of a property, its name, stands before its first colon, or its end
 abbrev pub HasColon : Content → OrderedTree → Type 0
 HasColon Content.property below = elements_before_colon below ≡ 1
 HasColon _ below = Unit {0}
 
--- so has each property of the row and below it
+-- so it is in each property of the row and below it
 abbrev pub HaveColons : OrderedTree → Type 0
 HaveColons none = Unit {0}
 HaveColons (more content below after) = HasColon content below × HaveColons below × HaveColons after
