@@ -1,7 +1,8 @@
 //! Laws of the definitions: each is the contract of a function that does nothing.
 ghost use Rattle.std.specs.Prelude.{List, ℕ};
+ghost use Rattle.jsonc_text.specs.Options.{Options};
 ghost use Rattle.jsonc_tree.specs.Tree.{Node};
-ghost use Rattle.jsonc_edit.specs.Laws.{HasOneNode, HasOnePath, ShowsBelow};
+ghost use Rattle.jsonc_edit.specs.Laws.{AllStand, HasOneNode, HasOnePath, ShowsBelow};
 ghost use Rattle.jsonc_edit.specs.Laws.{ReplacesAtPath, KeepsReplacement};
 ghost use Rattle.jsonc_edit.specs.Laws.{ChangesOver, KeepsOthers, HasNewRow, HasNewText};
 ghost use Rattle.jsonc_edit.specs.Changes.{Respliced, Rewritten};
@@ -10,6 +11,12 @@ ghost use Rattle.jsonc_edit.specs.Changes.{Respliced, Rewritten};
 pub fn one_path()
     ensures node { (ns : List Node) (path : List ℕ) → HasOneNode ns path }
     ensures path { (ns : List Node) (n : ℕ) → HasOnePath ns n }
+{}
+
+/// In a tree of a document's shape each node below the root is a value at a path, a property of an
+/// object at a path, the name of a property, trivia or a token.
+pub fn each_node_has_its_place()
+    ensures { (o : Options) (ns : List Node) → AllStand o ns }
 {}
 
 /// The children of a node stand for the row of ordered trees below it.
