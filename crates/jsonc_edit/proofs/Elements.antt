@@ -11,10 +11,10 @@ pub Some_same : (m n : ℕ) → Some m ≡ Some n → m ≡ n
 Some_same m n e = cc
 
 module _ (test : ℕ → Bool) where
-  taken : (x : ℕ) (xs : List ℕ) → test x ≡ true → filter test (x ∷ xs) ≡ x ∷ filter test xs
+  pub taken : (x : ℕ) (xs : List ℕ) → test x ≡ true → filter test (x ∷ xs) ≡ x ∷ filter test xs
   taken x xs h = ap (λ b. cond b (x ∷ filter test xs) (filter test xs)) h
 
-  left : (x : ℕ) (xs : List ℕ) → test x ≡ false → filter test (x ∷ xs) ≡ filter test xs
+  pub left : (x : ℕ) (xs : List ℕ) → test x ≡ false → filter test (x ∷ xs) ≡ filter test xs
   left x xs h = ap (λ b. cond b (x ∷ filter test xs) (filter test xs)) h
 
   -- a place in the list at which q passes the test, and so many before it do
@@ -36,6 +36,17 @@ module _ (test : ℕ → Bool) where
       elim (cases_Bool (test x)) [
         | inl passes ↦ stands_taken x xs i q passes (λ j h. stands_at xs j q h) (sym (ap (λ l. slice_get l i) (taken x xs passes)) ∙ e)
         | inr fails ↦ stands_left x xs i q fails (stands_at xs i q (sym (ap (λ l. slice_get l i) (left x xs fails)) ∙ e))
+      ]
+
+  -- and what stands in the list and passes is found among those that pass, behind as many as pass before it
+  pub found_among : (xs : List ℕ) (k : ℕ) → k < length xs → test (slice_index xs k) ≡ true → slice_get (filter test xs) (length (filter test (take k xs))) ≡ Some (slice_index xs k)
+  found_among [] k h e = absurd (omega arith)
+  found_among (x ∷ xs) zero h e = ap (λ l. slice_get l 0) (taken x xs e)
+  found_among (x ∷ xs) (suc k) h e =
+      let rest = found_among xs k (omega arith) e in
+      elim (cases_Bool (test x)) [
+        | inl passes ↦ ap (λ l. slice_get l (length (filter test (x ∷ take k xs)))) (taken x xs passes) ∙ ap (λ l. slice_get (x ∷ filter test xs) (length l)) (taken x (take k xs) passes) ∙ rest
+        | inr fails ↦ ap (λ l. slice_get l (length (filter test (x ∷ take k xs)))) (left x xs fails) ∙ ap (λ l. slice_get (filter test xs) (length l)) (left x (take k xs) fails) ∙ rest
       ]
 
 -- a change of an element is one behind a row too, as many places on as elements stand in that row

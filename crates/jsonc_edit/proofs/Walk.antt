@@ -30,7 +30,7 @@ Shows-row_below ns tree n h =
     below_shown ns n (ordered_tree ns n) (row_below ns n) none (content_at ns n) (Shows-ordered_tree ns tree n h) refl
 
 -- the document is its root over a row that the root's children stand for
-document_is : (ns : List Node) → IsTree ns → (row : OrderedTree) → Shows ns (children_at ns 0) row → more root row none ≡ ordered_tree ns 0
+pub document_is : (ns : List Node) → IsTree ns → (row : OrderedTree) → Shows ns (children_at ns 0) row → more root row none ≡ ordered_tree ns 0
 unfolding ordered_tree
 document_is ns tree row shows =
     ap (λ t. more root t none) (Shows-unique ns (children_at ns 0) row (row_below ns 0) shows (Shows-row_below ns tree 0 tree.first))

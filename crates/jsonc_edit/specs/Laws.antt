@@ -1,9 +1,11 @@
 -- Laws of paths and changes: what is said of each list of nodes, node or change.
 use Rattle.std.specs.Prelude.{◌≡◌, ◌<◌, ℕ, List, length, take, drop}
+use Rattle.jsonc_text.specs.Options.{Options}
 use Rattle.jsonc_tree.specs.Content.{with_text}
 use Rattle.jsonc_tree.specs.Tree.{Node, content_at, children_at, IsTree, IsOver}
-use Rattle.jsonc_tree.specs.OrderedTree.{OrderedTree, followed_by, Shows}
-use Rattle.jsonc_edit.specs.Paths.{IsAt}
+use Rattle.jsonc_tree.specs.OrderedTree.{OrderedTree, followed_by, Shows, ordered_tree}
+use Rattle.jsonc_layout.specs.Shape.{DocumentShaped}
+use Rattle.jsonc_edit.specs.Paths.{IsAt, Stands}
 use Rattle.jsonc_edit.specs.Changes.{row_below, top_at, ChangesAt, Replaces, Respliced, Rewritten}
 
 -- a path leads to no two nodes
@@ -13,6 +15,10 @@ HasOneNode ns path = (n m : ℕ) → IsAt ns path n → IsAt ns path m → n ≡
 -- in a tree no two paths lead to a node
 abbrev pub HasOnePath : List Node → ℕ → Type 0
 HasOnePath ns n = IsTree ns → (p q : List ℕ) → IsAt ns p n → IsAt ns q n → p ≡ q
+
+-- in a tree of a document's shape each node below the root has its place
+abbrev pub AllStand : Options → List Node → Type 0
+AllStand o ns = IsTree ns → DocumentShaped o (ordered_tree ns 0) → (n : ℕ) → IsOver ns 0 n → Stands ns n
 
 -- in a tree a node's children stand for the row below it
 abbrev pub ShowsBelow : List Node → ℕ → Type 0

@@ -1,3 +1,4 @@
 pub mod Paths
 pub mod Changes
 pub mod Laws
+pub mod Worked

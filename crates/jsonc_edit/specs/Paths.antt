@@ -1,8 +1,9 @@
 -- The path of a value in a document, by the numbers of nodes.
-use Rattle.std.specs.Prelude.{◌≡◌, ◌↔◌, ℕ, List, [], ◌∷◌, Option, Some}
+use Rattle.std.specs.Prelude.{◌≡◌, ◌↔◌, ℕ, List, [], ◌∷◌, Option, Some, IsTrue}
 use Rattle.std.specs.List.{slice_get}
 use Rattle.jsonc_tree.specs.Content.{array, object, property}
 use Rattle.jsonc_tree.specs.Tree.{Node, content_at}
+use Rattle.jsonc_tree.specs.Values.{is_passed_over}
 use Rattle.jsonc_nodes.specs.Siblings.{elements_at}
 
 -- q is the element of p at this place among its elements
@@ -26,6 +27,14 @@ pub data LeadsTo (ns : List Node) (n : ℕ) : ℕ → List ℕ → Type 0 where
 -- from the document's value, which is the root's first element
 abbrev pub IsAt : List Node → List ℕ → ℕ → Type 0
 IsAt ns path n = (v : ℕ) × IsElementOf ns 0 0 v × LeadsTo ns n v path
+
+-- where a node stands in a document: it is the root, a value at a path, a property of an object at a path, the name of a property, or trivia or a token
+pub data Stands (ns : List Node) (n : ℕ) : Type 0 where
+  as_root : n ≡ 0 → Stands ns n
+  as_value : {path : List ℕ} → IsAt ns path n → Stands ns n
+  as_property : {path : List ℕ} {p : ℕ} (i : ℕ) → IsAt ns path p → content_at ns p ≡ object → IsElementOf ns p i n → content_at ns n ≡ property → Stands ns n
+  as_name : (r : ℕ) → content_at ns r ≡ property → IsElementOf ns r 0 n → Stands ns n
+  between : IsTrue (is_passed_over (content_at ns n)) → Stands ns n
 
 -- what is found is the one node of which R holds, and nothing where R holds of none
 abbrev pub FindsExactly : Option ℕ → (ℕ → Type 0) → Type 0

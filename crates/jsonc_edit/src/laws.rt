@@ -1,15 +1,29 @@
 //! Laws of the definitions: each is the contract of a function that does nothing.
-ghost use Rattle.std.specs.Prelude.{List, ℕ};
+ghost use Rattle.std.specs.Prelude.{List, [], ◌∷◌, ℕ};
+ghost use Rattle.jsonc_text.specs.Options.{Options};
 ghost use Rattle.jsonc_tree.specs.Tree.{Node};
-ghost use Rattle.jsonc_edit.specs.Laws.{HasOneNode, HasOnePath, ShowsBelow};
+ghost use Rattle.jsonc_edit.specs.Laws.{AllStand, HasOneNode, HasOnePath, ShowsBelow};
 ghost use Rattle.jsonc_edit.specs.Laws.{ReplacesAtPath, KeepsReplacement};
 ghost use Rattle.jsonc_edit.specs.Laws.{ChangesOver, KeepsOthers, HasNewRow, HasNewText};
 ghost use Rattle.jsonc_edit.specs.Changes.{Respliced, Rewritten};
+ghost use Rattle.jsonc_edit.specs.Paths.{IsAt};
+ghost use Rattle.jsonc_edit.specs.Worked.{worked_nodes};
 
 /// A path leads to at most one node, and in a tree at most one path leads to a node.
 pub fn one_path()
     ensures node { (ns : List Node) (path : List ℕ) → HasOneNode ns path }
     ensures path { (ns : List Node) (n : ℕ) → HasOnePath ns n }
+{}
+
+/// A worked row: in `{a:[1,2]}` the path 0, 1 leads to the 2, which is node 10.
+pub fn worked_path()
+    ensures { IsAt worked_nodes (0 ∷ 1 ∷ []) 10 }
+{}
+
+/// In a tree of a document's shape each node below the root is a value at a path, a property of an
+/// object at a path, the name of a property, trivia or a token.
+pub fn each_node_has_its_place()
+    ensures { (o : Options) (ns : List Node) → AllStand o ns }
 {}
 
 /// The children of a node stand for the row of ordered trees below it.

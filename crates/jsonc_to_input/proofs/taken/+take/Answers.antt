@@ -74,7 +74,7 @@ take_properties-loop-place-preserved g t c =
     let ns = c.args.tree.now.nodes in
     let row : List _ = children_at ns c.args.object in
     let inside : c.loop-place.place < length row = omega (arith, c.child_count-count.ensures, c.loop-place-test.true) in
-    let child = subst (λ m. IsMemberTaken ns m c.in_ok-name.field-0) c.child_at.ensures.child c.in_ok-name.ensures.name in
+    let child = subst (λ m. IsMemberTaken ns m c.in_ok-name.field-0) c.child_at.ensures.child c.in_ok-name.ensures in
     elim c.match-branch-2.branch [
       | take_properties-in-Some+in_ok-put_property w ↦ one_more_put ns row c.loop-place.place c.loop-place.properties.entries c.match-branch-2.properties.entries c.in_ok-name.field-0 w.in-Some.name w.in-Some.value inside c.loop-place.invariant child w.in-Some.is (ap (λ m. m.entries) w.properties-is ∙ w.in_ok-put_property.ensures)
       | take_properties-in_default w ↦ subst (λ m. AreMembersTaken ns (take (c.loop-place.place + 1) row) m.entries) (sym w.properties-is) (nothing_more_put ns row c.loop-place.place c.loop-place.properties.entries c.in_ok-name.field-0 inside c.loop-place.invariant child w.in_default.is)
