@@ -1,2 +1,3 @@
 pub mod Document
+pub mod Readings
 pub mod Nodes

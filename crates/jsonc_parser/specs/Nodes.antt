@@ -1,5 +1,5 @@
 -- The nodes that a caller holds: the number of each, and the kind that it says.
-use Rattle.std.specs.Prelude.{◌≡◌, ◌↔◌, ℕ, ◌<◌, Bool, true, false, List, length, map, Option, Some, option_map}
+use Rattle.std.specs.Prelude.{◌≡◌, ◌↔◌, ℕ, ◌<◌, Bool, true, false, not, List, length, map, Option, Some, option_map}
 use Rattle.jsonc_tree.specs.Content.{Content}
 use Rattle.jsonc_tree.specs.Tree.{Node, content_at, parent_at, children_at}
 use Rattle.jsonc_tree.specs.Order.{upward}
@@ -97,6 +97,11 @@ is_trivia_node (Leaf (Whitespace x)) = true
 is_trivia_node (Leaf (Newline x)) = true
 is_trivia_node (Leaf (Comment x)) = true
 is_trivia_node _ = false
+
+-- neither trivia nor a token
+abbrev pub is_element_node : CstNode → Bool
+is_element_node (Leaf (Token x)) = false
+is_element_node node = not (is_trivia_node node)
 
 -- what follows speaks of one kind of node, or of content, by what makes it
 module _ {T N : Type 0} (kind : T → N) where

@@ -17,9 +17,16 @@ ghost use Rattle.jsonc_layout.specs.Shape.{DocumentShaped};
 ghost use Rattle.jsonc_parser.specs.Document.{edit_error_text, printed_of, tree_of};
 
 mod access;
+mod comments;
+mod elements;
 mod into;
+mod layout;
 mod leaf;
+mod names;
 mod node;
+mod root;
+mod siblings;
+mod values;
 
 pub use access::AncestorIterator;
 use jsonc_layout::build;
@@ -34,6 +41,7 @@ pub use node::{
     CstNullKeyword, CstNumberLit, CstObject, CstObjectProp, CstRoot, CstStringLit, CstToken,
     CstWhitespace, CstWordLit, ObjectPropName,
 };
+pub use siblings::{NextSiblingIterator, PreviousSiblingIterator};
 use std::alloc::Allocator;
 use std::error::Error;
 use std::fmt;

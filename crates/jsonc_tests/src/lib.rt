@@ -20,6 +20,8 @@ mod nodes;
 #[cfg(test)]
 mod outcome;
 #[cfg(test)]
+mod readings;
+#[cfg(test)]
 mod refusals;
 #[cfg(test)]
 mod streams;

@@ -2,7 +2,7 @@
 
 ghost use Rattle.std.specs.Prelude.{◌≡◌, ◌↔◌, IsTrue};
 ghost use Rattle.jsonc_parser.specs.Nodes.{number_of, container_number, leaf_number};
-ghost use Rattle.jsonc_parser.specs.Nodes.{is_trivia_node, IsAs, IsOf};
+ghost use Rattle.jsonc_parser.specs.Nodes.{is_element_node, is_trivia_node, IsAs, IsOf};
 ghost use Rattle.jsonc_parser.specs.Nodes.{root_node, array_node, object_node, object_prop_node};
 ghost use Rattle.jsonc_parser.specs.Nodes.{string_lit_node, number_lit_node, boolean_lit_node};
 ghost use Rattle.jsonc_parser.specs.Nodes.{null_keyword_node, word_lit_node};
@@ -403,5 +403,37 @@ impl CstNode {
                 CstLeafNode::Whitespace(_) | CstLeafNode::Newline(_) | CstLeafNode::Comment(_)
             )
         )
+    }
+
+    // Whether it is neither trivia nor a token.
+    pub(super) fn is_element(self) -> bool
+        ensures { result ≡ is_element_node self }
+    {
+        match self {
+            CstNode::Leaf(CstLeafNode::Token(_)) => false,
+            _ => !self.is_trivia(),
+        }
+    }
+}
+
+impl ObjectPropName {
+    /// The string, if the name stands between quotes.
+    pub fn as_string_lit(self) -> Option<CstStringLit>
+        ensures { IsAs ObjectPropName.String self result }
+    {
+        match self {
+            ObjectPropName::String(string) => Some(string),
+            ObjectPropName::Word(_) => None,
+        }
+    }
+
+    /// The word, if the name stands without quotes.
+    pub fn as_word_lit(self) -> Option<CstWordLit>
+        ensures { IsAs ObjectPropName.Word self result }
+    {
+        match self {
+            ObjectPropName::Word(word) => Some(word),
+            ObjectPropName::String(_) => None,
+        }
     }
 }
