@@ -4,3 +4,4 @@ pub mod Views
 pub mod Leaves
 pub mod SpelledTexts
 pub mod Meanings
+pub mod Texts

@@ -27,6 +27,10 @@ node_then node row = more node.content node.below row
 abbrev pub space_then : OrderedTree → OrderedTree
 space_then row = leaf_then (whitespace (0x20 ∷ [])) row
 
+-- a token and a space, and then a row
+abbrev pub spaced : ℕ → OrderedTree → OrderedTree
+spaced mark row = leaf_then (token mark) (space_then row)
+
 -- a comma where one is wanted, and then a row
 abbrev pub comma_if : Bool → OrderedTree → OrderedTree
 comma_if true row = leaf_then (token 0x2C) row
@@ -34,7 +38,7 @@ comma_if false row = row
 
 -- a comma and a space where nodes are to be parted, and then a row
 abbrev pub gap_if : Bool → OrderedTree → OrderedTree
-gap_if true row = leaf_then (token 0x2C) (space_then row)
+gap_if true row = spaced 0x2C row
 gap_if false row = row
 
 -- the end of a line and the indent of the next one, which is a leaf even where it is empty, and then a row
@@ -84,7 +88,7 @@ begun content first = record { content = content; below = leaf_then first none }
 
 -- a property: its name, a colon, a space and its value
 abbrev pub property_of : List ℕ → LaidNode → LaidNode
-property_of name value = record { content = Content.property; below = leaf_then (string_leaf name) (leaf_then (token 0x3A) (space_then (node_then value none))) }
+property_of name value = record { content = Content.property; below = leaf_then (string_leaf name) (spaced 0x3A (node_then value none)) }
 
 -- nodes on lines of their own, one level deeper, and then a row on the next line; or, where there are none, the row at once
 abbrev pub spread : Layout → List LaidNode → OrderedTree → OrderedTree

@@ -2,14 +2,21 @@
 ghost use Rattle.std.specs.Prelude.{List, ℕ};
 ghost use Rattle.jsonc_text.specs.Options.{Options};
 ghost use Rattle.jsonc_text.specs.Plain.{Plain};
-ghost use Rattle.jsonc_tree.specs.Values.{PropertyOf, ValueOf};
-ghost use Rattle.jsonc_lay_out.specs.Laid.{laid, laid_property};
+ghost use Rattle.jsonc_input.specs.Views.{plain};
 ghost use Rattle.jsonc_lay_out.specs.Layout.{Layout};
-ghost use Rattle.jsonc_lay_out.specs.Texts.{IsCharacters, IsOfTexts};
+ghost use Rattle.jsonc_lay_out.specs.Texts.{HasLaidProperty, HasLaidValue, IsOfTexts};
+
+use jsonc_input::CstInputValue;
+use std::alloc::Allocator;
+
+/// What a value stands for has only texts in it: its strings, names and numbers are characters.
+pub fn values_are_of_texts<A: Allocator>(value: &CstInputValue<A>)
+    ensures { IsOfTexts (plain value.now) }
+{}
 
 /// The nodes that a value is laid out as have that value, and those of a property its name and its
 /// value, whatever the layout, under all options.
 pub fn laid_values_mean_themselves()
-    ensures value { (o : Options) (l : Layout) (v : Plain) → IsOfTexts v → ValueOf o (laid l v).content (laid l v).below v }
-    ensures property { (o : Options) (l : Layout) (name : List ℕ) (v : Plain) → IsCharacters name → IsOfTexts v → PropertyOf o (laid_property l name v).below name v }
+    ensures value { (o : Options) (l : Layout) (v : Plain) → HasLaidValue o l v }
+    ensures property { (o : Options) (l : Layout) (s : List ℕ) (v : Plain) → HasLaidProperty o l s v }
 {}

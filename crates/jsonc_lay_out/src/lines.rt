@@ -1,14 +1,12 @@
 //! How nodes are begun, and what stands between them: lines' ends, indents, commas and spaces.
 
-ghost use Rattle.std.specs.Prelude.{IfOk, IsTrue, OnOk, length};
-ghost use Rattle.jsonc_tree.specs.Building.{Keeps};
-ghost use Rattle.jsonc_tree.specs.Content.{is_container, token, whitespace};
-ghost use Rattle.jsonc_tree.specs.OrderedTree.{none};
+ghost use Rattle.std.specs.Prelude.{IfOk, IsTrue, OnOk};
+ghost use Rattle.jsonc_tree.specs.Content.{is_container, whitespace};
 ghost use Rattle.jsonc_tree.specs.Stored.{content_of};
 ghost use Rattle.jsonc_tree.specs.Tree.{IsTree};
-ghost use Rattle.jsonc_lay_out.specs.Extending.{BuildsNode, Extends, IsUnfinished};
-ghost use Rattle.jsonc_lay_out.specs.Laid.{begun, comma_if, gap_if, leaf_then, line_then, space_then};
-ghost use Rattle.jsonc_lay_out.specs.Layout.{layout_of};
+ghost use Rattle.jsonc_lay_out.specs.Extending.{Gains, IsUnfinished, KeepsAll, KeepsBefore, Makes};
+ghost use Rattle.jsonc_lay_out.specs.Given.{new_line};
+ghost use Rattle.jsonc_lay_out.specs.Laid.{begun, comma_if, gap_if, leaf_then, spaced};
 
 use crate::layout::Layout;
 use jsonc_tree::{Kind, Tree};
@@ -21,8 +19,8 @@ pub(crate) fn begin_node<A: Allocator + Copy>(
     first: Kind<A>,
 ) -> Result<usize, AllocError>
     requires { IsTrue (is_container (content_of kind)) }
-    ensures built { IfOk result (λ n. BuildsNode tree.old.nodes tree.new.nodes n (begun (content_of kind) (content_of first))) }
-    ensures kept { Keeps (length tree.old.nodes) tree.old.nodes tree.new.nodes }
+    ensures built { IfOk result (Makes tree.old tree.new (begun (content_of kind) (content_of first))) }
+    ensures kept { KeepsAll tree.old tree.new }
     ensures tree { IsTree tree.new.nodes }
 {
     let node = tree.add(kind)?;
@@ -37,8 +35,8 @@ pub(crate) fn push_leaf<A: Allocator + Copy>(
     kind: Kind<A>,
 ) -> Result<(), AllocError>
     requires { IsUnfinished tree.old.nodes container }
-    ensures added { OnOk result (Extends tree.old.nodes tree.new.nodes container (leaf_then (content_of kind) none)) }
-    ensures kept { Keeps container tree.old.nodes tree.new.nodes }
+    ensures added { OnOk result (Gains tree.old tree.new container (leaf_then (content_of kind))) }
+    ensures kept { KeepsBefore container tree.old tree.new }
     ensures tree { IsTree tree.new.nodes }
 {
     tree.push_child(container, kind)?;
@@ -53,8 +51,8 @@ fn push_blanks<A: Allocator + Copy>(
     blanks: &str,
 ) -> Result<(), AllocError>
     requires { IsUnfinished tree.old.nodes container }
-    ensures added { OnOk result (Extends tree.old.nodes tree.new.nodes container (leaf_then (whitespace blanks.now) none)) }
-    ensures kept { Keeps container tree.old.nodes tree.new.nodes }
+    ensures added { OnOk result (Gains tree.old tree.new container (leaf_then (whitespace blanks.now))) }
+    ensures kept { KeepsBefore container tree.old tree.new }
     ensures tree { IsTree tree.new.nodes }
 {
     let blanks = String::from_str(alloc, blanks)?;
@@ -69,8 +67,8 @@ pub(crate) fn push_spaced<A: Allocator + Copy>(
     mark: char,
 ) -> Result<(), AllocError>
     requires { IsUnfinished tree.old.nodes container }
-    ensures added { OnOk result (Extends tree.old.nodes tree.new.nodes container (leaf_then (token mark) (space_then none))) }
-    ensures kept { Keeps container tree.old.nodes tree.new.nodes }
+    ensures added { OnOk result (Gains tree.old tree.new container (spaced mark)) }
+    ensures kept { KeepsBefore container tree.old tree.new }
     ensures tree { IsTree tree.new.nodes }
 {
     push_leaf(tree, container, Kind::Token(mark))?;
@@ -85,8 +83,8 @@ pub(crate) fn push_gap_if<A: Allocator + Copy>(
     wanted: bool,
 ) -> Result<(), AllocError>
     requires { IsUnfinished tree.old.nodes container }
-    ensures added { OnOk result (Extends tree.old.nodes tree.new.nodes container (gap_if wanted none)) }
-    ensures kept { Keeps container tree.old.nodes tree.new.nodes }
+    ensures added { OnOk result (Gains tree.old tree.new container (gap_if wanted)) }
+    ensures kept { KeepsBefore container tree.old tree.new }
     ensures tree { IsTree tree.new.nodes }
 {
     if !wanted {
@@ -102,8 +100,8 @@ pub(crate) fn push_comma_if<A: Allocator + Copy>(
     wanted: bool,
 ) -> Result<(), AllocError>
     requires { IsUnfinished tree.old.nodes container }
-    ensures added { OnOk result (Extends tree.old.nodes tree.new.nodes container (comma_if wanted none)) }
-    ensures kept { Keeps container tree.old.nodes tree.new.nodes }
+    ensures added { OnOk result (Gains tree.old tree.new container (comma_if wanted)) }
+    ensures kept { KeepsBefore container tree.old tree.new }
     ensures tree { IsTree tree.new.nodes }
 {
     if !wanted {
@@ -120,8 +118,8 @@ pub(crate) fn begin_line<A: Allocator + Copy>(
     layout: &Layout<A>,
 ) -> Result<(), AllocError>
     requires { IsUnfinished tree.old.nodes container }
-    ensures added { OnOk result (Extends tree.old.nodes tree.new.nodes container (line_then (layout_of layout.now) none)) }
-    ensures kept { Keeps container tree.old.nodes tree.new.nodes }
+    ensures added { OnOk result (Gains tree.old tree.new container (new_line layout.now)) }
+    ensures kept { KeepsBefore container tree.old tree.new }
     ensures tree { IsTree tree.new.nodes }
 {
     push_leaf(tree, container, Kind::Newline(layout.newline))?;

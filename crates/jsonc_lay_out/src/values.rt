@@ -1,17 +1,15 @@
 //! From a value to its nodes.
 
-ghost use Rattle.std.specs.Prelude.{◌≡◌, ◌||◌, IfOk, OnOk, chars, length, nat_lt};
-ghost use Rattle.jsonc_text.specs.Plain.{array, object};
-ghost use Rattle.jsonc_tree.specs.Building.{Keeps};
-ghost use Rattle.jsonc_tree.specs.OrderedTree.{none};
-ghost use Rattle.jsonc_tree.specs.Tree.{IsTree};
-ghost use Rattle.jsonc_input.specs.Views.{items_plain, members_plain, plain};
-ghost use Rattle.jsonc_lay_out.specs.Extending.{BuildsNode, Extends, IsUnfinished};
+ghost use Rattle.std.specs.Prelude.{◌≡◌, ◌||◌, IfOk, OnOk, chars, nat_lt};
 ghost use Rattle.jsonc_tree.specs.Content.{property};
-ghost use Rattle.jsonc_lay_out.specs.Laid.{begun, elements_row, holds_filled, is_filled, laid};
-ghost use Rattle.jsonc_lay_out.specs.Laid.{laid_items, laid_members, laid_property, leaf, node_then};
-ghost use Rattle.jsonc_lay_out.specs.Laid.{number_leaf, on_lines, on_one_line, properties_row};
-ghost use Rattle.jsonc_lay_out.specs.Laid.{string_leaf};
+ghost use Rattle.jsonc_tree.specs.Tree.{IsTree};
+ghost use Rattle.jsonc_input.specs.Views.{items_plain, plain};
+ghost use Rattle.jsonc_lay_out.specs.Extending.{Gains, IsUnfinished, KeepsAll, KeepsBefore, Makes};
+ghost use Rattle.jsonc_lay_out.specs.Given.{array_node, array_row, element_line, element_lines};
+ghost use Rattle.jsonc_lay_out.specs.Given.{object_node, object_row, property_lines};
+ghost use Rattle.jsonc_lay_out.specs.Given.{property_node, value_node};
+ghost use Rattle.jsonc_lay_out.specs.Laid.{begun, holds_filled, is_filled, leaf, node_then};
+ghost use Rattle.jsonc_lay_out.specs.Laid.{number_leaf, string_leaf};
 ghost use Rattle.jsonc_lay_out.specs.Layout.{layout_of};
 
 use crate::layout::Layout;
@@ -27,8 +25,8 @@ fn add_number<A: Allocator + Copy>(
     tree: &mut Tree<A>,
     text: &str,
 ) -> Result<usize, AllocError>
-    ensures built { IfOk result (λ n. BuildsNode tree.old.nodes tree.new.nodes n (leaf (number_leaf (chars text.now)))) }
-    ensures kept { Keeps (length tree.old.nodes) tree.old.nodes tree.new.nodes }
+    ensures built { IfOk result (Makes tree.old tree.new (leaf (number_leaf (chars text.now)))) }
+    ensures kept { KeepsAll tree.old tree.new }
     ensures tree { IsTree tree.new.nodes }
 {
     let _ = tree.len();
@@ -42,8 +40,8 @@ fn add_string<A: Allocator + Copy>(
     tree: &mut Tree<A>,
     text: &str,
 ) -> Result<usize, AllocError>
-    ensures built { IfOk result (λ n. BuildsNode tree.old.nodes tree.new.nodes n (leaf (string_leaf (chars text.now)))) }
-    ensures kept { Keeps (length tree.old.nodes) tree.old.nodes tree.new.nodes }
+    ensures built { IfOk result (Makes tree.old tree.new (leaf (string_leaf (chars text.now)))) }
+    ensures kept { KeepsAll tree.old tree.new }
     ensures tree { IsTree tree.new.nodes }
 {
     let _ = tree.len();
@@ -57,8 +55,8 @@ fn begin_property<A: Allocator + Copy>(
     tree: &mut Tree<A>,
     name: &str,
 ) -> Result<usize, AllocError>
-    ensures built { IfOk result (λ n. BuildsNode tree.old.nodes tree.new.nodes n (begun property (string_leaf (chars name.now)))) }
-    ensures kept { Keeps (length tree.old.nodes) tree.old.nodes tree.new.nodes }
+    ensures built { IfOk result (Makes tree.old tree.new (begun property (string_leaf (chars name.now)))) }
+    ensures kept { KeepsAll tree.old tree.new }
     ensures tree { IsTree tree.new.nodes }
 {
     let _ = tree.len();
@@ -109,8 +107,8 @@ pub fn lay_out<A: Allocator + Copy>(
     value: &CstInputValue<A>,
     layout: &Layout<A>,
 ) -> Result<usize, AllocError>
-    ensures built { IfOk result (λ n. BuildsNode tree.old.nodes tree.new.nodes n (laid (layout_of layout.now) (plain value.now))) }
-    ensures kept { Keeps (length tree.old.nodes) tree.old.nodes tree.new.nodes }
+    ensures built { IfOk result (Makes tree.old tree.new (value_node layout.now value.now)) }
+    ensures kept { KeepsAll tree.old tree.new }
     ensures tree { IsTree tree.new.nodes }
 {
     match value {
@@ -137,8 +135,8 @@ pub fn lay_out_property<A: Allocator + Copy>(
     value: &CstInputValue<A>,
     layout: &Layout<A>,
 ) -> Result<usize, AllocError>
-    ensures built { IfOk result (λ n. BuildsNode tree.old.nodes tree.new.nodes n (laid_property (layout_of layout.now) (chars name.now) (plain value.now))) }
-    ensures kept { Keeps (length tree.old.nodes) tree.old.nodes tree.new.nodes }
+    ensures built { IfOk result (Makes tree.old tree.new (property_node layout.now name.now value.now)) }
+    ensures kept { KeepsAll tree.old tree.new }
     ensures tree { IsTree tree.new.nodes }
 {
     let property = begin_property(alloc, tree, name)?;
@@ -155,8 +153,8 @@ fn lay_out_array<A: Allocator + Copy>(
     elements: &[CstInputValue<A>],
     layout: &Layout<A>,
 ) -> Result<usize, AllocError>
-    ensures built { IfOk result (λ n. BuildsNode tree.old.nodes tree.new.nodes n (laid (layout_of layout.now) (array (items_plain elements.now)))) }
-    ensures kept { Keeps (length tree.old.nodes) tree.old.nodes tree.new.nodes }
+    ensures built { IfOk result (Makes tree.old tree.new (array_node layout.now elements.now)) }
+    ensures kept { KeepsAll tree.old tree.new }
     ensures tree { IsTree tree.new.nodes }
 {
     let array = begin_node(tree, Kind::Array, Kind::Token('['))?;
@@ -173,8 +171,8 @@ fn lay_out_object<A: Allocator + Copy>(
     properties: &[(String<A>, CstInputValue<A>)],
     layout: &Layout<A>,
 ) -> Result<usize, AllocError>
-    ensures built { IfOk result (λ n. BuildsNode tree.old.nodes tree.new.nodes n (laid (layout_of layout.now) (object (members_plain properties.now)))) }
-    ensures kept { Keeps (length tree.old.nodes) tree.old.nodes tree.new.nodes }
+    ensures built { IfOk result (Makes tree.old tree.new (object_node layout.now properties.now)) }
+    ensures kept { KeepsAll tree.old tree.new }
     ensures tree { IsTree tree.new.nodes }
 {
     let object = begin_node(tree, Kind::Object, Kind::Token('{'))?;
@@ -193,8 +191,8 @@ fn push_value<A: Allocator + Copy>(
     layout: &Layout<A>,
 ) -> Result<(), AllocError>
     requires { IsUnfinished tree.old.nodes container }
-    ensures added { OnOk result (Extends tree.old.nodes tree.new.nodes container (node_then (laid (layout_of layout.now) (plain value.now)) none)) }
-    ensures kept { Keeps container tree.old.nodes tree.new.nodes }
+    ensures added { OnOk result (Gains tree.old tree.new container (node_then (value_node layout.now value.now))) }
+    ensures kept { KeepsBefore container tree.old tree.new }
     ensures tree { IsTree tree.new.nodes }
 {
     let node = lay_out(alloc, tree, value, layout)?;
@@ -212,8 +210,8 @@ fn push_property<A: Allocator + Copy>(
     layout: &Layout<A>,
 ) -> Result<(), AllocError>
     requires { IsUnfinished tree.old.nodes object }
-    ensures added { OnOk result (Extends tree.old.nodes tree.new.nodes object (node_then (laid_property (layout_of layout.now) (chars name.now) (plain value.now)) none)) }
-    ensures kept { Keeps object tree.old.nodes tree.new.nodes }
+    ensures added { OnOk result (Gains tree.old tree.new object (node_then (property_node layout.now name.now value.now))) }
+    ensures kept { KeepsBefore object tree.old tree.new }
     ensures tree { IsTree tree.new.nodes }
 {
     let node = lay_out_property(alloc, tree, name, value, layout)?;
@@ -230,8 +228,8 @@ fn push_elements<A: Allocator + Copy>(
     layout: &Layout<A>,
 ) -> Result<(), AllocError>
     requires { IsUnfinished tree.old.nodes array }
-    ensures added { OnOk result (Extends tree.old.nodes tree.new.nodes array (elements_row (layout_of layout.now) (items_plain elements.now) none)) }
-    ensures kept { Keeps array tree.old.nodes tree.new.nodes }
+    ensures added { OnOk result (Gains tree.old tree.new array (array_row layout.now elements.now)) }
+    ensures kept { KeepsBefore array tree.old tree.new }
     ensures tree { IsTree tree.new.nodes }
 {
     if !holds_filled(elements) {
@@ -252,8 +250,8 @@ fn push_properties<A: Allocator + Copy>(
     layout: &Layout<A>,
 ) -> Result<(), AllocError>
     requires { IsUnfinished tree.old.nodes object }
-    ensures added { OnOk result (Extends tree.old.nodes tree.new.nodes object (properties_row (layout_of layout.now) (members_plain properties.now) none)) }
-    ensures kept { Keeps object tree.old.nodes tree.new.nodes }
+    ensures added { OnOk result (Gains tree.old tree.new object (object_row layout.now properties.now)) }
+    ensures kept { KeepsBefore object tree.old tree.new }
     ensures tree { IsTree tree.new.nodes }
 {
     if properties.is_empty() {
@@ -274,8 +272,8 @@ fn push_elements_on_one_line<A: Allocator + Copy>(
     layout: &Layout<A>,
 ) -> Result<(), AllocError>
     requires { IsUnfinished tree.old.nodes array }
-    ensures added { OnOk result (Extends tree.old.nodes tree.new.nodes array (on_one_line (laid_items (layout_of layout.now) (items_plain elements.now)) none)) }
-    ensures kept { Keeps array tree.old.nodes tree.new.nodes }
+    ensures added { OnOk result (Gains tree.old tree.new array (element_line layout.now elements.now)) }
+    ensures kept { KeepsBefore array tree.old tree.new }
     ensures tree { IsTree tree.new.nodes }
 {
     for (place, element) in elements.iter().enumerate() {
@@ -296,8 +294,8 @@ fn push_elements_on_lines<A: Allocator + Copy>(
     layout: &Layout<A>,
 ) -> Result<(), AllocError>
     requires { IsUnfinished tree.old.nodes array }
-    ensures added { OnOk result (Extends tree.old.nodes tree.new.nodes array (on_lines (layout_of layout.now) (laid_items (layout_of layout.now) (items_plain elements.now)) none)) }
-    ensures kept { Keeps array tree.old.nodes tree.new.nodes }
+    ensures added { OnOk result (Gains tree.old tree.new array (element_lines layout.now elements.now)) }
+    ensures kept { KeepsBefore array tree.old tree.new }
     ensures tree { IsTree tree.new.nodes }
 {
     for (place, element) in elements.iter().enumerate() {
@@ -319,8 +317,8 @@ fn push_properties_on_lines<A: Allocator + Copy>(
     layout: &Layout<A>,
 ) -> Result<(), AllocError>
     requires { IsUnfinished tree.old.nodes object }
-    ensures added { OnOk result (Extends tree.old.nodes tree.new.nodes object (on_lines (layout_of layout.now) (laid_members (layout_of layout.now) (members_plain properties.now)) none)) }
-    ensures kept { Keeps object tree.old.nodes tree.new.nodes }
+    ensures added { OnOk result (Gains tree.old tree.new object (property_lines layout.now properties.now)) }
+    ensures kept { KeepsBefore object tree.old tree.new }
     ensures tree { IsTree tree.new.nodes }
 {
     for (place, property) in properties.iter().enumerate() {
