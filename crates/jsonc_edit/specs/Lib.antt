@@ -1,3 +1,4 @@
 pub mod Paths
 pub mod Changes
+pub mod Replacing
 pub mod Laws

@@ -9,5 +9,7 @@
 
 pub mod laws;
 mod paths;
+mod replacing;
 
 pub use paths::find;
+pub use replacing::replace_with;
