@@ -1,4 +1,5 @@
 pub mod Paths
 pub mod Changes
 pub mod Replacing
+pub mod Reading
 pub mod Laws
