@@ -5,3 +5,5 @@ pub mod Splices
 pub mod Finding
 pub mod Entries
 pub mod Standing
+pub mod Kept
+pub mod GivingWay

@@ -1,10 +1,15 @@
 -- Laws of paths and changes: what is said of each list of nodes, node or change.
-use Rattle.std.specs.Prelude.{◌≡◌, ◌<◌, ℕ, List, length, take, drop}
+use Rattle.std.specs.Prelude.{◌≡◌, ◌<◌, ℕ, List, length, take, drop, Some}
 use Rattle.jsonc_text.specs.Options.{Options}
+use Rattle.jsonc_text.specs.Plain.{Plain}
 use Rattle.jsonc_tree.specs.Content.{with_text}
 use Rattle.jsonc_tree.specs.Tree.{Node, content_at, children_at, IsTree, IsOver}
-use Rattle.jsonc_tree.specs.OrderedTree.{OrderedTree, followed_by, Shows, ordered_tree}
+use Rattle.jsonc_tree.specs.OrderedTree.{OrderedTree, followed_by, ordered_tree, Shows}
+use Rattle.jsonc_tree.specs.Values.{DocumentValueOf}
 use Rattle.jsonc_layout.specs.Shape.{DocumentShaped}
+use Rattle.jsonc_sound.specs.Sound.{Sound, HasValue, IsNewValue}
+use Rattle.jsonc_sound.specs.TreeChanges.{Top}
+use Rattle.jsonc_sound.specs.Laws.{HasChangedValue}
 use Rattle.jsonc_edit.specs.Paths.{IsAt, Stands}
 use Rattle.jsonc_edit.specs.Changes.{row_below, top_at, ChangesAt, Replaces, Respliced, Rewritten}
 
@@ -48,3 +53,13 @@ HasNewRow {old} {new} {c} s =
 -- the leaf has the new text, over what was below it
 abbrev pub HasNewText : {old new : List Node} {leaf : ℕ} → Rewritten old new leaf → Type 0
 HasNewText {old} {new} {leaf} r = top_at new leaf ≡ record { content = with_text (content_at old leaf) r.text; below = row_below old leaf }
+
+-- where n stands at the path in a sound document, and gives way to a node that may stand there, the document that this makes is sound
+abbrev pub StaysSoundAt : Options → List Node → List Node → List ℕ → ℕ → Type 0
+StaysSoundAt o old new path n =
+    Sound o (ordered_tree old 0) → IsAt old path n → (now : Top) (v : Plain) → ChangesAt old new n now → IsNewValue o now v → Sound o (ordered_tree new 0)
+
+-- where n stands at the path in a document of value x, and gives way to a node of value v, so does its value there
+abbrev pub ChangesValueAt : Options → List Node → List Node → List ℕ → ℕ → Plain → Type 0
+ChangesValueAt o old new path n x =
+    DocumentValueOf o (ordered_tree old 0) (Some x) → IsAt old path n → (now : Top) (v : Plain) → ChangesAt old new n now → HasValue o now v → HasChangedValue o (top_at old n) path (ordered_tree new 0) x v

@@ -1,4 +1,6 @@
 pub mod Paths
 pub mod Changes
+pub mod Replacing
+pub mod Reading
 pub mod Laws
 pub mod Worked

@@ -1,10 +1,12 @@
 //! Laws of the definitions: each is the contract of a function that does nothing.
-ghost use Rattle.std.specs.Prelude.{List, [], ◌∷◌, ℕ};
+ghost use Rattle.std.specs.Prelude.{◌≡◌, false, List, [], ◌∷◌, ℕ};
 ghost use Rattle.jsonc_text.specs.Options.{Options};
+ghost use Rattle.jsonc_text.specs.Plain.{Plain};
 ghost use Rattle.jsonc_tree.specs.Tree.{Node};
 ghost use Rattle.jsonc_edit.specs.Laws.{AllStand, HasOneNode, HasOnePath, ShowsBelow};
 ghost use Rattle.jsonc_edit.specs.Laws.{ReplacesAtPath, KeepsReplacement};
 ghost use Rattle.jsonc_edit.specs.Laws.{ChangesOver, KeepsOthers, HasNewRow, HasNewText};
+ghost use Rattle.jsonc_edit.specs.Laws.{ChangesValueAt, StaysSoundAt};
 ghost use Rattle.jsonc_edit.specs.Changes.{Respliced, Rewritten};
 ghost use Rattle.jsonc_edit.specs.Paths.{IsAt};
 ghost use Rattle.jsonc_edit.specs.Worked.{worked_nodes};
@@ -53,4 +55,16 @@ pub fn rewritten_leaves_change_their_place()
     ensures changed { (old new : List Node) (n : ℕ) → Rewritten old new n → ChangesOver old new n }
     ensures text { (old new : List Node) (n : ℕ) (r : Rewritten old new n) → HasNewText r }
     ensures kept { (old new : List Node) (n : ℕ) → Rewritten old new n → KeepsOthers old new n }
+{}
+
+/// Where a value of a sound document gives way to a node that may stand there, the document that this
+/// makes is sound, if commas may not be missing.
+pub fn documents_stay_sound()
+    ensures { (o : Options) (old new : List Node) (path : List ℕ) (n : ℕ) → o.missing_commas ≡ false → StaysSoundAt o old new path n }
+{}
+
+/// Where a value of a document gives way to another, so does its plain value at the same path, and
+/// nothing else does.
+pub fn documents_have_changed_values()
+    ensures { (o : Options) (old new : List Node) (path : List ℕ) (n : ℕ) (x : Plain) → ChangesValueAt o old new path n x }
 {}

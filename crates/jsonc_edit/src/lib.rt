@@ -9,5 +9,8 @@
 
 pub mod laws;
 mod paths;
+mod reading;
+mod replacing;
 
 pub use paths::find;
+pub use replacing::{replace, replace_with};

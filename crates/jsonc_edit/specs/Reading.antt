@@ -1,0 +1,21 @@
+-- How the value that replaces another is laid out, as the document tells where that one stands.
+use Rattle.std.specs.Prelude.{◌≡◌, ℕ, List, Some, if◌then◌else◌}
+use Rattle.jsonc_text.specs.Plain.{Plain}
+use Rattle.jsonc_tree.specs.Tree.{Node, content_at, parent_at}
+use Rattle.jsonc_lines.specs.Indents.{is_property, indents_at}
+use Rattle.jsonc_lines.specs.Breadth.{newline_kind_of, uses_trailing_commas_at}
+use Rattle.jsonc_lay_out.specs.Layout.{Layout}
+use Rattle.jsonc_edit.specs.Replacing.{laid_top, GivesWay}
+
+-- the node whose containers tell whether trailing commas are used, for a child n of c: the value itself in a property, else the container
+abbrev pub commas_told_by : List Node → ℕ → ℕ → ℕ
+commas_told_by ns c n = if is_property (content_at ns c) then n else c
+
+-- the layout for what replaces the child n of c: the indents at c, and the document's lines' ends
+abbrev pub layout_for : List Node → ℕ → ℕ → Layout
+layout_for ns c n =
+    record { current = (indents_at ns c).current; single = (indents_at ns c).single; trailing_commas = uses_trailing_commas_at ns (commas_told_by ns c n); newline = newline_kind_of ns }
+
+-- the child n has given way to m, which is the value, laid out as the old nodes tell
+abbrev pub IsReplaced : List Node → List Node → ℕ → Plain → ℕ → Type 0
+IsReplaced old new n v m = (c : ℕ) × (parent_at old n ≡ Some c) × GivesWay old new n m (laid_top (layout_for old c n) v)

@@ -1,0 +1,28 @@
+-- A node of a document gives way to one that was not there before.
+use Rattle.std.specs.Prelude.{◌≡◌, ◌≢◌, ℕ, ◌+◌, ◌≤◌, ◌<◌, List, [], ◌∷◌, length, Some, None}
+use Rattle.std.specs.List.{splice}
+use Rattle.jsonc_text.specs.Plain.{Plain}
+use Rattle.jsonc_tree.specs.Tree.{Node, content_at, parent_at, children_at, place_at}
+use Rattle.jsonc_sound.specs.TreeChanges.{Top}
+use Rattle.jsonc_lay_out.specs.Layout.{Layout}
+use Rattle.jsonc_lay_out.specs.Laid.{laid}
+use Rattle.jsonc_edit.specs.Changes.{top_at, ChangesAt}
+
+-- the node that a value is laid out as
+abbrev pub laid_top : Layout → Plain → Top
+laid_top layout v = record { content = (laid layout v).content; below = (laid layout v).below }
+
+-- The child n has given way to the new node m, which has its parent now, while n has none: the document has changed where n stood, and m is what it has
+-- changed to. Each old node is what it was, has the parent that it had, if it isn't n, and the children that it had, if it isn't n's parent, whose children
+-- are those that it had, with m in the place of n.
+pub record GivesWay (old new : List Node) (n m : ℕ) (now : Top) : Type 0 where
+  pub changed : ChangesAt old new n now
+  pub put : top_at new m ≡ now
+  pub fresh : length old ≤ m
+  pub there : m < length new
+  pub parent : parent_at new m ≡ parent_at old n
+  pub taken_out : parent_at new n ≡ None
+  pub contents : (k : ℕ) → k < length old → content_at new k ≡ content_at old k
+  pub parents : (k : ℕ) → k < length old → k ≢ n → parent_at new k ≡ parent_at old k
+  pub children : (k : ℕ) → k < length old → parent_at old n ≢ Some k → children_at new k ≡ children_at old k
+  pub row : (k : ℕ) → parent_at old n ≡ Some k → children_at new k ≡ splice (children_at old k) (place_at old n) (place_at old n + 1) (m ∷ [])

@@ -1,0 +1,87 @@
+//! Nodes that give way to new ones.
+
+ghost use Rattle.std.specs.Prelude.{◌≡◌, ◌∷◌, ◌+◌, ◌<◌, IfNone, IfOk, IfSome, List, None, OnErr, Some, [], length};
+ghost use Rattle.jsonc_tree.specs.Building.{Keeps};
+ghost use Rattle.jsonc_tree.specs.Changes.{CanJoin, Splices};
+ghost use Rattle.jsonc_tree.specs.OrderedTree.{ordered_tree};
+ghost use Rattle.jsonc_tree.specs.Tree.{parent_at, place_at, IsTree};
+ghost use Rattle.jsonc_input.specs.Views.{plain};
+ghost use Rattle.jsonc_lay_out.specs.Layout.{layout_of};
+ghost use Rattle.jsonc_edit.specs.Reading.{IsReplaced};
+ghost use Rattle.jsonc_edit.specs.Replacing.{laid_top, GivesWay};
+
+use crate::reading::layout_for;
+use jsonc_input::CstInputValue;
+use jsonc_lay_out::{Layout, lay_out};
+use jsonc_tree::Tree;
+use std::alloc::{AllocError, Allocator};
+
+// Puts a node that is nobody's child in the place of a child.
+fn put_in_place<A: Allocator>(tree: &mut Tree<A>, container: usize, node: usize, new: usize)
+    requires child { parent_at tree.old.nodes node ≡ Some container }
+    requires join { CanJoin tree.old.nodes container (place_at tree.old.nodes node) (place_at tree.old.nodes node + 1) (new ∷ []) }
+    ensures put { Splices tree.old.nodes tree.new.nodes container (place_at tree.old.nodes node) (place_at tree.old.nodes node + 1) (new ∷ []) }
+    ensures tree { IsTree tree.new.nodes }
+{
+    let _ = tree.len();
+    // A place is below the count of the children, so one more than it is a number too.
+    let _ = tree.child_count(container);
+    let place = tree.child_index(node);
+    tree.splice(container, place, place + 1, &[new]);
+}
+
+/// Lays a value out as a new node, which a child gives way to, and answers the number of the new node.
+///
+/// The child is nobody's child then. Where the node has no parent the answer is None, and no node
+/// changes. A refusal leaves the document, and every node that was there, as it was.
+pub fn replace_with<A: Allocator + Copy>(
+    alloc: A,
+    tree: &mut Tree<A>,
+    node: usize,
+    value: &CstInputValue<A>,
+    layout: &Layout<A>,
+) -> Result<Option<usize>, AllocError>
+    requires { node < length tree.old.nodes }
+    ensures replaced { IfOk result (λ o. IfSome o (λ m. GivesWay tree.old.nodes tree.new.nodes node m (laid_top (layout_of layout.now) (plain value.now)))) }
+    ensures none { IfOk result (λ o. IfNone o (parent_at tree.old.nodes node ≡ None)) }
+    ensures untouched { IfOk result (λ o. IfNone o (tree.new.nodes ≡ tree.old.nodes)) }
+    ensures kept { OnErr result (Keeps (length tree.old.nodes) tree.old.nodes tree.new.nodes) }
+    ensures document { OnErr result (ordered_tree tree.new.nodes 0 ≡ ordered_tree tree.old.nodes 0) }
+    ensures tree { IsTree tree.new.nodes }
+{
+    let _ = tree.len();
+    let Some(container) = tree.parent(node) else {
+        return Ok(None);
+    };
+    let new = lay_out(alloc, tree, value, layout)?;
+    put_in_place(tree, container, node, new);
+    Ok(Some(new))
+}
+
+/// Lays a value out as a new node, which a child gives way to, and answers the number of the new node.
+///
+/// The document tells how: the indents are those at the container that the child stands in, lines end
+/// as the document's do, and the last of several lines has a comma where that is so in the container,
+/// or, for the value of a property, in the old value. Where the node has no parent the answer is None,
+/// and no node changes. A refusal leaves the document, and every node that was there, as it was.
+pub fn replace<A: Allocator + Copy>(
+    alloc: A,
+    tree: &mut Tree<A>,
+    node: usize,
+    value: &CstInputValue<A>,
+) -> Result<Option<usize>, AllocError>
+    requires { node < length tree.old.nodes }
+    ensures replaced { IfOk result (λ o. IfSome o (IsReplaced tree.old.nodes tree.new.nodes node (plain value.now))) }
+    ensures none { IfOk result (λ o. IfNone o (parent_at tree.old.nodes node ≡ None)) }
+    ensures untouched { IfOk result (λ o. IfNone o (tree.new.nodes ≡ tree.old.nodes)) }
+    ensures kept { OnErr result (Keeps (length tree.old.nodes) tree.old.nodes tree.new.nodes) }
+    ensures document { OnErr result (ordered_tree tree.new.nodes 0 ≡ ordered_tree tree.old.nodes 0) }
+    ensures tree { IsTree tree.new.nodes }
+{
+    let _ = tree.len();
+    let Some(container) = tree.parent(node) else {
+        return Ok(None);
+    };
+    let layout = layout_for(alloc, tree, container, node)?;
+    replace_with(alloc, tree, node, value, &layout)
+}
