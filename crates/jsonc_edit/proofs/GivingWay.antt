@@ -1,13 +1,13 @@
 -- A child of a tree gives way to a node that was built apart.
-use Rattle.std.proofs.Common.{◌≡◌, ◌≢◌, ℕ, ◌+◌, ◌<◌, ◌≤◌, ◌||◌, not, Bool, true, false, cond, List, [], ◌∷◌, length, get_or, slice_range, Some, None, Result, Ok, Err, OnErr, inl, inr, refl, sym, ap, subst, ◌∙◌, arith, eq-eqb}
+use Rattle.std.proofs.Common.{◌≡◌, ◌≢◌, ℕ, ◌+◌, ◌<◌, ◌≤◌, ◌||◌, true, false, cond, List, [], ◌∷◌, length, get_or, slice_range, Some, None, Result, Ok, Err, OnErr, inl, inr, refl, sym, ap, subst, ◌∙◌, arith, eq-eqb}
 use Rattle.std.proofs.lemmas.Bool.{cases_Bool, ne_eqb}
 use Rattle.std.proofs.lemmas.List.Edits.{get_or-between, length-between}
 use Rattle.std.specs.List.{splice}
 use Rattle.jsonc_text.specs.Plain.{Plain, null, boolean, number, string, array, object}
 use Rattle.jsonc_tree.specs.Content.{Content}
-use Rattle.jsonc_tree.specs.Tree.{Node, content_at, parent_at, children_at, place_at, is_container_at, is_in, IsTree, IsOver}
-use Rattle.jsonc_tree.specs.Changes.{CanJoin, Splices, parent_after}
-use Rattle.jsonc_tree.specs.Building.{Keeps, Builds}
+use Rattle.jsonc_tree.specs.Tree.{Node, parent_at, children_at, place_at, is_container_at, is_in, IsTree}
+use Rattle.jsonc_tree.specs.Changes.{CanJoin, Splices}
+use Rattle.jsonc_tree.specs.Building.{Builds}
 use Rattle.jsonc_tree.proofs.Order.{parent_there}
 use Rattle.jsonc_tree.proofs.Splicing.{in_at, out_from}
 use Rattle.jsonc_tree.proofs.Appending.{CanJoin-one}
@@ -15,7 +15,6 @@ use Rattle.jsonc_sound.specs.TreeChanges.{Top, IsElement, DocumentChanged}
 use Rattle.jsonc_lay_out.specs.Layout.{Layout}
 use Rattle.jsonc_lay_out.specs.Laid.{laid}
 use Rattle.jsonc_tree.specs.OrderedTree.{OrderedTree, ordered_tree}
-use Rattle.jsonc_edit.specs.Paths.{IsAt}
 use Rattle.jsonc_edit.specs.Changes.{top_at, ChangesAt, Replaces}
 use Rattle.jsonc_edit.specs.Replacing.{laid_top, GivesWay}
 use Rattle.jsonc_edit.proofs.Elements.{Some_same}

@@ -5,6 +5,9 @@
 //! of its property among the properties of its object, at each level (`specs/Paths.antt`); [`find`]
 //! answers the value at a path. A change of the list of nodes that touches one node alone is in the
 //! ordered tree a change at that path (`specs/Changes.antt`, `specs/Laws.antt`).
+//!
+//! [`replace`] lets a node give way to a new value, laid out as the document tells
+//! (`specs/Replacing.antt`, `specs/Reading.antt`). All memory is asked for before the document changes.
 #![tactic(auto)]
 
 pub mod laws;
