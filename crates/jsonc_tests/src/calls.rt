@@ -6,7 +6,6 @@ use crate::inputs::inputs;
 use crate::lines::laid_out;
 use crate::maps::changed_map;
 use crate::outcome::Outcome;
-use crate::taken::taken_document;
 use crate::tokens::decode_provided;
 use crate::tree_copies::tree_copies;
 use crate::trees::changed_tree;
@@ -47,13 +46,12 @@ pub enum Call {
     MapChanges,
     TreeChanges,
     Layout,
-    Taken,
     BytesToBytes,
     WholeRun,
 }
 
 /// All of them.
-pub const CALLS: [Call; 18] = [
+pub const CALLS: [Call; 17] = [
     Call::Decode,
     Call::DecodeProvided,
     Call::Inputs,
@@ -69,7 +67,6 @@ pub const CALLS: [Call; 18] = [
     Call::MapChanges,
     Call::TreeChanges,
     Call::Layout,
-    Call::Taken,
     Call::BytesToBytes,
     Call::WholeRun,
 ];
@@ -109,7 +106,6 @@ pub fn outcome_of(call: Call, heap: Heap<'_>) -> Outcome {
         Call::MapChanges => changed_map(heap),
         Call::TreeChanges => changed_tree(heap),
         Call::Layout => laid_out(heap),
-        Call::Taken => taken_document(heap),
         Call::BytesToBytes => bytes_to_bytes(heap),
         Call::WholeRun => whole_run(heap),
     })

@@ -20,13 +20,9 @@ mod nodes;
 #[cfg(test)]
 mod outcome;
 #[cfg(test)]
-mod readings;
-#[cfg(test)]
 mod refusals;
 #[cfg(test)]
 mod streams;
-#[cfg(test)]
-mod taken;
 #[cfg(test)]
 mod tokens;
 #[cfg(test)]

@@ -21,8 +21,7 @@ const GROUPED: &str = "[\r\n\t\"a\",\r\n\r\n\t/* c */ \"b\",\r\n]";
 /// Objects in one another, whose levels add two blanks to one.
 const NESTED: &str = "{\n \"c\": {\n   \"d\": 3\n }\n}";
 
-/// The tree of a document.
-pub fn tree_of<'h>(heap: Heap<'h>, text: &str) -> Result<Tree<Heap<'h>>, Outcome> {
+fn tree_of<'h>(heap: Heap<'h>, text: &str) -> Result<Tree<Heap<'h>>, Outcome> {
     let collect = CollectOptions::default();
     let parsed = parse_to_ast(heap, text, &collect, &ParseOptions::default())?;
     Ok(build(heap, text, parsed.value.as_ref())?)

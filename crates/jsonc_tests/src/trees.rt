@@ -33,8 +33,7 @@ fn keeps_text(kind: &Kind<Heap<'_>>) -> bool
     }
 }
 
-/// A new node as the last child of a container.
-pub fn push<'a>(
+fn push<'a>(
     tree: &mut Tree<Heap<'a>>,
     container: usize,
     kind: Kind<Heap<'a>>,
