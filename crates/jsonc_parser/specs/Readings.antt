@@ -4,14 +4,10 @@ use Rattle.std.specs.List.{find}
 use Rattle.jsonc_text.specs.declared.errors.ParseStringErrorKind.{ParseStringErrorKind}
 use Rattle.jsonc_tree.specs.Content.{text_of}
 use Rattle.jsonc_tree.specs.Tree.{Node, content_at, children_at}
-use Rattle.jsonc_nodes.specs.Comments.{leading_comments, trailing_comments}
+use Rattle.jsonc_lines.specs.Indents.{is_property}
 use Rattle.jsonc_nodes.specs.Names.{FirstNamed, IsNoString, StandsFor}
 use Rattle.jsonc_nodes.specs.Properties.{name_at, value_at}
 use Rattle.jsonc_nodes.specs.Siblings.{siblings_after, siblings_before, root_above, elements_at, element_index_at}
-use Rattle.jsonc_lines.specs.Breadth.{uses_trailing_commas_at}
-use Rattle.jsonc_lines.specs.Indents.{is_property}
-use Rattle.jsonc_lines.specs.Lines.{indent_at, single_indent_of}
-use Rattle.jsonc_lines.specs.Siblings.{trailing_comma_at}
 use Rattle.jsonc_parser.specs.declared.cst.CstRootNode.{CstRootNode}
 use Rattle.jsonc_parser.specs.declared.cst.node.CstRoot.{CstRoot}
 use Rattle.jsonc_parser.specs.declared.cst.node.CstArray.{CstArray}
@@ -138,17 +134,6 @@ module _ {A : Type 0} where
   abbrev pub IsFirstNamed : CstRootNode A → CstObject → List ℕ → Option CstObjectProp → Type 0
   IsFirstNamed d object name found = FirstNamed (nodes_of d) name (children_at (nodes_of d) object.number) (option_map (λ p. p.number) found)
 
-  -- the value of the first property of a name, if it is of the kind that `kind` takes
-  abbrev pub IsValueNamed : {T : Type 0} → (Option CstNode → Option T) → CstRootNode A → CstObject → List ℕ → Option T → Type 0
-  IsValueNamed kind d object name found = (property : Option CstObjectProp) × IsFirstNamed d object name property × (found ≡ kind (value_if d property))
-
-  -- the comments beside a node on its line
-  abbrev pub leading_comments_of : CstRootNode A → CstNode → List CstComment
-  leading_comments_of d node = map comment_under (leading_comments (nodes_of d) (number_of node))
-
-  abbrev pub trailing_comments_of : CstRootNode A → CstNode → List CstComment
-  trailing_comments_of d node = map comment_under (trailing_comments (nodes_of d) (number_of node))
-
   -- a string stands for these characters, whatever follows it in its leaf
   abbrev pub LeafStandsFor : CstRootNode A → CstStringLit → List ℕ → Type 0
   LeafStandsFor d string v = StandsFor (text_of (content_of d (string_lit_node string))) v
@@ -156,19 +141,3 @@ module _ {A : Type 0} where
   -- no string stands at the front of its leaf, and the kind of fault is true of that
   abbrev pub LeafIsNoString : CstRootNode A → CstStringLit → ParseStringErrorKind → Type 0
   LeafIsNoString d string kind = IsNoString (text_of (content_of d (string_lit_node string))) kind
-
-  -- the whitespace that a node's line begins with, if nothing but trivia stands before it there
-  abbrev pub indent_of : CstRootNode A → CstNode → Option (List ℕ)
-  indent_of d node = indent_at (nodes_of d) (number_of node)
-
-  -- the indent of one level
-  abbrev pub level_indent : CstRootNode A → Option (List ℕ)
-  level_indent d = single_indent_of (nodes_of d)
-
-  -- a comma stands after the last element of the first array or object, breadth first, with whitespace and an element
-  abbrev pub uses_trailing_commas_of : CstRootNode A → CstNode → Bool
-  uses_trailing_commas_of d node = uses_trailing_commas_at (nodes_of d) (number_of node)
-
-  -- the comma after a node, with nothing but trivia between
-  abbrev pub trailing_comma_of : CstRootNode A → CstNode → Option CstToken
-  trailing_comma_of d node = option_map token_under (trailing_comma_at (nodes_of d) (number_of node))

@@ -17,10 +17,8 @@ ghost use Rattle.jsonc_layout.specs.Shape.{DocumentShaped};
 ghost use Rattle.jsonc_parser.specs.Document.{edit_error_text, printed_of, tree_of};
 
 mod access;
-mod comments;
 mod elements;
 mod into;
-mod layout;
 mod leaf;
 mod names;
 mod node;

@@ -4,11 +4,10 @@ ghost use Rattle.std.specs.Prelude.{◌≡◌, ◌≢◌, chars, string_bytes, I
 ghost use Rattle.jsonc_text.specs.declared.errors.ParseStringErrorKind.TheVariants.{OutOfMemory};
 ghost use Rattle.jsonc_nodes.specs.Names.{HasName, NameReads};
 ghost use Rattle.jsonc_parser.specs.Document.{nodes_of, Holds};
-ghost use Rattle.jsonc_parser.specs.Nodes.{array_node, object_node, object_prop_node, string_lit_node};
-ghost use Rattle.jsonc_parser.specs.Readings.{array_if, object_if, IsFirstNamed, IsValueNamed};
-ghost use Rattle.jsonc_parser.specs.Readings.{LeafIsNoString, LeafStandsFor};
+ghost use Rattle.jsonc_parser.specs.Nodes.{object_node, object_prop_node, string_lit_node};
+ghost use Rattle.jsonc_parser.specs.Readings.{IsFirstNamed, LeafIsNoString, LeafStandsFor};
 
-use super::node::{CstArray, CstObject, CstObjectProp, CstStringLit};
+use super::node::{CstObject, CstObjectProp, CstStringLit};
 use super::{CstRootNode, EditError};
 use jsonc_text::errors::ParseStringErrorKind;
 use std::alloc::Allocator;
@@ -65,42 +64,6 @@ impl CstObject {
             Ok(Some(number)) => Ok(Some(CstObjectProp { number })),
             Ok(None) => Ok(None),
             Err(_) => Err(EditError::OutOfMemory),
-        }
-    }
-
-    /// The value of its first property of a name, if there is one and it is an object.
-    pub fn object_value<A: Allocator + Copy>(
-        self,
-        doc: &CstRootNode<A>,
-        name: &str,
-    ) -> Result<Option<CstObject>, EditError>
-        requires { Holds doc.now (object_node self) }
-        ensures value { IfOk result (IsValueNamed object_if doc.now self (chars name.now)) }
-        ensures held { IfOk result (λ o. IfSome o (λ x. Holds doc.now (object_node x))) }
-        ensures memory { IfErr result (λ e. e ≡ EditError.OutOfMemory) }
-    {
-        match self.get(doc, name) {
-            Ok(Some(property)) => Ok(property.object_value(doc)),
-            Ok(None) => Ok(None),
-            Err(error) => Err(error),
-        }
-    }
-
-    /// The value of its first property of a name, if there is one and it is an array.
-    pub fn array_value<A: Allocator + Copy>(
-        self,
-        doc: &CstRootNode<A>,
-        name: &str,
-    ) -> Result<Option<CstArray>, EditError>
-        requires { Holds doc.now (object_node self) }
-        ensures value { IfOk result (IsValueNamed array_if doc.now self (chars name.now)) }
-        ensures held { IfOk result (λ o. IfSome o (λ x. Holds doc.now (array_node x))) }
-        ensures memory { IfErr result (λ e. e ≡ EditError.OutOfMemory) }
-    {
-        match self.get(doc, name) {
-            Ok(Some(property)) => Ok(property.array_value(doc)),
-            Ok(None) => Ok(None),
-            Err(error) => Err(error),
         }
     }
 }

@@ -1,15 +1,13 @@
-//! What a document tells of itself: its value, its indent and how its lines end.
+//! What a document tells of itself: its value.
 
-ghost use Rattle.std.specs.Prelude.{◌≡◌, option_map, string_bytes, IfErr, IfOk, IfSome};
-ghost use Rattle.jsonc_lines.specs.Breadth.{newline_kind_of};
-ghost use Rattle.jsonc_parser.specs.Document.{nodes_of, Holds};
+ghost use Rattle.std.specs.Prelude.{◌≡◌, IfSome};
+ghost use Rattle.jsonc_parser.specs.Document.{Holds};
 ghost use Rattle.jsonc_parser.specs.Nodes.{array_node, object_node};
-ghost use Rattle.jsonc_parser.specs.Readings.{array_if, level_indent, object_if, value_under};
+ghost use Rattle.jsonc_parser.specs.Readings.{array_if, object_if, value_under};
 
+use super::CstRootNode;
 use super::access::node_at;
 use super::node::{CstArray, CstContainerNode, CstNode, CstObject};
-use super::{CstRootNode, EditError};
-use jsonc_tree::CstNewlineKind;
 use std::alloc::Allocator;
 
 impl<A: Allocator> CstRootNode<A> {
@@ -46,30 +44,5 @@ impl<A: Allocator> CstRootNode<A> {
             Some(CstNode::Container(CstContainerNode::Array(array))) => Some(array),
             _ => None,
         }
-    }
-}
-
-impl<A: Allocator + Copy> CstRootNode<A> {
-    /// The indent of one level: the whitespace directly after the nearest line end before the first
-    /// element of the document's value. None where no line ends there, or something else follows.
-    pub fn single_indent_text(&self) -> Result<Option<String<A>>, EditError>
-        ensures indent { IfOk result (λ o. option_map string_bytes o ≡ level_indent self.now) }
-        ensures memory { IfErr result (λ e. e ≡ EditError.OutOfMemory) }
-    {
-        let Ok(indent) = jsonc_lines::single_indent_text(self.alloc, &self.tree) else {
-            return Err(EditError::OutOfMemory);
-        };
-        Ok(indent)
-    }
-
-    /// How its lines end: as the first of them, level after level from the root down, or by LF.
-    pub fn newline_kind(&self) -> Result<CstNewlineKind, EditError>
-        ensures kind { IfOk result (λ kind. kind ≡ newline_kind_of (nodes_of self.now)) }
-        ensures memory { IfErr result (λ e. e ≡ EditError.OutOfMemory) }
-    {
-        let Ok(kind) = jsonc_lines::newline_kind(self.alloc, &self.tree) else {
-            return Err(EditError::OutOfMemory);
-        };
-        Ok(kind)
     }
 }
