@@ -3,4 +3,5 @@ pub mod Changes
 pub mod Replacing
 pub mod Reading
 pub mod Laws
+pub mod Writing
 pub mod Worked
