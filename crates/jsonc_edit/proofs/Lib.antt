@@ -7,3 +7,6 @@ pub mod Entries
 pub mod Standing
 pub mod Kept
 pub mod GivingWay
+pub mod WrittenRows
+pub mod WrittenLines
+pub mod Writable

@@ -10,8 +10,13 @@ use Rattle.jsonc_layout.specs.Shape.{DocumentShaped}
 use Rattle.jsonc_sound.specs.Sound.{Sound, HasValue, IsNewValue}
 use Rattle.jsonc_sound.specs.TreeChanges.{Top}
 use Rattle.jsonc_sound.specs.Laws.{HasChangedValue}
+use Rattle.jsonc_lay_out.specs.Layout.{Layout}
+use Rattle.jsonc_lay_out.specs.Laid.{laid_property}
+use Rattle.jsonc_lay_out.specs.Texts.{IsCharacters}
 use Rattle.jsonc_edit.specs.Paths.{IsAt, Stands}
 use Rattle.jsonc_edit.specs.Changes.{row_below, top_at, ChangesAt, Replaces, Respliced, Rewritten}
+use Rattle.jsonc_edit.specs.Replacing.{laid_top}
+use Rattle.jsonc_edit.specs.Writing.{FitsLayout, IsWritable, IsNewProperty}
 
 -- a path leads to no two nodes
 abbrev pub HasOneNode : List Node → List ℕ → Type 0
@@ -63,3 +68,12 @@ StaysSoundAt o old new path n =
 abbrev pub ChangesValueAt : Options → List Node → List Node → List ℕ → ℕ → Plain → Type 0
 ChangesValueAt o old new path n x =
     DocumentValueOf o (ordered_tree old 0) (Some x) → IsAt old path n → (now : Top) (v : Plain) → ChangesAt old new n now → HasValue o now v → HasChangedValue o (top_at old n) path (ordered_tree new 0) x v
+
+-- in a layout that fits, a value that may be written is laid out as a whole value
+abbrev pub LaysOutWhole : Options → Layout → Plain → Type 0
+LaysOutWhole o layout v = FitsLayout o layout → IsWritable o v → IsNewValue o (laid_top layout v) v
+
+-- and under a name as a whole property
+abbrev pub LaysOutWholeNamed : Options → Layout → List ℕ → Plain → Type 0
+LaysOutWholeNamed o layout name v =
+    FitsLayout o layout → IsCharacters name → IsWritable o v → IsNewProperty o (laid_property layout name v).below name v

@@ -1,15 +1,26 @@
 //! Laws of the definitions: each is the contract of a function that does nothing.
-ghost use Rattle.std.specs.Prelude.{◌≡◌, false, List, [], ◌∷◌, ℕ};
+ghost use Rattle.std.specs.Prelude.{◌≡◌, codes, false, List, [], ◌∷◌, ℕ};
 ghost use Rattle.jsonc_text.specs.Options.{Options};
 ghost use Rattle.jsonc_text.specs.Plain.{Plain};
+ghost use Rattle.jsonc_tree.specs.OrderedTree.{printed};
 ghost use Rattle.jsonc_tree.specs.Tree.{Node};
+ghost use Rattle.jsonc_input.specs.Numbers.{IsAlwaysNumber};
+ghost use Rattle.jsonc_input.specs.Views.{plain};
+ghost use Rattle.jsonc_lay_out.specs.Layout.{Layout};
 ghost use Rattle.jsonc_edit.specs.Laws.{AllStand, HasOneNode, HasOnePath, ShowsBelow};
 ghost use Rattle.jsonc_edit.specs.Laws.{ReplacesAtPath, KeepsReplacement};
 ghost use Rattle.jsonc_edit.specs.Laws.{ChangesOver, KeepsOthers, HasNewRow, HasNewText};
 ghost use Rattle.jsonc_edit.specs.Laws.{ChangesValueAt, StaysSoundAt};
+ghost use Rattle.jsonc_edit.specs.Laws.{LaysOutWhole, LaysOutWholeNamed};
 ghost use Rattle.jsonc_edit.specs.Changes.{Respliced, Rewritten};
 ghost use Rattle.jsonc_edit.specs.Paths.{IsAt};
+ghost use Rattle.jsonc_edit.specs.Replacing.{laid_top};
 ghost use Rattle.jsonc_edit.specs.Worked.{worked_nodes};
+ghost use Rattle.jsonc_edit.specs.WorkedValue.{two_spaces, worked_value};
+ghost use Rattle.jsonc_edit.specs.Writing.{FitsLayout, IsOfNumbers, IsWritable};
+
+use jsonc_input::CstInputValue;
+use std::alloc::Allocator;
 
 /// A path leads to at most one node, and in a tree at most one path leads to a node.
 pub fn one_path()
@@ -67,4 +78,27 @@ pub fn documents_stay_sound()
 /// nothing else does.
 pub fn documents_have_changed_values()
     ensures { (o : Options) (old new : List Node) (path : List ℕ) (n : ℕ) (x : Plain) → ChangesValueAt o old new path n x }
+{}
+
+/// What a value is laid out as is a whole value, which may stand in a document where another stood,
+/// and what a name and a value are laid out as is a whole property: if the layout is one that the
+/// document may have, and each number in the value is a number under its options.
+pub fn laid_values_may_stand()
+    ensures value { (o : Options) (l : Layout) (v : Plain) → LaysOutWhole o l v }
+    ensures property { (o : Options) (l : Layout) (s : List ℕ) (v : Plain) → LaysOutWholeNamed o l s v }
+{}
+
+/// A value for an edit may be written where each number in it is a number, so a number that was made
+/// from an integer may be under all options.
+pub fn values_may_be_written<A: Allocator>(value: &CstInputValue<A>)
+    ensures numbers { (o : Options) → IsOfNumbers o (plain value.now) → IsWritable o (plain value.now) }
+    ensures always { (o : Options) → IsAlwaysNumber (plain value.now) → IsWritable o (plain value.now) }
+{}
+
+/// A worked row: with two spaces a level `{"a":[1]}` is written on three lines, with a space after
+/// the colon; the layout and the value fit all options.
+pub fn worked_writing()
+    ensures text { printed (laid_top two_spaces worked_value).below ≡ codes "{\n  \"a\": [1]\n}" }
+    ensures layout { (o : Options) → FitsLayout o two_spaces }
+    ensures value { (o : Options) → IsWritable o worked_value }
 {}

@@ -8,6 +8,8 @@
 //!
 //! [`replace`] lets a node give way to a new value, laid out as the document tells
 //! (`specs/Replacing.antt`, `specs/Reading.antt`). All memory is asked for before the document changes.
+//! A value whose numbers are numbers is laid out as a whole value, which may stand where another stood
+//! (`specs/Writing.antt`).
 #![tactic(auto)]
 
 pub mod laws;
