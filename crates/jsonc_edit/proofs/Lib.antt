@@ -7,3 +7,8 @@ pub mod Entries
 pub mod Standing
 pub mod Kept
 pub mod GivingWay
+pub mod FittingFinds
+pub mod FittingNodes
+pub mod FittingCommas
+pub mod FittingIndents
+pub mod Fitting

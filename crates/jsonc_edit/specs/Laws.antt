@@ -12,6 +12,9 @@ use Rattle.jsonc_sound.specs.TreeChanges.{Top}
 use Rattle.jsonc_sound.specs.Laws.{HasChangedValue}
 use Rattle.jsonc_edit.specs.Paths.{IsAt, Stands}
 use Rattle.jsonc_edit.specs.Changes.{row_below, top_at, ChangesAt, Replaces, Respliced, Rewritten}
+use Rattle.jsonc_tree.specs.Tree.{parent_at}
+use Rattle.jsonc_edit.specs.Reading.{layout_for}
+use Rattle.jsonc_edit.specs.Writing.{FitsLayout}
 
 -- a path leads to no two nodes
 abbrev pub HasOneNode : List Node → List ℕ → Type 0
@@ -63,3 +66,8 @@ StaysSoundAt o old new path n =
 abbrev pub ChangesValueAt : Options → List Node → List Node → List ℕ → ℕ → Plain → Type 0
 ChangesValueAt o old new path n x =
     DocumentValueOf o (ordered_tree old 0) (Some x) → IsAt old path n → (now : Top) (v : Plain) → ChangesAt old new n now → HasValue o now v → HasChangedValue o (top_at old n) path (ordered_tree new 0) x v
+
+-- the layout that a document of the grammar's shape tells for what replaces n, a node of it and a child of c, is one that such documents may have
+abbrev pub HasFittingLayout : Options → List Node → ℕ → ℕ → Type 0
+HasFittingLayout o ns c n =
+    IsTree ns → DocumentShaped o (ordered_tree ns 0) → IsOver ns 0 n → parent_at ns n ≡ Some c → FitsLayout o (layout_for ns c n)

@@ -7,6 +7,7 @@ ghost use Rattle.jsonc_edit.specs.Laws.{AllStand, HasOneNode, HasOnePath, ShowsB
 ghost use Rattle.jsonc_edit.specs.Laws.{ReplacesAtPath, KeepsReplacement};
 ghost use Rattle.jsonc_edit.specs.Laws.{ChangesOver, KeepsOthers, HasNewRow, HasNewText};
 ghost use Rattle.jsonc_edit.specs.Laws.{ChangesValueAt, StaysSoundAt};
+ghost use Rattle.jsonc_edit.specs.Laws.{HasFittingLayout};
 ghost use Rattle.jsonc_edit.specs.Changes.{Respliced, Rewritten};
 ghost use Rattle.jsonc_edit.specs.Paths.{IsAt};
 ghost use Rattle.jsonc_edit.specs.Worked.{worked_nodes};
@@ -67,4 +68,11 @@ pub fn documents_stay_sound()
 /// nothing else does.
 pub fn documents_have_changed_values()
     ensures { (o : Options) (old new : List Node) (path : List ℕ) (n : ℕ) (x : Plain) → ChangesValueAt o old new path n x }
+{}
+
+/// The layout that is read from a document for what replaces a node of it is one that documents of
+/// these options may have: its indents are blanks within a line, and it has trailing commas only
+/// where they are allowed.
+pub fn documents_have_fitting_layouts()
+    ensures { (o : Options) (ns : List Node) (c n : ℕ) → HasFittingLayout o ns c n }
 {}
