@@ -23,7 +23,7 @@ IsAnyValue o content below = (r : List ℕ) × ValueShaped o content below r
 abbrev pub IsAnyProperty : Options → OrderedTree → Type 0
 IsAnyProperty o below = (r : List ℕ) × PropertyShaped o below r
 
-not_both : (content : Content) → Passed content → IsElement content → ⊥
+pub not_both : (content : Content) → Passed content → IsElement content → ⊥
 not_both content h k = false≢true (sym (ap not h) ∙ k)
 
 -- what is passed over has no children
@@ -42,7 +42,7 @@ passed_leaf (Content.number s) h = absurd (false≢true h)
 passed_leaf (Content.boolean b) h = absurd (false≢true h)
 passed_leaf Content.null h = absurd (false≢true h)
 
-trivia_passed : (o : Options) (content : Content) → IsTrivia o content → Passed content
+pub trivia_passed : (o : Options) (content : Content) → IsTrivia o content → Passed content
 trivia_passed o (Content.whitespace s) h = refl
 trivia_passed o (Content.newline k) h = refl
 trivia_passed o (Content.comment s) h = refl

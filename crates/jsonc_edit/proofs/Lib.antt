@@ -10,3 +10,8 @@ pub mod GivingWay
 pub mod WrittenRows
 pub mod WrittenLines
 pub mod Writable
+pub mod FittingFinds
+pub mod FittingNodes
+pub mod FittingCommas
+pub mod FittingIndents
+pub mod Fitting

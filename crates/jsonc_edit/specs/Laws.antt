@@ -3,7 +3,7 @@ use Rattle.std.specs.Prelude.{◌≡◌, ◌<◌, ℕ, List, length, take, drop,
 use Rattle.jsonc_text.specs.Options.{Options}
 use Rattle.jsonc_text.specs.Plain.{Plain}
 use Rattle.jsonc_tree.specs.Content.{with_text}
-use Rattle.jsonc_tree.specs.Tree.{Node, content_at, children_at, IsTree, IsOver}
+use Rattle.jsonc_tree.specs.Tree.{Node, content_at, parent_at, children_at, IsTree, IsOver}
 use Rattle.jsonc_tree.specs.OrderedTree.{OrderedTree, followed_by, ordered_tree, Shows}
 use Rattle.jsonc_tree.specs.Values.{DocumentValueOf}
 use Rattle.jsonc_layout.specs.Shape.{DocumentShaped}
@@ -15,6 +15,7 @@ use Rattle.jsonc_lay_out.specs.Laid.{laid_property}
 use Rattle.jsonc_lay_out.specs.Texts.{IsCharacters}
 use Rattle.jsonc_edit.specs.Paths.{IsAt, Stands}
 use Rattle.jsonc_edit.specs.Changes.{row_below, top_at, ChangesAt, Replaces, Respliced, Rewritten}
+use Rattle.jsonc_edit.specs.Reading.{layout_for}
 use Rattle.jsonc_edit.specs.Replacing.{laid_top}
 use Rattle.jsonc_edit.specs.Writing.{FitsLayout, IsWritable, IsNewProperty}
 
@@ -77,3 +78,8 @@ LaysOutWhole o layout v = FitsLayout o layout → IsWritable o v → IsNewValue 
 abbrev pub LaysOutWholeNamed : Options → Layout → List ℕ → Plain → Type 0
 LaysOutWholeNamed o layout name v =
     FitsLayout o layout → IsCharacters name → IsWritable o v → IsNewProperty o (laid_property layout name v).below name v
+
+-- the layout that a document of the grammar's shape tells for what replaces n, a node of it and a child of c, is one that such documents may have
+abbrev pub HasFittingLayout : Options → List Node → ℕ → ℕ → Type 0
+HasFittingLayout o ns c n =
+    IsTree ns → DocumentShaped o (ordered_tree ns 0) → IsOver ns 0 n → parent_at ns n ≡ Some c → FitsLayout o (layout_for ns c n)

@@ -12,6 +12,7 @@ ghost use Rattle.jsonc_edit.specs.Laws.{ReplacesAtPath, KeepsReplacement};
 ghost use Rattle.jsonc_edit.specs.Laws.{ChangesOver, KeepsOthers, HasNewRow, HasNewText};
 ghost use Rattle.jsonc_edit.specs.Laws.{ChangesValueAt, StaysSoundAt};
 ghost use Rattle.jsonc_edit.specs.Laws.{LaysOutWhole, LaysOutWholeNamed};
+ghost use Rattle.jsonc_edit.specs.Laws.{HasFittingLayout};
 ghost use Rattle.jsonc_edit.specs.Changes.{Respliced, Rewritten};
 ghost use Rattle.jsonc_edit.specs.Paths.{IsAt};
 ghost use Rattle.jsonc_edit.specs.Replacing.{laid_top};
@@ -101,4 +102,11 @@ pub fn worked_writing()
     ensures text { printed (laid_top two_spaces worked_value).below ≡ codes "{\n  \"a\": [1]\n}" }
     ensures layout { (o : Options) → FitsLayout o two_spaces }
     ensures value { (o : Options) → IsWritable o worked_value }
+{}
+
+/// The layout that is read from a document for what replaces a node of it is one that documents of
+/// these options may have: its indents are blanks within a line, and it has trailing commas only
+/// where they are allowed.
+pub fn documents_have_fitting_layouts()
+    ensures { (o : Options) (ns : List Node) (c n : ℕ) → HasFittingLayout o ns c n }
 {}
