@@ -15,3 +15,5 @@ pub mod FittingNodes
 pub mod FittingCommas
 pub mod FittingIndents
 pub mod Fitting
+pub mod OneValue
+pub mod ReplacedValues

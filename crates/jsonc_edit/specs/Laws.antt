@@ -1,5 +1,5 @@
 -- Laws of paths and changes: what is said of each list of nodes, node or change.
-use Rattle.std.specs.Prelude.{◌≡◌, ◌<◌, ℕ, List, length, take, drop, Some}
+use Rattle.std.specs.Prelude.{◌≡◌, ◌<◌, ℕ, List, length, take, drop, Option, Some}
 use Rattle.jsonc_text.specs.Options.{Options}
 use Rattle.jsonc_text.specs.Plain.{Plain}
 use Rattle.jsonc_tree.specs.Content.{with_text}
@@ -12,12 +12,13 @@ use Rattle.jsonc_sound.specs.TreeChanges.{Top}
 use Rattle.jsonc_sound.specs.Laws.{HasChangedValue}
 use Rattle.jsonc_lay_out.specs.Layout.{Layout}
 use Rattle.jsonc_lay_out.specs.Laid.{laid_property}
-use Rattle.jsonc_lay_out.specs.Texts.{IsCharacters}
+use Rattle.jsonc_lay_out.specs.Texts.{IsCharacters, IsOfTexts}
 use Rattle.jsonc_edit.specs.Paths.{IsAt, Stands}
 use Rattle.jsonc_edit.specs.Changes.{row_below, top_at, ChangesAt, Replaces, Respliced, Rewritten}
-use Rattle.jsonc_edit.specs.Reading.{layout_for}
-use Rattle.jsonc_edit.specs.Replacing.{laid_top}
+use Rattle.jsonc_edit.specs.Reading.{layout_for, IsReplaced}
+use Rattle.jsonc_edit.specs.Replacing.{laid_top, GivesWay}
 use Rattle.jsonc_edit.specs.Writing.{FitsLayout, IsWritable, IsNewProperty}
+use Rattle.jsonc_edit.specs.Written.{Writes}
 
 -- a path leads to no two nodes
 abbrev pub HasOneNode : List Node → List ℕ → Type 0
@@ -83,3 +84,30 @@ LaysOutWholeNamed o layout name v =
 abbrev pub HasFittingLayout : Options → List Node → ℕ → ℕ → Type 0
 HasFittingLayout o ns c n =
     IsTree ns → DocumentShaped o (ordered_tree ns 0) → IsOver ns 0 n → parent_at ns n ≡ Some c → FitsLayout o (layout_for ns c n)
+
+-- a document has no two values
+abbrev pub HasOneValue : Options → OrderedTree → Type 0
+HasOneValue o t = (v w : Option Plain) → DocumentValueOf o t v → DocumentValueOf o t w → v ≡ w
+
+-- where n stands at the path in a document of value x, this has become x but that at the path v stands
+abbrev pub ChangesValueTo : Options → List Node → List Node → List ℕ → ℕ → Plain → Plain → Type 0
+ChangesValueTo o old new path n x v =
+    DocumentValueOf o (ordered_tree old 0) (Some x) → IsAt old path n → HasChangedValue o (top_at old n) path (ordered_tree new 0) x v
+
+-- so it is wherever n gives way to a value of texts, laid out in this layout
+abbrev pub ChangesValueLaidOut : Options → List Node → List Node → ℕ → ℕ → Layout → Plain → Type 0
+ChangesValueLaidOut o old new n m layout v =
+    IsOfTexts v → GivesWay old new n m (laid_top layout v) → (path : List ℕ) (x : Plain) → ChangesValueTo o old new path n x v
+
+-- or as the document tells
+abbrev pub ChangesValueReplaced : Options → List Node → List Node → ℕ → ℕ → Plain → Type 0
+ChangesValueReplaced o old new n m v =
+    IsOfTexts v → IsReplaced old new n v m → (path : List ℕ) (x : Plain) → ChangesValueTo o old new path n x v
+
+-- a value is written where a node gives way to it, laid out in a layout that fits
+abbrev pub WritesLaidOut : Options → List Node → List Node → ℕ → ℕ → Layout → Plain → Type 0
+WritesLaidOut o old new n m layout v = FitsLayout o layout → GivesWay old new n m (laid_top layout v) → Writes o old new n m v
+
+-- or as the document tells
+abbrev pub WritesReplaced : Options → List Node → List Node → ℕ → ℕ → Plain → Type 0
+WritesReplaced o old new n m v = IsTree old → IsReplaced old new n v m → Writes o old new n m v

@@ -2,7 +2,8 @@ pub mod Paths
 pub mod Changes
 pub mod Replacing
 pub mod Reading
-pub mod Laws
 pub mod Writing
+pub mod Written
+pub mod Laws
 pub mod Worked
 pub mod WorkedValue

@@ -2,7 +2,7 @@
 ghost use Rattle.std.specs.Prelude.{◌≡◌, codes, false, List, [], ◌∷◌, ℕ};
 ghost use Rattle.jsonc_text.specs.Options.{Options};
 ghost use Rattle.jsonc_text.specs.Plain.{Plain};
-ghost use Rattle.jsonc_tree.specs.OrderedTree.{printed};
+ghost use Rattle.jsonc_tree.specs.OrderedTree.{OrderedTree, printed};
 ghost use Rattle.jsonc_tree.specs.Tree.{Node};
 ghost use Rattle.jsonc_input.specs.Numbers.{IsAlwaysNumber};
 ghost use Rattle.jsonc_input.specs.Views.{plain};
@@ -12,7 +12,9 @@ ghost use Rattle.jsonc_edit.specs.Laws.{ReplacesAtPath, KeepsReplacement};
 ghost use Rattle.jsonc_edit.specs.Laws.{ChangesOver, KeepsOthers, HasNewRow, HasNewText};
 ghost use Rattle.jsonc_edit.specs.Laws.{ChangesValueAt, StaysSoundAt};
 ghost use Rattle.jsonc_edit.specs.Laws.{LaysOutWhole, LaysOutWholeNamed};
-ghost use Rattle.jsonc_edit.specs.Laws.{HasFittingLayout};
+ghost use Rattle.jsonc_edit.specs.Laws.{HasFittingLayout, HasOneValue};
+ghost use Rattle.jsonc_edit.specs.Laws.{ChangesValueLaidOut, ChangesValueReplaced};
+ghost use Rattle.jsonc_edit.specs.Laws.{WritesLaidOut, WritesReplaced};
 ghost use Rattle.jsonc_edit.specs.Changes.{Respliced, Rewritten};
 ghost use Rattle.jsonc_edit.specs.Paths.{IsAt};
 ghost use Rattle.jsonc_edit.specs.Replacing.{laid_top};
@@ -109,4 +111,27 @@ pub fn worked_writing()
 /// where they are allowed.
 pub fn documents_have_fitting_layouts()
     ensures { (o : Options) (ns : List Node) (c n : ℕ) → HasFittingLayout o ns c n }
+{}
+
+/// A document has at most one value, whatever the options.
+pub fn one_value()
+    ensures { (o : Options) (t : OrderedTree) → HasOneValue o t }
+{}
+
+/// Where the value at a path has been replaced, by `replace_with` in any layout or by `replace`, the
+/// document's value is what it was, but that at the path the new value stands. It is so under all
+/// options.
+pub fn replaced_values_change_the_document()
+    ensures laid_out { (o : Options) (old new : List Node) (n m : ℕ) (l : Layout) (v : Plain) → ChangesValueLaidOut o old new n m l v }
+    ensures replaced { (o : Options) (old new : List Node) (n m : ℕ) (v : Plain) → ChangesValueReplaced o old new n m v }
+{}
+
+/// What an edit makes of a text: in a sound document the value at a path has been replaced, by
+/// `replace`, or by `replace_with` in a layout that fits. Where no comma may be missing, and the
+/// numbers of the new value are numbers, the text is a document again. Its value is what it was, but
+/// that at the path the new value stands. All leaves before and after are what they were, comments
+/// among them. And the document is sound again.
+pub fn replaced_values_are_written()
+    ensures laid_out { (o : Options) (old new : List Node) (n m : ℕ) (l : Layout) (v : Plain) → WritesLaidOut o old new n m l v }
+    ensures replaced { (o : Options) (old new : List Node) (n m : ℕ) (v : Plain) → WritesReplaced o old new n m v }
 {}

@@ -1,0 +1,5 @@
+use Rattle.jsonc_edit.proofs.OneValue.{document_once}
+use Rattle.jsonc_edit.proofs.laws.one_value.Goals as goal
+
+pub returns : goal.returns
+returns c = document_once
