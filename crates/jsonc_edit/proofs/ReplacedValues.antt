@@ -1,10 +1,10 @@
 -- A value that was replaced, as the document tells or by a layout that fits: what the document is then.
-use Rattle.std.proofs.Common.{◌≡◌, ℕ, false, List, Some, None, sym, subst}
+use Rattle.std.proofs.Common.{◌≡◌, ℕ, false, List, Option, Some, None, Result, Ok, Err, IfOk, IfSome, sym, subst}
 use Rattle.jsonc_text.specs.Options.{Options}
 use Rattle.jsonc_text.specs.Plain.{Plain}
 use Rattle.jsonc_text.specs.Grammar.{IsDocument}
 use Rattle.jsonc_tree.specs.OrderedTree.{OrderedTree, ordered_tree, leaves}
-use Rattle.jsonc_tree.specs.Tree.{Node, IsTree, IsOver}
+use Rattle.jsonc_tree.specs.Tree.{Node, parent_at, IsTree, IsOver}
 use Rattle.jsonc_tree.specs.Values as values
 use Rattle.jsonc_tree.specs.Values.{HasNoValue, DocumentValueOf}
 use Rattle.jsonc_tree.proofs.Over.{over_up}
@@ -26,7 +26,7 @@ use Rattle.jsonc_edit.specs.Paths.{IsAt}
 use Rattle.jsonc_edit.specs.Reading.{layout_for}
 use Rattle.jsonc_edit.specs.Replacing.{laid_top, GivesWay}
 use Rattle.jsonc_edit.specs.Writing.{FitsLayout, IsWritable}
-use Rattle.jsonc_edit.specs.Written.{IsWrittenAt}
+use Rattle.jsonc_edit.specs.Written.{IsWrittenAt, Writes}
 use Rattle.jsonc_edit.specs.Laws.{ChangesValueLaidOut, ChangesValueReplaced, WritesLaidOut, WritesReplaced}
 use Rattle.jsonc_edit.proofs.Fitting.{layout_fits}
 use Rattle.jsonc_edit.proofs.OneValue.{document_once}
@@ -106,3 +106,11 @@ module _ (o : Options) (old new : List Node) (n m : ℕ) where
   replaced_written v tree r path commas s at w =
       let fits = layout_fits o old r.0 n tree s.shaped (over_at old tree path n at) r.1 in
       written_at (layout_for old r.0 n) v path commas s at fits w r.2
+
+-- what a call that replaces n answers is written
+pub answer_writes : {E : Type 0} (o : Options) (old new : List Node) (n c : ℕ) (layout : Layout) (v : Plain) → IsTree old → parent_at old n ≡ Some c → layout ≡ layout_for old c n → (r : Result (Option ℕ) E)
+    → IfOk r (λ a. IfSome a (λ m. GivesWay old new n m (laid_top layout v))) → IfOk r (λ a. IfSome a (λ m. Writes o old new n m v))
+answer_writes o old new n c layout v tree said told (Ok (Some m)) g =
+    replaced_written o old new n m v tree (c, said, subst (λ (l : Layout). GivesWay old new n m (laid_top l v)) told g)
+answer_writes o old new n c layout v tree said told (Ok None) g = tt
+answer_writes o old new n c layout v tree said told (Err e) g = tt

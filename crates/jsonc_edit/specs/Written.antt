@@ -15,8 +15,8 @@ use Rattle.jsonc_edit.specs.Paths.{IsAt}
 use Rattle.jsonc_edit.specs.Writing.{IsWritable}
 
 -- The value v is written at the path: the old text is a document, the new text is one, and its value is the old one's, but
--- that at the path v stands. The leaves of one node have given way to those of another, and all leaves before and after are
--- what they were. The new document is sound, so it may be edited again.
+-- that at the path v stands; of the leaves those of one node have given way to those of another, and all before and after
+-- stay. The new document is sound, so it may be edited again.
 pub record IsWrittenAt (o : Options) (v : Plain) (path : List ℕ) (was now : Top) (old new : OrderedTree) : Type 0 where
   pub given_up : Plain
   pub before : Plain
@@ -27,8 +27,8 @@ pub record IsWrittenAt (o : Options) (v : Plain) (path : List ℕ) (was now : To
   pub around : DiffersIn (leaves_of was) (leaves_of now) (leaves old) (leaves new)
   pub sound : Sound o new
 
--- where no comma may be missing, the old document is sound, n stands in it at a path, and documents can hold v, there m has been
--- written in n's place, which is v
+-- if no comma may be missing, the old document is sound, n stands in it at the path, and v may be written, then v is written
+-- at the path, as the node m
 abbrev pub Writes : Options → List Node → List Node → ℕ → ℕ → Plain → Type 0
 Writes o old new n m v =
     (path : List ℕ) → o.missing_commas ≡ false → Sound o (ordered_tree old 0) → IsAt old path n → IsWritable o v

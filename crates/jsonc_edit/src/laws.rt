@@ -114,7 +114,7 @@ pub fn documents_have_fitting_layouts()
 {}
 
 /// A document has at most one value, whatever the options.
-pub fn one_value()
+pub fn documents_have_one_value()
     ensures { (o : Options) (t : OrderedTree) → HasOneValue o t }
 {}
 

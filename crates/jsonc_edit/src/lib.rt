@@ -9,7 +9,8 @@
 //! [`replace`] lets a node give way to a new value, laid out as the document tells
 //! (`specs/Replacing.antt`, `specs/Reading.antt`). All memory is asked for before the document changes.
 //! A value whose numbers are numbers is laid out as a whole value, which may stand where another stood
-//! (`specs/Writing.antt`).
+//! (`specs/Writing.antt`). So where no comma may be missing the text is a document again, whose value
+//! is the old one with the new value at the path (`specs/Written.antt`).
 #![tactic(auto)]
 
 pub mod laws;

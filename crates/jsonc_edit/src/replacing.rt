@@ -1,6 +1,7 @@
 //! Nodes that give way to new ones.
 
 ghost use Rattle.std.specs.Prelude.{◌≡◌, ◌∷◌, ◌+◌, ◌<◌, IfNone, IfOk, IfSome, List, None, OnErr, Some, [], length};
+ghost use Rattle.jsonc_text.specs.Options.{Options};
 ghost use Rattle.jsonc_tree.specs.Building.{Keeps};
 ghost use Rattle.jsonc_tree.specs.Changes.{CanJoin, Splices};
 ghost use Rattle.jsonc_tree.specs.OrderedTree.{ordered_tree};
@@ -9,6 +10,7 @@ ghost use Rattle.jsonc_input.specs.Views.{plain};
 ghost use Rattle.jsonc_lay_out.specs.Layout.{layout_of};
 ghost use Rattle.jsonc_edit.specs.Reading.{IsReplaced};
 ghost use Rattle.jsonc_edit.specs.Replacing.{laid_top, GivesWay};
+ghost use Rattle.jsonc_edit.specs.Written.{Writes};
 
 use crate::reading::layout_for;
 use jsonc_input::CstInputValue;
@@ -60,6 +62,9 @@ pub fn replace_with<A: Allocator + Copy>(
 
 /// Lays a value out as a new node, which a child gives way to, and answers the number of the new node.
 ///
+/// Where the child is the value at a path of a sound document, and no comma may be missing, the text
+/// is a document again, whose value is the old one with the new value at the path.
+///
 /// The document tells how: the indents are those at the container that the child stands in, lines end
 /// as the document's do, and the last of several lines has a comma where that is so in the container,
 /// or, for the value of a property, in the old value. Where the node has no parent the answer is None,
@@ -72,6 +77,7 @@ pub fn replace<A: Allocator + Copy>(
 ) -> Result<Option<usize>, AllocError>
     requires { node < length tree.old.nodes }
     ensures replaced { IfOk result (λ o. IfSome o (IsReplaced tree.old.nodes tree.new.nodes node (plain value.now))) }
+    ensures written { (p : Options) → IfOk result (λ o. IfSome o (λ m. Writes p tree.old.nodes tree.new.nodes node m (plain value.now))) }
     ensures none { IfOk result (λ o. IfNone o (parent_at tree.old.nodes node ≡ None)) }
     ensures untouched { IfOk result (λ o. IfNone o (tree.new.nodes ≡ tree.old.nodes)) }
     ensures kept { OnErr result (Keeps (length tree.old.nodes) tree.old.nodes tree.new.nodes) }
