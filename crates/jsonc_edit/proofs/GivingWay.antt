@@ -22,7 +22,7 @@ use Rattle.jsonc_edit.proofs.Splices.{joined_top, replaced_at_path}
 use Rattle.jsonc_edit.proofs.Kept.{at_kept, top_stays, tree_stays, over_no_old, place_kept, built_top}
 
 -- a value is laid out as an element
-laid_element : (l : Layout) (v : Plain) → IsElement (laid l v).content
+pub laid_element : (l : Layout) (v : Plain) → IsElement (laid l v).content
 laid_element l null = refl
 laid_element l (boolean b) = refl
 laid_element l (number s) = refl

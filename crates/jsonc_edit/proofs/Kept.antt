@@ -14,7 +14,7 @@ use Rattle.jsonc_edit.specs.Changes.{row_below, top_at}
 use Rattle.jsonc_edit.proofs.Uniqueness.{element_there}
 use Rattle.jsonc_edit.proofs.Walk.{Shows-row_below}
 
-filter_same : (f g : ℕ → Bool) (xs : List ℕ) → ((k : ℕ) → k < length xs → f (slice_index xs k) ≡ g (slice_index xs k)) → filter f xs ≡ filter g xs
+pub filter_same : (f g : ℕ → Bool) (xs : List ℕ) → ((k : ℕ) → k < length xs → f (slice_index xs k) ≡ g (slice_index xs k)) → filter f xs ≡ filter g xs
 filter_same f g [] same = refl
 filter_same f g (x ∷ xs) same =
     let rest : filter f xs ≡ filter g xs = filter_same f g xs (λ k h. same (suc k) (omega arith)) in

@@ -15,5 +15,6 @@ pub mod FittingNodes
 pub mod FittingCommas
 pub mod FittingIndents
 pub mod Fitting
+pub mod NewPaths
 pub mod OneValue
 pub mod ReplacedValues

@@ -68,12 +68,12 @@ module _ (ns : List Node) (tree : IsTree ns) where
       let w = first_of_step v i q s in over_up ns w.0 v n w.2 (w.3 n (leads_over n q path rest))
 
   -- no step leads back
-  no_way_back : (n i q : ℕ) (path : List ℕ) → StepsTo ns n i q → LeadsTo ns n q path → ⊥
+  pub no_way_back : (n i q : ℕ) (path : List ℕ) → StepsTo ns n i q → LeadsTo ns n q path → ⊥
   no_way_back n i q path s rest =
       let w = first_of_step n i q s in not_over_parent ns tree w.0 n w.2 (w.3 n (leads_over n q path rest))
 
   -- of a container's children one is over a node
-  one_over : (p a b n : ℕ) → parent_at ns a ≡ Some p → parent_at ns b ≡ Some p → IsOver ns a n → IsOver ns b n → a ≡ b
+  pub one_over : (p a b n : ℕ) → parent_at ns a ≡ Some p → parent_at ns b ≡ Some p → IsOver ns a n → IsOver ns b n → a ≡ b
   one_over p a b n said told over also =
       elim (cases_eq a b) [
         | inl e ↦ e

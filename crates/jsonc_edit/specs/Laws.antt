@@ -111,3 +111,7 @@ WritesLaidOut o old new n m layout v = FitsLayout o layout → GivesWay old new 
 -- or as the document tells
 abbrev pub WritesReplaced : Options → List Node → List Node → ℕ → ℕ → Plain → Type 0
 WritesReplaced o old new n m v = IsTree old → IsReplaced old new n v m → Writes o old new n m v
+
+-- where n gives way to a value, this stands at the path of n
+abbrev pub TakesPath : List Node → List Node → ℕ → ℕ → Layout → Plain → Type 0
+TakesPath old new n m layout v = IsTree old → GivesWay old new n m (laid_top layout v) → (path : List ℕ) → IsAt old path n → IsAt new path m

@@ -14,7 +14,7 @@ ghost use Rattle.jsonc_edit.specs.Laws.{ChangesValueAt, StaysSoundAt};
 ghost use Rattle.jsonc_edit.specs.Laws.{LaysOutWhole, LaysOutWholeNamed};
 ghost use Rattle.jsonc_edit.specs.Laws.{HasFittingLayout, HasOneValue};
 ghost use Rattle.jsonc_edit.specs.Laws.{ChangesValueLaidOut, ChangesValueReplaced};
-ghost use Rattle.jsonc_edit.specs.Laws.{WritesLaidOut, WritesReplaced};
+ghost use Rattle.jsonc_edit.specs.Laws.{TakesPath, WritesLaidOut, WritesReplaced};
 ghost use Rattle.jsonc_edit.specs.Changes.{Respliced, Rewritten};
 ghost use Rattle.jsonc_edit.specs.Paths.{IsAt};
 ghost use Rattle.jsonc_edit.specs.Replacing.{laid_top};
@@ -124,6 +124,12 @@ pub fn documents_have_one_value()
 pub fn replaced_values_change_the_document()
     ensures laid_out { (o : Options) (old new : List Node) (n m : ℕ) (l : Layout) (v : Plain) → ChangesValueLaidOut o old new n m l v }
     ensures replaced { (o : Options) (old new : List Node) (n m : ℕ) (v : Plain) → ChangesValueReplaced o old new n m v }
+{}
+
+/// The node that a value is laid out as, by `replace` or `replace_with`, stands at the path of the node
+/// that gave way to it.
+pub fn replaced_values_take_the_path()
+    ensures { (old new : List Node) (n m : ℕ) (l : Layout) (v : Plain) → TakesPath old new n m l v }
 {}
 
 /// What an edit makes of a text: in a sound document the value at a path has been replaced, by
