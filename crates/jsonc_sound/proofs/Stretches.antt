@@ -1,5 +1,5 @@
 -- How the change of a stretch of leaves meets the first node of a row, and the trivia in front of it.
-use Rattle.std.proofs.Common.{ℕ, ◌≡◌, sym, subst, refl, Bool, true, false, not, List, [], ◌∷◌, IsTrue, inl, inr, ◌⊎◌}
+use Rattle.std.proofs.Common.{ℕ, ◌≡◌, ◌≢◌, sym, subst, refl, Bool, true, false, not, List, [], ◌∷◌, IsTrue, inl, inr, ◌⊎◌}
 use Rattle.jsonc_text.specs.Options.{Options}
 use Rattle.jsonc_text.proofs.Basics.{clash}
 use Rattle.jsonc_tree.specs.Content.{Content}
@@ -8,17 +8,17 @@ use Rattle.jsonc_nodes.specs.Kinds.{is_trivia}
 use Rattle.jsonc_layout.specs.Shape as shape
 use Rattle.jsonc_layout.specs.Shape.{Trivia, Separated, Closed, ElementsShaped, PropertiesShaped, token_then}
 use Rattle.jsonc_sound.specs.TreeChanges.{IsElement}
-use Rattle.jsonc_sound.specs.TriviaChanges.{AreTrivia, AreTriviaOf, leaves_then, LeavesChanged, between, later, deeper}
+use Rattle.jsonc_sound.specs.TriviaChanges.{AreTrivia, AreTriviaOf, leaves_then, LeavesChanged, given_way, come, later, deeper}
 use Rattle.jsonc_sound.proofs.FirstNodes.{value_element}
 
--- a stretch may stand at the end of its row, or not
-abbrev pub Fits : Bool → OrderedTree → Type 0
-Fits at_end none = at_end ≡ true
-Fits at_end (more content below after) = Unit {0}
+-- a stretch may stand at the end of its row, if there is one or where it may come
+abbrev pub Fits : List Content → Bool → OrderedTree → Type 0
+Fits was at_end none = was ≡ [] → at_end ≡ true
+Fits was at_end (more content below after) = Unit {0}
 
 -- the rows differ in a stretch that may be their front, or in a row below
 pub data Open (was now : List Content) (at_end : Bool) : OrderedTree → OrderedTree → Type 0 where
-  front : (back : OrderedTree) → Fits at_end back → Open was now at_end (leaves_then was back) (leaves_then now back)
+  front : (back : OrderedTree) → Fits was at_end back → Open was now at_end (leaves_then was back) (leaves_then now back)
   over : {content : Content} {below x y : OrderedTree} → Open was now at_end x y → Open was now at_end (more content below x) (more content below y)
   under : {content : Content} {x y after : OrderedTree} → LeavesChanged was now x y → Open was now at_end (more content x after) (more content y after)
 
@@ -27,17 +27,14 @@ pub data Behind (was now : List Content) (at_end : Bool) : OrderedTree → Order
   later_on : {content : Content} {below x y : OrderedTree} → Open was now at_end x y → Behind was now at_end (more content below x) (more content below y)
   below_it : {content : Content} {x y after : OrderedTree} → LeavesChanged was now x y → Behind was now at_end (more content x after) (more content y after)
 
--- nothing is below a leaf, and nothing stands behind the last node
-pub none_changed : {was now : List Content} {new : OrderedTree} → LeavesChanged was now none new → ⊥
-none_changed e = elim e [ ]
-
+-- nothing stands behind the last node
 pub none_behind : {was now : List Content} {at_end : Bool} {new : OrderedTree} → Behind was now at_end none new → ⊥
 none_behind e = elim e [ ]
 
 -- the stretch is the front of both rows
 pub record AtFront (was now : List Content) (at_end : Bool) (row new : OrderedTree) : Type 0 where
   pub back : OrderedTree
-  pub fits : Fits at_end back
+  pub fits : Fits was at_end back
   pub old_is : row ≡ leaves_then was back
   pub new_is : new ≡ leaves_then now back
 
@@ -46,30 +43,38 @@ at_front_or_behind (front b f) = inl (record { back = b; fits = f; old_is = refl
 at_front_or_behind (over h) = inr (later_on h)
 at_front_or_behind (under h) = inr (below_it h)
 
-pub none_fits : (was : List Content) (back : OrderedTree) → Fits false back → none ≡ leaves_then was back → ⊥
-none_fits [] none f e = cc
+none_fits : (was : List Content) (back : OrderedTree) → Fits was false back → none ≡ leaves_then was back → ⊥
+none_fits [] none f e = let wrong : false ≡ true = f refl in cc
 none_fits [] (more content below after) f e = cc
 none_fits (c ∷ cs) back f e = cc
 
 pub none_open : {was now : List Content} {new : OrderedTree} → Open was now false none new → ⊥
 none_open {was} h = elim (at_front_or_behind h) [ inl f ↦ none_fits was f.back f.fits f.old_is | inr b ↦ none_behind b ]
 
-pub behind_open : {was now : List Content} {at_end : Bool} {row new : OrderedTree} → Behind was now at_end row new → Open was now at_end row new
-behind_open (later_on h) = over h
-behind_open (below_it h) = under h
+given_fits : {was : List Content} (at_end : Bool) (back : OrderedTree) → was ≢ [] → Fits was at_end back
+given_fits at_end none ne = λ e. absurd (ne e)
+given_fits at_end (more content below after) ne = tt
 
-pub open_leaves : {was now : List Content} {row new : OrderedTree} (at_end : Bool) → LeavesChanged was now row new → Behind was now at_end row new
-open_leaves at_end (between last under_it back) = later_on (front (more last under_it back) tt)
-open_leaves at_end (later h) = later_on (behind_open (open_leaves at_end h))
-open_leaves at_end (deeper h) = below_it h
+come_open : {was now : List Content} (at_end : Bool) (last : Content) (under_it back : OrderedTree) → was ≡ [] → Open was now at_end (more last under_it back) (leaves_then now (more last under_it back))
+come_open {was} {now} at_end last under_it back e = subst (λ cs. Open was now at_end (leaves_then cs (more last under_it back)) (leaves_then now (more last under_it back))) e (front (more last under_it back) tt)
 
-pub open_after : {was now : List Content} {at_end : Bool} (row back : OrderedTree) → Fits at_end back → Open was now at_end (followed_by row (leaves_then was back)) (followed_by row (leaves_then now back))
+pub leaves_open : {was now : List Content} {row new : OrderedTree} (at_end : Bool) → LeavesChanged was now row new → Open was now at_end row new
+leaves_open at_end (given_way back ne) = front back (given_fits at_end back ne)
+leaves_open at_end (come last under_it back e) = over (come_open at_end last under_it back e)
+leaves_open at_end (later h) = over (leaves_open at_end h)
+leaves_open at_end (deeper h) = under h
+
+-- nothing is below a leaf
+pub none_changed : {was now : List Content} {new : OrderedTree} → LeavesChanged was now none new → ⊥
+none_changed h = none_open (leaves_open false h)
+
+pub open_after : {was now : List Content} {at_end : Bool} (row back : OrderedTree) → Fits was at_end back → Open was now at_end (followed_by row (leaves_then was back)) (followed_by row (leaves_then now back))
 open_after none back f = front back f
 open_after (more content below after) back f = over (open_after after back f)
 
-pub any_fits : (back : OrderedTree) → Fits true back
-any_fits none = refl
-any_fits (more content below after) = tt
+pub any_fits : (was : List Content) (back : OrderedTree) → Fits was true back
+any_fits was none = λ e. refl
+any_fits was (more content below after) = tt
 
 -- the row begins with no trivia
 abbrev pub Solid : OrderedTree → Type 0
@@ -89,6 +94,17 @@ solid_elements (shape.element {content = content} v s e) = solid_element content
 pub solid_properties : {o : Options} {row : OrderedTree} → PropertiesShaped o row → Solid row
 solid_properties (shape.last_property p c) = refl
 solid_properties (shape.property p s e) = refl
+
+no_front : (was : List Content) (back : OrderedTree) → AreTrivia was → was ≢ [] → Solid (leaves_then was back) → ⊥
+no_front [] back h ne s = ne refl
+no_front (c ∷ cs) back h ne s = clash (is_trivia c) s h.0
+
+-- so no trivia leaves from its front
+pub behind_solid : {was now : List Content} {row new : OrderedTree} → AreTrivia was → Solid row → LeavesChanged was now row new → Behind was now false row new
+behind_solid {was} h s (given_way back ne) = absurd (no_front was back h ne s)
+behind_solid h s (come last under_it back e) = later_on (come_open false last under_it back e)
+behind_solid h s (later k) = later_on (leaves_open false k)
+behind_solid h s (deeper k) = below_it k
 
 -- trivia that stands in front of trivia
 pub put_front : {o : Options} {t r : OrderedTree} (cs : List Content) → AreTriviaOf o cs → Trivia o t r → Trivia o (leaves_then cs t) r

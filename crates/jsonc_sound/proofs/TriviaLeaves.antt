@@ -1,11 +1,11 @@
 -- The leaves before and after a stretch that gives way stay.
-use Rattle.std.proofs.Common.{◌≡◌, ◌∙◌, ap, refl, List, [], ◌∷◌, ◌++◌, IsTrue}
+use Rattle.std.proofs.Common.{◌≡◌, ◌∙◌, ap, subst, refl, List, [], ◌∷◌, ◌++◌, IsTrue}
 use Rattle.std.proofs.lemmas.List.{append-nil}
 use Rattle.jsonc_tree.specs.Content.{Content}
 use Rattle.jsonc_tree.specs.OrderedTree.{OrderedTree, none, more, own_leaf, leaves, followed_by}
 use Rattle.jsonc_nodes.specs.Kinds.{is_trivia}
 use Rattle.jsonc_sound.specs.Laws.{DiffersIn}
-use Rattle.jsonc_sound.specs.TriviaChanges.{AreTrivia, leaves_then, LeavesChanged, between, later, deeper, StretchChanged, in_root, inside}
+use Rattle.jsonc_sound.specs.TriviaChanges.{AreTrivia, leaves_then, LeavesChanged, given_way, come, later, deeper, StretchChanged, in_root, inside}
 use Rattle.jsonc_sound.proofs.LeavesAround.{after_node, within, differs_as}
 
 own_trivia : (content : Content) → IsTrue (is_trivia content) → own_leaf content ≡ content ∷ []
@@ -23,7 +23,9 @@ module _ (was now : List Content) (old : AreTrivia was) (new_ones : AreTrivia no
   front_differs back = record { front = []; back = leaves back; before = front_leaves was back old; after = front_leaves now back new_ones }
 
   row_differs : {row new : OrderedTree} → LeavesChanged was now row new → DiffersIn was now (leaves row) (leaves new)
-  row_differs (between {first = first} {below = below} last under back) = after_node (own_leaf first) (leaves below) (front_differs (more last under back))
+  row_differs (given_way back ne) = front_differs back
+  row_differs (come {first = first} {below = below} last under back e) =
+      after_node (own_leaf first) (leaves below) (subst (λ cs. DiffersIn was now (leaves (leaves_then cs (more last under back))) (leaves (leaves_then now (more last under back)))) e (front_differs (more last under back)))
   row_differs (later {content = content} {below = below} h) = after_node (own_leaf content) (leaves below) (row_differs h)
   row_differs (deeper {content = content} {after = after} h) = within (record { front = own_leaf content; back = leaves after; before = refl; after = refl }) (row_differs h)
 

@@ -3,7 +3,7 @@ use Rattle.std.proofs.Common.{◌≡◌, subst, refl, Bool, true, false, List, [
 use Rattle.jsonc_tree.specs.Content.{Content}
 use Rattle.jsonc_tree.specs.OrderedTree.{OrderedTree, none, more, followed_by}
 use Rattle.jsonc_layout.specs.Lines.{ends_line, LinesEnd, DocumentLinesEnd}
-use Rattle.jsonc_sound.specs.TriviaChanges.{leaves_then, LeavesChanged, between, later, deeper, StretchChanged, in_root, inside, EndsInComment}
+use Rattle.jsonc_sound.specs.TriviaChanges.{leaves_then, LeavesChanged, given_way, come, later, deeper, StretchChanged, in_root, inside, EndsInComment}
 use Rattle.jsonc_sound.proofs.FirstNodes.{line_end_same}
 use Rattle.jsonc_sound.proofs.TriviaWords.{front_lines}
 
@@ -20,7 +20,8 @@ below_same at_end content below other after = refl
 
 module _ {was : List Content} (ends : EndsInComment was) where
   row_lines : (at_end : Bool) {row new : OrderedTree} → LeavesChanged was [] row new → LinesEnd at_end row → LinesKept at_end row new
-  row_lines at_end (between {first = first} {below = below} last under back) l = over_lines at_end first below _ _ l (front_lines at_end (more last under back) ends l.2)
+  row_lines at_end (given_way back ne) l = front_lines at_end back ends l
+  row_lines at_end (come last under back e) l = (l, λ h. h)
   row_lines at_end (later {content = content} {below = below} {x = x} {y = y} h) l = over_lines at_end content below x y l (row_lines at_end h l.2)
   row_lines at_end (deeper {content = content} {x = x} {y = y} {after = after} h) l = ((l.0, (row_lines false h l.1).0, l.2), λ e. subst IsTrue (below_same at_end content x y after) e)
 

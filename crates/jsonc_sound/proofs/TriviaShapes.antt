@@ -7,9 +7,9 @@ use Rattle.jsonc_layout.specs.Shape as shape
 use Rattle.jsonc_layout.specs.Shape.{IsNameBefore, Trivia, ValueShaped, ElementsShaped, PropertiesShaped, PropertyShaped, DocumentShaped, token_then, printed_text}
 use Rattle.jsonc_layout.proofs.ShapeValues.{close_bracket_mark, close_brace_mark}
 use Rattle.jsonc_sound.specs.TriviaChanges.{AreTrivia, AreTriviaOf, LeavesChanged, StretchChanged, in_root, inside}
-use Rattle.jsonc_sound.proofs.FirstNodes.{value_element}
+use Rattle.jsonc_sound.proofs.FirstNodes.{name_element, value_element}
 use Rattle.jsonc_sound.proofs.Followers.{string_name, value_ends, property_ends, none_ends, trivia_ends, separated_ends, closed_ends}
-use Rattle.jsonc_sound.proofs.Stretches.{Open, Behind, later_on, below_it, Carried, none_changed, none_behind, open_leaves, behind_open, open_after, any_fits, solid_element, solid_elements, solid_properties, leaf_behind, only_node, trivia_passed, marked_passed, separated_passed, closing_passed, closed_passed}
+use Rattle.jsonc_sound.proofs.Stretches.{Open, Behind, later_on, below_it, Carried, none_changed, none_behind, leaves_open, behind_solid, open_after, any_fits, solid_element, solid_elements, solid_properties, leaf_behind, only_node, trivia_passed, marked_passed, separated_passed, closing_passed, closed_passed}
 
 module _ (o : Options) (commas : o.missing_commas ≡ false) (was now : List Content) (old : AreTrivia was) (allowed : AreTriviaOf o now) (N : OrderedTree → OrderedTree → Type 0) (carried : Carried N) where
   -- before a colon a word stays a name
@@ -38,20 +38,20 @@ module _ (o : Options) (commas : o.missing_commas ≡ false) (was now : List Con
       value_kept : {content : Content} {below new : OrderedTree} {r : List ℕ} → ValueShaped o content below r → LeavesChanged was now below new → N below new → ValueShaped o content new r
       value_kept (shape.literal h) k n = absurd (none_changed k)
       value_kept {r = r} (shape.empty_array {t = t} g) k n =
-          let rest = leaf_behind (open_leaves false k) in
+          let rest = leaf_behind (behind_solid old refl k) in
           subst (λ x. ValueShaped o Content.array x r) (sym rest.1) (shape.empty_array (closing_passed o was now old allowed N carried g rest.2 (carried.over_it (subst (N (token_then 0x5B t)) rest.1 n))))
       value_kept {r = r} (shape.array {t = t} g es) k n =
-          let rest = leaf_behind (open_leaves false k) in
+          let rest = leaf_behind (behind_solid old refl k) in
           subst (λ x. ValueShaped o Content.array x r) (sym rest.1)
           (elim (trivia_passed o was now old allowed N carried g (solid_elements es) rest.2 (carried.over_it (subst (N (token_then 0x5B t)) rest.1 n))) [
             | inl i ↦ shape.array i es
             | inr m ↦ shape.array m.1 (elements_kept es m.2 m.3)
           ])
       value_kept {r = r} (shape.empty_object {t = t} g) k n =
-          let rest = leaf_behind (open_leaves false k) in
+          let rest = leaf_behind (behind_solid old refl k) in
           subst (λ x. ValueShaped o Content.object x r) (sym rest.1) (shape.empty_object (closing_passed o was now old allowed N carried g rest.2 (carried.over_it (subst (N (token_then 0x7B t)) rest.1 n))))
       value_kept {r = r} (shape.object {t = t} g ps) k n =
-          let rest = leaf_behind (open_leaves false k) in
+          let rest = leaf_behind (behind_solid old refl k) in
           subst (λ x. ValueShaped o Content.object x r) (sym rest.1)
           (elim (trivia_passed o was now old allowed N carried g (solid_properties ps) rest.2 (carried.over_it (subst (N (token_then 0x7B t)) rest.1 n))) [
             | inl i ↦ shape.object i ps
@@ -84,7 +84,7 @@ module _ (o : Options) (commas : o.missing_commas ≡ false) (was now : List Con
 
       property_kept : {row new : OrderedTree} {r : List ℕ} → PropertyShaped o row r → LeavesChanged was now row new → N row new → PropertyShaped o new r
       property_kept {r = r} (shape.named {name = name} {content = content} {below = below} {after = after} {u = u} f g h v) k n =
-          let rest = leaf_behind (open_leaves false k) in
+          let rest = leaf_behind (behind_solid old (solid_element name (name_element o name (printed_text after) f)) k) in
           let both : N (more name none after) (more name none rest.0) = subst (N (more name none after)) rest.1 n in
           let called = λ (w : OrderedTree) (q : Trivia o rest.0 (token_then 0x3A w)). name_kept name both g rest.2 w q f in
           subst (λ x. PropertyShaped o x r) (sym rest.1)
@@ -123,5 +123,5 @@ module _ (o : Options) (commas : o.missing_commas ≡ false) (was now : List Con
     OfRoots t u = (row new : OrderedTree) → t ≡ more Content.root row none → u ≡ more Content.root new none → N row new
 
     pub document_kept : {t u : OrderedTree} → OfRoots t u → StretchChanged was now t u → DocumentShaped o t → DocumentShaped o u
-    document_kept n (in_root front back) d = root_kept d (open_after front back (any_fits back)) (n _ _ refl refl)
-    document_kept n (inside k) d = root_kept d (behind_open (open_leaves true k)) (n _ _ refl refl)
+    document_kept n (in_root front back) d = root_kept d (open_after front back (any_fits was back)) (n _ _ refl refl)
+    document_kept n (inside k) d = root_kept d (leaves_open true k) (n _ _ refl refl)

@@ -9,7 +9,7 @@ use Rattle.jsonc_tree.specs.Values.{is_passed_over, ValueOf, ItemsOf, MembersOf,
 use Rattle.jsonc_nodes.specs.Kinds.{is_trivia}
 use Rattle.jsonc_sound.specs.TriviaChanges.{AreTrivia, leaves_then, LeavesChanged, StretchChanged, in_root, inside}
 use Rattle.jsonc_sound.proofs.FirstNodes.{no_element, value_of_element, name_leaf_element}
-use Rattle.jsonc_sound.proofs.Stretches.{Open, Behind, later_on, below_it, AtFront, at_front_or_behind, none_changed, none_behind, open_leaves, behind_open, open_after, any_fits}
+use Rattle.jsonc_sound.proofs.Stretches.{Open, Behind, later_on, below_it, AtFront, at_front_or_behind, none_changed, none_behind, leaves_open, open_after, any_fits}
 
 -- trivia is passed over
 trivia_passed_over : (content : Content) → IsTrue (is_trivia content) → IsTrue (is_passed_over content)
@@ -94,8 +94,8 @@ module _ (o : Options) (was now : List Content) (old : AreTrivia was) (new_ones 
     value_kept values.number k = absurd (none_changed k)
     value_kept values.boolean k = absurd (none_changed k)
     value_kept values.null k = absurd (none_changed k)
-    value_kept (values.array g) k = values.array (items_kept g (behind_open (open_leaves false k)))
-    value_kept (values.object g) k = values.object (members_kept g (behind_open (open_leaves false k)))
+    value_kept (values.array g) k = values.array (items_kept g (leaves_open false k))
+    value_kept (values.object g) k = values.object (members_kept g (leaves_open false k))
 
     items_kept : {row new : OrderedTree} {vs : Items} → ItemsOf o row vs → Open was now false row new → ItemsOf o new vs
     items_kept {vs = vs} values.no_more_items k = elim (at_front_or_behind k) [ inl f ↦ front_kept (items_pass o vs) f values.no_more_items | inr b ↦ absurd (none_behind b) ]
@@ -120,7 +120,7 @@ module _ (o : Options) (was now : List Content) (old : AreTrivia was) (new_ones 
     members_kept (values.one_member {name = name} {v = v} {ms = ms} h r) k =
         elim (at_front_or_behind k) [
           | inl f ↦ front_kept (members_pass o (Members.member name v ms)) f (values.one_member h r)
-          | inr b ↦ elim (parts b) [ on e l ↦ subst (λ t. MembersOf o t (Members.member name v ms)) (sym e) (values.one_member h (members_kept r l)) | down e l ↦ subst (λ t. MembersOf o t (Members.member name v ms)) (sym e) (values.one_member (property_kept h (behind_open (open_leaves false l))) r) ]
+          | inr b ↦ elim (parts b) [ on e l ↦ subst (λ t. MembersOf o t (Members.member name v ms)) (sym e) (values.one_member h (members_kept r l)) | down e l ↦ subst (λ t. MembersOf o t (Members.member name v ms)) (sym e) (values.one_member (property_kept h (leaves_open false l)) r) ]
         ]
 
     property_kept : {row new : OrderedTree} {name : List ℕ} {v : Plain} → PropertyOf o row name v → Open was now false row new → PropertyOf o new name v
@@ -154,7 +154,7 @@ module _ (o : Options) (was now : List Content) (old : AreTrivia was) (new_ones 
   pub document_kept : (w : Option Plain) {t u : OrderedTree} → StretchChanged was now t u → DocumentValueOf o t w → DocumentValueOf o u w
   document_kept w (in_root row back) (below, same, h) =
       let first : below ≡ followed_by row (leaves_then was back) = cc in
-      (followed_by row (leaves_then now back), refl, root_kept w (subst (λ t. HoldsAtMostOne o t w) first h) (open_after row back (any_fits back)))
+      (followed_by row (leaves_then now back), refl, root_kept w (subst (λ t. HoldsAtMostOne o t w) first h) (open_after row back (any_fits was back)))
   document_kept w (inside {row = row} {new = new} k) (below, same, h) =
       let first : below ≡ row = cc in
-      (new, refl, root_kept w (subst (λ t. HoldsAtMostOne o t w) first h) (behind_open (open_leaves true k)))
+      (new, refl, root_kept w (subst (λ t. HoldsAtMostOne o t w) first h) (leaves_open true k))
