@@ -7,3 +7,4 @@ pub mod Entries
 pub mod Standing
 pub mod Kept
 pub mod GivingWay
+pub mod Removal

@@ -5,3 +5,4 @@ pub mod Reading
 pub mod Laws
 pub mod Writing
 pub mod Worked
+pub mod Comments

@@ -8,12 +8,16 @@
 //!
 //! [`replace`] lets a node give way to a new value, laid out as the document tells
 //! (`specs/Replacing.antt`, `specs/Reading.antt`). All memory is asked for before the document changes.
+//! [`remove_comment`] takes a comment out, a line comment with what stands before it on its line
+//! (`specs/Comments.antt`), and asks for no memory.
 #![tactic(auto)]
 
+mod comments;
 pub mod laws;
 mod paths;
 mod reading;
 mod replacing;
 
+pub use comments::remove_comment;
 pub use paths::find;
 pub use replacing::{replace, replace_with};

@@ -13,3 +13,4 @@ pub mod TriviaWords
 pub mod TriviaLines
 pub mod TriviaValues
 pub mod TriviaLeaves
+pub mod WordsEnd

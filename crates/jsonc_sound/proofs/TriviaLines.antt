@@ -1,11 +1,14 @@
 -- Line comments still end with their lines where a stretch that ends in a comment leaves.
 use Rattle.std.proofs.Common.{◌≡◌, subst, refl, Bool, true, false, List, [], IsTrue}
+use Rattle.jsonc_text.specs.Options.{Options}
 use Rattle.jsonc_tree.specs.Content.{Content}
 use Rattle.jsonc_tree.specs.OrderedTree.{OrderedTree, none, more, followed_by}
 use Rattle.jsonc_layout.specs.Lines.{ends_line, LinesEnd, DocumentLinesEnd}
 use Rattle.jsonc_sound.specs.TriviaChanges.{leaves_then, LeavesChanged, given_way, come, later, deeper, StretchChanged, in_root, inside, EndsInComment}
 use Rattle.jsonc_sound.proofs.FirstNodes.{line_end_same}
-use Rattle.jsonc_sound.proofs.TriviaWords.{front_lines}
+use Rattle.jsonc_sound.specs.TriviaLaws.{StaysSoundWithout}
+use Rattle.jsonc_sound.proofs.TriviaShapes.{document_kept}
+use Rattle.jsonc_sound.proofs.TriviaWords.{LinesEndInOld, front_lines, in_old, old_carried, old_words}
 
 -- the lines of the one row end, and the other begins with a line's end if the one does
 abbrev LinesKept : Bool → OrderedTree → OrderedTree → Type 0
@@ -36,3 +39,8 @@ module _ {was : List Content} (ends : EndsInComment was) where
   document_lines (inside {row = row} {new = new} h) (below, same, l) =
       let first : below ≡ row = cc in
       (new, refl, (row_lines true h (subst (LinesEnd true) first l)).0)
+
+-- so without a comment a sound document is sound
+pub stays_sound_without : (o : Options) (t : OrderedTree) → o.missing_commas ≡ false → StaysSoundWithout o t
+stays_sound_without o t commas s was u k old ends =
+    record { shaped = document_kept o commas was [] old tt LinesEndInOld old_carried (old_words o was old ends commas tt) (in_old s.lines) k s.shaped; lines = document_lines ends k s.lines }

@@ -3,9 +3,10 @@ ghost use Rattle.std.specs.Prelude.{◌≡◌, false, List, Option, ℕ};
 ghost use Rattle.jsonc_text.specs.Options.{Options};
 ghost use Rattle.jsonc_text.specs.Plain.{Plain};
 ghost use Rattle.jsonc_tree.specs.OrderedTree.{OrderedTree};
+ghost use Rattle.jsonc_layout.specs.Shape.{DocumentShaped};
 ghost use Rattle.jsonc_sound.specs.Followers.{StandsInRows};
 ghost use Rattle.jsonc_sound.specs.Laws.{StaysSound, ChangesValue, KeepsLeavesAround};
-ghost use Rattle.jsonc_sound.specs.TriviaLaws.{IsSoundAgain, KeepsOtherLeaves, KeepsShape, KeepsValue, StaysSoundWithout};
+ghost use Rattle.jsonc_sound.specs.TriviaLaws.{IsSoundAgain, KeepsOtherLeaves, KeepsShape, KeepsValue, StaysSoundWithout, WordsEnd};
 ghost use Rattle.jsonc_sound.specs.Worked.{AreElements, IsWorkedChange};
 ghost use Rattle.jsonc_sound.specs.Sound.{IsValueBefore};
 ghost use Rattle.jsonc_sound.specs.TreeChanges.{Top};
@@ -36,6 +37,11 @@ pub fn changes_keep_the_leaves_around()
 /// A worked row: in `{a:[1,_]}` the value in the place of the `_` stands at the path 0, 1.
 pub fn worked_changes()
     ensures { (was now : Top) → AreElements was now → IsWorkedChange was now }
+{}
+
+/// In a document's tree each word is a name where what follows it follows: it ends there.
+pub fn words_of_documents_end()
+    ensures { (o : Options) (t : OrderedTree) → DocumentShaped o t → WordsEnd o t }
 {}
 
 /// Where trivia gives way to trivia, a document's tree keeps the shape of the grammar, if commas may
