@@ -18,3 +18,4 @@ pub mod Fitting
 pub mod NewPaths
 pub mod OneValue
 pub mod ReplacedValues
+pub mod Removal

@@ -7,3 +7,4 @@ pub mod Written
 pub mod Laws
 pub mod Worked
 pub mod WorkedValue
+pub mod Comments

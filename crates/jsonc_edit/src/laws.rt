@@ -1,5 +1,5 @@
 //! Laws of the definitions: each is the contract of a function that does nothing.
-ghost use Rattle.std.specs.Prelude.{◌≡◌, codes, false, List, [], ◌∷◌, ℕ};
+ghost use Rattle.std.specs.Prelude.{◌≡◌, codes, false, List, Option, [], ◌∷◌, ℕ};
 ghost use Rattle.jsonc_text.specs.Options.{Options};
 ghost use Rattle.jsonc_text.specs.Plain.{Plain};
 ghost use Rattle.jsonc_tree.specs.OrderedTree.{OrderedTree, printed};
@@ -16,6 +16,7 @@ ghost use Rattle.jsonc_edit.specs.Laws.{HasFittingLayout, HasOneValue};
 ghost use Rattle.jsonc_edit.specs.Laws.{ChangesValueLaidOut, ChangesValueReplaced};
 ghost use Rattle.jsonc_edit.specs.Laws.{TakesPath, WritesLaidOut, WritesReplaced};
 ghost use Rattle.jsonc_edit.specs.Changes.{Respliced, Rewritten};
+ghost use Rattle.jsonc_edit.specs.Comments.{commented, removed_from, CommentRemoved, HasLeavesWithout, HasValueWithout, IsSoundWithout, TakesTrivia};
 ghost use Rattle.jsonc_edit.specs.Paths.{IsAt};
 ghost use Rattle.jsonc_edit.specs.Replacing.{laid_top};
 ghost use Rattle.jsonc_edit.specs.Worked.{worked_nodes};
@@ -140,4 +141,21 @@ pub fn replaced_values_take_the_path()
 pub fn replaced_values_are_written()
     ensures laid_out { (o : Options) (old new : List Node) (n m : ℕ) (l : Layout) (v : Plain) → WritesLaidOut o old new n m l v }
     ensures replaced { (o : Options) (old new : List Node) (n m : ℕ) (v : Plain) → WritesReplaced o old new n m v }
+{}
+
+/// What leaves with a comment of the document is trivia that ends in it, and nothing comes in its
+/// place; so a sound document stays sound, if commas may not be missing, and under all options it has
+/// the value that it had. All other leaves stay, in order.
+pub fn documents_without_a_comment()
+    ensures trivia { (old new : List Node) (n : ℕ) (r : CommentRemoved old new n) → TakesTrivia r }
+    ensures sound { (o : Options) (old new : List Node) (n : ℕ) → o.missing_commas ≡ false → IsSoundWithout o old new n }
+    ensures value { (o : Options) (old new : List Node) (n : ℕ) (w : Option Plain) → HasValueWithout o old new n w }
+    ensures kept { (old new : List Node) (n : ℕ) (r : CommentRemoved old new n) → HasLeavesWithout r }
+{}
+
+/// Worked rows: of `[`, two newlines, two whitespace leaves and a comment, a line comment leaves with
+/// all from the second newline on, which stands at place 2, and a block comment leaves alone.
+pub fn worked_comments()
+    ensures line { removed_from (commented (codes "// c")) 1 7 ≡ 2 }
+    ensures block { removed_from (commented (codes "/* c */")) 1 7 ≡ 5 }
 {}

@@ -11,12 +11,16 @@
 //! A value whose numbers are numbers is laid out as a whole value, which may stand where another stood
 //! (`specs/Writing.antt`). So where no comma may be missing the text is a document again, whose value
 //! is the old one with the new value at the path (`specs/Written.antt`).
+//! [`remove_comment`] takes a comment out, a line comment with what stands before it on its line
+//! (`specs/Comments.antt`), and asks for no memory.
 #![tactic(auto)]
 
+mod comments;
 pub mod laws;
 mod paths;
 mod reading;
 mod replacing;
 
+pub use comments::remove_comment;
 pub use paths::find;
 pub use replacing::{replace, replace_with};

@@ -8,19 +8,20 @@ use Rattle.jsonc_text.specs.Words.{EndsWord, goes_on}
 use Rattle.jsonc_text.specs.Lexemes as lexemes
 use Rattle.jsonc_text.specs.Lexemes.{LexemeKind, Lexeme, lexeme, CanEndBefore}
 use Rattle.jsonc_text.proofs.Alone.{scanned_alone, scanned_before}
-use Rattle.jsonc_text.proofs.Basics.{and_both, or_left, test_eq}
+use Rattle.jsonc_text.proofs.Basics.{and_both, or_left, starts_front, test_eq}
 use Rattle.jsonc_text.proofs.UniqueGaps.{comment_begins}
 use Rattle.jsonc_tree.specs.Content.{Content, text_of}
+use Rattle.jsonc_tree.specs.declared.node.CstNewlineKind.{CstNewlineKind}
 use Rattle.jsonc_tree.specs.declared.node.CstNewlineKind.TheVariants.{LineFeed, CarriageReturnLineFeed, CarriageReturn}
-use Rattle.jsonc_tree.specs.OrderedTree.{OrderedTree, none}
+use Rattle.jsonc_tree.specs.OrderedTree.{OrderedTree, none, more}
 use Rattle.jsonc_layout.specs.Leaves.{is_inner_blank}
 use Rattle.jsonc_layout.specs.Shape as shape
 use Rattle.jsonc_layout.specs.Shape.{IsTrivia, Trivia, IsLiteralBefore, IsNameBefore, ValueShaped, PropertyShaped, Separated, Closed, token_then, printed_text}
 use Rattle.jsonc_layout.proofs.ShapeTexts.{text_leaf, trivia_utf8}
 use Rattle.jsonc_layout.proofs.ShapeValues.{Mark, comma_mark, mark_text}
 use Rattle.jsonc_sound.specs.Followers.{ends_literals, EndsLiterals}
-use Rattle.jsonc_sound.proofs.Characters.{goes_on_apart}
-use Rattle.jsonc_sound.proofs.NumberEnds.{alike_next, alike_ends, may_follow_swapped}
+use Rattle.jsonc_sound.proofs.Characters.{ends_names, text_ends_names, goes_on_apart}
+use Rattle.jsonc_sound.proofs.NumberEnds.{EndsNames, alike_next, alike_ends, alike_names, may_follow_swapped}
 
 -- a lexeme before another text before which it can end
 lexeme_moved : (o : Options) (k : LexemeKind) (s r z : List ℕ) → (CanEndBefore (lexeme k) s r → CanEndBefore (lexeme k) s z) → Lexeme o k (s ++ r) r → Lexeme o k (s ++ z) z
@@ -51,6 +52,21 @@ name_next o (Content.token c) r z e h = absurd h
 name_next o (Content.whitespace s) r z e h = absurd h
 name_next o (Content.newline k) r z e h = absurd h
 name_next o (Content.comment s) r z e h = absurd h
+
+-- a string is a name whatever follows
+pub string_name : (o : Options) (s r z : List ℕ) → IsNameBefore o (Content.string s) r → IsNameBefore o (Content.string s) z
+string_name o s r z (v, (u, h)) = (v, (u, lexeme_moved o (lexemes.string v) (chars s) r z (λ y. y) h))
+
+-- a word is a name before what ends names, if it may end there where it is no number and no keyword
+ends_name : (k : LexemeKind) (s r z : List ℕ) → EndsNames z → (EndsWord (next r) → EndsWord (next z)) → CanEndBefore (lexeme k) s r → CanEndBefore (lexeme k) s z
+ends_name (lexemes.string v) s r z e f h = tt
+ends_name (lexemes.number n) s r z e f h = may_follow_swapped r z (alike_names r z e) s h
+ends_name (lexemes.word n) s r z e f h = f h
+ends_name (lexemes.keyword k) s r z e f h = alike_names r z e goes_on goes_on_apart h
+ends_name (lexemes.punctuation c) s r z e f h = tt
+
+pub word_name : (o : Options) (s r z : List ℕ) → EndsNames z → (EndsWord (next r) → EndsWord (next z)) → IsNameBefore o (Content.word s) r → IsNameBefore o (Content.word s) z
+word_name o s r z e f (u, h) = (u, (h.0, refl, h.2, h.3, lexeme_moved o h.2 (chars s) r z (ends_name h.2 (chars s) r z e f) h.4))
 
 module _ (o : Options) where
   literal_ends : (content : Content) (r z : List ℕ) → EndsLiterals z → IsLiteralBefore o content r → IsLiteralBefore o content z
@@ -114,6 +130,15 @@ leaf_ends o (Content.boolean b) h = absurd h
 leaf_ends o Content.null h = absurd h
 leaf_ends o (Content.token c) h = absurd h
 
+ends_no_word : (n : Option ℕ) → IsTrue (starts (λ c. c == 0x2F) n) → EndsWord n → ⊥
+ends_no_word None h e = cc
+ends_no_word (Some c) h e = let wrong = subst (λ d. EndsWord (Some d)) (test_eq c 0x2F h) e in cc
+
+newline_word : (k : CstNewlineKind) (t : List ℕ) → EndsWord (next (chars (text_of (Content.newline k)) ++ t))
+newline_word LineFeed t = subst (λ s. EndsWord (next (s ++ t))) (sym (chars-IsAscii (10 ∷ []) (search rules))) refl
+newline_word CarriageReturnLineFeed t = subst (λ s. EndsWord (next (s ++ t))) (sym (chars-IsAscii (13 ∷ 10 ∷ []) (search rules))) refl
+newline_word CarriageReturn t = subst (λ s. EndsWord (next (s ++ t))) (sym (chars-IsAscii (13 ∷ []) (search rules))) refl
+
 pub none_ends : EndsLiterals (printed_text none)
 none_ends = subst EndsLiterals (sym chars-nil) refl
 
@@ -128,6 +153,21 @@ module _ (o : Options) where
   trivia_ends shape.nothing e = e
   trivia_ends (shape.trivia {content = content} {t = t} h g) e =
       subst EndsLiterals (sym (text_leaf content t (trivia_utf8 o content h))) (end_append ends_literals (chars (text_of content)) (printed_text t) (leaf_ends o content h) (trivia_ends g e))
+
+  pub trivia_ends_names : {t r : OrderedTree} → Trivia o t r → EndsNames (printed_text r) → EndsNames (printed_text t)
+  trivia_ends_names shape.nothing e = e
+  trivia_ends_names (shape.trivia {content = content} {t = t} h g) e =
+      subst EndsNames (sym (text_leaf content t (trivia_utf8 o content h))) (end_append ends_names (chars (text_of content)) (printed_text t) (text_ends_names (next (chars (text_of content))) (leaf_ends o content h)) (trivia_ends_names g e))
+
+  -- a word may end before no comment
+  pub comment_ends_no_word : (s : List ℕ) (row : OrderedTree) → IsTrivia o (Content.comment s) → EndsWord (next (printed_text (more (Content.comment s) none row))) → ⊥
+  comment_ends_no_word s row h e =
+      ends_no_word (next (chars s ++ printed_text row)) (starts_front (λ c. c == 0x2F) (chars s) (printed_text row) refl (comment_begins h.1.1)) (subst (λ t. EndsWord (next t)) (text_leaf (Content.comment s) row (trivia_utf8 o (Content.comment s) h)) e)
+
+  -- it may before a line's end
+  pub line_ends_word : (k : CstNewlineKind) (row : OrderedTree) → EndsWord (next (printed_text (more (Content.newline k) none row)))
+  line_ends_word k row =
+      subst (λ t. EndsWord (next t)) (sym (text_leaf (Content.newline k) row (trivia_utf8 o (Content.newline k) tt))) (newline_word k (printed_text row))
 
   -- what stands after an element with commas
   pub separated_ends : o.missing_commas ≡ false → {t r : OrderedTree} → Separated o t r → EndsLiterals (printed_text t)

@@ -10,7 +10,7 @@ node_assoc : (a b f s t : List Content) → a ++ (b ++ (f ++ (s ++ t))) ≡ (a +
 node_assoc a b f s t = ap (λ l. a ++ l) (sym (append_assoc b f (s ++ t))) ∙ sym (append_assoc a (b ++ f) (s ++ t))
 
 -- a stretch with more before it
-after_node : {was now x y : List Content} (a b : List Content) → DiffersIn was now x y → DiffersIn was now (a ++ (b ++ x)) (a ++ (b ++ y))
+pub after_node : {was now x y : List Content} (a b : List Content) → DiffersIn was now x y → DiffersIn was now (a ++ (b ++ x)) (a ++ (b ++ y))
 after_node {was} {now} a b d = record {
   front = a ++ (b ++ d.front);
   back = d.back;
@@ -22,7 +22,7 @@ inside_of : (f g s c b : List Content) → f ++ ((g ++ (s ++ c)) ++ b) ≡ (f ++
 inside_of f g s c b = ap (λ l. f ++ l) (append_assoc g (s ++ c) b ∙ ap (λ l. g ++ l) (append_assoc s c b)) ∙ sym (append_assoc f g (s ++ (c ++ b)))
 
 -- a stretch of a stretch
-within : {was now x y s t : List Content} → DiffersIn x y s t → DiffersIn was now x y → DiffersIn was now s t
+pub within : {was now x y s t : List Content} → DiffersIn x y s t → DiffersIn was now x y → DiffersIn was now s t
 within {was} {now} d k = record {
   front = d.front ++ k.front;
   back = k.back ++ d.back;
@@ -31,7 +31,7 @@ within {was} {now} d k = record {
 }
 
 -- the same stretch of equal lists
-differs_as : {was now x y s t : List Content} → s ≡ x → t ≡ y → DiffersIn was now x y → DiffersIn was now s t
+pub differs_as : {was now x y s t : List Content} → s ≡ x → t ≡ y → DiffersIn was now x y → DiffersIn was now s t
 differs_as e f d = record { front = d.front; back = d.back; before = e ∙ d.before; after = f ∙ d.after }
 
 first_node : (top : Top) (after : OrderedTree) → leaves (more top.content top.below after) ≡ [] ++ (leaves_of top ++ leaves after)

@@ -1,5 +1,6 @@
 pub mod FirstNodes
 pub mod LeavesAround
+pub mod Stretches
 pub mod Characters
 pub mod NumberEnds
 pub mod Followers
@@ -7,3 +8,9 @@ pub mod Rows
 pub mod Shapes
 pub mod Lines
 pub mod Values
+pub mod TriviaShapes
+pub mod TriviaWords
+pub mod TriviaLines
+pub mod TriviaValues
+pub mod TriviaLeaves
+pub mod WordsEnd

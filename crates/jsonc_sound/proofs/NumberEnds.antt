@@ -1,22 +1,29 @@
 -- What follows a number may give way to another text before which a number ends alike.
 use Rattle.std.proofs.Common.{ℕ, ◌≡◌, sym, ap, subst, refl, Bool, true, false, List, [], ◌∷◌, ◌++◌, IsTrue, codes}
 use Rattle.jsonc_text.specs.Options.{Options, all_on}
-use Rattle.jsonc_text.specs.Text.{next, no, Many, stop, step, AllOf, all_of, is_digit}
+use Rattle.jsonc_text.specs.Text.{next, no, end_or, Many, stop, step, AllOf, all_of, is_digit}
 use Rattle.jsonc_text.specs.Words.{goes_on}
 use Rattle.jsonc_text.specs.Numbers.{Sign, Whole, Fraction, Exponent, Unsigned, Number, MayFollow, EndsName, is_x, is_e, is_point}
 use Rattle.jsonc_text.proofs.Basics.{Apart, front_same}
-use Rattle.jsonc_sound.specs.Followers.{ends_literals, EndsLiterals}
-use Rattle.jsonc_sound.proofs.Characters.{x_apart, e_apart, point_apart, digit_apart, hex_digit_apart, goes_on_apart, whole_apart, fails_there}
+use Rattle.jsonc_sound.specs.Followers.{EndsLiterals}
+use Rattle.jsonc_sound.proofs.Characters.{ends_names, text_ends_names, x_apart, e_apart, point_apart, digit_apart, hex_digit_apart, goes_on_apart, whole_apart, fails_there}
 
 -- where a part may end before r, it may end before z
 abbrev pub EndsAlike : List ℕ → List ℕ → Type 0
-EndsAlike r z = (p : ℕ → Bool) → Apart p ends_literals → IsTrue (no p (next r)) → IsTrue (no p (next z))
+EndsAlike r z = (p : ℕ → Bool) → Apart p ends_names → IsTrue (no p (next r)) → IsTrue (no p (next z))
 
 pub alike_next : (r z : List ℕ) → next r ≡ next z → EndsAlike r z
 alike_next r z e p a n = subst (λ m. IsTrue (no p m)) e n
 
 pub alike_ends : (r z : List ℕ) → EndsLiterals z → EndsAlike r z
-alike_ends r z h p a n = fails_there p a (next z) h
+alike_ends r z h p a n = fails_there p a (next z) (text_ends_names (next z) h)
+
+-- the text begins with a character that ends names, or is empty
+abbrev pub EndsNames : List ℕ → Type 0
+EndsNames r = IsTrue (end_or ends_names (next r))
+
+pub alike_names : (r z : List ℕ) → EndsNames z → EndsAlike r z
+alike_names r z h p a n = fails_there p a (next z) h
 
 -- what stands at the front of t, before x and r, with z in place of r
 record Swapped (R : List ℕ → List ℕ → Type 0) (t x r z : List ℕ) : Type 0 where
@@ -25,7 +32,7 @@ record Swapped (R : List ℕ → List ℕ → Type 0) (t x r z : List ℕ) : Typ
   here : R (text ++ z) (x ++ z)
 
 module _ (r z : List ℕ) (alike : EndsAlike r z) where
-  no_swapped : (p : ℕ → Bool) → Apart p ends_literals → (x : List ℕ) {u : List ℕ} → u ≡ x ++ r → IsTrue (no p (next u)) → IsTrue (no p (next (x ++ z)))
+  no_swapped : (p : ℕ → Bool) → Apart p ends_names → (x : List ℕ) {u : List ℕ} → u ≡ x ++ r → IsTrue (no p (next u)) → IsTrue (no p (next (x ++ z)))
   no_swapped p a [] e n = alike p a (rw e at n)
   no_swapped p a (c ∷ x) e n = rw e at n
 
@@ -36,7 +43,7 @@ module _ (r z : List ℕ) (alike : EndsAlike r z) where
   many_swapped x stop e = record { text = x; split = e; here = stop }
   many_swapped x (step {c = c} h g) e = one_more c (λ a k. step h k) (many_swapped x g e)
 
-  all_swapped : {p : ℕ → Bool} {t u : List ℕ} → Apart p ends_literals → (x : List ℕ) → AllOf p t u → u ≡ x ++ r → Swapped (AllOf p) t x r z
+  all_swapped : {p : ℕ → Bool} {t u : List ℕ} → Apart p ends_names → (x : List ℕ) → AllOf p t u → u ≡ x ++ r → Swapped (AllOf p) t x r z
   all_swapped {p} a x (all_of {c = c} h g n) e = one_more c (λ b k. all_of h k (no_swapped p a x e n)) (many_swapped x g e)
 
   sign_swapped : {o : Options} {b : Bool} {t u : List ℕ} (x : List ℕ) → Sign o b t u → u ≡ x ++ r → Swapped (Sign o b) t x r z

@@ -1,0 +1,301 @@
+-- What leaves with a comment is trivia, and it leaves the ordered tree.
+use Rattle.std.proofs.Common.{◌≡◌, ◌≢◌, ℕ, zero, suc, ◌+◌, ◌-◌, ◌<◌, ◌≤◌, true, false, List, [], ◌∷◌, ◌++◌, length, get_or, map, slice_index, slice_range, take, drop, Some, None, IsTrue, inl, inr, refl, sym, ap, subst, ◌∙◌, arith, length-drop, get_or-drop}
+use Rattle.std.proofs.lemmas.Bool.{cases_Bool, cases_lt}
+use Rattle.std.proofs.lemmas.List.{take_more, map-append}
+use Rattle.std.proofs.lemmas.List.Edits.{get_or-between, length-between, split_between}
+use Rattle.jsonc_tree.specs.Content.{Content, root, is_container}
+use Rattle.jsonc_tree.specs.Changes.{CanJoin}
+use Rattle.jsonc_tree.specs.OrderedTree.{OrderedTree, none, more, followed_by, Shows, shows_none, shows_more, ordered_tree, Replaced, here, deeper, later}
+use Rattle.jsonc_tree.specs.Tree.{Node, content_at, parent_at, children_at, place_at, IsTree, IsOver}
+use Rattle.jsonc_tree.proofs.Around.{Shows-spliced, Replaced-splice}
+use Rattle.jsonc_tree.proofs.Order.{over_step, parent_there}
+use Rattle.jsonc_tree.proofs.Rows.{Shows-part}
+use Rattle.jsonc_nodes.specs.Kinds.{is_whitespace, is_newline, is_comment, is_trivia, is_whitespace_at, is_newline_at, is_comment_at, is_trivia_at}
+use Rattle.jsonc_layout.specs.Lines.{is_line_comment}
+use Rattle.jsonc_sound.specs.TriviaChanges.{AreTrivia, leaves_then, LeavesChanged, StretchChanged, in_root, inside, EndsInComment, one_comment, line_comment}
+use Rattle.jsonc_edit.specs.Changes.{row_below}
+use Rattle.jsonc_edit.specs.Comments.{blanks_from, newline_from, removed_from, CommentRemoved, leaves_gone, TakesTrivia}
+use Rattle.jsonc_edit.proofs.Walk.{Shows-row_below, document_is}
+
+whitespace_trivia : (c : Content) → is_whitespace c ≡ true → IsTrue (is_trivia c)
+whitespace_trivia (Content.whitespace s) h = refl
+whitespace_trivia c h = cc
+
+newline_trivia : (c : Content) → is_newline c ≡ true → IsTrue (is_trivia c)
+newline_trivia (Content.newline k) h = refl
+newline_trivia c h = cc
+
+comment_trivia : (c : Content) → IsTrue (is_comment c) → IsTrue (is_trivia c)
+comment_trivia (Content.comment s) h = refl
+comment_trivia c h = cc
+
+trivia_leaf : (c : Content) → IsTrue (is_trivia c) → is_container c ≡ false
+trivia_leaf (Content.whitespace s) h = refl
+trivia_leaf (Content.newline k) h = refl
+trivia_leaf (Content.comment s) h = refl
+trivia_leaf c h = cc
+
+-- a comment alone ends in a comment
+comment_ends : (c : Content) → IsTrue (is_comment c) → EndsInComment (c ∷ [])
+comment_ends (Content.comment s) h = one_comment
+comment_ends c h = cc
+
+module _ (ns : List Node) (row : List ℕ) where
+  blanks_before : (place : ℕ) → blanks_from ns row place ≤ place
+  blanks_before zero = omega arith
+  blanks_before (suc place) =
+      elim (cases_Bool (is_whitespace_at ns (slice_index row place))) [
+        | inl h ↦ (let e : blanks_from ns row (suc place) ≡ blanks_from ns row place = rw h refl in omega (arith, e, blanks_before place))
+        | inr h ↦ (let e : blanks_from ns row (suc place) ≡ suc place = rw h refl in omega (arith, e))
+      ]
+
+  blanks_are : (place at : ℕ) → blanks_from ns row place ≤ at → at < place → IsTrue (is_trivia_at ns (slice_index row at))
+  blanks_are zero at a b = absurd (omega (arith, b))
+  blanks_are (suc place) at a b =
+      elim (cases_Bool (is_whitespace_at ns (slice_index row place))) [
+        | inr h ↦ (let e : blanks_from ns row (suc place) ≡ suc place = rw h refl in absurd (omega (arith, e, a, b)))
+        | inl h ↦
+            let e : blanks_from ns row (suc place) ≡ blanks_from ns row place = rw h refl in
+            elim (cases_lt at place) [
+              | inl l ↦ blanks_are place at (omega (arith, e, a)) l
+              | inr m ↦ (let same : place ≡ at = omega (arith, m, b) in subst (λ k. IsTrue (is_trivia_at ns (slice_index row k))) same (whitespace_trivia (content_at ns (slice_index row place)) h))
+            ]
+      ]
+
+  newline_before : (place : ℕ) → newline_from ns row place ≤ place
+  newline_before zero = omega arith
+  newline_before (suc place) =
+      elim (cases_Bool (is_newline_at ns (slice_index row place))) [
+        | inl h ↦ (let e : newline_from ns row (suc place) ≡ place = rw h refl in omega (arith, e))
+        | inr h ↦ (let e : newline_from ns row (suc place) ≡ suc place = rw h refl in omega (arith, e))
+      ]
+
+  newline_is : (place at : ℕ) → newline_from ns row place ≤ at → at < place → IsTrue (is_trivia_at ns (slice_index row at))
+  newline_is zero at a b = absurd (omega (arith, b))
+  newline_is (suc place) at a b =
+      elim (cases_Bool (is_newline_at ns (slice_index row place))) [
+        | inr h ↦ (let e : newline_from ns row (suc place) ≡ suc place = rw h refl in absurd (omega (arith, e, a, b)))
+        | inl h ↦
+            let e : newline_from ns row (suc place) ≡ place = rw h refl in
+            let s : place ≡ at = omega (arith, e, a, b) in
+            subst (λ k. IsTrue (is_trivia_at ns (slice_index row k))) s (newline_trivia (content_at ns (slice_index row place)) h)
+      ]
+
+-- these nodes are trivia if each is
+are_trivia : (ns : List Node) (xs : List ℕ) → ((k : ℕ) → k < length xs → IsTrue (is_trivia_at ns (get_or xs k 0))) → AreTrivia (map (content_at ns) xs)
+are_trivia ns [] h = tt
+are_trivia ns (x ∷ xs) h = (h 0 (omega arith), are_trivia ns xs (λ k l. h (suc k) (omega (arith, l))))
+
+module _ (ns : List Node) (tree : IsTree ns) where
+  -- leaves in front of a row
+  leaves_shown : (xs : List ℕ) (t back : OrderedTree) → AreTrivia (map (content_at ns) xs) → Shows ns xs t → followed_by t back ≡ leaves_then (map (content_at ns) xs) back
+  leaves_shown _ _ back h shows_none = refl
+  leaves_shown _ _ back h (shows_more {n = n} {rest = rest} {below = below} {after = after} p q) =
+      let bare : below ≡ none = empty (subst (λ (l : List ℕ). Shows ns l below) (tree.leaf n (trivia_leaf (content_at ns n) h.0)) p) in
+      ap (λ b. more (content_at ns n) b (followed_by after back)) bare ∙ ap (more (content_at ns n) none) (leaves_shown rest after back h.1 q)
+    where
+      empty : {b : OrderedTree} → Shows ns [] b → b ≡ none
+      empty shows_none = refl
+
+  module _ (c n : ℕ) (said : parent_at ns n ≡ Some c) where
+    abbrev cs : List ℕ
+    cs = children_at ns c
+
+    abbrev place : ℕ
+    place = place_at ns n
+
+    abbrev from : ℕ
+    from = removed_from ns c n
+
+    from_before : from ≤ place
+    from_before =
+        elim (cases_Bool (is_line_comment (content_at ns n))) [
+          | inl h ↦
+              let e : from ≡ newline_from ns cs (blanks_from ns cs place) = rw h refl in
+              omega (arith, e, newline_before ns cs (blanks_from ns cs place), blanks_before ns cs place)
+          | inr h ↦ (let e : from ≡ place = rw h refl in omega (arith, e))
+        ]
+
+    between_trivia : (at : ℕ) → from ≤ at → at < place → IsTrue (is_trivia_at ns (slice_index cs at))
+    between_trivia at a b =
+        elim (cases_Bool (is_line_comment (content_at ns n))) [
+          | inr h ↦ (let e : from ≡ place = rw h refl in absurd (omega (arith, e, a, b)))
+          | inl h ↦
+              let e : from ≡ newline_from ns cs (blanks_from ns cs place) = rw h refl in
+              elim (cases_lt at (blanks_from ns cs place)) [
+                | inl l ↦ newline_is ns cs (blanks_from ns cs place) at (omega (arith, e, a)) l
+                | inr m ↦ blanks_are ns cs place at m b
+              ]
+        ]
+
+    abbrev gone : List ℕ
+    gone = slice_range cs from (place + 1)
+
+    abbrev first : List ℕ
+    first = slice_range cs from place
+
+    gone_is : gone ≡ first ++ n ∷ []
+    gone_is =
+        let inn : place < length cs = tree.within n c said in
+        let le : from ≤ place = from_before in
+        let count : place + 1 - from ≡ (place - from) + 1 = omega (arith, le) in
+        let low : place - from < length (drop from cs) = omega (arith, inn, le, length-drop from cs) in
+        let last : get_or (drop from cs) (place - from) 0 ≡ n = get_or-drop from cs (place - from) 0 ∙ ap (λ k. get_or cs k 0) (let e : from + (place - from) ≡ place = omega (arith, le) in e) ∙ tree.found n c said in
+        ap (λ k. take k (drop from cs)) count ∙ take_more (drop from cs) (place - from) 0 low ∙ ap (λ m. take (place - from) (drop from cs) ++ m ∷ []) last
+
+    gone_contents : map (content_at ns) gone ≡ map (content_at ns) first ++ content_at ns n ∷ []
+    gone_contents = ap (map (content_at ns)) gone_is ∙ map-append (content_at ns) first (n ∷ [])
+
+    trivia_gone : IsTrue (is_comment_at ns n) → AreTrivia (map (content_at ns) gone)
+    trivia_gone h =
+        are_trivia ns gone (λ k l.
+        let le : from ≤ place = from_before in
+        let inn : place < length cs = tree.within n c said in
+        let size : length gone ≡ place + 1 - from = length-between cs from (place + 1) (omega (arith, inn)) in
+        let here_is : get_or gone k 0 ≡ get_or cs (from + k) 0 = get_or-between cs from (place + 1) k 0 (omega (arith, l, size, le)) in
+        subst (λ m. IsTrue (is_trivia_at ns m)) (sym here_is)
+        (elim (cases_lt (from + k) place) [
+          | inl low ↦ between_trivia (from + k) (omega arith) low
+          | inr m ↦
+              let same : place ≡ from + k = omega (arith, m, l, size, le) in
+              subst (λ j. IsTrue (is_trivia_at ns (get_or cs j 0))) same (subst (λ j. IsTrue (is_trivia_at ns j)) (sym (tree.found n c said)) (comment_trivia (content_at ns n) h))
+        ]))
+
+    ends_gone : IsTrue (is_comment_at ns n) → EndsInComment (map (content_at ns) gone)
+    ends_gone h =
+        subst EndsInComment (sym gone_contents)
+        (elim (cases_Bool (is_line_comment (content_at ns n))) [
+          | inl l ↦ line_comment (map (content_at ns) first) (content_at ns n) l
+          | inr l ↦
+              let e : from ≡ place = rw l refl in
+              let nothing : first ≡ [] = ap (λ k. slice_range cs k place) e ∙ (let z : place - place ≡ 0 = omega arith in ap (λ k. take k (drop place cs)) z) in
+              subst (λ (l : List ℕ). EndsInComment (map (content_at ns) l ++ content_at ns n ∷ [])) (sym nothing) (comment_ends (content_at ns n) h)
+        ])
+
+-- a row with a stretch, wherever it stands
+gives_way : {was : List Content} (front back : OrderedTree) → was ≢ [] → LeavesChanged was [] (followed_by front (leaves_then was back)) (followed_by front back)
+gives_way none back ne = LeavesChanged.given_way back ne
+gives_way (more content below after) back ne = LeavesChanged.later (gives_way after back ne)
+
+-- where the row that changed is below another
+below_changed : {cs : List Content} {was now x y : OrderedTree} → LeavesChanged cs [] was now → Replaced was now x y → LeavesChanged cs [] x y
+below_changed h here = LeavesChanged.deeper h
+below_changed h (deeper r) = LeavesChanged.deeper (below_changed h r)
+below_changed h (later r) = LeavesChanged.later (below_changed h r)
+
+no_row : {was now : OrderedTree} → Replaced was now none none → ⊥
+no_row r = elim r [ ]
+
+root_changed : {cs : List Content} (front back : OrderedTree) {was now x y : OrderedTree} → cs ≢ [] → was ≡ followed_by front (leaves_then cs back) → now ≡ followed_by front back → Replaced was now (more root x none) (more root y none) → StretchChanged cs [] (more root x none) (more root y none)
+root_changed {cs} front back {was} {now} ne e f here = subst (λ t. StretchChanged cs [] (more root t none) (more root now none)) (sym e) (subst (λ t. StretchChanged cs [] (more root (followed_by front (leaves_then cs back)) none) (more root t none)) (sym f) (in_root front back))
+root_changed {cs} front back {was} {now} ne e f (deeper r) =
+    inside (below_changed (subst (λ t. LeavesChanged cs [] t now) (sym e) (subst (λ t. LeavesChanged cs [] (followed_by front (leaves_then cs back)) t) (sym f) (gives_way front back ne))) r)
+root_changed front back ne e f (later r) = absurd (no_row r)
+
+-- the rows of three lists of numbers, one after another
+record Three (ns : List Node) (xs ys zs : List ℕ) (t : OrderedTree) : Type 0 where
+  front : OrderedTree
+  inner : OrderedTree
+  back : OrderedTree
+  before : Shows ns xs front
+  between : Shows ns ys inner
+  behind : Shows ns zs back
+  joined : t ≡ followed_by front (followed_by inner back)
+
+two_parts : (ns : List Node) (xs ys zs : List ℕ) (t front rest : OrderedTree) → t ≡ followed_by front rest → Shows ns xs front → (inner : OrderedTree) × (back : OrderedTree) × (rest ≡ followed_by inner back) × Shows ns ys inner × Shows ns zs back → Three ns xs ys zs t
+two_parts ns xs ys zs t front rest e p (inner, back, f, q, s) = record {
+  front = front;
+  inner = inner;
+  back = back;
+  before = p;
+  between = q;
+  behind = s;
+  joined = e ∙ ap (followed_by front) f;
+}
+
+three_parts : (ns : List Node) (xs ys zs : List ℕ) (t : OrderedTree) → Shows ns (xs ++ (ys ++ zs)) t → Three ns xs ys zs t
+three_parts ns xs ys zs t shown = by (Shows-part ns xs (ys ++ zs) t shown)
+  where
+    by : (front : OrderedTree) × (rest : OrderedTree) × (t ≡ followed_by front rest) × Shows ns xs front × Shows ns (ys ++ zs) rest → Three ns xs ys zs t
+    by (front, rest, e, p, q) = two_parts ns xs ys zs t front rest e p (Shows-part ns ys zs rest q)
+
+none_some : {k : ℕ} → None ≡ Some k → ⊥
+none_some e = cc
+
+no_end : (front : List Content) (x : Content) → front ++ x ∷ [] ≡ [] → ⊥
+no_end [] x e = cc
+no_end (y ∷ front) x e = cc
+
+nothing_joins : (ns : List Node) (c i j : ℕ) → CanJoin ns c i j []
+nothing_joins ns c i j = record {
+  there = λ k h. absurd (omega (arith, h));
+  not_root = λ k h. absurd (omega (arith, h));
+  once = λ a b h. absurd (omega (arith, h));
+  free = λ k h. absurd (omega (arith, h));
+  not_over = λ k h. absurd (omega (arith, h));
+}
+
+module _ (old new : List Node) (n : ℕ) (r : CommentRemoved old new n) where
+  abbrev c : ℕ
+  c = r.container
+
+  abbrev row : List ℕ
+  row = children_at old c
+
+  abbrev i : ℕ
+  i = removed_from old c n
+
+  abbrev j : ℕ
+  j = place_at old n + 1
+
+  abbrev gone_nodes : List ℕ
+  gone_nodes = slice_range row i j
+
+  parts : Three old (take i row) gone_nodes (drop j row) (row_below old c)
+  parts =
+      three_parts old (take i row) gone_nodes (drop j row) (row_below old c)
+      (subst (λ (l : List ℕ). Shows old l (row_below old c)) (split_between row i j (omega (arith, from_before old r.tree c n r.parent))) (Shows-row_below old r.tree c (parent_there old r.tree n c r.parent).1))
+
+  all_trivia : AreTrivia (leaves_gone r)
+  all_trivia = trivia_gone old r.tree c n r.parent r.comment
+
+  some_gone : leaves_gone r ≢ []
+  some_gone e = no_end (map (content_at old) (slice_range row i (place_at old n))) (content_at old n) (sym (gone_contents old r.tree c n r.parent) ∙ e)
+
+  over_container : IsOver old 0 c
+  over_container = over_step old r.tree 0 n c r.below (λ e. none_some (sym r.tree.root_alone ∙ ap (parent_at old) (sym e) ∙ r.parent)) r.parent
+
+  old_is : more root (row_below old 0) none ≡ ordered_tree old 0
+  old_is = document_is old r.tree (row_below old 0) (Shows-row_below old r.tree 0 r.tree.first)
+
+  new_is : more root (row_below new 0) none ≡ ordered_tree new 0
+  new_is = document_is new r.after (row_below new 0) (Shows-row_below new r.after 0 r.after.first)
+
+  -- the container's row, by its three parts
+  module _ (three : Three old (take i row) gone_nodes (drop j row) (row_below old c)) where
+    abbrev left : OrderedTree
+    left = followed_by three.front three.back
+
+    row_was : row_below old c ≡ followed_by three.front (leaves_then (leaves_gone r) three.back)
+    row_was = three.joined ∙ ap (followed_by three.front) (leaves_shown old r.tree gone_nodes three.inner three.back all_trivia three.between)
+
+    row_is : Shows new (children_at new c) left
+    row_is = Shows-spliced old new r.tree r.after c i j [] (r.removed c r.parent) (nothing_joins old c i j) three.front none three.back three.before shows_none three.behind
+
+    replaced : Replaced (row_below old c) left (ordered_tree old 0) (ordered_tree new 0)
+    replaced = Replaced-splice old new r.tree r.after c i j [] (r.removed c r.parent) (row_below old c) left (Shows-row_below old r.tree c (parent_there old r.tree n c r.parent).1) row_is 0 r.tree.first over_container
+
+    roots : Replaced (row_below old c) left (more root (row_below old 0) none) (more root (row_below new 0) none)
+    roots = subst (λ t. Replaced (row_below old c) left t (more root (row_below new 0) none)) (sym old_is) (subst (λ t. Replaced (row_below old c) left (ordered_tree old 0) t) (sym new_is) replaced)
+
+    changed : StretchChanged (leaves_gone r) [] (ordered_tree old 0) (ordered_tree new 0)
+    changed =
+        subst (λ t. StretchChanged (leaves_gone r) [] t (ordered_tree new 0)) old_is
+        (subst (λ t. StretchChanged (leaves_gone r) [] (more root (row_below old 0) none) t) new_is (root_changed three.front three.back some_gone row_was refl roots))
+
+  pub takes_trivia : TakesTrivia r
+  takes_trivia = record {
+    changed = changed parts;
+    trivia = all_trivia;
+    ends = ends_gone old r.tree c n r.parent r.comment;
+  }

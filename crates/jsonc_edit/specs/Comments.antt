@@ -1,0 +1,72 @@
+-- What leaves with a comment.
+use Rattle.std.specs.Prelude.{◌≡◌, ℕ, zero, suc, ◌+◌, List, [], ◌∷◌, Option, Some, None, codes, map, slice_index, slice_range, if◌then◌else◌, IsTrue}
+use Rattle.jsonc_text.specs.Options.{Options}
+use Rattle.jsonc_text.specs.Plain.{Plain}
+use Rattle.jsonc_tree.specs.Content.{Content, root, array, token, whitespace, newline, comment}
+use Rattle.jsonc_tree.specs.declared.node.CstNewlineKind.TheVariants.{LineFeed}
+use Rattle.jsonc_tree.specs.Changes.{Splices}
+use Rattle.jsonc_tree.specs.OrderedTree.{leaves, ordered_tree}
+use Rattle.jsonc_tree.specs.Tree.{Node, content_at, parent_at, children_at, place_at, IsTree, IsOver}
+use Rattle.jsonc_tree.specs.Values.{DocumentValueOf}
+use Rattle.jsonc_nodes.specs.Kinds.{is_whitespace_at, is_newline_at, is_comment_at}
+use Rattle.jsonc_layout.specs.Lines.{is_line_comment}
+use Rattle.jsonc_sound.specs.Laws.{DiffersIn}
+use Rattle.jsonc_sound.specs.Sound.{Sound}
+use Rattle.jsonc_sound.specs.TriviaChanges.{AreTrivia, StretchChanged, EndsInComment}
+use Rattle.jsonc_edit.specs.Worked.{node}
+
+-- in a row of nodes, where the whitespace leaves directly before a place begin: there, if there are none
+abbrev pub blanks_from : List Node → List ℕ → ℕ → ℕ
+blanks_from ns row zero = zero
+blanks_from ns row (suc place) = if is_whitespace_at ns (slice_index row place) then blanks_from ns row place else suc place
+
+-- the place of the newline leaf directly before a place: that place, if there is none
+abbrev pub newline_from : List Node → List ℕ → ℕ → ℕ
+newline_from ns row zero = zero
+newline_from ns row (suc place) = if is_newline_at ns (slice_index row place) then place else suc place
+
+-- among the children of c, where what leaves with the comment n begins: at n, or if n is a line comment, at the newline leaf before the whitespace leaves before n
+abbrev pub removed_from : List Node → ℕ → ℕ → ℕ
+removed_from ns c n = if is_line_comment (content_at ns n) then newline_from ns (children_at ns c) (blanks_from ns (children_at ns c) (place_at ns n)) else place_at ns n
+
+-- the children from there up to the comment have left the row
+abbrev pub IsRemoved : List Node → List Node → ℕ → Type 0
+IsRemoved old new n = (c : ℕ) → parent_at old n ≡ Some c → Splices old new c (removed_from old c n) (place_at old n + 1) []
+
+-- a comment of the document has left it
+pub record CommentRemoved (old new : List Node) (n : ℕ) : Type 0 where
+  pub container : ℕ
+  pub tree : IsTree old
+  pub after : IsTree new
+  pub below : IsOver old 0 n
+  pub comment : IsTrue (is_comment_at old n)
+  pub parent : parent_at old n ≡ Some container
+  pub removed : IsRemoved old new n
+
+-- the leaves that have left, in order
+abbrev pub leaves_gone : {old new : List Node} {n : ℕ} → CommentRemoved old new n → List Content
+leaves_gone {old} {new} {n} r = map (content_at old) (slice_range (children_at old r.container) (removed_from old r.container n) (place_at old n + 1))
+
+-- they are trivia that ends in a comment, and nothing has come in their place
+pub record TakesTrivia {old new : List Node} {n : ℕ} (r : CommentRemoved old new n) : Type 0 where
+  pub changed : StretchChanged (leaves_gone r) [] (ordered_tree old 0) (ordered_tree new 0)
+  pub trivia : AreTrivia (leaves_gone r)
+  pub ends : EndsInComment (leaves_gone r)
+
+-- without a comment a sound document is sound
+abbrev pub IsSoundWithout : Options → List Node → List Node → ℕ → Type 0
+IsSoundWithout o old new n = CommentRemoved old new n → Sound o (ordered_tree old 0) → Sound o (ordered_tree new 0)
+
+-- and a document has the value that it had, or none as before
+abbrev pub HasValueWithout : Options → List Node → List Node → ℕ → Option Plain → Type 0
+HasValueWithout o old new n w = CommentRemoved old new n → DocumentValueOf o (ordered_tree old 0) w → DocumentValueOf o (ordered_tree new 0) w
+
+-- and all other leaves
+abbrev pub HasLeavesWithout : {old new : List Node} {n : ℕ} → CommentRemoved old new n → Type 0
+HasLeavesWithout {old} {new} r = DiffersIn (leaves_gone r) [] (leaves (ordered_tree old 0)) (leaves (ordered_tree new 0))
+
+-- a worked document: in an array on lines of their own a comment behind two whitespace leaves, which is node 7
+abbrev pub commented : List ℕ → List Node
+commented text =
+    node root None (1 ∷ []) ∷ node array (Some 0) (2 ∷ 3 ∷ 4 ∷ 5 ∷ 6 ∷ 7 ∷ 8 ∷ 9 ∷ []) ∷ node (token 0x5B) (Some 1) [] ∷ node (newline LineFeed) (Some 1) [] ∷ node (newline LineFeed) (Some 1) []
+    ∷ node (whitespace (codes " ")) (Some 1) [] ∷ node (whitespace (codes " ")) (Some 1) [] ∷ node (comment text) (Some 1) [] ∷ node (newline LineFeed) (Some 1) [] ∷ node (token 0x5D) (Some 1) [] ∷ []
