@@ -2,6 +2,7 @@
 
 use crate::case::Question;
 use crate::decoded::decoded;
+use crate::edited::edited;
 use crate::lookup::looked_up;
 use crate::member::looked_up_in_tree;
 use crate::program::{outcome, printed};
@@ -33,6 +34,11 @@ pub fn answer(alloc: Global, question: &Question) -> Result<Option<String>, Allo
             text,
             lookups,
         } => Ok(Some(looked_up_in_tree(alloc, text.as_str(), options, lookups.as_slice())?)),
+        Question::Edit {
+            options,
+            text,
+            edits,
+        } => Ok(Some(edited(alloc, text.as_str(), options, edits.as_slice())?)),
         Question::Decode { text } => Ok(Some(decoded(alloc, text.as_str())?)),
         Question::Ast {
             options,

@@ -1,5 +1,6 @@
 //! Cases, read from their lines.
 
+use crate::edit::{Edit, read_edits};
 use crate::error::CaseError;
 use crate::escape::{unescaped, unescaped_text};
 use crate::lookup::{Lookup, read_lookups};
@@ -43,6 +44,12 @@ pub enum Question {
         text: String,
         lookups: Vec<Lookup>,
     },
+    /// What edits make of the document of a text.
+    Edit {
+        options: ParseOptions,
+        text: String,
+        edits: Vec<Edit>,
+    },
     /// The string at the front of a text.
     Decode {
         text: String,
@@ -82,7 +89,7 @@ impl<'a> Case<'a> {
 
 fn is_kind_to_come(kind: &str) -> bool {
     match kind {
-        "edit" | "trace" | "read" | "settings" | "detached" => true,
+        "trace" | "read" | "settings" | "detached" => true,
         _ => false,
     }
 }
@@ -96,12 +103,13 @@ impl Question {
             ("equal", [options, one, other]) => equal(alloc, options, one, other),
             ("jobj", [options, text, lookups]) => object(alloc, options, text, lookups),
             ("aobj", [options, text, lookups]) => tree_object(alloc, options, text, lookups),
+            ("edit", [options, text, edits]) => edit(alloc, options, text, edits),
             ("decode", [text]) => Ok(Question::Decode {
                 text: unescaped_text(alloc, text)?,
             }),
             ("print", [options, input]) => print(alloc, options, input),
             ("jsonc", [words, input]) => program(alloc, words, input),
-            ("scan" | "ast" | "value" | "jobj" | "aobj" | "decode" | "jsonc", _) => Err(
+            ("scan" | "ast" | "value" | "jobj" | "aobj" | "edit" | "decode" | "jsonc", _) => Err(
                 CaseError::FieldCount,
             ),
             (kind, _) if is_kind_to_come(kind) => Ok(Question::NotBuilt),
@@ -165,6 +173,17 @@ fn tree_object(
         options: read_options(options)?,
         text: unescaped_text(alloc, text)?,
         lookups: read_lookups(alloc, lookups)?,
+    })
+}
+
+fn edit(alloc: Global, options: &str, text: &str, edits: &str) -> Result<Question, CaseError> {
+    let Some(edits) = read_edits(alloc, edits)? else {
+        return Ok(Question::NotBuilt);
+    };
+    Ok(Question::Edit {
+        options: read_options(options)?,
+        text: unescaped_text(alloc, text)?,
+        edits,
     })
 }
 

@@ -27,6 +27,8 @@ pub enum CaseError {
     Word,
     /// A look-up that no object has, or one without a name.
     Lookup,
+    /// An edit of a kind that is built, with words that it does not have.
+    Edit,
     /// There was not enough memory to read the line.
     OutOfMemory,
 }
@@ -44,6 +46,8 @@ impl fmt::Display for CaseError {
             CaseError::TextNotUtf8 => "its text is not UTF-8",
             CaseError::Word => "a word begins with '",
             CaseError::Lookup => "a look-up is get or take, with a kind or none, and a word",
+            CaseError::Edit =>
+                "an edit is Replace, a path and a value, or RemoveComment and a number",
             CaseError::OutOfMemory => "out of memory",
         })
     }

@@ -8,6 +8,8 @@ mod case;
 mod comments;
 mod decoded;
 mod document;
+mod edit;
+mod edited;
 mod error;
 mod escape;
 mod lookup;

@@ -1,0 +1,131 @@
+//! Edits, read from their words.
+
+use crate::error::CaseError;
+use crate::escape::unescaped_text;
+use jsonc_input::CstInputValue;
+use std::alloc::Global;
+
+/// An edit of a document.
+#[derive(Drop)]
+pub enum Edit {
+    /// The value at a path gives way to another.
+    Replace {
+        path: Vec<usize>,
+        value: CstInputValue<Global>,
+    },
+    /// The comment of this number leaves, counted from 0 as they are printed.
+    RemoveComment(usize),
+}
+
+/// The edits that a field lists, as `Replace /0 [1 #2 ; RemoveComment 0`, or none where one is of a
+/// kind that is not built.
+pub fn read_edits(alloc: Global, field: &str) -> Result<Option<Vec<Edit>>, CaseError> {
+    let mut edits = Vec::new(alloc);
+    if field.is_empty() {
+        return Ok(Some(edits));
+    }
+    for edit in field.split(" ; ") {
+        match read_edit(alloc, edit)? {
+            Some(edit) => edits.push(edit)?,
+            None => return Ok(None),
+        }
+    }
+    Ok(Some(edits))
+}
+
+fn read_edit(alloc: Global, edit: &str) -> Result<Option<Edit>, CaseError> {
+    let words: Vec<&str> = edit.split(' ').collect(alloc)?;
+    match words.as_slice() {
+        ["Replace", path, value @ ..] => Ok(Some(Edit::Replace {
+            path: read_path(alloc, path)?,
+            value: read_value(alloc, value)?,
+        })),
+        ["RemoveComment", number] => Ok(Some(Edit::RemoveComment(read_number(number)?))),
+        _ => Ok(None),
+    }
+}
+
+/// The places of a path, each after a `/`.
+fn read_path(alloc: Global, path: &str) -> Result<Vec<usize>, CaseError> {
+    let mut places = Vec::new(alloc);
+    for place in path.split('/') {
+        if !place.is_empty() {
+            places.push(read_number(place)?)?;
+        }
+    }
+    Ok(places)
+}
+
+fn read_number(digits: &str) -> Result<usize, CaseError> {
+    match digits.parse::<usize>() {
+        Ok(number) => Ok(number),
+        Err(_) => Err(CaseError::Edit),
+    }
+}
+
+/// The value that these words stand for, each container before what is in it. They are read from the
+/// last one on, so that what is in a container has been read before it.
+fn read_value(alloc: Global, words: &[&str]) -> Result<CstInputValue<Global>, CaseError> {
+    let mut read = Vec::new(alloc);
+    for word in words.iter().rev() {
+        let value = value_of(alloc, &mut read, word)?;
+        read.push(value)?;
+    }
+    match read.pop() {
+        Some(value) if read.is_empty() => Ok(value),
+        _ => Err(CaseError::Edit),
+    }
+}
+
+/// The value of one word and of what was read behind it.
+fn value_of(
+    alloc: Global,
+    read: &mut Vec<CstInputValue<Global>>,
+    word: &str,
+) -> Result<CstInputValue<Global>, CaseError> {
+    let mut characters = word.chars();
+    let mark = characters.next();
+    let rest = characters.as_str();
+    match mark {
+        Some('N') => Ok(CstInputValue::Null),
+        Some('T') => Ok(CstInputValue::Bool(true)),
+        Some('F') => Ok(CstInputValue::Bool(false)),
+        Some('#') => Ok(CstInputValue::Number(unescaped_text(alloc, rest)?)),
+        Some('\'') => Ok(CstInputValue::String(unescaped_text(alloc, rest)?)),
+        Some('[') => elements_of(alloc, read, read_number(rest)?),
+        Some('{') => properties_of(alloc, read, read_number(rest)?),
+        _ => Err(CaseError::Edit),
+    }
+}
+
+/// The array of so many values that were read last, the last one first.
+fn elements_of(
+    alloc: Global,
+    read: &mut Vec<CstInputValue<Global>>,
+    count: usize,
+) -> Result<CstInputValue<Global>, CaseError> {
+    let mut elements = Vec::new(alloc);
+    for _ in 0..count {
+        match read.pop() {
+            Some(value) => elements.push(value)?,
+            None => return Err(CaseError::Edit),
+        }
+    }
+    Ok(CstInputValue::Array(elements))
+}
+
+/// The object of so many names and values that were read last, the last name first.
+fn properties_of(
+    alloc: Global,
+    read: &mut Vec<CstInputValue<Global>>,
+    count: usize,
+) -> Result<CstInputValue<Global>, CaseError> {
+    let mut properties = Vec::new(alloc);
+    for _ in 0..count {
+        match (read.pop(), read.pop()) {
+            (Some(CstInputValue::String(name)), Some(value)) => properties.push((name, value))?,
+            _ => return Err(CaseError::Edit),
+        }
+    }
+    Ok(CstInputValue::Object(properties))
+}
