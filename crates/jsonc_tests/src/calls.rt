@@ -2,6 +2,7 @@
 
 use crate::awaited::Awaited;
 use crate::clones::copies;
+use crate::edits::edited;
 use crate::inputs::inputs;
 use crate::lines::laid_out;
 use crate::maps::changed_map;
@@ -9,7 +10,7 @@ use crate::outcome::Outcome;
 use crate::tokens::decode_provided;
 use crate::tree_copies::tree_copies;
 use crate::trees::changed_tree;
-use crate::typed::children;
+use crate::typed::{children, names};
 use jsonc_engine::calls::{FromReader, ToWriter};
 use jsonc_engine::command::Command;
 use jsonc_engine::engine::{engine, run_on};
@@ -42,16 +43,18 @@ pub enum Call {
     ValueCopies,
     Document,
     Children,
+    Names,
     TokenCopy,
     MapChanges,
     TreeChanges,
     Layout,
+    Edits,
     BytesToBytes,
     WholeRun,
 }
 
 /// All of them.
-pub const CALLS: [Call; 17] = [
+pub const CALLS: [Call; 19] = [
     Call::Decode,
     Call::DecodeProvided,
     Call::Inputs,
@@ -63,10 +66,12 @@ pub const CALLS: [Call; 17] = [
     Call::ValueCopies,
     Call::Document,
     Call::Children,
+    Call::Names,
     Call::TokenCopy,
     Call::MapChanges,
     Call::TreeChanges,
     Call::Layout,
+    Call::Edits,
     Call::BytesToBytes,
     Call::WholeRun,
 ];
@@ -102,10 +107,12 @@ pub fn outcome_of(call: Call, heap: Heap<'_>) -> Outcome {
         Call::ValueCopies => copies(heap),
         Call::Document => document(heap),
         Call::Children => children(heap),
+        Call::Names => names(heap),
         Call::TokenCopy => token_copy(heap),
         Call::MapChanges => changed_map(heap),
         Call::TreeChanges => changed_tree(heap),
         Call::Layout => laid_out(heap),
+        Call::Edits => edited(heap),
         Call::BytesToBytes => bytes_to_bytes(heap),
         Call::WholeRun => whole_run(heap),
     })

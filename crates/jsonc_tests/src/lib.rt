@@ -10,6 +10,8 @@ mod calls;
 #[cfg(test)]
 mod clones;
 #[cfg(test)]
+mod edits;
+#[cfg(test)]
 mod inputs;
 #[cfg(test)]
 mod lines;

@@ -13,7 +13,7 @@ use jsonc_tree::{CstNewlineKind, Kind, Tree};
 use std::default::Default;
 
 /// An object over lines, with a comment at the end of one.
-const SPREAD: &str = "{\n  \"a\": 1, // x\n  \"b\": [2]\n}";
+pub const SPREAD: &str = "{\n  \"a\": 1, // x\n  \"b\": [2]\n}";
 
 /// An array with a blank line, a comment before an element and a comma after the last one.
 const GROUPED: &str = "[\r\n\t\"a\",\r\n\r\n\t/* c */ \"b\",\r\n]";
@@ -21,7 +21,8 @@ const GROUPED: &str = "[\r\n\t\"a\",\r\n\r\n\t/* c */ \"b\",\r\n]";
 /// Objects in one another, whose levels add two blanks to one.
 const NESTED: &str = "{\n \"c\": {\n   \"d\": 3\n }\n}";
 
-fn tree_of<'h>(heap: Heap<'h>, text: &str) -> Result<Tree<Heap<'h>>, Outcome> {
+/// The tree of a document.
+pub fn tree_of<'h>(heap: Heap<'h>, text: &str) -> Result<Tree<Heap<'h>>, Outcome> {
     let collect = CollectOptions::default();
     let parsed = parse_to_ast(heap, text, &collect, &ParseOptions::default())?;
     Ok(build(heap, text, parsed.value.as_ref())?)

@@ -3,27 +3,19 @@ ghost use Rattle.std.specs.Prelude.{◌<◌, length, IfOk};
 ghost use Rattle.jsonc_nodes.specs.Siblings.{IsThere};
 
 use crate::calls::Heap;
+use crate::lines::tree_of;
 use crate::outcome::Outcome;
-use jsonc_layout::build;
 use jsonc_nodes::{
     child_at_index, children, decoded_name, decoded_value, element_index, elements, get,
     leading_comments_same_line, name_of, next_element, next_sibling, previous_element,
     previous_sibling, root_node, trailing_comments_same_line, value_of,
 };
-use jsonc_parser::{CollectOptions, ParseOptions, ParseStringErrorKind, parse_to_ast};
 use jsonc_tree::{Kind, Tree};
 use refusing::Refusing;
-use std::default::Default;
 use std::test::Fail;
 
 /// A document whose object has twelve children: its properties are children 3 and 9.
 const TEXT: &str = "{\n  \"\\u0061\": 1, // x\n  \"b\": \"\\u0063\"\n}";
-
-fn tree_of<'a>(heap: Heap<'a>) -> Result<Tree<Heap<'a>>, Outcome> {
-    let options = ParseOptions::default();
-    let parsed = parse_to_ast(heap, TEXT, &CollectOptions::default(), &options)?;
-    Ok(build(heap, TEXT, parsed.value.as_ref())?)
-}
 
 /// The document's object.
 fn object_of(tree: &Tree<Heap<'_>>) -> Option<usize>
@@ -91,11 +83,7 @@ fn is_string_of(
     requires { leaf < length tree.now.nodes }
 {
     match tree.kind(leaf) {
-        Kind::StringPart(_) => match decoded_value(heap, tree, leaf) {
-            Ok(value) => Ok(value.as_str() == text),
-            Err(ParseStringErrorKind::OutOfMemory) => Err(Outcome::Wanted),
-            Err(_) => Err(Outcome::Other),
-        },
+        Kind::StringPart(_) => Ok(decoded_value(heap, tree, leaf)?.as_str() == text),
         _ => Err(Outcome::Other),
     }
 }
@@ -121,14 +109,14 @@ fn names_are_decoded(heap: Heap<'_>, tree: &Tree<Heap<'_>>) -> Result<bool, Outc
 
 /// The names of the document, looked up and decoded.
 fn node_names(heap: Heap<'_>) -> Result<Outcome, Outcome> {
-    let tree = tree_of(heap)?;
+    let tree = tree_of(heap, TEXT)?;
     Ok(Outcome::of(names_are_decoded(heap, &tree)?))
 }
 
 /// The rows of the document. A list that is collected asks again for less where it was refused, so
 /// that one refusal need not show.
 fn node_rows(heap: Heap<'_>) -> Result<Outcome, Outcome> {
-    let tree = tree_of(heap)?;
+    let tree = tree_of(heap, TEXT)?;
     let is_right = siblings_stand(heap, &tree)? && comments_stand(heap, &tree)?;
     Ok(Outcome::of(is_right))
 }

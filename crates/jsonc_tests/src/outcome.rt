@@ -77,6 +77,15 @@ impl From<ParseStringError> for Outcome {
     }
 }
 
+impl From<ParseStringErrorKind> for Outcome {
+    fn from(kind: ParseStringErrorKind) -> Outcome {
+        match kind {
+            ParseStringErrorKind::OutOfMemory => Outcome::Wanted,
+            _ => Outcome::Other,
+        }
+    }
+}
+
 impl From<EditError> for Outcome {
     fn from(error: EditError) -> Outcome {
         match error {
