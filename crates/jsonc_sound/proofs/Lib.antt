@@ -7,3 +7,4 @@ pub mod Rows
 pub mod Shapes
 pub mod Lines
 pub mod Values
+pub mod RowShapes

@@ -4,3 +4,5 @@ pub mod Sound
 pub mod Followers
 pub mod Laws
 pub mod Worked
+pub mod Rows
+pub mod RowLaws

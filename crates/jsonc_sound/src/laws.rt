@@ -8,6 +8,7 @@ ghost use Rattle.jsonc_sound.specs.Laws.{StaysSound, ChangesValue, KeepsLeavesAr
 ghost use Rattle.jsonc_sound.specs.Worked.{AreElements, IsWorkedChange};
 ghost use Rattle.jsonc_sound.specs.Sound.{IsValueBefore};
 ghost use Rattle.jsonc_sound.specs.TreeChanges.{Top};
+ghost use Rattle.jsonc_sound.specs.RowLaws.{ArraysAreRows, ObjectsAreRows, DocumentsAreRows};
 
 /// A node that is a value before some text is one before a blank, `/`, `,`, `]`, `}` and the end,
 /// so wherever commas stand between values.
@@ -35,4 +36,21 @@ pub fn changes_keep_the_leaves_around()
 /// A worked row: in `{a:[1,_]}` the value in the place of the `_` stands at the path 0, 1.
 pub fn worked_changes()
     ensures { (was now : Top) → AreElements was now → IsWorkedChange was now }
+{}
+
+/// Where commas may not be missing, an array has the shape of the grammar exactly where its row is
+/// one child by child: trivia anywhere, a value first or after a comma, a comma after a value, and
+/// the bracket.
+pub fn arrays_are_rows()
+    ensures { (o : Options) (below : OrderedTree) (r : List ℕ) → o.missing_commas ≡ false → ArraysAreRows o below r }
+{}
+
+/// So has an object, with properties in the place of values.
+pub fn objects_are_rows()
+    ensures { (o : Options) (below : OrderedTree) (r : List ℕ) → o.missing_commas ≡ false → ObjectsAreRows o below r }
+{}
+
+/// A document has the shape of the grammar exactly where its root's row is trivia with one value at most.
+pub fn documents_are_rows()
+    ensures { (o : Options) (t : OrderedTree) → DocumentsAreRows o t }
 {}
