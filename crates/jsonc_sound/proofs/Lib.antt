@@ -8,3 +8,4 @@ pub mod Shapes
 pub mod Lines
 pub mod Values
 pub mod RowShapes
+pub mod JoinedRows

@@ -1,14 +1,15 @@
 //! Laws of the definitions: each is the contract of a function that does nothing.
-ghost use Rattle.std.specs.Prelude.{◌≡◌, false, List, ℕ};
+ghost use Rattle.std.specs.Prelude.{◌≡◌, false, List, ℕ, Bool};
 ghost use Rattle.jsonc_text.specs.Options.{Options};
-ghost use Rattle.jsonc_text.specs.Plain.{Plain};
+ghost use Rattle.jsonc_text.specs.Plain.{Plain, Items, Members};
 ghost use Rattle.jsonc_tree.specs.OrderedTree.{OrderedTree};
 ghost use Rattle.jsonc_sound.specs.Followers.{StandsInRows};
 ghost use Rattle.jsonc_sound.specs.Laws.{StaysSound, ChangesValue, KeepsLeavesAround};
 ghost use Rattle.jsonc_sound.specs.Worked.{AreElements, IsWorkedChange};
 ghost use Rattle.jsonc_sound.specs.Sound.{IsValueBefore};
 ghost use Rattle.jsonc_sound.specs.TreeChanges.{Top};
-ghost use Rattle.jsonc_sound.specs.RowLaws.{ArraysAreRows, ObjectsAreRows, DocumentsAreRows};
+ghost use Rattle.jsonc_sound.specs.Rows.{RowKind, Last};
+ghost use Rattle.jsonc_sound.specs.RowLaws.{ContainersAreRows, DocumentsAreRows, RowsComeApart, StretchesComeApart, RowsAreStretches, ItemsComeApart, MembersComeApart, LinesComeApart};
 
 /// A node that is a value before some text is one before a blank, `/`, `,`, `]`, `}` and the end,
 /// so wherever commas stand between values.
@@ -38,19 +39,42 @@ pub fn worked_changes()
     ensures { (was now : Top) → AreElements was now → IsWorkedChange was now }
 {}
 
-/// Where commas may not be missing, an array has the shape of the grammar exactly where its row is
-/// one child by child: trivia anywhere, a value first or after a comma, a comma after a value, and
-/// the bracket.
-pub fn arrays_are_rows()
-    ensures { (o : Options) (below : OrderedTree) (r : List ℕ) → o.missing_commas ≡ false → ArraysAreRows o below r }
-{}
-
-/// So has an object, with properties in the place of values.
-pub fn objects_are_rows()
-    ensures { (o : Options) (below : OrderedTree) (r : List ℕ) → o.missing_commas ≡ false → ObjectsAreRows o below r }
+/// Where commas may not be missing, a container has the shape of the grammar exactly where its row is
+/// one child by child: the first bracket, trivia anywhere, an element first or after a comma, a comma
+/// after an element, and the last bracket.
+pub fn containers_are_rows()
+    ensures { (o : Options) (kind : RowKind) (below : OrderedTree) (r : List ℕ) → o.missing_commas ≡ false → ContainersAreRows o kind below r }
 {}
 
 /// A document has the shape of the grammar exactly where its root's row is trivia with one value at most.
 pub fn documents_are_rows()
     ensures { (o : Options) (t : OrderedTree) → DocumentsAreRows o t }
+{}
+
+/// A row with a stretch before a node goes on as it may exactly where the stretch leads to where the
+/// node goes on so.
+pub fn rows_come_apart()
+    ensures { (o : Options) (kind : RowKind) (last : Last) (stretch : OrderedTree) (top : Top) (after : OrderedTree) → RowsComeApart o kind last stretch top after }
+{}
+
+/// Two stretches lead from one place to another exactly where the first leads to where the second
+/// leads on.
+pub fn stretches_come_apart()
+    ensures { (o : Options) (kind : RowKind) (last to : Last) (first second : OrderedTree) → StretchesComeApart o kind last first second to }
+{}
+
+/// A row goes on as it may exactly where it is a stretch and the last bracket.
+pub fn rows_are_stretches()
+    ensures { (o : Options) (kind : RowKind) (last : Last) (row : OrderedTree) → RowsAreStretches o kind last row }
+{}
+
+/// The plain values of one row after another are those of the one and then those of the other.
+pub fn values_come_apart()
+    ensures items { (o : Options) (first second : OrderedTree) (us : Items) → ItemsComeApart o first second us }
+    ensures members { (o : Options) (first second : OrderedTree) (ms : Members) → MembersComeApart o first second ms }
+{}
+
+/// The line comments of one row after another end with their lines exactly where those of both do.
+pub fn lines_come_apart()
+    ensures { (at_end : Bool) (first second : OrderedTree) → LinesComeApart at_end first second }
 {}
