@@ -9,3 +9,4 @@ pub mod Lines
 pub mod Values
 pub mod RowShapes
 pub mod JoinedRows
+pub mod RowEdits

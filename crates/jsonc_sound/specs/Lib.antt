@@ -6,3 +6,4 @@ pub mod Laws
 pub mod Worked
 pub mod Rows
 pub mod RowLaws
+pub mod RowEdits

@@ -8,7 +8,8 @@ ghost use Rattle.jsonc_sound.specs.Laws.{StaysSound, ChangesValue, KeepsLeavesAr
 ghost use Rattle.jsonc_sound.specs.Worked.{AreElements, IsWorkedChange};
 ghost use Rattle.jsonc_sound.specs.Sound.{IsValueBefore};
 ghost use Rattle.jsonc_sound.specs.TreeChanges.{Top};
-ghost use Rattle.jsonc_sound.specs.Rows.{RowKind, Last};
+ghost use Rattle.jsonc_sound.specs.Rows.{RowKind, Last, GoesTo};
+ghost use Rattle.jsonc_sound.specs.RowEdits.{StretchGivesWay, last_behind};
 ghost use Rattle.jsonc_sound.specs.RowLaws.{ContainersAreRows, DocumentsAreRows, RowsComeApart, StretchesComeApart, RowsAreStretches, ItemsComeApart, MembersComeApart, LinesComeApart};
 
 /// A node that is a value before some text is one before a blank, `/`, `,`, `]`, `}` and the end,
@@ -77,4 +78,15 @@ pub fn values_come_apart()
 /// The line comments of one row after another end with their lines exactly where those of both do.
 pub fn lines_come_apart()
     ensures { (at_end : Bool) (first second : OrderedTree) → LinesComeApart at_end first second }
+{}
+
+/// What stands last behind a stretch is known by its nodes.
+pub fn stretches_lead_to_one_place()
+    ensures { (o : Options) (kind : RowKind) (last to : Last) (stretch : OrderedTree) → GoesTo o kind last stretch to → to ≡ last_behind last stretch }
+{}
+
+/// A row goes on as it may where a stretch of it gives way to one that goes on from what stands last
+/// before it, to where the rest may follow: an element and a comma put in or taken out, among others.
+pub fn rows_stay_rows()
+    ensures { (o : Options) (kind : RowKind) (last : Last) (front was now back : OrderedTree) → StretchGivesWay o kind last front was now back }
 {}
