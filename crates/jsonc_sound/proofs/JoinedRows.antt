@@ -20,13 +20,13 @@ never_none (more c b s) content below after e = cc
 module _ (o : Options) (kind : RowKind) where
   -- the first node of a row that goes on
   pub data Meets (last : Last) (content : Content) (below after : OrderedTree) : Type 0 where
-    the_bracket : IsTrue (may_end o last) → after ≡ none → Meets last content below after
+    the_bracket : IsTrue (may_end o last) → content ≡ token (closing kind) → after ≡ none → Meets last content below after
     a_leaf : IsTrivia o content → below ≡ none → GoesOn o kind last after → Meets last content below after
     a_part : IsTrue (may_begin last) → IsPart o kind (record { content = content; below = below }) → GoesOn o kind rows.an_element after → Meets last content below after
     the_comma : last ≡ rows.an_element → content ≡ token 0x2C → below ≡ none → GoesOn o kind rows.a_comma after → Meets last content below after
 
   pub meets_row : {last : Last} {content : Content} {below after : OrderedTree} → GoesOn o kind last (more content below after) → Meets last content below after
-  meets_row (rows.closes m) = the_bracket m refl
+  meets_row (rows.closes m) = the_bracket m refl refl
   meets_row (rows.trivia h g) = a_leaf h refl g
   meets_row (rows.element m p g) = a_part m p g
   meets_row (rows.comma g) = the_comma refl refl refl g
@@ -46,7 +46,7 @@ module _ (o : Options) (kind : RowKind) where
   parted_row none {last = last} g = (last, rows.stays, g)
   parted_row (more c b s) {last = last} {content = content} {below = below} {after = after} g =
       elim (meets_row g) [
-        | the_bracket m e ↦ absurd (never_none s content below after e)
+        | the_bracket m k e ↦ absurd (never_none s content below after e)
         | a_leaf h e k ↦ (let d = parted_row s k in (d.0, subst (λ t. GoesTo o kind last (more c t s) d.0) (sym e) (rows.past_trivia h d.1), d.2))
         | a_part m p k ↦ (let d = parted_row s k in (d.0, rows.past_element m p d.1, d.2))
         | the_comma e p q k ↦ (let d = parted_row s k in (d.0, past_this_comma e p q d.1, d.2))

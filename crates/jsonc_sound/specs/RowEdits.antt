@@ -1,8 +1,9 @@
 -- What a change of a stretch of a row has to show: by what stands last before it, and first behind it.
-use Rattle.std.specs.Prelude.{Bool, true, false, IsTrue, ◌==◌, if◌then◌else◌}
+use Rattle.std.specs.Prelude.{◌↔◌, ◌⊎◌, Bool, true, false, IsTrue, ◌==◌, if◌then◌else◌}
 use Rattle.jsonc_text.specs.Options.{Options}
 use Rattle.jsonc_tree.specs.Content.{Content}
 use Rattle.jsonc_tree.specs.OrderedTree.{OrderedTree, none, more, followed_by}
+use Rattle.jsonc_sound.specs.TreeChanges.{Top, IsElement}
 use Rattle.jsonc_sound.specs.Rows.{RowKind, Last, nothing_yet, an_element, a_comma, may_begin, may_end, GoesOn, GoesTo}
 
 -- what stands last behind a node, where this stood last before it: trivia is passed over, and a token in a stretch is a comma
@@ -37,3 +38,27 @@ may_follow o last (more content below after) = may_begin last
 abbrev pub StretchGivesWay : Options → RowKind → Last → OrderedTree → OrderedTree → OrderedTree → OrderedTree → Type 0
 StretchGivesWay o kind last front was now back = GoesOn o kind last (followed_by front (followed_by was back)) → (to : Last) → GoesTo o kind (last_behind last front) now to → IsTrue (may_follow o to back)
     → GoesOn o kind last (followed_by front (followed_by now back))
+
+-- the rest of a row that goes on may stand behind something else exactly where what is first in it may
+abbrev pub RestFollows : Options → RowKind → Last → Last → OrderedTree → Type 0
+RestFollows o kind last to row = GoesOn o kind last row → GoesOn o kind to row ↔ IsTrue (may_follow o to row)
+
+-- a stretch of elements, a comma behind each
+abbrev pub EndsInComma : Options → RowKind → OrderedTree → Type 0
+EndsInComma o kind stretch = GoesTo o kind nothing_yet stretch a_comma
+
+-- a stretch of elements, a comma before each
+abbrev pub BeginsWithComma : Options → RowKind → OrderedTree → Type 0
+BeginsWithComma o kind stretch = GoesTo o kind an_element stretch an_element
+
+-- before an element the first may be put in
+abbrev pub TakesBefore : Options → RowKind → Last → OrderedTree → OrderedTree → Top → OrderedTree → Type 0
+TakesBefore o kind last front new top after = IsElement top.content → EndsInComma o kind new → let rest = more top.content top.below after in GoesOn o kind last (followed_by front rest) → GoesOn o kind last (followed_by front (followed_by new rest))
+
+-- behind an element the second may be put in
+abbrev pub TakesBehind : Options → RowKind → Last → OrderedTree → Top → OrderedTree → OrderedTree → Type 0
+TakesBehind o kind last front top new after = IsElement top.content → BeginsWithComma o kind new → GoesOn o kind last (followed_by front (more top.content top.below after)) → GoesOn o kind last (followed_by front (more top.content top.below (followed_by new after)))
+
+-- both may be taken out
+abbrev pub LetsGo : Options → RowKind → Last → OrderedTree → OrderedTree → Top → OrderedTree → Type 0
+LetsGo o kind last front was top after = EndsInComma o kind was ⊎ BeginsWithComma o kind was → let rest = more top.content top.below after in GoesOn o kind last (followed_by front (followed_by was rest)) → GoesOn o kind last (followed_by front rest)

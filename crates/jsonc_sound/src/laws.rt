@@ -9,7 +9,7 @@ ghost use Rattle.jsonc_sound.specs.Worked.{AreElements, IsWorkedChange};
 ghost use Rattle.jsonc_sound.specs.Sound.{IsValueBefore};
 ghost use Rattle.jsonc_sound.specs.TreeChanges.{Top};
 ghost use Rattle.jsonc_sound.specs.Rows.{RowKind, Last, GoesTo};
-ghost use Rattle.jsonc_sound.specs.RowEdits.{StretchGivesWay, last_behind};
+ghost use Rattle.jsonc_sound.specs.RowEdits.{StretchGivesWay, last_behind, RestFollows, TakesBefore, TakesBehind, LetsGo};
 ghost use Rattle.jsonc_sound.specs.RowLaws.{ContainersAreRows, DocumentsAreRows, RowsComeApart, StretchesComeApart, RowsAreStretches, ItemsComeApart, MembersComeApart, LinesComeApart};
 
 /// A node that is a value before some text is one before a blank, `/`, `,`, `]`, `}` and the end,
@@ -89,4 +89,17 @@ pub fn stretches_lead_to_one_place()
 /// before it, to where the rest may follow: an element and a comma put in or taken out, among others.
 pub fn rows_stay_rows()
     ensures { (o : Options) (kind : RowKind) (last : Last) (front was now back : OrderedTree) → StretchGivesWay o kind last front was now back }
+{}
+
+/// The rest of a row may stand behind something else exactly where what is first in it may.
+pub fn rests_follow()
+    ensures { (o : Options) (kind : RowKind) (last to : Last) (row : OrderedTree) → RestFollows o kind last to row }
+{}
+
+/// Elements, a comma behind each, may be put in before an element, and elements, a comma before each,
+/// behind one; and both may be taken out.
+pub fn elements_come_and_go()
+    ensures before { (o : Options) (kind : RowKind) (last : Last) (front new : OrderedTree) (top : Top) (after : OrderedTree) → TakesBefore o kind last front new top after }
+    ensures behind { (o : Options) (kind : RowKind) (last : Last) (front : OrderedTree) (top : Top) (new after : OrderedTree) → TakesBehind o kind last front top new after }
+    ensures gone { (o : Options) (kind : RowKind) (last : Last) (front was : OrderedTree) (top : Top) (after : OrderedTree) → LetsGo o kind last front was top after }
 {}
