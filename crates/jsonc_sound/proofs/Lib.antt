@@ -10,3 +10,4 @@ pub mod Values
 pub mod RowShapes
 pub mod JoinedRows
 pub mod RowEdits
+pub mod HeldValues

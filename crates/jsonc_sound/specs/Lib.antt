@@ -7,3 +7,4 @@ pub mod Worked
 pub mod Rows
 pub mod RowLaws
 pub mod RowEdits
+pub mod SoundRows

@@ -79,3 +79,7 @@ pub data RootGoesOn (o : Options) : Bool → OrderedTree → Type 0 where
 -- a root, and such a row below it
 abbrev pub IsRootWithRow : Options → OrderedTree → Type 0
 IsRootWithRow o tree = (row : OrderedTree) × (tree ≡ more root row none) × RootGoesOn o false row
+
+-- the container with this row behind its first bracket
+abbrev pub container_of : RowKind → OrderedTree → Top
+container_of kind row = record { content = holder kind; below = token_then (opening kind) row }

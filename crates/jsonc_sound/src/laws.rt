@@ -10,6 +10,7 @@ ghost use Rattle.jsonc_sound.specs.Sound.{IsValueBefore};
 ghost use Rattle.jsonc_sound.specs.TreeChanges.{Top};
 ghost use Rattle.jsonc_sound.specs.Rows.{RowKind, Last, GoesTo};
 ghost use Rattle.jsonc_sound.specs.RowEdits.{StretchGivesWay, last_behind, RestFollows, TakesBefore, TakesBehind, LetsGo};
+ghost use Rattle.jsonc_sound.specs.SoundRows.{HoldsSoundValues, HoldsSoundRows, StaysSoundWithRow};
 ghost use Rattle.jsonc_sound.specs.RowLaws.{ContainersAreRows, DocumentsAreRows, RowsComeApart, StretchesComeApart, RowsAreStretches, ItemsComeApart, MembersComeApart, LinesComeApart};
 
 /// A node that is a value before some text is one before a blank, `/`, `,`, `]`, `}` and the end,
@@ -102,4 +103,17 @@ pub fn elements_come_and_go()
     ensures before { (o : Options) (kind : RowKind) (last : Last) (front new : OrderedTree) (top : Top) (after : OrderedTree) → TakesBefore o kind last front new top after }
     ensures behind { (o : Options) (kind : RowKind) (last : Last) (front : OrderedTree) (top : Top) (new after : OrderedTree) → TakesBehind o kind last front top new after }
     ensures gone { (o : Options) (kind : RowKind) (last : Last) (front was : OrderedTree) (top : Top) (after : OrderedTree) → LetsGo o kind last front was top after }
+{}
+
+/// What may give way in a sound document is a value, and its line comments end with their lines.
+pub fn sound_documents_hold_sound_values()
+    ensures { (o : Options) (t : OrderedTree) → HoldsSoundValues o t }
+{}
+
+/// Where commas may not be missing, the row of each container of a sound document goes on as it may,
+/// and its line comments end with their lines; and a document in which a container gets another such
+/// row is sound.
+pub fn sound_documents_have_sound_rows()
+    ensures held { (o : Options) (t : OrderedTree) → o.missing_commas ≡ false → HoldsSoundRows o t }
+    ensures changed { (o : Options) (t : OrderedTree) → o.missing_commas ≡ false → StaysSoundWithRow o t }
 {}
