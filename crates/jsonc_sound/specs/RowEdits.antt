@@ -36,7 +36,8 @@ may_follow o last (more content below after) = may_begin last
 
 -- where a stretch of a row that goes on gives way to one that goes on from what stands last before it, to where the rest may follow, the new row goes on
 abbrev pub StretchGivesWay : Options → RowKind → Last → OrderedTree → OrderedTree → OrderedTree → OrderedTree → Type 0
-StretchGivesWay o kind last front was now back = GoesOn o kind last (followed_by front (followed_by was back)) → (to : Last) → GoesTo o kind (last_behind last front) now to → IsTrue (may_follow o to back)
+StretchGivesWay o kind last front was now back = GoesOn o kind last (followed_by front (followed_by was back))
+    → (to : Last) → GoesTo o kind (last_behind last front) now to → IsTrue (may_follow o to back)
     → GoesOn o kind last (followed_by front (followed_by now back))
 
 -- the rest of a row that goes on may stand behind something else exactly where what is first in it may
@@ -47,18 +48,21 @@ RestFollows o kind last to row = GoesOn o kind last row → GoesOn o kind to row
 abbrev pub EndsInComma : Options → RowKind → OrderedTree → Type 0
 EndsInComma o kind stretch = GoesTo o kind nothing_yet stretch a_comma
 
--- a stretch of elements, a comma before each
+-- a stretch of elements, a comma before each, or of trivia alone
 abbrev pub BeginsWithComma : Options → RowKind → OrderedTree → Type 0
 BeginsWithComma o kind stretch = GoesTo o kind an_element stretch an_element
 
 -- before an element the first may be put in
 abbrev pub TakesBefore : Options → RowKind → Last → OrderedTree → OrderedTree → Top → OrderedTree → Type 0
-TakesBefore o kind last front new top after = IsElement top.content → EndsInComma o kind new → let rest = more top.content top.below after in GoesOn o kind last (followed_by front rest) → GoesOn o kind last (followed_by front (followed_by new rest))
+TakesBefore o kind last front new top after = IsElement top.content → EndsInComma o kind new → GoesOn o kind last (followed_by front (more top.content top.below after))
+    → GoesOn o kind last (followed_by front (followed_by new (more top.content top.below after)))
 
 -- behind an element the second may be put in
 abbrev pub TakesBehind : Options → RowKind → Last → OrderedTree → Top → OrderedTree → OrderedTree → Type 0
-TakesBehind o kind last front top new after = IsElement top.content → BeginsWithComma o kind new → GoesOn o kind last (followed_by front (more top.content top.below after)) → GoesOn o kind last (followed_by front (more top.content top.below (followed_by new after)))
+TakesBehind o kind last front top new after = IsElement top.content → BeginsWithComma o kind new → GoesOn o kind last (followed_by front (more top.content top.below after))
+    → GoesOn o kind last (followed_by front (more top.content top.below (followed_by new after)))
 
 -- both may be taken out
 abbrev pub LetsGo : Options → RowKind → Last → OrderedTree → OrderedTree → Top → OrderedTree → Type 0
-LetsGo o kind last front was top after = EndsInComma o kind was ⊎ BeginsWithComma o kind was → let rest = more top.content top.below after in GoesOn o kind last (followed_by front (followed_by was rest)) → GoesOn o kind last (followed_by front rest)
+LetsGo o kind last front was top after = EndsInComma o kind was ⊎ BeginsWithComma o kind was → GoesOn o kind last (followed_by front (followed_by was (more top.content top.below after)))
+    → GoesOn o kind last (followed_by front (more top.content top.below after))

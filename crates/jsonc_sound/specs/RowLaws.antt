@@ -19,7 +19,8 @@ DocumentsAreRows o tree = DocumentShaped o tree ↔ IsRootWithRow o tree
 
 -- a row with a stretch before a node goes on exactly where the stretch leads to where the node goes on
 abbrev pub RowsComeApart : Options → RowKind → Last → OrderedTree → Top → OrderedTree → Type 0
-RowsComeApart o kind last stretch top after = let rest = more top.content top.below after in GoesOn o kind last (followed_by stretch rest) ↔ ((mid : Last) × GoesTo o kind last stretch mid × GoesOn o kind mid rest)
+RowsComeApart o kind last stretch top after = let rest = more top.content top.below after in
+    GoesOn o kind last (followed_by stretch rest) ↔ ((mid : Last) × GoesTo o kind last stretch mid × GoesOn o kind mid rest)
 
 -- two stretches lead on exactly where the first leads to where the second leads on
 abbrev pub StretchesComeApart : Options → RowKind → Last → OrderedTree → OrderedTree → Last → Type 0

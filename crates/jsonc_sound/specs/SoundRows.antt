@@ -24,8 +24,10 @@ pub record IsSoundRow (o : Options) (kind : RowKind) (row : OrderedTree) : Type 
 
 -- a container of the document, if this is sound, has such a row
 abbrev pub HoldsSoundRows : Options → OrderedTree → Type 0
-HoldsSoundRows o t = Sound o t → (kind : RowKind) (row : OrderedTree) (now : Top) (path : List ℕ) (u : OrderedTree) → DocumentChanged (container_of kind row) now path t u → IsSoundRow o kind row
+HoldsSoundRows o t = Sound o t → (kind : RowKind) (row : OrderedTree) (now : Top) (path : List ℕ) (u : OrderedTree)
+    → DocumentChanged (container_of kind row) now path t u → IsSoundRow o kind row
 
 -- where a value of the document, if this is sound, gives way to a container with such a row, the document that this makes is sound
 abbrev pub StaysSoundWithRow : Options → OrderedTree → Type 0
-StaysSoundWithRow o t = Sound o t → (kind : RowKind) (was : Top) (new : OrderedTree) (path : List ℕ) (u : OrderedTree) → DocumentChanged was (container_of kind new) path t u → IsSoundRow o kind new → Sound o u
+StaysSoundWithRow o t = Sound o t → (kind : RowKind) (was : Top) (new : OrderedTree) (path : List ℕ) (u : OrderedTree)
+    → DocumentChanged was (container_of kind new) path t u → IsSoundRow o kind new → Sound o u
