@@ -14,3 +14,7 @@ pub mod TriviaLines
 pub mod TriviaValues
 pub mod TriviaLeaves
 pub mod WordsEnd
+pub mod RowShapes
+pub mod JoinedRows
+pub mod RowEdits
+pub mod HeldValues

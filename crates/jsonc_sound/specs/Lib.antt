@@ -6,3 +6,7 @@ pub mod Laws
 pub mod Worked
 pub mod TriviaChanges
 pub mod TriviaLaws
+pub mod Rows
+pub mod RowLaws
+pub mod RowEdits
+pub mod SoundRows

@@ -3,7 +3,8 @@
 //! A document's ordered tree is sound if it has the shape of the grammar and its line comments end
 //! with their lines (`specs/Sound.antt`). An edit lets one value of it give way to another
 //! (`specs/TreeChanges.antt`), and so one plain value (`specs/Changes.antt`), or in one row a stretch of
-//! trivia give way to another (`specs/TriviaChanges.antt`). There is no code here.
+//! trivia give way to another (`specs/TriviaChanges.antt`). Where commas may not be missing, a row has
+//! the grammar's shape by a plain condition on each child (`specs/Rows.antt`). There is no code here.
 #![tactic(auto)]
 
 pub mod laws;

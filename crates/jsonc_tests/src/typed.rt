@@ -101,8 +101,12 @@ fn siblings_stand(heap: Heap<'_>) -> Result<bool, Outcome> {
     let elements = node.children_exclude_trivia_and_tokens(&document)?;
     let are_beside = first.next_sibling(&document) == Some(comma)
         && comma.previous_sibling(&document) == Some(first);
-    let are_counted = first.previous_siblings(&document).count() == 3
-        && first.next_siblings(&document).count() == 8;
+    let mut before = first.previous_siblings(&document);
+    let mut after = first.next_siblings(&document);
+    let are_counted = before.nth(2) == node.child_at_index(&document, 0)
+        && before.next() == None
+        && after.nth(7) == node.child_at_index(&document, 11)
+        && after.next() == None;
     let is_below = first.root_node(&document) == Some(document.root());
     Ok(are_beside && are_counted && is_below && comma.is_comma(&document) && elements.len() == 2)
 }
