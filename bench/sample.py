@@ -17,6 +17,7 @@ CRATE = os.path.join(HERE, '..', 'crates', 'jsonc_bench')
 # Longer cases are left out, but for those that show a depth.
 LONGEST = 1500
 LOOKUP = 'a look-up is get or take, with a kind or none, and a word'
+EDIT = 'an edit is Replace, a path and a value, or RemoveComment and a number'
 NO_CASES = [
     ('', None),
     ('% a line that begins so is passed over', None),
@@ -33,6 +34,12 @@ NO_CASES = [
     ('bad-word\tjsonc\tprint\t1', "a word begins with '"),
     ("bad-look-up\tjobj\t1111111111\t{}\tget_null 'a", LOOKUP),
     ('bad-name\tjobj\t1111111111\t{}\ttake a', LOOKUP),
+    ('bad-path\tedit\t1111111111\t1\tReplace /a N', EDIT),
+    ('bad-value\tedit\t1111111111\t1\tReplace / [2 N', EDIT),
+    ('bad-more\tedit\t1111111111\t1\tReplace / N N', EDIT),
+    ('bad-mark\tedit\t1111111111\t1\tReplace / X', EDIT),
+    ('bad-property\tedit\t1111111111\t1\tReplace / {1 N N', EDIT),
+    ('bad-number\tedit\t1111111111\t1\tRemoveComment x', EDIT),
     ("bad-call\tjobj\t1111111111\t{}\thas 'a", LOOKUP),
 ]
 # What the Rust crate's test of deep objects states; bench/crate has it with 600 of them, and here they are all.
@@ -89,6 +96,20 @@ def gaps_shown(places):
         yield 'comments', key == '0:', [comment[0] for comment in comments][:3]
 
 
+def edits_shown(case, answer):
+    """Of each edit its kind, its path and what it writes; how the edits end; and what is in the text."""
+    text, edits = case[3], vectors.edits_of(case)
+    signs = [sign for sign in ('\\x0A', '\\x0D', '\\x09', '//', '/*', ',]', ',}') if sign in text]
+    for name, place, *value in edits:
+        yield name, place if name == 'Replace' else int(place) > 1, len(edits) > 1
+        yield name, signs, [word[:1] for word in value][:2]
+        for word in value:
+            yield name, word if word[0] in '[{' else word[0]
+        for end in ends_of(case[2]):
+            yield name, end
+    yield 'edits', len(edits), answer[1].split(' ')[0:3:2]
+
+
 def shown(case, answer):
     """What a case and its answer show; of look-ups in syntax trees, which are few, each shows itself."""
     kind, fields = case[1], case[2:]
@@ -105,6 +126,9 @@ def shown(case, answer):
         return
     if kind == 'aobj':
         yield kind, case[0]
+        return
+    if kind == 'edit':
+        yield from edits_shown(case, answer)
         return
     if kind == 'jobj':
         for lookup, found in zip(fields[2].split(' ; '), answer[2:]):

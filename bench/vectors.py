@@ -3,6 +3,9 @@ import glob
 import os
 import re
 
+# Files whose answers follow a rule that the Rust crate does not have: that edits write a space where literals would join.
+OTHER_RULES = {'spaces.cases'}
+EDITS = {'Replace', 'RemoveComment'}
 COMMANDS_TO_COME = {b'set': 3, b'append': 2, b'remove': 2, b'sort': 1}
 
 
@@ -15,17 +18,26 @@ def is_program_to_come(words):
     return bool(words) and COMMANDS_TO_COME.get(words[0]) == len(words)
 
 
+def edits_of(case):
+    """The words of each edit of a case of edits."""
+    return [edit.split(' ') for edit in case[4].split(' ; ')] if case[4] else []
+
+
 def is_not_yet(case):
     """Whether a case depends on something that is not built, by the case alone."""
     kind, fields = case[1], case[2:]
     if kind == 'jsonc':
         return is_program_to_come(fields[0])
+    if kind == 'edit':
+        return any(edit[0] not in EDITS for edit in edits_of(case))
     return kind not in ('scan', 'ast', 'value', 'equal', 'jobj', 'aobj', 'decode', 'print')
 
 
 def read(folder):
-    """Every case of a folder with its stored answer, both as lists of fields, file by file."""
+    """Every case of a folder with its stored answer, both as lists of fields, file by file, but for those of other rules."""
     for path in sorted(glob.glob(os.path.join(folder, '*.cases'))):
+        if os.path.basename(path) in OTHER_RULES:
+            continue
         with open(path, encoding='ascii', newline='\n') as cases:
             cases = cases.read().split('\n')
         with open(path.removesuffix('cases') + 'answers', encoding='ascii', newline='\n') as answers:
