@@ -50,7 +50,7 @@ pub fn words_of_documents_end()
 
 /// Where trivia gives way to trivia, a document's tree keeps the shape of the grammar, if commas may
 /// not be missing and words end in the new tree: a word may end before blanks or a colon, and not
-/// before a comment, so of `a /**/:1` the blank may not leave. If line comments end with their lines
+/// before a comment, so of `{a /*c*/:1}` the blank may not leave. If line comments end with their lines
 /// in it too, the new tree is sound.
 pub fn changes_of_trivia_keep_documents()
     ensures shaped { (o : Options) (t : OrderedTree) → o.missing_commas ≡ false → KeepsShape o t }
