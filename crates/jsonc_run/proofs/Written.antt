@@ -1,0 +1,50 @@
+-- What edits that were made in order make of a document.
+use Rattle.std.proofs.Common.{◌≡◌, suc, false, List, [], ◌∷◌, Option, Some, subst, arith}
+use Rattle.std.specs.List.{All}
+use Rattle.jsonc_text.specs.Options.{Options}
+use Rattle.jsonc_text.specs.Plain.{Plain}
+use Rattle.jsonc_text.proofs.UniqueValues.{document_unique}
+use Rattle.jsonc_tree.specs.OrderedTree.{ordered_tree}
+use Rattle.jsonc_tree.specs.Tree.{Node, IsTree}
+use Rattle.jsonc_layout.specs.Shape.{printed_text}
+use Rattle.jsonc_layout.proofs.ShapeValues.{document_printed}
+use Rattle.jsonc_sound.specs.Sound.{Sound}
+use Rattle.jsonc_sound.proofs.LeavesAround.{document_differs}
+use Rattle.jsonc_edit.specs.Changes.{top_at}
+use Rattle.jsonc_edit.specs.Reading.{layout_for}
+use Rattle.jsonc_edit.specs.Replacing.{laid_top}
+use Rattle.jsonc_edit.proofs.ReplacedValues.{replaced_written}
+use Rattle.jsonc_run.specs.Edits.{Operation, replace, AreMade, none_made, first_made, IsMade}
+use Rattle.jsonc_run.specs.Written.{MayBeMade, AreChanged, unchanged, first_changed, StayAround, AllStayAround, all_stay, first_stay, AreWritten, WriteAll}
+
+stays_around : (old new : List Node) (e : Operation) → IsMade old e new → StayAround (ordered_tree old 0) e (ordered_tree new 0)
+stays_around old new (replace path v) (n, m, at, r) =
+    let changed = r.2.changed path at in (top_at old n, laid_top (layout_for old r.0 n) v, changed, document_differs changed)
+
+-- under all options the leaves around stay
+pub stay_around : (old new : List Node) (es : List Operation) → AreMade old es new → AllStayAround (ordered_tree old 0) es (ordered_tree new 0)
+stay_around old _ [] none_made = all_stay
+stay_around old new (e ∷ es) (first_made {now = now} made tree rest) = first_stay (stays_around old now e made) (stay_around now new es rest)
+
+module _ (o : Options) (commas : o.missing_commas ≡ false) where
+  -- where no comma may be missing all are written
+  all_written : (old new : List Node) (es : List Operation) → IsTree old → AreMade old es new → Sound o (ordered_tree old 0) → All (MayBeMade o) es → AreWritten o es (ordered_tree old 0) (ordered_tree new 0)
+  all_written old _ [] tree none_made s may =
+      let known = document_printed o (ordered_tree old 0) s.shaped s.lines in
+      record { before = known.0; after = known.0; old_text = known.1; new_text = known.1; changed = unchanged; around = all_stay; sound = s }
+  all_written old new (replace path v ∷ es) tree (first_made {now = now} (n, m, at, r) after rest) s may =
+      let first = replaced_written o old now n m v tree r path commas s at (may 0 (replace path v) (omega arith)) in
+      let others = all_written now new es after rest first.sound (λ k d h. may (suc k) d (omega (arith, h))) in
+      let same : others.before ≡ Some first.after = document_unique o (printed_text (ordered_tree now 0)) others.before (Some first.after) others.old_text first.new_text in
+      record {
+        before = Some first.before;
+        after = others.after;
+        old_text = first.old_text;
+        new_text = others.new_text;
+        changed = first_changed (first.given_up, first.changed) (subst (λ (w : Option Plain). AreChanged w es others.after) same others.changed);
+        around = first_stay (stays_around old now (replace path v) (n, m, at, r)) others.around;
+        sound = others.sound;
+      }
+
+pub write_all : (o : Options) (old new : List Node) (es : List Operation) → IsTree old → AreMade old es new → WriteAll o old es new
+write_all o old new es tree made commas s may = all_written o commas old new es tree made s may

@@ -1,0 +1,20 @@
+//! What an edit asks for, and why one is not made.
+
+use jsonc_input::CstInputValue;
+use std::alloc::Allocator;
+
+/// An edit of a document.
+#[derive(Drop)]
+pub enum Edit<A: Allocator> {
+    /// The value at a path gives way to another, laid out as the document tells. Each step of the path
+    /// is a place among the elements of an array or the properties of an object.
+    Replace(Vec<usize, A>, CstInputValue<A>),
+}
+
+/// Why an edit was not made.
+#[derive(Clone, Copy, Debug, PartialEq, Eq)]
+pub enum Stop {
+    OutOfMemory,
+    /// The edit's path leads to nothing.
+    NoSuchPlace,
+}
