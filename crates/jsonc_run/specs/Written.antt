@@ -1,9 +1,10 @@
 -- What edits that were made in order make of a document: of its value, its leaves and its text.
-use Rattle.std.specs.Prelude.{◌≡◌, false, List, [], ◌∷◌, Option, Some}
+use Rattle.std.specs.Prelude.{◌≡◌, ℕ, false, List, [], ◌∷◌, Option, Some}
 use Rattle.std.specs.List.{All}
 use Rattle.jsonc_text.specs.Options.{Options}
 use Rattle.jsonc_text.specs.Plain.{Plain}
 use Rattle.jsonc_text.specs.Grammar.{IsDocument}
+use Rattle.jsonc_tree.specs.Content.{Content}
 use Rattle.jsonc_tree.specs.Tree.{Node}
 use Rattle.jsonc_tree.specs.OrderedTree.{OrderedTree, leaves, ordered_tree}
 use Rattle.jsonc_layout.specs.Shape.{printed_text}
@@ -11,26 +12,30 @@ use Rattle.jsonc_sound.specs.Changes.{Changed}
 use Rattle.jsonc_sound.specs.Laws.{DiffersIn}
 use Rattle.jsonc_sound.specs.Sound.{Sound}
 use Rattle.jsonc_sound.specs.TreeChanges.{Top, leaves_of, DocumentChanged}
+use Rattle.jsonc_sound.specs.TriviaChanges.{AreTrivia, EndsInComment}
 use Rattle.jsonc_edit.specs.Writing.{IsWritable}
-use Rattle.jsonc_run.specs.Edits.{Operation, replace}
+use Rattle.jsonc_run.specs.Edits.{Operation, replace, remove_comment}
 
 -- documents of these options can hold what the edit writes
 abbrev pub MayBeMade : Options → Operation → Type 0
 MayBeMade o (replace path v) = IsWritable o v
+MayBeMade o (remove_comment number) = Unit {0}
 
--- the edit makes y of the value x: this is y, but that at the path the new value stands
-abbrev pub IsChanged : Plain → Operation → Plain → Type 0
-IsChanged x (replace path v) y = (given_up : Plain) × Changed given_up v path x y
+-- the edit makes the second value of the first, if there is one: this is the first, but that at the path the new value stands, or the first itself without a comment
+pub data IsChanged : Option Plain → Operation → Option Plain → Type 0 where
+  by_value : {given_up v x y : Plain} {path : List ℕ} → Changed given_up v path x y → IsChanged (Some x) (replace path v) (Some y)
+  by_comment : {w : Option Plain} {number : ℕ} → IsChanged w (remove_comment number) w
 
--- the edits, one after another, make the second value of the first; where there is no value there is nothing to edit
+-- the edits, one after another, make the second value of the first
 pub data AreChanged : Option Plain → List Operation → Option Plain → Type 0 where
   unchanged : {w : Option Plain} → AreChanged w [] w
-  first_changed : {x y : Plain} {w : Option Plain} {e : Operation} {es : List Operation} → IsChanged x e y → AreChanged (Some y) es w → AreChanged (Some x) (e ∷ es) w
+  first_changed : {w x y : Option Plain} {e : Operation} {es : List Operation} → IsChanged w e x → AreChanged x es y → AreChanged w (e ∷ es) y
 
--- of the leaves of t those of the value at the path have given way to those of another node; all leaves before and after stay, comments among them
+-- of the leaves of t those of the value at the path have given way to those of another node, or trivia that ends in a comment has left; all leaves before and after stay, comments among them
 abbrev pub StayAround : OrderedTree → Operation → OrderedTree → Type 0
 StayAround t (replace path v) u =
     (was now : Top) × DocumentChanged was now path t u × DiffersIn (leaves_of was) (leaves_of now) (leaves t) (leaves u)
+StayAround t (remove_comment number) u = (gone : List Content) × AreTrivia gone × EndsInComment gone × DiffersIn gone [] (leaves t) (leaves u)
 
 -- so it is for each of the edits, one after another
 pub data AllStayAround : OrderedTree → List Operation → OrderedTree → Type 0 where

@@ -7,9 +7,11 @@
 //! (`specs/Written.antt`).
 #![tactic(auto)]
 
+mod comments;
 mod edit;
 pub mod laws;
 mod making;
 
+pub use comments::find_comment;
 pub use edit::{Edit, Stop};
 pub use making::{make, run};

@@ -6,11 +6,12 @@ ghost use Rattle.jsonc_tree.specs.Building.{Keeps};
 ghost use Rattle.jsonc_tree.specs.OrderedTree.{ordered_tree};
 ghost use Rattle.jsonc_tree.specs.Tree.{IsTree};
 ghost use Rattle.jsonc_input.specs.Views.{plain};
-ghost use Rattle.jsonc_run.specs.Edits.{operation_of, operations_of, replace as asked, AreMade, IsMade, IsToldBy, StopsAt};
+ghost use Rattle.jsonc_run.specs.Edits.{operation_of, operations_of, replace as asked, remove_comment as asked_without, AreMade, IsMade, IsToldBy, StopsAt};
 ghost use Rattle.jsonc_run.specs.Written.{WriteAll};
 
+use crate::comments::find_comment;
 use crate::edit::{Edit, Stop};
-use jsonc_edit::{find, replace};
+use jsonc_edit::{find, remove_comment, replace};
 use jsonc_input::CstInputValue;
 use jsonc_tree::Tree;
 use std::alloc::Allocator;
@@ -26,6 +27,7 @@ pub fn make<A: Allocator + Copy>(alloc: A, tree: &mut Tree<A>, edit: &Edit<A>) -
     let _ = tree.len();
     match edit {
         Edit::Replace(path, value) => replace_at(alloc, tree, path, value),
+        Edit::RemoveComment(number) => remove_at(tree, *number),
     }
 }
 
@@ -52,6 +54,21 @@ fn replace_at<A: Allocator + Copy>(
         Ok(None) => Err(Stop::NoSuchPlace),
         Err(_) => Err(Stop::OutOfMemory),
     }
+}
+
+// Takes the comment of a number out.
+fn remove_at<A: Allocator>(tree: &mut Tree<A>, number: usize) -> Result<(), Stop>
+    ensures made { OnOk result (IsMade tree.old.nodes (asked_without number) tree.new.nodes) }
+    ensures told { IfErr result (IsToldBy tree.old.nodes (asked_without number)) }
+    ensures untouched { OnErr result (tree.new.nodes ≡ tree.old.nodes) }
+    ensures tree { IsTree tree.new.nodes }
+{
+    let _ = tree.len();
+    let Some(comment) = find_comment(tree, number) else {
+        return Err(Stop::NoSuchPlace);
+    };
+    remove_comment(tree, comment);
+    Ok(())
 }
 
 /// Makes edits in order, each in the document that the one before it made. Where one is refused, the
