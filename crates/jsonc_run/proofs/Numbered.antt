@@ -3,7 +3,7 @@ use Rattle.std.proofs.Common.{◌≡◌, ℕ, ◌<◌, ◌++◌, ◌∷◌, Bool
 use Rattle.std.proofs.lemmas.List.{append-nil}
 use Rattle.std.specs.List.{flat_map, slice_get}
 use Rattle.jsonc_tree.specs.Content.{Content, root}
-use Rattle.jsonc_tree.specs.Tree.{Node, IsTree, children_at, content_at, parent_at, IsOver, itself, above}
+use Rattle.jsonc_tree.specs.Tree.{Node, IsTree, children_at, parent_at, IsOver, itself, above}
 use Rattle.jsonc_tree.specs.Order.{in_order, following, rest_at}
 use Rattle.jsonc_tree.proofs.Order.{in_order_is, following_end}
 use Rattle.jsonc_nodes.specs.Kinds.{is_comment, is_comment_at}

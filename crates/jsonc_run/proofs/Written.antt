@@ -1,5 +1,5 @@
 -- What edits that were made in order make of a document.
-use Rattle.std.proofs.Common.{◌≡◌, suc, false, List, [], ◌∷◌, Option, Some, subst, arith}
+use Rattle.std.proofs.Common.{Result, Ok, Err, OnOk, ◌≡◌, suc, false, List, [], ◌∷◌, Option, Some, sym, subst, arith}
 use Rattle.std.specs.List.{All}
 use Rattle.jsonc_text.specs.Options.{Options}
 use Rattle.jsonc_text.specs.Plain.{Plain}
@@ -16,7 +16,6 @@ use Rattle.jsonc_sound.proofs.TriviaLines.{stays_sound_without}
 use Rattle.jsonc_sound.proofs.TriviaValues.{document_kept}
 use Rattle.jsonc_edit.specs.Changes.{top_at}
 use Rattle.jsonc_edit.specs.Reading.{layout_for}
-use Rattle.jsonc_edit.specs.Replacing.{laid_top}
 use Rattle.jsonc_edit.specs.Comments.{leaves_gone}
 use Rattle.jsonc_edit.proofs.OneValue.{document_once}
 use Rattle.jsonc_edit.proofs.Removal.{takes_trivia}
@@ -26,7 +25,7 @@ use Rattle.jsonc_run.specs.Written.{MayBeMade, IsChanged, by_value, by_comment, 
 
 stays_around : (old new : List Node) (e : Operation) → IsMade old e new → StayAround (ordered_tree old 0) e (ordered_tree new 0)
 stays_around old new (replace path v) (n, m, at, r) =
-    let changed = r.2.changed path at in (top_at old n, laid_top (layout_for old r.0 n) v, changed, document_differs changed)
+    let changed = r.2.changed path at in (top_at old n, layout_for old r.0 n, changed, document_differs changed)
 stays_around old new (remove_comment number) (n, at, r) =
     let t = takes_trivia old new n r in (leaves_gone r, t.trivia, t.ends, trivia.document_differs (leaves_gone r) [] t.trivia tt t.changed)
 
@@ -79,3 +78,10 @@ module _ (o : Options) (commas : o.missing_commas ≡ false) where
 
 pub write_all : (o : Options) (old new : List Node) (es : List Operation) → IsTree old → AreMade old es new → WriteAll o old es new
 write_all o old new es tree made commas s may = all_written o commas old new es tree made s may
+
+-- so is one, where the answer says that it was made
+pub answer_written : {T E : Type 0} (o : Options) (old new : List Node) (made asked : Operation) → IsTree old → IsTree new → (r : Result T E) → asked ≡ made
+    → OnOk r (IsMade old made new) → OnOk r (WriteAll o old (asked ∷ []) new)
+answer_written o old new made asked tree after (Ok t) same is =
+    subst (λ (e : Operation). WriteAll o old (e ∷ []) new) (sym same) (write_all o old new (made ∷ []) tree (first_made is after none_made))
+answer_written o old new made asked tree after (Err x) same is = tt

@@ -13,6 +13,8 @@ use Rattle.jsonc_sound.specs.Laws.{DiffersIn}
 use Rattle.jsonc_sound.specs.Sound.{Sound}
 use Rattle.jsonc_sound.specs.TreeChanges.{Top, leaves_of, DocumentChanged}
 use Rattle.jsonc_sound.specs.TriviaChanges.{AreTrivia, EndsInComment}
+use Rattle.jsonc_lay_out.specs.Layout.{Layout}
+use Rattle.jsonc_edit.specs.Replacing.{laid_top}
 use Rattle.jsonc_edit.specs.Writing.{IsWritable}
 use Rattle.jsonc_run.specs.Edits.{Operation, replace, remove_comment}
 
@@ -31,10 +33,10 @@ pub data AreChanged : Option Plain → List Operation → Option Plain → Type 
   unchanged : {w : Option Plain} → AreChanged w [] w
   first_changed : {w x y : Option Plain} {e : Operation} {es : List Operation} → IsChanged w e x → AreChanged x es y → AreChanged w (e ∷ es) y
 
--- of the leaves of t those of the value at the path have given way to those of another node, or trivia that ends in a comment has left; all leaves before and after stay, comments among them
+-- of the leaves of t those of the value at the path have given way to those of the new value, in some layout, or trivia that ends in a comment has left; all leaves before and after stay, comments among them
 abbrev pub StayAround : OrderedTree → Operation → OrderedTree → Type 0
 StayAround t (replace path v) u =
-    (was now : Top) × DocumentChanged was now path t u × DiffersIn (leaves_of was) (leaves_of now) (leaves t) (leaves u)
+    (was : Top) × (layout : Layout) × DocumentChanged was (laid_top layout v) path t u × DiffersIn (leaves_of was) (leaves_of (laid_top layout v)) (leaves t) (leaves u)
 StayAround t (remove_comment number) u = (gone : List Content) × AreTrivia gone × EndsInComment gone × DiffersIn gone [] (leaves t) (leaves u)
 
 -- so it is for each of the edits, one after another

@@ -14,7 +14,8 @@ pub fn edits_are_written()
     ensures { (o : Options) (old new : List Node) (es : List Operation) → IsTree old → AreMade old es new → WriteAll o old es new }
 {}
 
-/// Under all options each edit in turn leaves all leaves around what it replaces as they were.
+/// Under all options each edit in turn leaves all leaves around what it replaces or takes out as they
+/// were.
 pub fn edits_keep_the_leaves_around()
     ensures { (old new : List Node) (es : List Operation) → AreMade old es new → AllStayAround (ordered_tree old 0) es (ordered_tree new 0) }
 {}

@@ -1,6 +1,6 @@
 //! Edits that are made.
 
-ghost use Rattle.std.specs.Prelude.{◌≡◌, IfErr, OnErr, OnOk, length, take};
+ghost use Rattle.std.specs.Prelude.{◌≡◌, ◌∷◌, [], IfErr, OnErr, OnOk, length, take};
 ghost use Rattle.jsonc_text.specs.Options.{Options};
 ghost use Rattle.jsonc_tree.specs.Building.{Keeps};
 ghost use Rattle.jsonc_tree.specs.OrderedTree.{ordered_tree};
@@ -20,6 +20,7 @@ use std::alloc::Allocator;
 pub fn make<A: Allocator + Copy>(alloc: A, tree: &mut Tree<A>, edit: &Edit<A>) -> Result<(), Stop>
     ensures made { OnOk result (IsMade tree.old.nodes (operation_of edit.now) tree.new.nodes) }
     ensures told { IfErr result (IsToldBy tree.old.nodes (operation_of edit.now)) }
+    ensures written { (o : Options) → OnOk result (WriteAll o tree.old.nodes (operation_of edit.now ∷ []) tree.new.nodes) }
     ensures kept { OnErr result (Keeps (length tree.old.nodes) tree.old.nodes tree.new.nodes) }
     ensures document { OnErr result (ordered_tree tree.new.nodes 0 ≡ ordered_tree tree.old.nodes 0) }
     ensures tree { IsTree tree.new.nodes }

@@ -1,4 +1,4 @@
-use Rattle.std.proofs.Common.{◌≡◌, ℕ, ◌<◌, length, filter, IfSome}
+use Rattle.std.proofs.Common.{◌≡◌, ◌<◌, length, filter, IfSome}
 use Rattle.std.specs.List.{slice_get}
 use Rattle.jsonc_tree.specs.Tree.{IsOver}
 use Rattle.jsonc_tree.specs.Order.{rest_at}
