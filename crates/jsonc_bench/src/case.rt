@@ -1,10 +1,11 @@
 //! Cases, read from their lines.
 
-use crate::edit::{Edit, read_edits};
+use crate::edit::read_edits;
 use crate::error::CaseError;
 use crate::escape::{unescaped, unescaped_text};
 use crate::lookup::{Lookup, read_lookups};
 use jsonc_parser::{CollectOptions, CommentCollectionStrategy, ParseOptions};
+use jsonc_run::Edit;
 use std::alloc::Global;
 
 /// What a case asks.
@@ -48,7 +49,7 @@ pub enum Question {
     Edit {
         options: ParseOptions,
         text: String,
-        edits: Vec<Edit>,
+        edits: Vec<Edit<Global>>,
     },
     /// The string at the front of a text.
     Decode {

@@ -3,23 +3,12 @@
 use crate::error::CaseError;
 use crate::escape::unescaped_text;
 use jsonc_input::CstInputValue;
+use jsonc_run::Edit;
 use std::alloc::Global;
-
-/// An edit of a document.
-#[derive(Drop)]
-pub enum Edit {
-    /// The value at a path gives way to another.
-    Replace {
-        path: Vec<usize>,
-        value: CstInputValue<Global>,
-    },
-    /// The comment of this number leaves, counted from 0 as they are printed.
-    RemoveComment(usize),
-}
 
 /// The edits that a field lists, as `Replace /0 [1 #2 ; RemoveComment 0`, or none where one is of a
 /// kind that is not built.
-pub fn read_edits(alloc: Global, field: &str) -> Result<Option<Vec<Edit>>, CaseError> {
+pub fn read_edits(alloc: Global, field: &str) -> Result<Option<Vec<Edit<Global>>>, CaseError> {
     let mut edits = Vec::new(alloc);
     if field.is_empty() {
         return Ok(Some(edits));
@@ -33,13 +22,13 @@ pub fn read_edits(alloc: Global, field: &str) -> Result<Option<Vec<Edit>>, CaseE
     Ok(Some(edits))
 }
 
-fn read_edit(alloc: Global, edit: &str) -> Result<Option<Edit>, CaseError> {
+fn read_edit(alloc: Global, edit: &str) -> Result<Option<Edit<Global>>, CaseError> {
     let words: Vec<&str> = edit.split(' ').collect(alloc)?;
     match words.as_slice() {
-        ["Replace", path, value @ ..] => Ok(Some(Edit::Replace {
-            path: read_path(alloc, path)?,
-            value: read_value(alloc, value)?,
-        })),
+        ["Replace", path, value @ ..] => {
+            let path = read_path(alloc, path)?;
+            Ok(Some(Edit::Replace(path, read_value(alloc, value)?)))
+        }
         ["RemoveComment", number] => Ok(Some(Edit::RemoveComment(read_number(number)?))),
         _ => Ok(None),
     }

@@ -4,9 +4,10 @@ use crate::awaited::Awaited;
 use crate::calls::Heap;
 use crate::lines::tree_of;
 use crate::outcome::Outcome;
-use jsonc_edit::{find, replace};
+use jsonc_edit::find;
 use jsonc_input::CstInputValue;
 use jsonc_lay_out::{Layout, lay_out_property};
+use jsonc_run::{Edit, Stop, run};
 use jsonc_to_input::to_value;
 use jsonc_tree::{CstNewlineKind, Tree};
 use std::fmt::Write;
@@ -14,10 +15,10 @@ use std::fmt::Write;
 /// An object with two values of one name, of which the last one counts, at the first one's place.
 const TWICE: &str = "{\"k\": 1, \"m\": [7, [8]], 'k': {c: [2],}} // end";
 
-/// An object whose array has a comma after its last element.
-const SPACED: &str = "{\n  \"a\": [1,\n 2,]\n}";
+/// An object whose array has a comma after its last element, and a comment behind it.
+const SPACED: &str = "{\n  \"a\": [1,\n 2,] // gone\n}";
 
-/// The same where that object has taken the array's place.
+/// The same where that object has taken the array's place, and the comment has left.
 const REPLACED: &str =
     "{\n  \"a\": {\n    \"k\": {\n      \"c\": [2],\n    },\n    \"m\": [\n      7,\n      [8],\n    ],\n  }\n}";
 
@@ -39,15 +40,28 @@ fn taken<'h>(
     Ok(value)
 }
 
-fn is_moved(heap: Heap<'_>) -> Result<bool, Outcome> {
+/// Edits that put a value into the place of the first property's, and take the first comment out.
+fn edits<'h>(
+    heap: Heap<'h>,
+    value: CstInputValue<Heap<'h>>,
+) -> Result<Vec<Edit<Heap<'h>>, Heap<'h>>, Outcome> {
+    let mut path = Vec::new(heap);
+    path.push(0usize)?;
+    let mut edits = Vec::new(heap);
+    edits.push(Edit::Replace(path, value))?;
+    edits.push(Edit::RemoveComment(0))?;
+    Ok(edits)
+}
+
+fn is_edited(heap: Heap<'_>) -> Result<bool, Outcome> {
     let value = taken(heap, &tree_of(heap, TWICE)?, &[])?;
     let mut tree = tree_of(heap, SPACED)?;
-    let Some(node) = find(&tree, &[0]) else {
-        return Err(Outcome::Other);
-    };
-    let Some(_) = replace(heap, &mut tree, node, &value)? else {
-        return Err(Outcome::Other);
-    };
+    let edits = edits(heap, value)?;
+    match run(heap, &mut tree, edits.as_slice()) {
+        Ok(()) => {}
+        Err((0, Stop::OutOfMemory)) => return Err(Outcome::Wanted),
+        Err(_) => return Err(Outcome::Other),
+    }
     let text = tree.to_string(heap)?;
     Ok(text.as_str() == REPLACED && find(&tree, &[0, 2]) == None)
 }
@@ -73,8 +87,8 @@ fn is_property_laid_out(heap: Heap<'_>) -> Result<bool, Outcome> {
     Ok(is_printed && printed.rest.is_empty())
 }
 
-/// A value takes the place of another, and one is laid out with a name.
+/// A list of edits is made, and a property laid out.
 pub fn edited(heap: Heap<'_>) -> Result<Outcome, Outcome> {
-    let is_moved = is_moved(heap)?;
-    Ok(Outcome::of(is_property_laid_out(heap)? && is_moved))
+    let is_edited = is_edited(heap)?;
+    Ok(Outcome::of(is_property_laid_out(heap)? && is_edited))
 }

@@ -1,0 +1,54 @@
+-- Edits that were made: one more of them, and where none can be.
+use Rattle.std.proofs.Common.{◌≡◌, ◌<◌, ◌+◌, ℕ, zero, suc, List, Option, [], ◌∷◌, ◌++◌, Some, None, IfSome, IfNone, map, take, length, get_or, sym, ap, subst, ◌∙◌, arith}
+use Rattle.std.specs.List.{slice_get}
+use Rattle.jsonc_tree.specs.Tree.{Node, IsTree, parent_at}
+use Rattle.jsonc_edit.specs.Paths.{FindsExactly, IsAt, LeadsTo, StepsTo, itself, step}
+use Rattle.jsonc_edit.proofs.Uniqueness.{element_parent}
+use Rattle.jsonc_run.specs.Edits.{Operation, AreMade, none_made, first_made, IsMade}
+
+-- what a path leads to has a parent
+module _ (ns : List Node) (tree : IsTree ns) where
+  leads_to_child : (n v c : ℕ) (path : List ℕ) → parent_at ns v ≡ Some c → LeadsTo ns n v path → (d : ℕ) × (parent_at ns n ≡ Some d)
+  leads_to_child n _ c _ said itself = (c, said)
+  leads_to_child n v c _ said (step {i = i} {q = q} {path = path} (StepsTo.in_array a e) rest) =
+      leads_to_child n q v path (element_parent ns tree v i q e) rest
+  leads_to_child n v c _ said (step {i = i} {q = q} {path = path} (StepsTo.in_object {r = r} a e h) rest) =
+      leads_to_child n q r path (element_parent ns tree r 1 q h.1) rest
+
+  pub not_alone : (path : List ℕ) (n : ℕ) → IsAt ns path n → parent_at ns n ≡ None → ⊥
+  not_alone path n (v, e, leads) none =
+      let child = leads_to_child n v 0 path (element_parent ns tree 0 0 v e) leads in
+      let wrong : None ≡ Some child.0 = sym none ∙ child.1 in
+      cc
+
+-- one more edit
+pub made_more : {old now new : List Node} (es : List Operation) (e : Operation) → AreMade old es now → IsMade now e new → IsTree new → AreMade old (es ++ e ∷ []) new
+made_more [] e none_made made tree = first_made made tree none_made
+made_more (d ∷ ds) e (first_made first t rest) made tree = first_made first t (made_more ds e rest made tree)
+
+-- the next of a list, as it is seen
+module _ {X Y : Type 0} (f : X → Y) where
+  pub next_seen : (xs : List X) (i : ℕ) (x : X) → i < length xs → x ≡ get_or xs i x → slice_get (map f xs) i ≡ Some (f x)
+  next_seen [] i x h e = absurd (omega (arith, h))
+  next_seen (y ∷ ys) zero x h e = ap (λ z. Some (f z)) (sym e)
+  next_seen (y ∷ ys) (suc i) x h e = next_seen ys i x (omega (arith, h)) e
+
+  taken_next : (xs : List X) (i : ℕ) (x : X) → i < length xs → x ≡ get_or xs i x → take (suc i) (map f xs) ≡ take i (map f xs) ++ f x ∷ []
+  taken_next [] i x h e = absurd (omega (arith, h))
+  taken_next (y ∷ ys) zero x h e = ap (λ z. f z ∷ []) (sym e)
+  taken_next (y ∷ ys) (suc i) x h e = ap (λ l. f y ∷ l) (taken_next ys i x (omega (arith, h)) e)
+
+  pub taken_seen : (xs : List X) (i : ℕ) (x : X) → i < length xs → x ≡ get_or xs i x → take i (map f xs) ++ f x ∷ [] ≡ take (i + 1) (map f xs)
+  taken_seen xs i x h e =
+      let next : suc i ≡ i + 1 = omega arith in subst (λ n. take i (map f xs) ++ f x ∷ [] ≡ take n (map f xs)) next (sym (taken_next xs i x h e))
+
+-- what is not found is nowhere
+pub no_place : (found : Option ℕ) (R : ℕ → Type 0) → FindsExactly found R → ((n : ℕ) → found ≡ Some n → ⊥) → (n : ℕ) × R n → ⊥
+no_place found R finds none (n, h) = none n ((finds n).1 h)
+
+-- what is said of an answer, once it is known
+pub some_is : (r : Option ℕ) (P : ℕ → Type 0) (m : ℕ) → r ≡ Some m → IfSome r P → P m
+some_is r P m e h = subst (λ (q : Option ℕ). IfSome q P) e h
+
+pub none_is : (r : Option ℕ) (P : Type 0) → r ≡ None → IfNone r P → P
+none_is r P e h = subst (λ (q : Option ℕ). IfNone q P) e h

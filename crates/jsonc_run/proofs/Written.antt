@@ -1,0 +1,87 @@
+-- What edits that were made in order make of a document.
+use Rattle.std.proofs.Common.{Result, Ok, Err, OnOk, ◌≡◌, suc, false, List, [], ◌∷◌, Option, Some, sym, subst, arith}
+use Rattle.std.specs.List.{All}
+use Rattle.jsonc_text.specs.Options.{Options}
+use Rattle.jsonc_text.specs.Plain.{Plain}
+use Rattle.jsonc_text.specs.Grammar.{IsDocument}
+use Rattle.jsonc_text.proofs.UniqueValues.{document_unique}
+use Rattle.jsonc_tree.specs.OrderedTree.{OrderedTree, ordered_tree}
+use Rattle.jsonc_tree.specs.Tree.{Node, IsTree}
+use Rattle.jsonc_layout.specs.Shape.{printed_text}
+use Rattle.jsonc_layout.proofs.ShapeValues.{document_printed}
+use Rattle.jsonc_sound.specs.Sound.{Sound}
+use Rattle.jsonc_sound.proofs.LeavesAround.{document_differs}
+use Rattle.jsonc_sound.proofs.TriviaLeaves as trivia
+use Rattle.jsonc_sound.proofs.TriviaLines.{stays_sound_without}
+use Rattle.jsonc_sound.proofs.TriviaValues.{document_kept}
+use Rattle.jsonc_edit.specs.Changes.{top_at}
+use Rattle.jsonc_edit.specs.Reading.{layout_for}
+use Rattle.jsonc_edit.specs.Comments.{leaves_gone}
+use Rattle.jsonc_edit.proofs.OneValue.{document_once}
+use Rattle.jsonc_edit.proofs.Removal.{takes_trivia}
+use Rattle.jsonc_edit.proofs.ReplacedValues.{replaced_written}
+use Rattle.jsonc_run.specs.Edits.{Operation, replace, remove_comment, AreMade, none_made, first_made, IsMade}
+use Rattle.jsonc_run.specs.Written.{MayBeMade, IsChanged, by_value, by_comment, AreChanged, unchanged, first_changed, StayAround, AllStayAround, all_stay, first_stay, AreWritten, WriteAll}
+
+stays_around : (old new : List Node) (e : Operation) → IsMade old e new → StayAround (ordered_tree old 0) e (ordered_tree new 0)
+stays_around old new (replace path v) (n, m, at, r) =
+    let changed = r.2.changed path at in (top_at old n, layout_for old r.0 n, changed, document_differs changed)
+stays_around old new (remove_comment number) (n, at, r) =
+    let t = takes_trivia old new n r in (leaves_gone r, t.trivia, t.ends, trivia.document_differs (leaves_gone r) [] t.trivia tt t.changed)
+
+-- under all options the leaves around stay
+pub stay_around : (old new : List Node) (es : List Operation) → AreMade old es new → AllStayAround (ordered_tree old 0) es (ordered_tree new 0)
+stay_around old _ [] none_made = all_stay
+stay_around old new (e ∷ es) (first_made {now = now} made tree rest) = first_stay (stays_around old now e made) (stay_around now new es rest)
+
+-- one edit is written
+record IsWritten (o : Options) (e : Operation) (old new : OrderedTree) : Type 0 where
+  before : Option Plain
+  after : Option Plain
+  old_text : IsDocument o (printed_text old) before
+  new_text : IsDocument o (printed_text new) after
+  changed : IsChanged before e after
+  sound : Sound o new
+
+module _ (o : Options) (commas : o.missing_commas ≡ false) where
+  -- where no comma may be missing
+  is_written : (old new : List Node) (e : Operation) → IsTree old → IsMade old e new → Sound o (ordered_tree old 0) → MayBeMade o e → IsWritten o e (ordered_tree old 0) (ordered_tree new 0)
+  is_written old new (replace path v) tree (n, m, at, r) s may =
+      let w = replaced_written o old new n m v tree r path commas s at may in
+      record { before = Some w.before; after = Some w.after; old_text = w.old_text; new_text = w.new_text; changed = by_value w.changed; sound = w.sound }
+  is_written old new (remove_comment number) tree (n, at, r) s may =
+      let t = takes_trivia old new n r in
+      let sound = stays_sound_without o (ordered_tree old 0) commas s (leaves_gone r) (ordered_tree new 0) t.changed t.trivia t.ends in
+      let was = document_printed o (ordered_tree old 0) s.shaped s.lines in
+      let now = document_printed o (ordered_tree new 0) sound.shaped sound.lines in
+      let kept = document_kept o (leaves_gone r) [] t.trivia tt was.0 t.changed was.2 in
+      let same : now.0 ≡ was.0 = document_once o (ordered_tree new 0) now.0 was.0 now.2 kept in
+      record { before = was.0; after = was.0; old_text = was.1; new_text = subst (IsDocument o (printed_text (ordered_tree new 0))) same now.1; changed = by_comment; sound = sound }
+
+  all_written : (old new : List Node) (es : List Operation) → IsTree old → AreMade old es new → Sound o (ordered_tree old 0) → All (MayBeMade o) es → AreWritten o es (ordered_tree old 0) (ordered_tree new 0)
+  all_written old _ [] tree none_made s may =
+      let known = document_printed o (ordered_tree old 0) s.shaped s.lines in
+      record { before = known.0; after = known.0; old_text = known.1; new_text = known.1; changed = unchanged; around = all_stay; sound = s }
+  all_written old new (e ∷ es) tree (first_made {now = now} made after rest) s may =
+      let first = is_written old now e tree made s (may 0 e (omega arith)) in
+      let others = all_written now new es after rest first.sound (λ k d h. may (suc k) d (omega (arith, h))) in
+      let same : others.before ≡ first.after = document_unique o (printed_text (ordered_tree now 0)) others.before first.after others.old_text first.new_text in
+      record {
+        before = first.before;
+        after = others.after;
+        old_text = first.old_text;
+        new_text = others.new_text;
+        changed = first_changed first.changed (subst (λ (w : Option Plain). AreChanged w es others.after) same others.changed);
+        around = first_stay (stays_around old now e made) others.around;
+        sound = others.sound;
+      }
+
+pub write_all : (o : Options) (old new : List Node) (es : List Operation) → IsTree old → AreMade old es new → WriteAll o old es new
+write_all o old new es tree made commas s may = all_written o commas old new es tree made s may
+
+-- so is one, where the answer says that it was made
+pub answer_written : {T E : Type 0} (o : Options) (old new : List Node) (made asked : Operation) → IsTree old → IsTree new → (r : Result T E) → asked ≡ made
+    → OnOk r (IsMade old made new) → OnOk r (WriteAll o old (asked ∷ []) new)
+answer_written o old new made asked tree after (Ok t) same is =
+    subst (λ (e : Operation). WriteAll o old (e ∷ []) new) (sym same) (write_all o old new (made ∷ []) tree (first_made is after none_made))
+answer_written o old new made asked tree after (Err x) same is = tt

@@ -1,0 +1,62 @@
+-- What edits ask for, that they are made in order, and why one is not made.
+use Rattle.std.specs.Prelude.{◌≡◌, ℕ, List, [], ◌∷◌, Option, Some, map, take, filter}
+use Rattle.std.specs.List.{slice_get}
+use Rattle.jsonc_text.specs.Plain.{Plain}
+use Rattle.jsonc_input.specs.Views.{plain}
+use Rattle.jsonc_tree.specs.OrderedTree.{ordered_tree}
+use Rattle.jsonc_tree.specs.Tree.{Node, IsTree}
+use Rattle.jsonc_tree.specs.Order.{in_order}
+use Rattle.jsonc_nodes.specs.Kinds.{is_comment_at}
+use Rattle.jsonc_edit.specs.Comments.{CommentRemoved}
+use Rattle.jsonc_edit.specs.Paths.{IsAt}
+use Rattle.jsonc_edit.specs.Reading.{IsReplaced}
+use Rattle.jsonc_run.specs.declared.edit.Edit.{Edit}
+use Rattle.jsonc_run.specs.declared.edit.Edit.TheVariants.{Replace, RemoveComment}
+use Rattle.jsonc_run.specs.declared.edit.Stop.{Stop}
+use Rattle.jsonc_run.specs.declared.edit.Stop.TheVariants.{OutOfMemory, NoSuchPlace}
+
+-- what an edit asks for: that the value at the path gives way to this one, or that the comment of this number leaves the document
+pub data Operation : Type 0 where
+  replace : List ℕ → Plain → Operation
+  remove_comment : ℕ → Operation
+
+module _ {A : Type 0} where
+  abbrev pub operation_of : Edit A → Operation
+  operation_of (Replace path value) = replace path.items (plain value)
+  operation_of (RemoveComment number) = remove_comment number
+
+  abbrev pub operations_of : List (Edit A) → List Operation
+  operations_of edits = map operation_of edits
+
+-- the comment of this number, counted from 0 in the order of the document
+abbrev pub comment_at : List Node → ℕ → Option ℕ
+comment_at ns number = slice_get (filter (is_comment_at ns) (in_order ns 0)) number
+
+-- the edit was made: the comment n of this number has left the document; or the node n, which stood at the path, has given way to m, which is the value, laid out as the old nodes tell
+abbrev pub IsMade : List Node → Operation → List Node → Type 0
+IsMade old (replace path v) new = (n m : ℕ) × IsAt old path n × IsReplaced old new n v m
+IsMade old (remove_comment number) new = (n : ℕ) × (comment_at old number ≡ Some n) × CommentRemoved old new n
+
+-- the edits were made in order, each in the tree that the one before it made
+pub data AreMade : List Node → List Operation → List Node → Type 0 where
+  none_made : {ns : List Node} → AreMade ns [] ns
+  first_made : {old now new : List Node} {e : Operation} {es : List Operation} → IsMade old e now → IsTree now → AreMade now es new → AreMade old (e ∷ es) new
+
+-- a node stands where the edit is to be made, or there is the comment
+abbrev pub HasItsPlace : List Node → Operation → Type 0
+HasItsPlace ns (replace path v) = (n : ℕ) × IsAt ns path n
+HasItsPlace ns (remove_comment number) = (n : ℕ) × (comment_at ns number ≡ Some n)
+
+-- why the edit was not made: there was its place, but no memory, or no node stands there
+abbrev pub IsToldBy : List Node → Operation → Stop → Type 0
+IsToldBy ns e OutOfMemory = HasItsPlace ns e
+IsToldBy ns e NoSuchPlace = ¬ (HasItsPlace ns e)
+
+-- The first k edits were made, each whole; there is one more, which was not made for this reason; and the document is as those k left it.
+pub record StopsAt (old : List Node) (es : List Operation) (k : ℕ) (stop : Stop) (new : List Node) : Type 0 where
+  pub now : List Node
+  pub made : AreMade old (take k es) now
+  pub next : Operation
+  pub is_next : slice_get es k ≡ Some next
+  pub told : IsToldBy now next stop
+  pub document : ordered_tree new 0 ≡ ordered_tree now 0

@@ -1,0 +1,61 @@
+-- What edits that were made in order make of a document: of its value, its leaves and its text.
+use Rattle.std.specs.Prelude.{◌≡◌, ℕ, false, List, [], ◌∷◌, Option, Some}
+use Rattle.std.specs.List.{All}
+use Rattle.jsonc_text.specs.Options.{Options}
+use Rattle.jsonc_text.specs.Plain.{Plain}
+use Rattle.jsonc_text.specs.Grammar.{IsDocument}
+use Rattle.jsonc_tree.specs.Content.{Content}
+use Rattle.jsonc_tree.specs.Tree.{Node}
+use Rattle.jsonc_tree.specs.OrderedTree.{OrderedTree, leaves, ordered_tree}
+use Rattle.jsonc_layout.specs.Shape.{printed_text}
+use Rattle.jsonc_sound.specs.Changes.{Changed}
+use Rattle.jsonc_sound.specs.Laws.{DiffersIn}
+use Rattle.jsonc_sound.specs.Sound.{Sound}
+use Rattle.jsonc_sound.specs.TreeChanges.{Top, leaves_of, DocumentChanged}
+use Rattle.jsonc_sound.specs.TriviaChanges.{AreTrivia, EndsInComment}
+use Rattle.jsonc_lay_out.specs.Layout.{Layout}
+use Rattle.jsonc_edit.specs.Replacing.{laid_top}
+use Rattle.jsonc_edit.specs.Writing.{IsWritable}
+use Rattle.jsonc_run.specs.Edits.{Operation, replace, remove_comment}
+
+-- documents of these options can hold what the edit writes
+abbrev pub MayBeMade : Options → Operation → Type 0
+MayBeMade o (replace path v) = IsWritable o v
+MayBeMade o (remove_comment number) = Unit {0}
+
+-- the edit makes the second value of the first, if there is one: this is the first, but that at the path the new value stands, or the first itself without a comment
+pub data IsChanged : Option Plain → Operation → Option Plain → Type 0 where
+  by_value : {given_up v x y : Plain} {path : List ℕ} → Changed given_up v path x y → IsChanged (Some x) (replace path v) (Some y)
+  by_comment : {w : Option Plain} {number : ℕ} → IsChanged w (remove_comment number) w
+
+-- the edits, one after another, make the second value of the first
+pub data AreChanged : Option Plain → List Operation → Option Plain → Type 0 where
+  unchanged : {w : Option Plain} → AreChanged w [] w
+  first_changed : {w x y : Option Plain} {e : Operation} {es : List Operation} → IsChanged w e x → AreChanged x es y → AreChanged w (e ∷ es) y
+
+-- of the leaves of t those of the value at the path have given way to those of the new value, in some layout, or trivia that ends in a comment has left; all leaves before and after stay, comments among them
+abbrev pub StayAround : OrderedTree → Operation → OrderedTree → Type 0
+StayAround t (replace path v) u =
+    (was : Top) × (layout : Layout) × DocumentChanged was (laid_top layout v) path t u × DiffersIn (leaves_of was) (leaves_of (laid_top layout v)) (leaves t) (leaves u)
+StayAround t (remove_comment number) u = (gone : List Content) × AreTrivia gone × EndsInComment gone × DiffersIn gone [] (leaves t) (leaves u)
+
+-- so it is for each of the edits, one after another
+pub data AllStayAround : OrderedTree → List Operation → OrderedTree → Type 0 where
+  all_stay : {t : OrderedTree} → AllStayAround t [] t
+  first_stay : {t s u : OrderedTree} {e : Operation} {es : List Operation} → StayAround t e s → AllStayAround s es u → AllStayAround t (e ∷ es) u
+
+-- The edits are written: the old text is a document, the new text is one, and its value is what the edits, one after another, make of the old one's. All
+-- leaves around what was replaced stay. The new document is sound, so it may be edited again.
+pub record AreWritten (o : Options) (es : List Operation) (old new : OrderedTree) : Type 0 where
+  pub before : Option Plain
+  pub after : Option Plain
+  pub old_text : IsDocument o (printed_text old) before
+  pub new_text : IsDocument o (printed_text new) after
+  pub changed : AreChanged before es after
+  pub around : AllStayAround old es new
+  pub sound : Sound o new
+
+-- if no comma may be missing, the old document is sound, and what the edits write may be written, then they are written
+abbrev pub WriteAll : Options → List Node → List Operation → List Node → Type 0
+WriteAll o old es new =
+    o.missing_commas ≡ false → Sound o (ordered_tree old 0) → All (MayBeMade o) es → AreWritten o es (ordered_tree old 0) (ordered_tree new 0)

@@ -1,0 +1,23 @@
+//! What an edit asks for, and why one is not made.
+
+use jsonc_input::CstInputValue;
+use std::alloc::Allocator;
+
+/// An edit of a document.
+#[derive(Drop)]
+pub enum Edit<A: Allocator> {
+    /// The value at a path gives way to another, laid out as the document tells. Each step of the path
+    /// is a place among the elements of an array or the properties of an object.
+    Replace(Vec<usize, A>, CstInputValue<A>),
+    /// The comment of this number, counted from 0 in the order of the document, leaves it. A line comment
+    /// takes along the whitespace and the line end before it.
+    RemoveComment(usize),
+}
+
+/// Why an edit was not made.
+#[derive(Clone, Copy, Debug, PartialEq, Eq)]
+pub enum Stop {
+    OutOfMemory,
+    /// The edit's path leads to nothing, or there is no comment of its number.
+    NoSuchPlace,
+}

@@ -1,0 +1,21 @@
+//! Laws of lists of edits: each is the contract of a function that does nothing.
+ghost use Rattle.std.specs.Prelude.{◌≡◌, List};
+ghost use Rattle.jsonc_text.specs.Options.{Options};
+ghost use Rattle.jsonc_tree.specs.OrderedTree.{ordered_tree};
+ghost use Rattle.jsonc_tree.specs.Tree.{IsTree, Node};
+ghost use Rattle.jsonc_run.specs.Edits.{AreMade, Operation};
+ghost use Rattle.jsonc_run.specs.Written.{AllStayAround, WriteAll};
+
+/// What a list of edits makes of a text: in a sound document edits have been made in order. Where no
+/// comma may be missing, and the numbers of the values that they write are numbers, the text is a
+/// document again. Its value is what the edits, one after another, make of the old one. And the
+/// document is sound again.
+pub fn edits_are_written()
+    ensures { (o : Options) (old new : List Node) (es : List Operation) → IsTree old → AreMade old es new → WriteAll o old es new }
+{}
+
+/// Under all options each edit in turn leaves all leaves around what it replaces or takes out as they
+/// were.
+pub fn edits_keep_the_leaves_around()
+    ensures { (old new : List Node) (es : List Operation) → AreMade old es new → AllStayAround (ordered_tree old 0) es (ordered_tree new 0) }
+{}

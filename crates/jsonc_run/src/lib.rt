@@ -1,0 +1,19 @@
+//! Lists of edits, made in order.
+//!
+//! [`make`] makes one edit, and [`run`] a list of them: each on what the ones before it have made
+//! (`specs/Edits.antt`). An edit lets the value at a path give way to another, or takes the comment of
+//! a number out ([`find_comment`]). One that is refused leaves the document as the ones before it left
+//! it.
+//! In a sound document where no comma may be missing, the text that a list of edits makes is a document
+//! again, whose value is what the same edits make of the old one's, and which is sound
+//! (`specs/Written.antt`).
+#![tactic(auto)]
+
+mod comments;
+mod edit;
+pub mod laws;
+mod making;
+
+pub use comments::find_comment;
+pub use edit::{Edit, Stop};
+pub use making::{make, run};

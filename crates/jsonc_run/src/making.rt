@@ -1,0 +1,98 @@
+//! Edits that are made.
+
+ghost use Rattle.std.specs.Prelude.{◌≡◌, ◌∷◌, [], IfErr, OnErr, OnOk, length, take};
+ghost use Rattle.jsonc_text.specs.Options.{Options};
+ghost use Rattle.jsonc_tree.specs.Building.{Keeps};
+ghost use Rattle.jsonc_tree.specs.OrderedTree.{ordered_tree};
+ghost use Rattle.jsonc_tree.specs.Tree.{IsTree};
+ghost use Rattle.jsonc_input.specs.Views.{plain};
+ghost use Rattle.jsonc_run.specs.Edits.{operation_of, operations_of, replace as asked, remove_comment as asked_without, AreMade, IsMade, IsToldBy, StopsAt};
+ghost use Rattle.jsonc_run.specs.Written.{WriteAll};
+
+use crate::comments::find_comment;
+use crate::edit::{Edit, Stop};
+use jsonc_edit::{find, remove_comment, replace};
+use jsonc_input::CstInputValue;
+use jsonc_tree::Tree;
+use std::alloc::Allocator;
+
+/// Makes an edit. Where it is refused, the document and every node that was there are as they were.
+pub fn make<A: Allocator + Copy>(alloc: A, tree: &mut Tree<A>, edit: &Edit<A>) -> Result<(), Stop>
+    ensures made { OnOk result (IsMade tree.old.nodes (operation_of edit.now) tree.new.nodes) }
+    ensures told { IfErr result (IsToldBy tree.old.nodes (operation_of edit.now)) }
+    ensures written { (o : Options) → OnOk result (WriteAll o tree.old.nodes (operation_of edit.now ∷ []) tree.new.nodes) }
+    ensures kept { OnErr result (Keeps (length tree.old.nodes) tree.old.nodes tree.new.nodes) }
+    ensures document { OnErr result (ordered_tree tree.new.nodes 0 ≡ ordered_tree tree.old.nodes 0) }
+    ensures tree { IsTree tree.new.nodes }
+{
+    let _ = tree.len();
+    match edit {
+        Edit::Replace(path, value) => replace_at(alloc, tree, path, value),
+        Edit::RemoveComment(number) => remove_at(tree, *number),
+    }
+}
+
+// Lets the value at a path give way to another.
+fn replace_at<A: Allocator + Copy>(
+    alloc: A,
+    tree: &mut Tree<A>,
+    path: &[usize],
+    value: &CstInputValue<A>,
+) -> Result<(), Stop>
+    ensures made { OnOk result (IsMade tree.old.nodes (asked path.now (plain value.now)) tree.new.nodes) }
+    ensures told { IfErr result (IsToldBy tree.old.nodes (asked path.now (plain value.now))) }
+    ensures kept { OnErr result (Keeps (length tree.old.nodes) tree.old.nodes tree.new.nodes) }
+    ensures document { OnErr result (ordered_tree tree.new.nodes 0 ≡ ordered_tree tree.old.nodes 0) }
+    ensures tree { IsTree tree.new.nodes }
+{
+    let _ = tree.len();
+    let Some(node) = find(tree, path) else {
+        return Err(Stop::NoSuchPlace);
+    };
+    match replace(alloc, tree, node, value) {
+        Ok(Some(_)) => Ok(()),
+        // What stands at a path has a parent.
+        Ok(None) => Err(Stop::NoSuchPlace),
+        Err(_) => Err(Stop::OutOfMemory),
+    }
+}
+
+// Takes the comment of a number out.
+fn remove_at<A: Allocator>(tree: &mut Tree<A>, number: usize) -> Result<(), Stop>
+    ensures made { OnOk result (IsMade tree.old.nodes (asked_without number) tree.new.nodes) }
+    ensures told { IfErr result (IsToldBy tree.old.nodes (asked_without number)) }
+    ensures untouched { OnErr result (tree.new.nodes ≡ tree.old.nodes) }
+    ensures tree { IsTree tree.new.nodes }
+{
+    let _ = tree.len();
+    let Some(comment) = find_comment(tree, number) else {
+        return Err(Stop::NoSuchPlace);
+    };
+    remove_comment(tree, comment);
+    Ok(())
+}
+
+/// Makes edits in order, each in the document that the one before it made. Where one is refused, the
+/// answer is how many were made and why the next was not, and the document is as they left it.
+///
+/// Where the document was sound and no comma may be missing, the text is a document again, whose value
+/// is what the edits that were made make of the old one's.
+pub fn run<A: Allocator + Copy>(
+    alloc: A,
+    tree: &mut Tree<A>,
+    edits: &[Edit<A>],
+) -> Result<(), (usize, Stop)>
+    ensures made { OnOk result (AreMade tree.old.nodes (operations_of edits.now) tree.new.nodes) }
+    ensures stopped { IfErr result (λ e. StopsAt tree.old.nodes (operations_of edits.now) e.0 e.1 tree.new.nodes) }
+    ensures written { (o : Options) → OnOk result (WriteAll o tree.old.nodes (operations_of edits.now) tree.new.nodes) }
+    ensures written_so_far { (o : Options) → IfErr result (λ e. WriteAll o tree.old.nodes (take e.0 (operations_of edits.now)) tree.new.nodes) }
+    ensures tree { IsTree tree.new.nodes }
+{
+    let _ = tree.len();
+    for (count, edit) in edits.iter().enumerate() {
+        if let Err(stop) = make(alloc, tree, edit) {
+            return Err((count, stop));
+        }
+    }
+    Ok(())
+}
