@@ -32,7 +32,8 @@ module _ {A : Type 0} where
 abbrev pub comment_at : List Node → ℕ → Option ℕ
 comment_at ns number = slice_get (filter (is_comment_at ns) (in_order ns 0)) number
 
--- the edit was made: the comment n of this number has left the document; or the node n, which stood at the path, has given way to m, which is the value, laid out as the old nodes tell
+-- The edit was made: the node n, which stood at the path, has given way to m, which is the value, laid out as the old nodes tell; or n, the comment of this
+-- number, has left the document.
 abbrev pub IsMade : List Node → Operation → List Node → Type 0
 IsMade old (replace path v) new = (n m : ℕ) × IsAt old path n × IsReplaced old new n v m
 IsMade old (remove_comment number) new = (n : ℕ) × (comment_at old number ≡ Some n) × CommentRemoved old new n
@@ -47,9 +48,14 @@ abbrev pub HasItsPlace : List Node → Operation → Type 0
 HasItsPlace ns (replace path v) = (n : ℕ) × IsAt ns path n
 HasItsPlace ns (remove_comment number) = (n : ℕ) × (comment_at ns number ≡ Some n)
 
--- why the edit was not made: there was its place, but no memory, or no node stands there
+-- memory may be wanted for a new value, where a node stands at its path; a comment leaves without
+abbrev pub MayWantMemory : List Node → Operation → Type 0
+MayWantMemory ns (replace path v) = (n : ℕ) × IsAt ns path n
+MayWantMemory ns (remove_comment number) = ⊥
+
+-- why the edit was not made: memory was wanted, or it has no place
 abbrev pub IsToldBy : List Node → Operation → Stop → Type 0
-IsToldBy ns e OutOfMemory = HasItsPlace ns e
+IsToldBy ns e OutOfMemory = MayWantMemory ns e
 IsToldBy ns e NoSuchPlace = ¬ (HasItsPlace ns e)
 
 -- The first k edits were made, each whole; there is one more, which was not made for this reason; and the document is as those k left it.

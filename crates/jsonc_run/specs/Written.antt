@@ -23,7 +23,8 @@ abbrev pub MayBeMade : Options → Operation → Type 0
 MayBeMade o (replace path v) = IsWritable o v
 MayBeMade o (remove_comment number) = Unit {0}
 
--- the edit makes the second value of the first, if there is one: this is the first, but that at the path the new value stands, or the first itself without a comment
+-- The edit makes the second value of the first: where another value is written, this is the first, but that at the path the new value stands; where a
+-- comment leaves, it is the first, if there is one.
 pub data IsChanged : Option Plain → Operation → Option Plain → Type 0 where
   by_value : {given_up v x y : Plain} {path : List ℕ} → Changed given_up v path x y → IsChanged (Some x) (replace path v) (Some y)
   by_comment : {w : Option Plain} {number : ℕ} → IsChanged w (remove_comment number) w
@@ -33,10 +34,12 @@ pub data AreChanged : Option Plain → List Operation → Option Plain → Type 
   unchanged : {w : Option Plain} → AreChanged w [] w
   first_changed : {w x y : Option Plain} {e : Operation} {es : List Operation} → IsChanged w e x → AreChanged x es y → AreChanged w (e ∷ es) y
 
--- of the leaves of t those of the value at the path have given way to those of the new value, in some layout, or trivia that ends in a comment has left; all leaves before and after stay, comments among them
+-- Of the leaves of t those of the value at the path have given way to those of the new value, in some layout, or trivia that ends in a comment has left. All
+-- leaves before and after stay, comments among them.
 abbrev pub StayAround : OrderedTree → Operation → OrderedTree → Type 0
 StayAround t (replace path v) u =
-    (was : Top) × (layout : Layout) × DocumentChanged was (laid_top layout v) path t u × DiffersIn (leaves_of was) (leaves_of (laid_top layout v)) (leaves t) (leaves u)
+    (was : Top) × (layout : Layout) × DocumentChanged was (laid_top layout v) path t u
+    × DiffersIn (leaves_of was) (leaves_of (laid_top layout v)) (leaves t) (leaves u)
 StayAround t (remove_comment number) u = (gone : List Content) × AreTrivia gone × EndsInComment gone × DiffersIn gone [] (leaves t) (leaves u)
 
 -- so it is for each of the edits, one after another
