@@ -1,7 +1,7 @@
 //! What edits make of a document.
 use crate::escape::Escaped;
 use crate::show::push_fault;
-use jsonc_layout::build;
+use jsonc_build::build;
 use jsonc_parser::errors::ParseError;
 use jsonc_parser::{CollectOptions, ParseOptions, parse_to_ast};
 use jsonc_run::{Edit, Stop, run};

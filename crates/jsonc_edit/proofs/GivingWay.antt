@@ -12,8 +12,8 @@ use Rattle.jsonc_tree.proofs.Order.{parent_there}
 use Rattle.jsonc_tree.proofs.Splicing.{in_at, out_from}
 use Rattle.jsonc_tree.proofs.Appending.{CanJoin-one}
 use Rattle.jsonc_sound.specs.TreeChanges.{Top, IsElement, DocumentChanged}
-use Rattle.jsonc_lay_out.specs.Layout.{Layout}
-use Rattle.jsonc_lay_out.specs.Laid.{laid}
+use Rattle.jsonc_from_input.specs.Layout.{Layout}
+use Rattle.jsonc_from_input.specs.Laid.{laid}
 use Rattle.jsonc_tree.specs.OrderedTree.{OrderedTree, ordered_tree}
 use Rattle.jsonc_edit.specs.Changes.{top_at, ChangesAt, Replaces}
 use Rattle.jsonc_edit.specs.Replacing.{laid_top, GivesWay}

@@ -8,10 +8,10 @@ use Rattle.jsonc_tree.specs.Tree.{Node, parent_at, IsTree, IsOver}
 use Rattle.jsonc_tree.specs.Values as values
 use Rattle.jsonc_tree.specs.Values.{HasNoValue, DocumentValueOf}
 use Rattle.jsonc_tree.proofs.Over.{over_up}
-use Rattle.jsonc_layout.specs.Shape.{PrintsDocument, printed_text}
-use Rattle.jsonc_layout.proofs.ShapeValues.{document_printed}
-use Rattle.jsonc_lay_out.specs.Layout.{Layout}
-use Rattle.jsonc_lay_out.proofs.Meanings.{laid_value}
+use Rattle.jsonc_build.specs.Shape.{PrintsDocument, printed_text}
+use Rattle.jsonc_build.proofs.ShapeValues.{document_printed}
+use Rattle.jsonc_from_input.specs.Layout.{Layout}
+use Rattle.jsonc_from_input.proofs.Meanings.{laid_value}
 use Rattle.jsonc_sound.specs.Sound.{Sound, IsNewValue}
 use Rattle.jsonc_sound.specs.TreeChanges.{Top, ElementChanged, DocumentChanged, in_root, leaves_of}
 use Rattle.jsonc_sound.specs.Laws.{DiffersIn}

@@ -8,16 +8,16 @@ use Rattle.jsonc_text.specs.Numbers.{Number, NumberLit}
 use Rattle.jsonc_text.specs.Strings.{IsString}
 use Rattle.jsonc_text.specs.Plain.{Plain, Items, no_items, item, Members, no_members, member}
 use Rattle.jsonc_tree.specs.Content.{Content}
-use Rattle.jsonc_layout.specs.Shape as shape
-use Rattle.jsonc_layout.specs.Shape.{IsLexemeBefore, IsLiteralBefore, ValueShaped, token_then}
+use Rattle.jsonc_build.specs.Shape as shape
+use Rattle.jsonc_build.specs.Shape.{IsLexemeBefore, IsLiteralBefore, ValueShaped, token_then}
 use Rattle.jsonc_input.specs.Numbers.{IsAlwaysNumber}
 use Rattle.jsonc_input.specs.Spelling.{spelled}
 use Rattle.jsonc_input.proofs.Spelled.{spelled_string}
-use Rattle.jsonc_lay_out.specs.Layout.{Layout, deeper}
-use Rattle.jsonc_lay_out.specs.Laid.{LaidNode, laid, laid_items, laid_members, laid_property, leaf, property_of, number_leaf, string_leaf, holds_filled}
-use Rattle.jsonc_lay_out.specs.Texts.{IsCharacters, IsOfTexts, AreOfTexts, AreNamedOfTexts}
-use Rattle.jsonc_lay_out.proofs.Meanings.{laid_value, laid_pair}
-use Rattle.jsonc_lay_out.proofs.SpelledTexts.{spelled_characters}
+use Rattle.jsonc_from_input.specs.Layout.{Layout, deeper}
+use Rattle.jsonc_from_input.specs.Laid.{LaidNode, laid, laid_items, laid_members, laid_property, leaf, property_of, number_leaf, string_leaf, holds_filled}
+use Rattle.jsonc_from_input.specs.Texts.{IsCharacters, IsOfTexts, AreOfTexts, AreNamedOfTexts}
+use Rattle.jsonc_from_input.proofs.Meanings.{laid_value, laid_pair}
+use Rattle.jsonc_from_input.proofs.SpelledTexts.{spelled_characters}
 use Rattle.jsonc_sound.specs.Sound.{IsNewValue}
 use Rattle.jsonc_sound.proofs.Followers.{value_ends}
 use Rattle.jsonc_edit.specs.Replacing.{laid_top}

@@ -8,12 +8,12 @@ use Rattle.jsonc_text.proofs.Steps.{many_append}
 use Rattle.jsonc_text.proofs.UniqueWords.{many_more}
 use Rattle.jsonc_tree.specs.Content.{Content, whitespace}
 use Rattle.jsonc_tree.specs.OrderedTree.{OrderedTree, none}
-use Rattle.jsonc_layout.specs.Leaves.{is_inner_blank}
-use Rattle.jsonc_layout.specs.Shape as shape
-use Rattle.jsonc_layout.specs.Shape.{IsTrivia, Trivia, Separated, Closed, ValueShaped, ElementsShaped, PropertiesShaped, PropertyShaped, token_then, printed_text}
-use Rattle.jsonc_layout.proofs.ShapeValues.{Mark, comma_mark, close_bracket_mark, close_brace_mark}
-use Rattle.jsonc_lay_out.specs.Layout.{Layout, deeper}
-use Rattle.jsonc_lay_out.specs.Laid.{LaidNode, on_one_line, on_lines, node_then, space_then, line_then, comma_if, closed, is_some_node}
+use Rattle.jsonc_build.specs.Leaves.{is_inner_blank}
+use Rattle.jsonc_build.specs.Shape as shape
+use Rattle.jsonc_build.specs.Shape.{IsTrivia, Trivia, Separated, Closed, ValueShaped, ElementsShaped, PropertiesShaped, PropertyShaped, token_then, printed_text}
+use Rattle.jsonc_build.proofs.ShapeValues.{Mark, comma_mark, close_bracket_mark, close_brace_mark}
+use Rattle.jsonc_from_input.specs.Layout.{Layout, deeper}
+use Rattle.jsonc_from_input.specs.Laid.{LaidNode, on_one_line, on_lines, node_then, space_then, line_then, comma_if, closed, is_some_node}
 use Rattle.jsonc_sound.specs.Followers.{ends_literals, EndsLiterals}
 use Rattle.jsonc_sound.proofs.Followers.{mark_next, closed_ends}
 use Rattle.jsonc_edit.specs.Writing.{IsIndent, FitsLayout}

@@ -6,13 +6,13 @@ use Rattle.jsonc_tree.specs.Content.{with_text}
 use Rattle.jsonc_tree.specs.Tree.{Node, content_at, parent_at, children_at, IsTree, IsOver}
 use Rattle.jsonc_tree.specs.OrderedTree.{OrderedTree, followed_by, ordered_tree, Shows}
 use Rattle.jsonc_tree.specs.Values.{DocumentValueOf}
-use Rattle.jsonc_layout.specs.Shape.{DocumentShaped}
+use Rattle.jsonc_build.specs.Shape.{DocumentShaped}
 use Rattle.jsonc_sound.specs.Sound.{Sound, HasValue, IsNewValue}
 use Rattle.jsonc_sound.specs.TreeChanges.{Top}
 use Rattle.jsonc_sound.specs.Laws.{HasChangedValue}
-use Rattle.jsonc_lay_out.specs.Layout.{Layout}
-use Rattle.jsonc_lay_out.specs.Laid.{laid_property}
-use Rattle.jsonc_lay_out.specs.Texts.{IsCharacters, IsOfTexts}
+use Rattle.jsonc_from_input.specs.Layout.{Layout}
+use Rattle.jsonc_from_input.specs.Laid.{laid_property}
+use Rattle.jsonc_from_input.specs.Texts.{IsCharacters, IsOfTexts}
 use Rattle.jsonc_edit.specs.Paths.{IsAt, Stands}
 use Rattle.jsonc_edit.specs.Changes.{row_below, top_at, ChangesAt, Replaces, Respliced, Rewritten}
 use Rattle.jsonc_edit.specs.Reading.{layout_for, IsReplaced}

@@ -4,7 +4,7 @@ use Rattle.jsonc_text.specs.Plain.{Plain}
 use Rattle.jsonc_tree.specs.Tree.{Node, content_at, parent_at}
 use Rattle.jsonc_lines.specs.Indents.{is_property, indents_at}
 use Rattle.jsonc_lines.specs.Breadth.{newline_kind_of, uses_trailing_commas_at}
-use Rattle.jsonc_lay_out.specs.Layout.{Layout}
+use Rattle.jsonc_from_input.specs.Layout.{Layout}
 use Rattle.jsonc_edit.specs.Replacing.{laid_top, GivesWay}
 
 -- the node whose containers tell whether trailing commas are used, for a child n of c: the value itself in a property, else the container

@@ -4,8 +4,8 @@ use Rattle.std.specs.List.{splice}
 use Rattle.jsonc_text.specs.Plain.{Plain}
 use Rattle.jsonc_tree.specs.Tree.{Node, content_at, parent_at, children_at, place_at}
 use Rattle.jsonc_sound.specs.TreeChanges.{Top}
-use Rattle.jsonc_lay_out.specs.Layout.{Layout}
-use Rattle.jsonc_lay_out.specs.Laid.{laid}
+use Rattle.jsonc_from_input.specs.Layout.{Layout}
+use Rattle.jsonc_from_input.specs.Laid.{laid}
 use Rattle.jsonc_edit.specs.Changes.{top_at, ChangesAt}
 
 -- the node that a value is laid out as

@@ -6,11 +6,11 @@ use Rattle.jsonc_text.specs.Numbers.{NumberLit}
 use Rattle.jsonc_text.specs.Plain.{Plain, Items, no_items, item, Members, no_members, member}
 use Rattle.jsonc_tree.specs.OrderedTree.{OrderedTree}
 use Rattle.jsonc_tree.specs.Values.{PropertyOf}
-use Rattle.jsonc_layout.specs.Leaves.{is_inner_blank}
-use Rattle.jsonc_layout.specs.Lines.{LinesEnd}
-use Rattle.jsonc_layout.specs.Shape.{IsText, PropertyShaped}
-use Rattle.jsonc_lay_out.specs.Layout.{Layout}
-use Rattle.jsonc_lay_out.specs.Texts.{IsOfTexts}
+use Rattle.jsonc_build.specs.Leaves.{is_inner_blank}
+use Rattle.jsonc_build.specs.Lines.{LinesEnd}
+use Rattle.jsonc_build.specs.Shape.{IsText, PropertyShaped}
+use Rattle.jsonc_from_input.specs.Layout.{Layout}
+use Rattle.jsonc_from_input.specs.Texts.{IsOfTexts}
 use Rattle.jsonc_sound.specs.Followers.{EndsLiterals}
 
 -- an indent: blanks within a line, or none

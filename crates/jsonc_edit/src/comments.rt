@@ -5,7 +5,7 @@ ghost use Rattle.jsonc_tree.specs.Changes.{Splices};
 ghost use Rattle.jsonc_tree.specs.Content.{Content};
 ghost use Rattle.jsonc_tree.specs.Stored.{content_of};
 ghost use Rattle.jsonc_tree.specs.Tree.{children_at, content_at, parent_at, place_at, IsTree};
-ghost use Rattle.jsonc_layout.specs.Lines.{is_line_comment};
+ghost use Rattle.jsonc_build.specs.Lines.{is_line_comment};
 ghost use Rattle.jsonc_edit.specs.Comments.{blanks_from, removed_from, newline_from, IsRemoved};
 
 use jsonc_nodes::{is_newline, is_whitespace};

@@ -7,7 +7,7 @@ ghost use Rattle.jsonc_tree.specs.OrderedTree.{OrderedTree, printed};
 ghost use Rattle.jsonc_tree.specs.Tree.{Node};
 ghost use Rattle.jsonc_input.specs.Numbers.{IsAlwaysNumber};
 ghost use Rattle.jsonc_input.specs.Views.{plain};
-ghost use Rattle.jsonc_lay_out.specs.Layout.{Layout};
+ghost use Rattle.jsonc_from_input.specs.Layout.{Layout};
 ghost use Rattle.jsonc_edit.specs.Laws.{AllStand, HasOneNode, HasOnePath, ShowsBelow};
 ghost use Rattle.jsonc_edit.specs.Laws.{ReplacesAtPath, KeepsReplacement};
 ghost use Rattle.jsonc_edit.specs.Laws.{ChangesOver, KeepsOthers, HasNewRow, HasNewText};

@@ -7,14 +7,14 @@ ghost use Rattle.jsonc_tree.specs.Changes.{CanJoin, Splices};
 ghost use Rattle.jsonc_tree.specs.OrderedTree.{ordered_tree};
 ghost use Rattle.jsonc_tree.specs.Tree.{parent_at, place_at, IsTree};
 ghost use Rattle.jsonc_input.specs.Views.{plain};
-ghost use Rattle.jsonc_lay_out.specs.Layout.{layout_of};
+ghost use Rattle.jsonc_from_input.specs.Layout.{layout_of};
 ghost use Rattle.jsonc_edit.specs.Reading.{IsReplaced};
 ghost use Rattle.jsonc_edit.specs.Replacing.{laid_top, GivesWay};
 ghost use Rattle.jsonc_edit.specs.Written.{Writes};
 
 use crate::reading::layout_for;
+use jsonc_from_input::{Layout, lay_out};
 use jsonc_input::CstInputValue;
-use jsonc_lay_out::{Layout, lay_out};
 use jsonc_tree::Tree;
 use std::alloc::{AllocError, Allocator};
 

@@ -7,8 +7,8 @@ use Rattle.jsonc_text.specs.Grammar.{IsDocument}
 use Rattle.jsonc_text.proofs.UniqueValues.{document_unique}
 use Rattle.jsonc_tree.specs.OrderedTree.{OrderedTree, ordered_tree}
 use Rattle.jsonc_tree.specs.Tree.{Node, IsTree}
-use Rattle.jsonc_layout.specs.Shape.{printed_text}
-use Rattle.jsonc_layout.proofs.ShapeValues.{document_printed}
+use Rattle.jsonc_build.specs.Shape.{printed_text}
+use Rattle.jsonc_build.proofs.ShapeValues.{document_printed}
 use Rattle.jsonc_sound.specs.Sound.{Sound}
 use Rattle.jsonc_sound.proofs.LeavesAround.{document_differs}
 use Rattle.jsonc_sound.proofs.TriviaLeaves as trivia

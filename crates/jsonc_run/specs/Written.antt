@@ -7,13 +7,13 @@ use Rattle.jsonc_text.specs.Grammar.{IsDocument}
 use Rattle.jsonc_tree.specs.Content.{Content}
 use Rattle.jsonc_tree.specs.Tree.{Node}
 use Rattle.jsonc_tree.specs.OrderedTree.{OrderedTree, leaves, ordered_tree}
-use Rattle.jsonc_layout.specs.Shape.{printed_text}
+use Rattle.jsonc_build.specs.Shape.{printed_text}
 use Rattle.jsonc_sound.specs.Changes.{Changed}
 use Rattle.jsonc_sound.specs.Laws.{DiffersIn}
 use Rattle.jsonc_sound.specs.Sound.{Sound}
 use Rattle.jsonc_sound.specs.TreeChanges.{Top, leaves_of, DocumentChanged}
 use Rattle.jsonc_sound.specs.TriviaChanges.{AreTrivia, EndsInComment}
-use Rattle.jsonc_lay_out.specs.Layout.{Layout}
+use Rattle.jsonc_from_input.specs.Layout.{Layout}
 use Rattle.jsonc_edit.specs.Replacing.{laid_top}
 use Rattle.jsonc_edit.specs.Writing.{IsWritable}
 use Rattle.jsonc_run.specs.Edits.{Operation, replace, remove_comment}

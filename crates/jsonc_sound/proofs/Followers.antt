@@ -14,11 +14,11 @@ use Rattle.jsonc_tree.specs.Content.{Content, text_of}
 use Rattle.jsonc_tree.specs.declared.node.CstNewlineKind.{CstNewlineKind}
 use Rattle.jsonc_tree.specs.declared.node.CstNewlineKind.TheVariants.{LineFeed, CarriageReturnLineFeed, CarriageReturn}
 use Rattle.jsonc_tree.specs.OrderedTree.{OrderedTree, none, more}
-use Rattle.jsonc_layout.specs.Leaves.{is_inner_blank}
-use Rattle.jsonc_layout.specs.Shape as shape
-use Rattle.jsonc_layout.specs.Shape.{IsTrivia, Trivia, IsLiteralBefore, IsNameBefore, ValueShaped, PropertyShaped, Separated, Closed, token_then, printed_text}
-use Rattle.jsonc_layout.proofs.ShapeTexts.{text_leaf, trivia_utf8}
-use Rattle.jsonc_layout.proofs.ShapeValues.{Mark, comma_mark, mark_text}
+use Rattle.jsonc_build.specs.Leaves.{is_inner_blank}
+use Rattle.jsonc_build.specs.Shape as shape
+use Rattle.jsonc_build.specs.Shape.{IsTrivia, Trivia, IsLiteralBefore, IsNameBefore, ValueShaped, PropertyShaped, Separated, Closed, token_then, printed_text}
+use Rattle.jsonc_build.proofs.ShapeTexts.{text_leaf, trivia_utf8}
+use Rattle.jsonc_build.proofs.ShapeValues.{Mark, comma_mark, mark_text}
 use Rattle.jsonc_sound.specs.Followers.{ends_literals, EndsLiterals}
 use Rattle.jsonc_sound.proofs.Characters.{ends_names, text_ends_names, goes_on_apart}
 use Rattle.jsonc_sound.proofs.NumberEnds.{EndsNames, alike_next, alike_ends, alike_names, may_follow_swapped}

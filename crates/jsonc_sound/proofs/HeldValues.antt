@@ -3,9 +3,9 @@ use Rattle.std.proofs.Common.{ℕ, ◌≡◌, subst, refl, Bool, true, false, Li
 use Rattle.jsonc_text.specs.Options.{Options}
 use Rattle.jsonc_tree.specs.Content.{Content}
 use Rattle.jsonc_tree.specs.OrderedTree.{OrderedTree, none, more}
-use Rattle.jsonc_layout.specs.Lines.{LinesEnd, DocumentLinesEnd}
-use Rattle.jsonc_layout.specs.Shape as shape
-use Rattle.jsonc_layout.specs.Shape.{ValueShaped, ElementsShaped, PropertiesShaped, PropertyShaped, DocumentShaped, token_then, printed_text}
+use Rattle.jsonc_build.specs.Lines.{LinesEnd, DocumentLinesEnd}
+use Rattle.jsonc_build.specs.Shape as shape
+use Rattle.jsonc_build.specs.Shape.{ValueShaped, ElementsShaped, PropertiesShaped, PropertyShaped, DocumentShaped, token_then, printed_text}
 use Rattle.jsonc_sound.specs.Sound.{Sound, IsValueBefore}
 use Rattle.jsonc_sound.specs.Rows as rows
 use Rattle.jsonc_sound.specs.Rows.{RowKind, opening, container_of, GoesOn, IsRow}

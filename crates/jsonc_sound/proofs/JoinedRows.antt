@@ -6,8 +6,8 @@ use Rattle.jsonc_tree.specs.Content.{Content, token}
 use Rattle.jsonc_tree.specs.OrderedTree.{OrderedTree, none, more, followed_by}
 use Rattle.jsonc_tree.specs.Values as values
 use Rattle.jsonc_tree.specs.Values.{ItemsOf, MembersOf}
-use Rattle.jsonc_layout.specs.Lines.{ends_line, LinesEnd}
-use Rattle.jsonc_layout.specs.Shape.{IsTrivia, token_then}
+use Rattle.jsonc_build.specs.Lines.{ends_line, LinesEnd}
+use Rattle.jsonc_build.specs.Shape.{IsTrivia, token_then}
 use Rattle.jsonc_sound.specs.Rows as rows
 use Rattle.jsonc_sound.specs.Rows.{RowKind, closing, IsPart, Last, may_begin, may_end, GoesOn, GoesTo}
 use Rattle.jsonc_sound.specs.RowLaws.{items_then, members_then, IsClosed}

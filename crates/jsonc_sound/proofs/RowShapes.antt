@@ -3,9 +3,9 @@ use Rattle.std.proofs.Common.{ℕ, ◌≡◌, ◌∙◌, ◌⊎◌, inl, inr, sy
 use Rattle.jsonc_text.specs.Options.{Options}
 use Rattle.jsonc_tree.specs.Content.{Content}
 use Rattle.jsonc_tree.specs.OrderedTree.{OrderedTree, none, more}
-use Rattle.jsonc_layout.specs.Shape as shape
-use Rattle.jsonc_layout.specs.Shape.{IsTrivia, Trivia, Separated, Closed, ValueShaped, ElementsShaped, PropertiesShaped, DocumentShaped, token_then, printed_text}
-use Rattle.jsonc_layout.proofs.ShapeValues.{close_bracket_mark, close_brace_mark}
+use Rattle.jsonc_build.specs.Shape as shape
+use Rattle.jsonc_build.specs.Shape.{IsTrivia, Trivia, Separated, Closed, ValueShaped, ElementsShaped, PropertiesShaped, DocumentShaped, token_then, printed_text}
+use Rattle.jsonc_build.proofs.ShapeValues.{close_bracket_mark, close_brace_mark}
 use Rattle.jsonc_sound.specs.Followers.{StandsInRows, PropertyStandsInRows}
 use Rattle.jsonc_sound.specs.Rows as rows
 use Rattle.jsonc_sound.specs.Rows.{RowKind, holder, closing, IsPart, Last, may_begin, may_end, GoesOn, IsRow, RootGoesOn, IsRootWithRow}

@@ -4,9 +4,9 @@ use Rattle.jsonc_text.specs.Options.{Options}
 use Rattle.jsonc_text.specs.Text.{next}
 use Rattle.jsonc_tree.specs.Content.{Content}
 use Rattle.jsonc_tree.specs.OrderedTree.{OrderedTree, none, more}
-use Rattle.jsonc_layout.specs.Shape as shape
-use Rattle.jsonc_layout.specs.Shape.{Trivia, ValueShaped, ElementsShaped, PropertiesShaped, PropertyShaped, DocumentShaped, token_then, printed_text}
-use Rattle.jsonc_layout.proofs.ShapeValues.{colon_mark, close_bracket_mark, close_brace_mark}
+use Rattle.jsonc_build.specs.Shape as shape
+use Rattle.jsonc_build.specs.Shape.{Trivia, ValueShaped, ElementsShaped, PropertiesShaped, PropertyShaped, DocumentShaped, token_then, printed_text}
+use Rattle.jsonc_build.proofs.ShapeValues.{colon_mark, close_bracket_mark, close_brace_mark}
 use Rattle.jsonc_sound.specs.Followers.{EndsLiterals, StandsInRows}
 use Rattle.jsonc_sound.specs.Sound.{IsValueBefore}
 use Rattle.jsonc_sound.specs.TreeChanges.{Top, property_of, ElementChanged, HeldChanged, ValueChanged, itself, in_array, in_object, DocumentChanged, in_root}

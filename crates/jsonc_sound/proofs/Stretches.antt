@@ -5,8 +5,8 @@ use Rattle.jsonc_text.proofs.Basics.{clash}
 use Rattle.jsonc_tree.specs.Content.{Content}
 use Rattle.jsonc_tree.specs.OrderedTree.{OrderedTree, none, more, followed_by}
 use Rattle.jsonc_nodes.specs.Kinds.{is_trivia}
-use Rattle.jsonc_layout.specs.Shape as shape
-use Rattle.jsonc_layout.specs.Shape.{Trivia, Separated, Closed, ElementsShaped, PropertiesShaped, token_then}
+use Rattle.jsonc_build.specs.Shape as shape
+use Rattle.jsonc_build.specs.Shape.{Trivia, Separated, Closed, ElementsShaped, PropertiesShaped, token_then}
 use Rattle.jsonc_sound.specs.TreeChanges.{IsElement}
 use Rattle.jsonc_sound.specs.TriviaChanges.{AreTrivia, AreTriviaOf, leaves_then, LeavesChanged, given_way, come, later, deeper}
 use Rattle.jsonc_sound.proofs.FirstNodes.{value_element}

@@ -3,7 +3,7 @@ use Rattle.std.proofs.Common.{◌≡◌, subst, refl, Bool, true, false, List, [
 use Rattle.jsonc_text.specs.Options.{Options}
 use Rattle.jsonc_tree.specs.Content.{Content}
 use Rattle.jsonc_tree.specs.OrderedTree.{OrderedTree, none, more, followed_by}
-use Rattle.jsonc_layout.specs.Lines.{ends_line, LinesEnd, DocumentLinesEnd}
+use Rattle.jsonc_build.specs.Lines.{ends_line, LinesEnd, DocumentLinesEnd}
 use Rattle.jsonc_sound.specs.TriviaChanges.{leaves_then, LeavesChanged, given_way, come, later, deeper, StretchChanged, in_root, inside, EndsInComment}
 use Rattle.jsonc_sound.proofs.FirstNodes.{line_end_same}
 use Rattle.jsonc_sound.specs.TriviaLaws.{StaysSoundWithout}

@@ -3,9 +3,9 @@ use Rattle.std.proofs.Common.{ℕ, ◌≡◌, sym, subst, refl, true, false, Lis
 use Rattle.jsonc_text.specs.Options.{Options}
 use Rattle.jsonc_tree.specs.Content.{Content}
 use Rattle.jsonc_tree.specs.OrderedTree.{OrderedTree, none, more}
-use Rattle.jsonc_layout.specs.Shape as shape
-use Rattle.jsonc_layout.specs.Shape.{IsNameBefore, Trivia, ValueShaped, ElementsShaped, PropertiesShaped, PropertyShaped, DocumentShaped, token_then, printed_text}
-use Rattle.jsonc_layout.proofs.ShapeValues.{close_bracket_mark, close_brace_mark}
+use Rattle.jsonc_build.specs.Shape as shape
+use Rattle.jsonc_build.specs.Shape.{IsNameBefore, Trivia, ValueShaped, ElementsShaped, PropertiesShaped, PropertyShaped, DocumentShaped, token_then, printed_text}
+use Rattle.jsonc_build.proofs.ShapeValues.{close_bracket_mark, close_brace_mark}
 use Rattle.jsonc_sound.specs.TriviaChanges.{AreTrivia, AreTriviaOf, LeavesChanged, StretchChanged, in_root, inside}
 use Rattle.jsonc_sound.proofs.FirstNodes.{name_element, value_element}
 use Rattle.jsonc_sound.proofs.Followers.{string_name, value_ends, property_ends, none_ends, trivia_ends, separated_ends, closed_ends}

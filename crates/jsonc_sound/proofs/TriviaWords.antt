@@ -7,11 +7,11 @@ use Rattle.jsonc_text.proofs.Basics.{clash}
 use Rattle.jsonc_tree.specs.Content.{Content, token, text_of}
 use Rattle.jsonc_tree.specs.OrderedTree.{OrderedTree, none, more}
 use Rattle.jsonc_nodes.specs.Kinds.{is_trivia}
-use Rattle.jsonc_layout.specs.Lines.{is_line_comment, ends_line, LinesEnd, DocumentLinesEnd}
-use Rattle.jsonc_layout.specs.Shape as shape
-use Rattle.jsonc_layout.specs.Shape.{IsTrivia, IsNameBefore, Trivia, token_then, printed_text}
-use Rattle.jsonc_layout.proofs.ShapeTexts.{text_leaf, trivia_utf8}
-use Rattle.jsonc_layout.proofs.ShapeValues.{colon_mark}
+use Rattle.jsonc_build.specs.Lines.{is_line_comment, ends_line, LinesEnd, DocumentLinesEnd}
+use Rattle.jsonc_build.specs.Shape as shape
+use Rattle.jsonc_build.specs.Shape.{IsTrivia, IsNameBefore, Trivia, token_then, printed_text}
+use Rattle.jsonc_build.proofs.ShapeTexts.{text_leaf, trivia_utf8}
+use Rattle.jsonc_build.proofs.ShapeValues.{colon_mark}
 use Rattle.jsonc_sound.specs.TriviaChanges.{AreTrivia, AreTriviaOf, leaves_then, EndsInComment, one_comment, line_comment}
 use Rattle.jsonc_sound.specs.TriviaLaws.{WordsEnd}
 use Rattle.jsonc_sound.proofs.Characters.{ends_names}

@@ -3,8 +3,8 @@ use Rattle.std.proofs.Common.{List, ℕ}
 use Rattle.jsonc_text.specs.Options.{Options}
 use Rattle.jsonc_tree.specs.Content.{Content}
 use Rattle.jsonc_tree.specs.OrderedTree.{OrderedTree, none}
-use Rattle.jsonc_layout.specs.Shape as shape
-use Rattle.jsonc_layout.specs.Shape.{IsTrivia, IsLiteralBefore, IsNameBefore, Trivia, Separated, Closed, ValueShaped, ElementsShaped, PropertiesShaped, PropertyShaped, DocumentShaped, printed_text}
+use Rattle.jsonc_build.specs.Shape as shape
+use Rattle.jsonc_build.specs.Shape.{IsTrivia, IsLiteralBefore, IsNameBefore, Trivia, Separated, Closed, ValueShaped, ElementsShaped, PropertiesShaped, PropertyShaped, DocumentShaped, printed_text}
 use Rattle.jsonc_sound.specs.TriviaLaws.{IsWordBefore, WordsEnd}
 
 trivia_no_word : (o : Options) (content : Content) (r : List ℕ) → IsTrivia o content → IsWordBefore o content r

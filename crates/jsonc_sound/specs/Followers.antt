@@ -4,7 +4,7 @@ use Rattle.jsonc_text.specs.Options.{Options}
 use Rattle.jsonc_text.specs.Text.{next, end_or}
 use Rattle.jsonc_text.specs.Gaps.{is_blank}
 use Rattle.jsonc_tree.specs.Content.{property}
-use Rattle.jsonc_layout.specs.Shape.{PropertyShaped}
+use Rattle.jsonc_build.specs.Shape.{PropertyShaped}
 use Rattle.jsonc_sound.specs.Sound.{IsValueBefore}
 use Rattle.jsonc_sound.specs.TreeChanges.{Top}
 

@@ -2,7 +2,7 @@
 use Rattle.std.specs.Prelude.{List, ℕ, false}
 use Rattle.jsonc_text.specs.Options.{Options}
 use Rattle.jsonc_tree.specs.OrderedTree.{OrderedTree}
-use Rattle.jsonc_layout.specs.Lines.{LinesEnd}
+use Rattle.jsonc_build.specs.Lines.{LinesEnd}
 use Rattle.jsonc_sound.specs.Sound.{Sound, IsValueBefore}
 use Rattle.jsonc_sound.specs.TreeChanges.{Top, DocumentChanged}
 use Rattle.jsonc_sound.specs.Rows.{RowKind, container_of, nothing_yet, GoesOn}

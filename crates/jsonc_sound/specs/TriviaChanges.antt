@@ -4,8 +4,8 @@ use Rattle.jsonc_text.specs.Options.{Options}
 use Rattle.jsonc_tree.specs.Content.{Content, root, comment}
 use Rattle.jsonc_tree.specs.OrderedTree.{OrderedTree, none, more, followed_by}
 use Rattle.jsonc_nodes.specs.Kinds.{is_trivia}
-use Rattle.jsonc_layout.specs.Lines.{is_line_comment}
-use Rattle.jsonc_layout.specs.Shape.{IsTrivia}
+use Rattle.jsonc_build.specs.Lines.{is_line_comment}
+use Rattle.jsonc_build.specs.Shape.{IsTrivia}
 
 -- each of these leaves is blanks, a line's end or a comment
 abbrev pub AreTrivia : List Content → Type 0

@@ -5,8 +5,8 @@ use Rattle.jsonc_text.specs.Plain.{Plain}
 use Rattle.jsonc_tree.specs.Content.{Content, word}
 use Rattle.jsonc_tree.specs.OrderedTree.{OrderedTree, none, more, leaves}
 use Rattle.jsonc_tree.specs.Values.{DocumentValueOf}
-use Rattle.jsonc_layout.specs.Lines.{DocumentLinesEnd}
-use Rattle.jsonc_layout.specs.Shape.{DocumentShaped, IsNameBefore, printed_text}
+use Rattle.jsonc_build.specs.Lines.{DocumentLinesEnd}
+use Rattle.jsonc_build.specs.Shape.{DocumentShaped, IsNameBefore, printed_text}
 use Rattle.jsonc_sound.specs.Laws.{DiffersIn}
 use Rattle.jsonc_sound.specs.Sound.{Sound}
 use Rattle.jsonc_sound.specs.TriviaChanges.{AreTrivia, AreTriviaOf, StretchChanged, EndsInComment}

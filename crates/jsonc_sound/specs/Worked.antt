@@ -2,7 +2,7 @@
 use Rattle.std.specs.Prelude.{[], ◌∷◌, codes}
 use Rattle.jsonc_tree.specs.Content.{root, object, array, property, word, number}
 use Rattle.jsonc_tree.specs.OrderedTree.{OrderedTree, none, more}
-use Rattle.jsonc_layout.specs.Shape.{token_then}
+use Rattle.jsonc_build.specs.Shape.{token_then}
 use Rattle.jsonc_sound.specs.TreeChanges.{Top, IsElement, DocumentChanged}
 
 -- the row of its array

@@ -3,7 +3,7 @@ ghost use Rattle.std.specs.Prelude.{◌≡◌, false, Bool, List, Option, ℕ};
 ghost use Rattle.jsonc_text.specs.Options.{Options};
 ghost use Rattle.jsonc_text.specs.Plain.{Plain, Items, Members};
 ghost use Rattle.jsonc_tree.specs.OrderedTree.{OrderedTree};
-ghost use Rattle.jsonc_layout.specs.Shape.{DocumentShaped};
+ghost use Rattle.jsonc_build.specs.Shape.{DocumentShaped};
 ghost use Rattle.jsonc_sound.specs.Followers.{StandsInRows};
 ghost use Rattle.jsonc_sound.specs.Laws.{StaysSound, ChangesValue, KeepsLeavesAround};
 ghost use Rattle.jsonc_sound.specs.TriviaLaws.{IsSoundAgain, KeepsOtherLeaves, KeepsShape, KeepsValue, StaysSoundWithout, WordsEnd};

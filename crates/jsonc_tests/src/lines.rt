@@ -3,7 +3,7 @@ ghost use Rattle.std.specs.Prelude.{◌<◌, IfOk, IfSome, length};
 
 use crate::calls::Heap;
 use crate::outcome::Outcome;
-use jsonc_layout::build;
+use jsonc_build::build;
 use jsonc_lines::{
     Indents, has_blank_line_before, indent_text, indents_at, newline_kind, single_indent_text,
     trailing_comma, uses_trailing_commas,

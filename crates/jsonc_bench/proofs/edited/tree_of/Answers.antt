@@ -1,5 +1,5 @@
 use Rattle.jsonc_text.specs.OptionsOf.{parse_options}
-use Rattle.jsonc_parser.proofs.Lent.{located_there}
+use Rattle.jsonc_cst.proofs.Lent.{located_there}
 use Rattle.jsonc_bench.proofs.edited.tree_of.Goals as goal
 
 pub build-requires : goal.build-requires

@@ -1,6 +1,6 @@
 use Rattle.std.proofs.Common.{sym, ◌∙◌}
 use Rattle.jsonc_input.specs.Views.{plain}
-use Rattle.jsonc_lay_out.specs.Layout.{layout_of}
+use Rattle.jsonc_from_input.specs.Layout.{layout_of}
 use Rattle.jsonc_edit.proofs.Kept.{tree_stays}
 use Rattle.jsonc_edit.proofs.GivingWay.{may_join, value_gives_way, where_refused}
 use Rattle.jsonc_edit.proofs.replacing.replace_with.Goals as goal

@@ -1,6 +1,6 @@
 use Rattle.jsonc_text.specs.Options.{Options}
 use Rattle.jsonc_text.specs.OptionsOf.{parse_options}
-use Rattle.jsonc_parser.proofs.Lent.{located_there}
+use Rattle.jsonc_cst.proofs.Lent.{located_there}
 use Rattle.jsonc_tests.proofs.lines.tree_of.Goals as goal
 
 pub build-requires : goal.build-requires

@@ -1,0 +1,136 @@
+-- Comments between values: their marks, their text and their end.
+use Rattle.std.proofs.Common.{ℕ, ◌+◌, ◌≤◌, ◌≡◌, ◌≢◌, ◌∙◌, sym, ap, subst, refl, Bool, true, false, not, ◌&&◌, ◌==◌, inl, inr, List, [], ◌∷◌, ◌++◌, arith, IsTrue, IsUtf8, IsCharBoundary}
+use Rattle.std.proofs.lemmas.List.{append_assoc}
+use Rattle.std.proofs.lemmas.Bool.{ne_eqb}
+use Rattle.std.specs.Char.{len_utf8}
+use Rattle.jsonc_text.specs.Text.{rest, next, no, starts, Many}
+use Rattle.jsonc_text.specs.Chars.{Steps}
+use Rattle.jsonc_text.specs.Gaps.{is_in_line, ends_block, line, UpToBlockEnd, here, later, block, IsComment}
+use Rattle.jsonc_text.proofs.Basics.{and_both, test_eq, tails}
+use Rattle.jsonc_text.proofs.BlockComments.{block_inside}
+use Rattle.jsonc_text.proofs.Cuts.{rest_past, byte_length-one, many_split}
+use Rattle.jsonc_build.specs.Filling.{BeginsComment}
+
+-- a comment's text, with its marks
+pub comment_text : {t u : List ℕ} → IsComment t u → (s : List ℕ) × (t ≡ s ++ u)
+comment_text (inl (line m n)) = let part = many_split is_in_line m in (0x2F ∷ 0x2F ∷ part.0, ap (λ x. 0x2F ∷ 0x2F ∷ x) part.1)
+comment_text {u = u} (inr b) = let inside = block_inside b in ((0x2F ∷ 0x2A ∷ inside.0) ++ 0x2A ∷ 0x2F ∷ [], inside.1 ∙ sym (append_assoc (0x2F ∷ 0x2A ∷ inside.0) (0x2A ∷ 0x2F ∷ []) u))
+
+-- the places after the first two characters
+pub record TwoSteps (bytes : List ℕ) (i c d : ℕ) (t : List ℕ) : Type 0 where
+  pub one : IsCharBoundary bytes (i + 1)
+  pub second : rest bytes (i + 1) ≡ d ∷ t
+  pub two : IsCharBoundary bytes (i + 2)
+  pub after : rest bytes (i + 2) ≡ t
+  pub both : rest bytes i ≡ c ∷ d ∷ rest bytes (i + 2)
+
+one_step : (bytes : List ℕ) (i c : ℕ) (t : List ℕ) → IsUtf8 bytes → IsCharBoundary bytes i → len_utf8 c ≡ 1 → rest bytes i ≡ c ∷ t → IsCharBoundary bytes (i + 1) × (rest bytes (i + 1) ≡ t)
+one_step bytes i c t u b narrow e =
+    let P : ℕ → Type 0 = λ n. IsCharBoundary bytes (i + n) × (rest bytes (i + n) ≡ t) in
+    let past = rest_past bytes (c ∷ []) t i u b e in
+    subst P (byte_length-one c ∙ narrow) (past.1, past.0)
+
+pub two_steps : (bytes : List ℕ) (i c d : ℕ) (t : List ℕ) → IsUtf8 bytes → IsCharBoundary bytes i → len_utf8 c ≡ 1 → len_utf8 d ≡ 1 → rest bytes i ≡ c ∷ d ∷ t → TwoSteps bytes i c d t
+two_steps bytes i c d t u b narrow thin e =
+    let one = one_step bytes i c (d ∷ t) u b narrow e in
+    let second = one_step bytes (i + 1) d t u one.0 thin one.1 in
+    let same : i + 1 + 1 ≡ i + 2 = omega arith in
+    let P : ℕ → Type 0 = λ n. IsCharBoundary bytes n × (rest bytes n ≡ t) in
+    let two : P (i + 2) = subst P same second in
+    record {
+      one = one.0;
+      second = one.1;
+      two = two.0;
+      after = two.1;
+      both = e ∙ ap (λ x. c ∷ d ∷ x) (sym two.1);
+    }
+
+-- a comment's two marks, a byte each, the second of them as a test says; and what goes on after them
+pub data Opened (bytes : List ℕ) (i : ℕ) : Bool → Type 0 where
+  opens_line : {t : List ℕ} → TwoSteps bytes i 0x2F 0x2F t → Opened bytes i true
+  opens_block : {t r : List ℕ} → TwoSteps bytes i 0x2F 0x2A t → UpToBlockEnd (rest bytes (i + 2)) r → Opened bytes i false
+
+abbrev pub has_slash : List ℕ → ℕ → Bool
+has_slash bytes i = starts (λ c. c == 0x2F) (next (rest bytes i))
+
+pub opened : (bytes : List ℕ) (i : ℕ) → IsUtf8 bytes → IsCharBoundary bytes i → BeginsComment (rest bytes i) → Opened bytes i (has_slash bytes (i + 1))
+opened bytes i u b k = by (rest bytes i) refl k.1
+  where
+    by : (t : List ℕ) {r : List ℕ} → rest bytes i ≡ t → IsComment t r → Opened bytes i (has_slash bytes (i + 1))
+    by _ e (inl (line {t = t} m n)) =
+        let two = two_steps bytes i 0x2F 0x2F t u b refl refl e in
+        subst (λ x. Opened bytes i (starts (λ c. c == 0x2F) (next x))) (sym two.second) (opens_line two)
+    by _ e (inr (block {t = t} {r = r} g)) =
+        let two = two_steps bytes i 0x2F 0x2A t u b refl refl e in
+        subst (λ x. Opened bytes i (starts (λ c. c == 0x2F) (next x))) (sym two.second) (opens_block two (subst (λ x. UpToBlockEnd x r) (sym two.after) g))
+
+pub after_first : {bytes : List ℕ} {i : ℕ} {slash : Bool} → Opened bytes i slash → IsCharBoundary bytes (i + 1)
+after_first (opens_line two) = two.one
+after_first (opens_block two g) = two.one
+
+pub after_both : {bytes : List ℕ} {i : ℕ} {slash : Bool} → Opened bytes i slash → IsCharBoundary bytes (i + 2)
+after_both (opens_line two) = two.two
+after_both (opens_block two g) = two.two
+
+pub line_at : {bytes : List ℕ} {i : ℕ} {slash : Bool} (j : ℕ) → Opened bytes i slash → IsTrue slash → Many is_in_line (rest bytes (i + 2)) (rest bytes j) → IsTrue (no is_in_line (next (rest bytes j))) → IsComment (rest bytes i) (rest bytes j)
+line_at {bytes} j (opens_line two) h many ends = subst (λ t. IsComment t (rest bytes j)) (sym two.both) (inl (line many ends))
+line_at j (opens_block two g) h many ends = cc
+
+pub block_goes_on : {bytes : List ℕ} {i : ℕ} {slash : Bool} → Opened bytes i slash → slash ≡ false → (r : List ℕ) × UpToBlockEnd (rest bytes (i + 2)) r
+block_goes_on (opens_line two) h = cc
+block_goes_on (opens_block {r = r} two g) h = (r, g)
+
+pub block_at : {bytes : List ℕ} {i : ℕ} {slash : Bool} (j : ℕ) → Opened bytes i slash → slash ≡ false → UpToBlockEnd (rest bytes (i + 2)) (rest bytes j) → IsComment (rest bytes i) (rest bytes j)
+block_at j (opens_line two) h g = cc
+block_at {bytes} j (opens_block two goes) h g = subst (λ t. IsComment t (rest bytes j)) (sym two.both) (inr (block g))
+
+-- `*/` by its two characters
+pub star_then : (t : List ℕ) → ends_block (0x2A ∷ t) ≡ starts (λ d. d == 0x2F) (next t)
+star_then [] = refl
+star_then (d ∷ t) = refl
+
+pub no_star : (c : ℕ) (t : List ℕ) → c ≢ 0x2A → ends_block (c ∷ t) ≡ false
+no_star c [] e = refl
+no_star c (d ∷ t) e = ap (λ b. b && (d == 0x2F)) (ne_eqb c 0x2A e)
+
+pub ends_block_text : (t : List ℕ) → IsTrue (ends_block t) → (r : List ℕ) × (t ≡ 0x2A ∷ 0x2F ∷ r)
+ends_block_text [] h = cc
+ends_block_text (c ∷ []) h = cc
+ends_block_text (c ∷ d ∷ t) h = (t, let both = and_both (c == 0x2A) (d == 0x2F) h in let first = test_eq c 0x2A both.0 in let second = test_eq d 0x2F both.1 in cc)
+
+-- characters of a block comment so far
+pub record InBlock (text : List ℕ) (start place : ℕ) : Type 0 where
+  pub boundary : IsCharBoundary text place
+  pub order : start ≤ place
+  pub whole : (r : List ℕ) → UpToBlockEnd (rest text place) r → UpToBlockEnd (rest text start) r
+  pub closed : (r : List ℕ) × UpToBlockEnd (rest text place) r
+
+pub in_block_start : (text : List ℕ) (start : ℕ) → IsCharBoundary text start → (r : List ℕ) × UpToBlockEnd (rest text start) r → InBlock text start start
+in_block_start text start b closed = record { boundary = b; order = omega arith; whole = λ r g. g; closed = closed }
+
+-- a block that does not end here goes on
+goes_on : {t : List ℕ} (c : ℕ) (u : List ℕ) → t ≡ c ∷ u → ends_block t ≡ false → (r : List ℕ) × UpToBlockEnd t r → (r : List ℕ) × UpToBlockEnd u r
+goes_on c u e not_here (r, here) = absurd (let wrong : true ≡ false = not_here in cc)
+goes_on c u e not_here (r, later {t = v} h g) = (r, subst (λ x. UpToBlockEnd x r) (tails e) g)
+
+pub in_block_more : (text : List ℕ) (start place c end : ℕ) → InBlock text start place → Steps text place c end → place ≤ end → ends_block (rest text place) ≡ false → InBlock text start end
+in_block_more text start place c end held step le not_here = record {
+  boundary = step.1;
+  order = omega (arith, held.order);
+  whole = λ r g. held.whole r (subst (λ x. UpToBlockEnd x r) (sym step.0) (later (ap not (ap ends_block (sym step.0) ∙ not_here)) g));
+  closed = goes_on c (rest text end) step.0 not_here held.closed;
+}
+
+pub in_block_end : (text : List ℕ) (start place : ℕ) → IsUtf8 text → InBlock text start place → IsTrue (ends_block (rest text place)) → IsCharBoundary text (place + 2) × UpToBlockEnd (rest text start) (rest text (place + 2))
+in_block_end text start place u held h =
+    let found = ends_block_text (rest text place) h in
+    let two = two_steps text place 0x2A 0x2F found.0 u held.boundary refl refl found.1 in
+    (two.two, held.whole (rest text (place + 2)) (subst (λ x. UpToBlockEnd x (rest text (place + 2))) (sym two.both) here))
+
+-- a block comment does not end where the text does
+pub not_at_end : (text : List ℕ) (start place : ℕ) → InBlock text start place → rest text place ≡ [] → ⊥
+not_at_end text start place held e = nothing held.closed.1 e
+  where
+    nothing : {t r : List ℕ} → UpToBlockEnd t r → t ≡ [] → ⊥
+    nothing here e = cc
+    nothing (later h g) e = cc

@@ -1,0 +1,181 @@
+-- What the rows of a document's shape print.
+use Rattle.std.proofs.Common.{ℕ, ◌<◌, ◌≡◌, ◌∙◌, sym, ap, subst, refl, Bool, true, inl, inr, List, [], ◌∷◌, ◌++◌, length, arith, rules, IsTrue, IsUtf8, chars, encode_utf8_all, length-append}
+use Rattle.std.proofs.lemmas.List.{append_assoc}
+use Rattle.std.proofs.lemmas.Str.{chars-nil, chars-append, chars-IsAscii, IsUtf8-append, IsUtf8-from_ascii, encodes-chars}
+use lib.Utf8.{encode}
+use Rattle.jsonc_text.specs.Options.{Options}
+use Rattle.jsonc_text.specs.Text.{next, no, Many, stop, step}
+use Rattle.jsonc_text.specs.Gaps as gaps
+use Rattle.jsonc_text.specs.Gaps.{Gap, is_blank, is_in_line, LineComment, line, BlockComment, block, IsComment}
+use Rattle.jsonc_text.specs.Plain.{Plain, Items, Members}
+use Rattle.jsonc_text.specs.Lexemes.{line_comment, block_comment}
+use Rattle.jsonc_text.proofs.Alone.{scanned_before}
+use Rattle.jsonc_text.proofs.Basics.{and_both}
+use Rattle.jsonc_text.proofs.BlockComments.{block_inside}
+use Rattle.jsonc_text.proofs.Cuts.{many_split}
+use Rattle.jsonc_tree.specs.Content.{Content, text_of, newline_text}
+use Rattle.jsonc_tree.specs.declared.node.CstNewlineKind.{CstNewlineKind}
+use Rattle.jsonc_tree.specs.declared.node.CstNewlineKind.TheVariants.{LineFeed, CarriageReturnLineFeed, CarriageReturn}
+use Rattle.jsonc_tree.specs.OrderedTree.{OrderedTree, none, more, printed}
+use Rattle.jsonc_tree.proofs.OrderedTrees.{printed-more}
+use Rattle.jsonc_tree.specs.Values as values
+use Rattle.jsonc_tree.specs.Values.{is_passed_over, HasNoValue, ItemsOf, MembersOf, HoldsValue}
+use Rattle.jsonc_to_ast.proofs.Gaps.{gap_append}
+use Rattle.jsonc_build.specs.Leaves.{is_inner_blank}
+use Rattle.jsonc_build.specs.Lines.{is_line_comment, ends_line, LinesEnd}
+use Rattle.jsonc_build.specs.Shape.{IsTrivia, Trivia, nothing, trivia, printed_text}
+
+-- the text of a row is that of its first node, and then that of those after it
+pub text_more : (content : Content) (below after : OrderedTree) → IsUtf8 (text_of content ++ printed below) → printed_text (more content below after) ≡ chars (text_of content ++ printed below) ++ printed_text after
+text_more content below after u =
+    ap chars (printed-more content below after ∙ sym (append_assoc (text_of content) (printed below) (printed after))) ∙ chars-append (text_of content ++ printed below) (printed after) u
+
+pub text_leaf : (content : Content) (after : OrderedTree) → IsUtf8 (text_of content) → printed_text (more content none after) ≡ chars (text_of content) ++ printed_text after
+text_leaf content after u = ap chars (printed-more content none after) ∙ chars-append (text_of content) (printed after) u
+
+newline_utf8 : (k : CstNewlineKind) → IsUtf8 (newline_text k)
+newline_utf8 LineFeed = IsUtf8-from_ascii (10 ∷ []) (search rules)
+newline_utf8 CarriageReturnLineFeed = IsUtf8-from_ascii (13 ∷ 10 ∷ []) (search rules)
+newline_utf8 CarriageReturn = IsUtf8-from_ascii (13 ∷ []) (search rules)
+
+newline_chars : (k : CstNewlineKind) → chars (newline_text k) ≡ newline_text k
+newline_chars LineFeed = chars-IsAscii (10 ∷ []) (search rules)
+newline_chars CarriageReturnLineFeed = chars-IsAscii (13 ∷ 10 ∷ []) (search rules)
+newline_chars CarriageReturn = chars-IsAscii (13 ∷ []) (search rules)
+
+newline_more : (k : CstNewlineKind) (below after : OrderedTree) → printed_text (more (Content.newline k) below after) ≡ newline_text k ++ chars (printed below ++ printed after)
+newline_more k below after =
+    ap chars (printed-more (Content.newline k) below after) ∙ chars-append (newline_text k) (printed below ++ printed after) (newline_utf8 k) ∙ ap (λ t. t ++ chars (printed below ++ printed after)) (newline_chars k)
+
+newline_ends : (k : CstNewlineKind) (t : List ℕ) → IsTrue (no is_in_line (next (newline_text k ++ t)))
+newline_ends LineFeed t = refl
+newline_ends CarriageReturnLineFeed t = refl
+newline_ends CarriageReturn t = refl
+
+newline_gap : (o : Options) (k : CstNewlineKind) (t : List ℕ) → Gap o (newline_text k ++ t) t
+newline_gap o LineFeed t = gaps.blank refl gaps.none
+newline_gap o CarriageReturnLineFeed t = gaps.blank refl (gaps.blank refl gaps.none)
+newline_gap o CarriageReturn t = gaps.blank refl gaps.none
+
+pub trivia_utf8 : (o : Options) (content : Content) → IsTrivia o content → IsUtf8 (text_of content)
+trivia_utf8 o (Content.whitespace s) h = h.0
+trivia_utf8 o (Content.newline k) h = newline_utf8 k
+trivia_utf8 o (Content.comment s) h = h.1.0
+trivia_utf8 o Content.root h = absurd h
+trivia_utf8 o Content.object h = absurd h
+trivia_utf8 o Content.array h = absurd h
+trivia_utf8 o Content.property h = absurd h
+trivia_utf8 o (Content.string s) h = absurd h
+trivia_utf8 o (Content.word s) h = absurd h
+trivia_utf8 o (Content.number s) h = absurd h
+trivia_utf8 o (Content.boolean b) h = absurd h
+trivia_utf8 o Content.null h = absurd h
+trivia_utf8 o (Content.token c) h = absurd h
+
+-- blanks before a text are a gap
+blanks_gap : {o : Options} {s u : List ℕ} (t : List ℕ) → Many is_inner_blank s u → u ≡ [] → Gap o (s ++ t) t
+blanks_gap t stop e = rw e gaps.none
+blanks_gap t (step {c = c} h g) e = gaps.blank (and_both (is_blank c) _ h).0 (blanks_gap t g e)
+
+-- a comment alone is one before a text that ends its line, if it is a line comment
+begins_line : (s : List ℕ) {t : List ℕ} → IsUtf8 s → chars s ≡ 0x2F ∷ 0x2F ∷ t → IsTrue (is_line_comment (Content.comment s))
+unfolding encode
+begins_line s {t} u e = subst (λ b. IsTrue (is_line_comment (Content.comment b))) (ap encode_utf8_all (sym e) ∙ encodes-chars s u) refl
+
+comment_before : (o : Options) (s t : List ℕ) → IsUtf8 s → IsComment (chars s) [] → (IsTrue (is_line_comment (Content.comment s)) → IsTrue (no is_in_line (next t))) → IsComment (chars s ++ t) t
+comment_before o s t u k ends = by (chars s) refl k
+  where
+    by : (x : List ℕ) → chars s ≡ x → IsComment x [] → IsComment (chars s ++ t) t
+    by _ e (inl (line {t = x} m n)) =
+        let part = many_split is_in_line m in
+        let text : chars s ≡ (0x2F ∷ 0x2F ∷ part.0) ++ [] = e ∙ ap (λ x. 0x2F ∷ 0x2F ∷ x) part.1 in
+        inl (scanned_before o (line_comment part.0) (chars s) t (subst (λ x. LineComment x []) (sym e) (line m n), text) (ends (begins_line s u e))).0
+    by x e (inr b) =
+        let inside = block_inside b in
+        inr (scanned_before o (block_comment inside.0) (chars s) t (subst (λ x. BlockComment x []) (sym e) b, e ∙ inside.1) tt).0
+
+-- the end of a row's line
+row_ends : (at_end : Bool) (z : List ℕ) → (at_end ≡ true → z ≡ []) → (row : OrderedTree) → IsTrue (ends_line at_end row) → IsTrue (no is_in_line (next (printed_text row ++ z)))
+row_ends at_end z f none h = rw (ap (λ t. t ++ z) chars-nil ∙ f h) refl
+row_ends at_end z f (more (Content.newline k) below after) h =
+    subst (λ t. IsTrue (no is_in_line (next t))) (sym (ap (λ t. t ++ z) (newline_more k below after) ∙ append_assoc (newline_text k) (chars (printed below ++ printed after)) z)) (newline_ends k (chars (printed below ++ printed after) ++ z))
+row_ends at_end z f (more Content.root below after) h = cc
+row_ends at_end z f (more Content.object below after) h = cc
+row_ends at_end z f (more Content.array below after) h = cc
+row_ends at_end z f (more Content.property below after) h = cc
+row_ends at_end z f (more (Content.string s) below after) h = cc
+row_ends at_end z f (more (Content.word s) below after) h = cc
+row_ends at_end z f (more (Content.number s) below after) h = cc
+row_ends at_end z f (more (Content.boolean b) below after) h = cc
+row_ends at_end z f (more Content.null below after) h = cc
+row_ends at_end z f (more (Content.token c) below after) h = cc
+row_ends at_end z f (more (Content.whitespace s) below after) h = cc
+row_ends at_end z f (more (Content.comment s) below after) h = cc
+
+-- leaves of trivia are gaps, and have no value
+leaf_gap : (o : Options) (content : Content) (x : List ℕ) → IsTrivia o content → (IsTrue (is_line_comment content) → IsTrue (no is_in_line (next x))) → Gap o (chars (text_of content) ++ x) x
+leaf_gap o (Content.whitespace s) x h f = blanks_gap x h.1 refl
+leaf_gap o (Content.newline k) x h f = subst (λ t. Gap o (t ++ x) x) (sym (newline_chars k)) (newline_gap o k x)
+leaf_gap o (Content.comment s) x h f = gaps.comment h.0 (comment_before o s x h.1.0 h.1.1 f) gaps.none
+leaf_gap o Content.root x h f = absurd h
+leaf_gap o Content.object x h f = absurd h
+leaf_gap o Content.array x h f = absurd h
+leaf_gap o Content.property x h f = absurd h
+leaf_gap o (Content.string s) x h f = absurd h
+leaf_gap o (Content.word s) x h f = absurd h
+leaf_gap o (Content.number s) x h f = absurd h
+leaf_gap o (Content.boolean b) x h f = absurd h
+leaf_gap o Content.null x h f = absurd h
+leaf_gap o (Content.token c) x h f = absurd h
+
+passed_over : (o : Options) (content : Content) → IsTrivia o content → IsTrue (is_passed_over content)
+passed_over o (Content.whitespace s) h = refl
+passed_over o (Content.newline k) h = refl
+passed_over o (Content.comment s) h = refl
+passed_over o Content.root h = absurd h
+passed_over o Content.object h = absurd h
+passed_over o Content.array h = absurd h
+passed_over o Content.property h = absurd h
+passed_over o (Content.string s) h = absurd h
+passed_over o (Content.word s) h = absurd h
+passed_over o (Content.number s) h = absurd h
+passed_over o (Content.boolean b) h = absurd h
+passed_over o Content.null h = absurd h
+passed_over o (Content.token c) h = absurd h
+
+module _ (o : Options) where
+  pub trivia_gap : {at_end : Bool} {t r : OrderedTree} (z : List ℕ) → (at_end ≡ true → z ≡ []) → Trivia o t r → LinesEnd at_end t → Gap o (printed_text t ++ z) (printed_text r ++ z) × LinesEnd at_end r
+  trivia_gap z f nothing l = (gaps.none, l)
+  trivia_gap {at_end} {r = r} z f (trivia {content = content} {t = t} h g) l =
+      let first = leaf_gap o content (printed_text t ++ z) h (λ k. row_ends at_end z f t (l.0 k)) in
+      let others = trivia_gap z f g l.2 in
+      let split : printed_text (more content none t) ++ z ≡ chars (text_of content) ++ (printed_text t ++ z) =
+      ap (λ x. x ++ z) (text_leaf content t (trivia_utf8 o content h)) ∙ append_assoc (chars (text_of content)) (printed_text t) z in
+      (subst (λ x. Gap o x (printed_text r ++ z)) (sym split) (gap_append first others.0), others.1)
+
+  pub trivia_items : {t r : OrderedTree} {vs : Items} → Trivia o t r → ItemsOf o r vs → ItemsOf o t vs
+  trivia_items nothing h = h
+  trivia_items (trivia {content = content} x g) h = values.pass_to_items (passed_over o content x) (trivia_items g h)
+
+  pub trivia_members : {t r : OrderedTree} {ms : Members} → Trivia o t r → MembersOf o r ms → MembersOf o t ms
+  trivia_members nothing h = h
+  trivia_members (trivia {content = content} x g) h = values.pass_to_members (passed_over o content x) (trivia_members g h)
+
+  pub trivia_value : {t r : OrderedTree} {v : Plain} → Trivia o t r → HoldsValue o r v → HoldsValue o t v
+  trivia_value nothing h = h
+  trivia_value (trivia {content = content} x g) h = values.pass_to_value (passed_over o content x) (trivia_value g h)
+
+  pub trivia_none : {t : OrderedTree} → Trivia o t none → HasNoValue t
+  trivia_none nothing = values.end
+  trivia_none (trivia {content = content} x g) = values.pass (passed_over o content x) (trivia_none g)
+
+  pub trivia_row_utf8 : {t r : OrderedTree} → Trivia o t r → IsUtf8 (printed r) → IsUtf8 (printed t)
+  trivia_row_utf8 nothing u = u
+  trivia_row_utf8 (trivia {content = content} {t = t} x g) u =
+      subst IsUtf8 (sym (printed-more content none t)) (IsUtf8-append (text_of content) (printed t) (trivia_utf8 o content x) (trivia_row_utf8 g u))
+
+  pub trivia_some : {t r : OrderedTree} → Trivia o t r → 0 < length (printed_text r) → 0 < length (printed_text t)
+  trivia_some nothing l = l
+  trivia_some (trivia {content = content} {t = t} x g) l =
+      let others = trivia_some g l in
+      omega (arith, others, ap length (text_leaf content t (trivia_utf8 o content x)), length-append (chars (text_of content)) (printed_text t))

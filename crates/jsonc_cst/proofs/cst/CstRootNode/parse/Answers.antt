@@ -1,0 +1,28 @@
+use Rattle.std.proofs.Common.{option_map}
+use Rattle.jsonc_text.specs.Options.{Options}
+use Rattle.jsonc_text.specs.OptionsOf.{parse_options}
+use Rattle.jsonc_text.proofs.FaultLemmas.{out_of_memory_is_fault}
+use Rattle.jsonc_ast.specs.Located.{IsLocatedDocument, value_at}
+use Rattle.jsonc_to_ast.proofs.Grammar.{located_document}
+use Rattle.jsonc_build.specs.Given.{located_in}
+use Rattle.jsonc_cst.proofs.Lent.{located_there}
+use Rattle.jsonc_cst.proofs.cst.CstRootNode.parse.Goals as goal
+
+pub build-requires : goal.build-requires
+build-requires g c =
+    let o : Options = parse_options c.args.options.now in
+    (o, located_there o c.args.text.now c.as_ref.result c.in_ok-parsed.parsed.value c.as_ref.ensures.value c.in_ok-parsed.ensures.located)
+
+pub returns-in_default-clause-fault : goal.returns-in_default-clause-fault
+returns-in_default-clause-fault g c = out_of_memory_is_fault c.args.text.now c.out_of_memory.result c.utf8.text c.out_of_memory.ensures
+
+pub returns-clause-value : goal.returns-clause-value
+returns-clause-value g c =
+    let o : Options = parse_options c.args.options.now in
+    let here : IsLocatedDocument o c.args.text.now (located_in c.as_ref.result) = located_there o c.args.text.now c.as_ref.result c.in_ok-parsed.parsed.value c.as_ref.ensures.value c.in_ok-parsed.ensures.located in
+    (option_map value_at (located_in c.as_ref.result), located_document o c.args.text.now (located_in c.as_ref.result) here, c.in-Ok.ensures.value o here)
+
+pub returns-clause-shaped : goal.returns-clause-shaped
+returns-clause-shaped g c =
+    let o : Options = parse_options c.args.options.now in
+    c.in-Ok.ensures.shaped o (located_there o c.args.text.now c.as_ref.result c.in_ok-parsed.parsed.value c.as_ref.ensures.value c.in_ok-parsed.ensures.located)

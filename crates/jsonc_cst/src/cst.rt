@@ -1,0 +1,124 @@
+//! The document: the tree of a text, in which every byte of it stands.
+//!
+//! A [`CstRootNode`] owns its nodes and names each by a number. A caller holds a [`CstNode`], or a
+//! node of one kind as [`CstObject`]: a number that says what it is the number of, and can be copied.
+//! It is asked together with its document, and [`CstRootNode::holds`] tells whether that has it; all
+//! nodes that a call answers are nodes of the document that was asked.
+ghost use Rattle.std.specs.Prelude.{◌≡◌, IfErr, IfOk, Option, Some, true, chars, string_bytes};
+ghost use Rattle.jsonc_text.specs.Faults.{IsFault};
+ghost use Rattle.jsonc_text.specs.Grammar.{IsDocument};
+ghost use Rattle.jsonc_text.specs.OptionsOf.{parse_options};
+ghost use Rattle.jsonc_text.specs.Plain.{Plain};
+ghost use Rattle.jsonc_tree.specs.Values.{DocumentValueOf};
+ghost use Rattle.jsonc_to_ast.specs.Refusals.{RefusesText};
+ghost use Rattle.jsonc_to_ast.specs.Told.{IsTold};
+ghost use Rattle.jsonc_build.specs.Lines.{DocumentLinesEnd};
+ghost use Rattle.jsonc_build.specs.Shape.{DocumentShaped};
+ghost use Rattle.jsonc_cst.specs.Document.{edit_error_text, printed_of, tree_of};
+
+mod access;
+mod elements;
+mod into;
+mod leaf;
+mod names;
+mod node;
+mod root;
+mod siblings;
+mod values;
+
+pub use access::AncestorIterator;
+use jsonc_build::build;
+use jsonc_text::errors::ParseError;
+use jsonc_text::options::ParseOptions;
+use jsonc_to_ast::collect::CollectOptions;
+use jsonc_to_ast::parse_to_ast;
+use jsonc_tree::Tree;
+pub use jsonc_tree::{CstNewlineKind, Shown};
+pub use node::{
+    CstArray, CstBooleanLit, CstComment, CstContainerNode, CstLeafNode, CstNewline, CstNode,
+    CstNullKeyword, CstNumberLit, CstObject, CstObjectProp, CstRoot, CstStringLit, CstToken,
+    CstWhitespace, CstWordLit, ObjectPropName,
+};
+pub use siblings::{NextSiblingIterator, PreviousSiblingIterator};
+use std::alloc::Allocator;
+use std::error::Error;
+use std::fmt;
+
+/// Why a document was not changed.
+#[derive(Clone, Copy, Debug, PartialEq, Eq, Drop)]
+pub enum EditError {
+    /// There was not enough memory.
+    OutOfMemory,
+    /// A container has lost a bracket.
+    MissingBrackets,
+    /// A property has lost its name.
+    MissingName,
+    /// There is no such place.
+    NoSuchPlace,
+}
+
+impl fmt::Display for EditError {
+    ghost output = { λ e. Some (edit_error_text e) };
+
+    fn fmt<W: fmt::Write>(&self, f: &mut fmt::Formatter<W>) -> fmt::Result {
+        match self {
+            EditError::OutOfMemory => f.write_str("Out of memory"),
+            EditError::MissingBrackets => f.write_str("Missing brackets"),
+            EditError::MissingName => f.write_str("Missing name"),
+            EditError::NoSuchPlace => f.write_str("No such place"),
+        }
+    }
+}
+
+impl Error for EditError {}
+
+/// A document: a text that keeps its every byte, comments, blanks and commas too.
+#[derive(Drop)]
+pub struct CstRootNode<A: Allocator> {
+    tree: Tree<A>,
+    alloc: A,
+}
+
+impl<A: Allocator + Copy> CstRootNode<A> {
+    /// Reads a document from its text.
+    ///
+    /// The document prints as the text was written. Its nodes follow one another as the grammar says:
+    /// strings, numbers, words, commas, colons, brackets, comments, line ends and runs of blanks are
+    /// leaves of their own. The error says what is wrong with the text, in which of its bytes, and in
+    /// which line and column; want of memory is an error too.
+    pub fn parse(alloc: A, text: &str, options: &ParseOptions) -> Result<CstRootNode<A>, ParseError>
+        ensures printed { IfOk result (λ d. printed_of d ≡ text.now) }
+        ensures shaped { IfOk result (λ d. DocumentShaped (parse_options options.now) (tree_of d)) }
+        ensures lines { IfOk result (λ d. DocumentLinesEnd (tree_of d)) }
+        ensures value { IfOk result (λ d. (w : Option Plain) × IsDocument (parse_options options.now) (chars text.now) w × DocumentValueOf (parse_options options.now) (tree_of d) w) }
+        ensures refused { IfErr result (RefusesText (parse_options options.now) text.now) }
+        ensures fault { IfErr result (IsFault text.now) }
+        ensures told { IfErr result (IsTold (parse_options options.now) text.now true) }
+    {
+        let collect = CollectOptions::default();
+        let parsed = parse_to_ast(alloc, text, &collect, options)?;
+        let Ok(tree) = build(alloc, text, parsed.value.as_ref()) else {
+            return Err(ParseError::out_of_memory());
+        };
+        Ok(CstRootNode { tree, alloc })
+    }
+
+    /// The document's text.
+    pub fn text(&self) -> Result<String<A>, EditError>
+        ensures { IfOk result (λ s. string_bytes s ≡ printed_of self.now) }
+    {
+        let Ok(text) = self.tree.to_string(self.alloc) else {
+            return Err(EditError::OutOfMemory);
+        };
+        Ok(text)
+    }
+}
+
+/// Writes the document as its text.
+impl<A: Allocator> fmt::Display for CstRootNode<A> {
+    ghost output = { λ d. Some (printed_of d) };
+
+    fn fmt<W: fmt::Write>(&self, f: &mut fmt::Formatter<W>) -> fmt::Result {
+        self.tree.fmt(f)
+    }
+}

@@ -1,0 +1,69 @@
+//! Decoded strings, and properties by their names.
+
+ghost use Rattle.std.specs.Prelude.{◌≡◌, ◌≢◌, chars, string_bytes, IfErr, IfOk, IfSome};
+ghost use Rattle.jsonc_text.specs.declared.errors.ParseStringErrorKind.TheVariants.{OutOfMemory};
+ghost use Rattle.jsonc_nodes.specs.Names.{HasName, NameReads};
+ghost use Rattle.jsonc_cst.specs.Document.{nodes_of, Holds};
+ghost use Rattle.jsonc_cst.specs.Nodes.{object_node, object_prop_node, string_lit_node};
+ghost use Rattle.jsonc_cst.specs.Readings.{IsFirstNamed, LeafIsNoString, LeafStandsFor};
+
+use super::node::{CstObject, CstObjectProp, CstStringLit};
+use super::{CstRootNode, EditError};
+use jsonc_text::errors::ParseStringErrorKind;
+use std::alloc::Allocator;
+
+impl CstStringLit {
+    /// What the string stands for. What follows its closing quote is ignored.
+    ///
+    /// A leaf with no quote in front is `UnterminatedStringLiteral`, want of memory `OutOfMemory`.
+    pub fn decoded_value<A: Allocator + Copy>(
+        self,
+        doc: &CstRootNode<A>,
+    ) -> Result<String<A>, ParseStringErrorKind>
+        requires { Holds doc.now (string_lit_node self) }
+        ensures found { IfOk result (λ s. LeafStandsFor doc.now self (chars (string_bytes s))) }
+        ensures fault { IfErr result (λ k. k ≢ OutOfMemory → LeafIsNoString doc.now self k) }
+    {
+        jsonc_nodes::decoded_value(doc.alloc, &doc.tree, self.number)
+    }
+}
+
+impl CstObjectProp {
+    /// Its name with its escapes resolved, or None where it has no name that decodes.
+    ///
+    /// A name without quotes is its text. Want of memory is `OutOfMemory`, and the one error.
+    pub fn decoded_name<A: Allocator + Copy>(
+        self,
+        doc: &CstRootNode<A>,
+    ) -> Result<Option<String<A>>, ParseStringErrorKind>
+        requires { Holds doc.now (object_prop_node self) }
+        ensures name { IfOk result (NameReads (HasName (nodes_of doc.now) self.number)) }
+        ensures memory { IfErr result (λ k. k ≡ OutOfMemory) }
+    {
+        let Ok(name) = jsonc_nodes::decoded_name(doc.alloc, &doc.tree, self.number) else {
+            return Err(ParseStringErrorKind::OutOfMemory);
+        };
+        Ok(name)
+    }
+}
+
+impl CstObject {
+    /// Its first property of a name. A name in quotes is decoded, and one that does not decode is
+    /// passed over; any other name is its text.
+    pub fn get<A: Allocator + Copy>(
+        self,
+        doc: &CstRootNode<A>,
+        name: &str,
+    ) -> Result<Option<CstObjectProp>, EditError>
+        requires { Holds doc.now (object_node self) }
+        ensures found { IfOk result (IsFirstNamed doc.now self (chars name.now)) }
+        ensures held { IfOk result (λ o. IfSome o (λ p. Holds doc.now (object_prop_node p))) }
+        ensures memory { IfErr result (λ e. e ≡ EditError.OutOfMemory) }
+    {
+        match jsonc_nodes::get(doc.alloc, &doc.tree, self.number, name) {
+            Ok(Some(number)) => Ok(Some(CstObjectProp { number })),
+            Ok(None) => Ok(None),
+            Err(_) => Err(EditError::OutOfMemory),
+        }
+    }
+}

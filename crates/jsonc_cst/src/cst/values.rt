@@ -1,0 +1,67 @@
+//! The names and values of properties, as they are written.
+
+ghost use Rattle.std.specs.Prelude.{◌≡◌, IfSome};
+ghost use Rattle.jsonc_cst.specs.Document.{Holds};
+ghost use Rattle.jsonc_cst.specs.Nodes.{array_node, name_node, object_node, object_prop_node};
+ghost use Rattle.jsonc_cst.specs.Readings.{name_of, value_under, array_if, object_if};
+
+use super::CstRootNode;
+use super::access::node_at;
+use super::node::{
+    CstArray, CstContainerNode, CstLeafNode, CstNode, CstObject, CstObjectProp, ObjectPropName,
+};
+use std::alloc::Allocator;
+
+impl CstObjectProp {
+    /// Its name as it is written, a string or a word. None where no name stands before its colon.
+    pub fn name<A: Allocator>(self, doc: &CstRootNode<A>) -> Option<ObjectPropName>
+        requires { Holds doc.now (object_prop_node self) }
+        ensures name { result ≡ name_of doc.now self }
+        ensures held { IfSome result (λ n. Holds doc.now (name_node n)) }
+    {
+        let Some(number) = jsonc_nodes::name_of(&doc.tree, self.number) else {
+            return None;
+        };
+        match node_at(&doc.tree, number) {
+            CstNode::Leaf(CstLeafNode::StringLit(string)) => Some(ObjectPropName::String(string)),
+            CstNode::Leaf(CstLeafNode::WordLit(word)) => Some(ObjectPropName::Word(word)),
+            _ => None,
+        }
+    }
+
+    /// Its value, if there is one after its colon.
+    pub fn value<A: Allocator>(self, doc: &CstRootNode<A>) -> Option<CstNode>
+        requires { Holds doc.now (object_prop_node self) }
+        ensures value { result ≡ value_under doc.now self.number }
+        ensures held { IfSome result (Holds doc.now) }
+    {
+        let Some(number) = jsonc_nodes::value_of(&doc.tree, self.number) else {
+            return None;
+        };
+        Some(node_at(&doc.tree, number))
+    }
+
+    /// Its value, if it is an object.
+    pub fn object_value<A: Allocator>(self, doc: &CstRootNode<A>) -> Option<CstObject>
+        requires { Holds doc.now (object_prop_node self) }
+        ensures value { result ≡ object_if (value_under doc.now self.number) }
+        ensures held { IfSome result (λ o. Holds doc.now (object_node o)) }
+    {
+        match self.value(doc) {
+            Some(CstNode::Container(CstContainerNode::Object(object))) => Some(object),
+            _ => None,
+        }
+    }
+
+    /// Its value, if it is an array.
+    pub fn array_value<A: Allocator>(self, doc: &CstRootNode<A>) -> Option<CstArray>
+        requires { Holds doc.now (object_prop_node self) }
+        ensures value { result ≡ array_if (value_under doc.now self.number) }
+        ensures held { IfSome result (λ a. Holds doc.now (array_node a)) }
+    {
+        match self.value(doc) {
+            Some(CstNode::Container(CstContainerNode::Array(array))) => Some(array),
+            _ => None,
+        }
+    }
+}

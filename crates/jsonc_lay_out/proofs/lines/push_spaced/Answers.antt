@@ -1,5 +1,0 @@
-use Rattle.jsonc_lay_out.proofs.Extending.{on_ok, extends_then}
-use Rattle.jsonc_lay_out.proofs.lines.push_spaced.Goals as goal
-
-pub returns-clause-added : goal.returns-clause-added
-returns-clause-added g c = on_ok c.push_blanks.result (λ added. extends_then c.in_ok-push_leaf.ensures.added added) c.push_blanks.ensures.added

@@ -1,5 +1,0 @@
-use Rattle.jsonc_layout.proofs.ShapeValues.{document_printed}
-use Rattle.jsonc_layout.proofs.laws.shaped_trees_print_documents.Goals as goal
-
-pub returns : goal.returns
-returns c = λ o t s l. document_printed o t s l

@@ -1,8 +1,0 @@
-use Rattle.jsonc_nodes.specs.Siblings.{siblings_after}
-use Rattle.jsonc_parser.proofs.Readings.{first_property_held}
-use Rattle.jsonc_parser.proofs.cst.node.CstObjectProp.next_property.Goals as goal
-
-pub returns-clause-held : goal.returns-clause-held
-returns-clause-held g c =
-    let ns = c.args.doc.now.tree.nodes in
-    first_property_held ns (siblings_after ns c.args.self.number) c.in-Some.number c.in-Some.ensures
