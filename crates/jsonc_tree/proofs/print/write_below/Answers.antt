@@ -1,6 +1,6 @@
 use Rattle.std.proofs.Common.{◌≡◌, ◌<◌, ◌++◌, [], length, arith, refl, ap, sym, ◌∙◌, List}
 use Rattle.std.proofs.lemmas.List.{length-map, append-nil, append_assoc}
-use Rattle.std.proofs.Output.{has_written_append, writes_in_calls_nil}
+use Rattle.std.proofs.Output.{has_written_styled_append, has_written_styled_nil}
 use Rattle.std.specs.List.{flat_map}
 use Rattle.jsonc_tree.specs.Tree as tree
 use Rattle.jsonc_tree.specs.Tree.{itself, content_at}
@@ -21,7 +21,7 @@ loop-next-init g c =
     record {
       there = c.requires.there;
       over = itself;
-      written = λ p. ([], record { wrote = writes_in_calls_nil _ _; plain = p }, sym (ap (λ l. flat_map (text_at ns) (in_order ns c.args.end ++ l)) over ∙ ap (flat_map (text_at ns)) (append-nil (in_order ns c.args.end)) ∙ printed_at-ordered_tree ns (IsStored-tree c.args.nodes.now.items c.requires.stored) c.args.end there));
+      written = λ p. ([], has_written_styled_nil _ _ p, sym (ap (λ l. flat_map (text_at ns) (in_order ns c.args.end ++ l)) over ∙ ap (flat_map (text_at ns)) (append-nil (in_order ns c.args.end)) ∙ printed_at-ordered_tree ns (IsStored-tree c.args.nodes.now.items c.requires.stored) c.args.end there));
     }
 
 pub loop-next-preserved : goal.loop-next-preserved
@@ -37,7 +37,7 @@ loop-next-preserved g c =
       written = λ p.
           let w = c.loop-next.invariant.written p in (
             w.0 ++ text_of (content_of c.index-node.result.now.kind),
-            has_written_append _ _ _ _ _ _ w.1 (c.in_ok-write_own.ensures w.1.plain refl),
+            has_written_styled_append _ _ _ _ _ _ w.1 (c.in_ok-write_own.ensures w.1.flush refl),
             w.2 ∙ ap (λ l. w.0 ++ flat_map (text_at ns) l) rest
                 ∙ ap (λ l. w.0 ++ (l ++ flat_map (text_at ns) (rest_at ns c.args.end c.node_after-next.result))) own
                 ∙ sym (append_assoc w.0 (text_of (content_of c.index-node.result.now.kind)) (flat_map (text_at ns) (rest_at ns c.args.end c.node_after-next.result))),
