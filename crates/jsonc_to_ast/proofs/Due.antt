@@ -23,7 +23,7 @@ use Rattle.jsonc_to_ast.proofs.Scans.{moved, kept_on}
 use Rattle.jsonc_to_ast.proofs.Telling.{told_as, lexeme_found, lexeme_stands, end_here}
 
 -- a lexeme that is neither a value nor an opening bracket
-begins_none : (l : LexemeKind) → leaf_value (lexeme l) ≡ None → l ≢ punctuation 0x5B → l ≢ punctuation 0x7B → begins_value (lexeme l) ≡ false
+pub begins_none : (l : LexemeKind) → leaf_value (lexeme l) ≡ None → l ≢ punctuation 0x5B → l ≢ punctuation 0x7B → begins_value (lexeme l) ≡ false
 begins_none (LexemeKind.string v) e a b = cc
 begins_none (LexemeKind.number v) e a b = cc
 begins_none (LexemeKind.word v) e a b = refl

@@ -15,3 +15,6 @@ pub mod Telling
 pub mod Ongoing
 pub mod Due
 pub mod Leaves
+pub mod Stopping
+pub mod ReadsValues
+pub mod Standing

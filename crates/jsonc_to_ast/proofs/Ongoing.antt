@@ -29,6 +29,7 @@ use Rattle.jsonc_to_ast.proofs.Loops.{Elements}
 use Rattle.jsonc_to_ast.proofs.NoValues.{elements_item, properties_item, property_end, value_read, property_read, ElementsLeft, PropertiesLeft}
 use Rattle.jsonc_to_ast.proofs.Properties.{Properties}
 use Rattle.jsonc_to_ast.proofs.Scans.{moved, kept_on}
+use Rattle.jsonc_to_ast.proofs.Standing.{GoesOn}
 use Rattle.jsonc_to_ast.proofs.Telling.{told_as, told_at}
 
 module _ (o : Options) where
@@ -208,6 +209,7 @@ module _ {A : Type 0} where
     pub left : ElementsLeft old now next count
     pub collects : Collects old now
     pub going : IfSome next (Ongoing Array old now)
+    pub reading : GoesOn Array old now next count
 
   -- an object's properties
   pub record PropertiesGoOn (old now : Context A) (next : Option (Token A)) (xs : List LocatedMember) (count : ℕ) : Type 0 where
@@ -215,3 +217,4 @@ module _ {A : Type 0} where
     pub left : PropertiesLeft old now next count
     pub collects : Collects old now
     pub going : IfSome next (Ongoing Object old now)
+    pub reading : GoesOn Object old now next count

@@ -7,3 +7,5 @@ pub mod Comments
 pub mod Refusals
 pub mod Collected
 pub mod Told
+pub mod Reached
+pub mod Reading

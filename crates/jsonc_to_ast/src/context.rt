@@ -43,6 +43,13 @@ impl<'a, A: Allocator + Copy> Context<'a, A> {
     ghost use Rattle.jsonc_to_ast.specs.Containers.{misplaced_kind, begins};
     ghost use Rattle.jsonc_to_ast.specs.Told.{IsFaultOf, AtEnd, IsOpen, IsToldAnyhow, IsToldOrOpen, ClosesNone, Comes, EndsItem, EndsName, IsCommaAfter, ItemIsDueHere};
     ghost use Rattle.jsonc_to_ast.specs.declared.container.Container.TheVariants.{Object};
+    ghost use Rattle.std.specs.Prelude.{List, ◌∷◌, ℕ, Bool};
+    ghost use Rattle.jsonc_to_ast.specs.Reached.{Opened, Due, container as open_container};
+    ghost use Rattle.jsonc_to_ast.specs.Reading.{StopsAnyhow, StopsAfter, IsFrom, fault_in, wrong_name};
+    ghost use Rattle.std.specs.Prelude.{Some};
+    ghost use Rattle.jsonc_text.specs.Lexemes.{LexemeKind, lexeme};
+    ghost use Rattle.jsonc_to_ast.specs.Context.{IsBracket};
+    ghost use Rattle.jsonc_to_ast.specs.Refusals.{here, after};
     ghost use Rattle.jsonc_to_ast.specs.Collected.{takes_comments, is_separate, collected, CollectsLast, CollectsComment, OmitsComment, HasNoted, NotesComment, NotesLexeme, ShowsNoted, Collects};
 
     /// A parser at the start of a text.
@@ -290,6 +297,7 @@ impl<'a, A: Allocator + Copy> Context<'a, A> {
         ensures refused { IfErr result (Tells (NoTokenAfter self.old)) }
         ensures fault { IfErr result (IsFault (text_in self.old)) }
         ensures told { IfErr result (IsToldAnyhow self.old) }
+        ensures stops { IfErr result (StopsAnyhow self.old) }
     {
         loop {
             let Some(token) = self.scanner.scan()? else {
@@ -327,6 +335,7 @@ impl<'a, A: Allocator + Copy> Context<'a, A> {
         ensures fault { IfErr result (IsFault (text_in self.old)) }
         ensures told { IfErr result (IsToldOrOpen container start self.old) }
         ensures stands { IfOk result (λ f. IfSome f (ClosesNone container)) }
+        ensures stops { IfErr result (λ e. (q : List Opened) (a : List ℕ) → IsFrom (text_in self.old) start a → StopsAfter self.old (is_some start) (open_container container a ∷ q) (Due.first container) e) }
     {
         let Some(first) = self.scan()? else {
             return Err(self.unterminated(container, start));
@@ -353,6 +362,7 @@ impl<'a, A: Allocator + Copy> Context<'a, A> {
         ensures fault { IfErr result (IsFault (text_in self.old)) }
         ensures told { IfErr result (λ e. IsCommaAfter container self.old → IsToldOrOpen container start self.old e) }
         ensures stands { IfOk result (λ f. IfSome f (ClosesNone container)) }
+        ensures stops { IfErr result (λ e. (q : List Opened) (a : List ℕ) → IsBracket 0x2C self.old → IsFrom (text_in self.old) start a → StopsAfter self.old (is_some start) (open_container container a ∷ q) (Due.further container (here self.old)) e) }
     {
         let comma = self.range();
         let Some(token) = self.scan()? else {
@@ -399,6 +409,7 @@ impl<'a, A: Allocator + Copy> Context<'a, A> {
         ensures told { IfErr result (λ e. EndsItem container self.old → IsToldOrOpen container start self.old e) }
         ensures stands { IfOk result (λ f. IfSome f (ClosesNone container)) }
         ensures comes { IfOk result (λ f. IfSome f (Comes self.old self.new)) }
+        ensures stops { IfErr result (λ e. (q : List Opened) (a : List ℕ) → IsFrom (text_in self.old) start a → StopsAfter self.old (is_some start) (open_container container a ∷ q) (Due.comma container (after self.old)) e) }
     {
         let end = self.scanner.token_end();
         let Some(token) = self.scan()? else {
@@ -424,6 +435,7 @@ impl<'a, A: Allocator + Copy> Context<'a, A> {
         ensures refused { IfErr result (λ _. NoName self.now) }
         ensures fault { IfErr result (IsFault (text_in self.now)) }
         ensures told { IfErr result (λ e. ItemIsDueHere Object self.now token.entry → IsToldAnyhow self.now e) }
+        ensures stops { IfErr result (λ e. (l : LexemeKind) → scanned_of token.entry ≡ lexeme l → wrong_name (options_in self.now) l (here self.now) (after self.now) ≡ Some (fault_in (text_in self.now) e)) }
     {
         let range = self.range();
         match token {
@@ -449,6 +461,7 @@ impl<'a, A: Allocator + Copy> Context<'a, A> {
         ensures refused { IfErr result (Tells (NoColon self.old)) }
         ensures fault { IfErr result (IsFault (text_in self.old)) }
         ensures told { IfErr result (λ e. EndsName self.old → IsToldAnyhow self.old e) }
+        ensures stops { IfErr result (λ e. (whole : Bool) (q : List Opened) → StopsAfter self.old whole q Due.colon e) }
     {
         let Some(token) = self.scan()? else {
             return Err(self.fault_here(ParseErrorKind::ExpectedColonAfterObjectKey));

@@ -13,6 +13,12 @@ ghost use Rattle.jsonc_to_ast.specs.Refusals.{NoLiteral, NoPropertyHere, NoValue
 ghost use Rattle.jsonc_to_ast.specs.Scanned.{leaf_value};
 ghost use Rattle.jsonc_to_ast.specs.Told.{IsTold, IsToldIn, IsToldAnyhow, ItemIsDueHere, ValueIsDueHere, OpensNone};
 ghost use Rattle.jsonc_to_ast.specs.declared.container.Container.TheVariants.{Object};
+ghost use Rattle.std.specs.Prelude.{List, ℕ, length, false};
+ghost use Rattle.jsonc_text.specs.Lexemes.{LexemeKind, lexeme};
+ghost use Rattle.jsonc_to_ast.specs.Refusals.{here, after};
+ghost use Rattle.jsonc_to_ast.specs.Scanned.{begins_value, unexpected_kind};
+ghost use Rattle.jsonc_to_ast.specs.Reached.{Opened, Due, at};
+ghost use Rattle.jsonc_to_ast.specs.Reading.{fault, fault_in, StopsFrom, ValueStarts, ItemStarts, ContainerStarts, IsToldOfText};
 ghost use Rattle.jsonc_ast.specs.Views.{located, member_of, plain};
 ghost use Rattle.jsonc_to_ast.specs.Results.{located_in, plain_in};
 
@@ -55,6 +61,7 @@ fn parse_leaf<'a, A: Allocator + Copy>(
     ensures refused { IfErr result (λ _. NoLiteral context.now) }
     ensures fault { IfErr result (IsFault (text_in context.now)) }
     ensures told { IfErr result (λ e. OpensNone token.entry → ValueIsDueHere context.now token.entry → IsToldAnyhow context.now e) }
+    ensures stops { IfErr result (λ e. OpensNone token.entry → (l : LexemeKind) → scanned_of token.entry ≡ lexeme l → (begins_value (lexeme l) ≡ false) × (fault (unexpected_kind (lexeme l)) (here context.now) (after context.now) ≡ fault_in (text_in context.now) e)) }
 {
     let kind = unexpected(&token);
     let Some(value) = leaf(token, context.range()) else {
@@ -80,6 +87,7 @@ fn parse_value<'a, A: Allocator + Copy>(
     ensures refused { IfErr result (Tells (NoValueHere context.old count)) }
     ensures fault { IfErr result (IsFault (text_in context.old)) }
     ensures told { IfErr result (λ e. ValueIsDueHere context.old token.entry → IsToldIn context.old true e) }
+    ensures stops { IfErr result (λ e. (q : List Opened) (d : Due) (s : List ℕ) → length q ≡ count → ValueStarts context.old token.entry q d s → StopsFrom context.old (at q d s) e) }
 {
     match token {
         Token::OpenBracket => parse_array(context, count),
@@ -104,6 +112,7 @@ fn parse_array<'a, A: Allocator + Copy>(
     ensures refused { IfErr result (Tells (NoValueHere context.old count)) }
     ensures fault { IfErr result (IsFault (text_in context.old)) }
     ensures told { IfErr result (IsToldIn context.old true) }
+    ensures stops { IfErr result (λ e. (q : List Opened) (d : Due) (s : List ℕ) → ContainerStarts context.old count q d s → StopsFrom context.old (at q d s) e) }
 {
     let start = context.scanner.token_start();
     let mut elements = Vec::new(context.alloc);
@@ -135,6 +144,7 @@ fn parse_object<'a, A: Allocator + Copy>(
     ensures refused { IfErr result (Tells (NoValueHere context.old count)) }
     ensures fault { IfErr result (IsFault (text_in context.old)) }
     ensures told { IfErr result (IsToldIn context.old true) }
+    ensures stops { IfErr result (λ e. (q : List Opened) (d : Due) (s : List ℕ) → ContainerStarts context.old count q d s → StopsFrom context.old (at q d s) e) }
 {
     let start = context.scanner.token_start();
     let mut properties = Vec::new(context.alloc);
@@ -166,6 +176,7 @@ fn parse_property<'a, A: Allocator + Copy>(
     ensures refused { IfErr result (Tells (NoPropertyHere context.old count)) }
     ensures fault { IfErr result (IsFault (text_in context.old)) }
     ensures told { IfErr result (λ e. ItemIsDueHere Object context.old token.entry → IsToldIn context.old true e) }
+    ensures stops { IfErr result (λ e. (q : List Opened) (d : Due) (s : List ℕ) → length q ≡ count → ItemStarts Object context.old token.entry q d s → StopsFrom context.old (at q d s) e) }
 {
     let start = context.scanner.token_start();
     let name = context.name(token)?;
@@ -200,6 +211,7 @@ pub fn parse_to_ast<'a, A: Allocator + Copy>(
     ensures comments { IfOk result (HoldsComments (parse_options options.now) text.now) }
     ensures fault { IfErr result (IsFault text.now) }
     ensures told { IfErr result (IsTold (parse_options options.now) text.now true) }
+    ensures stops { IfErr result (IsToldOfText (parse_options options.now) text.now true) }
 {
     let mut context = Context::new(alloc, text, collect, options);
     let Some(token) = context.scan()? else {

@@ -18,6 +18,10 @@ use Rattle.jsonc_to_ast.specs.Told.{IsToldIn, ItemIsDueHere}
 use Rattle.jsonc_to_ast.proofs.Telling.{told_before}
 use Rattle.jsonc_to_ast.proofs.Ongoing.{Ongoing, ongoing_first, ongoing_turn, first_told, next_told, told_of_item, due_here, element_due, ends_item, value_item, property_item, deep_element_told}
 use Rattle.jsonc_to_ast.proofs.Due.{opens_none, ends_name, deep_property_told, no_value_told, value_told}
+use Rattle.std.proofs.Common.{List, ℕ, length, ◌≡◌, inl, inr}
+use Rattle.jsonc_to_ast.specs.Reached.{Opened, Due, at}
+use Rattle.jsonc_to_ast.specs.Reading.{StopsFrom, ContainerStarts, ItemStarts}
+use Rattle.jsonc_to_ast.proofs.Standing.{GoesOn, goes_first, elements_go_on, first_stops, next_stops, element_starts, element_comes, element_stops, properties_go_on, property_comes, property_stops, name_stops, colon_missing_stops, no_token_stops, no_value_stops, deep_property_stops, value_told_stops, deep_stops, leaf_stops, stops_on, stops_before}
 use Rattle.jsonc_to_ast.proofs.values.+parse.Goals as goal
 
 pub parse_array-loop-next-init : goal.parse_array-loop-next-init
@@ -28,6 +32,7 @@ parse_array-loop-next-init g t c =
       left = elements_left_start c.args.context.now c.first_item.new.self c.in_ok-next.next c.args.count c.requires.token c.first_item.ensures.kept read.only;
       collects = read.collects;
       going = ongoing_first Array c.args.context.now c.first_item.new.self c.in_ok-next.next c.requires.token c.first_item.ensures.kept read.found read.only read.stands;
+      reading = goes_first Array c.args.context.now c.first_item.new.self c.in_ok-next.next c.args.count c.requires.token c.requires.around c.first_item.ensures.kept read.found read.stands;
     }
 
 pub parse_array-check_nesting-requires : goal.parse_array-check_nesting-requires
@@ -65,6 +70,8 @@ parse_array-loop-next-preserved g t c =
       collects = collects_turn old now c.parse_value.new.context c.next_item.new.self inv.so_far.kept inv.collects read.kept read.collects c.in_ok-next-2.ensures.collects;
       going = ongoing_turn Array old now inv.so_far.kept c.in-Some.token (subst (λ n. IfSome n (Ongoing Array old now)) c.in-Some.is inv.going) c.parse_value.new.context read.kept (value_item now c.parse_value.new.context (located c.in_ok-value.value) read.kept read.found)
           c.next_item.new.self c.in_ok-next-2.next c.next_item.ensures.kept c.in_ok-next-2.ensures.only c.in_ok-next-2.ensures.stands c.in_ok-next-2.ensures.comes;
+      reading = elements_go_on old now inv.so_far.kept c.in-Some.token c.parse_value.new.context (located c.in_ok-value.value) c.args.count (subst (λ n. GoesOn Array old now n c.args.count) c.in-Some.is inv.reading) read.kept read.found read.within
+          c.next_item.new.self c.in_ok-next-2.next c.next_item.ensures.kept c.in_ok-next-2.ensures.found c.in_ok-next-2.ensures.stands c.in_ok-next-2.ensures.comes;
     }
 
 pub parse_array-returns-clause-found : goal.parse_array-returns-clause-found
@@ -81,6 +88,7 @@ parse_object-loop-next-init g t c =
       left = properties_left_start c.args.context.now c.first_item.new.self c.in_ok-next.next c.args.count c.requires.token c.first_item.ensures.kept read.only;
       collects = read.collects;
       going = ongoing_first Object c.args.context.now c.first_item.new.self c.in_ok-next.next c.requires.token c.first_item.ensures.kept read.found read.only read.stands;
+      reading = goes_first Object c.args.context.now c.first_item.new.self c.in_ok-next.next c.args.count c.requires.token c.requires.around c.first_item.ensures.kept read.found read.stands;
     }
 
 pub parse_object-next_item-requires : goal.parse_object-next_item-requires
@@ -113,6 +121,8 @@ parse_object-loop-next-preserved g t c =
       collects = collects_turn old now c.parse_property.new.context c.next_item.new.self inv.so_far.kept inv.collects read.kept read.collects c.in_ok-next-2.ensures.collects;
       going = ongoing_turn Object old now inv.so_far.kept c.in-Some.token (subst (λ n. IfSome n (Ongoing Object old now)) c.in-Some.is inv.going) c.parse_property.new.context read.kept (property_item now c.parse_property.new.context (member_of c.in_ok-property.property) read.kept read.found)
           c.next_item.new.self c.in_ok-next-2.next c.next_item.ensures.kept c.in_ok-next-2.ensures.only c.in_ok-next-2.ensures.stands c.in_ok-next-2.ensures.comes;
+      reading = properties_go_on old now inv.so_far.kept c.in-Some.token c.parse_property.new.context (member_of c.in_ok-property.property) c.args.count (subst (λ n. GoesOn Object old now n c.args.count) c.in-Some.is inv.reading) read.kept read.found read.within
+          c.next_item.new.self c.in_ok-next-2.next c.next_item.ensures.kept c.in_ok-next-2.ensures.found c.in_ok-next-2.ensures.stands c.in_ok-next-2.ensures.comes;
     }
 
 pub parse_object-returns-clause-found : goal.parse_object-returns-clause-found
@@ -359,3 +369,141 @@ parse_property-returns-in_err-value-clause-told g t c =
 pub parse_value-returns-in_default-clause-told : goal.parse_value-returns-in_default-clause-told
 parse_value-returns-in_default-clause-told g t c =
     err_some c.parse_leaf.result (λ e told due. told (opens_none c.args.token c.in_default.not-OpenBracket c.in_default.not-OpenBrace) due true) c.parse_leaf.ensures.told
+
+pub parse_array-returns-in_err-next-clause-stops : goal.parse_array-returns-in_err-next-clause-stops
+parse_array-returns-in_err-next-clause-stops g t c =
+    let old = c.args.context.now in
+    let e = c.in_err-next.field-0.0 in
+    err_of (λ e. (q : List Opened) (d : Due) (s : List ℕ) → ContainerStarts old c.args.count q d s → StopsFrom old (at q d s) e) e c.from_residual.result c.from_residual.ensures.1
+    (λ q d s starts. first_stops Array old c.token_start-start.result c.args.count q d s e c.requires.token c.requires.around c.token_start-start.ensures starts c.in_err-next.ensures.stops)
+
+pub parse_array-returns-in_err-check_nesting-clause-stops : goal.parse_array-returns-in_err-check_nesting-clause-stops
+parse_array-returns-in_err-check_nesting-clause-stops g t c =
+    let old = c.args.context.now in
+    let now = c.loop-next.context in
+    let inv = c.loop-next.invariant in
+    let reading = subst (λ n. GoesOn Array old now n c.args.count) c.in-Some.is inv.reading in
+    let e = c.in_err-check_nesting.field-0.0 in
+    err_of (λ e. (q : List Opened) (d : Due) (s : List ℕ) → ContainerStarts old c.args.count q d s → StopsFrom old (at q d s) e) e c.from_residual-in_err-check_nesting.result c.from_residual-in_err-check_nesting.ensures.1
+    (λ q d s starts. deep_stops old now c.in-Some.token c.token_start-start.result c.args.count q d s e inv.so_far.kept (subst (AtHand 0x5D now) c.in-Some.is inv.so_far.hand) c.token_start-start.ensures starts.0 c.in_err-check_nesting.ensures.refused c.in_err-check_nesting.ensures.kind c.in_err-check_nesting.ensures.range (reading q d s starts))
+
+pub parse_array-returns-in_err-value-clause-stops : goal.parse_array-returns-in_err-value-clause-stops
+parse_array-returns-in_err-value-clause-stops g t c =
+    let old = c.args.context.now in
+    let now = c.loop-next.context in
+    let inv = c.loop-next.invariant in
+    let reading = subst (λ n. GoesOn Array old now n c.args.count) c.in-Some.is inv.reading in
+    let e = c.in_err-value.field-0.0 in
+    err_of (λ e. (q : List Opened) (d : Due) (s : List ℕ) → ContainerStarts old c.args.count q d s → StopsFrom old (at q d s) e) e c.from_residual-in_err-value.result c.from_residual-in_err-value.ensures.1
+    (λ q d s starts. element_stops old now c.in-Some.token c.args.count q d s e inv.so_far.kept (reading q d s starts) starts.0 c.in_err-value.ensures.stops)
+
+pub parse_array-returns-in_err-next-2-clause-stops : goal.parse_array-returns-in_err-next-2-clause-stops
+parse_array-returns-in_err-next-2-clause-stops g t c =
+    let old = c.args.context.now in
+    let now = c.loop-next.context in
+    let inv = c.loop-next.invariant in
+    let reading = subst (λ n. GoesOn Array old now n c.args.count) c.in-Some.is inv.reading in
+    let mid = c.parse_value.new.context in
+    let read = c.in_ok-value.ensures in
+    let e = c.in_err-next-2.field-0.0 in
+    err_of (λ e. (q : List Opened) (d : Due) (s : List ℕ) → ContainerStarts old c.args.count q d s → StopsFrom old (at q d s) e) e c.from_residual-in_err-next-2.result c.from_residual-in_err-next-2.ensures.1
+    (λ q d s starts.
+      let h = reading q d s starts in
+      next_stops Array old now mid inv.so_far.kept read.kept c.in-Some.token q d s h (element_comes old now mid c.in-Some.token q d s (located c.in_ok-value.value) c.args.count h read.kept read.found starts.0 read.within) c.token_start-start.result e c.token_start-start.ensures c.in_err-next-2.ensures.stops)
+
+pub parse_value-returns-in-OpenBracket-clause-stops : goal.parse_value-returns-in-OpenBracket-clause-stops
+parse_value-returns-in-OpenBracket-clause-stops g t c = err_some c.parse_array.result (λ e told q d s many starts. told q d s (many, starts.may, starts.gap)) c.parse_array.ensures.stops
+
+pub parse_value-returns-in-OpenBrace-clause-stops : goal.parse_value-returns-in-OpenBrace-clause-stops
+parse_value-returns-in-OpenBrace-clause-stops g t c = err_some c.parse_object.result (λ e told q d s many starts. told q d s (many, starts.may, starts.gap)) c.parse_object.ensures.stops
+
+pub parse_value-returns-in_default-clause-stops : goal.parse_value-returns-in_default-clause-stops
+parse_value-returns-in_default-clause-stops g t c =
+    let small = c.requires.around in
+    err_some c.parse_leaf.result
+    (λ e told q d s many starts. leaf_stops c.args.context.now c.args.token q d s e c.requires.token (omega (arith, many, small)) starts (told (opens_none c.args.token c.in_default.not-OpenBracket c.in_default.not-OpenBrace)))
+    c.parse_leaf.ensures.stops
+
+pub parse_object-returns-in_err-next-clause-stops : goal.parse_object-returns-in_err-next-clause-stops
+parse_object-returns-in_err-next-clause-stops g t c =
+    let old = c.args.context.now in
+    let e = c.in_err-next.field-0.0 in
+    err_of (λ e. (q : List Opened) (d : Due) (s : List ℕ) → ContainerStarts old c.args.count q d s → StopsFrom old (at q d s) e) e c.from_residual.result c.from_residual.ensures.1
+    (λ q d s starts. first_stops Object old c.token_start-start.result c.args.count q d s e c.requires.token c.requires.around c.token_start-start.ensures starts c.in_err-next.ensures.stops)
+
+pub parse_object-returns-in_err-property-clause-stops : goal.parse_object-returns-in_err-property-clause-stops
+parse_object-returns-in_err-property-clause-stops g t c =
+    let old = c.args.context.now in
+    let now = c.loop-next.context in
+    let inv = c.loop-next.invariant in
+    let reading = subst (λ n. GoesOn Object old now n c.args.count) c.in-Some.is inv.reading in
+    let e = c.in_err-property.field-0.0 in
+    err_of (λ e. (q : List Opened) (d : Due) (s : List ℕ) → ContainerStarts old c.args.count q d s → StopsFrom old (at q d s) e) e c.from_residual-in_err-property.result c.from_residual-in_err-property.ensures.1
+    (λ q d s starts. property_stops old now c.in-Some.token c.args.count q d s e inv.so_far.kept (reading q d s starts) starts.0 c.in_err-property.ensures.stops)
+
+pub parse_object-returns-in_err-next-2-clause-stops : goal.parse_object-returns-in_err-next-2-clause-stops
+parse_object-returns-in_err-next-2-clause-stops g t c =
+    let old = c.args.context.now in
+    let now = c.loop-next.context in
+    let inv = c.loop-next.invariant in
+    let reading = subst (λ n. GoesOn Object old now n c.args.count) c.in-Some.is inv.reading in
+    let mid = c.parse_property.new.context in
+    let read = c.in_ok-property.ensures in
+    let e = c.in_err-next-2.field-0.0 in
+    err_of (λ e. (q : List Opened) (d : Due) (s : List ℕ) → ContainerStarts old c.args.count q d s → StopsFrom old (at q d s) e) e c.from_residual-in_err-next-2.result c.from_residual-in_err-next-2.ensures.1
+    (λ q d s starts.
+      let h = reading q d s starts in
+      next_stops Object old now mid inv.so_far.kept read.kept c.in-Some.token q d s h (property_comes old now mid c.in-Some.token q d s (member_of c.in_ok-property.property) c.args.count h read.kept read.found starts.0 read.within) c.token_start-start.result e c.token_start-start.ensures c.in_err-next-2.ensures.stops)
+
+pub parse_property-returns-in_err-name-clause-stops : goal.parse_property-returns-in_err-name-clause-stops
+parse_property-returns-in_err-name-clause-stops g t c =
+    let old = c.args.context.now in
+    let e = c.in_err-name.field-0.0 in
+    err_of (λ e. (q : List Opened) (d : Due) (s : List ℕ) → length q ≡ c.args.count → ItemStarts Object old c.args.token q d s → StopsFrom old (at q d s) e) e c.from_residual.result c.from_residual.ensures.1
+    (λ q d s many starts. name_stops old c.args.token q d s c.requires.token starts e c.in_err-name.ensures.stops)
+
+pub parse_property-returns-in_err-pass_colon-clause-stops : goal.parse_property-returns-in_err-pass_colon-clause-stops
+parse_property-returns-in_err-pass_colon-clause-stops g t c =
+    let old = c.args.context.now in
+    let e = c.in_err-pass_colon.field-0.0 in
+    err_of (λ e. (q : List Opened) (d : Due) (s : List ℕ) → length q ≡ c.args.count → ItemStarts Object old c.args.token q d s → StopsFrom old (at q d s) e) e c.from_residual-in_err-pass_colon.result c.from_residual-in_err-pass_colon.ensures.1
+    (λ q d s many starts. colon_missing_stops old c.args.token q d s c.requires.token starts (name_at c.in_ok-name.name) c.in_ok-name.ensures.name e (c.in_err-pass_colon.ensures.stops true _))
+
+pub parse_property-returns-in_err-found-clause-stops : goal.parse_property-returns-in_err-found-clause-stops
+parse_property-returns-in_err-found-clause-stops g t c =
+    let old = c.args.context.now in
+    let colon = c.in_ok-pass_colon.ensures in
+    let e = c.in_err-found.field-0.0 in
+    err_of (λ e. (q : List Opened) (d : Due) (s : List ℕ) → length q ≡ c.args.count → ItemStarts Object old c.args.token q d s → StopsFrom old (at q d s) e) e c.from_residual-in_err-found.result c.from_residual-in_err-found.ensures.1
+    (λ q d s many starts. no_token_stops old c.args.token q d s c.requires.token starts (name_at c.in_ok-name.name) c.in_ok-name.ensures.name c.pass_colon.new.self colon.kept colon.found e c.in_err-found.ensures.stops)
+
+pub parse_property-returns-in_err-check_nesting-clause-stops : goal.parse_property-returns-in_err-check_nesting-clause-stops
+parse_property-returns-in_err-check_nesting-clause-stops g t c =
+    let old = c.args.context.now in
+    let colon = c.in_ok-pass_colon.ensures in
+    let found = c.in_ok-found.ensures in
+    let nesting = c.in_err-check_nesting.ensures in
+    let e = c.in_err-check_nesting.field-0.0 in
+    let deep = nesting.refused in
+    err_of (λ e. (q : List Opened) (d : Due) (s : List ℕ) → length q ≡ c.args.count → ItemStarts Object old c.args.token q d s → StopsFrom old (at q d s) e) e c.from_residual-in_err-check_nesting.result c.from_residual-in_err-check_nesting.ensures.1
+    (λ q d s many starts. deep_property_stops old c.args.token q d s c.requires.token starts (name_at c.in_ok-name.name) c.in_ok-name.ensures.name c.pass_colon.new.self colon.kept colon.found c.scan.new.self c.in_ok-found.found found.kept found.found found.lexeme
+    e c.token_start-start.result c.token_start-start.ensures (omega (arith, many, deep)) nesting.kind nesting.range)
+
+pub parse_property-returns-in_default-clause-stops : goal.parse_property-returns-in_default-clause-stops
+parse_property-returns-in_default-clause-stops g t c = λ q d s many starts.
+    let old = c.args.context.now in
+    let colon = c.in_ok-pass_colon.ensures in
+    let found = c.in_ok-found.ensures in
+    let small = c.in_ok-check_nesting.ensures.within in
+    no_value_stops old c.args.token q d s c.requires.token starts (name_at c.in_ok-name.name) c.in_ok-name.ensures.name c.pass_colon.new.self colon.kept colon.found c.scan.new.self c.in_ok-found.found found.kept found.found found.lexeme
+    c.in_default.is c.fault_here.result (omega (arith, many, small)) c.fault_here.ensures.kind c.fault_here.ensures.range
+
+pub parse_property-returns-in_err-value-clause-stops : goal.parse_property-returns-in_err-value-clause-stops
+parse_property-returns-in_err-value-clause-stops g t c =
+    let old = c.args.context.now in
+    let colon = c.in_ok-pass_colon.ensures in
+    let found = c.in_ok-found.ensures in
+    let e = c.in_err-value.field-0.0 in
+    err_of (λ e. (q : List Opened) (d : Due) (s : List ℕ) → length q ≡ c.args.count → ItemStarts Object old c.args.token q d s → StopsFrom old (at q d s) e) e c.from_residual-in_err-value.result c.from_residual-in_err-value.ensures.1
+    (λ q d s many starts. value_told_stops old c.args.token q d s c.requires.token starts (name_at c.in_ok-name.name) c.in_ok-name.ensures.name c.pass_colon.new.self colon.kept colon.found c.scan.new.self c.in_ok-found.found found.kept found.found found.lexeme
+    c.in-Some.token c.in-Some.is e (c.in_err-value.ensures.stops _ _ _ (omega (arith, many))))

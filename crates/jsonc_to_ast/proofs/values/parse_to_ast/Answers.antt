@@ -14,6 +14,12 @@ use Rattle.jsonc_to_ast.specs.Told.{IsTold}
 use Rattle.jsonc_to_ast.proofs.Telling.{told_before}
 use Rattle.jsonc_to_ast.proofs.Ongoing.{value_item}
 use Rattle.jsonc_to_ast.proofs.Due.{told_of_text, root_told, second_told}
+use Rattle.std.proofs.Common.{refl}
+use Rattle.jsonc_to_ast.specs.Reading.{IsToldOfText}
+use Rattle.jsonc_to_ast.proofs.Stopping.{stops_here}
+use Rattle.jsonc_to_ast.specs.Reached.{document}
+use Rattle.std.proofs.Common.{[]}
+use Rattle.jsonc_to_ast.proofs.Standing.{root_stops, end_stops, second_stops, text_stops}
 use Rattle.jsonc_to_ast.proofs.values.parse_to_ast.Goals as goal
 
 pub returns-in_default-clause-accepted : goal.returns-in_default-clause-accepted
@@ -152,3 +158,43 @@ returns-in_default-2-clause-told g c =
     told_of_text old _ _ true c.fault_here.result start.text start.options
     (second_told old now mid c.scan-2.new.self c.in_ok-token.field-0 c.in_ok-scan.field-0 c.scan.ensures.kept c.in_ok-token.ensures.found start.start value.kept (value_item now mid (located c.in_ok-value.value) value.kept value.found)
     c.scan-2.ensures.kept last.found last.lexeme c.in_default-2.not-None true c.fault_here.result c.fault_here.ensures.kind c.fault_here.ensures.range)
+
+pub returns-in_err-token-clause-stops : goal.returns-in_err-token-clause-stops
+returns-in_err-token-clause-stops g c =
+    let start = c.new-context.ensures in
+    let old = c.new-context.result in
+    let e = c.in_err-token.field-0.0 in
+    err_of (IsToldOfText (parse_options c.args.options.now) c.args.text.now true) e c.from_residual.result c.from_residual.ensures.1
+    (text_stops old _ _ e start.text start.options start.start (stops_here old true [] document e c.in_err-token.ensures.stops))
+
+pub returns-in_err-value-clause-stops : goal.returns-in_err-value-clause-stops
+returns-in_err-value-clause-stops g c =
+    let start = c.new-context.ensures in
+    let old = c.new-context.result in
+    let read = c.in_ok-token.ensures in
+    let e = c.in_err-value.field-0.0 in
+    err_of (IsToldOfText (parse_options c.args.options.now) c.args.text.now true) e c.from_residual-in_err-value.result c.from_residual-in_err-value.ensures.1
+    (text_stops old _ _ e start.text start.options start.start
+    (root_stops old c.scan.new.self c.in_ok-token.field-0 c.scan.ensures.kept read.found read.lexeme c.in-Some.token c.in-Some.is e (c.in_err-value.ensures.stops _ _ _ refl)))
+
+pub returns-in_err-scan-clause-stops : goal.returns-in_err-scan-clause-stops
+returns-in_err-scan-clause-stops g c =
+    let start = c.new-context.ensures in
+    let old = c.new-context.result in
+    let read = c.in_ok-token.ensures in
+    let value = c.in_ok-value.ensures in
+    let e = c.in_err-scan.field-0.0 in
+    err_of (IsToldOfText (parse_options c.args.options.now) c.args.text.now true) e c.from_residual-in_err-scan.result c.from_residual-in_err-scan.ensures.1
+    (text_stops old _ _ e start.text start.options start.start
+    (end_stops old c.scan.new.self c.in_ok-token.field-0 c.scan.ensures.kept read.found read.lexeme c.in-Some.token c.in-Some.is c.parse_value.new.context (located c.in_ok-value.value) value.kept value.found value.within e c.in_err-scan.ensures.stops))
+
+pub returns-in_default-2-clause-stops : goal.returns-in_default-2-clause-stops
+returns-in_default-2-clause-stops g c =
+    let start = c.new-context.ensures in
+    let old = c.new-context.result in
+    let read = c.in_ok-token.ensures in
+    let value = c.in_ok-value.ensures in
+    let last = c.in_ok-scan.ensures in
+    text_stops old _ _ c.fault_here.result start.text start.options start.start
+    (second_stops old c.scan.new.self c.in_ok-token.field-0 c.scan.ensures.kept read.found read.lexeme c.in-Some.token c.in-Some.is c.parse_value.new.context (located c.in_ok-value.value) value.kept value.found value.within
+    c.scan-2.new.self c.in_ok-scan.field-0 c.scan-2.ensures.kept last.found last.lexeme c.in_default-2.not-None c.fault_here.result c.fault_here.ensures.kind c.fault_here.ensures.range)

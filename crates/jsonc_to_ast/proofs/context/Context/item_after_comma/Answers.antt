@@ -1,4 +1,9 @@
-use Rattle.std.proofs.Common.{inl, inr, sym, ap, ◌∙◌}
+use Rattle.std.proofs.Common.{inl, inr, sym, ap, ◌∙◌, List, ◌∷◌, ℕ, is_some, refl}
+use Rattle.jsonc_to_ast.specs.Context.{text_in, IsBracket}
+use Rattle.jsonc_to_ast.specs.Refusals.{here}
+use Rattle.jsonc_to_ast.specs.Reached.{Opened, container, further}
+use Rattle.jsonc_to_ast.specs.Reading.{IsFrom, StopsAfter}
+use Rattle.jsonc_to_ast.proofs.Stopping.{stops_here, open_stops, trailing_stops}
 use Rattle.jsonc_to_ast.specs.Context.{options_in}
 use Rattle.jsonc_to_ast.specs.Refusals.{after}
 use Rattle.jsonc_to_ast.proofs.Refusals.{err_of, still, refuted, no_token_lexeme, nowhere_comma, nothing_at_end, only_after_comma, trailing_refused}
@@ -54,3 +59,26 @@ returns-then-not-self-clause-told g c =
     let new = c.scan.new.self in
     trailing_told c.args.self.now new c.in_ok-token.field-0 c.scan.ensures.kept read.found read.lexeme c.in-Some.token c.in-Some.is c.args.container c.args.start c.fault.result c.range-comma.result
     (c.is_closed_by.ensures.0 c.if-not-is_closed_by.false) (ap (λ p. p.trailing_commas) (sym (new.same ∙ c.scan.ensures.kept.options)) ∙ c.if-not-self.true) c.fault.ensures.range c.range-comma.ensures c.fault.ensures.kind
+
+pub returns-in_err-token-clause-stops : goal.returns-in_err-token-clause-stops
+returns-in_err-token-clause-stops g c =
+    let old = c.args.self.now in
+    let k = c.args.container in
+    err_of (λ e. (q : List Opened) (a : List ℕ) → IsBracket 0x2C old → IsFrom (text_in old) c.args.start a → StopsAfter old (is_some c.args.start) (container k a ∷ q) (further k (here old)) e) c.in_err-token.field-0.0 c.from_residual.result c.from_residual.ensures.1
+    (λ q a one h. stops_here old (is_some c.args.start) (container k a ∷ q) (further k (here old)) c.in_err-token.field-0.0 c.in_err-token.ensures.stops)
+
+pub returns-in_default-clause-stops : goal.returns-in_default-clause-stops
+returns-in_default-clause-stops g c = λ q a one.
+    let old = c.args.self.now in
+    let new = c.scan.new.self in
+    let read = c.in_ok-token.ensures in
+    let kept = c.scan.ensures.kept in
+    open_stops old new c.in_ok-token.field-0 kept read.found read.lexeme c.in_default.is c.args.container c.args.start c.unterminated.result
+    (open_before old new c.args.container c.args.start c.unterminated.result kept (c.unterminated.ensures.told (end_here old new c.in_ok-token.field-0 kept read.found read.lexeme c.in_default.is))) (further c.args.container (here old)) (λ whole q. refl) q a
+
+pub returns-then-not-self-clause-stops : goal.returns-then-not-self-clause-stops
+returns-then-not-self-clause-stops g c = λ q a one from.
+    let read = c.in_ok-token.ensures in
+    let new = c.scan.new.self in
+    trailing_stops c.args.self.now new c.in_ok-token.field-0 c.scan.ensures.kept read.found read.lexeme c.in-Some.token c.in-Some.is c.args.container (c.is_closed_by.ensures.0 c.if-not-is_closed_by.false) c.fault.result
+    (ap (λ p. p.trailing_commas) (sym (new.same ∙ c.scan.ensures.kept.options)) ∙ c.if-not-self.true) c.fault.ensures.kind (c.fault.ensures.range ∙ c.range-comma.ensures) (is_some c.args.start) (container c.args.container a ∷ q) one

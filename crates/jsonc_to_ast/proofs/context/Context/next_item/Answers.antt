@@ -1,4 +1,9 @@
-use Rattle.std.proofs.Common.{inl, inr, sym, ap, ◌∙◌}
+use Rattle.std.proofs.Common.{inl, inr, sym, ap, ◌∙◌, List, ◌∷◌, ℕ, is_some, refl}
+use Rattle.jsonc_to_ast.specs.Context.{text_in}
+use Rattle.jsonc_to_ast.specs.Reached.{Opened, container, comma}
+use Rattle.jsonc_to_ast.specs.Reading.{IsFrom, StopsAfter}
+use Rattle.jsonc_to_ast.proofs.Scans.{token_is, at_token}
+use Rattle.jsonc_to_ast.proofs.Stopping.{stops_here, open_stops, missing_stops, comma_stops, from_before}
 use Rattle.jsonc_text.specs.Grammar.{plain, Closes}
 use Rattle.jsonc_to_ast.specs.Containers.{closing}
 use Rattle.jsonc_to_ast.specs.Context.{options_in}
@@ -114,3 +119,42 @@ returns-then-is_comma-clause-comes g c =
 
 pub returns-clause-comes : goal.returns-clause-comes
 returns-clause-comes g c = inr (c.in_ok-token.ensures.found.0, refuted c.is_comma.ensures.1 c.if-is_comma.false)
+
+pub returns-in_err-token-clause-stops : goal.returns-in_err-token-clause-stops
+returns-in_err-token-clause-stops g c =
+    let old = c.args.self.now in
+    let k = c.args.container in
+    err_of (λ e. (q : List Opened) (a : List ℕ) → IsFrom (text_in old) c.args.start a → StopsAfter old (is_some c.args.start) (container k a ∷ q) (comma k (after old)) e) c.in_err-token.field-0.0 c.from_residual.result c.from_residual.ensures.1
+    (λ q a h. stops_here old (is_some c.args.start) (container k a ∷ q) (comma k (after old)) c.in_err-token.field-0.0 c.in_err-token.ensures.stops)
+
+pub returns-in_default-clause-stops : goal.returns-in_default-clause-stops
+returns-in_default-clause-stops g c =
+    let old = c.args.self.now in
+    let new = c.scan.new.self in
+    let read = c.in_ok-token.ensures in
+    let kept = c.scan.ensures.kept in
+    open_stops old new c.in_ok-token.field-0 kept read.found read.lexeme c.in_default.is c.args.container c.args.start c.unterminated.result
+    (open_before old new c.args.container c.args.start c.unterminated.result kept (c.unterminated.ensures.told (end_here old new c.in_ok-token.field-0 kept read.found read.lexeme c.in_default.is))) (comma c.args.container (after old)) (λ whole q. refl)
+
+pub returns-then-is_comma-clause-stops : goal.returns-then-is_comma-clause-stops
+returns-then-is_comma-clause-stops g c =
+    let old = c.args.self.now in
+    let new = c.scan.new.self in
+    let f = c.in_ok-token.field-0 in
+    let read = c.in_ok-token.ensures in
+    let kept = c.scan.ensures.kept in
+    let mark = c.is_comma.ensures.0 c.if-is_comma.true in
+    let one = token_is (text_in new) (options_in new) new.scanner c.in-Some.token 0x2C refl refl (at_token old new f c.in-Some.token 0x2C kept read.found c.in-Some.is) mark in
+    err_some c.item_after_comma.result
+    (λ e told q a from. comma_stops old new f kept read.found read.lexeme c.in-Some.token c.in-Some.is mark c.args.container e (is_some c.args.start) (container c.args.container a ∷ q) one
+    (told q a one (from_before old new kept c.args.start a from)))
+    c.item_after_comma.ensures.stops
+
+pub returns-then-not-self-clause-stops : goal.returns-then-not-self-clause-stops
+returns-then-not-self-clause-stops g c = λ q a from.
+    let old = c.args.self.now in
+    let new = c.scan.new.self in
+    let read = c.in_ok-token.ensures in
+    missing_stops old new c.in_ok-token.field-0 c.scan.ensures.kept read.found read.lexeme c.in-Some.token c.in-Some.is c.args.container c.missing_comma.result c.token_end-end.result
+    (ap (λ p. p.missing_commas) (sym (new.same ∙ c.scan.ensures.kept.options)) ∙ c.if-not-self.true) c.token_end-end.ensures (refuted c.is_closed_by.ensures.1 c.if-is_closed_by.false) (refuted c.is_comma.ensures.1 c.if-is_comma.false)
+    c.missing_comma.ensures.comma c.missing_comma.ensures.misplaced (is_some c.args.start) (container c.args.container a ∷ q)
