@@ -11,9 +11,7 @@ pub mod Loops
 pub mod Properties
 pub mod Refusals
 pub mod NoValues
-pub mod Telling
-pub mod Ongoing
-pub mod Due
+pub mod Tokens
 pub mod Leaves
 pub mod Stopping
 pub mod ReadsValues
