@@ -16,3 +16,9 @@ pub mod Leaves
 pub mod Stopping
 pub mod ReadsValues
 pub mod Standing
+pub mod EndsOfGaps
+pub mod ReadLexemes
+pub mod Unique
+pub mod Order
+pub mod Documents
+pub mod Rows

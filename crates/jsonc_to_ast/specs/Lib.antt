@@ -8,3 +8,4 @@ pub mod Refusals
 pub mod Collected
 pub mod Reached
 pub mod Told
+pub mod Laws
