@@ -11,10 +11,14 @@ pub mod Loops
 pub mod Properties
 pub mod Refusals
 pub mod NoValues
-pub mod Telling
-pub mod Ongoing
-pub mod Due
+pub mod Tokens
 pub mod Leaves
 pub mod Stopping
 pub mod ReadsValues
 pub mod Standing
+pub mod EndsOfGaps
+pub mod ReadLexemes
+pub mod Unique
+pub mod Order
+pub mod Documents
+pub mod Rows

@@ -1,23 +1,14 @@
 -- Reading goes through a whole value.
-use Rattle.std.proofs.Common.{ℕ, suc, max, ◌+◌, ◌<◌, ◌≤◌, ◌≡◌, ◌∙◌, sym, ap, subst, refl, Bool, true, false, ◌&&◌, List, [], ◌∷◌, length, Option, Some, None, IsTrue, arith, nat_lt, inl, inr, ◌⊎◌}
+use Rattle.std.proofs.Common.{ℕ, suc, ◌+◌, ◌≤◌, ◌≡◌, refl, Bool, true, false, List, ◌∷◌, length, Some, arith, nat_lt}
 use Rattle.jsonc_text.specs.Gaps.{Gap}
-use Rattle.jsonc_text.specs.Grammar.{IsValue, AreElements, AreProperties, IsProperty, IsDocument, literal_value, literal, empty_array, array, empty_object, object, last_element, element, last_property, property, named, Separates, Closes}
+use Rattle.jsonc_text.specs.Grammar.{IsValue, AreElements, AreProperties, IsProperty, literal_value, literal, empty_array, array, empty_object, object, last_element, element, last_property, property, named, Separates, Closes}
 use Rattle.jsonc_text.specs.Lexemes.{LexemeKind, punctuation}
 use Rattle.jsonc_text.specs.Options.{Options}
-use Rattle.jsonc_text.specs.Plain.{Plain, Items, no_items, item, Members, no_members, member, depth, items_depth, members_depth, around, items_around, members_around}
+use Rattle.jsonc_text.specs.Plain.{Plain, Items, no_items, item, Members, no_members, member, items_depth, members_depth, items_around, members_around}
 use Rattle.jsonc_to_ast.specs.declared.container.Container.{Container}
 use Rattle.jsonc_to_ast.specs.declared.container.Container.TheVariants.{Array, Object}
 use Rattle.jsonc_to_ast.specs.Containers.{opening, closing}
-use Rattle.jsonc_to_ast.specs.Reached.{Opened, container, Due, document, end, first, comma, colon, Place, at, ItemMayCome, first_item, further_item, without_comma, ValueMayCome, of_text, of_array, of_property, CloseMayCome, empty, after_item, after_comma, Step, takes_literal, opens, closes, takes_comma, takes_name, takes_colon, ComesTo, here, on, Reached, after_value, is_deep, is_opening, containers}
-
--- how many of what is open counts, and of what a value has
-abbrev pub count : Bool → List Opened → ℕ
-count true q = length q
-count false q = containers q
-
-abbrev pub size : Bool → Plain → ℕ
-size true v = around v
-size false v = depth v
+use Rattle.jsonc_to_ast.specs.Reached.{Opened, container, Due, comma, Place, at, ItemMayCome, first_item, further_item, without_comma, ValueMayCome, of_array, of_property, empty, after_item, after_comma, Step, takes_literal, opens, closes, takes_comma, takes_name, takes_colon, ComesTo, here, on, after_value, count, size, is_deep, is_opening, containers}
 
 pub leads_on : {o : Options} {whole : Bool} {p n r : Place} → ComesTo o whole p n → ComesTo o whole n r → ComesTo o whole p r
 leads_on here g = g

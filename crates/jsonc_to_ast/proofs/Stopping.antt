@@ -1,5 +1,5 @@
 -- Where reading stops.
-use Rattle.std.proofs.Common.{ℕ, ◌≡◌, ◌≢◌, ◌∙◌, sym, ap, subst, refl, Bool, true, false, cond, List, [], ◌∷◌, length, Option, Some, None, IfSome, is_some, ◌⊎◌, inl, inr, arith, ◌==◌, IsTrue}
+use Rattle.std.proofs.Common.{ℕ, ◌≡◌, ◌≢◌, ◌∙◌, sym, ap, subst, refl, Bool, true, false, cond, List, [], ◌∷◌, length, Option, Some, None, is_some, ◌⊎◌, inl, inr, arith, ◌==◌, IsTrue}
 use Rattle.jsonc_text.specs.declared.common.Range.{Range}
 use Rattle.jsonc_text.specs.declared.errors.ParseError.{ParseError}
 use Rattle.jsonc_text.specs.declared.errors.ParseErrorKind.{ParseErrorKind}
@@ -15,23 +15,22 @@ use Rattle.jsonc_text.specs.Tokens.{scanned_of}
 use Rattle.jsonc_text.proofs.Steps.{rest_end}
 use Rattle.jsonc_text.proofs.Basics.{test_eq}
 use Rattle.jsonc_scan.specs.declared.scanner.Scanner.{Scanner}
-use Rattle.jsonc_scan.specs.Scanner.{text_of, start_of, end_of, options_of, PassesBlanks, StandsAt, IsTrueThere}
+use Rattle.jsonc_scan.specs.Scanner.{start_of, end_of, options_of, PassesBlanks, StandsAt, IsTrueThere}
 use Rattle.jsonc_scan.specs.Told.{Tells}
 use Rattle.jsonc_ast.specs.Located.{Between}
 use Rattle.jsonc_to_ast.specs.declared.container.Container.{Container}
 use Rattle.jsonc_to_ast.specs.declared.container.Container.TheVariants.{Array, Object}
 use Rattle.jsonc_to_ast.specs.declared.context.Context.{Context}
 use Rattle.jsonc_to_ast.specs.Containers.{closing, unterminated_kind, begins, misplaced_kind}
-use Rattle.jsonc_to_ast.specs.Context.{text_in, options_in, token_start, token_end, token_range, Keeps, Finds, IsNoComment, IsBracket}
-use Rattle.jsonc_to_ast.specs.Refusals.{WantsMemory, after, here}
-use Rattle.jsonc_to_ast.specs.Told.{AtEnd, IsOpen, IsFaultOf, or_end}
-use Rattle.jsonc_to_ast.specs.Reached.{Opened, container, Due, first, further, comma, colon, Place, at, Step, takes_comma, ComesTo, on}
-use Rattle.jsonc_to_ast.specs.Reading.{Fault, fault, Stops, no_lexeme, wrong_lexeme, wrong_ending, wrong, wrong_end, wrong_comma, wrong_name, open_at_end, past_one, is_mark, ToldFrom, fault_in, IsFrom, StopsAnyhow, StopsAfter}
-use Rattle.jsonc_to_ast.specs.Scanned.{loose_text}
+use Rattle.jsonc_to_ast.specs.Context.{text_in, options_in, token_start, token_end, token_range, Keeps, Finds, IsNoComment, IsBracket, OpensNone}
+use Rattle.jsonc_to_ast.specs.Refusals.{IsOpen, IsFaultOf, or_end, after, here}
+use Rattle.jsonc_to_ast.specs.Reached.{Opened, container, Due, further, comma, colon, at, takes_comma, ComesTo, on}
+use Rattle.jsonc_to_ast.specs.Told.{fault, Stops, no_lexeme, wrong_lexeme, wrong_ending, wrong, wrong_end, wrong_comma, wrong_name, open_at_end, past_one, is_mark, ToldFrom, fault_in, IsFrom, StopsAnyhow, StopsAfter, IsUnexpected}
+use Rattle.jsonc_to_ast.specs.Scanned.{loose_text, leaf_value, unexpected_kind}
 use Rattle.jsonc_to_ast.proofs.Gaps.{join, change, stands, passed, gap_append}
 use Rattle.jsonc_to_ast.proofs.Refusals.{memory_or_not, comment_at}
 use Rattle.jsonc_to_ast.proofs.Scans.{Passing, moved}
-use Rattle.jsonc_to_ast.proofs.Telling.{lexeme_found, lexeme_stands, end_here}
+use Rattle.jsonc_to_ast.proofs.Tokens.{lexeme_found, lexeme_stands, end_here, begins_none}
 
 -- the fault by its kind and range
 pub fault_is : (bytes : List ℕ) (e : ParseError) (k : ParseErrorKind) (i j : ℕ) → kind_of e ≡ k → (range_of e).start ≡ i → (range_of e).end ≡ j → fault k (rest bytes i) (rest bytes j) ≡ fault_in bytes e
@@ -183,6 +182,11 @@ module _ {A : Type 0} where
 
         go : ToldFrom (options_in new) whole (at q (further k (here new)) (after new)) (fault_in (text_in new) e) → ToldFrom (options_in new) whole (at q (comma k (after old)) (after old)) (fault_in (text_in new) e)
         go (n, x, s) = (n, on (takes_comma k gap) (subst (λ c. ComesTo (options_in new) whole (at q (further k c) (after new)) n) one.stands x), s)
+
+  -- a token with which no value begins
+  pub is_unexpected : (c : Context A) (t : Token A) (e : ParseError) → OpensNone t → leaf_value (scanned_of t) ≡ None → kind_of e ≡ unexpected_kind (scanned_of t) → range_of e ≡ token_range c → IsUnexpected c t e
+  is_unexpected c t e opens none kind range l mark =
+      (begins_none l (ap leaf_value (sym mark) ∙ none) (λ f. opens.0 (mark ∙ ap lexeme f)) (λ f. opens.1 (mark ∙ ap lexeme f)), fault_at (text_in c) e (unexpected_kind (lexeme l)) (token_range c) (kind ∙ ap unexpected_kind mark) range)
 
   -- a name that is not allowed, or none
   module _ (c : Context A) (t : Token A) (e : ParseError) where

@@ -1,5 +1,6 @@
 -- What a parser has before it.
-use Rattle.std.specs.Prelude.{ℕ, ◌≡◌, ◌≤◌, Bool, false, List, Option, Some, None, is_some}
+use Rattle.std.specs.Prelude.{ℕ, ◌≡◌, ◌≢◌, ◌≤◌, ◌⊎◌, Bool, false, List, ◌∷◌, length, Option, Some, None, is_some}
+use Rattle.jsonc_text.specs.Lexemes.{LexemeKind, lexeme, punctuation}
 use Rattle.jsonc_text.specs.declared.common.Range.{Range}
 use Rattle.jsonc_text.specs.declared.tokens.Token.{Token}
 use Rattle.jsonc_text.specs.Options.{Options}
@@ -12,6 +13,10 @@ use Rattle.jsonc_to_ast.specs.declared.container.Container.{Container}
 use Rattle.jsonc_to_ast.specs.declared.context.Context.{Context}
 use Rattle.jsonc_to_ast.specs.Containers.{closing}
 use Rattle.jsonc_ast.specs.Located.{LocatedName, Between, In, One, Ends, TrailingComma}
+
+-- t is a gap, a comma and a gap, and then r
+abbrev pub AfterComma : Options → List ℕ → List ℕ → Type 0
+AfterComma o t r = (u : List ℕ) × Gap o t (0x2C ∷ u) × Gap o u r
 
 module _ {A : Type 0} where
   -- the bytes of the whole text
@@ -95,3 +100,19 @@ module _ {A : Type 0} where
   -- the last token is the name
   abbrev pub IsNameHere : Context A → LocatedName → Type 0
   IsNameHere c n = In (text_in c) (λ t r. IsName (options_in c) t n.name r) (token_range c)
+
+  -- the last token is the end of the text
+  abbrev pub AtEnd : Context A → Type 0
+  AtEnd c = (token_start c ≡ length (text_in c)) × (token_end c ≡ length (text_in c))
+
+  -- the token is a lexeme, and does not close the container
+  abbrev pub ClosesNone : Container → Token A → Type 0
+  ClosesNone k t = (l : LexemeKind) × (scanned_of t ≡ lexeme l) × (l ≢ punctuation (closing k))
+
+  -- between the end of an item and the token stands a comma and gaps; or a gap alone, and the token is no comma
+  abbrev pub Comes : Context A → Context A → Token A → Type 0
+  Comes old new t = Passes (AfterComma (options_in old)) old new ⊎ Passes (Gap (options_in old)) old new × (scanned_of t ≢ lexeme (punctuation 0x2C))
+
+  -- the token opens no container
+  abbrev pub OpensNone : Token A → Type 0
+  OpensNone t = (scanned_of t ≢ lexeme (punctuation 0x5B)) × (scanned_of t ≢ lexeme (punctuation 0x7B))

@@ -6,6 +6,6 @@ pub mod Reads
 pub mod Comments
 pub mod Refusals
 pub mod Collected
-pub mod Told
 pub mod Reached
-pub mod Reading
+pub mod Told
+pub mod Laws

@@ -1,6 +1,8 @@
 -- What a refusal of a parser says of the text.
-use Rattle.std.specs.Prelude.{ℕ, ◌+◌, ◌≤◌, ◌≡◌, Bool, false, not, ◌||◌, ◌==◌, List, [], Option, Some, None, IfSome, IsTrue, ◌⊎◌, chars}
+use Rattle.std.specs.Prelude.{ℕ, ◌+◌, ◌≤◌, ◌≡◌, Bool, false, not, ◌||◌, ◌==◌, List, [], length, Option, Some, None, IfSome, IsTrue, ◌⊎◌, chars}
+use Rattle.jsonc_text.specs.declared.common.Range.{Range}
 use Rattle.jsonc_text.specs.declared.errors.ParseError.{ParseError}
+use Rattle.jsonc_text.specs.declared.errors.ParseErrorKind.{ParseErrorKind}
 use Rattle.jsonc_text.specs.declared.errors.ParseErrorKind.TheVariants.{OutOfMemory, CommentsNotAllowed}
 use Rattle.jsonc_text.specs.declared.tokens.Token.{Token}
 use Rattle.jsonc_text.specs.Options.{Options}
@@ -13,12 +15,28 @@ use Rattle.jsonc_text.specs.Grammar.{literal_value, IsValue, IsName, IsProperty,
 use Rattle.jsonc_ast.specs.Located.{Ends, TrailingComma}
 use Rattle.jsonc_to_ast.specs.declared.container.Container.{Container}
 use Rattle.jsonc_to_ast.specs.declared.context.Context.{Context}
-use Rattle.jsonc_to_ast.specs.Containers.{closing}
+use Rattle.jsonc_to_ast.specs.Containers.{closing, unterminated_kind}
 use Rattle.jsonc_to_ast.specs.Context.{text_in, options_in, token_start, token_end, token_range}
 
 -- memory was wanting
 abbrev pub WantsMemory : ParseError → Type 0
 WantsMemory e = kind_of e ≡ OutOfMemory
+
+-- the fault is of this kind, and told of these bytes
+pub record IsFaultOf (what : ParseErrorKind) (bytes : Range) (e : ParseError) : Type 0 where
+  pub kind : kind_of e ≡ what
+  pub range : range_of e ≡ bytes
+
+-- the place, or else the end of the text
+abbrev pub or_end : List ℕ → Option ℕ → ℕ
+or_end bytes None = length bytes
+or_end bytes (Some i) = i
+
+-- the fault is that of a container that the text ends in, told from a place or of the end
+pub record IsOpen (k : Container) (bytes : List ℕ) (place : Option ℕ) (e : ParseError) : Type 0 where
+  pub kind : kind_of e ≡ unterminated_kind k
+  pub start : (range_of e).start ≡ or_end bytes place
+  pub end : (range_of e).end ≡ length bytes
 
 -- a lexeme stands at the front of t
 abbrev pub AtLexeme : Options → List ℕ → Type 0

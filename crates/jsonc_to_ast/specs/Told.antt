@@ -1,163 +1,175 @@
--- What the kind of a parser's fault says of the text.
--- Throughout, the fault is told of the bytes from the place i to the place j.
-use Rattle.std.specs.Prelude.{◌∷◌, ℕ, ◌≡◌, ◌≢◌, ◌≤◌, ◌⊎◌, Bool, true, false, cond, List, length, Option, Some, None, IsTrue, IsCharBoundary}
-use Rattle.jsonc_text.specs.declared.common.Range.{Range}
-use Rattle.jsonc_text.specs.declared.errors.ParseError.{ParseError}
+-- What is told of a text that is refused.
+-- Throughout, the lexeme l stands from u to r.
+use Rattle.std.specs.Prelude.{ℕ, ◌≡◌, Bool, false, cond, ◌&&◌, ◌||◌, ◌==◌, List, [], ◌∷◌, length, Option, Some, None, IfSome, is_some, nat_lt, ◌⊎◌, chars}
 use Rattle.jsonc_text.specs.declared.errors.ParseErrorKind.{ParseErrorKind}
 use Rattle.jsonc_text.specs.declared.errors.ParseErrorKind.TheVariants.{CommentsNotAllowed, ExpectedColonAfterObjectKey, ExpectedObjectValue, ExpectedStringObjectProperty, ExpectedComma, MultipleRootJsonValues, TrailingCommasNotAllowed, UnexpectedTokenInObject, NestingDepthExceeded}
-use Rattle.jsonc_text.specs.declared.tokens.Token.{Token}
-use Rattle.jsonc_text.specs.Faults.{kind_of, range_of}
 use Rattle.jsonc_text.specs.Gaps.{Gap, IsComment}
-use Rattle.jsonc_text.specs.Grammar.{may_name, IsValue, IsName, IsProperty}
-use Rattle.jsonc_text.specs.Lexemes.{LexemeKind, punctuation, lexeme, Lexeme}
+use Rattle.jsonc_text.specs.Lexemes.{LexemeKind, Lexeme, lexeme, punctuation, string}
 use Rattle.jsonc_text.specs.Options.{Options}
-use Rattle.jsonc_text.specs.Plain.{Plain}
+use Rattle.jsonc_text.specs.declared.errors.ParseError.{ParseError}
+use Rattle.jsonc_text.specs.Faults.{kind_of, range_of}
 use Rattle.jsonc_text.specs.Text.{rest}
+use Rattle.jsonc_to_ast.specs.declared.context.Context.{Context}
+use Rattle.jsonc_text.specs.declared.tokens.Token.{Token}
 use Rattle.jsonc_text.specs.Tokens.{scanned_of}
-use Rattle.jsonc_scan.specs.Told.{Tells as TellsOfLexeme}
-use Rattle.jsonc_ast.specs.Located.{Between, One, Ends, Colon}
+use Rattle.jsonc_to_ast.specs.Context.{text_in, options_in}
+use Rattle.jsonc_to_ast.specs.Refusals.{WantsMemory, here, after}
+use Rattle.jsonc_scan.specs.Told.{Tells}
 use Rattle.jsonc_to_ast.specs.declared.container.Container.{Container}
 use Rattle.jsonc_to_ast.specs.declared.container.Container.TheVariants.{Array, Object}
-use Rattle.jsonc_to_ast.specs.declared.context.Context.{Context}
-use Rattle.jsonc_to_ast.specs.Containers.{opening, closing, unterminated_kind, begins}
-use Rattle.jsonc_to_ast.specs.Context.{text_in, options_in, token_start, token_end, IsBracket}
-use Rattle.jsonc_to_ast.specs.Refusals.{WantsMemory}
+use Rattle.jsonc_to_ast.specs.Containers.{closing, unterminated_kind, begins, misplaced_kind}
 use Rattle.jsonc_to_ast.specs.Scanned.{begins_value, unexpected_kind}
+use Rattle.jsonc_to_ast.specs.Reached.{Opened, container, property, Due, document, end, first, further, comma, colon, value, ItemMayCome, ValueMayCome, Place, at, count, is_deep, ComesTo}
 
--- t is a lexeme that passes the test, and then r
-abbrev pub LexemeThat : Options → (LexemeKind → Bool) → List ℕ → List ℕ → Type 0
-LexemeThat o p t r = (k : LexemeKind) × IsTrue (p k) × Lexeme o k t r
+-- a fault: its kind, and where its range begins and ends
+pub data Fault : Type 0 where
+  fault : ParseErrorKind → List ℕ → List ℕ → Fault
 
--- t is a lexeme other than this punctuation, and then r
-abbrev pub OtherThan : Options → ℕ → List ℕ → List ℕ → Type 0
-OtherThan o c t r = (k : LexemeKind) × (k ≢ punctuation c) × Lexeme o k t r
+-- where the innermost that is open begins, or else u
+abbrev pub innermost : List Opened → List ℕ → List ℕ
+innermost [] u = u
+innermost (container k a ∷ q) u = a
+innermost (property a ∷ q) u = a
 
--- t is a name, and then r
-abbrev pub SomeName : Options → List ℕ → List ℕ → Type 0
-SomeName o t r = (name : List ℕ) × IsName o t name r
+-- the place after the character there
+abbrev pub past_one : List ℕ → List ℕ
+past_one [] = []
+past_one (c ∷ r) = r
 
--- t is an element, a value, or a property, and then r
-abbrev pub Item : Options → Container → List ℕ → List ℕ → Type 0
-Item o Array t r = (v : Plain) × IsValue o t v r
-Item o Object t r = (name : List ℕ) × (v : Plain) × IsProperty o t name v r
+-- the lexeme is this punctuation
+abbrev pub is_mark : ℕ → LexemeKind → Bool
+is_mark c (punctuation d) = d == c
+is_mark c _ = false
 
--- t is a gap, a comma and a gap, and then r
-abbrev pub AfterComma : Options → List ℕ → List ℕ → Type 0
-AfterComma o t r = (u : List ℕ) × Gap o t (0x2C ∷ u) × Gap o u r
+-- too deep: told from the innermost that is open through the lexeme, or of the lexeme alone
+abbrev pub deep : Bool → List Opened → List ℕ → List ℕ → Fault
+deep whole q u r = fault NestingDepthExceeded (cond whole (innermost q u) u) r
 
--- i and j are the end of the text
-abbrev pub IsEnd : List ℕ → ℕ → ℕ → Type 0
-IsEnd bytes i j = (i ≡ length bytes) × (j ≡ length bytes)
+-- what is wrong with the lexeme where a value must begin, if anything
+abbrev pub wrong_value : Bool → List Opened → LexemeKind → List ℕ → List ℕ → Option Fault
+wrong_value whole q l u r = cond (is_deep whole q l) (Some (deep whole q u r)) (cond (begins_value (lexeme l)) None (Some (fault (unexpected_kind (lexeme l)) u r)))
 
--- at i, where the lexeme l stands, an item of the container must begin: after its opening bracket, after an item and a comma, or after an item where no comma stands
-pub data ItemIsDue (o : Options) (bytes : List ℕ) (k : Container) (l : LexemeKind) (i : ℕ) : Type 0 where
-  first_item : {a b : ℕ} → Between bytes (One (opening k)) a b → Between bytes (Gap o) b i → ItemIsDue o bytes k l i
-  next_item : {a b : ℕ} → Between bytes (Item o k) a b → Between bytes (AfterComma o) b i → ItemIsDue o bytes k l i
-  without_comma : {a b : ℕ} → l ≢ punctuation 0x2C → Between bytes (Item o k) a b → Between bytes (Gap o) b i → ItemIsDue o bytes k l i
+-- where a name must stand
+abbrev pub wrong_name : Options → LexemeKind → List ℕ → List ℕ → Option Fault
+wrong_name o (string v) u r = None
+wrong_name o (punctuation c) u r = Some (fault UnexpectedTokenInObject u r)
+wrong_name o _ u r = cond o.loose_names None (Some (fault ExpectedStringObjectProperty u r))
 
--- there a value must begin: the text's, that of an array, which l does not close, or that of a property
-pub data ValueIsDue (o : Options) (bytes : List ℕ) (l : LexemeKind) (i : ℕ) : Type 0 where
-  root : Between bytes (Gap o) 0 i → ValueIsDue o bytes l i
-  of_array : l ≢ punctuation (closing Array) → ItemIsDue o bytes Array l i → ValueIsDue o bytes l i
-  of_property : {a b : ℕ} → Between bytes (SomeName o) a b → Between bytes (Colon o) b i → ValueIsDue o bytes l i
+-- where an element or a property must begin
+abbrev pub wrong_item : Options → Bool → Container → List Opened → LexemeKind → List ℕ → List ℕ → Option Fault
+wrong_item o whole Array q l u r = wrong_value whole q l u r
+wrong_item o whole Object q l u r = wrong_name o l u r
 
--- a fault of this kind is told of the bytes from i to j; whole: what is wrong with a container is told from where it begins, and else of its end or its bracket alone
-pub data Told (o : Options) (bytes : List ℕ) (whole : Bool) : ParseErrorKind → ℕ → ℕ → Type 0 where
-  -- a lexeme that is refused
-  no_lexeme : {kind : ParseErrorKind} {place i j : ℕ} → IsCharBoundary bytes place → TellsOfLexeme o kind (rest bytes place) (rest bytes i) (rest bytes j) → Told o bytes whole kind i j
-  comment : {i j : ℕ} → o.comments ≡ false → Between bytes IsComment i j → Told o bytes whole CommentsNotAllowed i j
-  no_colon : {a b i j : ℕ} → Between bytes (SomeName o) a b → Between bytes (Gap o) b i → Between bytes (OtherThan o 0x3A) i j ⊎ IsEnd bytes i j → Told o bytes whole ExpectedColonAfterObjectKey i j
-  no_value : {a b i j : ℕ} → Between bytes (SomeName o) a b → Between bytes (Colon o) b i → IsEnd bytes i j → Told o bytes whole ExpectedObjectValue i j
-  loose_name : (l : LexemeKind) {i j : ℕ} → o.loose_names ≡ false → ItemIsDue o bytes Object l i → IsTrue (may_name l) → Between bytes (Lexeme o l) i j → Told o bytes whole ExpectedStringObjectProperty i j
-  -- punctuation that does not close the object
-  no_name : {c i j : ℕ} → ItemIsDue o bytes Object (punctuation c) i → c ≢ closing Object → Between bytes (Lexeme o (punctuation c)) i j → Told o bytes whole UnexpectedTokenInObject i j
-  -- told where an item ends; past a gap another one begins
-  no_comma : (k : Container) {a i b c : ℕ} → o.missing_commas ≡ false → Between bytes (Item o k) a i → Between bytes (Gap o) i b → Between bytes (LexemeThat o (λ l. begins k (lexeme l))) b c → Told o bytes whole ExpectedComma i i
-  trailing_comma : (k : Container) {a b i j c : ℕ} → o.trailing_commas ≡ false → Between bytes (Item o k) a b → Between bytes (Gap o) b i → Between bytes (One 0x2C) i j → Between bytes (Ends o (closing k)) j c → Told o bytes whole TrailingCommasNotAllowed i j
-  second_value : {a b i j : ℕ} → Between bytes (Gap o) 0 a → Between bytes (Item o Array) a b → Between bytes (Gap o) b i → Between bytes (LexemeThat o (λ l. true)) i j → Told o bytes whole MultipleRootJsonValues i j
-  -- a lexeme that no value begins with
-  unexpected : (l : LexemeKind) {i j : ℕ} → ValueIsDue o bytes l i → begins_value (lexeme l) ≡ false → Between bytes (Lexeme o l) i j → Told o bytes whole (unexpected_kind (lexeme l)) i j
-  -- a bracket at a, from which no value stands
-  unterminated : (k : Container) {a b : ℕ} → Between bytes (One (opening k)) a b → ((v : Plain) (r : List ℕ) → IsValue o (rest bytes a) v r → ⊥) → Told o bytes whole (unterminated_kind k) (cond whole a (length bytes)) (length bytes)
-  -- from a bracket or a name through the token in it that is one too many, or the end
-  deep_element : (l : LexemeKind) {i a b j : ℕ} → IsTrue whole → Between bytes (One (opening Array)) i a → a ≤ b → ItemIsDue o bytes Array l b → Between bytes (Lexeme o l) b j → Told o bytes whole NestingDepthExceeded i j
-  deep_property : {i a b j : ℕ} → IsTrue whole → Between bytes (SomeName o) i a → Between bytes (Colon o) a b → Between bytes (LexemeThat o (λ l. true)) b j ⊎ IsEnd bytes b j → Told o bytes whole NestingDepthExceeded i j
-  -- or the bracket that is
-  deep_container : (k : Container) {i j : ℕ} → whole ≡ false → ValueIsDue o bytes (punctuation (opening k)) i → Between bytes (One (opening k)) i j → Told o bytes whole NestingDepthExceeded i j
+-- where a comma must stand, after what ends at e: where an item could begin, the comma is missing
+abbrev pub wrong_comma : Container → List ℕ → LexemeKind → List ℕ → List ℕ → Fault
+wrong_comma k e l u r = cond (begins k (lexeme l)) (fault ExpectedComma e e) (fault (misplaced_kind k (lexeme l)) u r)
 
--- memory was wanting, or what the fault tells of the text is true
+-- what is wrong with the lexeme where this is due, if anything
+abbrev pub wrong : Options → Bool → List Opened → Due → LexemeKind → List ℕ → List ℕ → Option Fault
+wrong o whole q document l u r = wrong_value whole q l u r
+wrong o whole q end l u r = Some (fault MultipleRootJsonValues u r)
+wrong o whole q (first k) l u r = cond (is_mark (closing k) l) None (wrong_item o whole k q l u r)
+wrong o whole q (further k c) l u r = cond (is_mark (closing k) l) (cond o.trailing_commas None (Some (fault TrailingCommasNotAllowed c (past_one c)))) (wrong_item o whole k q l u r)
+wrong o whole q (comma k e) l u r = cond (is_mark (closing k) l || is_mark 0x2C l) None (cond o.missing_commas (wrong_item o whole k q l u r) (Some (wrong_comma k e l u r)))
+wrong o whole q colon l u r = cond (is_mark 0x3A l) None (Some (fault ExpectedColonAfterObjectKey u r))
+wrong o whole q value l u r = wrong_value whole q l u r
+
+-- the text ends in a container: told from where that begins, or of the end alone
+abbrev pub open_at_end : Bool → List Opened → Container → Fault
+open_at_end whole q k = fault (unterminated_kind k) (cond whole (innermost q []) []) []
+
+-- what is wrong with the end of the text where this is due, if anything
+abbrev pub wrong_end : Bool → List Opened → Due → Option Fault
+wrong_end whole q document = None
+wrong_end whole q end = None
+wrong_end whole q (first k) = Some (open_at_end whole q k)
+wrong_end whole q (further k c) = Some (open_at_end whole q k)
+wrong_end whole q (comma k e) = Some (open_at_end whole q k)
+wrong_end whole q colon = Some (fault ExpectedColonAfterObjectKey [] [])
+wrong_end whole q value = Some (cond (whole && nat_lt 512 (length q)) (deep whole q [] []) (fault ExpectedObjectValue [] []))
+
+-- reading stops at the place with this fault: past a gap a lexeme is refused, a comment is not allowed, a lexeme is wrong there, or the end is
+pub data Stops (o : Options) (whole : Bool) : Place → Fault → Type 0 where
+  no_lexeme : {q : List Opened} {d : Due} {kind : ParseErrorKind} {t u a b : List ℕ} → Gap o t u → Tells o kind u a b → Stops o whole (at q d t) (fault kind a b)
+  comment : {q : List Opened} {d : Due} {t u : List ℕ} (r : List ℕ) → o.comments ≡ false → Gap o t u → IsComment u r → Stops o whole (at q d t) (fault CommentsNotAllowed u r)
+  wrong_lexeme : {q : List Opened} {d : Due} {f : Fault} {t u : List ℕ} (l : LexemeKind) (r : List ℕ) → Gap o t u → Lexeme o l u r → wrong o whole q d l u r ≡ Some f → Stops o whole (at q d t) f
+  wrong_ending : {q : List Opened} {d : Due} {f : Fault} {t : List ℕ} → Gap o t [] → wrong_end whole q d ≡ Some f → Stops o whole (at q d t) f
+
+-- reading on from the place stops with this fault
+abbrev pub ToldFrom : Options → Bool → Place → Fault → Type 0
+ToldFrom o whole p f = (n : Place) × ComesTo o whole p n × Stops o whole n f
+
+-- of the text s this fault is told
+abbrev pub Told : Options → Bool → List ℕ → Fault → Type 0
+Told o whole s f = ToldFrom o whole (at [] document s) f
+
+-- the fault, by the places of its range
+abbrev pub fault_in : List ℕ → ParseError → Fault
+fault_in bytes e = fault (kind_of e) (rest bytes (range_of e).start) (rest bytes (range_of e).end)
+
+-- the text from the place on, where one is given
+abbrev pub IsFrom : List ℕ → Option ℕ → List ℕ → Type 0
+IsFrom bytes start a = IfSome start (λ i. a ≡ rest bytes i)
+
+-- memory was wanting, or this fault is told of the text
 abbrev pub IsTold : Options → List ℕ → Bool → ParseError → Type 0
-IsTold o bytes whole e = WantsMemory e ⊎ Told o bytes whole (kind_of e) (range_of e).start (range_of e).end
-
--- the fault is of this kind, and told of these bytes
-pub record IsFaultOf (what : ParseErrorKind) (bytes : Range) (e : ParseError) : Type 0 where
-  pub kind : kind_of e ≡ what
-  pub range : range_of e ≡ bytes
-
--- the place, or else the end of the text
-abbrev pub or_end : List ℕ → Option ℕ → ℕ
-or_end bytes None = length bytes
-or_end bytes (Some i) = i
-
--- the fault is that of a container that the text ends in, told from a place or of the end
-pub record IsOpen (k : Container) (bytes : List ℕ) (place : Option ℕ) (e : ParseError) : Type 0 where
-  pub kind : kind_of e ≡ unterminated_kind k
-  pub start : (range_of e).start ≡ or_end bytes place
-  pub end : (range_of e).end ≡ length bytes
+IsTold o bytes whole e = WantsMemory e ⊎ Told o whole (chars bytes) (fault_in bytes e)
 
 module _ {A : Type 0} where
-  -- the same of a parser's text
-  abbrev pub IsToldIn : Context A → Bool → ParseError → Type 0
-  IsToldIn c whole e = IsTold (options_in c) (text_in c) whole e
+  -- memory was wanting, or reading stops after the last token with this fault, whatever is open or due
+  abbrev pub StopsAnyhow : Context A → ParseError → Type 0
+  StopsAnyhow c e = WantsMemory e ⊎ ((whole : Bool) (q : List Opened) (d : Due) → Stops (options_in c) whole (at q d (after c)) (fault_in (text_in c) e))
 
-  -- whichever way it is told
-  abbrev pub IsToldAnyhow : Context A → ParseError → Type 0
-  IsToldAnyhow c e = (whole : Bool) → IsToldIn c whole e
+  -- memory was wanting, or reading on from the place stops with this fault
+  abbrev pub StopsFrom : Context A → Bool → Place → ParseError → Type 0
+  StopsFrom c whole p e = WantsMemory e ⊎ ToldFrom (options_in c) whole p (fault_in (text_in c) e)
 
-  -- or it is that of a container that the text ends in
-  abbrev pub IsToldOrOpen : Container → Option ℕ → Context A → ParseError → Type 0
-  IsToldOrOpen k start c e = IsToldAnyhow c e ⊎ IsOpen k (text_in c) start e
+  -- the same after the last token
+  abbrev pub StopsAfter : Context A → Bool → List Opened → Due → ParseError → Type 0
+  StopsAfter c whole q d e = StopsFrom c whole (at q d (after c)) e
 
-  -- the last token is the end of the text
-  abbrev pub AtEnd : Context A → Type 0
-  AtEnd c = IsEnd (text_in c) (token_start c) (token_end c)
+  -- in a container that begins there, whatever that is in
+  abbrev pub StopsInside : Container → Option ℕ → Due → Context A → ParseError → Type 0
+  StopsInside k start d c e = (q : List Opened) (a : List ℕ) → IsFrom (text_in c) start a → StopsAfter c (is_some start) (container k a ∷ q) d e
 
-  -- a name ends where the last token does
-  abbrev pub EndsName : Context A → Type 0
-  EndsName c = (a : ℕ) × Between (text_in c) (SomeName (options_in c)) a (token_end c)
+  -- after a name
+  abbrev pub StopsAtColon : Context A → ParseError → Type 0
+  StopsAtColon c e = (whole : Bool) (q : List Opened) → StopsAfter c whole q colon e
 
-  -- an item ends where the last token does
-  abbrev pub EndsItem : Container → Context A → Type 0
-  EndsItem k c = (a : ℕ) × Between (text_in c) (Item (options_in c) k) a (token_end c)
+  -- the fault is what is wrong with the last token where a name must stand
+  abbrev pub IsWrongName : Context A → Token A → ParseError → Type 0
+  IsWrongName c t e = (l : LexemeKind) → scanned_of t ≡ lexeme l → wrong_name (options_in c) l (here c) (after c) ≡ Some (fault_in (text_in c) e)
 
-  -- the last token is a comma after an item
-  pub record IsCommaAfter (k : Container) (c : Context A) : Type 0 where
-    pub first : ℕ
-    pub last : ℕ
-    pub item : Between (text_in c) (Item (options_in c) k) first last
-    pub gap : Between (text_in c) (Gap (options_in c)) last (token_start c)
-    pub comma : IsBracket 0x2C c
+  -- no value begins with the last token, and the fault says so
+  abbrev pub IsUnexpected : Context A → Token A → ParseError → Type 0
+  IsUnexpected c t e = (l : LexemeKind) → scanned_of t ≡ lexeme l → (begins_value (lexeme l) ≡ false) × (fault (unexpected_kind (lexeme l)) (here c) (after c) ≡ fault_in (text_in c) e)
 
-  -- the last token is a lexeme, where a value must begin
-  abbrev pub ValueIsDueHere : Context A → Token A → Type 0
-  ValueIsDueHere c t = (l : LexemeKind) × (scanned_of t ≡ lexeme l) × ValueIsDue (options_in c) (text_in c) l (token_start c)
+  -- from there past a gap the last token stands, a lexeme, and an element or a property must begin with it
+  pub record ItemStarts (k : Container) (c : Context A) (t : Token A) (whole : Bool) (q : List Opened) (d : Due) (s : List ℕ) : Type 0 where
+    pub may : ItemMayCome (options_in c) k d
+    pub gap : Gap (options_in c) s (here c)
+    pub lexeme_here : (l : LexemeKind) × (scanned_of t ≡ lexeme l)
+    pub must : (l : LexemeKind) (u r : List ℕ) → scanned_of t ≡ lexeme l → wrong (options_in c) whole q d l u r ≡ wrong_item (options_in c) whole k q l u r
 
-  -- it is this bracket, where a value must begin
-  abbrev pub OpensValue : ℕ → Context A → Type 0
-  OpensValue bracket c = ValueIsDue (options_in c) (text_in c) (punctuation bracket) (token_start c)
+  -- a value must
+  pub record ValueStarts (c : Context A) (t : Token A) (whole : Bool) (q : List Opened) (d : Due) (s : List ℕ) : Type 0 where
+    pub may : ValueMayCome (options_in c) d
+    pub gap : Gap (options_in c) s (here c)
+    pub lexeme_here : (l : LexemeKind) × (scanned_of t ≡ lexeme l)
+    pub must : (l : LexemeKind) (u r : List ℕ) → scanned_of t ≡ lexeme l → wrong (options_in c) whole q d l u r ≡ wrong_value whole q l u r
 
-  -- it is a lexeme that does not close the container, where an item must begin
-  abbrev pub ItemIsDueHere : Container → Context A → Token A → Type 0
-  ItemIsDueHere k c t = (l : LexemeKind) × (scanned_of t ≡ lexeme l) × (l ≢ punctuation (closing k)) × ItemIsDue (options_in c) (text_in c) k l (token_start c)
+  -- a container may begin with it
+  abbrev pub ContainerStarts : Context A → Due → List ℕ → Type 0
+  ContainerStarts c d s = ValueMayCome (options_in c) d × Gap (options_in c) s (here c)
 
-  -- the token is a lexeme, and does not close the container
-  abbrev pub ClosesNone : Container → Token A → Type 0
-  ClosesNone k t = (l : LexemeKind) × (scanned_of t ≡ lexeme l) × (l ≢ punctuation (closing k))
+  -- from each place where so many of what is open count and an item must begin with the last token, reading on stops with this fault
+  abbrev pub StopsAtItem : Container → Context A → Token A → Bool → ℕ → ParseError → Type 0
+  StopsAtItem k c t whole n e = (q : List Opened) (d : Due) (s : List ℕ) → count whole q ≡ n → ItemStarts k c t whole q d s → StopsFrom c whole (at q d s) e
 
-  -- between the end of an item and the token stands a comma and gaps; or a gap alone, and the token is no comma
-  abbrev pub Comes : Context A → Context A → Token A → Type 0
-  Comes old new t = Between (text_in old) (AfterComma (options_in old)) (token_end old) (token_start new) ⊎ Between (text_in old) (Gap (options_in old)) (token_end old) (token_start new) × (scanned_of t ≢ lexeme (punctuation 0x2C))
+  -- where a value must
+  abbrev pub StopsAtValue : Context A → Token A → Bool → ℕ → ParseError → Type 0
+  StopsAtValue c t whole n e = (q : List Opened) (d : Due) (s : List ℕ) → count whole q ≡ n → ValueStarts c t whole q d s → StopsFrom c whole (at q d s) e
 
-  -- the token opens no container
-  abbrev pub OpensNone : Token A → Type 0
-  OpensNone t = (scanned_of t ≢ lexeme (punctuation 0x5B)) × (scanned_of t ≢ lexeme (punctuation 0x7B))
+  -- where a container may
+  abbrev pub StopsAtContainer : Context A → Bool → ℕ → ParseError → Type 0
+  StopsAtContainer c whole n e = (q : List Opened) (d : Due) (s : List ℕ) → count whole q ≡ n → ContainerStarts c d s → StopsFrom c whole (at q d s) e

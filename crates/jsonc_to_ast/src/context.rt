@@ -32,22 +32,17 @@ pub struct Context<'a, A: Allocator> {
 
 impl<'a, A: Allocator + Copy> Context<'a, A> {
     ghost use Rattle.std.specs.Prelude.{◌≡◌, ◌≢◌, ◌≤◌, ◌<◌, ◌⊎◌, [], true, false, is_some, IfOk, IfErr, IfSome, OnOk, IsTrue};
-    ghost use Rattle.jsonc_to_ast.specs.Refusals.{Tells, WantsMemory, WhereSome, RefusesComment, NoTokenAfter, NothingFirst, NothingAfterComma, NothingNext, OnlyFirst, OnlyAfterComma, OnlyNext, NoColon, NoName};
+    ghost use Rattle.jsonc_to_ast.specs.Refusals.{IsFaultOf, IsOpen, Tells, WantsMemory, WhereSome, RefusesComment, NoTokenAfter, NothingFirst, NothingAfterComma, NothingNext, OnlyFirst, OnlyAfterComma, OnlyNext, NoColon, NoName};
     ghost use Rattle.jsonc_text.specs.Faults.{IsFault, IsOutOfMemory, range_of, kind_of};
     ghost use Rattle.jsonc_text.specs.Gaps.{Gap};
     ghost use Rattle.jsonc_text.specs.Places.{is_comment as is_a_comment};
     ghost use Rattle.jsonc_text.specs.Text.{Spans};
     ghost use Rattle.jsonc_text.specs.Tokens.{scanned_of};
-    ghost use Rattle.jsonc_to_ast.specs.Context.{text_in, options_in, token_end, token_range, tokens_asked, comments_asked, Keeps, Finds, LeadsToFirst, LeadsAfterComma, LeadsToNext, PassesColon, IsToken, IsNameHere, IsNoComment};
+    ghost use Rattle.jsonc_to_ast.specs.Context.{text_in, options_in, token_end, token_range, tokens_asked, comments_asked, Keeps, Finds, LeadsToFirst, LeadsAfterComma, LeadsToNext, PassesColon, IsToken, IsNameHere, IsNoComment, AtEnd, ClosesNone, Comes};
     ghost use Rattle.jsonc_ast.specs.Views.{name_at};
     ghost use Rattle.jsonc_to_ast.specs.Containers.{misplaced_kind, begins};
-    ghost use Rattle.jsonc_to_ast.specs.Told.{IsFaultOf, AtEnd, IsOpen, IsToldAnyhow, IsToldOrOpen, ClosesNone, Comes, EndsItem, EndsName, IsCommaAfter, ItemIsDueHere};
-    ghost use Rattle.jsonc_to_ast.specs.declared.container.Container.TheVariants.{Object};
-    ghost use Rattle.std.specs.Prelude.{List, ◌∷◌, ℕ, Bool};
-    ghost use Rattle.jsonc_to_ast.specs.Reached.{Opened, Due, container as open_container};
-    ghost use Rattle.jsonc_to_ast.specs.Reading.{StopsAnyhow, StopsAfter, IsFrom, fault_in, wrong_name};
-    ghost use Rattle.std.specs.Prelude.{Some};
-    ghost use Rattle.jsonc_text.specs.Lexemes.{LexemeKind, lexeme};
+    ghost use Rattle.jsonc_to_ast.specs.Told.{IsWrongName, StopsAnyhow, StopsAtColon, StopsInside};
+    ghost use Rattle.jsonc_to_ast.specs.Reached.{Due};
     ghost use Rattle.jsonc_to_ast.specs.Context.{IsBracket};
     ghost use Rattle.jsonc_to_ast.specs.Refusals.{here, after};
     ghost use Rattle.jsonc_to_ast.specs.Collected.{takes_comments, is_separate, collected, CollectsLast, CollectsComment, OmitsComment, HasNoted, NotesComment, NotesLexeme, ShowsNoted, Collects};
@@ -296,8 +291,7 @@ impl<'a, A: Allocator + Copy> Context<'a, A> {
         ensures collects { OnOk result (Collects self.old self.new) }
         ensures refused { IfErr result (Tells (NoTokenAfter self.old)) }
         ensures fault { IfErr result (IsFault (text_in self.old)) }
-        ensures told { IfErr result (IsToldAnyhow self.old) }
-        ensures stops { IfErr result (StopsAnyhow self.old) }
+        ensures told { IfErr result (StopsAnyhow self.old) }
     {
         loop {
             let Some(token) = self.scanner.scan()? else {
@@ -333,9 +327,8 @@ impl<'a, A: Allocator + Copy> Context<'a, A> {
         ensures collects { OnOk result (Collects self.old self.new) }
         ensures refused { IfErr result (Tells (NothingFirst container self.old)) }
         ensures fault { IfErr result (IsFault (text_in self.old)) }
-        ensures told { IfErr result (IsToldOrOpen container start self.old) }
+        ensures told { IfErr result (StopsInside container start (Due.first container) self.old) }
         ensures stands { IfOk result (λ f. IfSome f (ClosesNone container)) }
-        ensures stops { IfErr result (λ e. (q : List Opened) (a : List ℕ) → IsFrom (text_in self.old) start a → StopsAfter self.old (is_some start) (open_container container a ∷ q) (Due.first container) e) }
     {
         let Some(first) = self.scan()? else {
             return Err(self.unterminated(container, start));
@@ -360,9 +353,8 @@ impl<'a, A: Allocator + Copy> Context<'a, A> {
         ensures collects { OnOk result (Collects self.old self.new) }
         ensures refused { IfErr result (Tells (NothingAfterComma container self.old)) }
         ensures fault { IfErr result (IsFault (text_in self.old)) }
-        ensures told { IfErr result (λ e. IsCommaAfter container self.old → IsToldOrOpen container start self.old e) }
+        ensures told { IfErr result (λ e. IsBracket 0x2C self.old → StopsInside container start (Due.further container (here self.old)) self.old e) }
         ensures stands { IfOk result (λ f. IfSome f (ClosesNone container)) }
-        ensures stops { IfErr result (λ e. (q : List Opened) (a : List ℕ) → IsBracket 0x2C self.old → IsFrom (text_in self.old) start a → StopsAfter self.old (is_some start) (open_container container a ∷ q) (Due.further container (here self.old)) e) }
     {
         let comma = self.range();
         let Some(token) = self.scan()? else {
@@ -406,10 +398,9 @@ impl<'a, A: Allocator + Copy> Context<'a, A> {
         ensures collects { OnOk result (Collects self.old self.new) }
         ensures refused { IfErr result (Tells (NothingNext container self.old)) }
         ensures fault { IfErr result (IsFault (text_in self.old)) }
-        ensures told { IfErr result (λ e. EndsItem container self.old → IsToldOrOpen container start self.old e) }
+        ensures told { IfErr result (StopsInside container start (Due.comma container (after self.old)) self.old) }
         ensures stands { IfOk result (λ f. IfSome f (ClosesNone container)) }
         ensures comes { IfOk result (λ f. IfSome f (Comes self.old self.new)) }
-        ensures stops { IfErr result (λ e. (q : List Opened) (a : List ℕ) → IsFrom (text_in self.old) start a → StopsAfter self.old (is_some start) (open_container container a ∷ q) (Due.comma container (after self.old)) e) }
     {
         let end = self.scanner.token_end();
         let Some(token) = self.scan()? else {
@@ -434,8 +425,7 @@ impl<'a, A: Allocator + Copy> Context<'a, A> {
         ensures range { IfOk result (λ n. (name_at n).range ≡ token_range self.now) }
         ensures refused { IfErr result (λ _. NoName self.now) }
         ensures fault { IfErr result (IsFault (text_in self.now)) }
-        ensures told { IfErr result (λ e. ItemIsDueHere Object self.now token.entry → IsToldAnyhow self.now e) }
-        ensures stops { IfErr result (λ e. (l : LexemeKind) → scanned_of token.entry ≡ lexeme l → wrong_name (options_in self.now) l (here self.now) (after self.now) ≡ Some (fault_in (text_in self.now) e)) }
+        ensures told { IfErr result (IsWrongName self.now token.entry) }
     {
         let range = self.range();
         match token {
@@ -460,8 +450,7 @@ impl<'a, A: Allocator + Copy> Context<'a, A> {
         ensures collects { OnOk result (Collects self.old self.new) }
         ensures refused { IfErr result (Tells (NoColon self.old)) }
         ensures fault { IfErr result (IsFault (text_in self.old)) }
-        ensures told { IfErr result (λ e. EndsName self.old → IsToldAnyhow self.old e) }
-        ensures stops { IfErr result (λ e. (whole : Bool) (q : List Opened) → StopsAfter self.old whole q Due.colon e) }
+        ensures told { IfErr result (StopsAtColon self.old) }
     {
         let Some(token) = self.scan()? else {
             return Err(self.fault_here(ParseErrorKind::ExpectedColonAfterObjectKey));

@@ -5,6 +5,7 @@ pub mod collect;
 pub mod comments;
 pub mod container;
 pub mod context;
+pub mod laws;
 mod values;
 
 pub use values::parse_to_ast;

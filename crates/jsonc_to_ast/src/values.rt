@@ -6,19 +6,13 @@ ghost use Rattle.jsonc_text.specs.OptionsOf.{parse_options};
 ghost use Rattle.jsonc_text.specs.Plain.{around};
 ghost use Rattle.jsonc_text.specs.Tokens.{scanned_of};
 ghost use Rattle.jsonc_to_ast.specs.Collected.{HoldsCollected, is_separate, HoldsComments, Collects};
-ghost use Rattle.jsonc_to_ast.specs.Context.{text_in, options_in, token_start, token_end, Keeps, IsToken, IsBracket};
+ghost use Rattle.jsonc_to_ast.specs.Context.{text_in, options_in, token_start, token_end, Keeps, IsToken, IsBracket, OpensNone};
 ghost use Rattle.jsonc_ast.specs.Located.{leaf_at, range_at, value_at, IsLocatedDocument};
 ghost use Rattle.jsonc_to_ast.specs.Reads.{Reads, ReadsMember};
 ghost use Rattle.jsonc_to_ast.specs.Refusals.{NoLiteral, NoPropertyHere, NoValueHere, RefusesText, Tells};
 ghost use Rattle.jsonc_to_ast.specs.Scanned.{leaf_value};
-ghost use Rattle.jsonc_to_ast.specs.Told.{IsTold, IsToldIn, IsToldAnyhow, ItemIsDueHere, ValueIsDueHere, OpensNone};
+ghost use Rattle.jsonc_to_ast.specs.Told.{IsTold, IsUnexpected, StopsAtContainer, StopsAtItem, StopsAtValue};
 ghost use Rattle.jsonc_to_ast.specs.declared.container.Container.TheVariants.{Object};
-ghost use Rattle.std.specs.Prelude.{List, ℕ, length, false};
-ghost use Rattle.jsonc_text.specs.Lexemes.{LexemeKind, lexeme};
-ghost use Rattle.jsonc_to_ast.specs.Refusals.{here, after};
-ghost use Rattle.jsonc_to_ast.specs.Scanned.{begins_value, unexpected_kind};
-ghost use Rattle.jsonc_to_ast.specs.Reached.{Opened, Due, at};
-ghost use Rattle.jsonc_to_ast.specs.Reading.{fault, fault_in, StopsFrom, ValueStarts, ItemStarts, ContainerStarts, IsToldOfText};
 ghost use Rattle.jsonc_ast.specs.Views.{located, member_of, plain};
 ghost use Rattle.jsonc_to_ast.specs.Results.{located_in, plain_in};
 
@@ -60,8 +54,7 @@ fn parse_leaf<'a, A: Allocator + Copy>(
     ensures within { IfOk result (λ v. around (plain v) ≡ 0) }
     ensures refused { IfErr result (λ _. NoLiteral context.now) }
     ensures fault { IfErr result (IsFault (text_in context.now)) }
-    ensures told { IfErr result (λ e. OpensNone token.entry → ValueIsDueHere context.now token.entry → IsToldAnyhow context.now e) }
-    ensures stops { IfErr result (λ e. OpensNone token.entry → (l : LexemeKind) → scanned_of token.entry ≡ lexeme l → (begins_value (lexeme l) ≡ false) × (fault (unexpected_kind (lexeme l)) (here context.now) (after context.now) ≡ fault_in (text_in context.now) e)) }
+    ensures told { IfErr result (λ e. OpensNone token.entry → IsUnexpected context.now token.entry e) }
 {
     let kind = unexpected(&token);
     let Some(value) = leaf(token, context.range()) else {
@@ -86,8 +79,7 @@ fn parse_value<'a, A: Allocator + Copy>(
     ensures within { IfOk result (λ v. around (plain v) + count ≤ 512) }
     ensures refused { IfErr result (Tells (NoValueHere context.old count)) }
     ensures fault { IfErr result (IsFault (text_in context.old)) }
-    ensures told { IfErr result (λ e. ValueIsDueHere context.old token.entry → IsToldIn context.old true e) }
-    ensures stops { IfErr result (λ e. (q : List Opened) (d : Due) (s : List ℕ) → length q ≡ count → ValueStarts context.old token.entry q d s → StopsFrom context.old (at q d s) e) }
+    ensures told { IfErr result (StopsAtValue context.old token.entry true count) }
 {
     match token {
         Token::OpenBracket => parse_array(context, count),
@@ -111,8 +103,7 @@ fn parse_array<'a, A: Allocator + Copy>(
     ensures within { IfOk result (λ v. around (plain v) + count ≤ 512) }
     ensures refused { IfErr result (Tells (NoValueHere context.old count)) }
     ensures fault { IfErr result (IsFault (text_in context.old)) }
-    ensures told { IfErr result (IsToldIn context.old true) }
-    ensures stops { IfErr result (λ e. (q : List Opened) (d : Due) (s : List ℕ) → ContainerStarts context.old count q d s → StopsFrom context.old (at q d s) e) }
+    ensures told { IfErr result (StopsAtContainer context.old true count) }
 {
     let start = context.scanner.token_start();
     let mut elements = Vec::new(context.alloc);
@@ -143,8 +134,7 @@ fn parse_object<'a, A: Allocator + Copy>(
     ensures within { IfOk result (λ v. around (plain v) + count ≤ 512) }
     ensures refused { IfErr result (Tells (NoValueHere context.old count)) }
     ensures fault { IfErr result (IsFault (text_in context.old)) }
-    ensures told { IfErr result (IsToldIn context.old true) }
-    ensures stops { IfErr result (λ e. (q : List Opened) (d : Due) (s : List ℕ) → ContainerStarts context.old count q d s → StopsFrom context.old (at q d s) e) }
+    ensures told { IfErr result (StopsAtContainer context.old true count) }
 {
     let start = context.scanner.token_start();
     let mut properties = Vec::new(context.alloc);
@@ -175,8 +165,7 @@ fn parse_property<'a, A: Allocator + Copy>(
     ensures within { IfOk result (λ p. around (value_at (member_of p).value) + (count + 1) ≤ 512) }
     ensures refused { IfErr result (Tells (NoPropertyHere context.old count)) }
     ensures fault { IfErr result (IsFault (text_in context.old)) }
-    ensures told { IfErr result (λ e. ItemIsDueHere Object context.old token.entry → IsToldIn context.old true e) }
-    ensures stops { IfErr result (λ e. (q : List Opened) (d : Due) (s : List ℕ) → length q ≡ count → ItemStarts Object context.old token.entry q d s → StopsFrom context.old (at q d s) e) }
+    ensures told { IfErr result (StopsAtItem Object context.old token.entry true count) }
 {
     let start = context.scanner.token_start();
     let name = context.name(token)?;
@@ -211,7 +200,6 @@ pub fn parse_to_ast<'a, A: Allocator + Copy>(
     ensures comments { IfOk result (HoldsComments (parse_options options.now) text.now) }
     ensures fault { IfErr result (IsFault text.now) }
     ensures told { IfErr result (IsTold (parse_options options.now) text.now true) }
-    ensures stops { IfErr result (IsToldOfText (parse_options options.now) text.now true) }
 {
     let mut context = Context::new(alloc, text, collect, options);
     let Some(token) = context.scan()? else {

@@ -1,5 +1,5 @@
 -- A parser among the elements of an array.
-use Rattle.std.proofs.Common.{ℕ, max, ◌+◌, ◌<◌, ◌≤◌, ◌≡◌, ◌∙◌, sym, ap, subst, arith, map, List, [], ◌∷◌, ◌++◌, Option, Some, None, IfSome}
+use Rattle.std.proofs.Common.{ℕ, max, ◌+◌, ◌<◌, ◌≤◌, ◌≡◌, ◌∙◌, sym, ap, subst, arith, map, List, [], ◌∷◌, ◌++◌, Option, Some, None, IfSome, false}
 use Rattle.jsonc_text.specs.declared.tokens.Token.{Token}
 use Rattle.jsonc_text.specs.Text.{rest}
 use Rattle.jsonc_text.specs.Gaps.{Gap}
@@ -8,13 +8,12 @@ use Rattle.jsonc_text.specs.Plain.{array, Items, no_items, items_depth, depth, c
 use Rattle.jsonc_value.specs.declared.value.JsonValue.{JsonValue}
 use Rattle.jsonc_to_ast.specs.declared.container.Container.TheVariants.{Array}
 use Rattle.jsonc_to_ast.specs.declared.context.Context.{Context}
-use Rattle.jsonc_to_ast.specs.Context.{text_in, options_in, token_start, token_end, Keeps, IsBracket, Leads}
+use Rattle.jsonc_to_ast.specs.Context.{text_in, options_in, token_start, token_end, Keeps, IsBracket, Leads, ClosesNone, Comes}
 use Rattle.jsonc_ast.specs.Located.{Between, Ends}
 use Rattle.jsonc_to_ast.specs.Refusals.{LeadsNowhere, LeadsOnlyTo, here, after, NothingFirst, NothingNext, OnlyFirst, OnlyNext}
 use Rattle.jsonc_to_ast.proofs.Loops.{AtHand, leads_hand, leads_on}
 use Rattle.jsonc_to_ast.proofs.NoValues.{elements_item}
-use Rattle.jsonc_to_ast.specs.Told.{ClosesNone, Comes, Item}
-use Rattle.jsonc_to_ast.proofs.Ongoing.{Ongoing, ongoing_first, ongoing_turn, spans_read}
+use Rattle.jsonc_to_ast.proofs.Standing.{GoesOn, goes_first, room_apart, elements_go_on}
 use Rattle.jsonc_to_ast.proofs.Scans.{moved, kept_on}
 use Rattle.jsonc_to_value.specs.Reads.{Reads}
 use Rattle.jsonc_to_value.specs.Refusals.{NoValue, NoValueHere}
@@ -22,10 +21,6 @@ use Rattle.jsonc_to_value.specs.Views.{plain, items_of, items_plain}
 use Rattle.jsonc_to_value.proofs.Arrays.{push, push_depth, push_collapsed, push_of, Open, Whole, first_open, first_whole, next_open, next_whole, NoElements, array_refused, deep_array, first_element, further_elements}
 
 module _ {A : Type 0} where
-  -- a value that was read
-  pub value_item : (now mid : Context A) (count : ℕ) (x : JsonValue A) → Keeps now mid → Reads now mid count x → Between (text_in now) (Item (options_in now) Array) (token_start now) (token_end mid)
-  value_item now mid count x kept read = record { spans = spans_read now mid kept read.on; stands = (read.value, read.stands) }
-
   -- what was read of the array, with a token at hand or past its end
   abbrev SoFar : Context A → Context A → Items → Option (Token A) → Type 0
   SoFar old now vs None = Whole (options_in old) (here old) vs (rest (text_in old) (token_end now))
@@ -46,7 +41,7 @@ module _ {A : Type 0} where
     pub so_far : SoFar old now values next
     pub within : items_depth values + (count + 1) ≤ 512
     pub left : Left old now next count
-    pub going : IfSome next (Ongoing Array old now)
+    pub reading : GoesOn false Array old now next count
 
   start_so_far : (old now : Context A) (next : Option (Token A)) → IsBracket 0x5B old → Leads (Gap (options_in old)) (Ends (options_in old) 0x5D) 0x5D old now next → SoFar old now no_items next
   start_so_far old now None opening h = first_whole (options_in old) (here old) (after old) _ opening.stands h.0.stands
@@ -70,7 +65,7 @@ module _ {A : Type 0} where
     so_far = start_so_far old now next opening h;
     within = omega (arith, small);
     left = start_left old now next count opening kept only;
-    going = ongoing_first Array old now next opening kept h only other;
+    reading = goes_first false Array old now next count opening (room_apart Array count small) kept h other;
   }
 
   -- the array is refused, since nothing goes on after its bracket, or too many are around it
@@ -82,8 +77,8 @@ module _ {A : Type 0} where
   array_too_deep old count opening l = deep_array (options_in old) (here old) (after old) count opening.stands l
 
   module _ (old now : Context A) (next : Option (Token A)) (t : Token A) (count : ℕ) (xs : List (JsonValue A)) (inv : Elements old now next count xs) (is : next ≡ Some t) where
-    pub going_some : Ongoing Array old now t
-    going_some = subst (λ n. IfSome n (Ongoing Array old now)) is inv.going
+    pub reading_some : GoesOn false Array old now (Some t) count
+    reading_some = subst (λ n. GoesOn false Array old now n count) is inv.reading
 
     left_some : Left old now (Some t) count
     left_some = subst (λ n. Left old now n count) is inv.left
@@ -137,7 +132,7 @@ module _ {A : Type 0} where
             so_far = turn_so_far new further h;
             within = omega (arith, most, inv.within, read.within);
             left = turn_left new further kept only;
-            going = ongoing_turn Array old now inv.kept t going_some mid kept_mid (value_item now mid (count + 1) x kept_mid read) new further kept only other comes;
+            reading = elements_go_on false old now inv.kept t mid read.value count reading_some kept_mid read.stands read.within new further kept h other comes;
           }
 
   -- the whole array

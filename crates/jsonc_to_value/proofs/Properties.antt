@@ -1,5 +1,5 @@
 -- A parser among the properties of an object.
-use Rattle.std.proofs.Common.{ℕ, max, ◌+◌, ◌<◌, ◌≤◌, ◌≡◌, ◌∙◌, sym, ap, subst, arith, List, [], Option, Some, None, IfSome}
+use Rattle.std.proofs.Common.{ℕ, max, ◌+◌, ◌<◌, ◌≤◌, ◌≡◌, ◌∙◌, sym, ap, subst, arith, List, [], Option, Some, None, IfSome, false}
 use Rattle.std.specs.declared.borrow.CowStr.{CowStr}
 use Rattle.jsonc_text.specs.declared.tokens.Token.{Token}
 use Rattle.jsonc_text.specs.Text.{rest}
@@ -9,13 +9,12 @@ use Rattle.jsonc_text.specs.Plain.{object, Members, no_members, members_depth, d
 use Rattle.jsonc_value.specs.declared.value.JsonValue.{JsonValue}
 use Rattle.jsonc_to_ast.specs.declared.container.Container.TheVariants.{Object}
 use Rattle.jsonc_to_ast.specs.declared.context.Context.{Context}
-use Rattle.jsonc_to_ast.specs.Context.{text_in, options_in, token_start, token_end, Keeps, IsBracket, Leads}
+use Rattle.jsonc_to_ast.specs.Context.{text_in, options_in, token_start, token_end, Keeps, IsBracket, Leads, ClosesNone, Comes}
 use Rattle.jsonc_ast.specs.Located.{Between, Ends}
 use Rattle.jsonc_to_ast.specs.Refusals.{LeadsNowhere, LeadsOnlyTo, here, after, NothingFirst, NothingNext, OnlyFirst, OnlyNext}
 use Rattle.jsonc_to_ast.proofs.Loops.{AtHand, leads_hand, leads_on}
 use Rattle.jsonc_to_ast.proofs.NoValues.{properties_item}
-use Rattle.jsonc_to_ast.specs.Told.{ClosesNone, Comes, Item}
-use Rattle.jsonc_to_ast.proofs.Ongoing.{Ongoing, ongoing_first, ongoing_turn, spans_read}
+use Rattle.jsonc_to_ast.proofs.Standing.{GoesOn, goes_first, room_apart, properties_go_on}
 use Rattle.jsonc_to_ast.proofs.Scans.{moved, kept_on}
 use Rattle.jsonc_to_value.specs.Reads.{Reads, ReadsProperty}
 use Rattle.jsonc_to_value.specs.Refusals.{NoProperty, NoValueHere, NoPropertyHere}
@@ -25,10 +24,6 @@ use Rattle.jsonc_to_value.proofs.Insertions.{AreTexts, insert_texts, insert_puts
 use Rattle.jsonc_to_value.proofs.Objects.{push_depth, Open, Whole, first_open, first_whole, next_open, next_whole, NoProperties, object_refused, deep_object, first_property, further_properties}
 
 module _ {A : Type 0} where
-  -- a property that was read
-  pub property_item : (now mid : Context A) (count : ℕ) (x : CowStr A × JsonValue A) → Keeps now mid → ReadsProperty now mid count x → Between (text_in now) (Item (options_in now) Object) (token_start now) (token_end mid)
-  property_item now mid count x kept read = record { spans = spans_read now mid kept read.on; stands = (name_of x.0, read.value, read.stands) }
-
   -- what was read of the object, with a token at hand or past its end
   abbrev SoFar : Context A → Context A → Members → Option (Token A) → Type 0
   SoFar old now ms None = Whole (options_in old) (here old) ms (rest (text_in old) (token_end now))
@@ -50,7 +45,7 @@ module _ {A : Type 0} where
     pub so_far : SoFar old now members next
     pub within : members_depth members + (count + 1) ≤ 512
     pub left : Left old now next count
-    pub going : IfSome next (Ongoing Object old now)
+    pub reading : GoesOn false Object old now next count
 
   start_so_far : (old now : Context A) (next : Option (Token A)) → IsBracket 0x7B old → Leads (Gap (options_in old)) (Ends (options_in old) 0x7D) 0x7D old now next → SoFar old now no_members next
   start_so_far old now None opening h = first_whole (options_in old) (here old) (after old) _ opening.stands h.0.stands
@@ -75,7 +70,7 @@ module _ {A : Type 0} where
     so_far = start_so_far old now next opening h;
     within = omega (arith, small);
     left = start_left old now next count opening kept only;
-    going = ongoing_first Object old now next opening kept h only other;
+    reading = goes_first false Object old now next count opening (room_apart Object count small) kept h other;
   }
 
   -- the object is refused, since nothing goes on after its bracket, or too many are around it
@@ -87,8 +82,8 @@ module _ {A : Type 0} where
   object_too_deep old count opening l = deep_object (options_in old) (here old) (after old) count opening.stands l
 
   module _ (old now : Context A) (next : Option (Token A)) (t : Token A) (count : ℕ) (ps : List (CowStr A × JsonValue A)) (inv : Properties old now next count ps) (is : next ≡ Some t) where
-    pub going_some : Ongoing Object old now t
-    going_some = subst (λ n. IfSome n (Ongoing Object old now)) is inv.going
+    pub reading_some : GoesOn false Object old now (Some t) count
+    reading_some = subst (λ n. GoesOn false Object old now n count) is inv.reading
 
     left_some : Left old now (Some t) count
     left_some = subst (λ n. Left old now n count) is inv.left
@@ -144,7 +139,7 @@ module _ {A : Type 0} where
             so_far = turn_so_far new further h;
             within = omega (arith, most, inv.within, read.within);
             left = turn_left new further kept only;
-            going = ongoing_turn Object old now inv.kept t going_some mid kept_mid (property_item now mid (count + 1) x kept_mid read) new further kept only other comes;
+            reading = properties_go_on false old now inv.kept t mid (name_of x.0) read.value count reading_some kept_mid read.stands (omega (arith, read.within)) new further kept h other comes;
           }
 
   -- the whole object

@@ -6,10 +6,10 @@ ghost use Rattle.jsonc_text.specs.Faults.{IsFault, kind_of, range_of};
 ghost use Rattle.jsonc_text.specs.OptionsOf.{parse_options};
 ghost use Rattle.jsonc_text.specs.Plain.{array, object};
 ghost use Rattle.jsonc_text.specs.Tokens.{scanned_of};
-ghost use Rattle.jsonc_to_ast.specs.Context.{text_in, token_range, Keeps, IsToken, IsBracket};
+ghost use Rattle.jsonc_to_ast.specs.Context.{text_in, token_range, Keeps, IsToken, IsBracket, OpensNone};
 ghost use Rattle.jsonc_to_ast.specs.Refusals.{NoLiteral, Tells};
 ghost use Rattle.jsonc_to_ast.specs.Scanned.{leaf_value};
-ghost use Rattle.jsonc_to_ast.specs.Told.{IsTold, IsToldIn, IsToldAnyhow, ItemIsDueHere, ValueIsDueHere, OpensValue, OpensNone};
+ghost use Rattle.jsonc_to_ast.specs.Told.{IsTold, IsUnexpected, StopsAtContainer, StopsAtItem, StopsAtValue};
 ghost use Rattle.jsonc_to_ast.specs.declared.container.Container.TheVariants.{Object};
 ghost use Rattle.jsonc_ast.specs.Views.{name_at, Grown};
 ghost use Rattle.jsonc_to_value.specs.Reads.{Reads, ReadsProperty, IsValueOf};
@@ -49,7 +49,7 @@ fn parse_leaf<'a, A: Allocator + Copy>(
     ensures found { IfOk result (Reads context.now context.now 512) }
     ensures refused { IfErr result (λ _. NoLiteral context.now) }
     ensures fault { IfErr result (IsFault (text_in context.now)) }
-    ensures told { IfErr result (λ e. OpensNone token.entry → ValueIsDueHere context.now token.entry → IsToldAnyhow context.now e) }
+    ensures told { IfErr result (λ e. OpensNone token.entry → IsUnexpected context.now token.entry e) }
 {
     let kind = unexpected(&token);
     let Some(value) = leaf(token) else {
@@ -157,7 +157,7 @@ fn parse_value<'a, A: Allocator + Copy>(
     ensures found { IfOk result (Reads context.old context.new count) }
     ensures refused { IfErr result (Tells (NoValueHere context.old count)) }
     ensures fault { IfErr result (IsFault (text_in context.old)) }
-    ensures told { IfErr result (λ e. ValueIsDueHere context.old token.entry → IsToldIn context.old false e) }
+    ensures told { IfErr result (StopsAtValue context.old token.entry false count) }
 {
     match token {
         Token::OpenBracket => parse_array(context, count),
@@ -178,7 +178,7 @@ fn parse_array<'a, A: Allocator + Copy>(
     ensures found { IfOk result (Reads context.old context.new count) }
     ensures refused { IfErr result (Tells (NoValueHere context.old count)) }
     ensures fault { IfErr result (IsFault (text_in context.old)) }
-    ensures told { IfErr result (λ e. OpensValue 0x5B context.old → IsToldIn context.old false e) }
+    ensures told { IfErr result (StopsAtContainer context.old false count) }
 {
     check_depth(context, count)?;
     let mut elements = Vec::new(context.alloc);
@@ -205,7 +205,7 @@ fn parse_object<'a, A: Allocator + Copy>(
     ensures found { IfOk result (Reads context.old context.new count) }
     ensures refused { IfErr result (Tells (NoValueHere context.old count)) }
     ensures fault { IfErr result (IsFault (text_in context.old)) }
-    ensures told { IfErr result (λ e. OpensValue 0x7B context.old → IsToldIn context.old false e) }
+    ensures told { IfErr result (StopsAtContainer context.old false count) }
 {
     check_depth(context, count)?;
     let mut properties = Map::new(context.alloc);
@@ -233,7 +233,7 @@ fn parse_property<'a, A: Allocator + Copy>(
     ensures found { IfOk result (ReadsProperty context.old context.new count) }
     ensures refused { IfErr result (Tells (NoPropertyHere context.old count)) }
     ensures fault { IfErr result (IsFault (text_in context.old)) }
-    ensures told { IfErr result (λ e. ItemIsDueHere Object context.old token.entry → IsToldIn context.old false e) }
+    ensures told { IfErr result (StopsAtItem Object context.old token.entry false count) }
 {
     let name = name_text(context.name(token)?);
     context.pass_colon()?;

@@ -1,4 +1,4 @@
-use Rattle.std.proofs.Common.{◌+◌, ◌≤◌, ◌∙◌, ap, sym, subst, arith, map, true, Some, IfSome, inr}
+use Rattle.std.proofs.Common.{◌+◌, ◌≤◌, ◌∙◌, ap, sym, subst, arith, map, true, inr}
 use Rattle.jsonc_text.specs.Plain.{around}
 use Rattle.jsonc_ast.specs.Located.{value_at}
 use Rattle.jsonc_to_ast.specs.Reads.{Reads}
@@ -7,21 +7,17 @@ use Rattle.jsonc_to_ast.proofs.Scans.{kept_on}
 use Rattle.jsonc_to_ast.proofs.Collecting.{ok_is, collects_same, collects_turn}
 use Rattle.jsonc_to_ast.proofs.Loops.{AtHand, start_spans, smaller, leads_on, elements_start, elements_turn, elements_whole}
 use Rattle.jsonc_to_ast.proofs.Properties.{properties_start, properties_turn, properties_whole}
-use Rattle.jsonc_to_ast.proofs.NoValues.{ElementsLeft, PropertiesLeft, elements_left_start, elements_left_turn, properties_left_start, properties_left_turn, leaf_nowhere, nothing_in_array, nothing_in_object, element_refused, nesting_refused, next_element_refused, property_refused, next_property_refused, name_missing, colon_missing, no_token_for_value, end_for_value, value_refused}
+use Rattle.jsonc_to_ast.proofs.NoValues.{value_read, property_read, ElementsLeft, PropertiesLeft, elements_left_start, elements_left_turn, properties_left_start, properties_left_turn, leaf_nowhere, nothing_in_array, nothing_in_object, element_refused, nesting_refused, next_element_refused, property_refused, next_property_refused, name_missing, colon_missing, no_token_for_value, end_for_value, value_refused}
 use Rattle.jsonc_text.specs.Grammar.{Separates, Closes}
-use Rattle.jsonc_to_ast.specs.Context.{options_in}
+use Rattle.jsonc_text.specs.Text.{rest}
+use Rattle.jsonc_to_ast.specs.Context.{text_in, options_in}
 use Rattle.jsonc_ast.specs.Views.{name_at}
 use Rattle.jsonc_to_ast.proofs.Refusals.{err_of, err_some, still}
 use Rattle.jsonc_to_ast.specs.Refusals.{NoPropertyHere, NoValueHere, Tells}
 use Rattle.jsonc_to_ast.specs.declared.container.Container.TheVariants.{Array, Object}
-use Rattle.jsonc_to_ast.specs.Told.{IsToldIn, ItemIsDueHere}
-use Rattle.jsonc_to_ast.proofs.Telling.{told_before}
-use Rattle.jsonc_to_ast.proofs.Ongoing.{Ongoing, ongoing_first, ongoing_turn, first_told, next_told, told_of_item, due_here, element_due, ends_item, value_item, property_item, deep_element_told}
-use Rattle.jsonc_to_ast.proofs.Due.{opens_none, ends_name, deep_property_told, no_value_told, value_told}
-use Rattle.std.proofs.Common.{List, ℕ, length, ◌≡◌, inl, inr}
-use Rattle.jsonc_to_ast.specs.Reached.{Opened, Due, at}
-use Rattle.jsonc_to_ast.specs.Reading.{StopsFrom, ContainerStarts, ItemStarts}
-use Rattle.jsonc_to_ast.proofs.Standing.{GoesOn, goes_first, elements_go_on, first_stops, next_stops, element_starts, element_comes, element_stops, properties_go_on, property_comes, property_stops, name_stops, colon_missing_stops, no_token_stops, no_value_stops, deep_property_stops, value_told_stops, deep_stops, leaf_stops, stops_on, stops_before}
+use Rattle.jsonc_to_ast.proofs.Tokens.{opens_none}
+use Rattle.jsonc_to_ast.specs.Told.{StopsAtContainer, StopsAtItem}
+use Rattle.jsonc_to_ast.proofs.Standing.{GoesOn, goes_first, elements_go_on, first_stops, next_stops, element_comes, element_stops, properties_go_on, property_comes, property_stops, name_stops, colon_missing_stops, no_token_stops, no_value_stops, deep_property_stops, value_told_stops, deep_stops, leaf_stops, room_whole, from_old}
 use Rattle.jsonc_to_ast.proofs.values.+parse.Goals as goal
 
 pub parse_array-loop-next-init : goal.parse_array-loop-next-init
@@ -31,8 +27,7 @@ parse_array-loop-next-init g t c =
           c.first_item.ensures.kept read.found c.requires.around;
       left = elements_left_start c.args.context.now c.first_item.new.self c.in_ok-next.next c.args.count c.requires.token c.first_item.ensures.kept read.only;
       collects = read.collects;
-      going = ongoing_first Array c.args.context.now c.first_item.new.self c.in_ok-next.next c.requires.token c.first_item.ensures.kept read.found read.only read.stands;
-      reading = goes_first Array c.args.context.now c.first_item.new.self c.in_ok-next.next c.args.count c.requires.token c.requires.around c.first_item.ensures.kept read.found read.stands;
+      reading = goes_first true Array c.args.context.now c.first_item.new.self c.in_ok-next.next c.args.count c.requires.token (room_whole Array c.args.count c.requires.around) c.first_item.ensures.kept read.found read.stands;
     }
 
 pub parse_array-check_nesting-requires : goal.parse_array-check_nesting-requires
@@ -68,9 +63,8 @@ parse_array-loop-next-preserved g t c =
       left = elements_left_turn old now inv.so_far.kept c.in-Some.token c.args.count (subst (λ n. ElementsLeft old now n c.args.count) c.in-Some.is inv.left)
           c.parse_value.new.context (located c.in_ok-value.value) read.kept read.found c.next_item.new.self c.in_ok-next-2.next c.next_item.ensures.kept c.in_ok-next-2.ensures.only;
       collects = collects_turn old now c.parse_value.new.context c.next_item.new.self inv.so_far.kept inv.collects read.kept read.collects c.in_ok-next-2.ensures.collects;
-      going = ongoing_turn Array old now inv.so_far.kept c.in-Some.token (subst (λ n. IfSome n (Ongoing Array old now)) c.in-Some.is inv.going) c.parse_value.new.context read.kept (value_item now c.parse_value.new.context (located c.in_ok-value.value) read.kept read.found)
-          c.next_item.new.self c.in_ok-next-2.next c.next_item.ensures.kept c.in_ok-next-2.ensures.only c.in_ok-next-2.ensures.stands c.in_ok-next-2.ensures.comes;
-      reading = elements_go_on old now inv.so_far.kept c.in-Some.token c.parse_value.new.context (located c.in_ok-value.value) c.args.count (subst (λ n. GoesOn Array old now n c.args.count) c.in-Some.is inv.reading) read.kept read.found read.within
+      reading = elements_go_on true old now inv.so_far.kept c.in-Some.token c.parse_value.new.context (value_at (located c.in_ok-value.value)) c.args.count (subst (λ n. GoesOn true Array old now n c.args.count) c.in-Some.is inv.reading) read.kept
+          (value_read now c.parse_value.new.context (located c.in_ok-value.value) read.found) read.within
           c.next_item.new.self c.in_ok-next-2.next c.next_item.ensures.kept c.in_ok-next-2.ensures.found c.in_ok-next-2.ensures.stands c.in_ok-next-2.ensures.comes;
     }
 
@@ -87,8 +81,7 @@ parse_object-loop-next-init g t c =
           c.first_item.ensures.kept read.found c.requires.around;
       left = properties_left_start c.args.context.now c.first_item.new.self c.in_ok-next.next c.args.count c.requires.token c.first_item.ensures.kept read.only;
       collects = read.collects;
-      going = ongoing_first Object c.args.context.now c.first_item.new.self c.in_ok-next.next c.requires.token c.first_item.ensures.kept read.found read.only read.stands;
-      reading = goes_first Object c.args.context.now c.first_item.new.self c.in_ok-next.next c.args.count c.requires.token c.requires.around c.first_item.ensures.kept read.found read.stands;
+      reading = goes_first true Object c.args.context.now c.first_item.new.self c.in_ok-next.next c.args.count c.requires.token (room_whole Object c.args.count c.requires.around) c.first_item.ensures.kept read.found read.stands;
     }
 
 pub parse_object-next_item-requires : goal.parse_object-next_item-requires
@@ -119,9 +112,8 @@ parse_object-loop-next-preserved g t c =
       left = properties_left_turn old now inv.so_far.kept c.in-Some.token c.args.count (subst (λ n. PropertiesLeft old now n c.args.count) c.in-Some.is inv.left)
           c.parse_property.new.context (member_of c.in_ok-property.property) read.kept read.found c.next_item.new.self c.in_ok-next-2.next c.next_item.ensures.kept c.in_ok-next-2.ensures.only;
       collects = collects_turn old now c.parse_property.new.context c.next_item.new.self inv.so_far.kept inv.collects read.kept read.collects c.in_ok-next-2.ensures.collects;
-      going = ongoing_turn Object old now inv.so_far.kept c.in-Some.token (subst (λ n. IfSome n (Ongoing Object old now)) c.in-Some.is inv.going) c.parse_property.new.context read.kept (property_item now c.parse_property.new.context (member_of c.in_ok-property.property) read.kept read.found)
-          c.next_item.new.self c.in_ok-next-2.next c.next_item.ensures.kept c.in_ok-next-2.ensures.only c.in_ok-next-2.ensures.stands c.in_ok-next-2.ensures.comes;
-      reading = properties_go_on old now inv.so_far.kept c.in-Some.token c.parse_property.new.context (member_of c.in_ok-property.property) c.args.count (subst (λ n. GoesOn Object old now n c.args.count) c.in-Some.is inv.reading) read.kept read.found read.within
+      reading = properties_go_on true old now inv.so_far.kept c.in-Some.token c.parse_property.new.context (member_of c.in_ok-property.property).name.name (value_at (member_of c.in_ok-property.property).value) c.args.count (subst (λ n. GoesOn true Object old now n c.args.count) c.in-Some.is inv.reading) read.kept
+          (property_read now c.parse_property.new.context (member_of c.in_ok-property.property) read.found) read.within
           c.next_item.new.self c.in_ok-next-2.next c.next_item.ensures.kept c.in_ok-next-2.ensures.found c.in_ok-next-2.ensures.stands c.in_ok-next-2.ensures.comes;
     }
 
@@ -247,263 +239,139 @@ parse_value-returns-in_default-clause-collects g t c = ok_is c.parse_leaf.result
 
 pub parse_array-returns-in_err-next-clause-told : goal.parse_array-returns-in_err-next-clause-told
 parse_array-returns-in_err-next-clause-told g t c =
+    let old = c.args.context.now in
     let e = c.in_err-next.field-0.0 in
-    err_of (IsToldIn c.args.context.now true) e c.from_residual.result c.from_residual.ensures.1
-    (first_told Array c.args.context.now (Some c.token_start-start.result) true e c.requires.token c.token_start-start.ensures c.in_err-next.ensures.refused c.in_err-next.ensures.told)
+    err_of (StopsAtContainer old true c.args.count) e c.from_residual.result c.from_residual.ensures.1
+    (λ q d s many starts. first_stops true Array old c.args.count q d s e c.requires.token (room_whole Array c.args.count c.requires.around) many starts (λ q. c.in_err-next.ensures.told q _ (ap (rest (text_in old)) (sym c.token_start-start.ensures))))
 
 pub parse_array-returns-in_err-check_nesting-clause-told : goal.parse_array-returns-in_err-check_nesting-clause-told
 parse_array-returns-in_err-check_nesting-clause-told g t c =
     let old = c.args.context.now in
     let now = c.loop-next.context in
     let inv = c.loop-next.invariant in
-    let going = subst (λ n. IfSome n (Ongoing Array old now)) c.in-Some.is inv.going in
+    let reading = subst (λ n. GoesOn true Array old now n c.args.count) c.in-Some.is inv.reading in
     let e = c.in_err-check_nesting.field-0.0 in
-    err_of (IsToldIn old true) e c.from_residual-in_err-check_nesting.result c.from_residual-in_err-check_nesting.ensures.1
-    (deep_element_told old now c.in-Some.token c.token_start-start.result e inv.so_far.kept c.requires.token going (subst (AtHand 0x5D now) c.in-Some.is inv.so_far.hand) inv.so_far.on c.token_start-start.ensures c.in_err-check_nesting.ensures.kind c.in_err-check_nesting.ensures.range)
+    err_of (StopsAtContainer old true c.args.count) e c.from_residual-in_err-check_nesting.result c.from_residual-in_err-check_nesting.ensures.1
+    (λ q d s many starts. deep_stops old now c.in-Some.token c.token_start-start.result c.args.count q d s e inv.so_far.kept (subst (AtHand 0x5D now) c.in-Some.is inv.so_far.hand) c.token_start-start.ensures many c.in_err-check_nesting.ensures.refused c.in_err-check_nesting.ensures.kind c.in_err-check_nesting.ensures.range (reading q d s many starts))
 
 pub parse_array-returns-in_err-value-clause-told : goal.parse_array-returns-in_err-value-clause-told
 parse_array-returns-in_err-value-clause-told g t c =
     let old = c.args.context.now in
     let now = c.loop-next.context in
     let inv = c.loop-next.invariant in
-    let going = subst (λ n. IfSome n (Ongoing Array old now)) c.in-Some.is inv.going in
-    let kept = inv.so_far.kept in
+    let reading = subst (λ n. GoesOn true Array old now n c.args.count) c.in-Some.is inv.reading in
     let e = c.in_err-value.field-0.0 in
-    err_of (IsToldIn old true) e c.from_residual-in_err-value.result c.from_residual-in_err-value.ensures.1
-    (told_of_item Array old now kept c.in-Some.token going true e (c.in_err-value.ensures.told (element_due now c.in-Some.token (due_here Array old now kept c.in-Some.token going))))
+    err_of (StopsAtContainer old true c.args.count) e c.from_residual-in_err-value.result c.from_residual-in_err-value.ensures.1
+    (λ q d s many starts. element_stops true old now c.in-Some.token c.args.count q d s e inv.so_far.kept (reading q d s many starts) many c.in_err-value.ensures.told)
 
 pub parse_array-returns-in_err-next-2-clause-told : goal.parse_array-returns-in_err-next-2-clause-told
 parse_array-returns-in_err-next-2-clause-told g t c =
     let old = c.args.context.now in
     let now = c.loop-next.context in
     let inv = c.loop-next.invariant in
-    let going = subst (λ n. IfSome n (Ongoing Array old now)) c.in-Some.is inv.going in
-    let kept = inv.so_far.kept in
+    let reading = subst (λ n. GoesOn true Array old now n c.args.count) c.in-Some.is inv.reading in
     let mid = c.parse_value.new.context in
     let read = c.in_ok-value.ensures in
-    let item = value_item now mid (located c.in_ok-value.value) read.kept read.found in
+    let x = located c.in_ok-value.value in
     let e = c.in_err-next-2.field-0.0 in
-    err_of (IsToldIn old true) e c.from_residual-in_err-next-2.result c.from_residual-in_err-next-2.ensures.1
-    (next_told Array old now kept c.in-Some.token going mid read.kept item (Some c.token_start-start.result) true e c.requires.token c.token_start-start.ensures c.in_err-next-2.ensures.refused
-    (c.in_err-next-2.ensures.told (ends_item Array old now kept c.in-Some.token going mid read.kept item)))
+    err_of (StopsAtContainer old true c.args.count) e c.from_residual-in_err-next-2.result c.from_residual-in_err-next-2.ensures.1
+    (λ q d s many starts.
+    let h = reading q d s many starts in
+    next_stops true Array old now mid inv.so_far.kept read.kept c.in-Some.token q d s h (element_comes true old now mid c.in-Some.token q d s (value_at x) c.args.count h read.kept (value_read now mid x read.found) many read.within) e
+    (λ q. c.in_err-next-2.ensures.told q _ (from_old old mid c.token_start-start.result c.token_start-start.ensures (kept_on old now mid inv.so_far.kept read.kept))))
+
+pub parse_value-returns-in_default-clause-told : goal.parse_value-returns-in_default-clause-told
+parse_value-returns-in_default-clause-told g t c =
+    err_some c.parse_leaf.result (λ e told. leaf_stops true c.args.context.now c.args.token e c.args.count c.requires.token c.requires.around (told (opens_none c.args.token c.in_default.not-OpenBracket c.in_default.not-OpenBrace))) c.parse_leaf.ensures.told
+
+pub parse_value-returns-in-OpenBracket-clause-told : goal.parse_value-returns-in-OpenBracket-clause-told
+parse_value-returns-in-OpenBracket-clause-told g t c = err_some c.parse_array.result (λ e told q d s many starts. told q d s many (starts.may, starts.gap)) c.parse_array.ensures.told
+
+pub parse_value-returns-in-OpenBrace-clause-told : goal.parse_value-returns-in-OpenBrace-clause-told
+parse_value-returns-in-OpenBrace-clause-told g t c = err_some c.parse_object.result (λ e told q d s many starts. told q d s many (starts.may, starts.gap)) c.parse_object.ensures.told
 
 pub parse_object-returns-in_err-next-clause-told : goal.parse_object-returns-in_err-next-clause-told
 parse_object-returns-in_err-next-clause-told g t c =
+    let old = c.args.context.now in
     let e = c.in_err-next.field-0.0 in
-    err_of (IsToldIn c.args.context.now true) e c.from_residual.result c.from_residual.ensures.1
-    (first_told Object c.args.context.now (Some c.token_start-start.result) true e c.requires.token c.token_start-start.ensures c.in_err-next.ensures.refused c.in_err-next.ensures.told)
+    err_of (StopsAtContainer old true c.args.count) e c.from_residual.result c.from_residual.ensures.1
+    (λ q d s many starts. first_stops true Object old c.args.count q d s e c.requires.token (room_whole Object c.args.count c.requires.around) many starts (λ q. c.in_err-next.ensures.told q _ (ap (rest (text_in old)) (sym c.token_start-start.ensures))))
 
 pub parse_object-returns-in_err-property-clause-told : goal.parse_object-returns-in_err-property-clause-told
 parse_object-returns-in_err-property-clause-told g t c =
     let old = c.args.context.now in
     let now = c.loop-next.context in
     let inv = c.loop-next.invariant in
-    let going = subst (λ n. IfSome n (Ongoing Object old now)) c.in-Some.is inv.going in
-    let kept = inv.so_far.kept in
+    let reading = subst (λ n. GoesOn true Object old now n c.args.count) c.in-Some.is inv.reading in
     let e = c.in_err-property.field-0.0 in
-    err_of (IsToldIn old true) e c.from_residual-in_err-property.result c.from_residual-in_err-property.ensures.1
-    (told_of_item Object old now kept c.in-Some.token going true e (c.in_err-property.ensures.told (due_here Object old now kept c.in-Some.token going)))
+    err_of (StopsAtContainer old true c.args.count) e c.from_residual-in_err-property.result c.from_residual-in_err-property.ensures.1
+    (λ q d s many starts. property_stops true old now c.in-Some.token c.args.count q d s e inv.so_far.kept (reading q d s many starts) many c.in_err-property.ensures.told)
 
 pub parse_object-returns-in_err-next-2-clause-told : goal.parse_object-returns-in_err-next-2-clause-told
 parse_object-returns-in_err-next-2-clause-told g t c =
     let old = c.args.context.now in
     let now = c.loop-next.context in
     let inv = c.loop-next.invariant in
-    let going = subst (λ n. IfSome n (Ongoing Object old now)) c.in-Some.is inv.going in
-    let kept = inv.so_far.kept in
+    let reading = subst (λ n. GoesOn true Object old now n c.args.count) c.in-Some.is inv.reading in
     let mid = c.parse_property.new.context in
     let read = c.in_ok-property.ensures in
-    let item = property_item now mid (member_of c.in_ok-property.property) read.kept read.found in
+    let m = member_of c.in_ok-property.property in
     let e = c.in_err-next-2.field-0.0 in
-    err_of (IsToldIn old true) e c.from_residual-in_err-next-2.result c.from_residual-in_err-next-2.ensures.1
-    (next_told Object old now kept c.in-Some.token going mid read.kept item (Some c.token_start-start.result) true e c.requires.token c.token_start-start.ensures c.in_err-next-2.ensures.refused
-    (c.in_err-next-2.ensures.told (ends_item Object old now kept c.in-Some.token going mid read.kept item)))
+    err_of (StopsAtContainer old true c.args.count) e c.from_residual-in_err-next-2.result c.from_residual-in_err-next-2.ensures.1
+    (λ q d s many starts.
+    let h = reading q d s many starts in
+    next_stops true Object old now mid inv.so_far.kept read.kept c.in-Some.token q d s h (property_comes true old now mid c.in-Some.token q d s m.name.name (value_at m.value) c.args.count h read.kept (property_read now mid m read.found) many read.within) e
+    (λ q. c.in_err-next-2.ensures.told q _ (from_old old mid c.token_start-start.result c.token_start-start.ensures (kept_on old now mid inv.so_far.kept read.kept))))
 
 pub parse_property-returns-in_err-name-clause-told : goal.parse_property-returns-in_err-name-clause-told
 parse_property-returns-in_err-name-clause-told g t c =
-    err_of (λ e. ItemIsDueHere Object c.args.context.now c.args.token → IsToldIn c.args.context.now true e) c.in_err-name.field-0.0 c.from_residual.result c.from_residual.ensures.1
-    (λ due. c.in_err-name.ensures.told due true)
+    let old = c.args.context.now in
+    let e = c.in_err-name.field-0.0 in
+    err_of (StopsAtItem Object old c.args.token true c.args.count) e c.from_residual.result c.from_residual.ensures.1
+    (λ q d s many starts. name_stops true old c.args.token q d s c.requires.token starts e c.in_err-name.ensures.told)
 
 pub parse_property-returns-in_err-pass_colon-clause-told : goal.parse_property-returns-in_err-pass_colon-clause-told
 parse_property-returns-in_err-pass_colon-clause-told g t c =
     let old = c.args.context.now in
-    err_of (λ e. ItemIsDueHere Object old c.args.token → IsToldIn old true e) c.in_err-pass_colon.field-0.0 c.from_residual-in_err-pass_colon.result c.from_residual-in_err-pass_colon.ensures.1
-    (λ due. c.in_err-pass_colon.ensures.told (ends_name old (name_at c.in_ok-name.name) c.in_ok-name.ensures.name) true)
+    let e = c.in_err-pass_colon.field-0.0 in
+    err_of (StopsAtItem Object old c.args.token true c.args.count) e c.from_residual-in_err-pass_colon.result c.from_residual-in_err-pass_colon.ensures.1
+    (λ q d s many starts. colon_missing_stops true old c.args.token q d s c.requires.token starts (name_at c.in_ok-name.name) c.in_ok-name.ensures.name e (c.in_err-pass_colon.ensures.told true _))
 
 pub parse_property-returns-in_err-found-clause-told : goal.parse_property-returns-in_err-found-clause-told
 parse_property-returns-in_err-found-clause-told g t c =
     let old = c.args.context.now in
+    let colon = c.in_ok-pass_colon.ensures in
     let e = c.in_err-found.field-0.0 in
-    err_of (λ e. ItemIsDueHere Object old c.args.token → IsToldIn old true e) e c.from_residual-in_err-found.result c.from_residual-in_err-found.ensures.1
-    (λ due. told_before old c.pass_colon.new.self e c.in_ok-pass_colon.ensures.kept c.in_err-found.ensures.told true)
+    err_of (StopsAtItem Object old c.args.token true c.args.count) e c.from_residual-in_err-found.result c.from_residual-in_err-found.ensures.1
+    (λ q d s many starts. no_token_stops true old c.args.token q d s c.requires.token starts (name_at c.in_ok-name.name) c.in_ok-name.ensures.name c.pass_colon.new.self colon.kept colon.found e c.in_err-found.ensures.told)
 
 pub parse_property-returns-in_err-check_nesting-clause-told : goal.parse_property-returns-in_err-check_nesting-clause-told
 parse_property-returns-in_err-check_nesting-clause-told g t c =
-    let old = c.args.context.now in
-    let mid = c.pass_colon.new.self in
-    let colon = c.in_ok-pass_colon.ensures in
-    let found = c.in_ok-found.ensures in
-    let e = c.in_err-check_nesting.field-0.0 in
-    err_of (λ e. ItemIsDueHere Object old c.args.token → IsToldIn old true e) e c.from_residual-in_err-check_nesting.result c.from_residual-in_err-check_nesting.ensures.1
-    (λ due. deep_property_told old (name_at c.in_ok-name.name) c.in_ok-name.ensures.name mid c.scan.new.self c.in_ok-found.found colon.kept colon.found found.kept found.found found.lexeme e c.token_start-start.result c.token_start-start.ensures
-    c.in_err-check_nesting.ensures.kind c.in_err-check_nesting.ensures.range)
-
-pub parse_property-returns-in_default-clause-told : goal.parse_property-returns-in_default-clause-told
-parse_property-returns-in_default-clause-told g t c = λ due.
-    let old = c.args.context.now in
-    let mid = c.pass_colon.new.self in
-    let colon = c.in_ok-pass_colon.ensures in
-    let found = c.in_ok-found.ensures in
-    no_value_told old (name_at c.in_ok-name.name) c.in_ok-name.ensures.name mid c.scan.new.self c.in_ok-found.found colon.kept colon.found found.kept found.found found.lexeme c.in_default.is c.fault_here.result c.fault_here.ensures.kind c.fault_here.ensures.range true
-
-pub parse_property-returns-in_err-value-clause-told : goal.parse_property-returns-in_err-value-clause-told
-parse_property-returns-in_err-value-clause-told g t c =
-    let old = c.args.context.now in
-    let mid = c.pass_colon.new.self in
-    let colon = c.in_ok-pass_colon.ensures in
-    let found = c.in_ok-found.ensures in
-    let e = c.in_err-value.field-0.0 in
-    err_of (λ e. ItemIsDueHere Object old c.args.token → IsToldIn old true e) e c.from_residual-in_err-value.result c.from_residual-in_err-value.ensures.1
-    (λ due. value_told old (name_at c.in_ok-name.name) c.in_ok-name.ensures.name mid c.scan.new.self c.in_ok-found.found colon.kept colon.found found.kept found.found found.lexeme c.in-Some.token c.in-Some.is true e c.in_err-value.ensures.told)
-
-pub parse_value-returns-in_default-clause-told : goal.parse_value-returns-in_default-clause-told
-parse_value-returns-in_default-clause-told g t c =
-    err_some c.parse_leaf.result (λ e told due. told (opens_none c.args.token c.in_default.not-OpenBracket c.in_default.not-OpenBrace) due true) c.parse_leaf.ensures.told
-
-pub parse_array-returns-in_err-next-clause-stops : goal.parse_array-returns-in_err-next-clause-stops
-parse_array-returns-in_err-next-clause-stops g t c =
-    let old = c.args.context.now in
-    let e = c.in_err-next.field-0.0 in
-    err_of (λ e. (q : List Opened) (d : Due) (s : List ℕ) → ContainerStarts old c.args.count q d s → StopsFrom old (at q d s) e) e c.from_residual.result c.from_residual.ensures.1
-    (λ q d s starts. first_stops Array old c.token_start-start.result c.args.count q d s e c.requires.token c.requires.around c.token_start-start.ensures starts c.in_err-next.ensures.stops)
-
-pub parse_array-returns-in_err-check_nesting-clause-stops : goal.parse_array-returns-in_err-check_nesting-clause-stops
-parse_array-returns-in_err-check_nesting-clause-stops g t c =
-    let old = c.args.context.now in
-    let now = c.loop-next.context in
-    let inv = c.loop-next.invariant in
-    let reading = subst (λ n. GoesOn Array old now n c.args.count) c.in-Some.is inv.reading in
-    let e = c.in_err-check_nesting.field-0.0 in
-    err_of (λ e. (q : List Opened) (d : Due) (s : List ℕ) → ContainerStarts old c.args.count q d s → StopsFrom old (at q d s) e) e c.from_residual-in_err-check_nesting.result c.from_residual-in_err-check_nesting.ensures.1
-    (λ q d s starts. deep_stops old now c.in-Some.token c.token_start-start.result c.args.count q d s e inv.so_far.kept (subst (AtHand 0x5D now) c.in-Some.is inv.so_far.hand) c.token_start-start.ensures starts.0 c.in_err-check_nesting.ensures.refused c.in_err-check_nesting.ensures.kind c.in_err-check_nesting.ensures.range (reading q d s starts))
-
-pub parse_array-returns-in_err-value-clause-stops : goal.parse_array-returns-in_err-value-clause-stops
-parse_array-returns-in_err-value-clause-stops g t c =
-    let old = c.args.context.now in
-    let now = c.loop-next.context in
-    let inv = c.loop-next.invariant in
-    let reading = subst (λ n. GoesOn Array old now n c.args.count) c.in-Some.is inv.reading in
-    let e = c.in_err-value.field-0.0 in
-    err_of (λ e. (q : List Opened) (d : Due) (s : List ℕ) → ContainerStarts old c.args.count q d s → StopsFrom old (at q d s) e) e c.from_residual-in_err-value.result c.from_residual-in_err-value.ensures.1
-    (λ q d s starts. element_stops old now c.in-Some.token c.args.count q d s e inv.so_far.kept (reading q d s starts) starts.0 c.in_err-value.ensures.stops)
-
-pub parse_array-returns-in_err-next-2-clause-stops : goal.parse_array-returns-in_err-next-2-clause-stops
-parse_array-returns-in_err-next-2-clause-stops g t c =
-    let old = c.args.context.now in
-    let now = c.loop-next.context in
-    let inv = c.loop-next.invariant in
-    let reading = subst (λ n. GoesOn Array old now n c.args.count) c.in-Some.is inv.reading in
-    let mid = c.parse_value.new.context in
-    let read = c.in_ok-value.ensures in
-    let e = c.in_err-next-2.field-0.0 in
-    err_of (λ e. (q : List Opened) (d : Due) (s : List ℕ) → ContainerStarts old c.args.count q d s → StopsFrom old (at q d s) e) e c.from_residual-in_err-next-2.result c.from_residual-in_err-next-2.ensures.1
-    (λ q d s starts.
-      let h = reading q d s starts in
-      next_stops Array old now mid inv.so_far.kept read.kept c.in-Some.token q d s h (element_comes old now mid c.in-Some.token q d s (located c.in_ok-value.value) c.args.count h read.kept read.found starts.0 read.within) c.token_start-start.result e c.token_start-start.ensures c.in_err-next-2.ensures.stops)
-
-pub parse_value-returns-in-OpenBracket-clause-stops : goal.parse_value-returns-in-OpenBracket-clause-stops
-parse_value-returns-in-OpenBracket-clause-stops g t c = err_some c.parse_array.result (λ e told q d s many starts. told q d s (many, starts.may, starts.gap)) c.parse_array.ensures.stops
-
-pub parse_value-returns-in-OpenBrace-clause-stops : goal.parse_value-returns-in-OpenBrace-clause-stops
-parse_value-returns-in-OpenBrace-clause-stops g t c = err_some c.parse_object.result (λ e told q d s many starts. told q d s (many, starts.may, starts.gap)) c.parse_object.ensures.stops
-
-pub parse_value-returns-in_default-clause-stops : goal.parse_value-returns-in_default-clause-stops
-parse_value-returns-in_default-clause-stops g t c =
-    let small = c.requires.around in
-    err_some c.parse_leaf.result
-    (λ e told q d s many starts. leaf_stops c.args.context.now c.args.token q d s e c.requires.token (omega (arith, many, small)) starts (told (opens_none c.args.token c.in_default.not-OpenBracket c.in_default.not-OpenBrace)))
-    c.parse_leaf.ensures.stops
-
-pub parse_object-returns-in_err-next-clause-stops : goal.parse_object-returns-in_err-next-clause-stops
-parse_object-returns-in_err-next-clause-stops g t c =
-    let old = c.args.context.now in
-    let e = c.in_err-next.field-0.0 in
-    err_of (λ e. (q : List Opened) (d : Due) (s : List ℕ) → ContainerStarts old c.args.count q d s → StopsFrom old (at q d s) e) e c.from_residual.result c.from_residual.ensures.1
-    (λ q d s starts. first_stops Object old c.token_start-start.result c.args.count q d s e c.requires.token c.requires.around c.token_start-start.ensures starts c.in_err-next.ensures.stops)
-
-pub parse_object-returns-in_err-property-clause-stops : goal.parse_object-returns-in_err-property-clause-stops
-parse_object-returns-in_err-property-clause-stops g t c =
-    let old = c.args.context.now in
-    let now = c.loop-next.context in
-    let inv = c.loop-next.invariant in
-    let reading = subst (λ n. GoesOn Object old now n c.args.count) c.in-Some.is inv.reading in
-    let e = c.in_err-property.field-0.0 in
-    err_of (λ e. (q : List Opened) (d : Due) (s : List ℕ) → ContainerStarts old c.args.count q d s → StopsFrom old (at q d s) e) e c.from_residual-in_err-property.result c.from_residual-in_err-property.ensures.1
-    (λ q d s starts. property_stops old now c.in-Some.token c.args.count q d s e inv.so_far.kept (reading q d s starts) starts.0 c.in_err-property.ensures.stops)
-
-pub parse_object-returns-in_err-next-2-clause-stops : goal.parse_object-returns-in_err-next-2-clause-stops
-parse_object-returns-in_err-next-2-clause-stops g t c =
-    let old = c.args.context.now in
-    let now = c.loop-next.context in
-    let inv = c.loop-next.invariant in
-    let reading = subst (λ n. GoesOn Object old now n c.args.count) c.in-Some.is inv.reading in
-    let mid = c.parse_property.new.context in
-    let read = c.in_ok-property.ensures in
-    let e = c.in_err-next-2.field-0.0 in
-    err_of (λ e. (q : List Opened) (d : Due) (s : List ℕ) → ContainerStarts old c.args.count q d s → StopsFrom old (at q d s) e) e c.from_residual-in_err-next-2.result c.from_residual-in_err-next-2.ensures.1
-    (λ q d s starts.
-      let h = reading q d s starts in
-      next_stops Object old now mid inv.so_far.kept read.kept c.in-Some.token q d s h (property_comes old now mid c.in-Some.token q d s (member_of c.in_ok-property.property) c.args.count h read.kept read.found starts.0 read.within) c.token_start-start.result e c.token_start-start.ensures c.in_err-next-2.ensures.stops)
-
-pub parse_property-returns-in_err-name-clause-stops : goal.parse_property-returns-in_err-name-clause-stops
-parse_property-returns-in_err-name-clause-stops g t c =
-    let old = c.args.context.now in
-    let e = c.in_err-name.field-0.0 in
-    err_of (λ e. (q : List Opened) (d : Due) (s : List ℕ) → length q ≡ c.args.count → ItemStarts Object old c.args.token q d s → StopsFrom old (at q d s) e) e c.from_residual.result c.from_residual.ensures.1
-    (λ q d s many starts. name_stops old c.args.token q d s c.requires.token starts e c.in_err-name.ensures.stops)
-
-pub parse_property-returns-in_err-pass_colon-clause-stops : goal.parse_property-returns-in_err-pass_colon-clause-stops
-parse_property-returns-in_err-pass_colon-clause-stops g t c =
-    let old = c.args.context.now in
-    let e = c.in_err-pass_colon.field-0.0 in
-    err_of (λ e. (q : List Opened) (d : Due) (s : List ℕ) → length q ≡ c.args.count → ItemStarts Object old c.args.token q d s → StopsFrom old (at q d s) e) e c.from_residual-in_err-pass_colon.result c.from_residual-in_err-pass_colon.ensures.1
-    (λ q d s many starts. colon_missing_stops old c.args.token q d s c.requires.token starts (name_at c.in_ok-name.name) c.in_ok-name.ensures.name e (c.in_err-pass_colon.ensures.stops true _))
-
-pub parse_property-returns-in_err-found-clause-stops : goal.parse_property-returns-in_err-found-clause-stops
-parse_property-returns-in_err-found-clause-stops g t c =
-    let old = c.args.context.now in
-    let colon = c.in_ok-pass_colon.ensures in
-    let e = c.in_err-found.field-0.0 in
-    err_of (λ e. (q : List Opened) (d : Due) (s : List ℕ) → length q ≡ c.args.count → ItemStarts Object old c.args.token q d s → StopsFrom old (at q d s) e) e c.from_residual-in_err-found.result c.from_residual-in_err-found.ensures.1
-    (λ q d s many starts. no_token_stops old c.args.token q d s c.requires.token starts (name_at c.in_ok-name.name) c.in_ok-name.ensures.name c.pass_colon.new.self colon.kept colon.found e c.in_err-found.ensures.stops)
-
-pub parse_property-returns-in_err-check_nesting-clause-stops : goal.parse_property-returns-in_err-check_nesting-clause-stops
-parse_property-returns-in_err-check_nesting-clause-stops g t c =
     let old = c.args.context.now in
     let colon = c.in_ok-pass_colon.ensures in
     let found = c.in_ok-found.ensures in
     let nesting = c.in_err-check_nesting.ensures in
     let e = c.in_err-check_nesting.field-0.0 in
     let deep = nesting.refused in
-    err_of (λ e. (q : List Opened) (d : Due) (s : List ℕ) → length q ≡ c.args.count → ItemStarts Object old c.args.token q d s → StopsFrom old (at q d s) e) e c.from_residual-in_err-check_nesting.result c.from_residual-in_err-check_nesting.ensures.1
+    err_of (StopsAtItem Object old c.args.token true c.args.count) e c.from_residual-in_err-check_nesting.result c.from_residual-in_err-check_nesting.ensures.1
     (λ q d s many starts. deep_property_stops old c.args.token q d s c.requires.token starts (name_at c.in_ok-name.name) c.in_ok-name.ensures.name c.pass_colon.new.self colon.kept colon.found c.scan.new.self c.in_ok-found.found found.kept found.found found.lexeme
     e c.token_start-start.result c.token_start-start.ensures (omega (arith, many, deep)) nesting.kind nesting.range)
 
-pub parse_property-returns-in_default-clause-stops : goal.parse_property-returns-in_default-clause-stops
-parse_property-returns-in_default-clause-stops g t c = λ q d s many starts.
+pub parse_property-returns-in_default-clause-told : goal.parse_property-returns-in_default-clause-told
+parse_property-returns-in_default-clause-told g t c = λ q d s many starts.
     let old = c.args.context.now in
     let colon = c.in_ok-pass_colon.ensures in
     let found = c.in_ok-found.ensures in
     let small = c.in_ok-check_nesting.ensures.within in
-    no_value_stops old c.args.token q d s c.requires.token starts (name_at c.in_ok-name.name) c.in_ok-name.ensures.name c.pass_colon.new.self colon.kept colon.found c.scan.new.self c.in_ok-found.found found.kept found.found found.lexeme
+    no_value_stops true old c.args.token q d s c.requires.token starts (name_at c.in_ok-name.name) c.in_ok-name.ensures.name c.pass_colon.new.self colon.kept colon.found c.scan.new.self c.in_ok-found.found found.kept found.found found.lexeme
     c.in_default.is c.fault_here.result (omega (arith, many, small)) c.fault_here.ensures.kind c.fault_here.ensures.range
 
-pub parse_property-returns-in_err-value-clause-stops : goal.parse_property-returns-in_err-value-clause-stops
-parse_property-returns-in_err-value-clause-stops g t c =
+pub parse_property-returns-in_err-value-clause-told : goal.parse_property-returns-in_err-value-clause-told
+parse_property-returns-in_err-value-clause-told g t c =
     let old = c.args.context.now in
     let colon = c.in_ok-pass_colon.ensures in
     let found = c.in_ok-found.ensures in
     let e = c.in_err-value.field-0.0 in
-    err_of (λ e. (q : List Opened) (d : Due) (s : List ℕ) → length q ≡ c.args.count → ItemStarts Object old c.args.token q d s → StopsFrom old (at q d s) e) e c.from_residual-in_err-value.result c.from_residual-in_err-value.ensures.1
-    (λ q d s many starts. value_told_stops old c.args.token q d s c.requires.token starts (name_at c.in_ok-name.name) c.in_ok-name.ensures.name c.pass_colon.new.self colon.kept colon.found c.scan.new.self c.in_ok-found.found found.kept found.found found.lexeme
-    c.in-Some.token c.in-Some.is e (c.in_err-value.ensures.stops _ _ _ (omega (arith, many))))
+    err_of (StopsAtItem Object old c.args.token true c.args.count) e c.from_residual-in_err-value.result c.from_residual-in_err-value.ensures.1
+    (λ q d s many starts. value_told_stops true old c.args.token q d s c.requires.token starts (name_at c.in_ok-name.name) c.in_ok-name.ensures.name c.pass_colon.new.self colon.kept colon.found c.scan.new.self c.in_ok-found.found found.kept found.found found.lexeme
+    c.in-Some.token c.in-Some.is e (c.args.count + 1) (omega (arith, many)) c.in_err-value.ensures.told)

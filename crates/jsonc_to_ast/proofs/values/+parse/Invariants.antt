@@ -1,7 +1,7 @@
 use Rattle.std.proofs.Common.{◌-◌, ◌*◌, length, map}
 use Rattle.jsonc_to_ast.specs.Context.{text_in, token_start}
 use Rattle.jsonc_ast.specs.Views.{located, member_of}
-use Rattle.jsonc_to_ast.proofs.Ongoing.{ElementsGoOn, PropertiesGoOn}
+use Rattle.jsonc_to_ast.proofs.Standing.{ElementsGoOn, PropertiesGoOn}
 use Rattle.jsonc_to_ast.proofs.values.+parse.Given as goal
 
 abbrev pub decreases-parse_value : goal.decreases-parse_value

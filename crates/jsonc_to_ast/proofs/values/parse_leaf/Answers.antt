@@ -5,12 +5,7 @@ use Rattle.jsonc_to_ast.proofs.NoValues.{map_none, no_literal_here}
 use Rattle.jsonc_text.specs.Tokens.{scanned_of}
 use Rattle.jsonc_ast.specs.Located.{leaf_at}
 use Rattle.jsonc_to_ast.specs.Scanned.{leaf_value}
-use Rattle.jsonc_to_ast.proofs.Due.{unexpected_told}
-use Rattle.jsonc_text.specs.Lexemes.{LexemeKind, lexeme, punctuation}
-use Rattle.jsonc_to_ast.specs.Scanned.{unexpected_kind}
-use Rattle.jsonc_to_ast.proofs.Due.{begins_none}
-use Rattle.jsonc_to_ast.proofs.Stopping.{fault_at}
-use Rattle.jsonc_to_ast.specs.Context.{text_in, token_range}
+use Rattle.jsonc_to_ast.proofs.Stopping.{is_unexpected}
 use Rattle.jsonc_to_ast.proofs.values.parse_leaf.Goals as goal
 
 pub returns-clause-found : goal.returns-clause-found
@@ -20,12 +15,6 @@ pub returns-in_default-clause-refused : goal.returns-in_default-clause-refused
 returns-in_default-clause-refused g c = no_literal_here c.args.context.now c.args.token _ c.range.result c.requires (ap (option_map located) c.in_default.is) c.leaf.ensures
 
 pub returns-in_default-clause-told : goal.returns-in_default-clause-told
-returns-in_default-clause-told g c =
+returns-in_default-clause-told g c = λ opens.
     let none = map_none (leaf_at c.range.result) (leaf_value (scanned_of c.args.token)) (sym c.leaf.ensures ∙ ap (option_map located) c.in_default.is) in
-    unexpected_told c.args.context.now c.args.token c.fault_here.result c.requires none (c.fault_here.ensures.kind ∙ c.unexpected-kind.ensures.kind) c.fault_here.ensures.range
-
-pub returns-in_default-clause-stops : goal.returns-in_default-clause-stops
-returns-in_default-clause-stops g c = λ opens l mark.
-    let none = map_none (leaf_at c.range.result) (leaf_value (scanned_of c.args.token)) (sym c.leaf.ensures ∙ ap (option_map located) c.in_default.is) in
-    (begins_none l (ap leaf_value (sym mark) ∙ none) (λ f. opens.0 (mark ∙ ap lexeme f)) (λ f. opens.1 (mark ∙ ap lexeme f)),
-    fault_at (text_in c.args.context.now) c.fault_here.result (unexpected_kind (lexeme l)) (token_range c.args.context.now) (c.fault_here.ensures.kind ∙ c.unexpected-kind.ensures.kind ∙ ap unexpected_kind mark) c.fault_here.ensures.range)
+    is_unexpected c.args.context.now c.args.token c.fault_here.result opens none (c.fault_here.ensures.kind ∙ c.unexpected-kind.ensures.kind) c.fault_here.ensures.range

@@ -6,16 +6,13 @@ use Rattle.jsonc_to_ast.proofs.Leaves.{empty_document, value_document}
 use Rattle.jsonc_to_ast.proofs.Collecting.{collects_turn, all_collected, all_noted}
 use Rattle.jsonc_to_ast.proofs.Scans.{moved, kept_on}
 use Rattle.std.proofs.Common.{inr}
-use Rattle.jsonc_to_ast.proofs.NoValues.{document_no_token, document_no_value, document_no_end, document_goes_on, document_from_start}
+use Rattle.jsonc_to_ast.proofs.NoValues.{value_read, document_no_token, document_no_value, document_no_end, document_goes_on, document_from_start}
 use Rattle.jsonc_to_ast.proofs.Refusals.{err_of, still}
 use Rattle.jsonc_text.specs.OptionsOf.{parse_options}
 use Rattle.jsonc_to_ast.specs.Refusals.{RefusesText}
+use Rattle.jsonc_ast.specs.Located.{value_at}
 use Rattle.jsonc_to_ast.specs.Told.{IsTold}
-use Rattle.jsonc_to_ast.proofs.Telling.{told_before}
-use Rattle.jsonc_to_ast.proofs.Ongoing.{value_item}
-use Rattle.jsonc_to_ast.proofs.Due.{told_of_text, root_told, second_told}
 use Rattle.std.proofs.Common.{refl}
-use Rattle.jsonc_to_ast.specs.Reading.{IsToldOfText}
 use Rattle.jsonc_to_ast.proofs.Stopping.{stops_here}
 use Rattle.jsonc_to_ast.specs.Reached.{document}
 use Rattle.std.proofs.Common.{[]}
@@ -124,9 +121,10 @@ returns-clause-comments g c =
 pub returns-in_err-token-clause-told : goal.returns-in_err-token-clause-told
 returns-in_err-token-clause-told g c =
     let start = c.new-context.ensures in
+    let old = c.new-context.result in
     let e = c.in_err-token.field-0.0 in
     err_of (IsTold (parse_options c.args.options.now) c.args.text.now true) e c.from_residual.result c.from_residual.ensures.1
-    (told_of_text c.new-context.result _ _ true e start.text start.options (c.in_err-token.ensures.told true))
+    (text_stops true old _ _ e start.text start.options start.start (stops_here old true [] document e c.in_err-token.ensures.told))
 
 pub returns-in_err-value-clause-told : goal.returns-in_err-value-clause-told
 returns-in_err-value-clause-told g c =
@@ -135,66 +133,27 @@ returns-in_err-value-clause-told g c =
     let read = c.in_ok-token.ensures in
     let e = c.in_err-value.field-0.0 in
     err_of (IsTold (parse_options c.args.options.now) c.args.text.now true) e c.from_residual-in_err-value.result c.from_residual-in_err-value.ensures.1
-    (told_of_text old _ _ true e start.text start.options
-    (root_told old c.scan.new.self c.in_ok-token.field-0 c.scan.ensures.kept read.found read.lexeme start.start c.in-Some.token c.in-Some.is true e c.in_err-value.ensures.told))
+    (text_stops true old _ _ e start.text start.options start.start
+    (root_stops true old c.scan.new.self c.in_ok-token.field-0 c.scan.ensures.kept read.found read.lexeme c.in-Some.token c.in-Some.is e refl c.in_err-value.ensures.told))
 
 pub returns-in_err-scan-clause-told : goal.returns-in_err-scan-clause-told
 returns-in_err-scan-clause-told g c =
     let start = c.new-context.ensures in
     let old = c.new-context.result in
-    let mid = c.parse_value.new.context in
+    let read = c.in_ok-token.ensures in
+    let value = c.in_ok-value.ensures in
     let e = c.in_err-scan.field-0.0 in
     err_of (IsTold (parse_options c.args.options.now) c.args.text.now true) e c.from_residual-in_err-scan.result c.from_residual-in_err-scan.ensures.1
-    (told_of_text old _ _ true e start.text start.options (told_before old mid e (kept_on old c.scan.new.self mid c.scan.ensures.kept c.in_ok-value.ensures.kept) c.in_err-scan.ensures.told true))
+    (text_stops true old _ _ e start.text start.options start.start
+    (end_stops true old c.scan.new.self c.in_ok-token.field-0 c.scan.ensures.kept read.found read.lexeme c.in-Some.token c.in-Some.is c.parse_value.new.context (value_at (located c.in_ok-value.value)) value.kept (value_read c.scan.new.self c.parse_value.new.context (located c.in_ok-value.value) value.found) value.within e c.in_err-scan.ensures.told))
 
 pub returns-in_default-2-clause-told : goal.returns-in_default-2-clause-told
 returns-in_default-2-clause-told g c =
     let start = c.new-context.ensures in
     let old = c.new-context.result in
-    let now = c.scan.new.self in
-    let mid = c.parse_value.new.context in
-    let value = c.in_ok-value.ensures in
-    let last = c.in_ok-scan.ensures in
-    told_of_text old _ _ true c.fault_here.result start.text start.options
-    (second_told old now mid c.scan-2.new.self c.in_ok-token.field-0 c.in_ok-scan.field-0 c.scan.ensures.kept c.in_ok-token.ensures.found start.start value.kept (value_item now mid (located c.in_ok-value.value) value.kept value.found)
-    c.scan-2.ensures.kept last.found last.lexeme c.in_default-2.not-None true c.fault_here.result c.fault_here.ensures.kind c.fault_here.ensures.range)
-
-pub returns-in_err-token-clause-stops : goal.returns-in_err-token-clause-stops
-returns-in_err-token-clause-stops g c =
-    let start = c.new-context.ensures in
-    let old = c.new-context.result in
-    let e = c.in_err-token.field-0.0 in
-    err_of (IsToldOfText (parse_options c.args.options.now) c.args.text.now true) e c.from_residual.result c.from_residual.ensures.1
-    (text_stops old _ _ e start.text start.options start.start (stops_here old true [] document e c.in_err-token.ensures.stops))
-
-pub returns-in_err-value-clause-stops : goal.returns-in_err-value-clause-stops
-returns-in_err-value-clause-stops g c =
-    let start = c.new-context.ensures in
-    let old = c.new-context.result in
-    let read = c.in_ok-token.ensures in
-    let e = c.in_err-value.field-0.0 in
-    err_of (IsToldOfText (parse_options c.args.options.now) c.args.text.now true) e c.from_residual-in_err-value.result c.from_residual-in_err-value.ensures.1
-    (text_stops old _ _ e start.text start.options start.start
-    (root_stops old c.scan.new.self c.in_ok-token.field-0 c.scan.ensures.kept read.found read.lexeme c.in-Some.token c.in-Some.is e (c.in_err-value.ensures.stops _ _ _ refl)))
-
-pub returns-in_err-scan-clause-stops : goal.returns-in_err-scan-clause-stops
-returns-in_err-scan-clause-stops g c =
-    let start = c.new-context.ensures in
-    let old = c.new-context.result in
-    let read = c.in_ok-token.ensures in
-    let value = c.in_ok-value.ensures in
-    let e = c.in_err-scan.field-0.0 in
-    err_of (IsToldOfText (parse_options c.args.options.now) c.args.text.now true) e c.from_residual-in_err-scan.result c.from_residual-in_err-scan.ensures.1
-    (text_stops old _ _ e start.text start.options start.start
-    (end_stops old c.scan.new.self c.in_ok-token.field-0 c.scan.ensures.kept read.found read.lexeme c.in-Some.token c.in-Some.is c.parse_value.new.context (located c.in_ok-value.value) value.kept value.found value.within e c.in_err-scan.ensures.stops))
-
-pub returns-in_default-2-clause-stops : goal.returns-in_default-2-clause-stops
-returns-in_default-2-clause-stops g c =
-    let start = c.new-context.ensures in
-    let old = c.new-context.result in
     let read = c.in_ok-token.ensures in
     let value = c.in_ok-value.ensures in
     let last = c.in_ok-scan.ensures in
-    text_stops old _ _ c.fault_here.result start.text start.options start.start
-    (second_stops old c.scan.new.self c.in_ok-token.field-0 c.scan.ensures.kept read.found read.lexeme c.in-Some.token c.in-Some.is c.parse_value.new.context (located c.in_ok-value.value) value.kept value.found value.within
+    text_stops true old _ _ c.fault_here.result start.text start.options start.start
+    (second_stops true old c.scan.new.self c.in_ok-token.field-0 c.scan.ensures.kept read.found read.lexeme c.in-Some.token c.in-Some.is c.parse_value.new.context (value_at (located c.in_ok-value.value)) value.kept (value_read c.scan.new.self c.parse_value.new.context (located c.in_ok-value.value) value.found) value.within
     c.scan-2.new.self c.in_ok-scan.field-0 c.scan-2.ensures.kept last.found last.lexeme c.in_default-2.not-None c.fault_here.result c.fault_here.ensures.kind c.fault_here.ensures.range)

@@ -1,9 +1,10 @@
-use Rattle.std.proofs.Common.{◌+◌, ap, refl, subst, false, None, inr}
+use Rattle.std.proofs.Common.{◌+◌, arith, subst, false, inr}
 use Rattle.jsonc_text.specs.Tokens.{scanned_of}
 use Rattle.jsonc_text.specs.Grammar.{Separates, Closes}
 use Rattle.jsonc_to_ast.specs.Context.{options_in}
 use Rattle.jsonc_to_ast.specs.Refusals.{Tells}
 use Rattle.jsonc_ast.specs.Views.{name_at}
+use Rattle.jsonc_to_value.specs.Views.{name_of}
 use Rattle.jsonc_to_ast.proofs.Loops.{AtHand, smaller, leads_on}
 use Rattle.jsonc_to_ast.proofs.Refusals.{err_of, err_some, still}
 use Rattle.jsonc_to_ast.proofs.Scans.{kept_on}
@@ -13,10 +14,9 @@ use Rattle.jsonc_to_value.proofs.Properties as properties
 use Rattle.jsonc_to_value.proofs.Leaves.{fewer, leaf_nowhere}
 use Rattle.jsonc_to_value.proofs.Named.{name_missing, colon_missing, no_token_for_value, end_for_value, value_refused, property_read}
 use Rattle.jsonc_to_ast.specs.declared.container.Container.TheVariants.{Array, Object}
-use Rattle.jsonc_to_ast.specs.Told.{IsToldIn, ItemIsDueHere, OpensValue}
-use Rattle.jsonc_to_ast.proofs.Telling.{told_before}
-use Rattle.jsonc_to_ast.proofs.Ongoing.{first_told, next_told, told_of_item, due_here, element_due, bracket_due, ends_item, deep_container_told}
-use Rattle.jsonc_to_ast.proofs.Due.{opens_none, ends_name, no_value_told, value_told}
+use Rattle.jsonc_to_ast.specs.Told.{StopsAtContainer, StopsAtItem}
+use Rattle.jsonc_to_ast.proofs.Standing.{first_stops, next_stops, element_comes, element_stops, property_comes, property_stops, name_stops, colon_missing_stops, no_token_stops, no_value_stops, value_told_stops, deep_container_stops, leaf_stops, room_apart}
+use Rattle.jsonc_to_ast.proofs.Tokens.{opens_none}
 use Rattle.jsonc_to_value.proofs.values.+parse.Goals as goal
 
 pub parse_array-loop-next-init : goal.parse_array-loop-next-init
@@ -175,101 +175,109 @@ parse_value-returns-in_default-clause-refused g t c =
 pub parse_array-returns-in_err-check_depth-clause-told : goal.parse_array-returns-in_err-check_depth-clause-told
 parse_array-returns-in_err-check_depth-clause-told g t c =
     let old = c.args.context.now in
+    let deep = c.in_err-check_depth.ensures in
     let e = c.in_err-check_depth.field-0.0 in
-    err_of (λ e. OpensValue 0x5B old → IsToldIn old false e) e c.from_residual.result c.from_residual.ensures.1 (deep_container_told Array old e c.requires.token c.in_err-check_depth.ensures.kind c.in_err-check_depth.ensures.range)
+    err_of (StopsAtContainer old false c.args.count) e c.from_residual.result c.from_residual.ensures.1 (deep_container_stops Array old c.args.count e c.requires.token deep.refused deep.kind deep.range)
 
 pub parse_array-returns-in_err-next-clause-told : goal.parse_array-returns-in_err-next-clause-told
 parse_array-returns-in_err-next-clause-told g t c =
     let old = c.args.context.now in
     let e = c.in_err-next.field-0.0 in
-    err_of (λ e. OpensValue 0x5B old → IsToldIn old false e) e c.from_residual-in_err-next.result c.from_residual-in_err-next.ensures.1
-    (λ due. first_told Array old None false e c.requires.token refl c.in_err-next.ensures.refused c.in_err-next.ensures.told)
+    err_of (StopsAtContainer old false c.args.count) e c.from_residual-in_err-next.result c.from_residual-in_err-next.ensures.1
+    (λ q d s many starts. first_stops false Array old c.args.count q d s e c.requires.token (room_apart Array c.args.count c.in_ok-check_depth.ensures.within) many starts (λ q. c.in_err-next.ensures.told q _ tt))
 
 pub parse_array-returns-in_err-value-clause-told : goal.parse_array-returns-in_err-value-clause-told
 parse_array-returns-in_err-value-clause-told g t c =
     let old = c.args.context.now in
     let now = c.loop-next.context in
     let inv = c.loop-next.invariant in
-    let going = elements.going_some old now c.loop-next.next c.in-Some.token c.args.count c.loop-next.elements.items inv c.in-Some.is in
+    let reading = elements.reading_some old now c.loop-next.next c.in-Some.token c.args.count c.loop-next.elements.items inv c.in-Some.is in
     let e = c.in_err-value.field-0.0 in
-    err_of (λ e. OpensValue 0x5B old → IsToldIn old false e) e c.from_residual-in_err-value.result c.from_residual-in_err-value.ensures.1
-    (λ due. told_of_item Array old now inv.kept c.in-Some.token going false e (c.in_err-value.ensures.told (element_due now c.in-Some.token (due_here Array old now inv.kept c.in-Some.token going))))
+    err_of (StopsAtContainer old false c.args.count) e c.from_residual-in_err-value.result c.from_residual-in_err-value.ensures.1
+    (λ q d s many starts. element_stops false old now c.in-Some.token c.args.count q d s e inv.kept (reading q d s many starts) many c.in_err-value.ensures.told)
 
 pub parse_array-returns-in_err-next-2-clause-told : goal.parse_array-returns-in_err-next-2-clause-told
 parse_array-returns-in_err-next-2-clause-told g t c =
     let old = c.args.context.now in
     let now = c.loop-next.context in
     let inv = c.loop-next.invariant in
-    let going = elements.going_some old now c.loop-next.next c.in-Some.token c.args.count c.loop-next.elements.items inv c.in-Some.is in
+    let reading = elements.reading_some old now c.loop-next.next c.in-Some.token c.args.count c.loop-next.elements.items inv c.in-Some.is in
     let mid = c.parse_value.new.context in
     let read = c.in_ok-value.ensures in
-    let item = elements.value_item now mid (c.args.count + 1) c.in_ok-value.value read.kept read.found in
     let e = c.in_err-next-2.field-0.0 in
-    err_of (λ e. OpensValue 0x5B old → IsToldIn old false e) e c.from_residual-in_err-next-2.result c.from_residual-in_err-next-2.ensures.1
-    (λ due. next_told Array old now inv.kept c.in-Some.token going mid read.kept item None false e c.requires.token refl c.in_err-next-2.ensures.refused
-    (c.in_err-next-2.ensures.told (ends_item Array old now inv.kept c.in-Some.token going mid read.kept item)))
+    err_of (StopsAtContainer old false c.args.count) e c.from_residual-in_err-next-2.result c.from_residual-in_err-next-2.ensures.1
+    (λ q d s many starts.
+    let h = reading q d s many starts in
+    next_stops false Array old now mid inv.kept read.kept c.in-Some.token q d s h (element_comes false old now mid c.in-Some.token q d s read.found.value c.args.count h read.kept read.found.stands many read.found.within) e (λ q. c.in_err-next-2.ensures.told q _ tt))
 
 pub parse_object-returns-in_err-check_depth-clause-told : goal.parse_object-returns-in_err-check_depth-clause-told
 parse_object-returns-in_err-check_depth-clause-told g t c =
     let old = c.args.context.now in
+    let deep = c.in_err-check_depth.ensures in
     let e = c.in_err-check_depth.field-0.0 in
-    err_of (λ e. OpensValue 0x7B old → IsToldIn old false e) e c.from_residual.result c.from_residual.ensures.1 (deep_container_told Object old e c.requires.token c.in_err-check_depth.ensures.kind c.in_err-check_depth.ensures.range)
+    err_of (StopsAtContainer old false c.args.count) e c.from_residual.result c.from_residual.ensures.1 (deep_container_stops Object old c.args.count e c.requires.token deep.refused deep.kind deep.range)
 
 pub parse_object-returns-in_err-next-clause-told : goal.parse_object-returns-in_err-next-clause-told
 parse_object-returns-in_err-next-clause-told g t c =
     let old = c.args.context.now in
     let e = c.in_err-next.field-0.0 in
-    err_of (λ e. OpensValue 0x7B old → IsToldIn old false e) e c.from_residual-in_err-next.result c.from_residual-in_err-next.ensures.1
-    (λ due. first_told Object old None false e c.requires.token refl c.in_err-next.ensures.refused c.in_err-next.ensures.told)
+    err_of (StopsAtContainer old false c.args.count) e c.from_residual-in_err-next.result c.from_residual-in_err-next.ensures.1
+    (λ q d s many starts. first_stops false Object old c.args.count q d s e c.requires.token (room_apart Object c.args.count c.in_ok-check_depth.ensures.within) many starts (λ q. c.in_err-next.ensures.told q _ tt))
 
 pub parse_object-returns-in_err-name-clause-told : goal.parse_object-returns-in_err-name-clause-told
 parse_object-returns-in_err-name-clause-told g t c =
     let old = c.args.context.now in
     let now = c.loop-next.context in
     let inv = c.loop-next.invariant in
-    let going = properties.going_some old now c.loop-next.next c.in-Some.token c.args.count c.loop-next.properties inv c.in-Some.is in
+    let reading = properties.reading_some old now c.loop-next.next c.in-Some.token c.args.count c.loop-next.properties inv c.in-Some.is in
     let e = c.in_err-name.field-0.0 in
-    err_of (λ e. OpensValue 0x7B old → IsToldIn old false e) e c.from_residual-in_err-name.result c.from_residual-in_err-name.ensures.1
-    (λ due. told_of_item Object old now inv.kept c.in-Some.token going false e (c.in_err-name.ensures.told (due_here Object old now inv.kept c.in-Some.token going)))
+    err_of (StopsAtContainer old false c.args.count) e c.from_residual-in_err-name.result c.from_residual-in_err-name.ensures.1
+    (λ q d s many starts. property_stops false old now c.in-Some.token c.args.count q d s e inv.kept (reading q d s many starts) many c.in_err-name.ensures.told)
 
 pub parse_object-returns-in_err-next-2-clause-told : goal.parse_object-returns-in_err-next-2-clause-told
 parse_object-returns-in_err-next-2-clause-told g t c =
     let old = c.args.context.now in
     let now = c.loop-next.context in
     let inv = c.loop-next.invariant in
-    let going = properties.going_some old now c.loop-next.next c.in-Some.token c.args.count c.loop-next.properties inv c.in-Some.is in
+    let reading = properties.reading_some old now c.loop-next.next c.in-Some.token c.args.count c.loop-next.properties inv c.in-Some.is in
     let mid = c.parse_property.new.context in
     let read = c.in_ok-name.ensures in
-    let item = properties.property_item now mid (c.args.count + 1) (c.in_ok-name.name, c.in_ok-name.value) read.kept read.found in
     let e = c.in_err-next-2.field-0.0 in
-    err_of (λ e. OpensValue 0x7B old → IsToldIn old false e) e c.from_residual-in_err-next-2.result c.from_residual-in_err-next-2.ensures.1
-    (λ due. next_told Object old now inv.kept c.in-Some.token going mid read.kept item None false e c.requires.token refl c.in_err-next-2.ensures.refused
-    (c.in_err-next-2.ensures.told (ends_item Object old now inv.kept c.in-Some.token going mid read.kept item)))
+    err_of (StopsAtContainer old false c.args.count) e c.from_residual-in_err-next-2.result c.from_residual-in_err-next-2.ensures.1
+    (λ q d s many starts.
+    let h = reading q d s many starts in
+    next_stops false Object old now mid inv.kept read.kept c.in-Some.token q d s h (property_comes false old now mid c.in-Some.token q d s (name_of c.in_ok-name.name) read.found.value c.args.count h read.kept read.found.stands many (omega (arith, read.found.within))) e (λ q. c.in_err-next-2.ensures.told q _ tt))
 
 pub parse_property-returns-in_err-name-clause-told : goal.parse_property-returns-in_err-name-clause-told
 parse_property-returns-in_err-name-clause-told g t c =
     let old = c.args.context.now in
-    err_of (λ e. ItemIsDueHere Object old c.args.token → IsToldIn old false e) c.in_err-name.field-0.0 c.from_residual.result c.from_residual.ensures.1 (λ due. c.in_err-name.ensures.told due false)
+    let e = c.in_err-name.field-0.0 in
+    err_of (StopsAtItem Object old c.args.token false c.args.count) e c.from_residual.result c.from_residual.ensures.1
+    (λ q d s many starts. name_stops false old c.args.token q d s c.requires.token starts e c.in_err-name.ensures.told)
 
 pub parse_property-returns-in_err-pass_colon-clause-told : goal.parse_property-returns-in_err-pass_colon-clause-told
 parse_property-returns-in_err-pass_colon-clause-told g t c =
     let old = c.args.context.now in
-    err_of (λ e. ItemIsDueHere Object old c.args.token → IsToldIn old false e) c.in_err-pass_colon.field-0.0 c.from_residual-in_err-pass_colon.result c.from_residual-in_err-pass_colon.ensures.1
-    (λ due. c.in_err-pass_colon.ensures.told (ends_name old (name_at c.in_ok-name.field-0) c.in_ok-name.ensures.name) false)
+    let e = c.in_err-pass_colon.field-0.0 in
+    err_of (StopsAtItem Object old c.args.token false c.args.count) e c.from_residual-in_err-pass_colon.result c.from_residual-in_err-pass_colon.ensures.1
+    (λ q d s many starts. colon_missing_stops false old c.args.token q d s c.requires.token starts (name_at c.in_ok-name.field-0) c.in_ok-name.ensures.name e (c.in_err-pass_colon.ensures.told false _))
 
 pub parse_property-returns-in_err-token-clause-told : goal.parse_property-returns-in_err-token-clause-told
 parse_property-returns-in_err-token-clause-told g t c =
     let old = c.args.context.now in
+    let colon = c.in_ok-pass_colon.ensures in
     let e = c.in_err-token.field-0.0 in
-    err_of (λ e. ItemIsDueHere Object old c.args.token → IsToldIn old false e) e c.from_residual-in_err-token.result c.from_residual-in_err-token.ensures.1
-    (λ due. told_before old c.pass_colon.new.self e c.in_ok-pass_colon.ensures.kept c.in_err-token.ensures.told false)
+    err_of (StopsAtItem Object old c.args.token false c.args.count) e c.from_residual-in_err-token.result c.from_residual-in_err-token.ensures.1
+    (λ q d s many starts. no_token_stops false old c.args.token q d s c.requires.token starts (name_at c.in_ok-name.field-0) c.in_ok-name.ensures.name c.pass_colon.new.self colon.kept colon.found e c.in_err-token.ensures.told)
 
 pub parse_property-returns-in_default-clause-told : goal.parse_property-returns-in_default-clause-told
-parse_property-returns-in_default-clause-told g t c = λ due.
+parse_property-returns-in_default-clause-told g t c = λ q d s many starts.
+    let old = c.args.context.now in
     let colon = c.in_ok-pass_colon.ensures in
     let read = c.in_ok-token.ensures in
-    no_value_told c.args.context.now (name_at c.in_ok-name.field-0) c.in_ok-name.ensures.name c.pass_colon.new.self c.scan.new.self c.in_ok-token.field-0 colon.kept colon.found read.kept read.found read.lexeme c.in_default.is
-    c.fault_here.result c.fault_here.ensures.kind c.fault_here.ensures.range false
+    let small = c.requires.around in
+    no_value_stops false old c.args.token q d s c.requires.token starts (name_at c.in_ok-name.field-0) c.in_ok-name.ensures.name c.pass_colon.new.self colon.kept colon.found c.scan.new.self c.in_ok-token.field-0 read.kept read.found read.lexeme
+    c.in_default.is c.fault_here.result (omega (arith, many, small)) c.fault_here.ensures.kind c.fault_here.ensures.range
 
 pub parse_property-returns-in_err-value-clause-told : goal.parse_property-returns-in_err-value-clause-told
 parse_property-returns-in_err-value-clause-told g t c =
@@ -277,17 +285,16 @@ parse_property-returns-in_err-value-clause-told g t c =
     let colon = c.in_ok-pass_colon.ensures in
     let read = c.in_ok-token.ensures in
     let e = c.in_err-value.field-0.0 in
-    err_of (λ e. ItemIsDueHere Object old c.args.token → IsToldIn old false e) e c.from_residual-in_err-value.result c.from_residual-in_err-value.ensures.1
-    (λ due. value_told old (name_at c.in_ok-name.field-0) c.in_ok-name.ensures.name c.pass_colon.new.self c.scan.new.self c.in_ok-token.field-0 colon.kept colon.found read.kept read.found read.lexeme c.in-Some.token c.in-Some.is false e c.in_err-value.ensures.told)
+    err_of (StopsAtItem Object old c.args.token false c.args.count) e c.from_residual-in_err-value.result c.from_residual-in_err-value.ensures.1
+    (λ q d s many starts. value_told_stops false old c.args.token q d s c.requires.token starts (name_at c.in_ok-name.field-0) c.in_ok-name.ensures.name c.pass_colon.new.self colon.kept colon.found c.scan.new.self c.in_ok-token.field-0 read.kept read.found read.lexeme
+    c.in-Some.token c.in-Some.is e c.args.count many c.in_err-value.ensures.told)
 
 pub parse_value-returns-in_default-clause-told : goal.parse_value-returns-in_default-clause-told
 parse_value-returns-in_default-clause-told g t c =
-    err_some c.parse_leaf.result (λ e told due. told (opens_none c.args.token c.in_default.not-OpenBracket c.in_default.not-OpenBrace) due false) c.parse_leaf.ensures.told
+    err_some c.parse_leaf.result (λ e told. leaf_stops false c.args.context.now c.args.token e c.args.count c.requires.token c.requires.around (told (opens_none c.args.token c.in_default.not-OpenBracket c.in_default.not-OpenBrace))) c.parse_leaf.ensures.told
 
 pub parse_value-returns-in-OpenBracket-clause-told : goal.parse_value-returns-in-OpenBracket-clause-told
-parse_value-returns-in-OpenBracket-clause-told g t c =
-    err_some c.parse_array.result (λ e told due. told (bracket_due c.args.context.now c.args.token 0x5B (ap scanned_of c.in-OpenBracket.is) due)) c.parse_array.ensures.told
+parse_value-returns-in-OpenBracket-clause-told g t c = err_some c.parse_array.result (λ e told q d s many starts. told q d s many (starts.may, starts.gap)) c.parse_array.ensures.told
 
 pub parse_value-returns-in-OpenBrace-clause-told : goal.parse_value-returns-in-OpenBrace-clause-told
-parse_value-returns-in-OpenBrace-clause-told g t c =
-    err_some c.parse_object.result (λ e told due. told (bracket_due c.args.context.now c.args.token 0x7B (ap scanned_of c.in-OpenBrace.is) due)) c.parse_object.ensures.told
+parse_value-returns-in-OpenBrace-clause-told g t c = err_some c.parse_object.result (λ e told q d s many starts. told q d s many (starts.may, starts.gap)) c.parse_object.ensures.told

@@ -1,7 +1,7 @@
 use Rattle.std.proofs.Common.{sym, ap, ◌∙◌, option_map}
 use Rattle.jsonc_to_value.specs.Views.{plain}
 use Rattle.jsonc_to_value.proofs.Leaves.{leaf_reads, no_literal_here}
-use Rattle.jsonc_to_ast.proofs.Due.{unexpected_told}
+use Rattle.jsonc_to_ast.proofs.Stopping.{is_unexpected}
 use Rattle.jsonc_to_value.proofs.values.parse_leaf.Goals as goal
 
 pub returns-clause-found : goal.returns-clause-found
@@ -11,5 +11,5 @@ pub returns-in_default-clause-refused : goal.returns-in_default-clause-refused
 returns-in_default-clause-refused g c = no_literal_here c.args.context.now c.args.token c.leaf.result c.requires c.in_default.is c.leaf.ensures
 
 pub returns-in_default-clause-told : goal.returns-in_default-clause-told
-returns-in_default-clause-told g c =
-    unexpected_told c.args.context.now c.args.token c.fault_here.result c.requires (sym c.leaf.ensures ∙ ap (option_map plain) c.in_default.is) (c.fault_here.ensures.kind ∙ c.unexpected-kind.ensures.kind) c.fault_here.ensures.range
+returns-in_default-clause-told g c = λ opens.
+    is_unexpected c.args.context.now c.args.token c.fault_here.result opens (sym c.leaf.ensures ∙ ap (option_map plain) c.in_default.is) (c.fault_here.ensures.kind ∙ c.unexpected-kind.ensures.kind) c.fault_here.ensures.range

@@ -1,14 +1,13 @@
-use Rattle.std.proofs.Common.{false, Some, None, inr}
+use Rattle.std.proofs.Common.{false, [], Some, None, refl, inr}
 use Rattle.jsonc_text.specs.OptionsOf.{parse_options}
 use Rattle.jsonc_to_ast.proofs.Refusals.{err_of, still}
 use Rattle.jsonc_to_value.specs.Reads.{IsValueOf}
 use Rattle.jsonc_to_value.specs.Refusals.{NoDocument, RefusesText}
 use Rattle.jsonc_to_value.proofs.Documents.{from_start, empty_document, value_document, document_no_token, document_no_value, document_no_end, document_goes_on}
 use Rattle.jsonc_to_ast.specs.Told.{IsTold}
-use Rattle.jsonc_to_ast.proofs.Scans.{kept_on}
-use Rattle.jsonc_to_ast.proofs.Telling.{told_before}
-use Rattle.jsonc_to_ast.proofs.Due.{told_of_text, root_told, second_told}
-use Rattle.jsonc_to_value.proofs.Elements.{value_item}
+use Rattle.jsonc_to_ast.proofs.Stopping.{stops_here}
+use Rattle.jsonc_to_ast.proofs.Standing.{root_stops, end_stops, second_stops, text_stops}
+use Rattle.jsonc_to_ast.specs.Reached.{document}
 use Rattle.jsonc_to_value.proofs.values.parse_to_value.Goals as goal
 
 pub returns-in_default-clause-accepted : goal.returns-in_default-clause-accepted
@@ -69,9 +68,10 @@ returns-in_default-2-clause-refused g c =
 pub returns-in_err-token-clause-told : goal.returns-in_err-token-clause-told
 returns-in_err-token-clause-told g c =
     let start = c.new-context.ensures in
+    let old = c.new-context.result in
     let e = c.in_err-token.field-0.0 in
     err_of (IsTold (parse_options c.args.options.now) c.args.text.now false) e c.from_residual.result c.from_residual.ensures.1
-    (told_of_text c.new-context.result _ _ false e start.text start.options (c.in_err-token.ensures.told false))
+    (text_stops false old _ _ e start.text start.options start.start (stops_here old false [] document e c.in_err-token.ensures.told))
 
 pub returns-in_err-value-clause-told : goal.returns-in_err-value-clause-told
 returns-in_err-value-clause-told g c =
@@ -80,27 +80,27 @@ returns-in_err-value-clause-told g c =
     let read = c.in_ok-token.ensures in
     let e = c.in_err-value.field-0.0 in
     err_of (IsTold (parse_options c.args.options.now) c.args.text.now false) e c.from_residual-in_err-value.result c.from_residual-in_err-value.ensures.1
-    (told_of_text old _ _ false e start.text start.options
-    (root_told old c.scan.new.self c.in_ok-token.field-0 read.kept read.found read.lexeme start.start c.in-Some.token c.in-Some.is false e c.in_err-value.ensures.told))
+    (text_stops false old _ _ e start.text start.options start.start
+    (root_stops false old c.scan.new.self c.in_ok-token.field-0 read.kept read.found read.lexeme c.in-Some.token c.in-Some.is e refl c.in_err-value.ensures.told))
 
 pub returns-in_err-scan-clause-told : goal.returns-in_err-scan-clause-told
 returns-in_err-scan-clause-told g c =
     let start = c.new-context.ensures in
     let old = c.new-context.result in
-    let mid = c.parse_value.new.context in
+    let read = c.in_ok-token.ensures in
+    let value = c.in_ok-value.ensures in
     let e = c.in_err-scan.field-0.0 in
     err_of (IsTold (parse_options c.args.options.now) c.args.text.now false) e c.from_residual-in_err-scan.result c.from_residual-in_err-scan.ensures.1
-    (told_of_text old _ _ false e start.text start.options (told_before old mid e (kept_on old c.scan.new.self mid c.in_ok-token.ensures.kept c.in_ok-value.ensures.kept) c.in_err-scan.ensures.told false))
+    (text_stops false old _ _ e start.text start.options start.start
+    (end_stops false old c.scan.new.self c.in_ok-token.field-0 read.kept read.found read.lexeme c.in-Some.token c.in-Some.is c.parse_value.new.context value.found.value value.kept value.found.stands value.found.within e c.in_err-scan.ensures.told))
 
 pub returns-in_default-2-clause-told : goal.returns-in_default-2-clause-told
 returns-in_default-2-clause-told g c =
     let start = c.new-context.ensures in
     let old = c.new-context.result in
-    let now = c.scan.new.self in
-    let mid = c.parse_value.new.context in
     let read = c.in_ok-token.ensures in
     let value = c.in_ok-value.ensures in
     let last = c.in_ok-scan.ensures in
-    told_of_text old _ _ false c.fault_here.result start.text start.options
-    (second_told old now mid c.scan-2.new.self c.in_ok-token.field-0 c.in_ok-scan.field-0 read.kept read.found start.start value.kept (value_item now mid 0 c.in_ok-value.value value.kept value.found)
-    last.kept last.found last.lexeme c.in_default-2.not-None false c.fault_here.result c.fault_here.ensures.kind c.fault_here.ensures.range)
+    text_stops false old _ _ c.fault_here.result start.text start.options start.start
+    (second_stops false old c.scan.new.self c.in_ok-token.field-0 read.kept read.found read.lexeme c.in-Some.token c.in-Some.is c.parse_value.new.context value.found.value value.kept value.found.stands value.found.within
+    c.scan-2.new.self c.in_ok-scan.field-0 last.kept last.found last.lexeme c.in_default-2.not-None c.fault_here.result c.fault_here.ensures.kind c.fault_here.ensures.range)

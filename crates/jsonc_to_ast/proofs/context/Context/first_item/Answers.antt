@@ -1,13 +1,11 @@
-use Rattle.std.proofs.Common.{inl, inr, List, ◌∷◌, ℕ, is_some, refl}
-use Rattle.jsonc_to_ast.specs.Context.{text_in}
-use Rattle.jsonc_to_ast.specs.Reached.{Opened, container, first}
-use Rattle.jsonc_to_ast.specs.Reading.{IsFrom, StopsAfter}
+use Rattle.std.proofs.Common.{inr, ◌∷◌, is_some, refl}
+use Rattle.jsonc_to_ast.specs.Reached.{container, first}
+use Rattle.jsonc_to_ast.specs.Told.{StopsInside}
 use Rattle.jsonc_to_ast.proofs.Stopping.{stops_here, open_stops}
 use Rattle.jsonc_to_ast.specs.Context.{options_in}
 use Rattle.jsonc_to_ast.specs.Refusals.{after}
 use Rattle.jsonc_to_ast.proofs.Refusals.{err_of, still, refuted, no_token_lexeme, nowhere_first, nothing_at_end, only_first}
-use Rattle.jsonc_to_ast.specs.Told.{IsToldOrOpen}
-use Rattle.jsonc_to_ast.proofs.Telling.{open_before, end_here, closes_none}
+use Rattle.jsonc_to_ast.proofs.Tokens.{open_before, end_here, closes_none}
 use Rattle.jsonc_to_ast.proofs.context.Context.first_item.Goals as goal
 
 pub returns-in_err-first-clause-refused : goal.returns-in_err-first-clause-refused
@@ -28,30 +26,19 @@ returns-clause-only g c =
     only_first c.args.self.now c.scan.new.self c.in_ok-first.field-0 c.scan.ensures.kept read.found read.lexeme c.in-Some.first c.in-Some.is c.args.container
     (refuted c.is_closed_by.ensures.1 c.if-is_closed_by.false)
 
-pub returns-in_err-first-clause-told : goal.returns-in_err-first-clause-told
-returns-in_err-first-clause-told g c =
-    err_of (IsToldOrOpen c.args.container c.args.start c.args.self.now) c.in_err-first.field-0.0 c.from_residual.result c.from_residual.ensures.1 (inl c.in_err-first.ensures.told)
-
-pub returns-in_default-clause-told : goal.returns-in_default-clause-told
-returns-in_default-clause-told g c =
-    let old = c.args.self.now in
-    let read = c.in_ok-first.ensures in
-    let kept = c.scan.ensures.kept in
-    inr (open_before old c.scan.new.self c.args.container c.args.start c.unterminated.result kept (c.unterminated.ensures.told (end_here old c.scan.new.self c.in_ok-first.field-0 kept read.found read.lexeme c.in_default.is)))
-
 pub returns-clause-stands : goal.returns-clause-stands
 returns-clause-stands g c =
     let read = c.in_ok-first.ensures in
     closes_none c.args.self.now c.scan.new.self c.in_ok-first.field-0 c.scan.ensures.kept read.found read.lexeme c.in-Some.first c.in-Some.is c.args.container (refuted c.is_closed_by.ensures.1 c.if-is_closed_by.false)
 
-pub returns-in_err-first-clause-stops : goal.returns-in_err-first-clause-stops
-returns-in_err-first-clause-stops g c =
+pub returns-in_err-first-clause-told : goal.returns-in_err-first-clause-told
+returns-in_err-first-clause-told g c =
     let old = c.args.self.now in
-    err_of (λ e. (q : List Opened) (a : List ℕ) → IsFrom (text_in old) c.args.start a → StopsAfter old (is_some c.args.start) (container c.args.container a ∷ q) (first c.args.container) e) c.in_err-first.field-0.0 c.from_residual.result c.from_residual.ensures.1
-    (λ q a h. stops_here old (is_some c.args.start) (container c.args.container a ∷ q) (first c.args.container) c.in_err-first.field-0.0 c.in_err-first.ensures.stops)
+    err_of (StopsInside c.args.container c.args.start (first c.args.container) old) c.in_err-first.field-0.0 c.from_residual.result c.from_residual.ensures.1
+    (λ q a h. stops_here old (is_some c.args.start) (container c.args.container a ∷ q) (first c.args.container) c.in_err-first.field-0.0 c.in_err-first.ensures.told)
 
-pub returns-in_default-clause-stops : goal.returns-in_default-clause-stops
-returns-in_default-clause-stops g c =
+pub returns-in_default-clause-told : goal.returns-in_default-clause-told
+returns-in_default-clause-told g c =
     let old = c.args.self.now in
     let new = c.scan.new.self in
     let read = c.in_ok-first.ensures in

@@ -1,14 +1,13 @@
-use Rattle.std.proofs.Common.{inl, inr, sym, ap, ◌∙◌, List, ◌∷◌, ℕ, is_some, refl}
-use Rattle.jsonc_to_ast.specs.Context.{text_in, IsBracket}
+use Rattle.std.proofs.Common.{inr, sym, ap, ◌∙◌, ◌∷◌, is_some, refl}
+use Rattle.jsonc_to_ast.specs.Context.{IsBracket}
 use Rattle.jsonc_to_ast.specs.Refusals.{here}
-use Rattle.jsonc_to_ast.specs.Reached.{Opened, container, further}
-use Rattle.jsonc_to_ast.specs.Reading.{IsFrom, StopsAfter}
+use Rattle.jsonc_to_ast.specs.Reached.{container, further}
+use Rattle.jsonc_to_ast.specs.Told.{StopsInside}
 use Rattle.jsonc_to_ast.proofs.Stopping.{stops_here, open_stops, trailing_stops}
 use Rattle.jsonc_to_ast.specs.Context.{options_in}
 use Rattle.jsonc_to_ast.specs.Refusals.{after}
 use Rattle.jsonc_to_ast.proofs.Refusals.{err_of, still, refuted, no_token_lexeme, nowhere_comma, nothing_at_end, only_after_comma, trailing_refused}
-use Rattle.jsonc_to_ast.specs.Told.{IsToldOrOpen, IsCommaAfter}
-use Rattle.jsonc_to_ast.proofs.Telling.{open_before, end_here, closes_none, trailing_told}
+use Rattle.jsonc_to_ast.proofs.Tokens.{open_before, end_here, closes_none}
 use Rattle.jsonc_to_ast.proofs.context.Context.item_after_comma.Goals as goal
 
 pub returns-in_err-token-clause-refused : goal.returns-in_err-token-clause-refused
@@ -36,48 +35,29 @@ returns-then-not-self-clause-refused g c =
     inr (trailing_refused c.args.self.now new c.in_ok-token.field-0 c.scan.ensures.kept read.found read.lexeme c.in-Some.token c.in-Some.is c.args.container
     (c.is_closed_by.ensures.0 c.if-not-is_closed_by.false) (ap (λ p. p.trailing_commas) (sym (new.same ∙ c.scan.ensures.kept.options)) ∙ c.if-not-self.true))
 
-pub returns-in_err-token-clause-told : goal.returns-in_err-token-clause-told
-returns-in_err-token-clause-told g c =
-    let old = c.args.self.now in
-    err_of (λ e. IsCommaAfter c.args.container old → IsToldOrOpen c.args.container c.args.start old e) c.in_err-token.field-0.0 c.from_residual.result c.from_residual.ensures.1 (λ h. inl c.in_err-token.ensures.told)
-
-pub returns-in_default-clause-told : goal.returns-in_default-clause-told
-returns-in_default-clause-told g c = λ h.
-    let old = c.args.self.now in
-    let read = c.in_ok-token.ensures in
-    let kept = c.scan.ensures.kept in
-    inr (open_before old c.scan.new.self c.args.container c.args.start c.unterminated.result kept (c.unterminated.ensures.told (end_here old c.scan.new.self c.in_ok-token.field-0 kept read.found read.lexeme c.in_default.is)))
-
 pub returns-then-not-is_closed_by-clause-stands : goal.returns-then-not-is_closed_by-clause-stands
 returns-then-not-is_closed_by-clause-stands g c =
     let read = c.in_ok-token.ensures in
     closes_none c.args.self.now c.scan.new.self c.in_ok-token.field-0 c.scan.ensures.kept read.found read.lexeme c.in-Some.token c.in-Some.is c.args.container (refuted c.is_closed_by.ensures.1 c.if-not-is_closed_by.true)
 
-pub returns-then-not-self-clause-told : goal.returns-then-not-self-clause-told
-returns-then-not-self-clause-told g c =
-    let read = c.in_ok-token.ensures in
-    let new = c.scan.new.self in
-    trailing_told c.args.self.now new c.in_ok-token.field-0 c.scan.ensures.kept read.found read.lexeme c.in-Some.token c.in-Some.is c.args.container c.args.start c.fault.result c.range-comma.result
-    (c.is_closed_by.ensures.0 c.if-not-is_closed_by.false) (ap (λ p. p.trailing_commas) (sym (new.same ∙ c.scan.ensures.kept.options)) ∙ c.if-not-self.true) c.fault.ensures.range c.range-comma.ensures c.fault.ensures.kind
-
-pub returns-in_err-token-clause-stops : goal.returns-in_err-token-clause-stops
-returns-in_err-token-clause-stops g c =
+pub returns-in_err-token-clause-told : goal.returns-in_err-token-clause-told
+returns-in_err-token-clause-told g c =
     let old = c.args.self.now in
     let k = c.args.container in
-    err_of (λ e. (q : List Opened) (a : List ℕ) → IsBracket 0x2C old → IsFrom (text_in old) c.args.start a → StopsAfter old (is_some c.args.start) (container k a ∷ q) (further k (here old)) e) c.in_err-token.field-0.0 c.from_residual.result c.from_residual.ensures.1
-    (λ q a one h. stops_here old (is_some c.args.start) (container k a ∷ q) (further k (here old)) c.in_err-token.field-0.0 c.in_err-token.ensures.stops)
+    err_of (λ e. IsBracket 0x2C old → StopsInside k c.args.start (further k (here old)) old e) c.in_err-token.field-0.0 c.from_residual.result c.from_residual.ensures.1
+    (λ one q a h. stops_here old (is_some c.args.start) (container k a ∷ q) (further k (here old)) c.in_err-token.field-0.0 c.in_err-token.ensures.told)
 
-pub returns-in_default-clause-stops : goal.returns-in_default-clause-stops
-returns-in_default-clause-stops g c = λ q a one.
+pub returns-in_default-clause-told : goal.returns-in_default-clause-told
+returns-in_default-clause-told g c = λ one.
     let old = c.args.self.now in
     let new = c.scan.new.self in
     let read = c.in_ok-token.ensures in
     let kept = c.scan.ensures.kept in
     open_stops old new c.in_ok-token.field-0 kept read.found read.lexeme c.in_default.is c.args.container c.args.start c.unterminated.result
-    (open_before old new c.args.container c.args.start c.unterminated.result kept (c.unterminated.ensures.told (end_here old new c.in_ok-token.field-0 kept read.found read.lexeme c.in_default.is))) (further c.args.container (here old)) (λ whole q. refl) q a
+    (open_before old new c.args.container c.args.start c.unterminated.result kept (c.unterminated.ensures.told (end_here old new c.in_ok-token.field-0 kept read.found read.lexeme c.in_default.is))) (further c.args.container (here old)) (λ whole q. refl)
 
-pub returns-then-not-self-clause-stops : goal.returns-then-not-self-clause-stops
-returns-then-not-self-clause-stops g c = λ q a one from.
+pub returns-then-not-self-clause-told : goal.returns-then-not-self-clause-told
+returns-then-not-self-clause-told g c = λ one q a from.
     let read = c.in_ok-token.ensures in
     let new = c.scan.new.self in
     trailing_stops c.args.self.now new c.in_ok-token.field-0 c.scan.ensures.kept read.found read.lexeme c.in-Some.token c.in-Some.is c.args.container (c.is_closed_by.ensures.0 c.if-not-is_closed_by.false) c.fault.result

@@ -3,14 +3,13 @@ use Rattle.jsonc_text.specs.Tokens.{scanned_of}
 use Rattle.jsonc_to_ast.specs.Scanned.{loose_text}
 use Rattle.jsonc_to_ast.proofs.Names.{loose_name_here}
 use Rattle.jsonc_to_ast.proofs.Refusals.{name_refused, loose_refused, string_token}
-use Rattle.jsonc_to_ast.proofs.Telling.{loose_told, no_name_told}
 use Rattle.jsonc_to_ast.proofs.Stopping.{loose_stops, no_name_stops}
 use Rattle.jsonc_to_ast.proofs.context.Context.name.Goals as goal
 
 pub returns-else-not-self : goal.returns-else-not-self
 returns-else-not-self g c =
     let e : loose_text (scanned_of c.args.token) ≡ Some (chars c.in-Some.value.now) = cc c.in-Some.ensures in
-    record { name = loose_name_here c.args.self.now c.args.token c.requires (chars c.in-Some.value.now) c.if-not-self.false e; range = c.range-range.ensures; refused = tt; fault = tt; told = tt; stops = tt }
+    record { name = loose_name_here c.args.self.now c.args.token c.requires (chars c.in-Some.value.now) c.if-not-self.false e; range = c.range-range.ensures; refused = tt; fault = tt; told = tt }
 
 pub returns-in_default-loose_name-clause-refused : goal.returns-in_default-loose_name-clause-refused
 returns-in_default-loose_name-clause-refused g c =
@@ -24,23 +23,12 @@ returns-then-not-self-clause-refused g c =
     loose_refused context c.args.token c.requires (chars c.in-Some.value.now) e (ap (λ p. p.loose_names) (sym context.same) ∙ c.if-not-self.true)
 
 pub returns-in_default-loose_name-clause-told : goal.returns-in_default-loose_name-clause-told
-returns-in_default-loose_name-clause-told g c = λ due.
-    let e : loose_text (scanned_of c.args.token) ≡ None = cc c.in_default-loose_name.ensures in
-    no_name_told c.args.self.now c.args.token c.requires c.fault_here.result due e (string_token c.args.token c.in_default.not-String) c.fault_here.ensures.kind c.fault_here.ensures.range
-
-pub returns-then-not-self-clause-told : goal.returns-then-not-self-clause-told
-returns-then-not-self-clause-told g c = λ due.
-    let context = c.args.self.now in
-    let e : loose_text (scanned_of c.args.token) ≡ Some (chars c.in-Some.value.now) = cc c.in-Some.ensures in
-    loose_told context c.args.token c.requires c.fault_here-then-not-self.result due (chars c.in-Some.value.now) e (ap (λ p. p.loose_names) (sym context.same) ∙ c.if-not-self.true) c.fault_here-then-not-self.ensures.kind c.fault_here-then-not-self.ensures.range
-
-pub returns-in_default-loose_name-clause-stops : goal.returns-in_default-loose_name-clause-stops
-returns-in_default-loose_name-clause-stops g c =
+returns-in_default-loose_name-clause-told g c =
     let e : loose_text (scanned_of c.args.token) ≡ None = cc c.in_default-loose_name.ensures in
     no_name_stops c.args.self.now c.args.token c.fault_here.result e (string_token c.args.token c.in_default.not-String) c.fault_here.ensures.kind c.fault_here.ensures.range
 
-pub returns-then-not-self-clause-stops : goal.returns-then-not-self-clause-stops
-returns-then-not-self-clause-stops g c =
+pub returns-then-not-self-clause-told : goal.returns-then-not-self-clause-told
+returns-then-not-self-clause-told g c =
     let context = c.args.self.now in
     let e : loose_text (scanned_of c.args.token) ≡ Some (chars c.in-Some.value.now) = cc c.in-Some.ensures in
     loose_stops context c.args.token c.fault_here-then-not-self.result (chars c.in-Some.value.now) e (ap (λ p. p.loose_names) (sym context.same) ∙ c.if-not-self.true) c.fault_here-then-not-self.ensures.kind c.fault_here-then-not-self.ensures.range

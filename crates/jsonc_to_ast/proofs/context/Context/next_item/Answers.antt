@@ -1,7 +1,7 @@
-use Rattle.std.proofs.Common.{inl, inr, sym, ap, ◌∙◌, List, ◌∷◌, ℕ, is_some, refl}
+use Rattle.std.proofs.Common.{inr, sym, ap, ◌∙◌, ◌∷◌, is_some, refl}
 use Rattle.jsonc_to_ast.specs.Context.{text_in}
-use Rattle.jsonc_to_ast.specs.Reached.{Opened, container, comma}
-use Rattle.jsonc_to_ast.specs.Reading.{IsFrom, StopsAfter}
+use Rattle.jsonc_to_ast.specs.Reached.{container, comma}
+use Rattle.jsonc_to_ast.specs.Told.{StopsInside}
 use Rattle.jsonc_to_ast.proofs.Scans.{token_is, at_token}
 use Rattle.jsonc_to_ast.proofs.Stopping.{stops_here, open_stops, missing_stops, comma_stops, from_before}
 use Rattle.jsonc_text.specs.Grammar.{plain, Closes}
@@ -11,8 +11,7 @@ use Rattle.jsonc_to_ast.proofs.Scans.{closed, without_comma, after_comma}
 use Rattle.jsonc_to_ast.specs.Refusals.{after}
 use Rattle.jsonc_to_ast.proofs.Collecting.{collects_on, ok_collects}
 use Rattle.jsonc_to_ast.proofs.Refusals.{err_of, ok_some, err_some, still, refuted, no_token_lexeme, nowhere_next, nothing_at_end, nothing_next, next_after_comma, missing_refused, only_next}
-use Rattle.jsonc_to_ast.specs.Told.{IsToldOrOpen, EndsItem}
-use Rattle.jsonc_to_ast.proofs.Telling.{open_before, end_here, closes_none, step_before, comma_after, comes_after_ok, missing_told}
+use Rattle.jsonc_to_ast.proofs.Tokens.{open_before, end_here, closes_none, comes_after_ok}
 use Rattle.jsonc_to_ast.proofs.context.Context.next_item.Goals as goal
 
 pub returns-then-is_closed_by-clause-found : goal.returns-then-is_closed_by-clause-found
@@ -75,37 +74,6 @@ pub returns-then-is_comma-clause-collects : goal.returns-then-is_comma-clause-co
 returns-then-is_comma-clause-collects g c =
     ok_collects c.item_after_comma.result (collects_on c.args.self.now c.scan.new.self c.item_after_comma.new.self c.scan.ensures.kept c.in_ok-token.ensures.collects) c.item_after_comma.ensures.collects
 
-pub returns-in_err-token-clause-told : goal.returns-in_err-token-clause-told
-returns-in_err-token-clause-told g c =
-    let old = c.args.self.now in
-    err_of (λ e. EndsItem c.args.container old → IsToldOrOpen c.args.container c.args.start old e) c.in_err-token.field-0.0 c.from_residual.result c.from_residual.ensures.1 (λ h. inl c.in_err-token.ensures.told)
-
-pub returns-in_default-clause-told : goal.returns-in_default-clause-told
-returns-in_default-clause-told g c = λ h.
-    let old = c.args.self.now in
-    let read = c.in_ok-token.ensures in
-    let kept = c.scan.ensures.kept in
-    inr (open_before old c.scan.new.self c.args.container c.args.start c.unterminated.result kept (c.unterminated.ensures.told (end_here old c.scan.new.self c.in_ok-token.field-0 kept read.found read.lexeme c.in_default.is)))
-
-pub returns-then-is_comma-clause-told : goal.returns-then-is_comma-clause-told
-returns-then-is_comma-clause-told g c =
-    let old = c.args.self.now in
-    let new = c.scan.new.self in
-    let read = c.in_ok-token.ensures in
-    let kept = c.scan.ensures.kept in
-    err_some c.item_after_comma.result
-    (λ e told h. step_before old new c.args.container c.args.start e kept (told (comma_after old new c.in_ok-token.field-0 kept read.found read.lexeme c.in-Some.token c.in-Some.is c.args.container c.args.start (c.is_comma.ensures.0 c.if-is_comma.true) h)))
-    c.item_after_comma.ensures.told
-
-pub returns-then-not-self-clause-told : goal.returns-then-not-self-clause-told
-returns-then-not-self-clause-told g c =
-    let old = c.args.self.now in
-    let new = c.scan.new.self in
-    let read = c.in_ok-token.ensures in
-    missing_told old new c.in_ok-token.field-0 c.scan.ensures.kept read.found read.lexeme c.in-Some.token c.in-Some.is c.args.container c.args.start c.missing_comma.result c.token_end-end.result
-    (ap (λ p. p.missing_commas) (sym (new.same ∙ c.scan.ensures.kept.options)) ∙ c.if-not-self.true) c.token_end-end.ensures (refuted c.is_closed_by.ensures.1 c.if-is_closed_by.false) (refuted c.is_comma.ensures.1 c.if-is_comma.false)
-    c.missing_comma.ensures.comma c.missing_comma.ensures.misplaced
-
 pub returns-clause-stands : goal.returns-clause-stands
 returns-clause-stands g c =
     let read = c.in_ok-token.ensures in
@@ -114,21 +82,21 @@ returns-clause-stands g c =
 pub returns-then-is_comma-clause-comes : goal.returns-then-is_comma-clause-comes
 returns-then-is_comma-clause-comes g c =
     let read = c.in_ok-token.ensures in
-    comes_after_ok c.args.self.now c.scan.new.self c.in_ok-token.field-0 c.scan.ensures.kept read.found read.lexeme c.in-Some.token c.in-Some.is c.args.container c.args.start c.item_after_comma.new.self c.item_after_comma.result
+    comes_after_ok c.args.self.now c.scan.new.self c.in_ok-token.field-0 c.scan.ensures.kept read.found read.lexeme c.in-Some.token c.in-Some.is c.args.container c.item_after_comma.new.self c.item_after_comma.result
     (c.is_comma.ensures.0 c.if-is_comma.true) c.item_after_comma.ensures.found
 
 pub returns-clause-comes : goal.returns-clause-comes
 returns-clause-comes g c = inr (c.in_ok-token.ensures.found.0, refuted c.is_comma.ensures.1 c.if-is_comma.false)
 
-pub returns-in_err-token-clause-stops : goal.returns-in_err-token-clause-stops
-returns-in_err-token-clause-stops g c =
+pub returns-in_err-token-clause-told : goal.returns-in_err-token-clause-told
+returns-in_err-token-clause-told g c =
     let old = c.args.self.now in
     let k = c.args.container in
-    err_of (λ e. (q : List Opened) (a : List ℕ) → IsFrom (text_in old) c.args.start a → StopsAfter old (is_some c.args.start) (container k a ∷ q) (comma k (after old)) e) c.in_err-token.field-0.0 c.from_residual.result c.from_residual.ensures.1
-    (λ q a h. stops_here old (is_some c.args.start) (container k a ∷ q) (comma k (after old)) c.in_err-token.field-0.0 c.in_err-token.ensures.stops)
+    err_of (StopsInside k c.args.start (comma k (after old)) old) c.in_err-token.field-0.0 c.from_residual.result c.from_residual.ensures.1
+    (λ q a h. stops_here old (is_some c.args.start) (container k a ∷ q) (comma k (after old)) c.in_err-token.field-0.0 c.in_err-token.ensures.told)
 
-pub returns-in_default-clause-stops : goal.returns-in_default-clause-stops
-returns-in_default-clause-stops g c =
+pub returns-in_default-clause-told : goal.returns-in_default-clause-told
+returns-in_default-clause-told g c =
     let old = c.args.self.now in
     let new = c.scan.new.self in
     let read = c.in_ok-token.ensures in
@@ -136,8 +104,8 @@ returns-in_default-clause-stops g c =
     open_stops old new c.in_ok-token.field-0 kept read.found read.lexeme c.in_default.is c.args.container c.args.start c.unterminated.result
     (open_before old new c.args.container c.args.start c.unterminated.result kept (c.unterminated.ensures.told (end_here old new c.in_ok-token.field-0 kept read.found read.lexeme c.in_default.is))) (comma c.args.container (after old)) (λ whole q. refl)
 
-pub returns-then-is_comma-clause-stops : goal.returns-then-is_comma-clause-stops
-returns-then-is_comma-clause-stops g c =
+pub returns-then-is_comma-clause-told : goal.returns-then-is_comma-clause-told
+returns-then-is_comma-clause-told g c =
     let old = c.args.self.now in
     let new = c.scan.new.self in
     let f = c.in_ok-token.field-0 in
@@ -147,11 +115,11 @@ returns-then-is_comma-clause-stops g c =
     let one = token_is (text_in new) (options_in new) new.scanner c.in-Some.token 0x2C refl refl (at_token old new f c.in-Some.token 0x2C kept read.found c.in-Some.is) mark in
     err_some c.item_after_comma.result
     (λ e told q a from. comma_stops old new f kept read.found read.lexeme c.in-Some.token c.in-Some.is mark c.args.container e (is_some c.args.start) (container c.args.container a ∷ q) one
-    (told q a one (from_before old new kept c.args.start a from)))
-    c.item_after_comma.ensures.stops
+    (told one q a (from_before old new kept c.args.start a from)))
+    c.item_after_comma.ensures.told
 
-pub returns-then-not-self-clause-stops : goal.returns-then-not-self-clause-stops
-returns-then-not-self-clause-stops g c = λ q a from.
+pub returns-then-not-self-clause-told : goal.returns-then-not-self-clause-told
+returns-then-not-self-clause-told g c = λ q a from.
     let old = c.args.self.now in
     let new = c.scan.new.self in
     let read = c.in_ok-token.ensures in

@@ -1,10 +1,8 @@
-use Rattle.std.proofs.Common.{inr, List, Bool}
-use Rattle.jsonc_to_ast.specs.Reached.{Opened, colon}
-use Rattle.jsonc_to_ast.specs.Reading.{StopsAfter}
+use Rattle.std.proofs.Common.{inr}
+use Rattle.jsonc_to_ast.specs.Reached.{colon}
+use Rattle.jsonc_to_ast.specs.Told.{StopsAtColon}
 use Rattle.jsonc_to_ast.proofs.Stopping.{stops_here, colon_end_stops, colon_stops}
 use Rattle.jsonc_to_ast.proofs.Refusals.{err_of, still, refuted, no_token_colon, no_colon_at_end, no_colon}
-use Rattle.jsonc_to_ast.specs.Told.{IsToldAnyhow, EndsName}
-use Rattle.jsonc_to_ast.proofs.Telling.{colon_told, no_colon_end_told}
 use Rattle.jsonc_to_ast.proofs.context.Context.pass_colon.Goals as goal
 
 pub returns-in_err-token-clause-refused : goal.returns-in_err-token-clause-refused
@@ -24,32 +22,17 @@ returns-then-not-is_colon-clause-refused g c =
 
 pub returns-in_err-token-clause-told : goal.returns-in_err-token-clause-told
 returns-in_err-token-clause-told g c =
-    err_of (λ e. EndsName c.args.self.now → IsToldAnyhow c.args.self.now e) c.in_err-token.field-0.0 c.from_residual.result c.from_residual.ensures.1 (λ h. c.in_err-token.ensures.told)
+    let old = c.args.self.now in
+    err_of (StopsAtColon old) c.in_err-token.field-0.0 c.from_residual.result c.from_residual.ensures.1
+    (λ whole q. stops_here old whole q colon c.in_err-token.field-0.0 c.in_err-token.ensures.told)
 
 pub returns-in_default-clause-told : goal.returns-in_default-clause-told
 returns-in_default-clause-told g c =
     let read = c.in_ok-token.ensures in
-    no_colon_end_told c.args.self.now c.scan.new.self c.in_ok-token.field-0 c.scan.ensures.kept read.found read.lexeme c.in_default.is c.fault_here.result c.fault_here.ensures.kind c.fault_here.ensures.range
+    colon_end_stops c.args.self.now c.scan.new.self c.in_ok-token.field-0 c.scan.ensures.kept read.found read.lexeme c.in_default.is c.fault_here.result c.fault_here.ensures.kind c.fault_here.ensures.range
 
 pub returns-then-not-is_colon-clause-told : goal.returns-then-not-is_colon-clause-told
 returns-then-not-is_colon-clause-told g c =
-    let read = c.in_ok-token.ensures in
-    colon_told c.args.self.now c.scan.new.self c.in_ok-token.field-0 c.scan.ensures.kept read.found read.lexeme c.in-Some.token c.in-Some.is c.fault_here-then-not-is_colon.result
-    (refuted c.is_colon.ensures.1 c.if-not-is_colon.true) c.fault_here-then-not-is_colon.ensures.kind c.fault_here-then-not-is_colon.ensures.range
-
-pub returns-in_err-token-clause-stops : goal.returns-in_err-token-clause-stops
-returns-in_err-token-clause-stops g c =
-    let old = c.args.self.now in
-    err_of (λ e. (whole : Bool) (q : List Opened) → StopsAfter old whole q colon e) c.in_err-token.field-0.0 c.from_residual.result c.from_residual.ensures.1
-    (λ whole q. stops_here old whole q colon c.in_err-token.field-0.0 c.in_err-token.ensures.stops)
-
-pub returns-in_default-clause-stops : goal.returns-in_default-clause-stops
-returns-in_default-clause-stops g c =
-    let read = c.in_ok-token.ensures in
-    colon_end_stops c.args.self.now c.scan.new.self c.in_ok-token.field-0 c.scan.ensures.kept read.found read.lexeme c.in_default.is c.fault_here.result c.fault_here.ensures.kind c.fault_here.ensures.range
-
-pub returns-then-not-is_colon-clause-stops : goal.returns-then-not-is_colon-clause-stops
-returns-then-not-is_colon-clause-stops g c =
     let read = c.in_ok-token.ensures in
     colon_stops c.args.self.now c.scan.new.self c.in_ok-token.field-0 c.scan.ensures.kept read.found read.lexeme c.in-Some.token c.in-Some.is c.fault_here-then-not-is_colon.result
     (refuted c.is_colon.ensures.1 c.if-not-is_colon.true) c.fault_here-then-not-is_colon.ensures.kind c.fault_here-then-not-is_colon.ensures.range

@@ -2,9 +2,7 @@ use Rattle.std.proofs.Common.{sym, ◌∙◌, refl}
 use Rattle.jsonc_to_ast.proofs.Scans.{passing_start, scan_found, passing_on}
 use Rattle.jsonc_to_ast.proofs.Collecting.{collects_end, collects_nothing, collects_on_lexeme}
 use Rattle.jsonc_to_ast.proofs.Refusals.{err_of, scan_refused, comment_refused}
-use Rattle.jsonc_to_ast.specs.Told.{IsToldAnyhow}
-use Rattle.jsonc_to_ast.proofs.Telling.{scan_told, comment_told}
-use Rattle.jsonc_to_ast.specs.Reading.{StopsAnyhow}
+use Rattle.jsonc_to_ast.specs.Told.{StopsAnyhow}
 use Rattle.jsonc_to_ast.proofs.Stopping.{scan_stops, comment_stops}
 use Rattle.jsonc_to_ast.proofs.context.Context.scan.Goals as goal
 
@@ -62,22 +60,10 @@ returns-then-not-collects-clause-collects g c =
 pub returns-in_err-token-clause-told : goal.returns-in_err-token-clause-told
 returns-in_err-token-clause-told g c =
     let e = c.in_err-token.field-0.0 in
-    err_of (IsToldAnyhow c.args.self.now) e c.from_residual.result c.from_residual.ensures.1 (scan_told c.args.self.now c.loop-token.self c.scan.new.self e c.loop-token.invariant c.in_err-token.ensures.blanks c.in_err-token.ensures.told)
+    err_of (StopsAnyhow c.args.self.now) e c.from_residual.result c.from_residual.ensures.1 (scan_stops c.args.self.now c.loop-token.self c.scan.new.self e c.loop-token.invariant c.in_err-token.ensures.blanks c.in_err-token.ensures.told)
 
 pub returns-in_err-pass_comment-clause-told : goal.returns-in_err-pass_comment-clause-told
 returns-in_err-pass_comment-clause-told g c =
-    let e = c.in_err-pass_comment.field-0.0 in
-    err_of (IsToldAnyhow c.args.self.now) e c.from_residual-in_err-pass_comment.result c.from_residual-in_err-pass_comment.ensures.1
-    (comment_told c.args.self.now c.loop-token.self c.scan.new.self c.in_ok-token.field-0 c.in-Some.token e c.in-Some.is c.loop-token.invariant c.scan.ensures.blanks c.in_ok-token.ensures.found
-    (sym c.is_comment.ensures ∙ c.if-not-is_comment.false) c.in_err-pass_comment.ensures.refused)
-
-pub returns-in_err-token-clause-stops : goal.returns-in_err-token-clause-stops
-returns-in_err-token-clause-stops g c =
-    let e = c.in_err-token.field-0.0 in
-    err_of (StopsAnyhow c.args.self.now) e c.from_residual.result c.from_residual.ensures.1 (scan_stops c.args.self.now c.loop-token.self c.scan.new.self e c.loop-token.invariant c.in_err-token.ensures.blanks c.in_err-token.ensures.told)
-
-pub returns-in_err-pass_comment-clause-stops : goal.returns-in_err-pass_comment-clause-stops
-returns-in_err-pass_comment-clause-stops g c =
     let e = c.in_err-pass_comment.field-0.0 in
     err_of (StopsAnyhow c.args.self.now) e c.from_residual-in_err-pass_comment.result c.from_residual-in_err-pass_comment.ensures.1
     (comment_stops c.args.self.now c.loop-token.self c.scan.new.self c.in_ok-token.field-0 c.in-Some.token e c.in-Some.is c.loop-token.invariant c.scan.ensures.blanks c.in_ok-token.ensures.found
