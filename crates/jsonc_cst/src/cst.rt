@@ -18,7 +18,9 @@ ghost use Rattle.jsonc_cst.specs.Document.{printed_of, tree_of, HasNoDeeperValue
 
 mod access;
 mod elements;
+pub mod input;
 mod into;
+mod layout;
 mod leaf;
 mod names;
 mod node;
@@ -27,14 +29,16 @@ mod siblings;
 mod values;
 
 pub use access::AncestorIterator;
+pub use input::CstInputValue;
 use jsonc_build::build;
-pub use jsonc_edit::EditError;
+pub use jsonc_edit::{EditError, TrailingCommaMode};
 use jsonc_text::errors::ParseError;
 use jsonc_text::options::ParseOptions;
 use jsonc_to_ast::collect::CollectOptions;
 use jsonc_to_ast::parse_to_ast;
 use jsonc_tree::Tree;
 pub use jsonc_tree::{CstNewlineKind, Shown};
+pub use layout::Readings;
 pub use node::{
     CstArray, CstBooleanLit, CstComment, CstContainerNode, CstLeafNode, CstNewline, CstNode,
     CstNullKeyword, CstNumberLit, CstObject, CstObjectProp, CstRoot, CstStringLit, CstToken,

@@ -19,11 +19,13 @@
 mod comments;
 mod error;
 pub mod laws;
+mod modes;
 mod paths;
 mod reading;
 mod replacing;
 
 pub use comments::remove_comment;
 pub use error::EditError;
+pub use modes::TrailingCommaMode;
 pub use paths::find;
 pub use replacing::{replace, replace_with};
