@@ -1,3 +1,5 @@
 pub mod Document
 pub mod Readings
 pub mod Nodes
+pub mod Layout
+pub mod Values

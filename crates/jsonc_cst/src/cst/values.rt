@@ -1,15 +1,16 @@
 //! The names and values of properties, as they are written.
 
-ghost use Rattle.std.specs.Prelude.{◌≡◌, IfSome};
+ghost use Rattle.std.specs.Prelude.{◌≡◌, chars, IfErr, IfOk, IfSome};
 ghost use Rattle.jsonc_cst.specs.Document.{Holds};
 ghost use Rattle.jsonc_cst.specs.Nodes.{array_node, name_node, object_node, object_prop_node};
 ghost use Rattle.jsonc_cst.specs.Readings.{name_of, value_under, array_if, object_if};
+ghost use Rattle.jsonc_cst.specs.Values.{IsValueNamed};
 
-use super::CstRootNode;
 use super::access::node_at;
 use super::node::{
     CstArray, CstContainerNode, CstLeafNode, CstNode, CstObject, CstObjectProp, ObjectPropName,
 };
+use super::{CstRootNode, EditError};
 use std::alloc::Allocator;
 
 impl CstObjectProp {
@@ -62,6 +63,44 @@ impl CstObjectProp {
         match self.value(doc) {
             Some(CstNode::Container(CstContainerNode::Array(array))) => Some(array),
             _ => None,
+        }
+    }
+}
+
+impl CstObject {
+    /// The value of its first property of a name, if there is one and it is an object.
+    pub fn object_value<A: Allocator + Copy>(
+        self,
+        doc: &CstRootNode<A>,
+        name: &str,
+    ) -> Result<Option<CstObject>, EditError>
+        requires { Holds doc.now (object_node self) }
+        ensures value { IfOk result (IsValueNamed object_if doc.now self (chars name.now)) }
+        ensures held { IfOk result (λ o. IfSome o (λ x. Holds doc.now (object_node x))) }
+        ensures memory { IfErr result (λ e. e ≡ EditError.OutOfMemory) }
+    {
+        match self.get(doc, name) {
+            Ok(Some(property)) => Ok(property.object_value(doc)),
+            Ok(None) => Ok(None),
+            Err(error) => Err(error),
+        }
+    }
+
+    /// The value of its first property of a name, if there is one and it is an array.
+    pub fn array_value<A: Allocator + Copy>(
+        self,
+        doc: &CstRootNode<A>,
+        name: &str,
+    ) -> Result<Option<CstArray>, EditError>
+        requires { Holds doc.now (object_node self) }
+        ensures value { IfOk result (IsValueNamed array_if doc.now self (chars name.now)) }
+        ensures held { IfOk result (λ o. IfSome o (λ x. Holds doc.now (array_node x))) }
+        ensures memory { IfErr result (λ e. e ≡ EditError.OutOfMemory) }
+    {
+        match self.get(doc, name) {
+            Ok(Some(property)) => Ok(property.array_value(doc)),
+            Ok(None) => Ok(None),
+            Err(error) => Err(error),
         }
     }
 }
