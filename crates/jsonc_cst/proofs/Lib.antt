@@ -1,3 +1,4 @@
 pub mod Lent
 pub mod Family
 pub mod Readings
+pub mod Tree

@@ -1,3 +1,4 @@
 pub mod Document
 pub mod Readings
+pub mod Tree
 pub mod Nodes
