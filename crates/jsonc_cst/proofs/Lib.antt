@@ -2,3 +2,4 @@ pub mod Lent
 pub mod Family
 pub mod Readings
 pub mod Colons
+pub mod Tree

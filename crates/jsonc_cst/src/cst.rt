@@ -15,6 +15,7 @@ ghost use Rattle.jsonc_to_ast.specs.Told.{IsTold};
 ghost use Rattle.jsonc_build.specs.Lines.{DocumentLinesEnd};
 ghost use Rattle.jsonc_build.specs.Shape.{DocumentShaped};
 ghost use Rattle.jsonc_cst.specs.Document.{printed_of, tree_of, HasNoDeeperValue, LiesIn};
+ghost use Rattle.jsonc_cst.specs.Tree.{NodesAreTree};
 
 mod access;
 mod elements;
@@ -23,6 +24,7 @@ mod into;
 mod layout;
 mod leaf;
 mod names;
+mod navigation;
 mod node;
 mod root;
 mod siblings;
@@ -39,6 +41,7 @@ use jsonc_to_ast::parse_to_ast;
 use jsonc_tree::Tree;
 pub use jsonc_tree::{CstNewlineKind, Shown};
 pub use layout::Readings;
+pub use navigation::{HasChildren, IsNode};
 pub use node::{
     CstArray, CstBooleanLit, CstComment, CstContainerNode, CstLeafNode, CstNewline, CstNode,
     CstNullKeyword, CstNumberLit, CstObject, CstObjectProp, CstRoot, CstStringLit, CstToken,
@@ -70,6 +73,7 @@ impl<A: Allocator + Copy> CstRootNode<A> {
         ensures laid { IfOk result (λ d. LiesIn (parse_options options.now) text.now (tree_of d)) }
         ensures within { OnOk result (HasNoDeeperValue (parse_options options.now) text.now) }
         ensures value { IfOk result (λ d. (w : Option Plain) × IsDocument (parse_options options.now) (chars text.now) w × DocumentValueOf (parse_options options.now) (tree_of d) w) }
+        ensures tree { IfOk result NodesAreTree }
         ensures refused { IfErr result (RefusesText (parse_options options.now) text.now) }
         ensures fault { IfErr result (IsFault text.now) }
         ensures told { IfErr result (IsTold (parse_options options.now) text.now true) }
@@ -79,12 +83,15 @@ impl<A: Allocator + Copy> CstRootNode<A> {
         let Ok(tree) = build(alloc, text, parsed.value.as_ref()) else {
             return Err(ParseError::out_of_memory());
         };
-        Ok(CstRootNode { tree, alloc })
+        let document = CstRootNode { tree, alloc };
+        document.nodes_are_tree();
+        Ok(document)
     }
 
     /// The document's text.
     pub fn text(&self) -> Result<String<A>, EditError>
-        ensures { IfOk result (λ s. string_bytes s ≡ printed_of self.now) }
+        ensures printed { IfOk result (λ s. string_bytes s ≡ printed_of self.now) }
+        ensures memory { IfErr result (λ e. e ≡ EditError.OutOfMemory) }
     {
         let Ok(text) = self.tree.to_string(self.alloc) else {
             return Err(EditError::OutOfMemory);

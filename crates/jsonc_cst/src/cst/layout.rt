@@ -7,14 +7,12 @@ ghost use Rattle.jsonc_lines.specs.Lines.{blank_line_before};
 ghost use Rattle.jsonc_cst.specs.Document.{nodes_of, Holds};
 ghost use Rattle.jsonc_cst.specs.Layout.{indent_of, leading_comments_of, level_indent};
 ghost use Rattle.jsonc_cst.specs.Layout.{trailing_comma_of, trailing_comments_of, uses_trailing_commas_of};
-ghost use Rattle.jsonc_cst.specs.Nodes.{number_of, root_node, array_node, object_node};
-ghost use Rattle.jsonc_cst.specs.Nodes.{object_prop_node, boolean_lit_node, null_keyword_node};
-ghost use Rattle.jsonc_cst.specs.Nodes.{number_lit_node, string_lit_node, word_lit_node};
-ghost use Rattle.jsonc_cst.specs.Nodes.{token_node, whitespace_node, newline_node, comment_node};
-ghost use Rattle.jsonc_cst.specs.Nodes.{name_node};
+ghost use Rattle.jsonc_cst.specs.Nodes.{comment_node, number_of, token_node};
 ghost use Rattle.jsonc_cst.specs.Readings.{comment_under};
+ghost use Rattle.jsonc_cst.specs.Tree.{NodesAreTree};
 ghost use Rattle.jsonc_cst.specs.Values.{IsValueTaken};
 
+use super::navigation::IsNode;
 use super::node::{
     CstArray, CstBooleanLit, CstComment, CstContainerNode, CstLeafNode, CstNewline, CstNode,
     CstNullKeyword, CstNumberLit, CstObject, CstObjectProp, CstRoot, CstStringLit, CstToken,
@@ -40,26 +38,18 @@ fn comments_under<A: Allocator>(
 
 /// The readings that each kind of node has: how it is laid out, the comments of its line, and the value
 /// that it gives.
-pub trait Readings: Copy {
-    ghost use Rattle.jsonc_cst.specs.declared.cst.node.CstNode.{CstNode};
-
-    ghost read_node: { Self → CstNode };
-
-    /// The node that it is.
-    fn read_node(self) -> CstNode
-        ensures { result ≡ read_node self };
-
+pub trait Readings: IsNode {
     /// The whitespace that its line begins with, if nothing but blanks and comments stands before it
     /// there. None also where the line does not begin with whitespace.
     final fn indent_text<A: Allocator + Copy>(
         self,
         doc: &CstRootNode<A>,
     ) -> Result<Option<String<A>>, EditError>
-        requires { Holds doc.now (read_node self) }
-        ensures indent { IfOk result (λ o. option_map string_bytes o ≡ indent_of doc.now (read_node self)) }
+        requires { Holds doc.now (node_of self) }
+        ensures indent { IfOk result (λ o. option_map string_bytes o ≡ indent_of doc.now (node_of self)) }
         ensures memory { IfErr result (λ e. e ≡ EditError.OutOfMemory) }
     {
-        let Ok(indent) = jsonc_lines::indent_text(doc.alloc, &doc.tree, self.read_node().number())
+        let Ok(indent) = jsonc_lines::indent_text(doc.alloc, &doc.tree, self.node().number())
         else {
             return Err(EditError::OutOfMemory);
         };
@@ -69,19 +59,21 @@ pub trait Readings: Copy {
     /// Whether a blank line stands in the trivia directly before it: two line ends with nothing but
     /// whitespace between them.
     final fn has_blank_line_before<A: Allocator>(self, doc: &CstRootNode<A>) -> bool
-        requires { Holds doc.now (read_node self) }
-        ensures { result ≡ blank_line_before (nodes_of doc.now) (number_of (read_node self)) }
+        requires { Holds doc.now (node_of self) }
+        ensures { result ≡ blank_line_before (nodes_of doc.now) (number_of (node_of self)) }
     {
-        jsonc_lines::has_blank_line_before(&doc.tree, self.read_node().number())
+        jsonc_lines::has_blank_line_before(&doc.tree, self.node().number())
     }
 
     /// The comma after it, with nothing but blanks, line ends and comments between them.
     final fn trailing_comma<A: Allocator>(self, doc: &CstRootNode<A>) -> Option<CstToken>
-        requires { Holds doc.now (read_node self) }
-        ensures comma { result ≡ trailing_comma_of doc.now (read_node self) }
+        requires { Holds doc.now (node_of self) }
+        ensures comma { result ≡ trailing_comma_of doc.now (node_of self) }
         ensures held { IfSome result (λ t. Holds doc.now (token_node t)) }
+        ensures tree { NodesAreTree doc.now }
     {
-        let Some(number) = jsonc_lines::trailing_comma(&doc.tree, self.read_node().number()) else {
+        doc.nodes_are_tree();
+        let Some(number) = jsonc_lines::trailing_comma(&doc.tree, self.node().number()) else {
             return None;
         };
         Some(CstToken { number })
@@ -94,11 +86,11 @@ pub trait Readings: Copy {
         self,
         doc: &CstRootNode<A>,
     ) -> Result<bool, EditError>
-        requires { Holds doc.now (read_node self) }
-        ensures uses { IfOk result (λ uses. uses ≡ uses_trailing_commas_of doc.now (read_node self)) }
+        requires { Holds doc.now (node_of self) }
+        ensures uses { IfOk result (λ uses. uses ≡ uses_trailing_commas_of doc.now (node_of self)) }
         ensures memory { IfErr result (λ e. e ≡ EditError.OutOfMemory) }
     {
-        let number = self.read_node().number();
+        let number = self.node().number();
         let Ok(uses) = jsonc_lines::uses_trailing_commas(doc.alloc, &doc.tree, number) else {
             return Err(EditError::OutOfMemory);
         };
@@ -110,12 +102,14 @@ pub trait Readings: Copy {
         self,
         doc: &CstRootNode<A>,
     ) -> Result<Vec<CstComment, A>, EditError>
-        requires { Holds doc.now (read_node self) }
-        ensures comments { IfOk result (λ v. v.items ≡ leading_comments_of doc.now (read_node self)) }
+        requires { Holds doc.now (node_of self) }
+        ensures comments { IfOk result (λ v. v.items ≡ leading_comments_of doc.now (node_of self)) }
         ensures held { IfOk result (λ v. All (λ c. Holds doc.now (comment_node c)) v.items) }
         ensures memory { IfErr result (λ e. e ≡ EditError.OutOfMemory) }
+        ensures tree { NodesAreTree doc.now }
     {
-        let number = self.read_node().number();
+        doc.nodes_are_tree();
+        let number = self.node().number();
         let Ok(numbers) = jsonc_nodes::leading_comments_same_line(doc.alloc, &doc.tree, number)
         else {
             return Err(EditError::OutOfMemory);
@@ -132,12 +126,14 @@ pub trait Readings: Copy {
         self,
         doc: &CstRootNode<A>,
     ) -> Result<Vec<CstComment, A>, EditError>
-        requires { Holds doc.now (read_node self) }
-        ensures comments { IfOk result (λ v. v.items ≡ trailing_comments_of doc.now (read_node self)) }
+        requires { Holds doc.now (node_of self) }
+        ensures comments { IfOk result (λ v. v.items ≡ trailing_comments_of doc.now (node_of self)) }
         ensures held { IfOk result (λ v. All (λ c. Holds doc.now (comment_node c)) v.items) }
         ensures memory { IfErr result (λ e. e ≡ EditError.OutOfMemory) }
+        ensures tree { NodesAreTree doc.now }
     {
-        let number = self.read_node().number();
+        doc.nodes_are_tree();
+        let number = self.node().number();
         let Ok(numbers) = jsonc_nodes::trailing_comments_same_line(doc.alloc, &doc.tree, number)
         else {
             return Err(EditError::OutOfMemory);
@@ -157,11 +153,11 @@ pub trait Readings: Copy {
         self,
         doc: &CstRootNode<A>,
     ) -> Result<Option<CstInputValue<A>>, EditError>
-        requires { Holds doc.now (read_node self) }
-        ensures value { IfOk result (IsValueTaken doc.now (read_node self)) }
+        requires { Holds doc.now (node_of self) }
+        ensures value { IfOk result (IsValueTaken doc.now (node_of self)) }
         ensures memory { IfErr result (λ e. e ≡ EditError.OutOfMemory) }
     {
-        let number = self.read_node().number();
+        let number = self.node().number();
         let Ok(value) = jsonc_to_input::to_value(doc.alloc, &doc.tree, number) else {
             return Err(EditError::OutOfMemory);
         };
@@ -194,142 +190,36 @@ impl<A: Allocator + Copy> CstRootNode<A> {
     }
 }
 
-impl Readings for CstNode {
-    ghost read_node = { λ x. x };
+impl Readings for CstNode {}
 
-    fn read_node(self) -> CstNode {
-        self
-    }
-}
+impl Readings for CstContainerNode {}
 
-impl Readings for CstContainerNode {
-    ghost use Rattle.jsonc_cst.specs.declared.cst.node.CstNode.{CstNode};
+impl Readings for CstLeafNode {}
 
-    ghost read_node = { CstNode.Container };
+impl Readings for ObjectPropName {}
 
-    fn read_node(self) -> CstNode {
-        CstNode::Container(self)
-    }
-}
+impl Readings for CstRoot {}
 
-impl Readings for CstLeafNode {
-    ghost use Rattle.jsonc_cst.specs.declared.cst.node.CstNode.{CstNode};
+impl Readings for CstArray {}
 
-    ghost read_node = { CstNode.Leaf };
+impl Readings for CstObject {}
 
-    fn read_node(self) -> CstNode {
-        CstNode::Leaf(self)
-    }
-}
+impl Readings for CstObjectProp {}
 
-impl Readings for ObjectPropName {
-    ghost read_node = { name_node };
+impl Readings for CstBooleanLit {}
 
-    fn read_node(self) -> CstNode {
-        self.into()
-    }
-}
+impl Readings for CstNullKeyword {}
 
-impl Readings for CstRoot {
-    ghost read_node = { root_node };
+impl Readings for CstNumberLit {}
 
-    fn read_node(self) -> CstNode {
-        self.into()
-    }
-}
+impl Readings for CstStringLit {}
 
-impl Readings for CstArray {
-    ghost read_node = { array_node };
+impl Readings for CstWordLit {}
 
-    fn read_node(self) -> CstNode {
-        self.into()
-    }
-}
+impl Readings for CstToken {}
 
-impl Readings for CstObject {
-    ghost read_node = { object_node };
+impl Readings for CstWhitespace {}
 
-    fn read_node(self) -> CstNode {
-        self.into()
-    }
-}
+impl Readings for CstNewline {}
 
-impl Readings for CstObjectProp {
-    ghost read_node = { object_prop_node };
-
-    fn read_node(self) -> CstNode {
-        self.into()
-    }
-}
-
-impl Readings for CstBooleanLit {
-    ghost read_node = { boolean_lit_node };
-
-    fn read_node(self) -> CstNode {
-        self.into()
-    }
-}
-
-impl Readings for CstNullKeyword {
-    ghost read_node = { null_keyword_node };
-
-    fn read_node(self) -> CstNode {
-        self.into()
-    }
-}
-
-impl Readings for CstNumberLit {
-    ghost read_node = { number_lit_node };
-
-    fn read_node(self) -> CstNode {
-        self.into()
-    }
-}
-
-impl Readings for CstStringLit {
-    ghost read_node = { string_lit_node };
-
-    fn read_node(self) -> CstNode {
-        self.into()
-    }
-}
-
-impl Readings for CstWordLit {
-    ghost read_node = { word_lit_node };
-
-    fn read_node(self) -> CstNode {
-        self.into()
-    }
-}
-
-impl Readings for CstToken {
-    ghost read_node = { token_node };
-
-    fn read_node(self) -> CstNode {
-        self.into()
-    }
-}
-
-impl Readings for CstWhitespace {
-    ghost read_node = { whitespace_node };
-
-    fn read_node(self) -> CstNode {
-        self.into()
-    }
-}
-
-impl Readings for CstNewline {
-    ghost read_node = { newline_node };
-
-    fn read_node(self) -> CstNode {
-        self.into()
-    }
-}
-
-impl Readings for CstComment {
-    ghost read_node = { comment_node };
-
-    fn read_node(self) -> CstNode {
-        self.into()
-    }
-}
+impl Readings for CstComment {}

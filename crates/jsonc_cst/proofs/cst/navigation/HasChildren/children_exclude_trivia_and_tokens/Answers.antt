@@ -3,7 +3,7 @@ use Rattle.std.specs.List.{All}
 use Rattle.jsonc_cst.specs.Nodes.{IsNodeOf}
 use Rattle.jsonc_cst.specs.Readings.{typed_all}
 use Rattle.jsonc_cst.proofs.Readings.{typed_all_held}
-use Rattle.jsonc_cst.proofs.cst.node.CstNode.children_exclude_trivia_and_tokens.Goals as goal
+use Rattle.jsonc_cst.proofs.cst.navigation.HasChildren.children_exclude_trivia_and_tokens.Goals as goal
 
 pub returns-clause-held : goal.returns-clause-held
 returns-clause-held g c =
