@@ -2,9 +2,10 @@
 use crate::escape::Escaped;
 use crate::show::push_fault;
 use jsonc_build::build;
+use jsonc_parser::cst::EditError;
 use jsonc_parser::errors::ParseError;
 use jsonc_parser::{CollectOptions, ParseOptions, parse_to_ast};
-use jsonc_run::{Edit, Stop, run};
+use jsonc_run::{Edit, run};
 use jsonc_tree::Tree;
 use std::alloc::{AllocError, Global};
 
@@ -25,8 +26,8 @@ pub fn edited(
     };
     match run(alloc, &mut tree, edits) {
         Ok(()) => out.push_str("ok")?,
-        Err((made, Stop::NoSuchPlace)) => write!(out, "stop {made} NoSuchPlace")?,
-        Err((_, Stop::OutOfMemory)) => return Err(AllocError),
+        Err((made, EditError::NoSuchPlace)) => write!(out, "stop {made} NoSuchPlace")?,
+        Err(_) => return Err(AllocError),
     }
     let printed = tree.to_string(alloc)?;
     write!(out, "\t{}", Escaped::field(printed.as_bytes()))?;

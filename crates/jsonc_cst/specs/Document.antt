@@ -1,21 +1,16 @@
 -- What a document is: its ordered tree, and what it prints.
-use Rattle.std.specs.Prelude.{ℕ, List, Option, codes}
+use Rattle.std.specs.Prelude.{ℕ, List, Option}
 use Rattle.jsonc_tree.specs.Content.{Content}
 use Rattle.jsonc_tree.specs.Tree.{Node, content_at}
 use Rattle.jsonc_tree.specs.OrderedTree.{OrderedTree, ordered_tree, printed}
+pub use Rattle.jsonc_edit.specs.Errors.{edit_error_text}
+pub use Rattle.jsonc_edit.specs.declared.error.EditError.{EditError}
+pub use Rattle.jsonc_edit.specs.declared.error.EditError.TheVariants.{OutOfMemory}
 pub use Rattle.jsonc_to_ast.specs.Refusals.{RefusesText}
 use Rattle.jsonc_cst.specs.declared.cst.CstRootNode.{CstRootNode}
-use Rattle.jsonc_cst.specs.declared.cst.EditError.{EditError}
 use Rattle.jsonc_cst.specs.declared.cst.node.CstContainerNode.{CstContainerNode}
 use Rattle.jsonc_cst.specs.declared.cst.node.CstNode.{CstNode}
 use Rattle.jsonc_cst.specs.Nodes.{number_of, parent_node, nodes_above, child_nodes, IsNodeOf}
-use Rattle.jsonc_cst.specs.declared.cst.EditError.TheVariants.{OutOfMemory, MissingBrackets, MissingName, NoSuchPlace}
-
-abbrev pub edit_error_text : EditError → List ℕ
-edit_error_text OutOfMemory = codes "Out of memory"
-edit_error_text MissingBrackets = codes "Missing brackets"
-edit_error_text MissingName = codes "Missing name"
-edit_error_text NoSuchPlace = codes "No such place"
 
 module _ {A : Type 0} where
   -- its nodes

@@ -14,7 +14,7 @@ ghost use Rattle.jsonc_to_ast.specs.Refusals.{RefusesText};
 ghost use Rattle.jsonc_to_ast.specs.Told.{IsTold};
 ghost use Rattle.jsonc_build.specs.Lines.{DocumentLinesEnd};
 ghost use Rattle.jsonc_build.specs.Shape.{DocumentShaped};
-ghost use Rattle.jsonc_cst.specs.Document.{edit_error_text, printed_of, tree_of};
+ghost use Rattle.jsonc_cst.specs.Document.{printed_of, tree_of};
 
 mod access;
 mod elements;
@@ -28,6 +28,7 @@ mod values;
 
 pub use access::AncestorIterator;
 use jsonc_build::build;
+pub use jsonc_edit::EditError;
 use jsonc_text::errors::ParseError;
 use jsonc_text::options::ParseOptions;
 use jsonc_to_ast::collect::CollectOptions;
@@ -41,36 +42,7 @@ pub use node::{
 };
 pub use siblings::{NextSiblingIterator, PreviousSiblingIterator};
 use std::alloc::Allocator;
-use std::error::Error;
 use std::fmt;
-
-/// Why a document was not changed.
-#[derive(Clone, Copy, Debug, PartialEq, Eq, Drop)]
-pub enum EditError {
-    /// There was not enough memory.
-    OutOfMemory,
-    /// A container has lost a bracket.
-    MissingBrackets,
-    /// A property has lost its name.
-    MissingName,
-    /// There is no such place.
-    NoSuchPlace,
-}
-
-impl fmt::Display for EditError {
-    ghost output = { λ e. Some (edit_error_text e) };
-
-    fn fmt<W: fmt::Write>(&self, f: &mut fmt::Formatter<W>) -> fmt::Result {
-        match self {
-            EditError::OutOfMemory => f.write_str("Out of memory"),
-            EditError::MissingBrackets => f.write_str("Missing brackets"),
-            EditError::MissingName => f.write_str("Missing name"),
-            EditError::NoSuchPlace => f.write_str("No such place"),
-        }
-    }
-}
-
-impl Error for EditError {}
 
 /// A document: a text that keeps its every byte, comments, blanks and commas too.
 #[derive(Drop)]
