@@ -1,8 +1,8 @@
 -- A row walked along the links, forwards and backwards.
-use Rattle.std.proofs.Common.{◌≡◌, ℕ, zero, suc, ◌+◌, ◌<◌, ◌≤◌, List, [], ◌∷◌, length, get_or, take, drop, reverse, Option, None, Some, slice_get, refl, sym, ap, ◌∙◌, arith}
+use Rattle.std.proofs.Common.{◌≡◌, ℕ, zero, suc, ◌+◌, ◌<◌, ◌≤◌, List, [], ◌∷◌, length, get_or, take, drop, reverse, Option, None, Some, slice_get, length-drop, length-take, refl, sym, ap, ◌∙◌, arith}
 use Rattle.std.proofs.lemmas.Option.{slice_get-get_or, slice_get_past}
-use Rattle.std.proofs.lemmas.List.{drop_all, reverse-append, take_all}
-use Rattle.jsonc_tree.specs.Tree.{children_at, parent_at, place_at}
+use Rattle.std.proofs.lemmas.List.{drop_all, length-reverse, reverse-append, take_all}
+use Rattle.jsonc_tree.specs.Tree.{Node, IsTree, children_at, parent_at, place_at}
 use Rattle.jsonc_tree.specs.Order.{with_parent}
 use Rattle.jsonc_tree.specs.Siblings.{before, first, siblings_after, siblings_before}
 use Rattle.jsonc_tree.specs.declared.node.Node as stored
@@ -19,7 +19,7 @@ none_taken k = take_all k [] (omega arith)
 none_dropped : (k : ℕ) → drop {A = ℕ} k [] ≡ []
 none_dropped k = drop_all k [] (omega arith)
 
-first_drop : (k : ℕ) (xs : List ℕ) → slice_get (drop k xs) 0 ≡ slice_get xs k
+pub first_drop : (k : ℕ) (xs : List ℕ) → slice_get (drop k xs) 0 ≡ slice_get xs k
 first_drop k [] = ap first (none_dropped k)
 first_drop zero (x ∷ xs) = refl
 first_drop (suc k) (x ∷ xs) = first_drop k xs
@@ -33,6 +33,20 @@ back_more xs k h =
 first_back : (xs : List ℕ) (k : ℕ) → k ≤ length xs → before xs k ≡ first (reverse (take k xs))
 first_back xs zero h = refl
 first_back xs (suc k) h = slice_get-get_or xs k 0 (omega arith) ∙ sym (ap first (back_more xs k (omega arith)))
+
+-- no row is longer than there are nodes
+module _ (ns : List Node) (t : IsTree ns) (n : ℕ) where
+  under_short : (o : Option ℕ) → length (with_parent o (children_at ns)) ≤ length ns
+  under_short None = omega arith
+  under_short (Some p) = row_short ns t p
+
+  pub after_short : length (siblings_after ns n) ≤ length ns
+  after_short = omega (arith, length-drop (place_at ns n + 1) (with_parent (parent_at ns n) (children_at ns)), under_short (parent_at ns n))
+
+  pub before_short : length (siblings_before ns n) ≤ length ns
+  before_short =
+      let row : List ℕ = with_parent (parent_at ns n) (children_at ns) in
+      omega (arith, length-reverse (take (place_at ns n) row), length-take (place_at ns n) row, under_short (parent_at ns n))
 
 module _ {A : Type 0} (ls : List (stored.Node A)) (ok : IsStored ls) where
   back_none : (steps : ℕ) → chain_back steps ls None ≡ []

@@ -1,6 +1,6 @@
 //! Walks along a row: the children of a node, and its siblings.
 
-ghost use Rattle.std.specs.Prelude.{◌≡◌, ◌<◌, length, reverse, vec_len};
+ghost use Rattle.std.specs.Prelude.{◌≡◌, ◌<◌, ◌^◌, length, reverse, vec_len};
 ghost use Rattle.std.specs.Iterator.{YieldsFirst, item_count};
 ghost use Rattle.jsonc_tree.specs.Tree.{children_at};
 ghost use Rattle.jsonc_tree.specs.Siblings.{first, siblings_after, siblings_before};
@@ -80,7 +80,8 @@ impl<A: Allocator> Tree<A> {
     /// The children of a node, first to last.
     pub fn children(&self, node: usize) -> Children<'_, A>
         requires { node < length self.now.nodes }
-        ensures { result ≡ children_at self.now.nodes node }
+        ensures children { result ≡ children_at self.now.nodes node }
+        ensures countable { length result < 2 ^ 64 }
     {
         Children {
             nodes: &self.nodes,
@@ -91,7 +92,8 @@ impl<A: Allocator> Tree<A> {
     /// The children of a node, last to first.
     pub fn children_reversed(&self, node: usize) -> PreviousSiblings<'_, A>
         requires { node < length self.now.nodes }
-        ensures { result ≡ reverse (children_at self.now.nodes node) }
+        ensures children { result ≡ reverse (children_at self.now.nodes node) }
+        ensures countable { length result < 2 ^ 64 }
     {
         PreviousSiblings {
             nodes: &self.nodes,
@@ -102,7 +104,8 @@ impl<A: Allocator> Tree<A> {
     /// The siblings after a node, nearest first.
     pub fn next_siblings(&self, node: usize) -> Children<'_, A>
         requires { node < length self.now.nodes }
-        ensures { result ≡ siblings_after self.now.nodes node }
+        ensures siblings { result ≡ siblings_after self.now.nodes node }
+        ensures countable { length result < 2 ^ 64 }
     {
         Children {
             nodes: &self.nodes,
@@ -113,7 +116,8 @@ impl<A: Allocator> Tree<A> {
     /// The siblings before a node, nearest first.
     pub fn previous_siblings(&self, node: usize) -> PreviousSiblings<'_, A>
         requires { node < length self.now.nodes }
-        ensures { result ≡ siblings_before self.now.nodes node }
+        ensures siblings { result ≡ siblings_before self.now.nodes node }
+        ensures countable { length result < 2 ^ 64 }
     {
         PreviousSiblings {
             nodes: &self.nodes,
