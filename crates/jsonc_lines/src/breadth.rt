@@ -33,15 +33,9 @@ fn last_element<A: Allocator>(tree: &Tree<A>, node: usize) -> Option<usize>
     ensures last { result ≡ last_element tree.now.nodes (children_at tree.now.nodes node) }
     ensures there { IfSome result (λ m. m < length tree.now.nodes) }
 {
-    let mut at = tree.child_count(node);
-    while at > 0 {
-        at -= 1;
-        let child = tree.child_at(node, at);
-        if is_element(tree, child) {
-            return Some(child);
-        }
-    }
-    None
+    let _ = tree.len();
+    tree.children_reversed(node)
+        .find(|child| is_element(tree, *child))
 }
 
 // Whether a node is an array or object with whitespace and an element.
@@ -92,8 +86,8 @@ fn push_children<A: Allocator>(
     requires { node < length tree.now.nodes }
     ensures { OnOk result (list.new.items ≡ list.old.items ++ children_at tree.now.nodes node) }
 {
-    for place in 0..tree.child_count(node) {
-        list.push(tree.child_at(node, place))?;
+    for child in tree.children(node) {
+        list.push(child)?;
     }
     Ok(())
 }

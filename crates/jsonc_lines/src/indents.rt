@@ -11,7 +11,7 @@ ghost use Rattle.jsonc_lines.specs.Indents.{repeated, single_at, told_at, withou
 ghost use Rattle.jsonc_lines.specs.IndentViews.{text_in, texts_of};
 
 use crate::indent::indent_text;
-use jsonc_nodes::{first_element_from, root_node};
+use jsonc_nodes::{children_from, first_element_from, root_node};
 use jsonc_tree::{Kind, Tree};
 use std::alloc::{AllocError, Allocator};
 
@@ -189,8 +189,8 @@ fn first_indent<A: Allocator + Copy>(
     requires { node < length tree.now.nodes }
     ensures { IfOk result (λ o. text_in o ≡ first_indent_in tree.now.nodes node) }
 {
-    for place in 0..tree.child_count(node) {
-        let text = indent_text(alloc, tree, tree.child_at(node, place))?;
+    for child in children_from(tree, node, 0) {
+        let text = indent_text(alloc, tree, child)?;
         if text.is_some() {
             return Ok(text);
         }

@@ -8,7 +8,7 @@ ghost use Rattle.jsonc_tree.specs.Stored.{content_of, nodes_in, IsStored};
 
 use crate::node::{CstNewlineKind, Kind, Node};
 use crate::tree::Tree;
-use crate::walk::node_after;
+use crate::walk::{kind_of, node_after};
 use std::alloc::Allocator;
 use std::fmt;
 use std::marker::Model;
@@ -51,8 +51,7 @@ fn write_below<A: Allocator, W: fmt::Write>(
 {
     let mut next = Some(end);
     while let Some(n) = next {
-        let node = &nodes[n];
-        write_own(&node.kind, f)?;
+        write_own(kind_of(nodes, n), f)?;
         next = node_after(nodes, end, n);
     }
     Ok(())
