@@ -18,3 +18,4 @@ pub mod Leaves
 pub mod Stopping
 pub mod ReadsValues
 pub mod Standing
+pub mod Spelling

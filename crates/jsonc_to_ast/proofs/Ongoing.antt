@@ -1,4 +1,6 @@
 -- A container that goes on: where no further item stands, no value does, of any depth.
+use Rattle.jsonc_ast.specs.declared.ast.ObjectPropName.{ObjectPropName}
+use Rattle.jsonc_to_ast.specs.Written.{IsLentHere, AreWrittenIn}
 use Rattle.std.proofs.Common.{ℕ, ◌≡◌, ◌≤◌, ◌∙◌, sym, ap, subst, refl, arith, Bool, true, false, cond, List, ◌∷◌, length, Option, Some, None, IfSome, IsCharBoundary, ◌⊎◌, inl, inr}
 use Rattle.jsonc_text.specs.declared.errors.ParseError.{ParseError}
 use Rattle.jsonc_text.specs.declared.errors.ParseErrorKind.TheVariants.{NestingDepthExceeded}
@@ -204,17 +206,21 @@ module _ {A : Type 0} where
   property_item now mid m kept read = record { spans = spans_read now mid kept read.on; stands = (m.name.name, value_at m.value, property_read now mid m read) }
 
   -- an array's elements so far, and what is left of it
-  pub record ElementsGoOn (old now : Context A) (next : Option (Token A)) (xs : List Located) (count : ℕ) : Type 0 where
+  pub record ElementsGoOn (old now : Context A) (next : Option (Token A)) (xs : List Located) (names : List (ObjectPropName A)) (count : ℕ) : Type 0 where
     pub so_far : Elements old now next xs count
     pub left : ElementsLeft old now next count
     pub collects : Collects old now
     pub going : IfSome next (Ongoing Array old now)
     pub reading : GoesOn Array old now next count
+    pub lent : IsLentHere now next
+    pub written : AreWrittenIn old names
 
   -- an object's properties
-  pub record PropertiesGoOn (old now : Context A) (next : Option (Token A)) (xs : List LocatedMember) (count : ℕ) : Type 0 where
+  pub record PropertiesGoOn (old now : Context A) (next : Option (Token A)) (xs : List LocatedMember) (names : List (ObjectPropName A)) (count : ℕ) : Type 0 where
     pub so_far : Properties old now next xs count
     pub left : PropertiesLeft old now next count
     pub collects : Collects old now
     pub going : IfSome next (Ongoing Object old now)
     pub reading : GoesOn Object old now next count
+    pub lent : IsLentHere now next
+    pub written : AreWrittenIn old names

@@ -118,7 +118,7 @@ module _ {A : Type 0} where
     first_stops old start count q d s e opening small at_start starts h = stops_on old _ _ e (one_step (opened old count q d s opening small starts)) (h q (here old) (ap (rest (text_in old)) (sym at_start)))
 
     module _ (old now mid : Context A) (kept : Keeps old now) (kept_mid : Keeps now mid) (t : Token A) (q : List Opened) (d : Due) (s : List ℕ) (standing : Standing old now t q d s)
-      (read : ComesTo (options_in now) true (at (container k (here old) ∷ q) standing.due standing.from) (at (container k (here old) ∷ q) (comma k (after mid)) (after mid))) where
+        (read : ComesTo (options_in now) true (at (container k (here old) ∷ q) standing.due standing.from) (at (container k (here old) ∷ q) (comma k (after mid)) (after mid))) where
       past_item : ComesTo (options_in old) true (at q d s) (at (container k (here old) ∷ q) (comma k (after mid)) (after mid))
       past_item = leads_on standing.comes (comes_before old now _ _ kept read)
 
@@ -178,8 +178,12 @@ module _ {A : Type 0} where
   pub deep_stops : (old now : Context A) (t : Token A) (start count : ℕ) (q : List Opened) (d : Due) (s : List ℕ) (e : ParseError) → Keeps old now → IsToken now t → start ≡ token_start old → length q ≡ count → 512 < count + 1
       → kind_of e ≡ NestingDepthExceeded → range_of e ≡ record { start = start; end = token_end now } → Standing Array old now t q d s → StopsFrom old (at q d s) e
   deep_stops old now t start count q d s e kept there at_start many deep kind range h =
-      stops_on old _ _ e h.comes (stops_before old now _ e kept (inr (_, ComesTo.here, wrong_lexeme l (after now) h.item.gap one
-      (h.item.must l (here now) (after now) mark ∙ deep_value q l (here old) (here now) (after now) (omega (arith, many, deep)) ∙ ap Some (ap (λ x. fault NestingDepthExceeded x (after now)) from_start ∙ fault_at (text_in now) e NestingDepthExceeded (record { start = start; end = token_end now }) kind range)))))
+      stops_on old _ _ e h.comes (stops_before old now _ e kept (inr (
+        _,
+        ComesTo.here,
+        wrong_lexeme l (after now) h.item.gap one
+            (h.item.must l (here now) (after now) mark ∙ deep_value q l (here old) (here now) (after now) (omega (arith, many, deep)) ∙ ap Some (ap (λ x. fault NestingDepthExceeded x (after now)) from_start ∙ fault_at (text_in now) e NestingDepthExceeded (record { start = start; end = token_end now }) kind range)),
+      )))
     where
       l : LexemeKind
       l = h.item.lexeme_here.0
@@ -200,8 +204,12 @@ module _ {A : Type 0} where
       let l = h.lexeme_here.0 in
       let mark = h.lexeme_here.1 in
       let wrong_here = none l mark in
-      inr (at q d s, ComesTo.here, wrong_lexeme l (after c) h.gap (subst (λ w. IsScanned (options_in c) w (here c) (after c)) mark (stands (text_in c) (options_in c) c.scanner t refl refl there).stands)
-      (h.must l (here c) (after c) mark ∙ plain_value q l (here c) (after c) small wrong_here.0 ∙ ap Some wrong_here.1))
+      inr (
+        at q d s,
+        ComesTo.here,
+        wrong_lexeme l (after c) h.gap (subst (λ w. IsScanned (options_in c) w (here c) (after c)) mark (stands (text_in c) (options_in c) c.scanner t refl refl there).stands)
+            (h.must l (here c) (after c) mark ∙ plain_value q l (here c) (after c) small wrong_here.0 ∙ ap Some wrong_here.1),
+      )
 
   -- a fault of an element
   pub element_stops : (old now : Context A) (t : Token A) (count : ℕ) (q : List Opened) (d : Due) (s : List ℕ) (e : ParseError) → Keeps old now → Standing Array old now t q d s → length q ≡ count
@@ -242,8 +250,12 @@ module _ {A : Type 0} where
     name_stops e h =
         let l = starts.lexeme_here.0 in
         let mark = starts.lexeme_here.1 in
-        inr (at q d s, ComesTo.here, wrong_lexeme l (after old) starts.gap (subst (λ w. IsScanned (options_in old) w (here old) (after old)) mark (stands (text_in old) (options_in old) old.scanner t refl refl there).stands)
-        (starts.must l (here old) (after old) mark ∙ h l mark))
+        inr (
+          at q d s,
+          ComesTo.here,
+          wrong_lexeme l (after old) starts.gap (subst (λ w. IsScanned (options_in old) w (here old) (after old)) mark (stands (text_in old) (options_in old) old.scanner t refl refl there).stands)
+              (starts.must l (here old) (after old) mark ∙ h l mark),
+        )
 
     module _ (n : LocatedName) (name : IsNameHere old n) where
       to_colon : ComesTo (options_in old) true (at q d s) (at (property (here old) ∷ q) colon (after old))
@@ -269,8 +281,12 @@ module _ {A : Type 0} where
 
           pub no_value_stops : f ≡ None → (e : ParseError) → suc (length q) ≤ 512 → kind_of e ≡ ExpectedObjectValue → range_of e ≡ token_range new → StopsFrom old (at q d s) e
           no_value_stops is e small kind range =
-              at_value e (inr (_, ComesTo.here, wrong_ending (gap_to_end mid new f kept_on_new found no_comment is)
-              (plain_end q (here old) small ∙ ap Some (ap (λ x. fault ExpectedObjectValue x []) (sym (rest_nothing mid new f kept_on_new found no_comment is)) ∙ ap (λ x. fault ExpectedObjectValue (rest (text_in mid) (token_start new)) x) (end_nothing is) ∙ fault_at (text_in mid) e ExpectedObjectValue (token_range new) kind range))))
+              at_value e (inr (
+                _,
+                ComesTo.here,
+                wrong_ending (gap_to_end mid new f kept_on_new found no_comment is)
+                    (plain_end q (here old) small ∙ ap Some (ap (λ x. fault ExpectedObjectValue x []) (sym (rest_nothing mid new f kept_on_new found no_comment is)) ∙ ap (λ x. fault ExpectedObjectValue (rest (text_in mid) (token_start new)) x) (end_nothing is) ∙ fault_at (text_in mid) e ExpectedObjectValue (token_range new) kind range)),
+              ))
 
           pub deep_property_stops : (e : ParseError) (start : ℕ) → start ≡ token_start old → 512 < suc (length q) → kind_of e ≡ NestingDepthExceeded → range_of e ≡ record { start = start; end = token_end new } → StopsFrom old (at q d s) e
           deep_property_stops e start at_start deep kind range = at_value e (go f refl)

@@ -9,3 +9,4 @@ pub mod Collected
 pub mod Told
 pub mod Reached
 pub mod Reading
+pub mod Written

@@ -11,21 +11,27 @@ use Rattle.jsonc_to_ast.specs.Scanned.{unexpected_kind}
 use Rattle.jsonc_to_ast.proofs.Due.{begins_none}
 use Rattle.jsonc_to_ast.proofs.Stopping.{fault_at}
 use Rattle.jsonc_to_ast.specs.Context.{text_in, token_range}
+use Rattle.jsonc_ast.specs.Spelled.{spelled}
+use Rattle.jsonc_to_ast.proofs.Spelling.{leaf_written}
 use Rattle.jsonc_to_ast.proofs.values.parse_leaf.Goals as goal
 
 pub returns-clause-found : goal.returns-clause-found
-returns-clause-found g c = leaf_reads c.args.context.now c.args.token c.in-Some.value c.leaf.result c.range.result c.requires c.in-Some.is c.leaf.ensures c.range.ensures
+returns-clause-found g c = leaf_reads c.args.context.now c.args.token c.in-Some.value c.leaf.result c.range.result c.requires c.in-Some.is c.leaf.ensures.located c.range.ensures
 
 pub returns-in_default-clause-refused : goal.returns-in_default-clause-refused
-returns-in_default-clause-refused g c = no_literal_here c.args.context.now c.args.token _ c.range.result c.requires (ap (option_map located) c.in_default.is) c.leaf.ensures
+returns-in_default-clause-refused g c = no_literal_here c.args.context.now c.args.token _ c.range.result c.requires (ap (option_map located) c.in_default.is) c.leaf.ensures.located
 
 pub returns-in_default-clause-told : goal.returns-in_default-clause-told
 returns-in_default-clause-told g c =
-    let none = map_none (leaf_at c.range.result) (leaf_value (scanned_of c.args.token)) (sym c.leaf.ensures ∙ ap (option_map located) c.in_default.is) in
+    let none = map_none (leaf_at c.range.result) (leaf_value (scanned_of c.args.token)) (sym c.leaf.ensures.located ∙ ap (option_map located) c.in_default.is) in
     unexpected_told c.args.context.now c.args.token c.fault_here.result c.requires none (c.fault_here.ensures.kind ∙ c.unexpected-kind.ensures.kind) c.fault_here.ensures.range
 
 pub returns-in_default-clause-stops : goal.returns-in_default-clause-stops
 returns-in_default-clause-stops g c = λ opens l mark.
-    let none = map_none (leaf_at c.range.result) (leaf_value (scanned_of c.args.token)) (sym c.leaf.ensures ∙ ap (option_map located) c.in_default.is) in
-    (begins_none l (ap leaf_value (sym mark) ∙ none) (λ f. opens.0 (mark ∙ ap lexeme f)) (λ f. opens.1 (mark ∙ ap lexeme f)),
-    fault_at (text_in c.args.context.now) c.fault_here.result (unexpected_kind (lexeme l)) (token_range c.args.context.now) (c.fault_here.ensures.kind ∙ c.unexpected-kind.ensures.kind ∙ ap unexpected_kind mark) c.fault_here.ensures.range)
+    let none = map_none (leaf_at c.range.result) (leaf_value (scanned_of c.args.token)) (sym c.leaf.ensures.located ∙ ap (option_map located) c.in_default.is) in (
+      begins_none l (ap leaf_value (sym mark) ∙ none) (λ f. opens.0 (mark ∙ ap lexeme f)) (λ f. opens.1 (mark ∙ ap lexeme f)),
+      fault_at (text_in c.args.context.now) c.fault_here.result (unexpected_kind (lexeme l)) (token_range c.args.context.now) (c.fault_here.ensures.kind ∙ c.unexpected-kind.ensures.kind ∙ ap unexpected_kind mark) c.fault_here.ensures.range,
+    )
+
+pub returns-clause-written : goal.returns-clause-written
+returns-clause-written g c = λ lent. leaf_written c.args.context.now c.args.token c.range.result (spelled c.in-Some.value) c.requires c.in-Some.ensures.spelled c.range.ensures lent
