@@ -1,7 +1,7 @@
 //! What edits make of a document.
-use crate::escape::Escaped;
 use crate::show::push_fault;
 use jsonc_build::build;
+use jsonc_cases::escape::Escaped;
 use jsonc_parser::cst::EditError;
 use jsonc_parser::errors::ParseError;
 use jsonc_parser::{CollectOptions, ParseOptions, parse_to_ast};
@@ -34,7 +34,12 @@ pub fn edited(
     Ok(out)
 }
 
-fn tree_of(alloc: Global, text: &str, options: &ParseOptions) -> Result<Tree<Global>, ParseError> {
+/// The tree of a text, or the text's fault.
+pub fn tree_of(
+    alloc: Global,
+    text: &str,
+    options: &ParseOptions,
+) -> Result<Tree<Global>, ParseError> {
     let parsed = parse_to_ast(alloc, text, &CollectOptions::default(), options)?;
     match build(alloc, text, parsed.value.as_ref()) {
         Ok(tree) => Ok(tree),

@@ -1,9 +1,9 @@
 //! Cases, read from their lines.
 
-use crate::edit::read_edits;
+use crate::edits::read_edits;
 use crate::error::CaseError;
 use crate::escape::{unescaped, unescaped_text};
-use crate::lookup::{Lookup, read_lookups};
+use crate::lookups::{Lookup, read_lookups};
 use jsonc_parser::{CollectOptions, CommentCollectionStrategy, ParseOptions};
 use jsonc_run::Edit;
 use std::alloc::Global;
@@ -51,6 +51,11 @@ pub enum Question {
         text: String,
         edits: Vec<Edit<Global>>,
     },
+    /// What the document of a text tells of itself and of its nodes.
+    Read {
+        options: ParseOptions,
+        text: String,
+    },
     /// The string at the front of a text.
     Decode {
         text: String,
@@ -90,7 +95,7 @@ impl<'a> Case<'a> {
 
 fn is_kind_to_come(kind: &str) -> bool {
     match kind {
-        "trace" | "read" | "settings" | "detached" => true,
+        "trace" | "settings" | "detached" => true,
         _ => false,
     }
 }
@@ -105,14 +110,17 @@ impl Question {
             ("jobj", [options, text, lookups]) => object(alloc, options, text, lookups),
             ("aobj", [options, text, lookups]) => tree_object(alloc, options, text, lookups),
             ("edit", [options, text, edits]) => edit(alloc, options, text, edits),
+            ("read", [options, text, ""]) => read(alloc, options, text),
+            ("read", [_, _, _]) => Ok(Question::NotBuilt),
             ("decode", [text]) => Ok(Question::Decode {
                 text: unescaped_text(alloc, text)?,
             }),
             ("print", [options, input]) => print(alloc, options, input),
             ("jsonc", [words, input]) => program(alloc, words, input),
-            ("scan" | "ast" | "value" | "jobj" | "aobj" | "edit" | "decode" | "jsonc", _) => Err(
-                CaseError::FieldCount,
-            ),
+            (
+                "scan" | "ast" | "value" | "jobj" | "aobj" | "edit" | "read" | "decode" | "jsonc",
+                _,
+            ) => Err(CaseError::FieldCount),
             (kind, _) if is_kind_to_come(kind) => Ok(Question::NotBuilt),
             _ => Err(CaseError::UnknownKind),
         }
@@ -185,6 +193,13 @@ fn edit(alloc: Global, options: &str, text: &str, edits: &str) -> Result<Questio
         options: read_options(options)?,
         text: unescaped_text(alloc, text)?,
         edits,
+    })
+}
+
+fn read(alloc: Global, options: &str, text: &str) -> Result<Question, CaseError> {
+    Ok(Question::Read {
+        options: read_options(options)?,
+        text: unescaped_text(alloc, text)?,
     })
 }
 
