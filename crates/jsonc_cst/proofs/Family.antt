@@ -2,7 +2,7 @@
 use Rattle.std.proofs.Common.{◌≡◌, ℕ, zero, suc, ◌<◌, true, inl, inr, List, [], ◌∷◌, length, map, get_or, Option, Some, None, IfSome, ◌&&◌, refl, ap, sym, subst, ◌∙◌, arith}
 use Rattle.std.specs.List.{All, list_all}
 use Rattle.std.proofs.lemmas.Bool.{cases_Bool, cases_lt, and_parts, false≢true}
-use Rattle.std.proofs.lemmas.List.{get_or-map, get_or_past, length-map}
+use Rattle.std.proofs.lemmas.List.{get_or-map, get_or_past, get_or_default, length-map}
 use Rattle.jsonc_tree.specs.Content as content
 use Rattle.jsonc_tree.specs.Tree.{Node, nowhere, children_at, content_at, parent_at, is_container_at, IsTree}
 use Rattle.jsonc_tree.specs.Order.{line_up, upward}
@@ -43,7 +43,11 @@ module _ (ns : List Node) (tree : IsTree ns) where
     ],
   )
 
-  -- children are nodes
+  -- children are there
+  pub children_there : (c : ℕ) → All (λ m. m < length ns) (children_at ns c)
+  children_there c k d h = subst (λ m. m < length ns) (get_or_default (children_at ns c) k 0 d h) (tree.there c k h)
+
+  -- and are nodes
   pub children_held : (c : ℕ) → All (IsNodeOf ns) (map (typed_at ns) (children_at ns c))
   children_held c k d h =
       let within : k < length (children_at ns c) = omega (arith, h, length-map (children_at ns c) (typed_at ns)) in

@@ -99,8 +99,7 @@ pub(super) fn children_of<A: Allocator>(
     // The nodes are a tree, says `len`, and so the children are nodes.
     let _count = tree.len();
     let mut children = Vec::new(alloc);
-    for place in 0..tree.child_count(number) {
-        let child = tree.child_at(number, place);
+    for child in tree.children(number) {
         children.push(node_at(tree, child))?;
     }
     Ok(children)

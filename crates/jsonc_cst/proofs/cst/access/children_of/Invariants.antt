@@ -1,10 +1,13 @@
-use Rattle.std.proofs.Common.{◌≡◌, map, take}
+use Rattle.std.proofs.Common.{◌≡◌, ◌<◌, ◌++◌, length, map}
+use Rattle.std.specs.List.{All}
 use Rattle.jsonc_tree.specs.Tree.{children_at}
 use Rattle.jsonc_cst.specs.Nodes.{typed_at}
 use Rattle.jsonc_cst.proofs.cst.access.children_of.Given as goal
 
-abbrev pub invariant-loop-place : goal.invariant-loop-place
-invariant-loop-place g l =
+-- those that are left are nodes, and with what stands so far they are all
+abbrev pub invariant-loop-child : goal.invariant-loop-child
+invariant-loop-child g l =
     record {
-      so_far : l.children.items ≡ map (typed_at l.tree.nodes) (take l.place (children_at l.tree.nodes l.number));
+      so_far : l.children.items ++ map (typed_at l.tree.nodes) l.child-iterator ≡ map (typed_at l.tree.nodes) (children_at l.tree.nodes l.number);
+      there : All (λ m. m < length l.tree.nodes) l.child-iterator;
     }
