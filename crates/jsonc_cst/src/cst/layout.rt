@@ -45,12 +45,11 @@ pub trait Readings: IsNode {
         self,
         doc: &CstRootNode<A>,
     ) -> Result<Option<String<A>>, EditError>
-        requires { Holds doc.now (node_of self) }
-        ensures indent { IfOk result (λ o. option_map string_bytes o ≡ indent_of doc.now (node_of self)) }
+        requires { Holds doc.now (Self.node_of self) }
+        ensures indent { IfOk result (λ o. option_map string_bytes o ≡ indent_of doc.now (Self.node_of self)) }
         ensures memory { IfErr result (λ e. e ≡ EditError.OutOfMemory) }
     {
-        let Ok(indent) = jsonc_lines::indent_text(doc.alloc, &doc.tree, self.node().number())
-        else {
+        let Ok(indent) = jsonc_lines::indent_text(doc.alloc, &doc.tree, self.node().number()) else {
             return Err(EditError::OutOfMemory);
         };
         Ok(indent)
@@ -59,16 +58,16 @@ pub trait Readings: IsNode {
     /// Whether a blank line stands in the trivia directly before it: two line ends with nothing but
     /// whitespace between them.
     final fn has_blank_line_before<A: Allocator>(self, doc: &CstRootNode<A>) -> bool
-        requires { Holds doc.now (node_of self) }
-        ensures { result ≡ blank_line_before (nodes_of doc.now) (number_of (node_of self)) }
+        requires { Holds doc.now (Self.node_of self) }
+        ensures { result ≡ blank_line_before (nodes_of doc.now) (number_of (Self.node_of self)) }
     {
         jsonc_lines::has_blank_line_before(&doc.tree, self.node().number())
     }
 
     /// The comma after it, with nothing but blanks, line ends and comments between them.
     final fn trailing_comma<A: Allocator>(self, doc: &CstRootNode<A>) -> Option<CstToken>
-        requires { Holds doc.now (node_of self) }
-        ensures comma { result ≡ trailing_comma_of doc.now (node_of self) }
+        requires { Holds doc.now (Self.node_of self) }
+        ensures comma { result ≡ trailing_comma_of doc.now (Self.node_of self) }
         ensures held { IfSome result (λ t. Holds doc.now (token_node t)) }
         ensures tree { NodesAreTree doc.now }
     {
@@ -86,8 +85,8 @@ pub trait Readings: IsNode {
         self,
         doc: &CstRootNode<A>,
     ) -> Result<bool, EditError>
-        requires { Holds doc.now (node_of self) }
-        ensures uses { IfOk result (λ uses. uses ≡ uses_trailing_commas_of doc.now (node_of self)) }
+        requires { Holds doc.now (Self.node_of self) }
+        ensures uses { IfOk result (λ uses. uses ≡ uses_trailing_commas_of doc.now (Self.node_of self)) }
         ensures memory { IfErr result (λ e. e ≡ EditError.OutOfMemory) }
     {
         let number = self.node().number();
@@ -102,8 +101,8 @@ pub trait Readings: IsNode {
         self,
         doc: &CstRootNode<A>,
     ) -> Result<Vec<CstComment, A>, EditError>
-        requires { Holds doc.now (node_of self) }
-        ensures comments { IfOk result (λ v. v.items ≡ leading_comments_of doc.now (node_of self)) }
+        requires { Holds doc.now (Self.node_of self) }
+        ensures comments { IfOk result (λ v. v.items ≡ leading_comments_of doc.now (Self.node_of self)) }
         ensures held { IfOk result (λ v. All (λ c. Holds doc.now (comment_node c)) v.items) }
         ensures memory { IfErr result (λ e. e ≡ EditError.OutOfMemory) }
         ensures tree { NodesAreTree doc.now }
@@ -126,8 +125,8 @@ pub trait Readings: IsNode {
         self,
         doc: &CstRootNode<A>,
     ) -> Result<Vec<CstComment, A>, EditError>
-        requires { Holds doc.now (node_of self) }
-        ensures comments { IfOk result (λ v. v.items ≡ trailing_comments_of doc.now (node_of self)) }
+        requires { Holds doc.now (Self.node_of self) }
+        ensures comments { IfOk result (λ v. v.items ≡ trailing_comments_of doc.now (Self.node_of self)) }
         ensures held { IfOk result (λ v. All (λ c. Holds doc.now (comment_node c)) v.items) }
         ensures memory { IfErr result (λ e. e ≡ EditError.OutOfMemory) }
         ensures tree { NodesAreTree doc.now }
@@ -153,8 +152,8 @@ pub trait Readings: IsNode {
         self,
         doc: &CstRootNode<A>,
     ) -> Result<Option<CstInputValue<A>>, EditError>
-        requires { Holds doc.now (node_of self) }
-        ensures value { IfOk result (IsValueTaken doc.now (node_of self)) }
+        requires { Holds doc.now (Self.node_of self) }
+        ensures value { IfOk result (IsValueTaken doc.now (Self.node_of self)) }
         ensures memory { IfErr result (λ e. e ≡ EditError.OutOfMemory) }
     {
         let number = self.node().number();
