@@ -60,6 +60,8 @@ pub enum EditError {
 impl fmt::Display for EditError {
     ghost output = { λ e. Some (edit_error_text e) };
 
+    ghost styled_output = { λ e _. Some (edit_error_text e) };
+
     fn fmt<W: fmt::Write>(&self, f: &mut fmt::Formatter<W>) -> fmt::Result {
         match self {
             EditError::OutOfMemory => f.write_str("Out of memory"),
@@ -117,6 +119,8 @@ impl<A: Allocator + Copy> CstRootNode<A> {
 /// Writes the document as its text.
 impl<A: Allocator> fmt::Display for CstRootNode<A> {
     ghost output = { λ d. Some (printed_of d) };
+
+    ghost styled_output = { λ d _. Some (printed_of d) };
 
     fn fmt<W: fmt::Write>(&self, f: &mut fmt::Formatter<W>) -> fmt::Result {
         self.tree.fmt(f)
