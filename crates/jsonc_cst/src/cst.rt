@@ -104,6 +104,8 @@ impl<A: Allocator + Copy> CstRootNode<A> {
 impl<A: Allocator> fmt::Display for CstRootNode<A> {
     ghost output = { λ d. Some (printed_of d) };
 
+    ghost styled_output = { λ d _. Some (printed_of d) };
+
     fn fmt<W: fmt::Write>(&self, f: &mut fmt::Formatter<W>) -> fmt::Result {
         self.tree.fmt(f)
     }

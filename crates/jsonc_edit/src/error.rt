@@ -24,6 +24,8 @@ pub enum EditError {
 impl fmt::Display for EditError {
     ghost output = { λ e. Some (edit_error_text e) };
 
+    ghost styled_output = { λ e _. Some (edit_error_text e) };
+
     fn fmt<W: fmt::Write>(&self, f: &mut fmt::Formatter<W>) -> fmt::Result {
         match self {
             EditError::OutOfMemory => f.write_str("Out of memory"),
