@@ -22,3 +22,4 @@ pub mod Unique
 pub mod Order
 pub mod Documents
 pub mod Rows
+pub mod ReadsToEnd
