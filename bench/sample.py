@@ -110,6 +110,21 @@ def edits_shown(case, answer):
     yield 'edits', len(edits), answer[1].split(' ')[0:3:2]
 
 
+def readings_shown(answer):
+    """What a document tells of itself and, of each kind of node, which readings it answers."""
+    if answer[1].startswith('fault'):
+        return
+    line_end, indent, value = answer[2].split(' ')
+    yield 'line end', line_end, 'indent', indent[:4], 'value', value == 'value=-'
+    yield 'value', [word[:1] for word in answer[3].split(' ')][:3]
+    for node in answer[4:]:
+        kind, *readings = node.split(' ')
+        yield 'node', kind, 'depth', readings[0]
+        for reading in readings[2:]:
+            name, told = reading.split('=', 1)
+            yield 'node', kind, name, told[:1] in '-0', name in ('lc', 'tr') and ',' in told
+
+
 def shown(case, answer):
     """What a case and its answer show; of look-ups in syntax trees, which are few, each shows itself."""
     kind, fields = case[1], case[2:]
@@ -118,6 +133,9 @@ def shown(case, answer):
         return
     if kind == 'jsonc':
         yield kind, fields[0], answer[1:4]
+        return
+    if kind == 'read':
+        yield from readings_shown(answer)
         return
     fault = answer[1].split(' ')[1] if answer[1].startswith('fault') else None
     yield from escapes_shown(case, fault)

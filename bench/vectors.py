@@ -30,6 +30,8 @@ def is_not_yet(case):
         return is_program_to_come(fields[0])
     if kind == 'edit':
         return any(edit[0] not in EDITS for edit in edits_of(case))
+    if kind == 'read':
+        return bool(edits_of(case))
     return kind not in ('scan', 'ast', 'value', 'equal', 'jobj', 'aobj', 'decode', 'print')
 
 

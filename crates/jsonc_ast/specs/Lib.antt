@@ -4,3 +4,4 @@ pub mod Access
 pub mod Node
 pub mod Comment
 pub mod Copies
+pub mod Spelled

@@ -1,7 +1,8 @@
 //! Values, and where they stand in their text.
-ghost use Rattle.std.specs.Prelude.{◌≡◌, OnOk};
+ghost use Rattle.std.specs.Prelude.{◌≡◌, ◌++◌, ◌∷◌, [], OnOk};
 ghost use Rattle.jsonc_ast.specs.Located.{array_at, object_at, range_at};
 ghost use Rattle.jsonc_ast.specs.Views.{located, object_located, items_located, member_of, members_located, name_at, Grown};
+ghost use Rattle.jsonc_ast.specs.Spelled.{spelled, spelled_in_property, spelled_in_elements, spelled_in_properties};
 
 mod access;
 mod comment;
@@ -102,7 +103,8 @@ pub struct Array<'a, A: Allocator> {
 
 /// An array of these elements.
 pub fn array_of<'a, A: Allocator>(range: Range, elements: Vec<Value<'a, A>, A>) -> Value<'a, A>
-    ensures { located result ≡ array_at range (items_located elements.entry.items) }
+    ensures located { located result ≡ array_at range (items_located elements.entry.items) }
+    ensures spelled { spelled result ≡ spelled_in_elements elements.entry.items }
 {
     Value::Array(Array { range, elements })
 }
@@ -112,7 +114,8 @@ pub fn object_of<'a, A: Allocator>(
     range: Range,
     properties: Vec<ObjectProp<'a, A>, A>,
 ) -> Value<'a, A>
-    ensures { located result ≡ object_at range (members_located properties.entry.items) }
+    ensures located { located result ≡ object_at range (members_located properties.entry.items) }
+    ensures spelled { spelled result ≡ spelled_in_properties properties.entry.items }
 {
     Value::Object(Object { range, properties })
 }
@@ -123,7 +126,8 @@ pub fn property_of<'a, A: Allocator>(
     name: ObjectPropName<'a, A>,
     value: Value<'a, A>,
 ) -> ObjectProp<'a, A>
-    ensures { member_of result ≡ record { range = range; name = name_at name.entry; value = located value.entry } }
+    ensures located { member_of result ≡ record { range = range; name = name_at name.entry; value = located value.entry } }
+    ensures spelled { spelled_in_property result ≡ name.entry ∷ spelled value.entry }
 {
     ObjectProp { range, name, value }
 }
@@ -133,7 +137,8 @@ pub fn push_value<'a, A: Allocator>(
     elements: &mut Vec<Value<'a, A>, A>,
     value: Value<'a, A>,
 ) -> Result<(), AllocError>
-    ensures { OnOk result (Grown located elements.old.items elements.new.items value.entry) }
+    ensures located { OnOk result (Grown located elements.old.items elements.new.items value.entry) }
+    ensures pushed { OnOk result (elements.new.items ≡ elements.old.items ++ value.entry ∷ []) }
 {
     elements.push(value)?;
     Ok(())
@@ -144,7 +149,8 @@ pub fn push_property<'a, A: Allocator>(
     properties: &mut Vec<ObjectProp<'a, A>, A>,
     property: ObjectProp<'a, A>,
 ) -> Result<(), AllocError>
-    ensures { OnOk result (Grown member_of properties.old.items properties.new.items property.entry) }
+    ensures located { OnOk result (Grown member_of properties.old.items properties.new.items property.entry) }
+    ensures pushed { OnOk result (properties.new.items ≡ properties.old.items ++ property.entry ∷ []) }
 {
     properties.push(property)?;
     Ok(())

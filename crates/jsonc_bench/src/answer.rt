@@ -1,14 +1,15 @@
 //! What is answered to a question, and what not yet.
 
-use crate::case::Question;
 use crate::decoded::decoded;
 use crate::edited::edited;
 use crate::lookup::looked_up;
 use crate::member::looked_up_in_tree;
 use crate::program::{outcome, printed};
+use crate::reading::readings;
 use crate::scanned::tokens;
 use crate::syntax::syntax;
 use crate::value::{equal, value};
+use jsonc_cases::case::Question;
 use std::alloc::{AllocError, Global};
 
 /// The answer without its name, or none where it depends on something that is not built.
@@ -39,6 +40,7 @@ pub fn answer(alloc: Global, question: &Question) -> Result<Option<String>, Allo
             text,
             edits,
         } => Ok(Some(edited(alloc, text.as_str(), options, edits.as_slice())?)),
+        Question::Read { options, text } => Ok(Some(readings(alloc, text.as_str(), options)?)),
         Question::Decode { text } => Ok(Some(decoded(alloc, text.as_str())?)),
         Question::Ast {
             options,

@@ -1,7 +1,7 @@
 //! A string by itself.
 
-use crate::escape::Escaped;
 use crate::show::push_string_kind;
+use jsonc_cases::escape::Escaped;
 use jsonc_string::provider::parse_string;
 use std::alloc::{AllocError, Global};
 use std::borrow::CowStr;

@@ -1,6 +1,6 @@
 //! Whether the document of a text prints as the text was written.
-use crate::escape::Escaped;
 use crate::show::push_fault;
+use jsonc_cases::escape::Escaped;
 use jsonc_parser::ParseOptions;
 use jsonc_parser::cst::CstRootNode;
 use std::alloc::{AllocError, Global};

@@ -1,10 +1,11 @@
 //! What edits make of a document.
-use crate::escape::Escaped;
 use crate::show::push_fault;
 use jsonc_build::build;
+use jsonc_cases::escape::Escaped;
+use jsonc_parser::cst::EditError;
 use jsonc_parser::errors::ParseError;
 use jsonc_parser::{CollectOptions, ParseOptions, parse_to_ast};
-use jsonc_run::{Edit, Stop, run};
+use jsonc_run::{Edit, run};
 use jsonc_tree::Tree;
 use std::alloc::{AllocError, Global};
 
@@ -25,15 +26,20 @@ pub fn edited(
     };
     match run(alloc, &mut tree, edits) {
         Ok(()) => out.push_str("ok")?,
-        Err((made, Stop::NoSuchPlace)) => write!(out, "stop {made} NoSuchPlace")?,
-        Err((_, Stop::OutOfMemory)) => return Err(AllocError),
+        Err((made, EditError::NoSuchPlace)) => write!(out, "stop {made} NoSuchPlace")?,
+        Err(_) => return Err(AllocError),
     }
     let printed = tree.to_string(alloc)?;
     write!(out, "\t{}", Escaped::field(printed.as_bytes()))?;
     Ok(out)
 }
 
-fn tree_of(alloc: Global, text: &str, options: &ParseOptions) -> Result<Tree<Global>, ParseError> {
+/// The tree of a text, or the text's fault.
+pub fn tree_of(
+    alloc: Global,
+    text: &str,
+    options: &ParseOptions,
+) -> Result<Tree<Global>, ParseError> {
     let parsed = parse_to_ast(alloc, text, &CollectOptions::default(), options)?;
     match build(alloc, text, parsed.value.as_ref()) {
         Ok(tree) => Ok(tree),

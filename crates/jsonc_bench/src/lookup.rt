@@ -1,75 +1,9 @@
 //! Look-ups by name in the object of a text, as `JsonObject` answers them.
 
-use crate::error::CaseError;
-use crate::escape::unescaped_text;
 use crate::value::push_value;
+use jsonc_cases::lookups::{Kind, Lookup};
 use jsonc_parser::{JsonObject, JsonValue, ParseOptions, parse_to_value};
 use std::alloc::{AllocError, Global};
-
-/// The value that is wanted.
-#[derive(Clone, Copy, Drop)]
-pub enum Kind {
-    Any,
-    String,
-    Number,
-    Boolean,
-    Object,
-    Array,
-}
-
-/// A look-up of a name.
-#[derive(Drop)]
-pub struct Lookup {
-    pub name: String,
-    pub kind: Kind,
-    /// Whether the name is taken out of the object.
-    pub takes: bool,
-}
-
-/// The look-ups that a field lists, as `get_string 'a ; take 'b`.
-pub fn read_lookups(alloc: Global, field: &str) -> Result<Vec<Lookup>, CaseError> {
-    let mut lookups = Vec::new(alloc);
-    for lookup in field.split(" ; ") {
-        lookups.push(read_lookup(alloc, lookup)?)?;
-    }
-    Ok(lookups)
-}
-
-fn read_lookup(alloc: Global, lookup: &str) -> Result<Lookup, CaseError> {
-    let Some((call, name)) = lookup.split_once(" '") else {
-        return Err(CaseError::Lookup);
-    };
-    let name = unescaped_text(alloc, name)?;
-    if let Some(kind) = call.strip_prefix("take") {
-        let kind = read_kind(kind)?;
-        return Ok(Lookup {
-            name,
-            kind,
-            takes: true,
-        });
-    }
-    let Some(kind) = call.strip_prefix("get") else {
-        return Err(CaseError::Lookup);
-    };
-    let kind = read_kind(kind)?;
-    Ok(Lookup {
-        name,
-        kind,
-        takes: false,
-    })
-}
-
-fn read_kind(suffix: &str) -> Result<Kind, CaseError> {
-    match suffix {
-        "" => Ok(Kind::Any),
-        "_string" => Ok(Kind::String),
-        "_number" => Ok(Kind::Number),
-        "_boolean" => Ok(Kind::Boolean),
-        "_object" => Ok(Kind::Object),
-        "_array" => Ok(Kind::Array),
-        _ => Err(CaseError::Lookup),
-    }
-}
 
 /// What is left of the object of a text, and the answer to each look-up.
 pub fn looked_up(

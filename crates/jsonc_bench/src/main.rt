@@ -4,24 +4,22 @@
 #![tactic(auto)]
 
 mod answer;
-mod case;
 mod comments;
 mod decoded;
 mod document;
-mod edit;
 mod edited;
-mod error;
-mod escape;
+mod input;
 mod lookup;
 mod member;
 mod program;
+mod reading;
 mod scanned;
 mod show;
 mod syntax;
 mod value;
 
-use case::Case;
-use error::CaseError;
+use jsonc_cases::case::Case;
+use jsonc_cases::error::CaseError;
 use std::alloc::{AllocError, Global};
 use std::io;
 use std::io::{BufWriter, Read, Write};

@@ -1,7 +1,7 @@
 //! Look-ups by name in the object of a text, as its syntax tree answers them.
 
-use crate::lookup::{Kind, Lookup};
 use crate::syntax::{push_object, push_value};
+use jsonc_cases::lookups::{Kind, Lookup};
 use jsonc_parser::ast::{Object, Value};
 use jsonc_parser::{
     CollectOptions, CommentCollectionStrategy, ParseOptions, ParseResult, parse_to_ast,

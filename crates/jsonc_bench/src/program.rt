@@ -1,6 +1,6 @@
 //! A run of the program.
 
-use crate::escape::Escaped;
+use jsonc_cases::escape::Escaped;
 use jsonc_engine::calls::{FromReader, ToWriter};
 use jsonc_engine::command::Command;
 use jsonc_engine::engine::{engine, run_with};

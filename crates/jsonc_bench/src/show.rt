@@ -1,6 +1,6 @@
 //! How faults and tokens are shown.
 
-use crate::escape::Escaped;
+use jsonc_cases::escape::Escaped;
 use jsonc_parser::ParseStringErrorKind;
 use jsonc_parser::errors::{ParseError, ParseErrorKind};
 use jsonc_parser::tokens::Token;

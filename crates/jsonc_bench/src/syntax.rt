@@ -1,8 +1,8 @@
 //! The syntax tree of a text.
 use crate::comments::push_comments;
 use crate::document::push_reprint;
-use crate::escape::Escaped;
 use crate::show::{push_fault, push_token};
+use jsonc_cases::escape::Escaped;
 use jsonc_parser::ast::{Array, Object, ObjectProp, ObjectPropName, Value};
 use jsonc_parser::common::{Range, Ranged};
 use jsonc_parser::tokens::TokenAndRange;

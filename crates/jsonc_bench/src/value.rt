@@ -1,7 +1,7 @@
 //! The value of a text.
 
-use crate::escape::Escaped;
 use crate::show::push_fault;
+use jsonc_cases::escape::Escaped;
 use jsonc_parser::{JsonArray, JsonObject, JsonValue, ParseOptions, parse_to_value};
 use std::alloc::{AllocError, Global};
 use std::borrow::CowStr;

@@ -1,3 +1,5 @@
 pub mod Lent
 pub mod Family
 pub mod Readings
+pub mod Colons
+pub mod Tree

@@ -4,7 +4,7 @@
 //! node of one kind as [`CstObject`]: a number that says what it is the number of, and can be copied.
 //! It is asked together with its document, and [`CstRootNode::holds`] tells whether that has it; all
 //! nodes that a call answers are nodes of the document that was asked.
-ghost use Rattle.std.specs.Prelude.{◌≡◌, IfErr, IfOk, Option, Some, true, chars, string_bytes};
+ghost use Rattle.std.specs.Prelude.{◌≡◌, IfErr, IfOk, OnOk, Option, Some, true, chars, string_bytes};
 ghost use Rattle.jsonc_text.specs.Faults.{IsFault};
 ghost use Rattle.jsonc_text.specs.Grammar.{IsDocument};
 ghost use Rattle.jsonc_text.specs.OptionsOf.{parse_options};
@@ -14,26 +14,34 @@ ghost use Rattle.jsonc_to_ast.specs.Refusals.{RefusesText};
 ghost use Rattle.jsonc_to_ast.specs.Told.{IsTold};
 ghost use Rattle.jsonc_build.specs.Lines.{DocumentLinesEnd};
 ghost use Rattle.jsonc_build.specs.Shape.{DocumentShaped};
-ghost use Rattle.jsonc_cst.specs.Document.{edit_error_text, printed_of, tree_of};
+ghost use Rattle.jsonc_cst.specs.Document.{printed_of, tree_of, HasNoDeeperValue, LiesIn};
+ghost use Rattle.jsonc_cst.specs.Tree.{NodesAreTree};
 
 mod access;
 mod elements;
+pub mod input;
 mod into;
+mod layout;
 mod leaf;
 mod names;
+mod navigation;
 mod node;
 mod root;
 mod siblings;
 mod values;
 
 pub use access::AncestorIterator;
+pub use input::CstInputValue;
 use jsonc_build::build;
+pub use jsonc_edit::{EditError, TrailingCommaMode};
 use jsonc_text::errors::ParseError;
 use jsonc_text::options::ParseOptions;
 use jsonc_to_ast::collect::CollectOptions;
 use jsonc_to_ast::parse_to_ast;
 use jsonc_tree::Tree;
 pub use jsonc_tree::{CstNewlineKind, Shown};
+pub use layout::Readings;
+pub use navigation::{HasChildren, IsNode};
 pub use node::{
     CstArray, CstBooleanLit, CstComment, CstContainerNode, CstLeafNode, CstNewline, CstNode,
     CstNullKeyword, CstNumberLit, CstObject, CstObjectProp, CstRoot, CstStringLit, CstToken,
@@ -41,36 +49,7 @@ pub use node::{
 };
 pub use siblings::{NextSiblingIterator, PreviousSiblingIterator};
 use std::alloc::Allocator;
-use std::error::Error;
 use std::fmt;
-
-/// Why a document was not changed.
-#[derive(Clone, Copy, Debug, PartialEq, Eq, Drop)]
-pub enum EditError {
-    /// There was not enough memory.
-    OutOfMemory,
-    /// A container has lost a bracket.
-    MissingBrackets,
-    /// A property has lost its name.
-    MissingName,
-    /// There is no such place.
-    NoSuchPlace,
-}
-
-impl fmt::Display for EditError {
-    ghost output = { λ e. Some (edit_error_text e) };
-
-    fn fmt<W: fmt::Write>(&self, f: &mut fmt::Formatter<W>) -> fmt::Result {
-        match self {
-            EditError::OutOfMemory => f.write_str("Out of memory"),
-            EditError::MissingBrackets => f.write_str("Missing brackets"),
-            EditError::MissingName => f.write_str("Missing name"),
-            EditError::NoSuchPlace => f.write_str("No such place"),
-        }
-    }
-}
-
-impl Error for EditError {}
 
 /// A document: a text that keeps its every byte, comments, blanks and commas too.
 #[derive(Drop)]
@@ -84,13 +63,17 @@ impl<A: Allocator + Copy> CstRootNode<A> {
     ///
     /// The document prints as the text was written. Its nodes follow one another as the grammar says:
     /// strings, numbers, words, commas, colons, brackets, comments, line ends and runs of blanks are
-    /// leaves of their own. The error says what is wrong with the text, in which of its bytes, and in
+    /// leaves of their own, a CR LF one, a run of blanks whole. A value that more than 512 containers and
+    /// properties are around is refused. The error says what is wrong with the text, in which of its bytes, and in
     /// which line and column; want of memory is an error too.
     pub fn parse(alloc: A, text: &str, options: &ParseOptions) -> Result<CstRootNode<A>, ParseError>
         ensures printed { IfOk result (λ d. printed_of d ≡ text.now) }
         ensures shaped { IfOk result (λ d. DocumentShaped (parse_options options.now) (tree_of d)) }
         ensures lines { IfOk result (λ d. DocumentLinesEnd (tree_of d)) }
+        ensures laid { IfOk result (λ d. LiesIn (parse_options options.now) text.now (tree_of d)) }
+        ensures within { OnOk result (HasNoDeeperValue (parse_options options.now) text.now) }
         ensures value { IfOk result (λ d. (w : Option Plain) × IsDocument (parse_options options.now) (chars text.now) w × DocumentValueOf (parse_options options.now) (tree_of d) w) }
+        ensures tree { IfOk result NodesAreTree }
         ensures refused { IfErr result (RefusesText (parse_options options.now) text.now) }
         ensures fault { IfErr result (IsFault text.now) }
         ensures told { IfErr result (IsTold (parse_options options.now) text.now true) }
@@ -100,12 +83,15 @@ impl<A: Allocator + Copy> CstRootNode<A> {
         let Ok(tree) = build(alloc, text, parsed.value.as_ref()) else {
             return Err(ParseError::out_of_memory());
         };
-        Ok(CstRootNode { tree, alloc })
+        let document = CstRootNode { tree, alloc };
+        document.nodes_are_tree();
+        Ok(document)
     }
 
     /// The document's text.
     pub fn text(&self) -> Result<String<A>, EditError>
-        ensures { IfOk result (λ s. string_bytes s ≡ printed_of self.now) }
+        ensures printed { IfOk result (λ s. string_bytes s ≡ printed_of self.now) }
+        ensures memory { IfErr result (λ e. e ≡ EditError.OutOfMemory) }
     {
         let Ok(text) = self.tree.to_string(self.alloc) else {
             return Err(EditError::OutOfMemory);

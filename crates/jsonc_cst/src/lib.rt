@@ -5,3 +5,4 @@
 #![tactic(auto)]
 
 pub mod cst;
+pub mod laws;

@@ -20,9 +20,9 @@ use Rattle.jsonc_build.specs.Leaves.{is_inner_blank}
 use Rattle.jsonc_build.specs.Shape.{IsTrivia, IsLiteralBefore, IsNameBefore, ValueShaped, DocumentShaped}
 use Rattle.jsonc_nodes.specs.Kinds.{is_element_at, is_whitespace, is_whitespace_at}
 use Rattle.jsonc_nodes.specs.Properties.{element_from}
-use Rattle.jsonc_nodes.specs.Siblings.{is_no_newline_at, row_of, siblings_before, line_before}
+use Rattle.jsonc_nodes.specs.Siblings.{is_no_newline_at, row_of, root_above, siblings_before, line_before}
 use Rattle.jsonc_lines.specs.Lines.{begins_line, first_blank_at, blanks, blanks_at, indent_at}
-use Rattle.jsonc_lines.specs.Indents.{IndentTexts, is_property, is_property_at, beyond_properties, above_properties, levels_among, levels_above, more_of, held_after, repeated, levels_in, told_by, told_at, is_in_document, first_indent, first_indent_in, document_indent, only_indent, single_at, indents_at}
+use Rattle.jsonc_lines.specs.Indents.{IndentTexts, is_property, is_property_at, beyond_properties, above_properties, levels_among, levels_above, more_of, held_after, repeated, levels_in, told_by, told_at, first_indent, first_indent_in, document_indent, only_indent, single_at, indents_at}
 use Rattle.jsonc_edit.specs.Changes.{row_below}
 use Rattle.jsonc_edit.specs.Writing.{IsIndent}
 use Rattle.jsonc_edit.proofs.FittingFinds.{found_one}
@@ -216,7 +216,7 @@ module _ (ns : List Node) (tree : IsTree ns) where
     document_indent_fits : (n : ℕ) → MayIndent (document_indent ns n)
     document_indent_fits n =
         let value : IfSome (element_from ns 0 0) (IsOver ns 0) = found_over (element_from ns 0 0) (λ m e. (found_one (is_element_at ns) (IsOver ns 0) (children_at ns 0) m (children_over ns tree 0 IsOver.itself) e).0) in
-        cond_both (is_in_document ns n) (option_and_then (first_indent_in ns) (element_from ns 0 0)) None MayIndent (λ e. inside_indent (element_from ns 0 0) value) (λ e. tt)
+        cond_both (is_some (root_above ns n)) (option_and_then (first_indent_in ns) (element_from ns 0 0)) None MayIndent (λ e. inside_indent (element_from ns 0 0) value) (λ e. tt)
 
     only_indent_fits : (n : ℕ) → IsOver ns 0 n → MayIndent (only_indent ns n)
     only_indent_fits n over = cond_both (length (levels_above ns n) == 1) (indent_at ns n) None MayIndent (λ e. line_indent n over) (λ e. tt)

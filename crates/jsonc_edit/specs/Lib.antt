@@ -8,3 +8,4 @@ pub mod Laws
 pub mod Worked
 pub mod WorkedValue
 pub mod Comments
+pub mod Errors

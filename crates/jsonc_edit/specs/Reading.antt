@@ -3,7 +3,7 @@ use Rattle.std.specs.Prelude.{◌≡◌, ℕ, List, Some, if◌then◌else◌}
 use Rattle.jsonc_text.specs.Plain.{Plain}
 use Rattle.jsonc_tree.specs.Tree.{Node, content_at, parent_at}
 use Rattle.jsonc_lines.specs.Indents.{is_property, indents_at}
-use Rattle.jsonc_lines.specs.Breadth.{newline_kind_of, uses_trailing_commas_at}
+use Rattle.jsonc_lines.specs.Breadth.{newline_kind_at, uses_trailing_commas_at}
 use Rattle.jsonc_from_input.specs.Layout.{Layout}
 use Rattle.jsonc_edit.specs.Replacing.{laid_top, GivesWay}
 
@@ -11,10 +11,10 @@ use Rattle.jsonc_edit.specs.Replacing.{laid_top, GivesWay}
 abbrev pub commas_told_by : List Node → ℕ → ℕ → ℕ
 commas_told_by ns c n = if is_property (content_at ns c) then n else c
 
--- the layout for what replaces the child n of c: the indents at c, and the document's lines' ends
+-- the layout for what replaces the child n of c: the indents and the lines' ends at c
 abbrev pub layout_for : List Node → ℕ → ℕ → Layout
 layout_for ns c n =
-    record { current = (indents_at ns c).current; single = (indents_at ns c).single; trailing_commas = uses_trailing_commas_at ns (commas_told_by ns c n); newline = newline_kind_of ns }
+    record { current = (indents_at ns c).current; single = (indents_at ns c).single; trailing_commas = uses_trailing_commas_at ns (commas_told_by ns c n); newline = newline_kind_at ns c }
 
 -- the child n has given way to m, which is the value, laid out as the old nodes tell
 abbrev pub IsReplaced : List Node → List Node → ℕ → Plain → ℕ → Type 0

@@ -13,14 +13,19 @@
 //! is the old one with the new value at the path (`specs/Written.antt`).
 //! [`remove_comment`] takes a comment out, a line comment with what stands before it on its line
 //! (`specs/Comments.antt`), and asks for no memory.
+//! [`EditError`] says why a document was not changed.
 #![tactic(auto)]
 
 mod comments;
+mod error;
 pub mod laws;
+mod modes;
 mod paths;
 mod reading;
 mod replacing;
 
 pub use comments::remove_comment;
+pub use error::EditError;
+pub use modes::TrailingCommaMode;
 pub use paths::find;
 pub use replacing::{replace, replace_with};

@@ -5,7 +5,7 @@ ghost use Rattle.jsonc_from_input.specs.Layout.{layout_of};
 ghost use Rattle.jsonc_edit.specs.Reading.{commas_told_by, layout_for};
 
 use jsonc_from_input::Layout;
-use jsonc_lines::{indents_at, newline_kind, uses_trailing_commas};
+use jsonc_lines::{indents_at, newline_kind_at, uses_trailing_commas};
 use jsonc_tree::{Kind, Tree};
 use std::alloc::{AllocError, Allocator};
 
@@ -34,7 +34,7 @@ pub(crate) fn layout_for<A: Allocator + Copy>(
     let indents = indents_at(alloc, tree, container)?;
     let teller = commas_told_by(tree, container, node);
     let trailing_commas = uses_trailing_commas(alloc, tree, teller)?;
-    let newline = newline_kind(alloc, tree)?;
+    let newline = newline_kind_at(alloc, tree, container)?;
     Ok(Layout {
         current: indents.current,
         single: indents.single,

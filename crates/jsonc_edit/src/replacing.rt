@@ -1,6 +1,6 @@
 //! Nodes that give way to new ones.
 
-ghost use Rattle.std.specs.Prelude.{◌≡◌, ◌∷◌, ◌+◌, ◌<◌, IfNone, IfOk, IfSome, List, None, OnErr, Some, [], length};
+ghost use Rattle.std.specs.Prelude.{◌≡◌, ◌∷◌, ◌+◌, ◌<◌, IfErr, IfNone, IfOk, IfSome, List, None, OnErr, Some, [], length};
 ghost use Rattle.jsonc_text.specs.Options.{Options};
 ghost use Rattle.jsonc_tree.specs.Building.{Keeps};
 ghost use Rattle.jsonc_tree.specs.Changes.{CanJoin, Splices};
@@ -12,11 +12,12 @@ ghost use Rattle.jsonc_edit.specs.Reading.{IsReplaced};
 ghost use Rattle.jsonc_edit.specs.Replacing.{laid_top, GivesWay};
 ghost use Rattle.jsonc_edit.specs.Written.{Writes};
 
+use crate::error::EditError;
 use crate::reading::layout_for;
 use jsonc_from_input::{Layout, lay_out};
 use jsonc_input::CstInputValue;
 use jsonc_tree::Tree;
-use std::alloc::{AllocError, Allocator};
+use std::alloc::Allocator;
 
 // Puts a node that is nobody's child in the place of a child.
 fn put_in_place<A: Allocator>(tree: &mut Tree<A>, container: usize, node: usize, new: usize)
@@ -42,11 +43,12 @@ pub fn replace_with<A: Allocator + Copy>(
     node: usize,
     value: &CstInputValue<A>,
     layout: &Layout<A>,
-) -> Result<Option<usize>, AllocError>
+) -> Result<Option<usize>, EditError>
     requires { node < length tree.old.nodes }
     ensures replaced { IfOk result (λ o. IfSome o (λ m. GivesWay tree.old.nodes tree.new.nodes node m (laid_top (layout_of layout.now) (plain value.now)))) }
     ensures none { IfOk result (λ o. IfNone o (parent_at tree.old.nodes node ≡ None)) }
     ensures untouched { IfOk result (λ o. IfNone o (tree.new.nodes ≡ tree.old.nodes)) }
+    ensures memory { IfErr result (λ e. e ≡ EditError.OutOfMemory) }
     ensures kept { OnErr result (Keeps (length tree.old.nodes) tree.old.nodes tree.new.nodes) }
     ensures document { OnErr result (ordered_tree tree.new.nodes 0 ≡ ordered_tree tree.old.nodes 0) }
     ensures tree { IsTree tree.new.nodes }
@@ -74,12 +76,13 @@ pub fn replace<A: Allocator + Copy>(
     tree: &mut Tree<A>,
     node: usize,
     value: &CstInputValue<A>,
-) -> Result<Option<usize>, AllocError>
+) -> Result<Option<usize>, EditError>
     requires { node < length tree.old.nodes }
     ensures replaced { IfOk result (λ o. IfSome o (IsReplaced tree.old.nodes tree.new.nodes node (plain value.now))) }
     ensures written { (p : Options) → IfOk result (λ o. IfSome o (λ m. Writes p tree.old.nodes tree.new.nodes node m (plain value.now))) }
     ensures none { IfOk result (λ o. IfNone o (parent_at tree.old.nodes node ≡ None)) }
     ensures untouched { IfOk result (λ o. IfNone o (tree.new.nodes ≡ tree.old.nodes)) }
+    ensures memory { IfErr result (λ e. e ≡ EditError.OutOfMemory) }
     ensures kept { OnErr result (Keeps (length tree.old.nodes) tree.old.nodes tree.new.nodes) }
     ensures document { OnErr result (ordered_tree tree.new.nodes 0 ≡ ordered_tree tree.old.nodes 0) }
     ensures tree { IsTree tree.new.nodes }

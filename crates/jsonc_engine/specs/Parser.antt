@@ -1,7 +1,5 @@
 -- The words of the parser's contracts that the contracts of this crate use.
-pub use Rattle.jsonc_cst.specs.Document.{RefusesText, edit_error_text, printed_of}
-pub use Rattle.jsonc_cst.specs.declared.cst.EditError.{EditError}
-pub use Rattle.jsonc_cst.specs.declared.cst.EditError.TheVariants.{OutOfMemory}
+pub use Rattle.jsonc_cst.specs.Document.{RefusesText, EditError, OutOfMemory, edit_error_text, printed_of}
 pub use Rattle.jsonc_text.specs.Faults.{IsFault}
 pub use Rattle.jsonc_text.specs.Grammar.{IsDocument}
 pub use Rattle.jsonc_text.specs.Messages.{error_text}

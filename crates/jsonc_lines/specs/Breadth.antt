@@ -1,11 +1,12 @@
 -- The nodes below a node, level after level.
-use Rattle.std.specs.Prelude.{ℕ, zero, suc, Bool, false, ◌&&◌, List, [], ◌∷◌, ◌++◌, length, reverse, Option, Some, None, is_some, option_and_then}
+use Rattle.std.specs.Prelude.{ℕ, zero, suc, Bool, false, ◌&&◌, List, [], ◌∷◌, ◌++◌, length, reverse, ◌==◌, ◌||◌, Option, Some, None, is_some, option_and_then, if◌then◌else◌}
 use Rattle.std.specs.List.{find, flat_map, list_any}
 use Rattle.jsonc_tree.specs.Content.{Content, newline}
 use Rattle.jsonc_tree.specs.Tree.{Node, content_at, children_at}
 use Rattle.jsonc_tree.specs.declared.node.CstNewlineKind.{CstNewlineKind}
 use Rattle.jsonc_tree.specs.declared.node.CstNewlineKind.TheVariants.{LineFeed}
 use Rattle.jsonc_nodes.specs.Kinds.{is_element_at, is_newline_at, is_whitespace_at}
+use Rattle.jsonc_nodes.specs.Siblings.{root_above}
 use Rattle.jsonc_lines.specs.Kinds.{holds_values}
 use Rattle.jsonc_lines.specs.Siblings.{trailing_comma_at}
 use Rattle.jsonc_lines.specs.declared.breadth.Sought.{Sought}
@@ -57,6 +58,14 @@ line_end_at ns (Some n) = line_end_of (content_at ns n)
 -- the document's: that of the first line's end, breadth first, or LF
 abbrev pub newline_kind_of : List Node → CstNewlineKind
 newline_kind_of ns = line_end_at ns (first_sought ns LineEnd 0)
+
+-- the node is the root, or below it
+abbrev pub is_in_document : List Node → ℕ → Bool
+is_in_document ns n = n == 0 || is_some (root_above ns n)
+
+-- how lines end that are put in beside a node: as the document's do, and by LF in what stands apart from it
+abbrev pub newline_kind_at : List Node → ℕ → CstNewlineKind
+newline_kind_at ns n = if is_in_document ns n then newline_kind_of ns else LineFeed
 
 -- a comma stands after the last element of the container
 abbrev pub ends_with_comma : List Node → Option ℕ → Bool

@@ -1,5 +1,5 @@
 -- The indents for what is put in beside a node.
-use Rattle.std.specs.Prelude.{ℕ, zero, suc, ◌+◌, ◌==◌, ◌||◌, Bool, true, false, List, [], ◌∷◌, ◌++◌, map, length, drop, Option, Some, None, unwrap_or, option_and_then, option_map, is_some, nat_eq, if◌then◌else◌}
+use Rattle.std.specs.Prelude.{ℕ, zero, suc, ◌+◌, ◌==◌, Bool, true, false, List, [], ◌∷◌, ◌++◌, map, length, drop, Option, Some, None, unwrap_or, option_and_then, option_map, is_some, nat_eq, if◌then◌else◌}
 use Rattle.std.specs.Option.{option_or}
 use Rattle.std.specs.List.{starts_with}
 use Rattle.jsonc_tree.specs.Content.{Content, property}
@@ -74,10 +74,6 @@ told_by passed held (outer ∷ rest) =
 abbrev pub told_at : List Node → ℕ → List ℕ → Option IndentTexts
 told_at ns n above = told_by 0 (indent_at ns n) (map (indent_at ns) above)
 
--- the node is the root, or below it
-abbrev pub is_in_document : List Node → ℕ → Bool
-is_in_document ns n = n == 0 || is_some (root_above ns n)
-
 -- the first indent of these nodes
 abbrev pub first_indent : List Node → List ℕ → Option (List ℕ)
 first_indent ns [] = None
@@ -87,10 +83,10 @@ first_indent ns (n ∷ rest) = option_or (indent_at ns n) (first_indent ns rest)
 abbrev pub first_indent_in : List Node → ℕ → Option (List ℕ)
 first_indent_in ns n = first_indent ns (children_at ns n)
 
--- that of the document's value, where the node is in the document
+-- that of the document's value, where the node stands below the root: what is laid out at the root itself has no root above it
 abbrev pub document_indent : List Node → ℕ → Option (List ℕ)
 document_indent ns n =
-    if is_in_document ns n then option_and_then (first_indent_in ns) (element_from ns 0 0) else None
+    if is_some (root_above ns n) then option_and_then (first_indent_in ns) (element_from ns 0 0) else None
 
 -- the node's own, where one level is above it
 abbrev pub only_indent : List Node → ℕ → Option (List ℕ)

@@ -3,12 +3,12 @@ ghost use Rattle.std.specs.Prelude.{◌≡◌, ◌<◌, ◌++◌, All, IfOk, IfS
 ghost use Rattle.std.specs.List.{find};
 ghost use Rattle.jsonc_tree.specs.Tree.{children_at};
 ghost use Rattle.jsonc_lines.specs.Breadth.{first_sought, has_whitespace, is_sought, is_spaced};
-ghost use Rattle.jsonc_lines.specs.Breadth.{last_element, level_below, newline_kind_of};
+ghost use Rattle.jsonc_lines.specs.Breadth.{is_in_document, last_element, level_below, newline_kind_at, newline_kind_of};
 ghost use Rattle.jsonc_lines.specs.Breadth.{uses_trailing_commas_at};
 
 use crate::kinds::holds_values;
 use crate::siblings::trailing_comma;
-use jsonc_nodes::{children_from, is_element, is_newline, is_whitespace};
+use jsonc_nodes::{children_from, is_element, is_newline, is_whitespace, root_node};
 use jsonc_tree::{CstNewlineKind, Kind, Tree};
 use std::alloc::{AllocError, Allocator};
 
@@ -33,15 +33,9 @@ fn last_element<A: Allocator>(tree: &Tree<A>, node: usize) -> Option<usize>
     ensures last { result ≡ last_element tree.now.nodes (children_at tree.now.nodes node) }
     ensures there { IfSome result (λ m. m < length tree.now.nodes) }
 {
-    let mut at = tree.child_count(node);
-    while at > 0 {
-        at -= 1;
-        let child = tree.child_at(node, at);
-        if is_element(tree, child) {
-            return Some(child);
-        }
-    }
-    None
+    let _ = tree.len();
+    tree.children_reversed(node)
+        .find(|child| is_element(tree, *child))
 }
 
 // Whether a node is an array or object with whitespace and an element.
@@ -92,8 +86,8 @@ fn push_children<A: Allocator>(
     requires { node < length tree.now.nodes }
     ensures { OnOk result (list.new.items ≡ list.old.items ++ children_at tree.now.nodes node) }
 {
-    for place in 0..tree.child_count(node) {
-        list.push(tree.child_at(node, place))?;
+    for child in tree.children(node) {
+        list.push(child)?;
     }
     Ok(())
 }
@@ -154,6 +148,33 @@ pub fn newline_kind<A: Allocator + Copy>(
         Kind::Newline(kind) => Ok(*kind),
         _ => Ok(CstNewlineKind::LineFeed),
     }
+}
+
+// Whether a node is the root or stands below it.
+fn is_in_document<A: Allocator>(tree: &Tree<A>, node: usize) -> bool
+    requires { node < length tree.now.nodes }
+    ensures { result ≡ is_in_document tree.now.nodes node }
+{
+    if node == 0 {
+        return true;
+    }
+    root_node(tree, node).is_some()
+}
+
+/// How lines end that are put in beside a node: as the document's do, and by LF in what stands apart
+/// from it.
+pub fn newline_kind_at<A: Allocator + Copy>(
+    alloc: A,
+    tree: &Tree<A>,
+    node: usize,
+) -> Result<CstNewlineKind, AllocError>
+    requires there { node < length tree.now.nodes }
+    ensures kind { IfOk result (λ kind. kind ≡ newline_kind_at tree.now.nodes node) }
+{
+    if !is_in_document(tree, node) {
+        return Ok(CstNewlineKind::LineFeed);
+    }
+    newline_kind(alloc, tree)
 }
 
 /// Whether commas stand after last elements: in the first array or object, level after level from a

@@ -5,13 +5,13 @@ ghost use Rattle.jsonc_tree.specs.Order.{upward};
 ghost use Rattle.jsonc_tree.specs.Stored.{content_of};
 ghost use Rattle.jsonc_tree.specs.Tree.{parent_at};
 ghost use Rattle.jsonc_lines.specs.Indents.{above_properties, document_indent, first_indent_in};
-ghost use Rattle.jsonc_lines.specs.Indents.{held_after, indents_at, is_in_document, is_property};
+ghost use Rattle.jsonc_lines.specs.Indents.{held_after, indents_at, is_property};
 ghost use Rattle.jsonc_lines.specs.Indents.{is_property_at, levels_above, levels_in, more_of};
 ghost use Rattle.jsonc_lines.specs.Indents.{repeated, single_at, told_at, without_front};
 ghost use Rattle.jsonc_lines.specs.IndentViews.{text_in, texts_of};
 
 use crate::indent::indent_text;
-use jsonc_nodes::{first_element_from, root_node};
+use jsonc_nodes::{children_from, first_element_from, root_node};
 use jsonc_tree::{Kind, Tree};
 use std::alloc::{AllocError, Allocator};
 
@@ -189,8 +189,8 @@ fn first_indent<A: Allocator + Copy>(
     requires { node < length tree.now.nodes }
     ensures { IfOk result (λ o. text_in o ≡ first_indent_in tree.now.nodes node) }
 {
-    for place in 0..tree.child_count(node) {
-        let text = indent_text(alloc, tree, tree.child_at(node, place))?;
+    for child in children_from(tree, node, 0) {
+        let text = indent_text(alloc, tree, child)?;
         if text.is_some() {
             return Ok(text);
         }
@@ -198,18 +198,7 @@ fn first_indent<A: Allocator + Copy>(
     Ok(None)
 }
 
-// Whether a node is the root or stands below it.
-fn is_in_document<A: Allocator>(tree: &Tree<A>, node: usize) -> bool
-    requires { node < length tree.now.nodes }
-    ensures { result ≡ is_in_document tree.now.nodes node }
-{
-    if node == 0 {
-        return true;
-    }
-    root_node(tree, node).is_some()
-}
-
-// The first indent among the children of the document's value, where the node is in the document.
+// The first indent among the children of the document's value, where the node stands below the root.
 fn document_indent<A: Allocator + Copy>(
     alloc: A,
     tree: &Tree<A>,
@@ -218,7 +207,7 @@ fn document_indent<A: Allocator + Copy>(
     requires { node < length tree.now.nodes }
     ensures { IfOk result (λ o. text_in o ≡ document_indent tree.now.nodes node) }
 {
-    if !is_in_document(tree, node) {
+    if root_node(tree, node).is_none() {
         return Ok(None);
     }
     let _ = tree.len();
@@ -255,7 +244,8 @@ fn single_at<A: Allocator + Copy>(
 ///
 /// The lines above the node tell, nearest first: two next to one another of which the inner one's
 /// indent begins with the outer one's. Where none do, one level adds the node's own indent if one
-/// level is above it, else the first indent in the document's value, else two spaces.
+/// level is above it, else the first indent in the document's value if the node stands below the root,
+/// else two spaces.
 pub fn indents_at<A: Allocator + Copy>(
     alloc: A,
     tree: &Tree<A>,

@@ -10,7 +10,7 @@ mod indents;
 mod kinds;
 mod siblings;
 
-pub use breadth::{newline_kind, uses_trailing_commas};
+pub use breadth::{newline_kind, newline_kind_at, uses_trailing_commas};
 pub use indent::{indent_text, single_indent_text};
 pub use indents::{Indents, indents_at};
 pub use siblings::{has_blank_line_before, trailing_comma};

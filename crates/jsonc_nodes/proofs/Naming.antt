@@ -1,8 +1,7 @@
 -- Names of leaves and of properties.
-use Rattle.std.proofs.Common.{◌≡◌, ◌+◌, ◌<◌, ◌≤◌, ◌∷◌, ℕ, Bool, false, List, length, get_or, drop, Option, None, Some, sym, ap, subst, ◌∙◌, IsTrue, chars}
+use Rattle.std.proofs.Common.{◌≡◌, [], ◌∷◌, ℕ, Bool, false, List, Option, None, Some, sym, ap, subst, ◌∙◌, IsTrue, chars}
 use Rattle.std.specs.Bool.{Decides}
 use Rattle.std.proofs.lemmas.Bool.{false≢true}
-use Rattle.std.proofs.lemmas.List.{drop_all, drop_more}
 use Rattle.std.proofs.lemmas.Slice.Eq.{bytes_eq-Decides}
 use Rattle.std.proofs.lemmas.Str.{encodes-chars}
 use Rattle.std.specs.Str.{IsUtf8, bytes_eq}
@@ -76,15 +75,12 @@ name_compared R s t b once u w h is =
 pub name_missing : (R : List ℕ → Type 0) (v : List ℕ) → ((w : List ℕ) → R w → ⊥) → Decides false (R v)
 name_missing R v nobody = (λ e. absurd (false≢true e), λ h. absurd (nobody v h))
 
-module _ (ns : List Node) (v cs : List ℕ) (i n : ℕ) (h : i < length cs) (e : n ≡ get_or cs i 0) where
-  here_on : drop i cs ≡ n ∷ drop (i + 1) cs
-  here_on = drop_more cs i 0 h ∙ ap (λ m. m ∷ drop (i + 1) cs) (sym e)
+module _ (ns : List Node) (v row : List ℕ) (n : ℕ) (rest : List ℕ) (e : row ≡ n ∷ rest) where
+  pub first_here : IsNamed ns v n → FirstNamed ns v row (Some n)
+  first_here named = subst (λ l. FirstNamed ns v l (Some n)) (sym e) (here named)
 
-  pub first_here : IsNamed ns v n → FirstNamed ns v (drop i cs) (Some n)
-  first_here named = subst (λ l. FirstNamed ns v l (Some n)) (sym here_on) (here named)
+  pub first_later : (IsNamed ns v n → ⊥) → (found : Option ℕ) → FirstNamed ns v rest found → FirstNamed ns v row found
+  first_later other found later_on = subst (λ l. FirstNamed ns v l found) (sym e) (later other later_on)
 
-  pub first_later : (IsNamed ns v n → ⊥) → (found : Option ℕ) → FirstNamed ns v (drop (i + 1) cs) found → FirstNamed ns v (drop i cs) found
-  first_later other found rest = subst (λ l. FirstNamed ns v l found) (sym here_on) (later other rest)
-
-pub first_none : (ns : List Node) (v cs : List ℕ) (i : ℕ) → length cs ≤ i → FirstNamed ns v (drop i cs) None
-first_none ns v cs i h = subst (λ l. FirstNamed ns v l None) (sym (drop_all i cs h)) none
+pub first_none : (ns : List Node) (v row : List ℕ) → row ≡ [] → FirstNamed ns v row None
+first_none ns v row e = subst (λ l. FirstNamed ns v l None) (sym e) none

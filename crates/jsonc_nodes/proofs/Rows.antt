@@ -1,5 +1,6 @@
 -- What a chain over a row of nodes answers.
-use Rattle.std.proofs.Common.{◌≡◌, ◌∙◌, sym, refl, ℕ, Bool, List, Option, None, Some}
+use Rattle.std.proofs.Common.{◌≡◌, ◌≤◌, ◌+◌, ◌∙◌, sym, ap, refl, ℕ, Bool, List, [], ◌∷◌, drop, length, slice_get, Option, None, Some, arith, length-drop, ◌<◌, get_or, take, get_or-drop}
+use Rattle.std.proofs.lemmas.List.{drop_all, drop-drop, take_all}
 use Rattle.std.specs.List.{find, position}
 use Rattle.std.specs.Option.{option_map}
 use Rattle.std.specs.Iterator.{YieldsFirst, FindsItem, FindsPosition}
@@ -7,6 +8,8 @@ use Rattle.std.specs.Fn.{Called, CalledAt}
 use Rattle.std.proofs.lemmas.Iterator.{YieldsList}
 use Rattle.std.proofs.lemmas.Iterator.Consumers.{YieldsList-from_first}
 use Rattle.std.proofs.lemmas.Iterator.Search.{find_from_yields_List, position_from_yields_List}
+use Rattle.jsonc_tree.specs.Siblings.{first}
+use Rattle.jsonc_tree.proofs.Sideways.{first_drop}
 use denote.Param.Members.{Mut}
 use denote.Ref.{Bor}
 
@@ -23,3 +26,28 @@ find_in test row u f r ran e k = sym (option_map_same r) ∙ find_from_yields_Li
 
 pub position_in : {F : Type 0} {g : Mut F (ℕ × Unit {0}) Bool} {s : List ℕ} (test : ℕ → Bool) (row u : List ℕ) (f : F) (r : Option ℕ) → FindsPosition (YieldsFirst (λ rest. rest)) g s f r u → s ≡ row → ((x : ℕ) (b : Bool) (q : F) → Called g f (x, tt) b q → (q ≡ f) × (b ≡ test x)) → r ≡ position test row
 position_in test row u f r ran e k = position_from_yields_List test u f r ran (row_yields row e) k
+
+-- what is asked first is the first of the row
+pub first_given : (s u : List ℕ) (r : Option ℕ) → YieldsFirst (λ rest. rest) s r u → r ≡ first s
+first_given s u None e = sym (ap first e.0)
+first_given s u (Some x) e = sym (ap first e)
+
+pub dropped_first : (k : ℕ) (xs s : List ℕ) → s ≡ drop k xs → first s ≡ slice_get xs k
+dropped_first k xs s e = ap first e ∙ first_drop k xs
+
+-- one more of a row passed over
+pub dropped_next : (k x : ℕ) (xs s rest : List ℕ) → s ≡ drop k xs → s ≡ x ∷ rest → rest ≡ drop (k + 1) xs
+dropped_next k x xs s rest e f = sym (ap (drop 1) f) ∙ ap (drop 1) e ∙ drop-drop 1 k xs ∙ ap (λ n. drop n xs) (omega arith)
+
+-- where nothing is left, nothing is left further on
+pub dropped_past : (k n : ℕ) (xs s : List ℕ) → k ≤ n → s ≡ drop k xs → s ≡ [] → drop n xs ≡ []
+dropped_past k n xs s h e f = drop_all n xs (omega (arith, ap length e, ap length f, length-drop k xs))
+
+-- what is given after so many of a row stands at that place
+pub given_at : (k : ℕ) (xs s : List ℕ) (x : ℕ) (rest : List ℕ) → s ≡ drop k xs → s ≡ x ∷ rest → (k < length xs) × (x ≡ get_or xs k 0) × (rest ≡ drop (k + 1) xs)
+given_at k xs s x rest e f =
+    let here : get_or (drop k xs) 0 0 ≡ get_or xs (k + 0) 0 = get_or-drop k xs 0 0 in
+    (omega (arith, ap length e, ap length f, length-drop k xs), sym (ap (λ l. get_or l 0 0) f) ∙ ap (λ l. get_or l 0 0) e ∙ here ∙ ap (λ n. get_or xs n 0) (omega arith), dropped_next k x xs s rest e f)
+
+pub all_given : (k : ℕ) (xs s : List ℕ) → s ≡ drop k xs → s ≡ [] → take k xs ≡ xs
+all_given k xs s e f = take_all k xs (omega (arith, ap length e, ap length f, length-drop k xs))

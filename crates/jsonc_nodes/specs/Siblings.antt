@@ -1,21 +1,10 @@
 -- Who stands beside a node, above and below one.
-use Rattle.std.specs.Prelude.{ℕ, ◌+◌, ◌<◌, ◌≤◌, ◌==◌, Bool, not, List, drop, take, reverse, filter, length, Option, option_map, IfSome}
-use Rattle.std.specs.List.{find, slice_get, take_while, All}
+use Rattle.std.specs.Prelude.{ℕ, ◌-◌, ◌<◌, ◌==◌, Bool, not, List, drop, reverse, filter, length, Option, option_map, IfSome}
+use Rattle.std.specs.List.{find, take_while, All}
 use Rattle.jsonc_tree.specs.Tree.{Node, parent_at, children_at, place_at}
-use Rattle.jsonc_tree.specs.Order.{upward, with_parent}
+use Rattle.jsonc_tree.specs.Order.{upward}
+pub use Rattle.jsonc_tree.specs.Siblings.{first, row_of, siblings_after, siblings_before}
 use Rattle.jsonc_nodes.specs.Kinds.{is_element_at, is_newline_at}
-
--- the children of a node's parent, the node among them
-abbrev pub row_of : List Node → ℕ → List ℕ
-row_of ns n = with_parent (parent_at ns n) (children_at ns)
-
--- the siblings after a node, nearest first
-abbrev pub siblings_after : List Node → ℕ → List ℕ
-siblings_after ns n = drop (place_at ns n + 1) (row_of ns n)
-
--- the siblings before a node, nearest first
-abbrev pub siblings_before : List Node → ℕ → List ℕ
-siblings_before ns n = reverse (take (place_at ns n) (row_of ns n))
 
 abbrev pub is_no_newline_at : List Node → ℕ → Bool
 is_no_newline_at ns m = not (is_newline_at ns m)
@@ -24,13 +13,9 @@ is_no_newline_at ns m = not (is_newline_at ns m)
 abbrev pub line_before : List Node → ℕ → List ℕ
 line_before ns n = reverse (take_while (is_no_newline_at ns) (siblings_before ns n))
 
--- the node's place is one among this container's children
-abbrev pub StandsIn : List Node → ℕ → ℕ → Type 0
-StandsIn ns n p = place_at ns n < length (children_at ns p)
-
--- a container is there, and so many of its children
-abbrev pub HasPlace : List Node → ℕ → ℕ → Type 0
-HasPlace ns container place = (container < length ns) × (place ≤ length (children_at ns container))
+-- the children of a node's parent from the first on the node's line on
+abbrev pub row_from_line : List Node → ℕ → List ℕ
+row_from_line ns n = drop (place_at ns n - length (line_before ns n)) (row_of ns n)
 
 -- each of these nodes is there
 abbrev pub AreThere : List Node → List ℕ → Type 0
@@ -39,10 +24,6 @@ AreThere ns ms = All (λ m. m < length ns) ms
 -- the node is there, if there is one
 abbrev pub IsThere : List Node → Option ℕ → Type 0
 IsThere ns found = IfSome found (λ m. m < length ns)
-
--- the first of a list, if there is one
-abbrev pub first : List ℕ → Option ℕ
-first ms = slice_get ms 0
 
 -- the root, where it stands above the node
 abbrev pub root_above : List Node → ℕ → Option ℕ

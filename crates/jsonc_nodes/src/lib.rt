@@ -14,11 +14,12 @@ mod siblings;
 mod within;
 
 pub use comments::{leading_comments_same_line, trailing_comments_same_line};
+pub use jsonc_tree::{Children, PreviousSiblings};
 pub use kinds::{is_element, is_newline, is_trivia, is_whitespace};
 pub use names::{decoded_name, decoded_value, get};
 pub use property::{first_element_from, name_of, value_of};
 pub use siblings::{
-    Children, PreviousSiblings, child_at_index, children_from, line_before, next_sibling,
-    next_siblings, previous_sibling, previous_siblings, root_node,
+    LineBefore, child_at_index, children_from, line_before, next_sibling, next_siblings,
+    previous_sibling, previous_siblings, root_node,
 };
 pub use within::{children, element_at, element_index, elements, next_element, previous_element};

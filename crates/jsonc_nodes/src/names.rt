@@ -175,9 +175,7 @@ pub fn get<A: Allocator, B: Allocator + Copy>(
     ensures found { IfOk result (FirstInObject tree.now.nodes object (chars name.now)) }
     ensures there { IfOk result (IsThere tree.now.nodes) }
 {
-    let count = tree.child_count(object);
-    for place in 0..count {
-        let child = tree.child_at(object, place);
+    for child in children_from(tree, object, 0) {
         if is_named(alloc, tree, child, name)? {
             return Ok(Some(child));
         }

@@ -1,39 +1,34 @@
 //! Children and siblings, one after another.
 
-ghost use Rattle.std.specs.Prelude.{◌≡◌, ◌<◌, ◌≤◌, drop, take, reverse, length, IfSome};
-ghost use Rattle.std.specs.List.{slice_get};
+ghost use Rattle.std.specs.Prelude.{◌≡◌, ◌<◌, ◌^◌, drop, length};
+ghost use Rattle.std.specs.List.{find, slice_get};
 ghost use Rattle.std.specs.Iterator.{YieldsFirst, item_count};
-ghost use Rattle.jsonc_tree.specs.Tree.{children_at, parent_at, IsTree};
-ghost use Rattle.jsonc_nodes.specs.Siblings.{AreThere, IsThere, StandsIn, first, line_before};
-ghost use Rattle.jsonc_nodes.specs.Siblings.{root_above, siblings_after, siblings_before};
+ghost use Rattle.jsonc_tree.specs.Tree.{children_at};
+ghost use Rattle.jsonc_nodes.specs.Kinds.{is_newline_at};
+ghost use Rattle.jsonc_nodes.specs.Siblings.{AreThere, IsThere, first, line_before, root_above};
+ghost use Rattle.jsonc_nodes.specs.Siblings.{row_from_line, siblings_after, siblings_before};
 
 use crate::kinds::is_newline;
-use jsonc_tree::Tree;
+use jsonc_tree::{Children, PreviousSiblings, Tree};
 use std::alloc::Allocator;
 use std::marker::Model;
 
-/// A stretch of a container's children, first to last, seen as the list of those that are left.
+/// The siblings before a node on its line, first to last, seen as the list of those that are left.
 #[derive(Drop)]
-pub struct Children<'a, A: Allocator> {
-    tree: &'a Tree<A>,
-    container: usize,
-    from: usize,
-    to: usize,
+pub struct LineBefore<'a, A: Allocator> {
+    rest: Children<'a, A>,
+    left: usize,
 }
 
-impl<'a, A: Allocator> Model for Children<'a, A> {
-    ghost use Rattle.std.specs.Prelude.{ℕ, List, ◌≤◌, slice_range};
-    ghost use Rattle.jsonc_tree.specs.Tree.{children_at};
-    ghost use Rattle.jsonc_nodes.specs.Siblings.{HasPlace};
+impl<'a, A: Allocator> Model for LineBefore<'a, A> {
+    ghost use Rattle.std.specs.Prelude.{ℕ, List, take};
 
     ghost Value = { List ℕ };
 
-    ghost view = { λ it. slice_range (children_at it.tree.now.nodes it.container) it.from it.to };
-
-    ghost invariant = { λ it. (it.from ≤ it.to) × HasPlace it.tree.now.nodes it.container it.to };
+    ghost view = { λ it. take it.left it.rest };
 }
 
-impl<'a, A: Allocator> Iterator for Children<'a, A> {
+impl<'a, A: Allocator> Iterator for LineBefore<'a, A> {
     type Item = usize;
 
     ghost next_gives = { YieldsFirst (λ rest. rest) };
@@ -41,76 +36,12 @@ impl<'a, A: Allocator> Iterator for Children<'a, A> {
     ghost remaining = { item_count (λ rest. rest) };
 
     fn next(&mut self) -> Option<usize> {
-        if self.from == self.to {
+        if self.left == 0 {
             return None;
         }
-        let child = self.tree.child_at(self.container, self.from);
-        self.from += 1;
-        Some(child)
+        self.left -= 1;
+        self.rest.next()
     }
-}
-
-/// The siblings before a node, nearest first, seen as the list of those that are left.
-#[derive(Drop)]
-pub struct PreviousSiblings<'a, A: Allocator> {
-    tree: &'a Tree<A>,
-    container: usize,
-    to: usize,
-}
-
-impl<'a, A: Allocator> Model for PreviousSiblings<'a, A> {
-    ghost use Rattle.std.specs.Prelude.{ℕ, List, reverse, take};
-    ghost use Rattle.jsonc_tree.specs.Tree.{children_at};
-    ghost use Rattle.jsonc_nodes.specs.Siblings.{HasPlace};
-
-    ghost Value = { List ℕ };
-
-    ghost view = { λ it. reverse (take it.to (children_at it.tree.now.nodes it.container)) };
-
-    ghost invariant = { λ it. HasPlace it.tree.now.nodes it.container it.to };
-}
-
-impl<'a, A: Allocator> Iterator for PreviousSiblings<'a, A> {
-    type Item = usize;
-
-    ghost next_gives = { YieldsFirst (λ rest. rest) };
-
-    ghost remaining = { item_count (λ rest. rest) };
-
-    fn next(&mut self) -> Option<usize> {
-        if self.to == 0 {
-            return None;
-        }
-        self.to -= 1;
-        Some(self.tree.child_at(self.container, self.to))
-    }
-}
-
-impl<'a, A: Allocator> PreviousSiblings<'a, A> {
-    // So many of those that are left, the nearest ones, first to last.
-    fn nearest(self, count: usize) -> Children<'a, A>
-        requires { count ≤ length self }
-        ensures { result ≡ reverse (take count self.entry) }
-    {
-        Children {
-            tree: self.tree,
-            container: self.container,
-            from: self.to - count,
-            to: self.to,
-        }
-    }
-}
-
-// The parent of a node, and that the node is among its children.
-fn parent_of<A: Allocator>(tree: &Tree<A>, node: usize) -> Option<usize>
-    requires { node < length tree.now.nodes }
-    ensures parent { result ≡ parent_at tree.now.nodes node }
-    ensures there { IsThere tree.now.nodes result }
-    ensures within { IfSome result (StandsIn tree.now.nodes node) }
-    ensures tree { IsTree tree.now.nodes }
-{
-    let _ = tree.len();
-    tree.parent(node)
 }
 
 /// The children of a container from a place on, first to last.
@@ -122,15 +53,16 @@ pub fn children_from<A: Allocator>(
     requires { container < length tree.now.nodes }
     ensures children { result ≡ drop place (children_at tree.now.nodes container) }
     ensures there { AreThere tree.now.nodes result }
+    ensures countable { length result < 2 ^ 64 }
 {
     let _ = tree.len();
-    let count = tree.child_count(container);
-    Children {
-        tree,
-        container,
-        from: place.min(count),
-        to: count,
+    let mut children = tree.children(container);
+    for _passed in 0..place {
+        let Some(_) = children.next() else {
+            return children;
+        };
     }
+    children
 }
 
 /// The siblings after a node, nearest first.
@@ -138,22 +70,10 @@ pub fn next_siblings<A: Allocator>(tree: &Tree<A>, node: usize) -> Children<'_, 
     requires { node < length tree.now.nodes }
     ensures siblings { result ≡ siblings_after tree.now.nodes node }
     ensures there { AreThere tree.now.nodes result }
+    ensures countable { length result < 2 ^ 64 }
 {
-    let Some(container) = parent_of(tree, node) else {
-        return Children {
-            tree,
-            container: node,
-            from: 0,
-            to: 0,
-        };
-    };
-    let to = tree.child_count(container);
-    Children {
-        tree,
-        container,
-        from: tree.child_index(node) + 1,
-        to,
-    }
+    let _ = tree.len();
+    tree.next_siblings(node)
 }
 
 /// The siblings before a node, nearest first.
@@ -161,19 +81,10 @@ pub fn previous_siblings<A: Allocator>(tree: &Tree<A>, node: usize) -> PreviousS
     requires { node < length tree.now.nodes }
     ensures siblings { result ≡ siblings_before tree.now.nodes node }
     ensures there { AreThere tree.now.nodes result }
+    ensures countable { length result < 2 ^ 64 }
 {
-    let Some(container) = parent_of(tree, node) else {
-        return PreviousSiblings {
-            tree,
-            container: node,
-            to: 0,
-        };
-    };
-    PreviousSiblings {
-        tree,
-        container,
-        to: tree.child_index(node),
-    }
+    let _ = tree.len();
+    tree.previous_siblings(node)
 }
 
 // How many siblings stand before a node on its line.
@@ -186,14 +97,42 @@ fn count_on_line<A: Allocator>(tree: &Tree<A>, node: usize) -> usize
         .count()
 }
 
+// The line's end nearest before a node.
+fn newline_before<A: Allocator>(tree: &Tree<A>, node: usize) -> Option<usize>
+    requires { node < length tree.now.nodes }
+    ensures newline { result ≡ find (is_newline_at tree.now.nodes) (siblings_before tree.now.nodes node) }
+    ensures there { IsThere tree.now.nodes result }
+{
+    previous_siblings(tree, node).find(|sibling| is_newline(tree, *sibling))
+}
+
+// The children of a node's parent from the first on the node's line on.
+fn from_line_start<A: Allocator>(tree: &Tree<A>, node: usize) -> Children<'_, A>
+    requires { node < length tree.now.nodes }
+    ensures { result ≡ row_from_line tree.now.nodes node }
+{
+    let _ = tree.len();
+    if let Some(newline) = newline_before(tree, node) {
+        return tree.next_siblings(newline);
+    }
+    match tree.parent(node) {
+        Some(container) => tree.children(container),
+        None => tree.next_siblings(node),
+    }
+}
+
 /// The siblings before a node on its line, first to last.
-pub fn line_before<A: Allocator>(tree: &Tree<A>, node: usize) -> Children<'_, A>
+pub fn line_before<A: Allocator>(tree: &Tree<A>, node: usize) -> LineBefore<'_, A>
     requires { node < length tree.now.nodes }
     ensures siblings { result ≡ line_before tree.now.nodes node }
     ensures there { AreThere tree.now.nodes result }
 {
-    let count = count_on_line(tree, node);
-    previous_siblings(tree, node).nearest(count)
+    let _ = tree.len();
+    let left = count_on_line(tree, node);
+    LineBefore {
+        rest: from_line_start(tree, node),
+        left,
+    }
 }
 
 /// The sibling directly after a node.
@@ -220,10 +159,7 @@ pub fn child_at_index<A: Allocator>(tree: &Tree<A>, node: usize, index: usize) -
     ensures child { result ≡ slice_get (children_at tree.now.nodes node) index }
     ensures there { IsThere tree.now.nodes result }
 {
-    if index >= tree.child_count(node) {
-        return None;
-    }
-    Some(tree.child_at(node, index))
+    children_from(tree, node, index).next()
 }
 
 /// The root, if the node stands below it: none of the root itself and of what was taken out.

@@ -7,13 +7,13 @@ use Rattle.jsonc_tree.specs.OrderedTree.{ordered_tree}
 use Rattle.jsonc_tree.specs.Tree.{Node, IsTree}
 use Rattle.jsonc_tree.specs.Order.{in_order}
 use Rattle.jsonc_nodes.specs.Kinds.{is_comment_at}
+use Rattle.jsonc_edit.specs.declared.error.EditError.{EditError}
+use Rattle.jsonc_edit.specs.declared.error.EditError.TheVariants.{OutOfMemory, MissingBrackets, MissingName, NoSuchPlace}
 use Rattle.jsonc_edit.specs.Comments.{CommentRemoved}
 use Rattle.jsonc_edit.specs.Paths.{IsAt}
 use Rattle.jsonc_edit.specs.Reading.{IsReplaced}
 use Rattle.jsonc_run.specs.declared.edit.Edit.{Edit}
 use Rattle.jsonc_run.specs.declared.edit.Edit.TheVariants.{Replace, RemoveComment}
-use Rattle.jsonc_run.specs.declared.edit.Stop.{Stop}
-use Rattle.jsonc_run.specs.declared.edit.Stop.TheVariants.{OutOfMemory, NoSuchPlace}
 
 -- what an edit asks for: that the value at the path gives way to this one, or that the comment of this number leaves the document
 pub data Operation : Type 0 where
@@ -53,13 +53,15 @@ abbrev pub MayWantMemory : List Node → Operation → Type 0
 MayWantMemory ns (replace path v) = (n : ℕ) × IsAt ns path n
 MayWantMemory ns (remove_comment number) = ⊥
 
--- why the edit was not made: memory was wanted, or it has no place
-abbrev pub IsToldBy : List Node → Operation → Stop → Type 0
+-- why the edit was not made: memory was wanted, or it has no place; nothing else is told
+abbrev pub IsToldBy : List Node → Operation → EditError → Type 0
 IsToldBy ns e OutOfMemory = MayWantMemory ns e
 IsToldBy ns e NoSuchPlace = ¬ (HasItsPlace ns e)
+IsToldBy ns e MissingBrackets = ⊥
+IsToldBy ns e MissingName = ⊥
 
 -- The first k edits were made, each whole; there is one more, which was not made for this reason; and the document is as those k left it.
-pub record StopsAt (old : List Node) (es : List Operation) (k : ℕ) (stop : Stop) (new : List Node) : Type 0 where
+pub record StopsAt (old : List Node) (es : List Operation) (k : ℕ) (stop : EditError) (new : List Node) : Type 0 where
   pub now : List Node
   pub made : AreMade old (take k es) now
   pub next : Operation

@@ -1,4 +1,4 @@
-//! What an edit asks for, and why one is not made.
+//! What an edit asks for.
 
 use jsonc_input::CstInputValue;
 use std::alloc::Allocator;
@@ -12,12 +12,4 @@ pub enum Edit<A: Allocator> {
     /// The comment of this number, counted from 0 in the order of the document, leaves it. A line comment
     /// takes along the whitespace and the line end before it.
     RemoveComment(usize),
-}
-
-/// Why an edit was not made.
-#[derive(Clone, Copy, Debug, PartialEq, Eq)]
-pub enum Stop {
-    OutOfMemory,
-    /// The edit's path leads to nothing, or there is no comment of its number.
-    NoSuchPlace,
 }

@@ -15,5 +15,5 @@ pub mod laws;
 mod making;
 
 pub use comments::find_comment;
-pub use edit::{Edit, Stop};
+pub use edit::Edit;
 pub use making::{make, run};

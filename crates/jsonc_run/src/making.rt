@@ -10,14 +10,18 @@ ghost use Rattle.jsonc_run.specs.Edits.{operation_of, operations_of, replace as 
 ghost use Rattle.jsonc_run.specs.Written.{WriteAll};
 
 use crate::comments::find_comment;
-use crate::edit::{Edit, Stop};
-use jsonc_edit::{find, remove_comment, replace};
+use crate::edit::Edit;
+use jsonc_edit::{EditError, find, remove_comment, replace};
 use jsonc_input::CstInputValue;
 use jsonc_tree::Tree;
 use std::alloc::Allocator;
 
 /// Makes an edit. Where it is refused, the document and every node that was there are as they were.
-pub fn make<A: Allocator + Copy>(alloc: A, tree: &mut Tree<A>, edit: &Edit<A>) -> Result<(), Stop>
+pub fn make<A: Allocator + Copy>(
+    alloc: A,
+    tree: &mut Tree<A>,
+    edit: &Edit<A>,
+) -> Result<(), EditError>
     ensures made { OnOk result (IsMade tree.old.nodes (operation_of edit.now) tree.new.nodes) }
     ensures told { IfErr result (IsToldBy tree.old.nodes (operation_of edit.now)) }
     ensures written { (o : Options) → OnOk result (WriteAll o tree.old.nodes (operation_of edit.now ∷ []) tree.new.nodes) }
@@ -38,7 +42,7 @@ fn replace_at<A: Allocator + Copy>(
     tree: &mut Tree<A>,
     path: &[usize],
     value: &CstInputValue<A>,
-) -> Result<(), Stop>
+) -> Result<(), EditError>
     ensures made { OnOk result (IsMade tree.old.nodes (asked path.now (plain value.now)) tree.new.nodes) }
     ensures told { IfErr result (IsToldBy tree.old.nodes (asked path.now (plain value.now))) }
     ensures kept { OnErr result (Keeps (length tree.old.nodes) tree.old.nodes tree.new.nodes) }
@@ -47,18 +51,18 @@ fn replace_at<A: Allocator + Copy>(
 {
     let _ = tree.len();
     let Some(node) = find(tree, path) else {
-        return Err(Stop::NoSuchPlace);
+        return Err(EditError::NoSuchPlace);
     };
     match replace(alloc, tree, node, value) {
         Ok(Some(_)) => Ok(()),
         // What stands at a path has a parent.
-        Ok(None) => Err(Stop::NoSuchPlace),
-        Err(_) => Err(Stop::OutOfMemory),
+        Ok(None) => Err(EditError::NoSuchPlace),
+        Err(error) => Err(error),
     }
 }
 
 // Takes the comment of a number out.
-fn remove_at<A: Allocator>(tree: &mut Tree<A>, number: usize) -> Result<(), Stop>
+fn remove_at<A: Allocator>(tree: &mut Tree<A>, number: usize) -> Result<(), EditError>
     ensures made { OnOk result (IsMade tree.old.nodes (asked_without number) tree.new.nodes) }
     ensures told { IfErr result (IsToldBy tree.old.nodes (asked_without number)) }
     ensures untouched { OnErr result (tree.new.nodes ≡ tree.old.nodes) }
@@ -66,7 +70,7 @@ fn remove_at<A: Allocator>(tree: &mut Tree<A>, number: usize) -> Result<(), Stop
 {
     let _ = tree.len();
     let Some(comment) = find_comment(tree, number) else {
-        return Err(Stop::NoSuchPlace);
+        return Err(EditError::NoSuchPlace);
     };
     remove_comment(tree, comment);
     Ok(())
@@ -81,7 +85,7 @@ pub fn run<A: Allocator + Copy>(
     alloc: A,
     tree: &mut Tree<A>,
     edits: &[Edit<A>],
-) -> Result<(), (usize, Stop)>
+) -> Result<(), (usize, EditError)>
     ensures made { OnOk result (AreMade tree.old.nodes (operations_of edits.now) tree.new.nodes) }
     ensures stopped { IfErr result (λ e. StopsAt tree.old.nodes (operations_of edits.now) e.0 e.1 tree.new.nodes) }
     ensures written { (o : Options) → OnOk result (WriteAll o tree.old.nodes (operations_of edits.now) tree.new.nodes) }

@@ -11,7 +11,7 @@ use Rattle.jsonc_text.specs.Lexemes.{Scanned, IsScanned}
 use Rattle.jsonc_text.specs.Tokens.{scanned_of}
 use Rattle.jsonc_scan.specs.Reads.{NothingAt}
 use Rattle.jsonc_scan.specs.Told.{IsTrueOf}
-use Rattle.jsonc_string.specs.Escapes.{IsLentUnescaped, HoldsBackslash}
+use Rattle.jsonc_string.specs.Escapes.{IsLentUnescaped, StringHoldsBackslash}
 use Rattle.jsonc_text.specs.declared.tokens.Token.TheVariants.{String}
 
 module _ {A : Type 0} where
@@ -63,9 +63,9 @@ module _ {A : Type 0} where
   IsLent s (Some (String v)) = IsLentUnescaped (text_of s) (start_of s) (end_of s) v
   IsLent s _ = Unit {0}
 
-  -- a backslash stands after the place where the scanner's token would begin
+  -- where the scanner's token would begin stands the opening quote of a string with a backslash in it
   abbrev pub HoldsEscape : Scanner A → Type 0
-  HoldsEscape s = HoldsBackslash (text_of s) (start_of s) (length (text_of s))
+  HoldsEscape s = StringHoldsBackslash (text_of s) (start_of s)
 
   -- the text goes on where the scanner's token would begin, and not with a blank
   pub record GoesOn (s : Scanner A) : Type 0 where

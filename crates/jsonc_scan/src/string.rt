@@ -1,10 +1,10 @@
 //! String tokens.
-ghost use Rattle.std.specs.Prelude.{◌≡◌, ◌≢◌, ◌↔◌, IsCharBoundary, IfOk, IfErr, OnErr, length};
+ghost use Rattle.std.specs.Prelude.{◌≡◌, ◌≢◌, ◌↔◌, IsCharBoundary, IfOk, IfErr, OnErr};
 ghost use Rattle.std.specs.Cow.{cow_str_bytes, IsBorrowedStr, IsOwnedStr};
 ghost use Rattle.jsonc_text.specs.Faults.{IsFault, kind_of};
 ghost use Rattle.jsonc_text.specs.OptionsOf.{parse_options};
 ghost use Rattle.jsonc_text.specs.Text.{Spans};
-ghost use Rattle.jsonc_string.specs.Escapes.{HoldsBackslash};
+ghost use Rattle.jsonc_string.specs.Escapes.{StringHoldsBackslash};
 ghost use Rattle.jsonc_scan.specs.Reads.{IsStringRead, NothingAt};
 ghost use Rattle.jsonc_scan.specs.Refusals.{IsFaultOfString, IsToldOfString};
 ghost use Rattle.jsonc_string.specs.Quotes.{OpensString};
@@ -38,7 +38,7 @@ pub(crate) fn read_string<'a, A: Allocator + Copy>(
     ensures none { IfErr result (λ e. kind_of e ≢ ParseErrorKind.OutOfMemory → NothingAt (parse_options options.now) text.now start) }
     ensures fault { IfErr result (IsFault text.now) }
     ensures told { IfErr result (IsFaultOfString (parse_options options.now) text.now start) }
-    ensures memory { IfErr result (λ e. kind_of e ≡ ParseErrorKind.OutOfMemory → HoldsBackslash text.now start (length text.now)) }
+    ensures memory { IfErr result (λ e. kind_of e ≡ ParseErrorKind.OutOfMemory → StringHoldsBackslash text.now start) }
 {
     let literal = Literal {
         start,

@@ -10,9 +10,9 @@ use Rattle.jsonc_text.proofs.Basics.{clash, or_cases, or_left, or_right, test_eq
 use Rattle.jsonc_text.proofs.WideBlanks.{blank_not_wide, wide_past_ascii}
 use Rattle.jsonc_sound.specs.Followers.{ends_literals}
 
--- a character that ends literals, or `:`
+-- a character that ends literals, or `:`, a quote or a first bracket
 abbrev pub ends_names : ℕ → Bool
-ends_names c = is_blank c || (c == 0x2F || c == 0x2C || c == 0x5D || c == 0x7D || c == 0x3A)
+ends_names c = is_blank c || (c == 0x2F || c == 0x2C || c == 0x5D || c == 0x7D || c == 0x3A || c == 0x22 || c == 0x27 || c == 0x5B || c == 0x7B)
 
 pub literal_ends_name : (c : ℕ) → IsTrue (ends_literals c) → IsTrue (ends_names c)
 literal_ends_name c h =
@@ -21,7 +21,7 @@ literal_ends_name c h =
       | inr m ↦ or_right (is_blank c) _ (marks_more c m)
     ]
   where
-    marks_more : (c : ℕ) → IsTrue (c == 0x2F || c == 0x2C || c == 0x5D || c == 0x7D) → IsTrue (c == 0x2F || c == 0x2C || c == 0x5D || c == 0x7D || c == 0x3A)
+    marks_more : (c : ℕ) → IsTrue (c == 0x2F || c == 0x2C || c == 0x5D || c == 0x7D) → IsTrue (c == 0x2F || c == 0x2C || c == 0x5D || c == 0x7D || c == 0x3A || c == 0x22 || c == 0x27 || c == 0x5B || c == 0x7B)
     marks_more c h = grind arith
 
 pub text_ends_names : (n : Option ℕ) → IsTrue (end_or ends_literals n) → IsTrue (end_or ends_names n)
@@ -32,7 +32,7 @@ text_ends_names (Some c) h = literal_ends_name c h
 record Inside (c : ℕ) : Type 0 where
   low : 0x21 ≤ c
   high : c < 0x80
-  mark : IsTrue (not (c == 0x2F || c == 0x2C || c == 0x5D || c == 0x7D || c == 0x3A))
+  mark : IsTrue (not (c == 0x2F || c == 0x2C || c == 0x5D || c == 0x7D || c == 0x3A || c == 0x22 || c == 0x27 || c == 0x5B || c == 0x7B))
 
 no_ascii_blank : (c : ℕ) → 0x21 ≤ c → c < 0x80 → IsTrue (not (is_blank c))
 no_ascii_blank c a b = grind arith
@@ -46,13 +46,13 @@ range_low a b c h = grind arith
 range_high : (a b c : ℕ) → IsTrue (is_in_range a b c) → c ≤ b
 range_high a b c h = grind arith
 
-digit_mark : (c : ℕ) → 0x30 ≤ c → c ≤ 0x39 → IsTrue (not (c == 0x2F || c == 0x2C || c == 0x5D || c == 0x7D || c == 0x3A))
+digit_mark : (c : ℕ) → 0x30 ≤ c → c ≤ 0x39 → IsTrue (not (c == 0x2F || c == 0x2C || c == 0x5D || c == 0x7D || c == 0x3A || c == 0x22 || c == 0x27 || c == 0x5B || c == 0x7B))
 digit_mark c a b = grind arith
 
-upper_mark : (c : ℕ) → 0x41 ≤ c → c ≤ 0x5A → IsTrue (not (c == 0x2F || c == 0x2C || c == 0x5D || c == 0x7D || c == 0x3A))
+upper_mark : (c : ℕ) → 0x41 ≤ c → c ≤ 0x5A → IsTrue (not (c == 0x2F || c == 0x2C || c == 0x5D || c == 0x7D || c == 0x3A || c == 0x22 || c == 0x27 || c == 0x5B || c == 0x7B))
 upper_mark c a b = grind arith
 
-lower_mark : (c : ℕ) → 0x61 ≤ c → c ≤ 0x7A → IsTrue (not (c == 0x2F || c == 0x2C || c == 0x5D || c == 0x7D || c == 0x3A))
+lower_mark : (c : ℕ) → 0x61 ≤ c → c ≤ 0x7A → IsTrue (not (c == 0x2F || c == 0x2C || c == 0x5D || c == 0x7D || c == 0x3A || c == 0x22 || c == 0x27 || c == 0x5B || c == 0x7B))
 lower_mark c a b = grind arith
 
 digit_inside : (c : ℕ) → 0x30 ≤ c → c ≤ 0x39 → Inside c
@@ -124,7 +124,7 @@ ascii_apart c g h =
           ]
     ]
 
-marks_small : (c : ℕ) → IsTrue (c == 0x2F || c == 0x2C || c == 0x5D || c == 0x7D || c == 0x3A) → c < 0x80
+marks_small : (c : ℕ) → IsTrue (c == 0x2F || c == 0x2C || c == 0x5D || c == 0x7D || c == 0x3A || c == 0x22 || c == 0x27 || c == 0x5B || c == 0x7B) → c < 0x80
 marks_small c h = grind arith
 
 wide_apart : (c : ℕ) → IsTrue (is_wide_letter c) → IsTrue (ends_names c) → ⊥

@@ -113,7 +113,7 @@ slash_ends : (n : Option ℕ) → IsTrue (starts (λ c. c == 0x2F) n) → IsTrue
 slash_ends None h = refl
 slash_ends (Some c) h = rw (test_eq c 0x2F h) refl
 
-leaf_ends : (o : Options) (content : Content) → IsTrivia o content → EndsLiterals (chars (text_of content))
+pub leaf_ends : (o : Options) (content : Content) → IsTrivia o content → EndsLiterals (chars (text_of content))
 leaf_ends o (Content.whitespace s) h = blank_ends h.1 refl
 leaf_ends o (Content.newline LineFeed) h = subst EndsLiterals (sym (chars-IsAscii (10 ∷ []) (search rules))) refl
 leaf_ends o (Content.newline CarriageReturnLineFeed) h = subst EndsLiterals (sym (chars-IsAscii (13 ∷ 10 ∷ []) (search rules))) refl

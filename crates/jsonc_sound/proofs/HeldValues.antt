@@ -34,7 +34,7 @@ document_lines_held (in_root {row = row} e h) (below, same, l) =
     value_lines_held h (row_lines_held true e (subst (LinesEnd true) first l))
 
 module _ (o : Options) where
-  abbrev IsSomeValue : Top → Type 0
+  abbrev pub IsSomeValue : Top → Type 0
   IsSomeValue x = (r : List ℕ) × IsValueBefore o x r
 
   this_value : {content : Content} {below : OrderedTree} {r : List ℕ} (x : Top) → content ≡ x.content → below ≡ x.below → ValueShaped o content below r → IsValueBefore o x r
@@ -101,7 +101,7 @@ module _ (o : Options) where
       let only = only_changed o (value_element v) (trivia_changed o g e).changed in
       (printed_text after, this_value x only.top only.row v)
 
-  document_held : {was now : Top} {path : List ℕ} {t u : OrderedTree} → DocumentChanged was now path t u → DocumentShaped o t → IsSomeValue was
+  pub document_held : {was now : Top} {path : List ℕ} {t u : OrderedTree} → DocumentChanged was now path t u → DocumentShaped o t → IsSomeValue was
   document_held (in_root e h) s = value_held h (root_held s e)
 
   pub sound_value : {was now : Top} {path : List ℕ} {t u : OrderedTree} → Sound o t → DocumentChanged was now path t u → IsSoundValue o was

@@ -1,12 +1,12 @@
 -- Strings of the grammar, and strings in given quotes.
-use Rattle.std.proofs.Common.{ℕ, ◌≤◌, ◌≡◌, ◌∙◌, sym, Bool, true, false, List, ◌∷◌, IsTrue, arith, ◌==◌, ◌||◌, ◌&&◌}
+use Rattle.std.proofs.Common.{ℕ, ◌≡◌, ◌∙◌, sym, Bool, true, false, List, ◌∷◌, IsTrue, arith, ◌==◌, ◌||◌, ◌&&◌}
 use Rattle.jsonc_text.specs.Options.{Options, all_on}
 use Rattle.jsonc_text.specs.Strings.{Piece, itself, plain, unit, pair, other, zero, byte, line, lone_cr, cr_lf, Pieces, done, piece, IsQuote, IsString}
 use Rattle.jsonc_text.specs.Text.{next, no}
 use Rattle.jsonc_text.specs.Lexemes.{IsScanned, lexeme, string}
 use Rattle.jsonc_text.proofs.Basics.{clash, heads}
 use Rattle.jsonc_string.specs.Between.{Between}
-use Rattle.jsonc_string.specs.Escapes.{escapes, IsQuoted, HoldsBackslash}
+use Rattle.jsonc_string.specs.Escapes.{escapes, IsQuoted}
 
 piece_taken : {o p : Options} {q : ℕ} {t w r : List ℕ} → (IsTrue o.extended_escapes → IsTrue p.extended_escapes) → Piece o q t w r → Piece p q t w r
 piece_taken f (itself h k) = itself h k
@@ -46,7 +46,3 @@ quote_on q false h = grind arith
 -- an allowed quote is one of the two
 pub either_quote : (o : Options) (q : ℕ) → IsQuote o q → IsQuote all_on q
 either_quote o q h = quote_on q o.single_quoted_strings h
-
--- a backslash in a part of a text is one in the text
-pub holds_more : (bytes : List ℕ) (i j k : ℕ) → HoldsBackslash bytes i j → j ≤ k → HoldsBackslash bytes i k
-holds_more bytes i j k h l = record { place = h.place; boundary = h.boundary; after = h.after; before = omega (arith, h.before); backslash = h.backslash }

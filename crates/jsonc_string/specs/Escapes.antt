@@ -8,10 +8,10 @@ use Rattle.jsonc_string.specs.declared.escape.Meaning.TheVariants as read
 use Rattle.jsonc_string.specs.declared.escape.StringFault.{StringFault}
 use Rattle.jsonc_text.specs.declared.errors.ParseStringErrorKind.TheVariants.{OutOfMemory}
 use Rattle.jsonc_text.specs.Options.{Options, all_on}
-use Rattle.jsonc_text.specs.Text.{Spans}
+use Rattle.jsonc_text.specs.Text.{Many, Spans}
 use Rattle.jsonc_text.specs.Chars.{Steps}
-use Rattle.jsonc_text.specs.Strings.{Meaning, gives, extended, code_unit, code_byte, nul, line_end, carriage_return, refused, AreHex4, hex4, Piece, Pieces, Decodes}
-use Rattle.jsonc_string.specs.Between.{Between, NoneFrom}
+use Rattle.jsonc_text.specs.Strings.{IsQuote, Meaning, gives, extended, code_unit, code_byte, nul, line_end, carriage_return, refused, AreHex4, hex4, Piece, Pieces, Decodes}
+use Rattle.jsonc_string.specs.Between.{Between, NoneFrom, Reaches, is_neither}
 
 -- strings look at one option alone: whether the extended escapes are taken
 abbrev pub escapes : Bool → Options
@@ -86,6 +86,15 @@ pub record HoldsBackslash (bytes : List ℕ) (start end : ℕ) : Type 0 where
   pub boundary : IsCharBoundary bytes place
   pub after : start < place
   pub before : place < end
+  pub backslash : Steps bytes place 0x5C (place + 1)
+
+-- in the string that begins at a place stands a backslash: after its opening quote, and before the next such quote
+pub record StringHoldsBackslash (bytes : List ℕ) (start : ℕ) : Type 0 where
+  pub quote : ℕ
+  pub place : ℕ
+  pub allowed : IsQuote all_on quote
+  pub opens : Steps bytes start quote (start + 1)
+  pub inside : Reaches (Many (is_neither quote 0x5C)) bytes (start + 1) place
   pub backslash : Steps bytes place 0x5C (place + 1)
 
 -- a fault of a string that begins at a place, or want of memory for it

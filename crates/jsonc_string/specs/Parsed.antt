@@ -1,5 +1,5 @@
 -- The string at a place, whatever follows it.
-use Rattle.std.specs.Prelude.{ℕ, ◌+◌, ◌≡◌, ◌≢◌, ◌≤◌, Bool, List, [], ◌∷◌, Option, Some, None, chars, length, IsCharBoundary}
+use Rattle.std.specs.Prelude.{ℕ, ◌+◌, ◌≡◌, ◌≢◌, ◌≤◌, Bool, List, [], ◌∷◌, Option, Some, None, chars, IsCharBoundary}
 use Rattle.std.specs.declared.borrow.CowStr.{CowStr}
 use Rattle.std.specs.Cow.{cow_str_bytes}
 use Rattle.jsonc_string.specs.declared.provider.ParseStringError.{ParseStringError}
@@ -10,7 +10,7 @@ use Rattle.jsonc_text.specs.Text.{rest}
 use Rattle.jsonc_text.specs.Options.{all_on}
 use Rattle.jsonc_text.specs.Lexemes.{IsScanned, lexeme, string}
 use Rattle.jsonc_string.specs.Between.{Between, NoneFrom}
-use Rattle.jsonc_string.specs.Escapes.{escapes, HoldsBackslash, IsLentUnescaped}
+use Rattle.jsonc_string.specs.Escapes.{escapes, IsLentUnescaped}
 use Rattle.jsonc_string.specs.Quotes.{OpensString}
 use Rattle.jsonc_string.specs.Told.{TellsError}
 
@@ -32,12 +32,11 @@ NoString taken bytes start = (v : List ℕ) → NoneFrom (IsScanned (escapes tak
 abbrev pub BeginsString : List ℕ → ℕ → Type 0
 BeginsString bytes start = (q : ℕ) × OpensString all_on bytes start q
 
--- why no string was decoded: none stands at the place, or memory is wanted for one with a backslash
+-- why no string was decoded: none stands at the place, or memory is wanted
 pub record IsStringError (taken : Bool) (bytes : List ℕ) (start : ℕ) (e : ParseStringError) : Type 0 where
   pub boundary : IsCharBoundary bytes e.byte_index
   pub order : start ≤ e.byte_index
   pub none : e.kind ≢ OutOfMemory → NoString taken bytes start
-  pub memory : e.kind ≡ OutOfMemory → HoldsBackslash bytes start (length bytes)
   pub told : e.kind ≢ OutOfMemory → TellsError taken e.kind (rest bytes start) (rest bytes e.byte_index)
 
 module _ {A : Type 0} where

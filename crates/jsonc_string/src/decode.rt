@@ -1,13 +1,13 @@
 //! Strings in their quotes, and what they stand for (RFC 8259, 7; JSON5, 5).
-ghost use Rattle.std.specs.Prelude.{◌≡◌, ◌≢◌, ◌++◌, ◌+◌, IfOk, IfErr, IsCharBoundary, chars, length};
+ghost use Rattle.std.specs.Prelude.{◌≡◌, ◌≢◌, ◌++◌, ◌+◌, IfOk, IfErr, IsCharBoundary, chars};
 ghost use Rattle.std.specs.String.{string_bytes};
-ghost use Rattle.std.specs.Cow.{cow_str_bytes};
+ghost use Rattle.std.specs.Cow.{cow_str_bytes, IsOwnedStr};
 ghost use Rattle.jsonc_text.specs.Chars.{Steps};
 ghost use Rattle.jsonc_text.specs.Options.{all_on};
 ghost use Rattle.jsonc_text.specs.Strings.{IsQuote};
 ghost use Rattle.jsonc_text.specs.Text.{Many};
 ghost use Rattle.jsonc_string.specs.Between.{Between, Reaches, is_neither};
-ghost use Rattle.jsonc_string.specs.Escapes.{IsQuoted, NoQuoted, IsLentUnescaped, HoldsBackslash, IsStringRefusal, given};
+ghost use Rattle.jsonc_string.specs.Escapes.{IsQuoted, NoQuoted, IsLentUnescaped, StringHoldsBackslash, IsStringRefusal, given};
 ghost use Rattle.jsonc_string.specs.Told.{IsTold};
 
 use crate::escape::{Literal, StringFault, read_escape, unterminated};
@@ -39,7 +39,8 @@ pub fn decode_string<'a, A: Allocator>(
     ensures none { IfErr result (λ f. f.kind ≢ ParseStringErrorKind.OutOfMemory → NoQuoted literal.extended literal.quote text.now literal.start) }
     ensures places { IfErr result (IsStringRefusal text.now literal.start) }
     ensures told { IfErr result (IsTold literal.extended literal.quote text.now literal.start) }
-    ensures memory { IfErr result (λ f. f.kind ≡ ParseStringErrorKind.OutOfMemory → HoldsBackslash text.now literal.start (length text.now)) }
+    ensures memory { IfErr result (λ f. f.kind ≡ ParseStringErrorKind.OutOfMemory → StringHoldsBackslash text.now literal.start) }
+    ensures escaped { IfOk result (λ d. IsOwnedStr d.string → StringHoldsBackslash text.now literal.start) }
 {
     let first = literal.start + 1;
     let stop = stop_place(text, first, literal.quote, b'\\');

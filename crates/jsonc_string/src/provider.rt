@@ -1,6 +1,7 @@
 //! Decoding a string by itself, from a text or from a provider of characters.
 ghost use Rattle.std.specs.Prelude.{◌≡◌, ◌≤◌, ℕ, List, true, IfOk, IfErr, OnErr, IfSome, IfNone, IsCharBoundary};
 ghost use Rattle.jsonc_text.specs.Options.{all_on};
+ghost use Rattle.jsonc_string.specs.Escapes.{StringHoldsBackslash};
 ghost use Rattle.jsonc_string.specs.Parsed.{BeginsString, IsStringError, Parses, ParsesFront, PassesChar, StandsHere};
 ghost use Rattle.jsonc_string.specs.Quotes.{OpensString, OpensNoString};
 
@@ -30,6 +31,7 @@ pub fn parse_string<'a, A: Allocator>(
 ) -> Result<CowStr<'a, A>, ParseStringError>
     ensures found { IfOk result (ParsesFront true text.now 0) }
     ensures fault { IfErr result (IsStringError true text.now 0) }
+    ensures memory { IfErr result (λ e. e.kind ≡ ParseStringErrorKind.OutOfMemory → StringHoldsBackslash text.now 0) }
 {
     let Some(quote) = opening_quote(text, 0) else {
         return Err(ParseStringError {
@@ -78,6 +80,7 @@ pub fn parse_string_with_char_provider<'a, A: Allocator, T: CharProvider<'a>>(
     ensures text { T.bytes chars.new ≡ T.bytes chars.old }
     ensures found { IfOk result (Parses allow_extended_escapes (T.bytes chars.old) (T.place chars.old) (T.place chars.new)) }
     ensures fault { IfErr result (IsStringError allow_extended_escapes (T.bytes chars.old) (T.place chars.old)) }
+    ensures memory { IfErr result (λ e. e.kind ≡ ParseStringErrorKind.OutOfMemory → StringHoldsBackslash (T.bytes chars.old) (T.place chars.old)) }
     ensures stays { OnErr result (T.place chars.new ≡ T.place chars.old) }
 {
     let text = chars.text();
@@ -141,6 +144,7 @@ fn decode_at<'a, A: Allocator>(
     requires quote { OpensString all_on text.now start quote }
     ensures found { IfOk result (λ d. Parses extended text.now start d.end d.string) }
     ensures fault { IfErr result (IsStringError extended text.now start) }
+    ensures memory { IfErr result (λ e. e.kind ≡ ParseStringErrorKind.OutOfMemory → StringHoldsBackslash text.now start) }
 {
     let literal = Literal {
         start,

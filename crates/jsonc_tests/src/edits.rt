@@ -7,7 +7,8 @@ use crate::outcome::Outcome;
 use jsonc_edit::find;
 use jsonc_from_input::{Layout, lay_out_property};
 use jsonc_input::CstInputValue;
-use jsonc_run::{Edit, Stop, run};
+use jsonc_parser::cst::EditError;
+use jsonc_run::{Edit, run};
 use jsonc_to_input::to_value;
 use jsonc_tree::{CstNewlineKind, Tree};
 use std::fmt::Write;
@@ -59,7 +60,7 @@ fn is_edited(heap: Heap<'_>) -> Result<bool, Outcome> {
     let edits = edits(heap, value)?;
     match run(heap, &mut tree, edits.as_slice()) {
         Ok(()) => {}
-        Err((0, Stop::OutOfMemory)) => return Err(Outcome::Wanted),
+        Err((0, EditError::OutOfMemory)) => return Err(Outcome::Wanted),
         Err(_) => return Err(Outcome::Other),
     }
     let text = tree.to_string(heap)?;

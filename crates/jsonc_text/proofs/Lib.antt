@@ -26,3 +26,4 @@ pub mod UniqueValues
 pub mod UniqueWords
 pub mod WideBlanks
 pub mod WiderOptions
+pub mod Writing

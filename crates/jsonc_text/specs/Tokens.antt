@@ -1,8 +1,9 @@
 -- What a token stands for.
-use Rattle.std.specs.Prelude.{ℕ, List, [], ◌∷◌, Bool, ◌==◌, chars}
+use Rattle.std.specs.Prelude.{ℕ, List, [], ◌∷◌, Bool, ◌==◌, Option, Some, None, chars}
 use Rattle.std.specs.Ordering.{on, eq_of_both}
 use Rattle.std.specs.Cmp.Lexicographic.{pointwise}
 use Rattle.std.specs.Cow.{cow_str_bytes, IsOwnedStr}
+use Rattle.std.specs.declared.borrow.CowStr.TheVariants as cow
 use Rattle.jsonc_text.specs.declared.tokens.Token.{Token}
 use Rattle.jsonc_text.specs.declared.tokens.Token.TheVariants.{OpenBrace, CloseBrace, OpenBracket, CloseBracket, Comma, Colon, String, Word, Boolean, Number, Null, CommentLine, CommentBlock}
 use Rattle.jsonc_text.specs.Lexemes.{Scanned, lexeme, line_comment, block_comment, LexemeKind, punctuation, string, word, number, keyword}
@@ -60,3 +61,8 @@ module _ {A : Type 0} where
   abbrev pub IsOwned : Token A → Type 0
   IsOwned (String s) = IsOwnedStr s
   IsOwned _ = ⊥
+
+  -- the bytes that a string is lent by the text, where it owns none
+  abbrev pub lent_bytes : Token A → Option (List ℕ)
+  lent_bytes (String (cow.Borrowed s)) = Some s.now
+  lent_bytes _ = None

@@ -1,8 +1,8 @@
 //! What can be wrong with a text, and where. Each fault is told of a range of bytes and prints as one line, as `Expected comma on line 3 column 7`.
 ghost use Rattle.std.specs.Prelude.{◌≡◌, ◌≢◌, ◌++◌, Some};
-ghost use Rattle.std.specs.Fmt.{decimal};
+ghost use Rattle.std.specs.Fmt.{decimal, WritesOnOk, WritesStyledOnOk};
 ghost use Rattle.std.specs.Prelude.{codes};
-ghost use Rattle.jsonc_text.specs.Messages.{string_kind_text, kind_text, surrogate_text, error_text};
+ghost use Rattle.jsonc_text.specs.Messages.{digits_text, string_kind_text, kind_text, surrogate_text, error_text};
 
 use crate::common::Range;
 use crate::line::line_and_column;
@@ -58,6 +58,8 @@ pub enum ParseStringErrorKind {
 impl fmt::Display for ParseStringErrorKind {
     ghost output = { λ k. Some (string_kind_text k) };
 
+    ghost styled_output = { λ k _. Some (string_kind_text k) };
+
     fn fmt<W: fmt::Write>(&self, f: &mut fmt::Formatter<W>) -> fmt::Result {
         match self {
             ParseStringErrorKind::InvalidEscapeInSingleQuoteString => f.write_str(
@@ -69,14 +71,11 @@ impl fmt::Display for ParseStringErrorKind {
             ParseStringErrorKind::ExpectedFourHexDigits => f.write_str("Expected four hex digits"),
             ParseStringErrorKind::ExpectedTwoHexDigits => f.write_str("Expected two hex digits"),
             ParseStringErrorKind::InvalidUnicodeEscapeSequence(digits, fault) => {
-                let [a, b, c, d] = *digits;
-                let digits = (a as char, b as char, c as char, d as char);
-                let reason = fault.text();
-                write!(
-                    f,
-                    "Invalid unicode escape sequence. '{}{}{}{} ({reason})' is not a valid UTF8 character",
-                    digits.0, digits.1, digits.2, digits.3
-                )
+                f.write_str("Invalid unicode escape sequence. '")?;
+                write_digits(*digits, f)?;
+                f.write_str(" (")?;
+                f.write_str(fault.text())?;
+                f.write_str(")' is not a valid UTF8 character")
             }
             ParseStringErrorKind::InvalidEscape => f.write_str("Invalid escape"),
             ParseStringErrorKind::UnterminatedStringLiteral => f.write_str(
@@ -85,6 +84,18 @@ impl fmt::Display for ParseStringErrorKind {
             ParseStringErrorKind::OutOfMemory => f.write_str("Out of memory"),
         }
     }
+}
+
+/// Writes four digits as they stand in a text.
+fn write_digits<W: fmt::Write>(digits: [u8; 4], f: &mut fmt::Formatter<W>) -> fmt::Result
+    ensures writes { WritesOnOk W.write_str_gives f.old result (digits_text digits) f.new }
+    ensures styled { WritesStyledOnOk W.write_str_gives f.old result (digits_text digits) f.new }
+{
+    let [a, b, c, d] = digits;
+    f.write_char(a as char)?;
+    f.write_char(b as char)?;
+    f.write_char(c as char)?;
+    f.write_char(d as char)
 }
 
 impl Error for ParseStringErrorKind {}
@@ -153,6 +164,8 @@ pub enum ParseErrorKind {
 impl fmt::Display for ParseErrorKind {
     ghost output = { λ k. Some (kind_text k) };
 
+    ghost styled_output = { λ k _. Some (kind_text k) };
+
     fn fmt<W: fmt::Write>(&self, f: &mut fmt::Formatter<W>) -> fmt::Result {
         match self {
             ParseErrorKind::String(kind) => kind.fmt(f),
@@ -213,12 +226,24 @@ pub struct ParseError {
 impl fmt::Display for ParseError {
     ghost output = { λ e. Some (error_text e) };
 
+    ghost styled_output = { λ e _. Some (error_text e) };
+
     fn fmt<W: fmt::Write>(&self, f: &mut fmt::Formatter<W>) -> fmt::Result {
-        let kind = self.kind;
-        let line = self.line_display;
-        let column = self.column_display;
-        write!(f, "{kind} on line {line} column {column}")
+        self.kind.fmt(f)?;
+        f.write_str(" on line ")?;
+        write_number(self.line_display, f)?;
+        f.write_str(" column ")?;
+        write_number(self.column_display, f)
     }
+}
+
+/// Writes a number in decimal, with no blanks or zeros before it, whatever the options of the format.
+fn write_number<W: fmt::Write>(number: usize, f: &mut fmt::Formatter<W>) -> fmt::Result
+    ensures writes { WritesOnOk W.write_str_gives f.old result (decimal number) f.new }
+    ensures styled { WritesStyledOnOk W.write_str_gives f.old result (decimal number) f.new }
+{
+    let mut digits = itoa::Buffer::new();
+    f.write_str(digits.format(number))
 }
 
 impl Error for ParseError {}

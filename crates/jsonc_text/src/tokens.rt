@@ -4,7 +4,7 @@ ghost use Rattle.std.specs.Ordering.{on};
 ghost use Rattle.std.specs.Cmp.Rules.{comparing};
 ghost use Rattle.std.proofs.Common.{rules};
 ghost use Rattle.std.specs.Bool.{Decides};
-ghost use Rattle.jsonc_text.specs.Tokens.{scanned_of, scanned_text, scanned_class, same_scanned, IsOwned};
+ghost use Rattle.jsonc_text.specs.Tokens.{scanned_of, scanned_text, scanned_class, same_scanned, IsOwned, lent_bytes};
 
 use crate::common::{Range, Ranged};
 use std::alloc::{AllocError, Allocator};
@@ -105,6 +105,7 @@ impl<'a, A: Allocator + Copy> Token<'a, A> {
     pub fn try_clone(&self) -> Result<Token<'a, A>, AllocError>
         ensures same { IfOk result (λ copy. scanned_of copy ≡ scanned_of self.now) }
         ensures owned { IfOk result (λ copy. IsOwned copy → IsOwned self.now) }
+        ensures lent { IfOk result (λ copy. lent_bytes copy ≡ lent_bytes self.now) }
         ensures refused { OnErr result (IsOwned self.now) }
     {
         match self {

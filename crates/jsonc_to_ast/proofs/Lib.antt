@@ -22,4 +22,5 @@ pub mod Unique
 pub mod Order
 pub mod Documents
 pub mod Rows
+pub mod Spelling
 pub mod ReadsToEnd

@@ -1,4 +1,6 @@
 -- Reading on in a container.
+use Rattle.jsonc_ast.specs.declared.ast.ObjectPropName.{ObjectPropName}
+use Rattle.jsonc_to_ast.specs.Written.{IsLentHere, AreWrittenIn}
 use Rattle.std.proofs.Common.{ℕ, suc, ◌+◌, ◌<◌, ◌≤◌, ◌≡◌, ◌≢◌, ◌∙◌, sym, ap, subst, refl, Bool, true, false, List, [], ◌∷◌, length, Option, Some, None, IfSome, ◌⊎◌, inl, inr, arith, IsTrue, nat_lt}
 use Rattle.jsonc_text.specs.declared.errors.ParseError.{ParseError}
 use Rattle.jsonc_text.specs.declared.errors.ParseErrorKind.TheVariants.{NestingDepthExceeded, ExpectedObjectValue, MultipleRootJsonValues}
@@ -418,15 +420,19 @@ module _ {A : Type 0} where
   from_old old mid start at_start kept = ap (rest (text_in old)) (sym at_start) ∙ ap (λ b. rest b start) (sym kept.text)
 
   -- an array's elements so far, and what is left of it
-  pub record ElementsGoOn (old now : Context A) (next : Option (Token A)) (xs : List Located) (n : ℕ) : Type 0 where
+  pub record ElementsGoOn (old now : Context A) (next : Option (Token A)) (xs : List Located) (names : List (ObjectPropName A)) (n : ℕ) : Type 0 where
     pub so_far : Elements old now next xs n
     pub left : ElementsLeft old now next n
     pub collects : Collects old now
     pub reading : GoesOn true Array old now next n
+    pub lent : IsLentHere now next
+    pub written : AreWrittenIn old names
 
   -- an object's properties
-  pub record PropertiesGoOn (old now : Context A) (next : Option (Token A)) (xs : List LocatedMember) (n : ℕ) : Type 0 where
+  pub record PropertiesGoOn (old now : Context A) (next : Option (Token A)) (xs : List LocatedMember) (names : List (ObjectPropName A)) (n : ℕ) : Type 0 where
     pub so_far : Properties old now next xs n
     pub left : PropertiesLeft old now next n
     pub collects : Collects old now
     pub reading : GoesOn true Object old now next n
+    pub lent : IsLentHere now next
+    pub written : AreWrittenIn old names

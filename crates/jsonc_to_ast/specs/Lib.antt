@@ -9,3 +9,4 @@ pub mod Collected
 pub mod Reached
 pub mod Told
 pub mod Laws
+pub mod Written

@@ -45,6 +45,7 @@ impl<'a, A: Allocator + Copy> Context<'a, A> {
     ghost use Rattle.jsonc_to_ast.specs.Reached.{Due};
     ghost use Rattle.jsonc_to_ast.specs.Context.{IsBracket};
     ghost use Rattle.jsonc_to_ast.specs.Refusals.{here, after};
+    ghost use Rattle.jsonc_to_ast.specs.Written.{IsLentHere, IsWritten};
     ghost use Rattle.jsonc_to_ast.specs.Collected.{takes_comments, is_separate, collected, CollectsLast, CollectsComment, OmitsComment, HasNoted, NotesComment, NotesLexeme, ShowsNoted, Collects};
 
     /// A parser at the start of a text.
@@ -288,6 +289,7 @@ impl<'a, A: Allocator + Copy> Context<'a, A> {
         ensures kept { Keeps self.old self.new }
         ensures found { IfOk result (Finds (Gap (options_in self.old)) self.old self.new) }
         ensures lexeme { IfOk result IsNoComment }
+        ensures lent { IfOk result (IsLentHere self.new) }
         ensures collects { OnOk result (Collects self.old self.new) }
         ensures refused { IfErr result (Tells (NoTokenAfter self.old)) }
         ensures fault { IfErr result (IsFault (text_in self.old)) }
@@ -324,6 +326,7 @@ impl<'a, A: Allocator + Copy> Context<'a, A> {
         ensures kept { Keeps self.old self.new }
         ensures found { IfOk result (LeadsToFirst container self.old self.new) }
         ensures only { IfOk result (WhereSome (OnlyFirst container self.old self.new)) }
+        ensures lent { IfOk result (IsLentHere self.new) }
         ensures collects { OnOk result (Collects self.old self.new) }
         ensures refused { IfErr result (Tells (NothingFirst container self.old)) }
         ensures fault { IfErr result (IsFault (text_in self.old)) }
@@ -350,6 +353,7 @@ impl<'a, A: Allocator + Copy> Context<'a, A> {
         ensures kept { Keeps self.old self.new }
         ensures found { IfOk result (LeadsAfterComma container self.old self.new) }
         ensures only { IfOk result (WhereSome (OnlyAfterComma container self.old self.new)) }
+        ensures lent { IfOk result (IsLentHere self.new) }
         ensures collects { OnOk result (Collects self.old self.new) }
         ensures refused { IfErr result (Tells (NothingAfterComma container self.old)) }
         ensures fault { IfErr result (IsFault (text_in self.old)) }
@@ -395,6 +399,7 @@ impl<'a, A: Allocator + Copy> Context<'a, A> {
         ensures kept { Keeps self.old self.new }
         ensures found { IfOk result (LeadsToNext container self.old self.new) }
         ensures only { IfOk result (WhereSome (OnlyNext container self.old self.new)) }
+        ensures lent { IfOk result (IsLentHere self.new) }
         ensures collects { OnOk result (Collects self.old self.new) }
         ensures refused { IfErr result (Tells (NothingNext container self.old)) }
         ensures fault { IfErr result (IsFault (text_in self.old)) }
@@ -423,6 +428,7 @@ impl<'a, A: Allocator + Copy> Context<'a, A> {
         requires { IsToken self.now token }
         ensures name { IfOk result (λ n. IsNameHere self.now (name_at n)) }
         ensures range { IfOk result (λ n. (name_at n).range ≡ token_range self.now) }
+        ensures written { IfOk result (λ n. IsLentHere self.now (Some token.entry) → IsWritten (options_in self.now) (text_in self.now) n) }
         ensures refused { IfErr result (λ _. NoName self.now) }
         ensures fault { IfErr result (IsFault (text_in self.now)) }
         ensures told { IfErr result (IsWrongName self.now token.entry) }

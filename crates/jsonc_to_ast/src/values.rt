@@ -1,5 +1,5 @@
 //! Values read by recursive descent.
-ghost use Rattle.std.specs.Prelude.{◌≡◌, ◌+◌, ◌≤◌, IfOk, IfErr, OnOk, IfSome, true, option_map, is_some, chars};
+ghost use Rattle.std.specs.Prelude.{◌≡◌, ◌+◌, ◌≤◌, IfOk, IfErr, OnOk, IfSome, Some, true, option_map, is_some, chars};
 ghost use Rattle.jsonc_text.specs.Faults.{IsFault};
 ghost use Rattle.jsonc_text.specs.Grammar.{IsDocument};
 ghost use Rattle.jsonc_text.specs.OptionsOf.{parse_options};
@@ -13,8 +13,10 @@ ghost use Rattle.jsonc_to_ast.specs.Refusals.{NoLiteral, NoPropertyHere, NoValue
 ghost use Rattle.jsonc_to_ast.specs.Scanned.{leaf_value};
 ghost use Rattle.jsonc_to_ast.specs.Told.{IsTold, IsUnexpected, StopsAtContainer, StopsAtItem, StopsAtValue};
 ghost use Rattle.jsonc_to_ast.specs.declared.container.Container.TheVariants.{Object};
+ghost use Rattle.jsonc_ast.specs.Spelled.{spelled, spelled_in_property};
 ghost use Rattle.jsonc_ast.specs.Views.{located, member_of, plain};
 ghost use Rattle.jsonc_to_ast.specs.Results.{located_in, plain_in};
+ghost use Rattle.jsonc_to_ast.specs.Written.{AreWritten, AreWrittenIn, IsLentHere, spelled_of};
 
 use crate::collect::{CollectOptions, ParseResult};
 use crate::container::{Container, unexpected};
@@ -32,7 +34,8 @@ use std::alloc::Allocator;
 /// The value that a token is by itself.
 #[inline(always)]
 fn leaf<'a, A: Allocator>(token: Token<'a, A>, range: Range) -> Option<Value<'a, A>>
-    ensures { option_map located result ≡ option_map (leaf_at range) (leaf_value (scanned_of token.entry)) }
+    ensures located { option_map located result ≡ option_map (leaf_at range) (leaf_value (scanned_of token.entry)) }
+    ensures spelled { IfSome result (λ v. spelled v ≡ spelled_of range token.entry) }
 {
     match token {
         Token::String(value) => Some(Value::StringLit(StringLit { range, value })),
@@ -51,6 +54,7 @@ fn parse_leaf<'a, A: Allocator + Copy>(
 ) -> Result<Value<'a, A>, ParseError>
     requires { IsToken context.now token }
     ensures found { IfOk result (λ v. Reads context.now context.now (located v)) }
+    ensures written { IfOk result (λ v. IsLentHere context.now (Some token.entry) → AreWrittenIn context.now (spelled v)) }
     ensures within { IfOk result (λ v. around (plain v) ≡ 0) }
     ensures refused { IfErr result (λ _. NoLiteral context.now) }
     ensures fault { IfErr result (IsFault (text_in context.now)) }
@@ -76,6 +80,7 @@ fn parse_value<'a, A: Allocator + Copy>(
     ensures kept { OnOk result (Keeps context.old context.new) }
     ensures collects { OnOk result (Collects context.old context.new) }
     ensures found { IfOk result (λ v. Reads context.old context.new (located v)) }
+    ensures written { IfOk result (λ v. IsLentHere context.old (Some token.entry) → AreWrittenIn context.old (spelled v)) }
     ensures within { IfOk result (λ v. around (plain v) + count ≤ 512) }
     ensures refused { IfErr result (Tells (NoValueHere context.old count)) }
     ensures fault { IfErr result (IsFault (text_in context.old)) }
@@ -100,6 +105,7 @@ fn parse_array<'a, A: Allocator + Copy>(
     ensures kept { OnOk result (Keeps context.old context.new) }
     ensures collects { OnOk result (Collects context.old context.new) }
     ensures found { IfOk result (λ v. Reads context.old context.new (located v)) }
+    ensures written { IfOk result (λ v. AreWrittenIn context.old (spelled v)) }
     ensures within { IfOk result (λ v. around (plain v) + count ≤ 512) }
     ensures refused { IfErr result (Tells (NoValueHere context.old count)) }
     ensures fault { IfErr result (IsFault (text_in context.old)) }
@@ -131,6 +137,7 @@ fn parse_object<'a, A: Allocator + Copy>(
     ensures kept { OnOk result (Keeps context.old context.new) }
     ensures collects { OnOk result (Collects context.old context.new) }
     ensures found { IfOk result (λ v. Reads context.old context.new (located v)) }
+    ensures written { IfOk result (λ v. AreWrittenIn context.old (spelled v)) }
     ensures within { IfOk result (λ v. around (plain v) + count ≤ 512) }
     ensures refused { IfErr result (Tells (NoValueHere context.old count)) }
     ensures fault { IfErr result (IsFault (text_in context.old)) }
@@ -162,6 +169,7 @@ fn parse_property<'a, A: Allocator + Copy>(
     ensures kept { OnOk result (Keeps context.old context.new) }
     ensures collects { OnOk result (Collects context.old context.new) }
     ensures found { IfOk result (λ p. ReadsMember context.old context.new (member_of p)) }
+    ensures written { IfOk result (λ p. IsLentHere context.old (Some token.entry) → AreWrittenIn context.old (spelled_in_property p)) }
     ensures within { IfOk result (λ p. around (value_at (member_of p).value) + (count + 1) ≤ 512) }
     ensures refused { IfErr result (Tells (NoPropertyHere context.old count)) }
     ensures fault { IfErr result (IsFault (text_in context.old)) }
@@ -192,6 +200,7 @@ pub fn parse_to_ast<'a, A: Allocator + Copy>(
 ) -> Result<ParseResult<'a, A>, ParseError>
     ensures accepted { IfOk result (λ r. IsDocument (parse_options options.now) (chars text.now) (plain_in r)) }
     ensures located { IfOk result (λ r. IsLocatedDocument (parse_options options.now) text.now (located_in r)) }
+    ensures written { IfOk result (λ r. IfSome r.value (λ v. AreWritten (parse_options options.now) text.now (spelled v))) }
     ensures within { IfOk result (λ r. IfSome r.value (λ v. around (plain v) ≤ 512)) }
     ensures refused { IfErr result (RefusesText (parse_options options.now) text.now) }
     ensures tokens { IfOk result (λ r. is_some r.tokens ≡ collect.now.tokens) }

@@ -116,9 +116,8 @@ fn take_elements<A: Allocator, B: Allocator + Copy>(
     ensures { IfOk result (λ v. ElementsTaken tree.now.nodes array v.items) }
 {
     let mut elements = Vec::new(alloc);
-    let count = tree.child_count(array);
-    for place in 0..count {
-        if let Some(value) = take(alloc, tree, tree.child_at(array, place))? {
+    for child in tree.children(array) {
+        if let Some(value) = take(alloc, tree, child)? {
             elements.push(value)?;
         }
     }
@@ -137,9 +136,8 @@ fn take_properties<A: Allocator, B: Allocator + Copy>(
     ensures { IfOk result (λ v. MembersTaken tree.now.nodes object v.items) }
 {
     let mut properties = IndexMap::new(alloc);
-    let count = tree.child_count(object);
-    for place in 0..count {
-        if let Some((name, value)) = take_property(alloc, tree, tree.child_at(object, place))? {
+    for child in tree.children(object) {
+        if let Some((name, value)) = take_property(alloc, tree, child)? {
             put_property(&mut properties, name, value)?;
         }
     }

@@ -1,47 +1,16 @@
--- How the nodes are stored in memory.
-use Rattle.std.specs.Prelude.{◌≡◌, ◌≤◌, ◌<◌, length, drop, slice_range, Vec, ℕ, ◌+◌, ◌-◌, List, [], ◌∷◌, Option, string_bytes, vec_len, vec_capacity, map, slice_index, slice_set}
-use Rattle.std.specs.List.{splice}
+-- How the nodes are stored in memory: by links.
+use Rattle.std.specs.Prelude.{◌≡◌, ◌≤◌, ◌^◌, ◌-◌, length, Vec, ℕ, zero, suc, List, [], ◌∷◌, Option, Some, None, string_bytes, map, slice_index_or, slice_get, slice_set}
 use Rattle.jsonc_tree.specs.Content as content
-use Rattle.jsonc_tree.specs.Content.{with_text}
 use Rattle.jsonc_tree.specs.Tree as tree
+use Rattle.jsonc_tree.specs.Tree.{children_at, parent_at, IsTree}
+use Rattle.jsonc_tree.specs.Siblings.{before}
 use Rattle.jsonc_tree.specs.declared.node.Kind.{Kind}
 use Rattle.jsonc_tree.specs.declared.node.Node.{Node}
 use Rattle.jsonc_tree.specs.declared.node.Kind.TheVariants.{Root, Object, Array, Property, String, Word, Number, Boolean, Null, Token, Whitespace, Newline, Comment, StringPart, WordPart, NumberPart, WhitespacePart, CommentPart}
 
--- the nodes, but for the parent of one
-abbrev pub parent_set : List tree.Node → ℕ → Option ℕ → List tree.Node
-parent_set ns n parent = slice_set ns n (record (tree.node_at ns n) { parent = parent })
-
--- but for the room of one
-abbrev pub room_set : List tree.Node → ℕ → ℕ → List tree.Node
-room_set ns n room = slice_set ns n (record (tree.node_at ns n) { room = room })
-
--- but for the text of one
-abbrev pub text_set : List tree.Node → ℕ → List ℕ → List tree.Node
-text_set ns n s = slice_set ns n (record (tree.node_at ns n) { content = with_text (tree.content_at ns n) s })
-
--- but that a stretch of the container's children has given way to these, and no room is lost
-abbrev pub Refills : List tree.Node → List tree.Node → ℕ → ℕ → ℕ → List ℕ → Type 0
-Refills old new c i j xs = (more : ℕ) × (tree.room_at old c + (j - i) ≤ more + length xs) × (new ≡ slice_set old c (record (tree.node_at old c) { children = splice (tree.children_at old c) i j xs; room = more }))
-
--- the container's children are among so many nodes
-abbrev pub ChildrenThere : List tree.Node → ℕ → ℕ → Type 0
-ChildrenThere ns c size = (k : ℕ) → k < length (tree.children_at ns c) → slice_index (tree.children_at ns c) k < size
-
--- these nodes get this parent
-abbrev pub linked : List tree.Node → Option ℕ → List ℕ → List tree.Node
-linked ns parent [] = ns
-linked ns parent (x ∷ xs) = linked (parent_set ns x parent) parent xs
-
--- these nodes get the places from `first` on
-abbrev pub placed : List ℕ → ℕ → List ℕ → List ℕ
-placed ps first [] = ps
-placed ps first (x ∷ xs) = placed (slice_set ps x first) (first + 1) xs
-
--- these nodes get place 0
-abbrev pub unplaced : List ℕ → List ℕ → List ℕ
-unplaced ps [] = ps
-unplaced ps (x ∷ xs) = unplaced (slice_set ps x 0) xs
+-- how many more children a row takes: more than any number in memory
+abbrev pub room_over : List ℕ → ℕ
+room_over row = 2 ^ 65 - length row
 
 module _ {A : Type 0} where
   -- what a node of this kind is
@@ -65,33 +34,77 @@ module _ {A : Type 0} where
   content_of (WhitespacePart s) = content.whitespace s
   content_of (CommentPart s) = content.comment s
 
-  abbrev pub node_of : Node A → tree.Node
-  node_of n = record { content = content_of n.kind; parent = n.parent; children = n.children.items; room = vec_capacity n.children - vec_len n.children }
+  -- a node that is nobody's child
+  abbrev pub bare : Kind A → Node A
+  bare kind = record { kind = kind; parent = None; previous = None; next = None; first = None; last = None }
+
+  abbrev pub nowhere : Node A
+  nowhere = record { kind = Null; parent = None; previous = None; next = None; first = None; last = None }
+
+  abbrev pub link_at : List (Node A) → ℕ → Node A
+  link_at ls n = slice_index_or ls n nowhere
+
+  -- the nodes from here on along the next links, in at most so many steps
+  abbrev pub chain : ℕ → List (Node A) → Option ℕ → List ℕ
+  chain steps ls None = []
+  chain zero ls (Some n) = []
+  chain (suc steps) ls (Some n) = n ∷ chain steps ls (link_at ls n).next
+
+  -- a node as it is shown
+  abbrev pub shown : List (Node A) → Node A → tree.Node
+  shown ls n = record { content = content_of n.kind; parent = n.parent; children = chain (length ls) ls n.first; room = room_over (chain (length ls) ls n.first) }
 
   abbrev pub nodes_of : List (Node A) → List tree.Node
-  nodes_of = map node_of
+  nodes_of ls = map (shown ls) ls
 
-  abbrev pub places_of : List (Node A) → List ℕ
-  places_of = map (λ n. n.place)
-
-  -- the place that a node keeps in its own field
-  abbrev pub place_in : List (Node A) → ℕ → ℕ
-  place_in ns n = slice_index (places_of ns) n
-
-  -- the nodes and places of a vector
   abbrev pub nodes_in : Vec (Node A) A → List tree.Node
   nodes_in v = nodes_of v.items
 
-  abbrev pub places_in : Vec (Node A) A → List ℕ
-  places_in v = places_of v.items
+  -- the link from a child of the container to the next, or from the container to its first
+  abbrev pub ahead_at : List (Node A) → ℕ → Option ℕ → Option ℕ
+  ahead_at ls c None = (link_at ls c).first
+  ahead_at ls c (Some n) = (link_at ls n).next
 
-  -- a stretch of the container's children, or all from a place on
-  abbrev pub stretch : Vec (Node A) A → ℕ → ℕ → ℕ → List ℕ
-  stretch v c from to = slice_range (tree.children_at (nodes_in v) c) from to
+  -- the link from a child of the container to the one before, or from the container to its last
+  abbrev pub back_at : List (Node A) → ℕ → Option ℕ → Option ℕ
+  back_at ls c None = (link_at ls c).last
+  back_at ls c (Some n) = (link_at ls n).previous
 
-  abbrev pub tail : Vec (Node A) A → ℕ → ℕ → List ℕ
-  tail v c from = drop from (tree.children_at (nodes_in v) c)
+  -- the nodes, but that this link leads here
+  abbrev pub ahead_set : List (Node A) → ℕ → Option ℕ → Option ℕ → List (Node A)
+  ahead_set ls c None to = slice_set ls c (record (link_at ls c) { first = to })
+  ahead_set ls c (Some n) to = slice_set ls n (record (link_at ls n) { next = to })
 
-  -- the nodes are a tree, and each keeps its place in its own field
-  abbrev pub IsStored : List (Node A) → Type 0
-  IsStored ns = tree.IsTreeBy (nodes_of ns) (place_in ns)
+  abbrev pub back_set : List (Node A) → ℕ → Option ℕ → Option ℕ → List (Node A)
+  back_set ls c None to = slice_set ls c (record (link_at ls c) { last = to })
+  back_set ls c (Some n) to = slice_set ls n (record (link_at ls n) { previous = to })
+
+  -- but that this node has this parent and these neighbours
+  abbrev pub place_set : List (Node A) → ℕ → Option ℕ → Option ℕ → Option ℕ → List (Node A)
+  place_set ls n parent previous next = slice_set ls n (record (link_at ls n) { parent = parent; previous = previous; next = next })
+
+  -- Over each gap of each row the links lead from what stands before it to what stands behind it, and back; the container stands at both ends of its row. A
+  -- node without a parent has no neighbours.
+  pub record IsLinked (ls : List (Node A)) (ns : List tree.Node) : Type 0 where
+    pub ahead : (c k : ℕ) → k ≤ length (children_at ns c) → ahead_at ls c (before (children_at ns c) k) ≡ slice_get (children_at ns c) k
+    pub back : (c k : ℕ) → k ≤ length (children_at ns c) → back_at ls c (slice_get (children_at ns c) k) ≡ before (children_at ns c) k
+    pub alone : (n : ℕ) → parent_at ns n ≡ None → ((link_at ls n).next ≡ None) × ((link_at ls n).previous ≡ None)
+
+  -- the nodes from here on along the previous links, in at most so many steps
+  abbrev pub chain_back : ℕ → List (Node A) → Option ℕ → List ℕ
+  chain_back steps ls None = []
+  chain_back zero ls (Some n) = []
+  chain_back (suc steps) ls (Some n) = n ∷ chain_back steps ls (link_at ls n).previous
+
+  -- this stands before a gap of a row
+  abbrev pub StandsBefore : List (Node A) → Option ℕ → Type 0
+  StandsBefore ls o = (c : ℕ) × (k : ℕ) × (k ≤ length (children_at (nodes_of ls) c)) × (o ≡ before (children_at (nodes_of ls) c) k)
+
+  -- this stands at a place of a row, or past its end
+  abbrev pub Stands : List (Node A) → Option ℕ → Type 0
+  Stands ls o = (c : ℕ) × (k : ℕ) × (k ≤ length (children_at (nodes_of ls) c)) × (o ≡ slice_get (children_at (nodes_of ls) c) k)
+
+  -- what is shown is a tree, and the links are those of its rows
+  pub record IsStored (ls : List (Node A)) : Type 0 where
+    pub tree : IsTree (nodes_of ls)
+    pub linked : IsLinked ls (nodes_of ls)

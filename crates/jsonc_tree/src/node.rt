@@ -2,8 +2,9 @@
 
 ghost use Rattle.std.specs.Prelude.{◌≡◌, IsTrue, option_map, string_bytes};
 ghost use Rattle.jsonc_tree.specs.Content.{has_text, is_container, kept_text, with_text};
-ghost use Rattle.jsonc_tree.specs.Stored.{content_of};
+ghost use Rattle.jsonc_tree.specs.Stored.{bare, content_of};
 
+use crate::link::Link;
 use crate::part::Part;
 use std::alloc::Allocator;
 
@@ -93,11 +94,27 @@ impl<A: Allocator> Kind<A> {
     }
 }
 
-// A node as it is stored: its place is that among its parent's children, or 0.
+// A node as it is stored: its neighbours are those among its parent's children.
 #[derive(Drop)]
 pub(crate) struct Node<A: Allocator> {
     pub(crate) kind: Kind<A>,
-    pub(crate) parent: Option<usize>,
-    pub(crate) place: usize,
-    pub(crate) children: Vec<usize, A>,
+    pub(crate) parent: Link,
+    pub(crate) previous: Link,
+    pub(crate) next: Link,
+    pub(crate) first: Link,
+    pub(crate) last: Link,
+}
+
+// A node that is nobody's child.
+pub(crate) fn bare_node<A: Allocator>(kind: Kind<A>) -> Node<A>
+    ensures { result ≡ bare kind }
+{
+    Node {
+        kind,
+        parent: Link::from_option(None),
+        previous: Link::from_option(None),
+        next: Link::from_option(None),
+        first: Link::from_option(None),
+        last: Link::from_option(None),
+    }
 }

@@ -1,20 +1,20 @@
 //! Printing: the texts of the leaves in order.
 
 ghost use Rattle.std.specs.Prelude.{◌≡◌, ◌<◌, Some, length, vec_len};
-ghost use Rattle.std.specs.Fmt.{WritesOnOk};
+ghost use Rattle.std.specs.Fmt.{WritesOnOk, WritesStyledOnOk};
 ghost use Rattle.jsonc_tree.specs.Content.{text_of};
 ghost use Rattle.jsonc_tree.specs.OrderedTree.{ordered_tree, printed};
 ghost use Rattle.jsonc_tree.specs.Stored.{content_of, nodes_in, IsStored};
 
 use crate::node::{CstNewlineKind, Kind, Node};
 use crate::tree::Tree;
-use crate::walk::node_after;
+use crate::walk::{kind_of, node_after};
 use std::alloc::Allocator;
 use std::fmt;
 use std::marker::Model;
 
 fn write_own<A: Allocator, W: fmt::Write>(kind: &Kind<A>, f: &mut fmt::Formatter<W>) -> fmt::Result
-    ensures { WritesOnOk W.write_str_gives f.old result (text_of (content_of kind.now)) f.new }
+    ensures { WritesStyledOnOk W.write_str_gives f.old result (text_of (content_of kind.now)) f.new }
 {
     match kind {
         Kind::Root | Kind::Object | Kind::Array | Kind::Property => Ok(()),
@@ -24,7 +24,7 @@ fn write_own<A: Allocator, W: fmt::Write>(kind: &Kind<A>, f: &mut fmt::Formatter
         Kind::Boolean(true) => f.write_str("true"),
         Kind::Boolean(false) => f.write_str("false"),
         Kind::Null => f.write_str("null"),
-        Kind::Token(c) => write!(f, "{c}"),
+        Kind::Token(c) => f.write_char(*c),
         Kind::Whitespace(s) => f.write_str(s.as_str()),
         Kind::Newline(CstNewlineKind::LineFeed) => f.write_str("\n"),
         Kind::Newline(CstNewlineKind::CarriageReturnLineFeed) => f.write_str("\r\n"),
@@ -46,12 +46,12 @@ fn write_below<A: Allocator, W: fmt::Write>(
 ) -> fmt::Result
     requires stored { IsStored nodes.now.items }
     requires there { end < vec_len nodes.now }
-    ensures { WritesOnOk W.write_str_gives f.old result (printed (ordered_tree (nodes_in nodes.now) end)) f.new }
+    ensures writes { WritesOnOk W.write_str_gives f.old result (printed (ordered_tree (nodes_in nodes.now) end)) f.new }
+    ensures styled { WritesStyledOnOk W.write_str_gives f.old result (printed (ordered_tree (nodes_in nodes.now) end)) f.new }
 {
     let mut next = Some(end);
     while let Some(n) = next {
-        let node = &nodes[n];
-        write_own(&node.kind, f)?;
+        write_own(kind_of(nodes, n), f)?;
         next = node_after(nodes, end, n);
     }
     Ok(())
@@ -98,6 +98,8 @@ impl<A: Allocator> Tree<A> {
 impl<'a, A: Allocator> fmt::Display for Shown<'a, A> {
     ghost output = { λ s. Some (printed (ordered_tree s.nodes s.node)) };
 
+    ghost styled_output = { λ s _. Some (printed (ordered_tree s.nodes s.node)) };
+
     fn fmt<W: fmt::Write>(&self, f: &mut fmt::Formatter<W>) -> fmt::Result {
         write_below(self.nodes, self.node, f)
     }
@@ -106,6 +108,8 @@ impl<'a, A: Allocator> fmt::Display for Shown<'a, A> {
 /// Writes the document: the texts of its leaves, in order.
 impl<A: Allocator> fmt::Display for Tree<A> {
     ghost output = { λ t. Some (printed (ordered_tree t.nodes 0)) };
+
+    ghost styled_output = { λ t _. Some (printed (ordered_tree t.nodes 0)) };
 
     fn fmt<W: fmt::Write>(&self, f: &mut fmt::Formatter<W>) -> fmt::Result {
         write_below(&self.nodes, 0, f)

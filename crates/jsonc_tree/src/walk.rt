@@ -1,51 +1,94 @@
-//! Walks over a tree: up, across and in the order of the document.
+//! Walks over a tree: up, along a row and in the order of the document.
 
-ghost use Rattle.std.specs.Prelude.{◌≡◌, ◌<◌, ◌∷◌, length, slice_index, Some, IfSome, vec_len};
+ghost use Rattle.std.specs.Prelude.{◌≡◌, ◌<◌, ◌≤◌, ◌∷◌, length, slice_index, slice_get, Some, IfSome};
+ghost use Rattle.std.specs.Prelude.{vec_len};
 ghost use Rattle.std.specs.Iterator.{YieldsFirst, item_count};
 ghost use Rattle.jsonc_tree.specs.Tree.{children_at, content_at, parent_at, place_at, IsOver};
 ghost use Rattle.jsonc_tree.specs.Order.{following, rest_at, upward};
 ghost use Rattle.jsonc_tree.specs.Stored.{content_of, nodes_in, IsStored};
 
+use crate::links::{first_of, next_of, parent_of, previous_of};
 use crate::node::{Kind, Node};
+use crate::siblings::first_in;
 use crate::tree::Tree;
 use std::alloc::Allocator;
 use std::marker::Model;
 
-fn kind_of<A: Allocator>(nodes: &Vec<Node<A>, A>, n: usize) -> &Kind<A>
+pub(crate) fn kind_of<A: Allocator>(nodes: &Vec<Node<A>, A>, n: usize) -> &Kind<A>
     requires { n < vec_len nodes.now }
     ensures { content_of result.now ≡ content_at (nodes_in nodes.now) n }
 {
     &nodes[n].kind
 }
 
-fn parent_of<A: Allocator>(nodes: &Vec<Node<A>, A>, n: usize) -> Option<usize>
+pub(crate) fn parent_in<A: Allocator>(nodes: &Vec<Node<A>, A>, n: usize) -> Option<usize>
     requires { n < vec_len nodes.now }
     ensures { result ≡ parent_at (nodes_in nodes.now) n }
 {
-    nodes[n].parent
+    parent_of(nodes, n)
 }
 
+// How many children a node has, counted along the links.
+fn count_of<A: Allocator>(nodes: &Vec<Node<A>, A>, c: usize) -> usize
+    requires stored { IsStored nodes.now.items }
+    requires there { c < vec_len nodes.now }
+    ensures { result ≡ length (children_at (nodes_in nodes.now) c) }
+{
+    let mut count = 0;
+    let mut at = first_of(nodes, c);
+    while let Some(n) = at {
+        count += 1;
+        at = next_of(nodes, n);
+    }
+    count
+}
+
+// A node's place among its parent's children, or 0, counted along the links.
 fn place_of<A: Allocator>(nodes: &Vec<Node<A>, A>, n: usize) -> usize
     requires stored { IsStored nodes.now.items }
     requires there { n < vec_len nodes.now }
     ensures { result ≡ place_at (nodes_in nodes.now) n }
 {
-    nodes[n].place
+    let mut count = 0;
+    let mut at = previous_of(nodes, n);
+    while let Some(m) = at {
+        count += 1;
+        at = previous_of(nodes, m);
+    }
+    count
 }
 
-pub(crate) fn count_of<A: Allocator>(nodes: &Vec<Node<A>, A>, c: usize) -> usize
-    requires { c < vec_len nodes.now }
-    ensures { result ≡ length (children_at (nodes_in nodes.now) c) }
+// The child at a place, if there is one, counted along the links.
+pub(crate) fn child_from<A: Allocator>(
+    nodes: &Vec<Node<A>, A>,
+    c: usize,
+    place: usize,
+) -> Option<usize>
+    requires stored { IsStored nodes.now.items }
+    requires there { c < vec_len nodes.now }
+    requires within { place ≤ length (children_at (nodes_in nodes.now) c) }
+    ensures { result ≡ slice_get (children_at (nodes_in nodes.now) c) place }
 {
-    nodes[c].children.len()
+    let mut at = first_of(nodes, c);
+    for _i in 0..place {
+        let Some(n) = at else { unreachable!() };
+        at = next_of(nodes, n);
+    }
+    at
 }
 
-pub(crate) fn child_of<A: Allocator>(nodes: &Vec<Node<A>, A>, c: usize, place: usize) -> usize
+// The child at a place, counted along the links.
+fn child_of<A: Allocator>(nodes: &Vec<Node<A>, A>, c: usize, place: usize) -> usize
+    requires stored { IsStored nodes.now.items }
     requires there { c < vec_len nodes.now }
     requires within { place < length (children_at (nodes_in nodes.now) c) }
-    ensures { result ≡ slice_index (children_at (nodes_in nodes.now) c) place }
+    ensures child { result ≡ slice_index (children_at (nodes_in nodes.now) c) place }
+    ensures there { result < vec_len nodes.now }
 {
-    nodes[c].children[place]
+    let Some(n) = child_from(nodes, c, place) else {
+        unreachable!()
+    };
+    n
 }
 
 // The node that comes after those below `n`, before what is below `end` is over.
@@ -59,13 +102,11 @@ fn next_after<A: Allocator>(nodes: &Vec<Node<A>, A>, end: usize, n: usize) -> Op
 {
     let mut at = n;
     while at != end {
-        let Some(parent) = parent_of(nodes, at) else {
+        let Some(parent) = parent_in(nodes, at) else {
             return None;
         };
-        let place = place_of(nodes, at);
-        let count = count_of(nodes, parent);
-        if count - place > 1 {
-            return Some(child_of(nodes, parent, place + 1));
+        if let Some(next) = next_of(nodes, at) {
+            return Some(next);
         }
         at = parent;
     }
@@ -85,8 +126,8 @@ pub(crate) fn node_after<A: Allocator>(
     ensures there { IfSome result (λ m. m < vec_len nodes.now) }
     ensures over { IfSome result (λ m. IsOver (nodes_in nodes.now) end m) }
 {
-    if count_of(nodes, n) > 0 {
-        return Some(child_of(nodes, n, 0));
+    if let Some(first) = first_in(nodes, n) {
+        return Some(first);
     }
     next_after(nodes, end, n)
 }
@@ -105,7 +146,7 @@ impl<A: Allocator> Tree<A> {
         requires { node < length self.now.nodes }
         ensures { result ≡ parent_at self.now.nodes node }
     {
-        parent_of(&self.nodes, node)
+        parent_in(&self.nodes, node)
     }
 
     /// A node's place among its parent's children, or 0.
@@ -154,7 +195,7 @@ impl<A: Allocator> Tree<A> {
     {
         Ancestors {
             nodes: &self.nodes,
-            next: parent_of(&self.nodes, node),
+            next: parent_in(&self.nodes, node),
         }
     }
 }
@@ -191,7 +232,7 @@ impl<'a, A: Allocator> Iterator for Ancestors<'a, A> {
         let Some(n) = self.next else {
             return None;
         };
-        self.next = parent_of(nodes, n);
+        self.next = parent_in(nodes, n);
         Some(n)
     }
 }

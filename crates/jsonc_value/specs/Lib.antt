@@ -6,4 +6,5 @@ pub mod Contents
 pub mod Lists
 pub mod Lends
 pub mod Retained
+pub mod Copies
 pub mod Laws

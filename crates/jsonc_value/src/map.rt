@@ -4,14 +4,16 @@
 //! words for what a call does to that list are std's own of lists of pairs: `lookup` and
 //! `lookup_entry` find a key's value or pair, `remove_entry` closes up, `insert_entry` puts a new key
 //! last and gives a present one the value in its place.
-ghost use Rattle.std.specs.Prelude.{◌≡◌, ◌↔◌, ◌<◌, ◌≤◌, [], length, IsTrue, IfOk, IfErr, OnOk, OnErr, Some, is_some, slice_get, option_copied};
+ghost use Rattle.std.specs.Prelude.{◌≡◌, ◌↔◌, ◌+◌, ◌<◌, ◌≤◌, [], length, min, IsTrue, IfOk, IfErr, OnOk, OnErr, Some, is_some, slice_get, option_copied};
 ghost use Rattle.std.specs.Option.{option_map};
 ghost use Rattle.std.specs.Map.{lookup, lookup_entry, remove_entry, keys_of, values_of};
 ghost use Rattle.std.specs.Map.Iter.{deref_pair};
 ghost use Rattle.std.specs.List.{IsDistinct};
 ghost use Rattle.std.specs.Slice.Iter.{iter_rest};
 ghost use Rattle.std.specs.Vec.Iter.{into_iter_items};
+ghost use Rattle.std.specs.Vec.{vec_capacity};
 ghost use Rattle.indexmap.specs.IndexMap.{insert_entry};
+ghost use Rattle.indexmap.specs.IndexSet.{index_set_len, spare};
 ghost use Rattle.jsonc_value.specs.Names.{is_named};
 
 mod equality;
@@ -73,6 +75,16 @@ impl<K: Eq + Hash, V, A: Allocator + Copy> Map<K, V, A> {
     }
 }
 
+/// How many pairs these keys and values can hold without more memory: as many as both can.
+fn pairs_held<K: Eq + Hash, V, A: Allocator>(
+    keys: &IndexSet<K, BuildHasherDefault<FoldHasher>, A>,
+    values: &Vec<V, A>,
+) -> usize
+    ensures { result ≡ min (index_set_len keys.now + spare keys.now) (vec_capacity values.now) }
+{
+    keys.capacity().min(values.capacity())
+}
+
 impl<K: Eq + Hash, V, A: Allocator> Map<K, V, A> {
     /// The number of pairs.
     pub fn len(&self) -> usize
@@ -93,7 +105,7 @@ impl<K: Eq + Hash, V, A: Allocator> Map<K, V, A> {
     pub fn capacity(&self) -> usize
         ensures { length self.now ≤ result }
     {
-        self.keys.capacity().min(self.values.capacity())
+        pairs_held(&self.keys, &self.values)
     }
 
     /// Makes room for this many more pairs. A refusal leaves the pairs as they are.
@@ -104,7 +116,7 @@ impl<K: Eq + Hash, V, A: Allocator> Map<K, V, A> {
         self.values.reserve(additional)
     }
 
-    /// Removes all pairs, and keeps the memory.
+    /// Removes all pairs.
     pub fn clear(&mut self)
     where
         K: Drop,

@@ -1,23 +1,23 @@
 //! What a document says of its nodes.
 
 ghost use Rattle.std.specs.Prelude.{◌≡◌, ◌↔◌, ◌<◌, length, slice_get};
-ghost use Rattle.std.specs.Prelude.{IfErr, IfOk, IfSome, IsTrue};
+ghost use Rattle.std.specs.Prelude.{IfOk, IfSome, IsTrue};
 ghost use Rattle.std.specs.Iterator.{YieldsFirst, item_count};
 ghost use Rattle.std.specs.List.{All};
 ghost use Rattle.jsonc_tree.specs.Content.{Content};
-ghost use Rattle.jsonc_tree.specs.Tree.{place_at, is_container_at};
+ghost use Rattle.jsonc_tree.specs.Tree.{is_container_at, IsTree};
 ghost use Rattle.jsonc_cst.specs.Document.{content_of, nodes_of, Holds};
-ghost use Rattle.jsonc_cst.specs.Document.{parent_of, ancestors_of, children_of};
-ghost use Rattle.jsonc_cst.specs.Nodes.{container_of, number_of, root_node, typed_at};
+ghost use Rattle.jsonc_cst.specs.Nodes.{container_of, root_node, typed_at};
 ghost use Rattle.jsonc_cst.specs.Nodes.{parent_node, child_nodes, IsAs, IsNodeOf};
+ghost use Rattle.jsonc_cst.specs.Tree.{NodesAreTree};
 
+use super::CstRootNode;
 use super::node::{
     CstArray, CstBooleanLit, CstComment, CstContainerNode, CstNewline, CstNode, CstNullKeyword,
     CstNumberLit, CstObject, CstObjectProp, CstRoot, CstStringLit, CstToken, CstWhitespace,
     CstWordLit,
 };
-use super::{CstRootNode, EditError};
-use jsonc_tree::{Ancestors, Kind, Shown, Tree};
+use jsonc_tree::{Ancestors, Kind, Tree};
 use std::alloc::{AllocError, Allocator};
 use std::marker::Model;
 
@@ -61,7 +61,7 @@ fn container_at<A: Allocator>(tree: &Tree<A>, number: usize) -> CstContainerNode
 }
 
 // The container that a node is a child of.
-fn parent_of<A: Allocator>(tree: &Tree<A>, number: usize) -> Option<CstContainerNode>
+pub(super) fn parent_of<A: Allocator>(tree: &Tree<A>, number: usize) -> Option<CstContainerNode>
     requires { number < length tree.now.nodes }
     ensures parent { result ≡ parent_node tree.now.nodes number }
     ensures held { IfSome result (λ c. IsNodeOf tree.now.nodes (CstNode.Container c)) }
@@ -75,7 +75,7 @@ fn parent_of<A: Allocator>(tree: &Tree<A>, number: usize) -> Option<CstContainer
 }
 
 // The child at a place, if there is one.
-fn child_of<A: Allocator>(tree: &Tree<A>, number: usize, place: usize) -> Option<CstNode>
+pub(super) fn child_of<A: Allocator>(tree: &Tree<A>, number: usize, place: usize) -> Option<CstNode>
     requires { number < length tree.now.nodes }
     ensures child { result ≡ slice_get (child_nodes tree.now.nodes number) place }
     ensures held { IfSome result (IsNodeOf tree.now.nodes) }
@@ -87,7 +87,7 @@ fn child_of<A: Allocator>(tree: &Tree<A>, number: usize, place: usize) -> Option
 }
 
 // All children, in order.
-fn children_of<A: Allocator>(
+pub(super) fn children_of<A: Allocator>(
     alloc: A,
     tree: &Tree<A>,
     number: usize,
@@ -107,13 +107,21 @@ fn children_of<A: Allocator>(
 }
 
 impl<A: Allocator> CstRootNode<A> {
+    // Its nodes are stored as a tree, and so they are one in the words of the calls.
+    pub(super) fn nodes_are_tree(&self)
+        ensures stored { IsTree (nodes_of self.now) }
+        ensures tree { NodesAreTree self.now }
+    {
+        let _count = self.tree.len();
+    }
+
     /// The root as a node.
     pub fn root(&self) -> CstRoot
         ensures first { result.number ≡ 0 }
         ensures held { Holds self.now (root_node result) }
+        ensures tree { NodesAreTree self.now }
     {
-        // The nodes are a tree, says `len`, and so their first is the root.
-        let _count = self.tree.len();
+        self.nodes_are_tree();
         CstRoot { number: 0 }
     }
 
@@ -132,71 +140,6 @@ impl<A: Allocator> CstRootNode<A> {
 }
 
 impl CstNode {
-    /// The container that it is a child of, or None for the root and for a node that was taken out.
-    pub fn parent<A: Allocator>(self, doc: &CstRootNode<A>) -> Option<CstContainerNode>
-        requires { Holds doc.now self }
-        ensures parent { result ≡ parent_of doc.now self }
-        ensures held { IfSome result (λ c. Holds doc.now (CstNode.Container c)) }
-    {
-        parent_of(&doc.tree, self.number())
-    }
-
-    /// The containers above it, nearest first.
-    pub fn ancestors<A: Allocator>(self, doc: &CstRootNode<A>) -> AncestorIterator<'_, A>
-        requires { Holds doc.now self }
-        ensures above { result ≡ ancestors_of doc.now self }
-        ensures held { All (λ c. Holds doc.now (CstNode.Container c)) result }
-    {
-        // The nodes are a tree, says `len`, and so those above a node are containers.
-        let _count = doc.tree.len();
-        AncestorIterator {
-            tree: &doc.tree,
-            above: doc.tree.ancestors(self.number()),
-        }
-    }
-
-    /// Its place among its parent's children, counted from 0, or 0 where it has no parent.
-    pub fn child_index<A: Allocator>(self, doc: &CstRootNode<A>) -> usize
-        requires { Holds doc.now self }
-        ensures { result ≡ place_at (nodes_of doc.now) (number_of self) }
-    {
-        doc.tree.child_index(self.number())
-    }
-
-    /// Its child at a place, counted from 0, if there is one. A leaf has none.
-    pub fn child_at_index<A: Allocator>(self, doc: &CstRootNode<A>, index: usize) -> Option<CstNode>
-        requires { Holds doc.now self }
-        ensures child { result ≡ slice_get (children_of doc.now self) index }
-        ensures held { IfSome result (Holds doc.now) }
-    {
-        child_of(&doc.tree, self.number(), index)
-    }
-
-    /// All its children, in order. A leaf has none.
-    pub fn children<A: Allocator + Copy>(
-        self,
-        doc: &CstRootNode<A>,
-    ) -> Result<Vec<CstNode, A>, EditError>
-        requires { Holds doc.now self }
-        ensures children { IfOk result (λ v. v.items ≡ children_of doc.now self) }
-        ensures held { IfOk result (λ v. All (Holds doc.now) v.items) }
-        ensures memory { IfErr result (λ e. e ≡ EditError.OutOfMemory) }
-    {
-        let Ok(children) = children_of(doc.alloc, &doc.tree, self.number()) else {
-            return Err(EditError::OutOfMemory);
-        };
-        Ok(children)
-    }
-
-    /// The node to be printed with what is below it: as it stands in the text.
-    pub fn shown<A: Allocator>(self, doc: &CstRootNode<A>) -> Shown<'_, A>
-        requires { Holds doc.now self }
-        ensures nodes { result.nodes ≡ nodes_of doc.now }
-        ensures node { result.node ≡ number_of self }
-    {
-        doc.tree.shown(self.number())
-    }
-
     /// The character of a bracket, comma or colon, or None of another node.
     pub fn token_char<A: Allocator>(self, doc: &CstRootNode<A>) -> Option<char>
         requires { Holds doc.now self }
@@ -220,8 +163,8 @@ impl CstNode {
 /// The containers above a node, nearest first, seen as the list of those that are left.
 #[derive(Drop)]
 pub struct AncestorIterator<'a, A: Allocator> {
-    tree: &'a Tree<A>,
-    above: Ancestors<'a, A>,
+    pub(super) tree: &'a Tree<A>,
+    pub(super) above: Ancestors<'a, A>,
 }
 
 impl<'a, A: Allocator> Model for AncestorIterator<'a, A> {

@@ -8,8 +8,10 @@ ghost use Rattle.jsonc_cst.specs.Nodes.{array_node, object_node, object_prop_nod
 ghost use Rattle.jsonc_cst.specs.Readings.{elements_of, element_index_of, properties_of};
 ghost use Rattle.jsonc_cst.specs.Readings.{previous_property_of, next_property_of, property_index_of};
 ghost use Rattle.jsonc_cst.specs.Readings.{is_property_at, typed_all};
+ghost use Rattle.jsonc_cst.specs.Tree.{NodesAreTree};
 
 use super::access::node_at;
+use super::navigation::{HasChildren, IsNode};
 use super::node::{CstArray, CstContainerNode, CstNode, CstNullKeyword, CstObject, CstObjectProp};
 use super::{CstRootNode, EditError};
 use jsonc_nodes::{children_from, next_siblings, previous_siblings};
@@ -56,7 +58,7 @@ fn property_after<A: Allocator>(tree: &Tree<A>, node: usize) -> Option<usize>
 }
 
 // The nodes of these numbers, in order.
-fn nodes_at<A: Allocator + Copy>(
+pub(super) fn nodes_at<A: Allocator + Copy>(
     alloc: A,
     tree: &Tree<A>,
     numbers: &[usize],
@@ -70,25 +72,6 @@ fn nodes_at<A: Allocator + Copy>(
 }
 
 impl CstNode {
-    /// Its children but blanks, line ends, comments, brackets, commas and colons, in order.
-    pub fn children_exclude_trivia_and_tokens<A: Allocator + Copy>(
-        self,
-        doc: &CstRootNode<A>,
-    ) -> Result<Vec<CstNode, A>, EditError>
-        requires { Holds doc.now self }
-        ensures children { IfOk result (λ v. v.items ≡ elements_of doc.now self) }
-        ensures held { IfOk result (λ v. All (Holds doc.now) v.items) }
-        ensures memory { IfErr result (λ e. e ≡ EditError.OutOfMemory) }
-    {
-        let Ok(numbers) = jsonc_nodes::elements(doc.alloc, &doc.tree, self.number()) else {
-            return Err(EditError::OutOfMemory);
-        };
-        let Ok(elements) = nodes_at(doc.alloc, &doc.tree, &numbers) else {
-            return Err(EditError::OutOfMemory);
-        };
-        Ok(elements)
-    }
-
     /// Its place among the elements of its array, counted from 0: None of what is no element of an
     /// array.
     pub fn element_index<A: Allocator>(self, doc: &CstRootNode<A>) -> Option<usize>
@@ -117,8 +100,9 @@ impl CstArray {
         ensures elements { IfOk result (λ v. v.items ≡ elements_of doc.now (array_node self)) }
         ensures held { IfOk result (λ v. All (Holds doc.now) v.items) }
         ensures memory { IfErr result (λ e. e ≡ EditError.OutOfMemory) }
+        ensures tree { NodesAreTree doc.now }
     {
-        CstNode::from(self).children_exclude_trivia_and_tokens(doc)
+        self.children_exclude_trivia_and_tokens(doc)
     }
 }
 
@@ -132,7 +116,9 @@ impl CstObject {
         ensures properties { IfOk result (λ v. v.items ≡ properties_of doc.now self) }
         ensures held { IfOk result (λ v. All (λ p. Holds doc.now (object_prop_node p)) v.items) }
         ensures memory { IfErr result (λ e. e ≡ EditError.OutOfMemory) }
+        ensures tree { NodesAreTree doc.now }
     {
+        doc.nodes_are_tree();
         let Ok(properties) = children_from(&doc.tree, self.number, 0)
             .filter(|child| is_property(&doc.tree, *child))
             .map(|number| CstObjectProp { number })
@@ -150,7 +136,7 @@ impl CstObjectProp {
         requires { Holds doc.now (object_prop_node self) }
         ensures { result ≡ property_index_of doc.now self }
     {
-        match CstNode::from(self).parent(doc) {
+        match self.parent(doc) {
             Some(CstContainerNode::Object(_)) => previous_siblings(&doc.tree, self.number)
                 .filter(|sibling| is_property(&doc.tree, *sibling))
                 .count(),
@@ -163,7 +149,9 @@ impl CstObjectProp {
         requires { Holds doc.now (object_prop_node self) }
         ensures property { result ≡ previous_property_of doc.now self }
         ensures held { IfSome result (λ p. Holds doc.now (object_prop_node p)) }
+        ensures tree { NodesAreTree doc.now }
     {
+        doc.nodes_are_tree();
         let Some(number) = property_before(&doc.tree, self.number) else {
             return None;
         };
@@ -175,7 +163,9 @@ impl CstObjectProp {
         requires { Holds doc.now (object_prop_node self) }
         ensures property { result ≡ next_property_of doc.now self }
         ensures held { IfSome result (λ p. Holds doc.now (object_prop_node p)) }
+        ensures tree { NodesAreTree doc.now }
     {
+        doc.nodes_are_tree();
         let Some(number) = property_after(&doc.tree, self.number) else {
             return None;
         };

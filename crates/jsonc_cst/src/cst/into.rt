@@ -1,4 +1,4 @@
-//! Every node is a node of the kinds above it.
+//! Every node is a node of the kinds above it, and has the calls of every node.
 
 ghost use Rattle.std.specs.Prelude.{◌≡◌};
 ghost use Rattle.jsonc_cst.specs.declared.cst.node.CstContainerNode.{CstContainerNode};
@@ -10,6 +10,7 @@ ghost use Rattle.jsonc_cst.specs.Nodes.{string_lit_node, number_lit_node, boolea
 ghost use Rattle.jsonc_cst.specs.Nodes.{null_keyword_node, word_lit_node, name_node};
 ghost use Rattle.jsonc_cst.specs.Nodes.{token_node, whitespace_node, newline_node, comment_node};
 
+use super::navigation::{HasChildren, IsNode};
 use super::node::{
     CstArray, CstBooleanLit, CstComment, CstContainerNode, CstLeafNode, CstNewline, CstNode,
     CstNullKeyword, CstNumberLit, CstObject, CstObjectProp, CstRoot, CstStringLit, CstToken,
@@ -266,3 +267,151 @@ impl From<ObjectPropName> for CstNode {
         }
     }
 }
+
+impl IsNode for CstNode {
+    ghost node_of = { λ x. x };
+
+    fn node(self) -> CstNode {
+        self
+    }
+}
+
+impl IsNode for CstRoot {
+    ghost node_of = { root_node };
+
+    fn node(self) -> CstNode {
+        self.into()
+    }
+}
+
+impl IsNode for CstArray {
+    ghost node_of = { array_node };
+
+    fn node(self) -> CstNode {
+        self.into()
+    }
+}
+
+impl IsNode for CstObject {
+    ghost node_of = { object_node };
+
+    fn node(self) -> CstNode {
+        self.into()
+    }
+}
+
+impl IsNode for CstObjectProp {
+    ghost node_of = { object_prop_node };
+
+    fn node(self) -> CstNode {
+        self.into()
+    }
+}
+
+impl IsNode for CstBooleanLit {
+    ghost node_of = { boolean_lit_node };
+
+    fn node(self) -> CstNode {
+        self.into()
+    }
+}
+
+impl IsNode for CstNullKeyword {
+    ghost node_of = { null_keyword_node };
+
+    fn node(self) -> CstNode {
+        self.into()
+    }
+}
+
+impl IsNode for CstNumberLit {
+    ghost node_of = { number_lit_node };
+
+    fn node(self) -> CstNode {
+        self.into()
+    }
+}
+
+impl IsNode for CstStringLit {
+    ghost node_of = { string_lit_node };
+
+    fn node(self) -> CstNode {
+        self.into()
+    }
+}
+
+impl IsNode for CstWordLit {
+    ghost node_of = { word_lit_node };
+
+    fn node(self) -> CstNode {
+        self.into()
+    }
+}
+
+impl IsNode for CstToken {
+    ghost node_of = { token_node };
+
+    fn node(self) -> CstNode {
+        self.into()
+    }
+}
+
+impl IsNode for CstWhitespace {
+    ghost node_of = { whitespace_node };
+
+    fn node(self) -> CstNode {
+        self.into()
+    }
+}
+
+impl IsNode for CstNewline {
+    ghost node_of = { newline_node };
+
+    fn node(self) -> CstNode {
+        self.into()
+    }
+}
+
+impl IsNode for CstComment {
+    ghost node_of = { comment_node };
+
+    fn node(self) -> CstNode {
+        self.into()
+    }
+}
+
+impl IsNode for CstContainerNode {
+    ghost node_of = { CstNode.Container };
+
+    fn node(self) -> CstNode {
+        CstNode::Container(self)
+    }
+}
+
+impl IsNode for CstLeafNode {
+    ghost node_of = { CstNode.Leaf };
+
+    fn node(self) -> CstNode {
+        CstNode::Leaf(self)
+    }
+}
+
+impl IsNode for ObjectPropName {
+    ghost node_of = { name_node };
+
+    fn node(self) -> CstNode {
+        self.into()
+    }
+}
+
+impl HasChildren for CstNode {}
+
+impl HasChildren for CstContainerNode {}
+
+impl HasChildren for CstRoot {}
+
+impl HasChildren for CstArray {}
+
+impl HasChildren for CstObject {}
+
+impl HasChildren for CstObjectProp {}

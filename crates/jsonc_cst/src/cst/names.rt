@@ -6,6 +6,7 @@ ghost use Rattle.jsonc_nodes.specs.Names.{HasName, NameReads};
 ghost use Rattle.jsonc_cst.specs.Document.{nodes_of, Holds};
 ghost use Rattle.jsonc_cst.specs.Nodes.{object_node, object_prop_node, string_lit_node};
 ghost use Rattle.jsonc_cst.specs.Readings.{IsFirstNamed, LeafIsNoString, LeafStandsFor};
+ghost use Rattle.jsonc_cst.specs.Tree.{NodesAreTree};
 
 use super::node::{CstObject, CstObjectProp, CstStringLit};
 use super::{CstRootNode, EditError};
@@ -59,7 +60,9 @@ impl CstObject {
         ensures found { IfOk result (IsFirstNamed doc.now self (chars name.now)) }
         ensures held { IfOk result (λ o. IfSome o (λ p. Holds doc.now (object_prop_node p))) }
         ensures memory { IfErr result (λ e. e ≡ EditError.OutOfMemory) }
+        ensures tree { NodesAreTree doc.now }
     {
+        doc.nodes_are_tree();
         match jsonc_nodes::get(doc.alloc, &doc.tree, self.number, name) {
             Ok(Some(number)) => Ok(Some(CstObjectProp { number })),
             Ok(None) => Ok(None),

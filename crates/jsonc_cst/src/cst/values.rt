@@ -1,15 +1,17 @@
 //! The names and values of properties, as they are written.
 
-ghost use Rattle.std.specs.Prelude.{◌≡◌, IfSome};
+ghost use Rattle.std.specs.Prelude.{◌≡◌, chars, IfErr, IfOk, IfSome};
 ghost use Rattle.jsonc_cst.specs.Document.{Holds};
 ghost use Rattle.jsonc_cst.specs.Nodes.{array_node, name_node, object_node, object_prop_node};
 ghost use Rattle.jsonc_cst.specs.Readings.{name_of, value_under, array_if, object_if};
+ghost use Rattle.jsonc_cst.specs.Tree.{NodesAreTree};
+ghost use Rattle.jsonc_cst.specs.Values.{IsValueNamed};
 
-use super::CstRootNode;
 use super::access::node_at;
 use super::node::{
     CstArray, CstContainerNode, CstLeafNode, CstNode, CstObject, CstObjectProp, ObjectPropName,
 };
+use super::{CstRootNode, EditError};
 use std::alloc::Allocator;
 
 impl CstObjectProp {
@@ -18,7 +20,9 @@ impl CstObjectProp {
         requires { Holds doc.now (object_prop_node self) }
         ensures name { result ≡ name_of doc.now self }
         ensures held { IfSome result (λ n. Holds doc.now (name_node n)) }
+        ensures tree { NodesAreTree doc.now }
     {
+        doc.nodes_are_tree();
         let Some(number) = jsonc_nodes::name_of(&doc.tree, self.number) else {
             return None;
         };
@@ -34,7 +38,9 @@ impl CstObjectProp {
         requires { Holds doc.now (object_prop_node self) }
         ensures value { result ≡ value_under doc.now self.number }
         ensures held { IfSome result (Holds doc.now) }
+        ensures tree { NodesAreTree doc.now }
     {
+        doc.nodes_are_tree();
         let Some(number) = jsonc_nodes::value_of(&doc.tree, self.number) else {
             return None;
         };
@@ -46,6 +52,7 @@ impl CstObjectProp {
         requires { Holds doc.now (object_prop_node self) }
         ensures value { result ≡ object_if (value_under doc.now self.number) }
         ensures held { IfSome result (λ o. Holds doc.now (object_node o)) }
+        ensures tree { NodesAreTree doc.now }
     {
         match self.value(doc) {
             Some(CstNode::Container(CstContainerNode::Object(object))) => Some(object),
@@ -58,10 +65,51 @@ impl CstObjectProp {
         requires { Holds doc.now (object_prop_node self) }
         ensures value { result ≡ array_if (value_under doc.now self.number) }
         ensures held { IfSome result (λ a. Holds doc.now (array_node a)) }
+        ensures tree { NodesAreTree doc.now }
     {
         match self.value(doc) {
             Some(CstNode::Container(CstContainerNode::Array(array))) => Some(array),
             _ => None,
+        }
+    }
+}
+
+impl CstObject {
+    /// The value of its first property of a name, if there is one and it is an object.
+    pub fn object_value<A: Allocator + Copy>(
+        self,
+        doc: &CstRootNode<A>,
+        name: &str,
+    ) -> Result<Option<CstObject>, EditError>
+        requires { Holds doc.now (object_node self) }
+        ensures value { IfOk result (IsValueNamed object_if doc.now self (chars name.now)) }
+        ensures held { IfOk result (λ o. IfSome o (λ x. Holds doc.now (object_node x))) }
+        ensures memory { IfErr result (λ e. e ≡ EditError.OutOfMemory) }
+        ensures tree { NodesAreTree doc.now }
+    {
+        match self.get(doc, name) {
+            Ok(Some(property)) => Ok(property.object_value(doc)),
+            Ok(None) => Ok(None),
+            Err(error) => Err(error),
+        }
+    }
+
+    /// The value of its first property of a name, if there is one and it is an array.
+    pub fn array_value<A: Allocator + Copy>(
+        self,
+        doc: &CstRootNode<A>,
+        name: &str,
+    ) -> Result<Option<CstArray>, EditError>
+        requires { Holds doc.now (object_node self) }
+        ensures value { IfOk result (IsValueNamed array_if doc.now self (chars name.now)) }
+        ensures held { IfOk result (λ o. IfSome o (λ x. Holds doc.now (array_node x))) }
+        ensures memory { IfErr result (λ e. e ≡ EditError.OutOfMemory) }
+        ensures tree { NodesAreTree doc.now }
+    {
+        match self.get(doc, name) {
+            Ok(Some(property)) => Ok(property.array_value(doc)),
+            Ok(None) => Ok(None),
+            Err(error) => Err(error),
         }
     }
 }

@@ -3,6 +3,7 @@ ghost use Rattle.std.specs.Prelude.{◌≡◌, [], length, IfOk, IfErr, OnOk};
 ghost use Rattle.std.specs.List.{AllZip};
 ghost use Rattle.std.specs.Map.{keys_of, values_of};
 ghost use Rattle.indexmap.specs.IndexMap.{insert_all};
+ghost use Rattle.jsonc_value.specs.Copies.{IsPairClone};
 ghost use Rattle.jsonc_value.specs.Lists.{InsertsUpTo};
 
 use super::Map;
@@ -48,11 +49,9 @@ impl<K: Eq + Hash + Drop, V: Drop, A: Allocator> Map<K, V, A> {
 }
 
 impl<K: Eq + Hash + Clone + Drop, V: Clone, A: Allocator + Clone> Map<K, V, A> {
-    /// A copy of the map, where the clones of its keys and values equal them.
+    /// A copy of the map: clones of its keys and values, pair by pair, in their order.
     pub fn try_clone(&self) -> Result<Self, AllocError>
-        requires keys { (x y : K) → K.is_clone x y → y ≡ x }
-        requires values { (x y : V) → V.is_clone x y → y ≡ x }
-        ensures { IfOk result (λ m. m ≡ self.now) }
+        ensures { IfOk result (AllZip (IsPairClone K.is_clone V.is_clone) self.now) }
     {
         let keys = self.keys.clone()?;
         let values = self.values.clone()?;

@@ -1,9 +1,13 @@
-use Rattle.std.proofs.Common.{◌≡◌, drop}
+use Rattle.std.proofs.Common.{◌≡◌}
 use Rattle.jsonc_tree.specs.Tree.{children_at}
+use Rattle.jsonc_nodes.specs.Siblings.{AreThere}
 use Rattle.jsonc_lines.specs.Indents.{first_indent}
 use Rattle.jsonc_lines.proofs.indents.first_indent.Given as goal
 
-abbrev pub invariant-loop-place : goal.invariant-loop-place
-invariant-loop-place g l =
+abbrev pub invariant-loop-child : goal.invariant-loop-child
+invariant-loop-child g l =
     let ns = l.tree.nodes in
-    first_indent ns (children_at ns l.node) ≡ first_indent ns (drop l.place (children_at ns l.node))
+    record {
+      there : AreThere ns l.child-iterator;
+      same : first_indent ns (children_at ns l.node) ≡ first_indent ns l.child-iterator;
+    }

@@ -1,16 +1,18 @@
-use Rattle.std.proofs.Common.{◌∙◌, sym, chars, None, arith}
+use Rattle.std.proofs.Common.{sym, chars, None, ◌∙◌}
 use Rattle.std.proofs.lemmas.Bool.{false≢true}
-use Rattle.jsonc_tree.specs.Tree.{children_at}
 use Rattle.jsonc_nodes.proofs.Naming.{first_here, first_later, first_none}
+use Rattle.jsonc_nodes.proofs.There.{rest_there}
 use Rattle.jsonc_nodes.proofs.names.get.Goals as goal
 
 pub returns-then-branch-clause-found : goal.returns-then-branch-clause-found
 returns-then-branch-clause-found g c =
-    c.loop-place.invariant _ (first_here c.args.tree.now.nodes (chars c.args.name.now) (children_at c.args.tree.now.nodes c.args.object) c.loop-place.place c.child_at-child.result (omega (arith, c.loop-place-test.true, c.child_count-count.ensures)) c.child_at-child.ensures.child (c.in_ok-is_named.ensures.0 c.if-branch.true))
+    c.loop-child.invariant.first _ (first_here c.args.tree.now.nodes (chars c.args.name.now) c.loop-child.child-iterator c.in-Some.child c.next.new.self c.in-Some.ensures.steps (c.in_ok-is_named.ensures.0 c.if-branch.true))
 
-pub loop-place-preserved : goal.loop-place-preserved
-loop-place-preserved g c = λ found rest.
-    c.loop-place.invariant found (first_later c.args.tree.now.nodes (chars c.args.name.now) (children_at c.args.tree.now.nodes c.args.object) c.loop-place.place c.child_at-child.result (omega (arith, c.loop-place-test.true, c.child_count-count.ensures)) c.child_at-child.ensures.child (λ named. false≢true (sym c.if-branch.false ∙ c.in_ok-is_named.ensures.1 named)) found rest)
+pub loop-child-preserved : goal.loop-child-preserved
+loop-child-preserved g c = record {
+  there = rest_there c.args.tree.now.nodes c.loop-child.child-iterator c.in-Some.child c.next.new.self c.in-Some.ensures.steps c.loop-child.invariant.there;
+  first = λ found rest. c.loop-child.invariant.first found (first_later c.args.tree.now.nodes (chars c.args.name.now) c.loop-child.child-iterator c.in-Some.child c.next.new.self c.in-Some.ensures.steps (λ named. false≢true (sym c.if-branch.false ∙ c.in_ok-is_named.ensures.1 named)) found rest);
+}
 
 pub returns-clause-found : goal.returns-clause-found
-returns-clause-found g c = c.loop-place.invariant None (first_none c.args.tree.now.nodes (chars c.args.name.now) (children_at c.args.tree.now.nodes c.args.object) c.loop-place.place (omega (arith, c.loop-place-test.false, c.child_count-count.ensures)))
+returns-clause-found g c = c.loop-child.invariant.first None (first_none c.args.tree.now.nodes (chars c.args.name.now) c.loop-child.child-iterator c.in-None.ensures.steps.0)

@@ -1,9 +1,13 @@
-use Rattle.std.proofs.Common.{ℕ, Option, chars, drop}
+use Rattle.std.proofs.Common.{ℕ, Option, chars}
 use Rattle.jsonc_tree.specs.Tree.{children_at}
 use Rattle.jsonc_nodes.specs.Names.{FirstNamed}
+use Rattle.jsonc_nodes.specs.Siblings.{AreThere}
 use Rattle.jsonc_nodes.proofs.names.get.Given as goal
 
-abbrev pub invariant-loop-place : goal.invariant-loop-place
-invariant-loop-place g l =
-    let cs = children_at l.tree.nodes l.object in
-    (found : Option ℕ) → FirstNamed l.tree.nodes (chars l.name) (drop l.place cs) found → FirstNamed l.tree.nodes (chars l.name) cs found
+abbrev pub invariant-loop-child : goal.invariant-loop-child
+invariant-loop-child g l =
+    let ns = l.tree.nodes in
+    record {
+      there : AreThere ns l.child-iterator;
+      first : (found : Option ℕ) → FirstNamed ns (chars l.name) l.child-iterator found → FirstNamed ns (chars l.name) (children_at ns l.object) found;
+    }

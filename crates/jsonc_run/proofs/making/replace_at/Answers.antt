@@ -1,8 +1,9 @@
-use Rattle.std.proofs.Common.{◌≡◌, None}
+use Rattle.std.proofs.Common.{◌≡◌, None, sym, subst}
 use Rattle.jsonc_input.specs.Views.{plain}
 use Rattle.jsonc_tree.specs.Tree.{parent_at}
 use Rattle.jsonc_edit.specs.Paths.{IsAt}
 use Rattle.jsonc_edit.specs.Reading.{IsReplaced}
+use Rattle.jsonc_run.specs.Edits.{replace, IsToldBy}
 use Rattle.jsonc_run.proofs.Made.{no_place, not_alone, none_is, some_is}
 use Rattle.jsonc_run.proofs.making.replace_at.Goals as goal
 
@@ -19,4 +20,5 @@ returns-in-Ok-None-clause-told g c =
     absurd (not_alone c.args.tree.now.nodes c.len.ensures.tree c.args.path.now c.in-Some.node ((c.find.ensures.found c.in-Some.node).0 c.in-Some.is) (none_is c.in-Ok-None.field-0 (parent_at c.args.tree.now.nodes c.in-Some.node ≡ None) c.in-Ok-None.field-0-is c.in-Ok-None.ensures.none))
 
 pub returns-in-Err-clause-told : goal.returns-in-Err-clause-told
-returns-in-Err-clause-told g c = (c.in-Some.node, (c.find.ensures.found c.in-Some.node).0 c.in-Some.is)
+returns-in-Err-clause-told g c =
+    subst (IsToldBy c.args.tree.now.nodes (replace c.args.path.now (plain c.args.value.now))) (sym c.in-Err.ensures.memory) (c.in-Some.node, (c.find.ensures.found c.in-Some.node).0 c.in-Some.is)

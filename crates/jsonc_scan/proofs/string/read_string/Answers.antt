@@ -1,7 +1,7 @@
 use Rattle.std.proofs.Common.{ap, sym, ◌∙◌, chars}
 use Rattle.jsonc_text.proofs.FaultLemmas.{out_of_memory_is_fault}
 use Rattle.jsonc_scan.proofs.NoLexemes.{string_nothing}
-use Rattle.jsonc_string.proofs.QuotedStrings.{scanned_of_quoted, holds_more}
+use Rattle.jsonc_string.proofs.QuotedStrings.{scanned_of_quoted}
 use Rattle.jsonc_scan.proofs.ToldWords.{string_told}
 use Rattle.jsonc_scan.proofs.string.read_string.Goals as goal
 
@@ -12,7 +12,7 @@ pub returns-in_default-clause-fault : goal.returns-in_default-clause-fault
 returns-in_default-clause-fault g c = out_of_memory_is_fault _ _ c.utf8.text c.out_of_memory.ensures
 
 pub returns-in_default-clause-memory : goal.returns-in_default-clause-memory
-returns-in_default-clause-memory g c = λ k. holds_more _ _ _ _ (c.in-Ok.ensures.lent.copied.0 c.in_default.ensures.refused) c.in-Ok.ensures.found.boundary.0
+returns-in_default-clause-memory g c = λ k. c.in-Ok.ensures.escaped c.in_default.ensures.refused
 
 pub returns-clause-found : goal.returns-clause-found
 returns-clause-found g c =

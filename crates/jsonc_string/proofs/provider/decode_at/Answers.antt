@@ -10,6 +10,5 @@ returns-in-Err-clause-fault g c =
       boundary = read.places.spans.from;
       order = read.places.order;
       none = λ k v r x. read.none k v r (quoted_of_string (escapes c.args.extended) c.requires.quote.here.0 x);
-      memory = read.memory;
       told = λ k. of_string c.requires.quote.allowed (read.told k);
     }

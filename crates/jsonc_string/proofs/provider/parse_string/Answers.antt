@@ -15,7 +15,6 @@ returns-in_default-clause-fault g c = record {
   boundary = IsCharBoundary-start _ c.utf8.text;
   order = omega arith;
   none = λ k v r x. no_string (escapes true) c.in_default.ensures.none x;
-  memory = λ k. absurd cc;
   told = λ k. no_quote (no_either (next (rest c.args.text.now 0)) c.in_default.ensures.none);
 }
 

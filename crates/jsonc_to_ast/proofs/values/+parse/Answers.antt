@@ -18,6 +18,10 @@ use Rattle.jsonc_to_ast.specs.declared.container.Container.TheVariants.{Array, O
 use Rattle.jsonc_to_ast.proofs.Tokens.{opens_none}
 use Rattle.jsonc_to_ast.specs.Told.{StopsAtContainer, StopsAtItem}
 use Rattle.jsonc_to_ast.proofs.Standing.{GoesOn, goes_first, elements_go_on, first_stops, next_stops, element_comes, element_stops, properties_go_on, property_comes, property_stops, name_stops, colon_missing_stops, no_token_stops, no_value_stops, deep_property_stops, value_told_stops, deep_stops, leaf_stops, room_whole, from_old}
+use Rattle.std.proofs.lemmas.List.Elements.{All-nil, All-cons}
+use Rattle.jsonc_ast.specs.Spelled.{spelled, spelled_in_property, spelled_in_elements, spelled_in_properties}
+use Rattle.jsonc_to_ast.specs.Written.{IsWritten, IsLentHere, AreWrittenIn}
+use Rattle.jsonc_to_ast.proofs.Spelling.{element_written, property_written, still_written}
 use Rattle.jsonc_to_ast.proofs.values.+parse.Goals as goal
 
 pub parse_array-loop-next-init : goal.parse_array-loop-next-init
@@ -28,6 +32,8 @@ parse_array-loop-next-init g t c =
       left = elements_left_start c.args.context.now c.first_item.new.self c.in_ok-next.next c.args.count c.requires.token c.first_item.ensures.kept read.only;
       collects = read.collects;
       reading = goes_first true Array c.args.context.now c.first_item.new.self c.in_ok-next.next c.args.count c.requires.token (room_whole Array c.args.count c.requires.around) c.first_item.ensures.kept read.found read.stands;
+      lent = read.lent;
+      written = subst (λ vs. AreWrittenIn c.args.context.now (spelled_in_elements vs)) (sym c.new-elements.ensures.items) (All-nil (IsWritten (options_in c.args.context.now) (text_in c.args.context.now)));
     }
 
 pub parse_array-check_nesting-requires : goal.parse_array-check_nesting-requires
@@ -59,20 +65,23 @@ parse_array-loop-next-preserved g t c =
     let inv = c.loop-next.invariant in record {
       so_far = elements_turn old now c.parse_value.new.context c.next_item.new.self c.loop-next.next c.in_ok-next-2.next c.in-Some.token (located c.in_ok-value.value)
           (map located c.loop-next.elements.items) (map located c.push_value.new.elements.items) c.args.count
-          inv.so_far c.in-Some.is read.kept read.found c.next_item.ensures.kept c.in_ok-next-2.ensures.found c.in-Ok.ensures read.within;
+          inv.so_far c.in-Some.is read.kept read.found c.next_item.ensures.kept c.in_ok-next-2.ensures.found c.in-Ok.ensures.located read.within;
       left = elements_left_turn old now inv.so_far.kept c.in-Some.token c.args.count (subst (λ n. ElementsLeft old now n c.args.count) c.in-Some.is inv.left)
           c.parse_value.new.context (located c.in_ok-value.value) read.kept read.found c.next_item.new.self c.in_ok-next-2.next c.next_item.ensures.kept c.in_ok-next-2.ensures.only;
       collects = collects_turn old now c.parse_value.new.context c.next_item.new.self inv.so_far.kept inv.collects read.kept read.collects c.in_ok-next-2.ensures.collects;
       reading = elements_go_on true old now inv.so_far.kept c.in-Some.token c.parse_value.new.context (value_at (located c.in_ok-value.value)) c.args.count (subst (λ n. GoesOn true Array old now n c.args.count) c.in-Some.is inv.reading) read.kept
           (value_read now c.parse_value.new.context (located c.in_ok-value.value) read.found) read.within
           c.next_item.new.self c.in_ok-next-2.next c.next_item.ensures.kept c.in_ok-next-2.ensures.found c.in_ok-next-2.ensures.stands c.in_ok-next-2.ensures.comes;
+      lent = c.in_ok-next-2.ensures.lent;
+      written = element_written old c.loop-next.elements.items c.push_value.new.elements.items c.in_ok-value.value inv.written
+          (still_written old now (spelled c.in_ok-value.value) inv.so_far.kept (read.written (subst (IsLentHere now) c.in-Some.is inv.lent))) c.in-Ok.ensures.pushed;
     }
 
 pub parse_array-returns-clause-found : goal.parse_array-returns-clause-found
 parse_array-returns-clause-found g t c =
     let whole = elements_whole c.args.context.now c.loop-next.context c.loop-next.next (map located c.loop-next.elements.items) c.args.count c.new.result c.loop-next.invariant.so_far c.in_default.is c.requires.token
     (c.new.ensures.start ∙ c.token_start-start.ensures) (c.new.ensures.end ∙ c.token_end.ensures) in
-    subst (λ x. Reads c.args.context.now c.loop-next.context x) (sym c.array_of.ensures) whole
+    subst (λ x. Reads c.args.context.now c.loop-next.context x) (sym c.array_of.ensures.located) whole
 
 pub parse_object-loop-next-init : goal.parse_object-loop-next-init
 parse_object-loop-next-init g t c =
@@ -82,6 +91,8 @@ parse_object-loop-next-init g t c =
       left = properties_left_start c.args.context.now c.first_item.new.self c.in_ok-next.next c.args.count c.requires.token c.first_item.ensures.kept read.only;
       collects = read.collects;
       reading = goes_first true Object c.args.context.now c.first_item.new.self c.in_ok-next.next c.args.count c.requires.token (room_whole Object c.args.count c.requires.around) c.first_item.ensures.kept read.found read.stands;
+      lent = read.lent;
+      written = subst (λ ps. AreWrittenIn c.args.context.now (spelled_in_properties ps)) (sym c.new-properties.ensures.items) (All-nil (IsWritten (options_in c.args.context.now) (text_in c.args.context.now)));
     }
 
 pub parse_object-next_item-requires : goal.parse_object-next_item-requires
@@ -108,20 +119,23 @@ parse_object-loop-next-preserved g t c =
     let inv = c.loop-next.invariant in record {
       so_far = properties_turn old now c.parse_property.new.context c.next_item.new.self c.loop-next.next c.in_ok-next-2.next c.in-Some.token (member_of c.in_ok-property.property)
           (map member_of c.loop-next.properties.items) (map member_of c.push_property.new.properties.items) c.args.count
-          inv.so_far c.in-Some.is read.kept read.found c.next_item.ensures.kept c.in_ok-next-2.ensures.found c.in-Ok.ensures small;
+          inv.so_far c.in-Some.is read.kept read.found c.next_item.ensures.kept c.in_ok-next-2.ensures.found c.in-Ok.ensures.located small;
       left = properties_left_turn old now inv.so_far.kept c.in-Some.token c.args.count (subst (λ n. PropertiesLeft old now n c.args.count) c.in-Some.is inv.left)
           c.parse_property.new.context (member_of c.in_ok-property.property) read.kept read.found c.next_item.new.self c.in_ok-next-2.next c.next_item.ensures.kept c.in_ok-next-2.ensures.only;
       collects = collects_turn old now c.parse_property.new.context c.next_item.new.self inv.so_far.kept inv.collects read.kept read.collects c.in_ok-next-2.ensures.collects;
       reading = properties_go_on true old now inv.so_far.kept c.in-Some.token c.parse_property.new.context (member_of c.in_ok-property.property).name.name (value_at (member_of c.in_ok-property.property).value) c.args.count (subst (λ n. GoesOn true Object old now n c.args.count) c.in-Some.is inv.reading) read.kept
           (property_read now c.parse_property.new.context (member_of c.in_ok-property.property) read.found) read.within
           c.next_item.new.self c.in_ok-next-2.next c.next_item.ensures.kept c.in_ok-next-2.ensures.found c.in_ok-next-2.ensures.stands c.in_ok-next-2.ensures.comes;
+      lent = c.in_ok-next-2.ensures.lent;
+      written = property_written old c.loop-next.properties.items c.push_property.new.properties.items c.in_ok-property.property inv.written
+          (still_written old now (spelled_in_property c.in_ok-property.property) inv.so_far.kept (read.written (subst (IsLentHere now) c.in-Some.is inv.lent))) c.in-Ok.ensures.pushed;
     }
 
 pub parse_object-returns-clause-found : goal.parse_object-returns-clause-found
 parse_object-returns-clause-found g t c =
     let whole = properties_whole c.args.context.now c.loop-next.context c.loop-next.next (map member_of c.loop-next.properties.items) c.args.count c.new.result c.loop-next.invariant.so_far c.in_default.is c.requires.token
     (c.new.ensures.start ∙ c.token_start-start.ensures) (c.new.ensures.end ∙ c.token_end.ensures) in
-    subst (λ x. Reads c.args.context.now c.loop-next.context x) (sym c.object_of.ensures) whole
+    subst (λ x. Reads c.args.context.now c.loop-next.context x) (sym c.object_of.ensures.located) whole
 
 pub parse_array-returns-in_err-next-clause-refused : goal.parse_array-returns-in_err-next-clause-refused
 parse_array-returns-in_err-next-clause-refused g t c =
@@ -375,3 +389,11 @@ parse_property-returns-in_err-value-clause-told g t c =
     err_of (StopsAtItem Object old c.args.token true c.args.count) e c.from_residual-in_err-value.result c.from_residual-in_err-value.ensures.1
     (λ q d s many starts. value_told_stops true old c.args.token q d s c.requires.token starts (name_at c.in_ok-name.name) c.in_ok-name.ensures.name c.pass_colon.new.self colon.kept colon.found c.scan.new.self c.in_ok-found.found found.kept found.found found.lexeme
     c.in-Some.token c.in-Some.is e (c.args.count + 1) (omega (arith, many)) c.in_err-value.ensures.told)
+
+pub parse_property-returns-clause-written : goal.parse_property-returns-clause-written
+parse_property-returns-clause-written g t c = λ lent.
+    let old = c.args.context.now in
+    let here = c.scan.new.self in
+    let kept = kept_on old c.pass_colon.new.self here c.pass_colon.ensures.kept c.scan.ensures.kept in
+    let value = still_written old here (spelled c.in_ok-value.value) kept (c.in_ok-value.ensures.written (subst (IsLentHere here) c.in-Some.is c.in_ok-found.ensures.lent)) in
+    subst (AreWrittenIn old) (sym c.property_of.ensures.spelled) (All-cons (IsWritten (options_in old) (text_in old)) c.in_ok-name.name (spelled c.in_ok-value.value) (c.in_ok-name.ensures.written lent) value)

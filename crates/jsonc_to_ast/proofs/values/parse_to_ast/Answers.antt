@@ -17,6 +17,10 @@ use Rattle.jsonc_to_ast.proofs.Stopping.{stops_here}
 use Rattle.jsonc_to_ast.specs.Reached.{document}
 use Rattle.std.proofs.Common.{[]}
 use Rattle.jsonc_to_ast.proofs.Standing.{root_stops, end_stops, second_stops, text_stops}
+use Rattle.std.proofs.Common.{subst}
+use Rattle.jsonc_ast.specs.Spelled.{spelled}
+use Rattle.jsonc_to_ast.specs.Written.{IsLentHere}
+use Rattle.jsonc_to_ast.proofs.Spelling.{still_written, written_from_start}
 use Rattle.jsonc_to_ast.proofs.values.parse_to_ast.Goals as goal
 
 pub returns-in_default-clause-accepted : goal.returns-in_default-clause-accepted
@@ -157,3 +161,11 @@ returns-in_default-2-clause-told g c =
     text_stops true old _ _ c.fault_here.result start.text start.options start.start
     (second_stops true old c.scan.new.self c.in_ok-token.field-0 c.scan.ensures.kept read.found read.lexeme c.in-Some.token c.in-Some.is c.parse_value.new.context (value_at (located c.in_ok-value.value)) value.kept (value_read c.scan.new.self c.parse_value.new.context (located c.in_ok-value.value) value.found) value.within
     c.scan-2.new.self c.in_ok-scan.field-0 c.scan-2.ensures.kept last.found last.lexeme c.in_default-2.not-None c.fault_here.result c.fault_here.ensures.kind c.fault_here.ensures.range)
+
+pub returns-clause-written : goal.returns-clause-written
+returns-clause-written g c =
+    let start = c.new-context.ensures in
+    let old = c.new-context.result in
+    let here = c.scan.new.self in
+    let value = c.in_ok-value.ensures.written (subst (IsLentHere here) c.in-Some.is c.in_ok-token.ensures.lent) in
+    written_from_start old (spelled c.in_ok-value.value) _ _ start.text start.options (still_written old here (spelled c.in_ok-value.value) c.scan.ensures.kept value)

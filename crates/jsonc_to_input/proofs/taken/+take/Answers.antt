@@ -1,5 +1,6 @@
-use Rattle.std.proofs.Common.{◌∙◌, sym, ap, subst, refl, arith, length, take, ◌+◌, List, ◌<◌}
-use Rattle.std.proofs.lemmas.List.{take_all, nil_from_length}
+use Rattle.std.proofs.Common.{◌∙◌, sym, ap, subst, refl, arith, length, ◌+◌, List, ◌<◌}
+use Rattle.std.proofs.lemmas.List.{nil_from_length}
+use Rattle.jsonc_nodes.proofs.Rows.{all_given, given_at}
 use Rattle.jsonc_nodes.specs.Names.{HasName, NameReads}
 use Rattle.jsonc_tree.specs.Stored.{content_of}
 use Rattle.jsonc_tree.specs.Tree.{children_at}
@@ -10,7 +11,6 @@ use Rattle.jsonc_to_input.proofs.Members.{no_members_taken, nothing_more_put, on
 use Rattle.jsonc_to_input.proofs.Leaves.{not_property}
 use Rattle.jsonc_to_input.proofs.Nodes.{array_taken, object_taken, held_taken, nothing_held, member_taken, nameless_passed, valueless_passed, other_passed, pairs_taken}
 use Rattle.jsonc_to_input.proofs.taken.+take.Goals as goal
-use Rattle.jsonc_to_input.proofs.taken.+take.Goals.{take_elements-in-Some+in_ok-push, take_elements-in_default, take_properties-in-Some+in_ok-put_property, take_properties-in_default}
 
 pub take-returns-in_ok-take_elements-in-Array : goal.take-returns-in_ok-take_elements-in-Array
 take-returns-in_ok-take_elements-in-Array g t c =
@@ -20,32 +20,41 @@ pub take-returns-in_ok-take_properties-in-Object : goal.take-returns-in_ok-take_
 take-returns-in_ok-take_properties-in-Object g t c =
     object_taken c.args.tree.now.nodes c.args.node c.in_ok-take_properties-in-Object.field-0.items c.from-in-Object.result (ap content_of (sym c.in-Object.is) ∙ c.kind.ensures) c.in_ok-take_properties-in-Object.ensures c.from-in-Object.ensures
 
-pub take_elements-loop-place-init : goal.take_elements-loop-place-init
-take_elements-loop-place-init g t c = none_taken c.args.tree.now.nodes _ c.new-elements.result.items refl c.new-elements.ensures.items
+pub take_elements-loop-child-init : goal.take_elements-loop-child-init
+take_elements-loop-child-init g t c = (0, c.into_iter-child-iterator.ensures.into_iter_gives ∙ c.children-child-items.ensures.children, none_taken c.args.tree.now.nodes _ c.new-elements.result.items refl c.new-elements.ensures.items)
 
 pub take_elements-take-requires : goal.take_elements-take-requires
 take_elements-take-requires g t c κs within =
     let ns = c.args.tree.now.nodes in
-    let inside : c.loop-place.place < length (children_at ns c.args.array) = omega (arith, c.child_count-count.ensures, c.loop-place-test.true) in
-    let smaller = child_smaller ns c.requires.tree c.args.array c.loop-place.place c.child_at.result c.requires.there inside c.child_at.ensures.child in
-    (omega (arith, c.decreases, smaller), (within.0, (within.1, (c.child_at.ensures.there, c.requires.tree))))
+    let so_far = c.loop-child.invariant in
+    let step = given_at so_far.0 (children_at ns c.args.array) c.loop-child.child-iterator c.in-Some.child c.next.new.self so_far.1 c.in-Some.ensures.steps in
+    let there : c.in-Some.child < length ns = omega (arith, step.1, c.requires.tree.there c.args.array so_far.0 step.0) in
+    let smaller = child_smaller ns c.requires.tree c.args.array so_far.0 c.in-Some.child c.requires.there step.0 step.1 in
+    (omega (arith, c.decreases, smaller), (within.0, (within.1, (there, c.requires.tree))))
 
-pub take_elements-loop-place-preserved : goal.take_elements-loop-place-preserved
-take_elements-loop-place-preserved g t c =
+pub take_elements-loop-child-preserved : goal.take_elements-loop-child-preserved
+take_elements-loop-child-preserved g t c =
     let ns = c.args.tree.now.nodes in
     let row : List _ = children_at ns c.args.array in
-    let inside : c.loop-place.place < length row = omega (arith, c.child_count-count.ensures, c.loop-place-test.true) in
-    let child = subst (λ m. IsTakenAt ns m c.in_ok-value.field-0) c.child_at.ensures.child c.in_ok-value.ensures in
-    elim c.match-branch-2.branch [
-      | take_elements-in-Some+in_ok-push w ↦ one_more_taken ns row c.loop-place.place c.loop-place.elements.items c.match-branch-2.elements.items c.in_ok-value.field-0 w.in-Some.value inside c.loop-place.invariant child w.in-Some.is (ap (λ v. v.items) w.elements-is ∙ w.in_ok-push.ensures.items)
-      | take_elements-in_default w ↦ subst (λ v. AreTaken ns (take (c.loop-place.place + 1) row) v.items) (sym w.elements-is) (nothing_more_taken ns row c.loop-place.place c.loop-place.elements.items c.in_ok-value.field-0 inside c.loop-place.invariant child w.in_default.is)
-    ]
+    let so_far = c.loop-child.invariant in
+    let step = given_at so_far.0 row c.loop-child.child-iterator c.in-Some.child c.next.new.self so_far.1 c.in-Some.ensures.steps in
+    let child = subst (λ m. IsTakenAt ns m c.in_ok-value.field-0) step.1 c.in_ok-value.ensures in
+    (so_far.0 + 1, step.2, nothing_more_taken ns row so_far.0 c.loop-child.elements.items c.in_ok-value.field-0 step.0 so_far.2 child c.in_default.is)
+
+pub take_elements-loop-child-preserved-in-Continue-branch-3 : goal.take_elements-loop-child-preserved-in-Continue-branch-3
+take_elements-loop-child-preserved-in-Continue-branch-3 g t c =
+    let ns = c.args.tree.now.nodes in
+    let row : List _ = children_at ns c.args.array in
+    let so_far = c.loop-child.invariant in
+    let step = given_at so_far.0 row c.loop-child.child-iterator c.in-Some.child c.next.new.self so_far.1 c.in-Some.ensures.steps in
+    let child = subst (λ m. IsTakenAt ns m c.in_ok-value.field-0) step.1 c.in_ok-value.ensures in
+    (so_far.0 + 1, step.2, one_more_taken ns row so_far.0 c.loop-child.elements.items c.push.new.self.items c.in_ok-value.field-0 c.in-Some-2.value step.0 so_far.2 child c.in-Some-2.is c.in_ok-push.ensures.items)
 
 pub take_elements-returns : goal.take_elements-returns
 take_elements-returns g t c =
     let ns = c.args.tree.now.nodes in
     let row : List _ = children_at ns c.args.array in
-    subst (λ l. AreTaken ns l c.loop-place.elements.items) (take_all c.loop-place.place row (omega (arith, c.child_count-count.ensures, c.loop-place-test.false))) c.loop-place.invariant
+    subst (λ l. AreTaken ns l c.loop-child.elements.items) (all_given c.loop-child.invariant.0 row c.loop-child.child-iterator c.loop-child.invariant.1 c.in-None.ensures.steps.0) c.loop-child.invariant.2
 
 pub take_held-take-requires : goal.take_held-take-requires
 take_held-take-requires g t c κs within =
@@ -59,33 +68,42 @@ take_held-returns-in-Some g t c = held_taken c.args.tree.now.nodes c.args.node c
 pub take_held-returns-in-None : goal.take_held-returns-in-None
 take_held-returns-in-None g t c = nothing_held c.args.tree.now.nodes c.args.node c.requires.holds (sym c.in-None.ensures.value)
 
-pub take_properties-loop-place-init : goal.take_properties-loop-place-init
-take_properties-loop-place-init g t c = no_members_taken c.args.tree.now.nodes _ c.new-properties.result.entries refl (nil_from_length c.new-properties.result.entries c.new-properties.ensures.len)
+pub take_properties-loop-child-init : goal.take_properties-loop-child-init
+take_properties-loop-child-init g t c = (0, c.into_iter-child-iterator.ensures.into_iter_gives ∙ c.children-child-items.ensures.children, no_members_taken c.args.tree.now.nodes _ c.new-properties.result.entries refl (nil_from_length c.new-properties.result.entries c.new-properties.ensures.len))
 
 pub take_properties-take_property-requires : goal.take_properties-take_property-requires
 take_properties-take_property-requires g t c κs within =
     let ns = c.args.tree.now.nodes in
-    let inside : c.loop-place.place < length (children_at ns c.args.object) = omega (arith, c.child_count-count.ensures, c.loop-place-test.true) in
-    let smaller = child_smaller ns c.requires.tree c.args.object c.loop-place.place c.child_at.result c.requires.there inside c.child_at.ensures.child in
-    (omega (arith, c.decreases, smaller), (within.0, (within.1, (c.child_at.ensures.there, c.requires.tree))))
+    let so_far = c.loop-child.invariant in
+    let step = given_at so_far.0 (children_at ns c.args.object) c.loop-child.child-iterator c.in-Some.child c.next.new.self so_far.1 c.in-Some.ensures.steps in
+    let there : c.in-Some.child < length ns = omega (arith, step.1, c.requires.tree.there c.args.object so_far.0 step.0) in
+    let smaller = child_smaller ns c.requires.tree c.args.object so_far.0 c.in-Some.child c.requires.there step.0 step.1 in
+    (omega (arith, c.decreases, smaller), (within.0, (within.1, (there, c.requires.tree))))
 
-pub take_properties-loop-place-preserved : goal.take_properties-loop-place-preserved
-take_properties-loop-place-preserved g t c =
+pub take_properties-loop-child-preserved : goal.take_properties-loop-child-preserved
+take_properties-loop-child-preserved g t c =
     let ns = c.args.tree.now.nodes in
     let row : List _ = children_at ns c.args.object in
-    let inside : c.loop-place.place < length row = omega (arith, c.child_count-count.ensures, c.loop-place-test.true) in
-    let child = subst (λ m. IsMemberTaken ns m c.in_ok-name.field-0) c.child_at.ensures.child c.in_ok-name.ensures in
-    elim c.match-branch-2.branch [
-      | take_properties-in-Some+in_ok-put_property w ↦ one_more_put ns row c.loop-place.place c.loop-place.properties.entries c.match-branch-2.properties.entries c.in_ok-name.field-0 w.in-Some.name w.in-Some.value inside c.loop-place.invariant child w.in-Some.is (ap (λ m. m.entries) w.properties-is ∙ w.in_ok-put_property.ensures)
-      | take_properties-in_default w ↦ subst (λ m. AreMembersTaken ns (take (c.loop-place.place + 1) row) m.entries) (sym w.properties-is) (nothing_more_put ns row c.loop-place.place c.loop-place.properties.entries c.in_ok-name.field-0 inside c.loop-place.invariant child w.in_default.is)
-    ]
+    let so_far = c.loop-child.invariant in
+    let step = given_at so_far.0 row c.loop-child.child-iterator c.in-Some.child c.next.new.self so_far.1 c.in-Some.ensures.steps in
+    let child = subst (λ m. IsMemberTaken ns m c.in_ok-name.field-0) step.1 c.in_ok-name.ensures in
+    (so_far.0 + 1, step.2, nothing_more_put ns row so_far.0 c.loop-child.properties.entries c.in_ok-name.field-0 step.0 so_far.2 child c.in_default.is)
+
+pub take_properties-loop-child-preserved-in-Continue-branch-3 : goal.take_properties-loop-child-preserved-in-Continue-branch-3
+take_properties-loop-child-preserved-in-Continue-branch-3 g t c =
+    let ns = c.args.tree.now.nodes in
+    let row : List _ = children_at ns c.args.object in
+    let so_far = c.loop-child.invariant in
+    let step = given_at so_far.0 row c.loop-child.child-iterator c.in-Some.child c.next.new.self so_far.1 c.in-Some.ensures.steps in
+    let child = subst (λ m. IsMemberTaken ns m c.in_ok-name.field-0) step.1 c.in_ok-name.ensures in
+    (so_far.0 + 1, step.2, one_more_put ns row so_far.0 c.loop-child.properties.entries c.put_property.new.properties.entries c.in_ok-name.field-0 c.in-Some-2.name c.in-Some-2.value step.0 so_far.2 child c.in-Some-2.is c.in_ok-put_property.ensures)
 
 pub take_properties-returns : goal.take_properties-returns
 take_properties-returns g t c =
     let ns = c.args.tree.now.nodes in
     let row : List _ = children_at ns c.args.object in
-    let all = subst (λ l. AreMembersTaken ns l c.loop-place.properties.entries) (take_all c.loop-place.place row (omega (arith, c.child_count-count.ensures, c.loop-place-test.false))) c.loop-place.invariant in
-    pairs_taken ns row c.loop-place.properties.entries (λ v. v.items) c.pairs_of.result c.pairs_of.ensures all
+    let all = subst (λ l. AreMembersTaken ns l c.loop-child.properties.entries) (all_given c.loop-child.invariant.0 row c.loop-child.child-iterator c.loop-child.invariant.1 c.in-None.ensures.steps.0) c.loop-child.invariant.2 in
+    pairs_taken ns row c.loop-child.properties.entries (λ v. v.items) c.pairs_of.result c.pairs_of.ensures all
 
 pub take_property-returns-in_default : goal.take_property-returns-in_default
 take_property-returns-in_default g t c =

@@ -1,4 +1,4 @@
-use Rattle.std.proofs.Common.{◌+◌, ◌*◌, take}
+use Rattle.std.proofs.Common.{◌≡◌, ◌+◌, ◌*◌, ℕ, drop, take}
 use Rattle.jsonc_tree.specs.Tree.{children_at}
 use Rattle.jsonc_to_input.specs.Taken.{AreTaken, AreMembersTaken}
 use Rattle.jsonc_to_input.proofs.Below.{count_at}
@@ -19,8 +19,13 @@ decreases-take_properties g l = 3 * count_at l.tree.now.nodes l.object
 abbrev pub decreases-take_property : goal.decreases-take_property
 decreases-take_property g l = 3 * count_at l.tree.now.nodes l.child + 2
 
-abbrev pub invariant-take_elements-loop-place : goal.invariant-take_elements-loop-place
-invariant-take_elements-loop-place g l = AreTaken l.tree.nodes (take l.place (children_at l.tree.nodes l.array)) l.elements.items
+-- so many of the row are behind the loop
+abbrev pub invariant-take_elements-loop-child : goal.invariant-take_elements-loop-child
+invariant-take_elements-loop-child g l =
+    let row = children_at l.tree.nodes l.array in
+    (k : ℕ) × (l.child-iterator ≡ drop k row) × AreTaken l.tree.nodes (take k row) l.elements.items
 
-abbrev pub invariant-take_properties-loop-place : goal.invariant-take_properties-loop-place
-invariant-take_properties-loop-place g l = AreMembersTaken l.tree.nodes (take l.place (children_at l.tree.nodes l.object)) l.properties.entries
+abbrev pub invariant-take_properties-loop-child : goal.invariant-take_properties-loop-child
+invariant-take_properties-loop-child g l =
+    let row = children_at l.tree.nodes l.object in
+    (k : ℕ) × (l.child-iterator ≡ drop k row) × AreMembersTaken l.tree.nodes (take k row) l.properties.entries

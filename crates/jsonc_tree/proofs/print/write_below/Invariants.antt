@@ -1,5 +1,5 @@
 use Rattle.std.proofs.Common.{◌≡◌, ℕ, ◌<◌, ◌++◌, List, length, vec_len, IfSome}
-use Rattle.std.specs.Fmt.{HasWritten, IsPlainFormatter}
+use Rattle.std.specs.Fmt.{HasWrittenStyled, IsFlush}
 use Rattle.std.specs.List.{flat_map}
 use Rattle.jsonc_tree.specs.Tree.{IsOver}
 use Rattle.jsonc_tree.specs.Stored.{nodes_of}
@@ -13,7 +13,7 @@ invariant-loop-next g l =
     record {
       there : IfSome l.next (λ n. n < vec_len l.nodes);
       over : IfSome l.next (λ n. IsOver ns l.end n);
-      written : IsPlainFormatter l.initial.f → (done : List ℕ) × HasWritten g.W.Write.write_str_gives l.initial.f done l.f × (printed (ordered_tree ns l.end) ≡ done ++ flat_map (text_at ns) (rest_at ns l.end l.next));
+      written : IsFlush l.initial.f → (done : List ℕ) × HasWrittenStyled g.W.Write.write_str_gives l.initial.f done l.f × (printed (ordered_tree ns l.end) ≡ done ++ flat_map (text_at ns) (rest_at ns l.end l.next));
     }
 
 abbrev pub decreases-loop-next : goal.decreases-loop-next

@@ -1,8 +1,8 @@
 use Rattle.std.proofs.Common.{◌≡◌, ◌<◌, length, vec_len}
 use Rattle.jsonc_tree.specs.Tree.{IsOver}
-use Rattle.jsonc_tree.specs.Stored.{nodes_of}
 use Rattle.jsonc_tree.specs.Order.{following}
 use Rattle.jsonc_tree.proofs.Order.{levels}
+use Rattle.jsonc_tree.specs.Stored.{nodes_of}
 use Rattle.jsonc_tree.proofs.walk.next_after.Given as goal
 
 abbrev pub invariant-loop-at : goal.invariant-loop-at

@@ -1,20 +1,30 @@
-use Rattle.std.proofs.Common.{◌<◌, length, arith}
-use Rattle.std.proofs.lemmas.List.{length-map}
-use Rattle.jsonc_tree.specs.Tree.{above}
-use Rattle.jsonc_tree.specs.Stored.{nodes_of, node_of}
+use Rattle.std.proofs.Common.{◌≡◌, ◌<◌, ◌∷◌, length, Some, arith, ap, sym, ◌∙◌}
+use Rattle.std.proofs.lemmas.Option.{slice_get_within, get_or_from_slice_get}
+use Rattle.jsonc_tree.specs.Tree.{children_at, above}
+use Rattle.jsonc_tree.specs.Order.{rest_at}
 use Rattle.jsonc_tree.proofs.Order.{rest_down, rest_over}
+use Rattle.jsonc_tree.specs.Stored.{nodes_of}
+use Rattle.jsonc_tree.proofs.Gaps.{at_there, at_named}
+use Rattle.jsonc_tree.proofs.Agreeing.{length_shown}
+use Rattle.jsonc_tree.proofs.Walks.{none_at}
 use Rattle.jsonc_tree.proofs.walk.node_after.Goals as goal
-use Rattle.jsonc_tree.proofs.SameLinks.{IsStored-tree}
 
-pub returns-then-count_of-gt0-clause-rest : goal.returns-then-count_of-gt0-clause-rest
-returns-then-count_of-gt0-clause-rest g c =
-    let there : c.args.n < length (nodes_of c.args.nodes.now.items) = omega (arith, length-map c.args.nodes.now.items node_of, c.args.nodes.now.ok.0) in
-    rw c.child_of.ensures (rest_down (nodes_of c.args.nodes.now.items) (IsStored-tree c.args.nodes.now.items c.requires.stored) c.args.end c.args.n there c.requires.over (omega arith))
+pub returns-in-Some-clause-rest : goal.returns-in-Some-clause-rest
+returns-in-Some-clause-rest g c =
+    let ns = nodes_of c.args.nodes.now.items in
+    let there : c.args.n < length ns = omega (arith, c.requires.there, length_shown c.args.nodes.now.items, c.args.nodes.now.ok.0) in
+    rest_down ns c.requires.stored.tree c.args.end c.args.n there c.requires.over (slice_get_within (children_at ns c.args.n) 0 c.in-Some.first (sym c.in-Some.ensures))
+    ∙ ap (λ m. c.args.n ∷ rest_at ns c.args.end (Some m)) (get_or_from_slice_get (children_at ns c.args.n) 0 c.in-Some.first 0 (sym c.in-Some.ensures))
 
-pub returns-then-count_of-gt0-clause-over : goal.returns-then-count_of-gt0-clause-over
-returns-then-count_of-gt0-clause-over g c = rw c.child_of.ensures (above (c.requires.stored.named c.args.n 0 (omega arith)) c.requires.over)
+pub returns-in-Some-clause-there : goal.returns-in-Some-clause-there
+returns-in-Some-clause-there g c = omega (arith, at_there (nodes_of c.args.nodes.now.items) c.requires.stored.tree c.args.n 0 c.in-Some.first (sym c.in-Some.ensures), length_shown c.args.nodes.now.items, c.args.nodes.now.ok.0)
+
+pub returns-in-Some-clause-over : goal.returns-in-Some-clause-over
+returns-in-Some-clause-over g c = above (at_named (nodes_of c.args.nodes.now.items) c.requires.stored.tree c.args.n 0 c.in-Some.first (sym c.in-Some.ensures)) c.requires.over
 
 pub returns-clause-rest : goal.returns-clause-rest
 returns-clause-rest g c =
-    let there : c.args.n < length (nodes_of c.args.nodes.now.items) = omega (arith, length-map c.args.nodes.now.items node_of, c.args.nodes.now.ok.0) in
-    rest_over (nodes_of c.args.nodes.now.items) (IsStored-tree c.args.nodes.now.items c.requires.stored) c.args.end c.args.n c.next_after.result there (omega arith) c.next_after.ensures.next
+    let ns = nodes_of c.args.nodes.now.items in
+    let there : c.args.n < length ns = omega (arith, c.requires.there, length_shown c.args.nodes.now.items, c.args.nodes.now.ok.0) in
+    let none : length (children_at ns c.args.n) ≡ 0 = omega (arith, none_at (children_at ns c.args.n) 0 (sym c.in_default.ensures)) in
+    rest_over ns c.requires.stored.tree c.args.end c.args.n c.next_after.result there none c.next_after.ensures.next

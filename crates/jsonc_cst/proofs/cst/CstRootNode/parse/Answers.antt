@@ -1,11 +1,13 @@
-use Rattle.std.proofs.Common.{option_map}
+use Rattle.std.proofs.Common.{chars, option_map, subst}
 use Rattle.jsonc_text.specs.Options.{Options}
 use Rattle.jsonc_text.specs.OptionsOf.{parse_options}
 use Rattle.jsonc_text.proofs.FaultLemmas.{out_of_memory_is_fault}
+use Rattle.jsonc_text.proofs.UniqueValues.{document_unique}
 use Rattle.jsonc_ast.specs.Located.{IsLocatedDocument, value_at}
 use Rattle.jsonc_to_ast.proofs.Grammar.{located_document}
 use Rattle.jsonc_build.specs.Given.{located_in}
-use Rattle.jsonc_cst.proofs.Lent.{located_there}
+use Rattle.jsonc_to_ast.specs.Refusals.{IsWithin}
+use Rattle.jsonc_cst.proofs.Lent.{located_there, within_there}
 use Rattle.jsonc_cst.proofs.cst.CstRootNode.parse.Goals as goal
 
 pub build-requires : goal.build-requires
@@ -26,3 +28,13 @@ pub returns-clause-shaped : goal.returns-clause-shaped
 returns-clause-shaped g c =
     let o : Options = parse_options c.args.options.now in
     c.in-Ok.ensures.shaped o (located_there o c.args.text.now c.as_ref.result c.in_ok-parsed.parsed.value c.as_ref.ensures.value c.in_ok-parsed.ensures.located)
+
+pub returns-clause-laid : goal.returns-clause-laid
+returns-clause-laid g c =
+    let o : Options = parse_options c.args.options.now in
+    (located_in c.as_ref.result, located_there o c.args.text.now c.as_ref.result c.in_ok-parsed.parsed.value c.as_ref.ensures.value c.in_ok-parsed.ensures.located, c.in-Ok.ensures.laid)
+
+pub returns-clause-within : goal.returns-clause-within
+returns-clause-within g c =
+    let o : Options = parse_options c.args.options.now in
+    λ w h. subst IsWithin (document_unique o (chars c.args.text.now) _ w c.in_ok-parsed.ensures.accepted h) (within_there c.in_ok-parsed.parsed.value c.in_ok-parsed.ensures.within)

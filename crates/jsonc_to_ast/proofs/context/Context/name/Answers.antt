@@ -4,12 +4,13 @@ use Rattle.jsonc_to_ast.specs.Scanned.{loose_text}
 use Rattle.jsonc_to_ast.proofs.Names.{loose_name_here}
 use Rattle.jsonc_to_ast.proofs.Refusals.{name_refused, loose_refused, string_token}
 use Rattle.jsonc_to_ast.proofs.Stopping.{loose_stops, no_name_stops}
+use Rattle.jsonc_to_ast.proofs.Spelling.{word_written}
 use Rattle.jsonc_to_ast.proofs.context.Context.name.Goals as goal
 
 pub returns-else-not-self : goal.returns-else-not-self
 returns-else-not-self g c =
     let e : loose_text (scanned_of c.args.token) ≡ Some (chars c.in-Some.value.now) = cc c.in-Some.ensures in
-    record { name = loose_name_here c.args.self.now c.args.token c.requires (chars c.in-Some.value.now) c.if-not-self.false e; range = c.range-range.ensures; refused = tt; fault = tt; told = tt }
+    record { name = loose_name_here c.args.self.now c.args.token c.requires (chars c.in-Some.value.now) c.if-not-self.false e; range = c.range-range.ensures; written = λ lent. word_written c.args.self.now c.args.token (record { range = c.range-range.result; value = c.in-Some.value }) c.requires e c.range-range.ensures; refused = tt; fault = tt; told = tt }
 
 pub returns-in_default-loose_name-clause-refused : goal.returns-in_default-loose_name-clause-refused
 returns-in_default-loose_name-clause-refused g c =

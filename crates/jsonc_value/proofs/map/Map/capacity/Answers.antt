@@ -8,4 +8,4 @@ returns g c =
     let vs = c.self.inside.values.items in
     let even = length_of_zip ks vs c.self.invariant in
     let seen = ap length c.self.view_is in
-    omega (arith, c.capacity.ensures, c.capacity-2.ensures, c.min.ensures, c.self.inside.values.ok.0, c.self.inside.values.ok.1, c.self.invariant, even, seen)
+    omega (arith, c.pairs_held.ensures, c.self.inside.values.ok.0, c.self.inside.values.ok.1, c.self.invariant, even, seen)

@@ -1,0 +1,279 @@
+//! Cases, read from their lines.
+
+use crate::edits::read_edits;
+use crate::error::CaseError;
+use crate::escape::{unescaped, unescaped_text};
+use crate::lookups::{Lookup, read_lookups};
+use jsonc_parser::{CollectOptions, CommentCollectionStrategy, ParseOptions};
+use jsonc_run::Edit;
+use std::alloc::Global;
+
+/// What a case asks.
+#[derive(Drop)]
+pub enum Question {
+    /// The tokens of a text.
+    Scan {
+        options: ParseOptions,
+        text: String,
+    },
+    /// The syntax tree of a text, and its tokens and comments where they are to be collected.
+    Ast {
+        options: ParseOptions,
+        collect: CollectOptions,
+        text: String,
+    },
+    /// The value of a text.
+    Value {
+        options: ParseOptions,
+        text: String,
+    },
+    /// Whether two texts have equal values.
+    Equal {
+        options: ParseOptions,
+        one: String,
+        other: String,
+    },
+    /// What is looked up in the object of a text.
+    Object {
+        options: ParseOptions,
+        text: String,
+        lookups: Vec<Lookup>,
+    },
+    /// What is looked up in the object of a text's syntax tree.
+    TreeObject {
+        options: ParseOptions,
+        text: String,
+        lookups: Vec<Lookup>,
+    },
+    /// What edits make of the document of a text.
+    Edit {
+        options: ParseOptions,
+        text: String,
+        edits: Vec<Edit<Global>>,
+    },
+    /// What the document of a text tells of itself and of its nodes.
+    Read {
+        options: ParseOptions,
+        text: String,
+    },
+    /// The string at the front of a text.
+    Decode {
+        text: String,
+    },
+    /// What printing the input under these options does.
+    Print {
+        options: ParseOptions,
+        input: Vec<u8>,
+    },
+    /// What the program does with these words and this input.
+    Program {
+        words: Vec<String>,
+        input: Vec<u8>,
+    },
+    /// What no call of this repository answers yet.
+    NotBuilt,
+}
+
+/// A question, with the name by which its answer is known.
+#[derive(Drop)]
+pub struct Case<'a> {
+    pub id: &'a str,
+    pub question: Question,
+}
+
+impl<'a> Case<'a> {
+    /// The case that a line holds.
+    pub fn from_line(alloc: Global, line: &'a str) -> Result<Case<'a>, CaseError> {
+        let fields: Vec<&str> = line.split('\t').collect(alloc)?;
+        let [id, kind, fields @ ..] = fields.as_slice() else {
+            return Err(CaseError::NoKind);
+        };
+        let question = Question::from_fields(alloc, kind, fields)?;
+        Ok(Case { id: *id, question })
+    }
+}
+
+fn is_kind_to_come(kind: &str) -> bool {
+    match kind {
+        "trace" | "settings" | "detached" => true,
+        _ => false,
+    }
+}
+
+impl Question {
+    fn from_fields(alloc: Global, kind: &str, fields: &[&str]) -> Result<Question, CaseError> {
+        match (kind, fields) {
+            ("scan", [options, text]) => scan(alloc, options, text),
+            ("ast", [options, collect, text]) => ast(alloc, options, collect, text),
+            ("value", [options, text]) => value(alloc, options, text),
+            ("equal", [options, one, other]) => equal(alloc, options, one, other),
+            ("jobj", [options, text, lookups]) => object(alloc, options, text, lookups),
+            ("aobj", [options, text, lookups]) => tree_object(alloc, options, text, lookups),
+            ("edit", [options, text, edits]) => edit(alloc, options, text, edits),
+            ("read", [options, text, ""]) => read(alloc, options, text),
+            ("read", [_, _, _]) => Ok(Question::NotBuilt),
+            ("decode", [text]) => Ok(Question::Decode {
+                text: unescaped_text(alloc, text)?,
+            }),
+            ("print", [options, input]) => print(alloc, options, input),
+            ("jsonc", [words, input]) => program(alloc, words, input),
+            (
+                "scan" | "ast" | "value" | "jobj" | "aobj" | "edit" | "read" | "decode" | "jsonc",
+                _,
+            ) => Err(CaseError::FieldCount),
+            (kind, _) if is_kind_to_come(kind) => Ok(Question::NotBuilt),
+            _ => Err(CaseError::UnknownKind),
+        }
+    }
+}
+
+fn scan(alloc: Global, options: &str, text: &str) -> Result<Question, CaseError> {
+    Ok(Question::Scan {
+        options: read_options(options)?,
+        text: unescaped_text(alloc, text)?,
+    })
+}
+
+fn ast(alloc: Global, options: &str, collect: &str, text: &str) -> Result<Question, CaseError> {
+    Ok(Question::Ast {
+        options: read_options(options)?,
+        collect: read_collection(collect)?,
+        text: unescaped_text(alloc, text)?,
+    })
+}
+
+fn value(alloc: Global, options: &str, text: &str) -> Result<Question, CaseError> {
+    Ok(Question::Value {
+        options: read_options(options)?,
+        text: unescaped_text(alloc, text)?,
+    })
+}
+
+fn equal(alloc: Global, options: &str, one: &str, other: &str) -> Result<Question, CaseError> {
+    Ok(Question::Equal {
+        options: read_options(options)?,
+        one: unescaped_text(alloc, one)?,
+        other: unescaped_text(alloc, other)?,
+    })
+}
+
+fn print(alloc: Global, options: &str, input: &str) -> Result<Question, CaseError> {
+    Ok(Question::Print {
+        options: read_options(options)?,
+        input: unescaped(alloc, input)?,
+    })
+}
+
+fn object(alloc: Global, options: &str, text: &str, lookups: &str) -> Result<Question, CaseError> {
+    Ok(Question::Object {
+        options: read_options(options)?,
+        text: unescaped_text(alloc, text)?,
+        lookups: read_lookups(alloc, lookups)?,
+    })
+}
+
+fn tree_object(
+    alloc: Global,
+    options: &str,
+    text: &str,
+    lookups: &str,
+) -> Result<Question, CaseError> {
+    Ok(Question::TreeObject {
+        options: read_options(options)?,
+        text: unescaped_text(alloc, text)?,
+        lookups: read_lookups(alloc, lookups)?,
+    })
+}
+
+fn edit(alloc: Global, options: &str, text: &str, edits: &str) -> Result<Question, CaseError> {
+    let Some(edits) = read_edits(alloc, edits)? else {
+        return Ok(Question::NotBuilt);
+    };
+    Ok(Question::Edit {
+        options: read_options(options)?,
+        text: unescaped_text(alloc, text)?,
+        edits,
+    })
+}
+
+fn read(alloc: Global, options: &str, text: &str) -> Result<Question, CaseError> {
+    Ok(Question::Read {
+        options: read_options(options)?,
+        text: unescaped_text(alloc, text)?,
+    })
+}
+
+fn program(alloc: Global, words: &str, input: &str) -> Result<Question, CaseError> {
+    Ok(Question::Program {
+        words: read_words(alloc, words)?,
+        input: unescaped(alloc, input)?,
+    })
+}
+
+fn read_flag(flag: u8) -> Result<bool, CaseError> {
+    match flag {
+        b'0' => Ok(false),
+        b'1' => Ok(true),
+        _ => Err(CaseError::Options),
+    }
+}
+
+/// The options that ten flags stand for.
+fn read_options(flags: &str) -> Result<ParseOptions, CaseError> {
+    let [
+        comments,
+        loose,
+        trailing,
+        missing,
+        quotes,
+        hex,
+        plus,
+        points,
+        non_finite,
+        escapes,
+    ] = flags.as_bytes()
+    else {
+        return Err(CaseError::Options);
+    };
+    Ok(ParseOptions {
+        allow_comments: read_flag(*comments)?,
+        allow_loose_object_property_names: read_flag(*loose)?,
+        allow_trailing_commas: read_flag(*trailing)?,
+        allow_missing_commas: read_flag(*missing)?,
+        allow_single_quoted_strings: read_flag(*quotes)?,
+        allow_hexadecimal_numbers: read_flag(*hex)?,
+        allow_unary_plus_numbers: read_flag(*plus)?,
+        allow_bare_decimal_point_numbers: read_flag(*points)?,
+        allow_non_finite_numbers: read_flag(*non_finite)?,
+        allow_extended_string_escapes: read_flag(*escapes)?,
+    })
+}
+
+/// What is to be collected.
+fn read_collection(letters: &str) -> Result<CollectOptions, CaseError> {
+    let (comments, tokens) = match letters {
+        "O-" => (CommentCollectionStrategy::Off, false),
+        "Ot" => (CommentCollectionStrategy::Off, true),
+        "T-" => (CommentCollectionStrategy::AsTokens, false),
+        "Tt" => (CommentCollectionStrategy::AsTokens, true),
+        "S-" => (CommentCollectionStrategy::Separate, false),
+        "St" => (CommentCollectionStrategy::Separate, true),
+        _ => return Err(CaseError::Collection),
+    };
+    Ok(CollectOptions { comments, tokens })
+}
+
+/// The words of a command line, each after a `'`.
+fn read_words(alloc: Global, field: &str) -> Result<Vec<String>, CaseError> {
+    let mut words = Vec::new(alloc);
+    for word in field.split(' ') {
+        if word.is_empty() {
+            continue;
+        }
+        let Some(word) = word.strip_prefix('\'') else {
+            return Err(CaseError::Word);
+        };
+        words.push(unescaped_text(alloc, word)?)?;
+    }
+    Ok(words)
+}

@@ -1,0 +1,24 @@
+//! Values for edits: what an edit writes, and what a document gives.
+
+ghost use Rattle.std.specs.Prelude.{◌≡◌, IfErr, IfOk};
+ghost use Rattle.jsonc_cst.specs.Values.{IsDocumentTaken};
+
+use super::{CstRootNode, EditError};
+pub use jsonc_input::CstInputValue;
+use std::alloc::Allocator;
+
+impl<A: Allocator + Copy> CstRootNode<A> {
+    /// What the document's value stands for, as a value for edits. Of a document that was read it is
+    /// the text's value, of equal names the last at the first place.
+    pub fn to_value(&self) -> Result<Option<CstInputValue<A>>, EditError>
+        ensures value { IfOk result (IsDocumentTaken self.now) }
+        ensures memory { IfErr result (λ e. e ≡ EditError.OutOfMemory) }
+    {
+        // The nodes are a tree, says `len`, and so there is a first one.
+        let _count = self.tree.len();
+        let Ok(value) = jsonc_to_input::to_value(self.alloc, &self.tree, 0) else {
+            return Err(EditError::OutOfMemory);
+        };
+        Ok(value)
+    }
+}

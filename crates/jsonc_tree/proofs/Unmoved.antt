@@ -1,0 +1,249 @@
+-- Changes that leave every row as it is: a new node, another text.
+use Rattle.std.proofs.Common.{◌≡◌, ◌^◌, ℕ, true, false, zero, suc, ◌<◌, ◌≤◌, List, [], ◌∷◌, ◌++◌, length, get_or, set, Option, None, Some, inl, inr, slice_get, refl, sym, ap, subst, ◌∙◌, arith, length-set}
+use Rattle.std.proofs.lemmas.Bool.{cases_lt, cases_eq, false≢true}
+use Rattle.std.proofs.lemmas.List.{get_or_append_left, get_or_past, get_or_push, length_push, get_or-set_same, get_or-set_other}
+use Rattle.std.proofs.lemmas.Option.{slice_get_past}
+use Rattle.jsonc_tree.specs.Content.{Content, root, is_container, has_text, with_text}
+use Rattle.jsonc_tree.specs.declared.node.Kind.{Kind}
+use Rattle.jsonc_tree.specs.Tree as tree
+use Rattle.jsonc_tree.specs.Tree.{children_at, parent_at, content_at, node_at, room_at, place_at, is_container_at, IsTree, IsTreeBy, top}
+use Rattle.jsonc_tree.specs.Changes.{Adds, Rewrites}
+use Rattle.jsonc_tree.specs.Stored.{content_of}
+use Rattle.jsonc_tree.proofs.SameLinks.{text_set}
+use Rattle.jsonc_tree.proofs.SameLinks.{IsTreeBy-same, IsTree-from, Rewrites-set, is_container-with_text}
+use Rattle.jsonc_tree.specs.declared.node.Node as stored
+use Rattle.jsonc_tree.specs.Stored.{bare, nowhere, link_at, nodes_of, room_over, ahead_at, back_at, IsStored}
+use Rattle.jsonc_tree.specs.Siblings.{IsGap}
+use Rattle.jsonc_tree.proofs.Written.{kept}
+use Rattle.jsonc_tree.proofs.Agreeing.{Agrees, agrees, shown_is, stored_by, length_shown, row_short}
+
+-- an element at the end that says what a missing one says changes no answer
+push_same : {X Y : Type 0} (f : X → Y) (xs : List X) (x d : X) (k : ℕ) → f x ≡ f d → f (get_or (xs ++ x ∷ []) k d) ≡ f (get_or xs k d)
+push_same f [] x d zero e = e
+push_same f [] x d (suc k) e = refl
+push_same f (y ∷ xs) x d zero e = refl
+push_same f (y ∷ xs) x d (suc k) e = push_same f xs x d k e
+
+-- a new node as it is shown
+abbrev pub shown_bare : Content → tree.Node
+shown_bare content = record { content = content; parent = None; children = []; room = room_over [] }
+
+module _ (ns : List tree.Node) (content : Content) where
+  abbrev pushed : List tree.Node
+  pushed = ns ++ shown_bare content ∷ []
+
+  pub children_pushed : (k : ℕ) → children_at pushed k ≡ children_at ns k
+  children_pushed k = push_same (λ n. n.children) ns (shown_bare content) tree.nowhere k refl
+
+  pub parent_pushed : (k : ℕ) → parent_at pushed k ≡ parent_at ns k
+  parent_pushed k = push_same (λ n. n.parent) ns (shown_bare content) tree.nowhere k refl
+
+  pub node_pushed : (k : ℕ) → k < length ns → node_at pushed k ≡ node_at ns k
+  node_pushed k h = get_or_append_left ns (shown_bare content ∷ []) tree.nowhere k h
+
+  pub node_last : node_at pushed (length ns) ≡ shown_bare content
+  node_last = get_or_push ns (shown_bare content) tree.nowhere (length ns) refl
+
+  pub IsTree-pushed : IsTree ns → IsTree pushed
+  IsTree-pushed t =
+      IsTree-from pushed (place_at ns)
+      (IsTreeBy-same ns pushed (place_at ns) (place_at ns)
+      (omega (arith, length_push ns (shown_bare content)))
+      children_pushed parent_pushed (λ k. refl)
+      (ap (λ (n : tree.Node). n.content) (node_pushed 0 t.first) ∙ t.root_first)
+      (λ k h. elim (cases_lt k (length ns)) [
+        | inl l ↦ t.leaf k (ap (λ (n : tree.Node). is_container n.content) (sym (node_pushed k l)) ∙ h)
+        | inr g ↦ ap (λ (n : tree.Node). n.children) (get_or_past ns k tree.nowhere g)
+      ])
+      t)
+
+  pub Adds-pushed : Adds ns pushed content
+  Adds-pushed = record {
+    len = length_push ns (shown_bare content);
+    last = ap (λ (n : tree.Node). n.content) node_last;
+    bare = (ap (λ (n : tree.Node). n.parent) node_last, ap (λ (n : tree.Node). n.children) node_last);
+    rest = node_pushed;
+  }
+
+module _ {A : Type 0} (ls : List (stored.Node A)) (kind : Kind A) (ok : IsStored ls) where
+  ahead_pushed : (c : ℕ) (o : Option ℕ) → ahead_at (ls ++ bare kind ∷ []) c o ≡ ahead_at ls c o
+  ahead_pushed c None = push_same (λ n. n.first) ls (bare kind) nowhere c refl
+  ahead_pushed c (Some n) = push_same (λ n. n.next) ls (bare kind) nowhere n refl
+
+  back_pushed : (c : ℕ) (o : Option ℕ) → back_at (ls ++ bare kind ∷ []) c o ≡ back_at ls c o
+  back_pushed c None = push_same (λ n. n.last) ls (bare kind) nowhere c refl
+  back_pushed c (Some n) = push_same (λ n. n.previous) ls (bare kind) nowhere n refl
+
+  content_pushed : (n : ℕ) → n < length (nodes_of ls ++ shown_bare (content_of kind) ∷ []) → content_of (link_at (ls ++ bare kind ∷ []) n).kind ≡ content_at (nodes_of ls ++ shown_bare (content_of kind) ∷ []) n
+  content_pushed n h =
+      let same = agrees ls ok in
+      elim (cases_lt n (length ls)) [
+        | inl l ↦
+            ap (λ (x : stored.Node A). content_of x.kind) (get_or_append_left ls (bare kind ∷ []) nowhere n l)
+            ∙ same.content n (omega (arith, same.len))
+            ∙ sym (ap (λ (x : tree.Node). x.content) (node_pushed (nodes_of ls) (content_of kind) n (omega (arith, same.len))))
+        | inr g ↦
+            let is : n ≡ length ls = omega (arith, length_push (nodes_of ls) (shown_bare (content_of kind)), same.len) in
+            ap (λ (x : stored.Node A). content_of x.kind) (get_or_push ls (bare kind) nowhere n (sym is))
+            ∙ sym (ap (λ (x : tree.Node). x.content) (get_or_push (nodes_of ls) (shown_bare (content_of kind)) tree.nowhere n (sym (is ∙ same.len))))
+      ]
+
+  room_pushed : (n : ℕ) → n < length (nodes_of ls ++ shown_bare (content_of kind) ∷ []) → room_at (nodes_of ls ++ shown_bare (content_of kind) ∷ []) n ≡ room_over (children_at (nodes_of ls ++ shown_bare (content_of kind) ∷ []) n)
+  room_pushed n h =
+      let same = agrees ls ok in
+      elim (cases_lt n (length (nodes_of ls))) [
+        | inl l ↦
+            let is = node_pushed (nodes_of ls) (content_of kind) n l in
+            ap (λ (x : tree.Node). x.room) is ∙ same.room n l ∙ ap (λ (x : tree.Node). room_over x.children) (sym is)
+        | inr g ↦
+            let is = get_or_push (nodes_of ls) (shown_bare (content_of kind)) tree.nowhere n (omega (arith, length_push (nodes_of ls) (shown_bare (content_of kind)))) in
+            ap (λ (x : tree.Node). x.room) is ∙ ap (λ (x : tree.Node). room_over x.children) (sym is)
+      ]
+
+  pushed_agrees : Agrees (ls ++ bare kind ∷ []) (nodes_of ls ++ shown_bare (content_of kind) ∷ [])
+  pushed_agrees =
+      let same = agrees ls ok in
+      record {
+        len = omega (arith, length_push (nodes_of ls) (shown_bare (content_of kind)), length_push ls (bare kind), same.len);
+        content = content_pushed;
+        parent = λ n. push_same (λ x. x.parent) ls (bare kind) nowhere n refl ∙ same.parent n ∙ sym (parent_pushed (nodes_of ls) (content_of kind) n);
+        room = room_pushed;
+        linked = record {
+          ahead = λ c k h. let r = children_pushed (nodes_of ls) (content_of kind) c in rw r (ahead_pushed c _ ∙ same.linked.ahead c k (omega (arith, h, ap length r)));
+          back = λ c k h. let r = children_pushed (nodes_of ls) (content_of kind) c in rw r (back_pushed c _ ∙ same.linked.back c k (omega (arith, h, ap length r)));
+          alone = λ n said.
+              let was : parent_at (nodes_of ls) n ≡ None = sym (parent_pushed (nodes_of ls) (content_of kind) n) ∙ said in
+              (push_same (λ x. x.next) ls (bare kind) nowhere n refl ∙ (same.linked.alone n was).0, push_same (λ x. x.previous) ls (bare kind) nowhere n refl ∙ (same.linked.alone n was).1);
+        };
+      }
+
+  pub pushed_stored : IsStored (ls ++ bare kind ∷ [])
+  pushed_stored = stored_by _ _ (IsTree-pushed (nodes_of ls) (content_of kind) ok.tree) pushed_agrees
+
+  pub pushed_adds : Adds (nodes_of ls) (nodes_of (ls ++ bare kind ∷ [])) (content_of kind)
+  pushed_adds = subst (λ (l : List tree.Node). Adds (nodes_of ls) l (content_of kind)) (sym (shown_is _ _ (IsTree-pushed (nodes_of ls) (content_of kind) ok.tree) pushed_agrees)) (Adds-pushed (nodes_of ls) (content_of kind))
+
+one_bare : {X Y : Type 0} (f : X → Y) (x d : X) (k : ℕ) → f x ≡ f d → f (get_or (x ∷ []) k d) ≡ f d
+one_bare f x d zero e = e
+one_bare f x d (suc k) e = refl
+
+-- one bare root is a tree
+module _ {A : Type 0} (kind : Kind A) (said : content_of kind ≡ root) where
+  abbrev alone : List (stored.Node A)
+  alone = bare kind ∷ []
+
+  alone_row : (k : ℕ) → children_at (nodes_of alone) k ≡ []
+  alone_row k = one_bare (λ n. n.children) (shown_bare (content_of kind)) tree.nowhere k refl
+
+  alone_parent : (k : ℕ) → parent_at (nodes_of alone) k ≡ None
+  alone_parent k = one_bare (λ n. n.parent) (shown_bare (content_of kind)) tree.nowhere k refl
+
+  pub alone_stored : IsStored alone
+  alone_stored = record {
+    tree = IsTree-from (nodes_of alone) (λ k. 0) (record {
+      first = omega arith;
+      root_first = said;
+      root_alone = refl;
+      leaf = λ n h. alone_row n;
+      there = λ c k h. absurd (omega (arith, ap length (alone_row c)));
+      named = λ c k h. absurd (omega (arith, ap length (alone_row c)));
+      placed = λ c k h. absurd (omega (arith, ap length (alone_row c)));
+      within = λ n c e. let wrong : None ≡ Some c = sym (alone_parent n) ∙ e in cc;
+      found = λ n c e. let wrong : None ≡ Some c = sym (alone_parent n) ∙ e in cc;
+      alone = λ n e. refl;
+      rooted = λ n. top (alone_parent n);
+    });
+    linked = record {
+      ahead = λ c k h. let r = alone_row c in let first : k ≡ 0 = omega (arith, h, ap length r) in rw (r, first) (one_bare (λ n. n.first) (bare kind) nowhere c refl);
+      back = λ c k h. let r = alone_row c in let first : k ≡ 0 = omega (arith, h, ap length r) in rw (r, first) (one_bare (λ n. n.last) (bare kind) nowhere c refl);
+      alone = λ n e. (one_bare (λ x. x.next) (bare kind) nowhere n refl, one_bare (λ x. x.previous) (bare kind) nowhere n refl);
+    };
+  }
+
+-- another text
+module _ {A : Type 0} (ls : List (stored.Node A)) (ok : IsStored ls) (n : ℕ) (e : stored.Node A) (kind : Kind A) (s : List ℕ) (there : n < length ls) (read : e ≡ link_at ls n) (keeps : has_text (content_at (nodes_of ls) n) ≡ true) (said : content_of kind ≡ with_text (content_at (nodes_of ls) n) s) where
+  abbrev rewritten : List (stored.Node A)
+  rewritten = set ls n (record e { kind = kind })
+
+  rewrites : Rewrites (nodes_of ls) (text_set (nodes_of ls) n s) n s
+  rewrites = Rewrites-set (nodes_of ls) (text_set (nodes_of ls) n s) n s (omega (arith, length_shown ls)) refl
+
+  room_same : (k : ℕ) → room_at (text_set (nodes_of ls) n s) k ≡ room_at (nodes_of ls) k
+  room_same k =
+      elim (cases_eq k n) [
+        | inl is ↦ ap (room_at (text_set (nodes_of ls) n s)) is ∙ ap (λ (x : tree.Node). x.room) (get_or-set_same (nodes_of ls) n _ tree.nowhere (omega (arith, length_shown ls))) ∙ ap (room_at (nodes_of ls)) (sym is)
+        | inr ne ↦ ap (λ (x : tree.Node). x.room) (get_or-set_other (nodes_of ls) n k _ tree.nowhere ne)
+      ]
+
+  rewritten_tree : IsTree (text_set (nodes_of ls) n s)
+  rewritten_tree =
+      IsTree-from (text_set (nodes_of ls) n s) (place_at (nodes_of ls))
+      (IsTreeBy-same (nodes_of ls) (text_set (nodes_of ls) n s) (place_at (nodes_of ls)) (place_at (nodes_of ls))
+      (omega (arith, rewrites.len)) rewrites.children rewrites.parent (λ k. refl)
+      (elim (cases_eq 0 n) [
+        | inl is ↦ let wrong : true ≡ false = sym keeps ∙ ap (λ k. has_text (content_at (nodes_of ls) k)) (sym is) ∙ ap has_text ok.tree.root_first in absurd (false≢true (sym wrong))
+        | inr ne ↦ rewrites.others 0 ne ∙ ok.tree.root_first
+      ])
+      (λ k h. ok.tree.leaf k (elim (cases_eq k n) [
+        | inl is ↦ ap (is_container_at (nodes_of ls)) is ∙ sym (is_container-with_text (content_at (nodes_of ls) n) s) ∙ ap is_container (sym rewrites.content) ∙ ap (is_container_at (text_set (nodes_of ls) n s)) (sym is) ∙ h
+        | inr ne ↦ ap is_container (sym (rewrites.others k ne)) ∙ h
+      ]))
+      ok.tree)
+
+  field_kept : {X : Type 0} (f : stored.Node A → X) (k : ℕ) → f (record e { kind = kind }) ≡ f e → f (link_at rewritten k) ≡ f (link_at ls k)
+  field_kept f k same = kept f ls n k (record e { kind = kind }) (same ∙ ap f read)
+
+  ahead_kept : (c : ℕ) (o : Option ℕ) → ahead_at rewritten c o ≡ ahead_at ls c o
+  ahead_kept c None = field_kept (λ x. x.first) c refl
+  ahead_kept c (Some m) = field_kept (λ x. x.next) m refl
+
+  back_kept : (c : ℕ) (o : Option ℕ) → back_at rewritten c o ≡ back_at ls c o
+  back_kept c None = field_kept (λ x. x.last) c refl
+  back_kept c (Some m) = field_kept (λ x. x.previous) m refl
+
+  rewritten_agrees : Agrees rewritten (text_set (nodes_of ls) n s)
+  rewritten_agrees =
+      let same = agrees ls ok in
+      record {
+        len = length-set ls n _ ∙ same.len ∙ sym rewrites.len;
+        content = λ k h. elim (cases_eq k n) [
+          | inl is ↦
+              ap (λ m. content_of (link_at rewritten m).kind) is
+              ∙ ap (λ (x : stored.Node A). content_of x.kind) (get_or-set_same ls n (record e { kind = kind }) nowhere there)
+              ∙ said ∙ sym rewrites.content ∙ ap (content_at (text_set (nodes_of ls) n s)) (sym is)
+          | inr ne ↦
+              ap (λ (x : stored.Node A). content_of x.kind) (get_or-set_other ls n k (record e { kind = kind }) nowhere ne)
+              ∙ same.content k (omega (arith, rewrites.len)) ∙ sym (rewrites.others k ne)
+        ];
+        parent = λ k. field_kept (λ x. x.parent) k refl ∙ same.parent k ∙ sym (rewrites.parent k);
+        room = λ k h. room_same k ∙ same.room k (omega (arith, rewrites.len)) ∙ ap room_over (sym (rewrites.children k));
+        linked = record {
+          ahead = λ c k h. let r = rewrites.children c in rw r (ahead_kept c _ ∙ same.linked.ahead c k (omega (arith, h, ap length r)));
+          back = λ c k h. let r = rewrites.children c in rw r (back_kept c _ ∙ same.linked.back c k (omega (arith, h, ap length r)));
+          alone = λ k e.
+              let was : parent_at (nodes_of ls) k ≡ None = sym (rewrites.parent k) ∙ e in
+              (field_kept (λ x. x.next) k refl ∙ (same.linked.alone k was).0, field_kept (λ x. x.previous) k refl ∙ (same.linked.alone k was).1);
+        };
+      }
+
+  pub rewritten_stored : IsStored rewritten
+  rewritten_stored = stored_by _ _ rewritten_tree rewritten_agrees
+
+  pub rewritten_says : Rewrites (nodes_of ls) (nodes_of rewritten) n s
+  rewritten_says = subst (λ (l : List tree.Node). Rewrites (nodes_of ls) l n s) (sym (shown_is _ _ rewritten_tree rewritten_agrees)) rewrites
+
+-- the gap at the end of a row
+module _ {A : Type 0} (ls : List (stored.Node A)) (ok : IsStored ls) where
+  pub end_gap : (c : ℕ) (last : Option ℕ) → last ≡ (link_at ls c).last → IsGap (nodes_of ls) c (length (children_at (nodes_of ls) c)) last None
+  end_gap c last is =
+      let row : List ℕ = children_at (nodes_of ls) c in
+      let past : slice_get row (length row) ≡ None = slice_get_past row (length row) (omega arith) in
+      record {
+        inside = omega arith;
+        front = is ∙ ap (back_at ls c) (sym past) ∙ ok.linked.back c (length row) (omega arith);
+        back = sym past;
+      }
+
+  -- there is room for more children than a number in memory can say
+  pub room_wide : (c : ℕ) → c < length (nodes_of ls) → length ls ≤ 2 ^ 64 → 2 ^ 64 ≤ room_at (nodes_of ls) c
+  room_wide c h size = omega (arith, (agrees ls ok).room c h, row_short (nodes_of ls) ok.tree c, length_shown ls)

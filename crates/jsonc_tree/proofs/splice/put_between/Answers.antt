@@ -1,0 +1,30 @@
+use Rattle.std.proofs.Common.{arith, vec_len}
+use Rattle.jsonc_tree.proofs.Agreeing.{length_shown}
+use Rattle.jsonc_tree.proofs.Moves.{in_memory, comes_by, gap_front_there, gap_back_there}
+use Rattle.jsonc_tree.proofs.splice.put_between.Goals as goal
+
+pub set_ahead-requires-clause-there : goal.set_ahead-requires-clause-there
+set_ahead-requires-clause-there g c = omega (arith, c.requires.can.container, length_shown c.args.nodes.now.items, c.args.nodes.now.ok.0)
+
+pub set_ahead-requires-clause-before : goal.set_ahead-requires-clause-before
+set_ahead-requires-clause-before g c = gap_front_there c.args.nodes.now.items c.requires.stored c.args.c c.requires.gap.0 (vec_len c.args.nodes.now) c.args.before c.args.behind c.requires.gap.1 (omega (arith, length_shown c.args.nodes.now.items, c.args.nodes.now.ok.0))
+
+pub set_back-requires-clause-there : goal.set_back-requires-clause-there
+set_back-requires-clause-there g c = omega (arith, c.requires.can.container, length_shown c.args.nodes.now.items, c.args.nodes.now.ok.0, c.set_ahead.ensures.len)
+
+pub set_back-requires-clause-behind : goal.set_back-requires-clause-behind
+set_back-requires-clause-behind g c = gap_back_there c.args.nodes.now.items c.requires.stored c.args.c c.requires.gap.0 (vec_len c.set_ahead.new.nodes) c.args.before c.args.behind c.requires.gap.1 (omega (arith, length_shown c.args.nodes.now.items, c.args.nodes.now.ok.0, c.set_ahead.ensures.len))
+
+pub returns-clause-fills : goal.returns-clause-fills
+returns-clause-fills g c = λ k gap.
+    (comes_by c.args.nodes.now.items c.requires.stored c.set_ahead.new.nodes.items c.set_back.new.nodes.items c.set_place.new.nodes.items c.args.c k c.args.x c.args.before c.args.behind c.set_ahead.ensures.nodes c.set_back.ensures.nodes c.set_place.ensures.nodes c.requires.can gap).0
+
+pub returns-clause-stored : goal.returns-clause-stored
+returns-clause-stored g c =
+    (comes_by c.args.nodes.now.items c.requires.stored c.set_ahead.new.nodes.items c.set_back.new.nodes.items c.set_place.new.nodes.items c.args.c c.requires.gap.0 c.args.x c.args.before c.args.behind c.set_ahead.ensures.nodes c.set_back.ensures.nodes c.set_place.ensures.nodes c.requires.can c.requires.gap.1).1
+
+pub set_place-requires-clause-previous : goal.set_place-requires-clause-previous
+set_place-requires-clause-previous g c = in_memory c.args.before (vec_len c.args.nodes.now) (gap_front_there c.args.nodes.now.items c.requires.stored c.args.c c.requires.gap.0 (vec_len c.args.nodes.now) c.args.before c.args.behind c.requires.gap.1 (omega (arith, length_shown c.args.nodes.now.items, c.args.nodes.now.ok.0))) (omega (arith, c.args.nodes.now.ok))
+
+pub set_place-requires-clause-next : goal.set_place-requires-clause-next
+set_place-requires-clause-next g c = in_memory c.args.behind (vec_len c.args.nodes.now) (gap_back_there c.args.nodes.now.items c.requires.stored c.args.c c.requires.gap.0 (vec_len c.args.nodes.now) c.args.before c.args.behind c.requires.gap.1 (omega (arith, length_shown c.args.nodes.now.items, c.args.nodes.now.ok.0))) (omega (arith, c.args.nodes.now.ok))

@@ -1,0 +1,31 @@
+use Rattle.std.proofs.Common.{arith, vec_len}
+use Rattle.jsonc_tree.specs.Stored.{nodes_of}
+use Rattle.jsonc_tree.proofs.Agreeing.{length_shown}
+use Rattle.jsonc_tree.proofs.Moves.{in_memory, in_row, goes_by, previous_there, next_there}
+use Rattle.jsonc_tree.proofs.splice.take_out.Goals as goal
+
+pub set_ahead-requires-clause-there : goal.set_ahead-requires-clause-there
+set_ahead-requires-clause-there g c = omega (arith, (in_row (nodes_of c.args.nodes.now.items) c.requires.stored.tree c.args.x c.args.c c.requires.child).0, length_shown c.args.nodes.now.items, c.args.nodes.now.ok.0)
+
+pub set_ahead-requires-clause-before : goal.set_ahead-requires-clause-before
+set_ahead-requires-clause-before g c = previous_there c.args.nodes.now.items c.requires.stored c.args.x c.args.c (vec_len c.args.nodes.now) c.previous_of-before.result c.requires.child c.previous_of-before.ensures (omega (arith, length_shown c.args.nodes.now.items, c.args.nodes.now.ok.0))
+
+pub set_back-requires-clause-there : goal.set_back-requires-clause-there
+set_back-requires-clause-there g c = omega (arith, (in_row (nodes_of c.args.nodes.now.items) c.requires.stored.tree c.args.x c.args.c c.requires.child).0, length_shown c.args.nodes.now.items, c.args.nodes.now.ok.0, c.set_ahead.ensures.len)
+
+pub set_back-requires-clause-behind : goal.set_back-requires-clause-behind
+set_back-requires-clause-behind g c = next_there c.args.nodes.now.items c.requires.stored c.args.x c.args.c (vec_len c.set_ahead.new.nodes) c.next_of-behind.result c.requires.child c.next_of-behind.ensures (omega (arith, length_shown c.args.nodes.now.items, c.args.nodes.now.ok.0, c.set_ahead.ensures.len))
+
+pub returns-clause-gone : goal.returns-clause-gone
+returns-clause-gone g c =
+    (goes_by c.args.nodes.now.items c.requires.stored c.set_ahead.new.nodes.items c.set_back.new.nodes.items c.set_place.new.nodes.items c.args.c c.args.x c.previous_of-before.result c.next_of-behind.result c.set_ahead.ensures.nodes c.set_back.ensures.nodes c.set_place.ensures.nodes (omega (arith, c.args.nodes.now.ok)) c.requires.child c.previous_of-before.ensures c.next_of-behind.ensures).0
+
+pub returns-clause-stored : goal.returns-clause-stored
+returns-clause-stored g c =
+    (goes_by c.args.nodes.now.items c.requires.stored c.set_ahead.new.nodes.items c.set_back.new.nodes.items c.set_place.new.nodes.items c.args.c c.args.x c.previous_of-before.result c.next_of-behind.result c.set_ahead.ensures.nodes c.set_back.ensures.nodes c.set_place.ensures.nodes (omega (arith, c.args.nodes.now.ok)) c.requires.child c.previous_of-before.ensures c.next_of-behind.ensures).1
+
+pub set_ahead-requires-clause-to : goal.set_ahead-requires-clause-to
+set_ahead-requires-clause-to g c = in_memory c.next_of-behind.result (vec_len c.args.nodes.now) (next_there c.args.nodes.now.items c.requires.stored c.args.x c.args.c (vec_len c.args.nodes.now) c.next_of-behind.result c.requires.child c.next_of-behind.ensures (omega (arith, length_shown c.args.nodes.now.items, c.args.nodes.now.ok.0))) (omega (arith, c.args.nodes.now.ok))
+
+pub set_back-requires-clause-to : goal.set_back-requires-clause-to
+set_back-requires-clause-to g c = in_memory c.previous_of-before.result (vec_len c.args.nodes.now) (previous_there c.args.nodes.now.items c.requires.stored c.args.x c.args.c (vec_len c.args.nodes.now) c.previous_of-before.result c.requires.child c.previous_of-before.ensures (omega (arith, length_shown c.args.nodes.now.items, c.args.nodes.now.ok.0))) (omega (arith, c.args.nodes.now.ok))

@@ -1,0 +1,132 @@
+//! The links of a row: how they are read and written, one at a time.
+
+ghost use Rattle.std.specs.Prelude.{◌≡◌, ◌<◌, ◌-◌, ◌^◌, vec_len, vec_capacity, IfSome};
+ghost use Rattle.jsonc_tree.specs.Stored.{link_at, ahead_set, back_set, back_at, place_set};
+
+use crate::link::Link;
+use crate::node::Node;
+use std::alloc::Allocator;
+
+// The node before a gap leads on to this one, or the container if there is none before.
+pub(crate) fn set_ahead<A: Allocator>(
+    nodes: &mut Vec<Node<A>, A>,
+    c: usize,
+    before: Option<usize>,
+    to: Option<usize>,
+)
+    requires there { c < vec_len nodes.old }
+    requires before { IfSome before (λ n. n < vec_len nodes.old) }
+    requires to { IfSome to (λ n. n < 2 ^ 64 - 1) }
+    ensures nodes { nodes.new.items ≡ ahead_set nodes.old.items c before to }
+    ensures len { vec_len nodes.new ≡ vec_len nodes.old }
+    ensures capacity { vec_capacity nodes.new ≡ vec_capacity nodes.old }
+{
+    match before {
+        None => {
+            let container = &mut nodes[c];
+            container.first = Link::from_option(to);
+        }
+        Some(n) => {
+            let node = &mut nodes[n];
+            node.next = Link::from_option(to);
+        }
+    }
+}
+
+// The node behind a gap leads back to this one, or the container if there is none behind.
+pub(crate) fn set_back<A: Allocator>(
+    nodes: &mut Vec<Node<A>, A>,
+    c: usize,
+    behind: Option<usize>,
+    to: Option<usize>,
+)
+    requires there { c < vec_len nodes.old }
+    requires behind { IfSome behind (λ n. n < vec_len nodes.old) }
+    requires to { IfSome to (λ n. n < 2 ^ 64 - 1) }
+    ensures nodes { nodes.new.items ≡ back_set nodes.old.items c behind to }
+    ensures len { vec_len nodes.new ≡ vec_len nodes.old }
+    ensures capacity { vec_capacity nodes.new ≡ vec_capacity nodes.old }
+{
+    match behind {
+        None => {
+            let container = &mut nodes[c];
+            container.last = Link::from_option(to);
+        }
+        Some(n) => {
+            let node = &mut nodes[n];
+            node.previous = Link::from_option(to);
+        }
+    }
+}
+
+// The node gets this parent and these neighbours.
+pub(crate) fn set_place<A: Allocator>(
+    nodes: &mut Vec<Node<A>, A>,
+    n: usize,
+    parent: Option<usize>,
+    previous: Option<usize>,
+    next: Option<usize>,
+)
+    requires there { n < vec_len nodes.old }
+    requires parent { IfSome parent (λ n. n < 2 ^ 64 - 1) }
+    requires previous { IfSome previous (λ n. n < 2 ^ 64 - 1) }
+    requires next { IfSome next (λ n. n < 2 ^ 64 - 1) }
+    ensures nodes { nodes.new.items ≡ place_set nodes.old.items n parent previous next }
+    ensures len { vec_len nodes.new ≡ vec_len nodes.old }
+    ensures capacity { vec_capacity nodes.new ≡ vec_capacity nodes.old }
+{
+    let node = &mut nodes[n];
+    node.parent = Link::from_option(parent);
+    node.previous = Link::from_option(previous);
+    node.next = Link::from_option(next);
+}
+
+pub(crate) fn parent_of<A: Allocator>(nodes: &Vec<Node<A>, A>, n: usize) -> Option<usize>
+    requires { n < vec_len nodes.now }
+    ensures { result ≡ (link_at nodes.now.items n).parent }
+{
+    nodes[n].parent.get()
+}
+
+pub(crate) fn next_of<A: Allocator>(nodes: &Vec<Node<A>, A>, n: usize) -> Option<usize>
+    requires { n < vec_len nodes.now }
+    ensures { result ≡ (link_at nodes.now.items n).next }
+{
+    nodes[n].next.get()
+}
+
+pub(crate) fn previous_of<A: Allocator>(nodes: &Vec<Node<A>, A>, n: usize) -> Option<usize>
+    requires { n < vec_len nodes.now }
+    ensures { result ≡ (link_at nodes.now.items n).previous }
+{
+    nodes[n].previous.get()
+}
+
+pub(crate) fn first_of<A: Allocator>(nodes: &Vec<Node<A>, A>, n: usize) -> Option<usize>
+    requires { n < vec_len nodes.now }
+    ensures { result ≡ (link_at nodes.now.items n).first }
+{
+    nodes[n].first.get()
+}
+
+pub(crate) fn last_of<A: Allocator>(nodes: &Vec<Node<A>, A>, n: usize) -> Option<usize>
+    requires { n < vec_len nodes.now }
+    ensures { result ≡ (link_at nodes.now.items n).last }
+{
+    nodes[n].last.get()
+}
+
+pub(crate) fn before_of<A: Allocator>(
+    nodes: &Vec<Node<A>, A>,
+    c: usize,
+    behind: Option<usize>,
+) -> Option<usize>
+    requires there { c < vec_len nodes.now }
+    requires behind { IfSome behind (λ n. n < vec_len nodes.now) }
+    ensures { result ≡ back_at nodes.now.items c behind }
+{
+    match behind {
+        None => last_of(nodes, c),
+        Some(n) => previous_of(nodes, n),
+    }
+}

@@ -1,0 +1,139 @@
+//! Nodes that come into a row and go out of one.
+
+ghost use Rattle.std.specs.Prelude.{◌≡◌, IsTrue, ◌<◌, ◌≤◌, [], ◌∷◌, length, Some};
+ghost use Rattle.std.specs.Prelude.{slice_get, vec_len, vec_capacity};
+ghost use Rattle.jsonc_tree.specs.Tree.{children_at, parent_at, is_container_at};
+ghost use Rattle.jsonc_tree.specs.Changes.{Appends, CanAppend, CanJoin, Splices};
+ghost use Rattle.jsonc_tree.specs.Siblings.{CanFill, Fills, HasGap, TakesOut};
+ghost use Rattle.jsonc_tree.specs.Stored.{nodes_in, IsStored};
+
+use crate::links::{before_of, last_of, next_of, previous_of, set_ahead, set_back, set_place};
+use crate::node::Node;
+use crate::walk::child_from;
+use std::alloc::Allocator;
+
+// Puts a node that stands alone into the gap between two neighbours of a row.
+pub(crate) fn put_between<A: Allocator>(
+    nodes: &mut Vec<Node<A>, A>,
+    c: usize,
+    before: Option<usize>,
+    behind: Option<usize>,
+    x: usize,
+)
+    requires stored { IsStored nodes.old.items }
+    requires can { CanAppend (nodes_in nodes.old) c x }
+    requires gap { HasGap (nodes_in nodes.old) c before behind }
+    ensures fills { Fills (nodes_in nodes.old) (nodes_in nodes.new) c before behind (x ∷ []) }
+    ensures stored { IsStored nodes.new.items }
+    ensures len { vec_len nodes.new ≡ vec_len nodes.old }
+    ensures capacity { vec_capacity nodes.new ≡ vec_capacity nodes.old }
+{
+    set_ahead(nodes, c, before, Some(x));
+    set_back(nodes, c, behind, Some(x));
+    set_place(nodes, x, Some(c), before, behind);
+}
+
+// Takes a child out of its row.
+fn take_out<A: Allocator>(nodes: &mut Vec<Node<A>, A>, c: usize, x: usize)
+    requires stored { IsStored nodes.old.items }
+    requires there { x < vec_len nodes.old }
+    requires child { parent_at (nodes_in nodes.old) x ≡ Some c }
+    ensures gone { TakesOut (nodes_in nodes.old) (nodes_in nodes.new) c x }
+    ensures stored { IsStored nodes.new.items }
+    ensures len { vec_len nodes.new ≡ vec_len nodes.old }
+    ensures capacity { vec_capacity nodes.new ≡ vec_capacity nodes.old }
+{
+    let before = previous_of(nodes, x);
+    let behind = next_of(nodes, x);
+    set_ahead(nodes, c, before, behind);
+    set_back(nodes, c, behind, before);
+    set_place(nodes, x, None, None, None);
+}
+
+// Takes a stretch out of a row, and answers what stood behind it.
+fn take_stretch<A: Allocator>(
+    nodes: &mut Vec<Node<A>, A>,
+    c: usize,
+    from: usize,
+    to: usize,
+) -> Option<usize>
+    requires stored { IsStored nodes.old.items }
+    requires there { c < vec_len nodes.old }
+    requires order { from ≤ to }
+    requires within { to ≤ length (children_at (nodes_in nodes.old) c) }
+    ensures splices { Splices (nodes_in nodes.old) (nodes_in nodes.new) c from to [] }
+    ensures behind { result ≡ slice_get (children_at (nodes_in nodes.new) c) from }
+    ensures stored { IsStored nodes.new.items }
+    ensures len { vec_len nodes.new ≡ vec_len nodes.old }
+    ensures capacity { vec_capacity nodes.new ≡ vec_capacity nodes.old }
+{
+    let mut behind = child_from(nodes, c, from);
+    for _i in from..to {
+        let Some(x) = behind else { unreachable!() };
+        behind = next_of(nodes, x);
+        take_out(nodes, c, x);
+    }
+    behind
+}
+
+// Puts nodes that stand alone into a gap of a row, one behind the other.
+fn put_row<A: Allocator>(
+    nodes: &mut Vec<Node<A>, A>,
+    c: usize,
+    before: Option<usize>,
+    behind: Option<usize>,
+    new: &[usize],
+)
+    requires stored { IsStored nodes.old.items }
+    requires there { c < vec_len nodes.old }
+    requires container { IsTrue (is_container_at (nodes_in nodes.old) c) }
+    requires can { CanFill (nodes_in nodes.old) c before behind new.now }
+    ensures fills { Fills (nodes_in nodes.old) (nodes_in nodes.new) c before behind new.now }
+    ensures stored { IsStored nodes.new.items }
+    ensures len { vec_len nodes.new ≡ vec_len nodes.old }
+    ensures capacity { vec_capacity nodes.new ≡ vec_capacity nodes.old }
+{
+    let mut last = before;
+    for i in 0..new.len() {
+        let x = new[i];
+        put_between(nodes, c, last, behind, x);
+        last = Some(x);
+    }
+}
+
+// The whole splice.
+pub(crate) fn splice_nodes<A: Allocator>(
+    nodes: &mut Vec<Node<A>, A>,
+    c: usize,
+    from: usize,
+    to: usize,
+    new: &[usize],
+)
+    requires stored { IsStored nodes.old.items }
+    requires there { c < vec_len nodes.old }
+    requires container { IsTrue (is_container_at (nodes_in nodes.old) c) }
+    requires order { from ≤ to }
+    requires within { to ≤ length (children_at (nodes_in nodes.old) c) }
+    requires join { CanJoin (nodes_in nodes.old) c from to new.now }
+    ensures splices { Splices (nodes_in nodes.old) (nodes_in nodes.new) c from to new.now }
+    ensures stored { IsStored nodes.new.items }
+    ensures len { vec_len nodes.new ≡ vec_len nodes.old }
+    ensures capacity { vec_capacity nodes.new ≡ vec_capacity nodes.old }
+{
+    let behind = take_stretch(nodes, c, from, to);
+    let before = before_of(nodes, c, behind);
+    put_row(nodes, c, before, behind, new);
+}
+
+// Makes a node that stands alone the last child of a container.
+pub(crate) fn append_node<A: Allocator>(nodes: &mut Vec<Node<A>, A>, c: usize, x: usize)
+    requires stored { IsStored nodes.old.items }
+    requires can { CanAppend (nodes_in nodes.old) c x }
+    ensures appends { Appends (nodes_in nodes.old) (nodes_in nodes.new) c x }
+    ensures stored { IsStored nodes.new.items }
+    ensures len { vec_len nodes.new ≡ vec_len nodes.old }
+    ensures capacity { vec_capacity nodes.new ≡ vec_capacity nodes.old }
+{
+    let last = last_of(nodes, c);
+    put_between(nodes, c, last, None, x);
+}
