@@ -23,3 +23,4 @@ pub mod Order
 pub mod Documents
 pub mod Rows
 pub mod Spelling
+pub mod ReadsToEnd

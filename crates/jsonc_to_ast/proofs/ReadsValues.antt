@@ -32,43 +32,36 @@ literal_fits true q l v e h = not_past 512 (length q) (omega (arith, h))
 literal_fits false q l v e h = rw (literal_opens_none l e) refl
 
 -- how much the parts of a container count
-parts_size : Bool → (around depth : ℕ) → ℕ
+abbrev pub parts_size : Bool → (around depth : ℕ) → ℕ
 parts_size true a d = a
 parts_size false a d = suc d
 
 opening_fits : (whole : Bool) (q : List Opened) (k : Container) (a d : ℕ) → parts_size whole a d + count whole q ≤ 512 → is_deep whole q (punctuation (opening k)) ≡ false
-unfolding parts_size
 opening_fits true q k a d h = not_past 512 (length q) (omega (arith, h))
 opening_fits false q Array a d h = not_past 511 (containers q) (omega (arith, h))
 opening_fits false q Object a d h = not_past 511 (containers q) (omega (arith, h))
 
 array_size : (whole : Bool) (vs : Items) (q : List Opened) → size whole (Plain.array vs) + count whole q ≤ 512 → parts_size whole (items_around vs) (items_depth vs) + count whole q ≤ 512
-unfolding parts_size
 array_size true vs q h = h
 array_size false vs q h = h
 
 object_size : (whole : Bool) (ms : Members) (q : List Opened) → size whole (Plain.object ms) + count whole q ≤ 512 → parts_size whole (members_around ms) (members_depth ms) + count whole q ≤ 512
-unfolding parts_size
 object_size true ms q h = h
 object_size false ms q h = h
 
 element_fits : (whole : Bool) (v : Plain) (vs : Items) (q : List Opened) (a : List ℕ) → parts_size whole (items_around (item v vs)) (items_depth (item v vs)) + count whole q ≤ 512 → size whole v + count whole (container Array a ∷ q) ≤ 512
-unfolding parts_size
 element_fits true v vs q a h = omega (arith, h)
 element_fits false v vs q a h = omega (arith, h)
 
 elements_fit : (whole : Bool) (v : Plain) (vs : Items) (q : List Opened) → parts_size whole (items_around (item v vs)) (items_depth (item v vs)) + count whole q ≤ 512 → parts_size whole (items_around vs) (items_depth vs) + count whole q ≤ 512
-unfolding parts_size
 elements_fit true v vs q h = omega (arith, h)
 elements_fit false v vs q h = omega (arith, h)
 
 property_fits : (whole : Bool) (n : List ℕ) (v : Plain) (ms : Members) (q : List Opened) (a b : List ℕ) → parts_size whole (members_around (member n v ms)) (members_depth (member n v ms)) + count whole q ≤ 512 → size whole v + count whole (Opened.property b ∷ container Object a ∷ q) ≤ 512
-unfolding parts_size
 property_fits true n v ms q a b h = omega (arith, h)
 property_fits false n v ms q a b h = omega (arith, h)
 
 properties_fit : (whole : Bool) (n : List ℕ) (v : Plain) (ms : Members) (q : List Opened) → parts_size whole (members_around (member n v ms)) (members_depth (member n v ms)) + count whole q ≤ 512 → parts_size whole (members_around ms) (members_depth ms) + count whole q ≤ 512
-unfolding parts_size
 properties_fit true n v ms q h = omega (arith, h)
 properties_fit false n v ms q h = omega (arith, h)
 

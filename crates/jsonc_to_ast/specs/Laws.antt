@@ -1,12 +1,12 @@
 -- Laws of reading: what is said of each text.
-use Rattle.std.specs.Prelude.{ℕ, ◌≡◌, ◌≤◌, Bool, true, false, List, length, Option, Some, None}
+use Rattle.std.specs.Prelude.{ℕ, ◌≡◌, ◌≤◌, Bool, List, [], Option, Some, None}
 use Rattle.jsonc_text.specs.Gaps.{Gap}
 use Rattle.jsonc_text.specs.Grammar.{IsDocument}
-use Rattle.jsonc_text.specs.Plain.{Plain, depth, around}
+use Rattle.jsonc_text.specs.Plain.{Plain}
 use Rattle.jsonc_text.specs.Lexemes.{LexemeKind, Lexeme}
 use Rattle.jsonc_text.specs.Options.{Options}
 use Rattle.jsonc_to_ast.specs.Reached.{Opened, Due, Place, at, Reached, size}
-use Rattle.jsonc_to_ast.specs.Told.{Fault, Told}
+use Rattle.jsonc_to_ast.specs.Told.{Fault, wrong_end, Told}
 
 -- s is lexemes, with a gap before each, and then t
 pub data Lexemes (o : Options) (s : List ℕ) : List ℕ → Type 0 where
@@ -33,6 +33,14 @@ IsWithin whole (Some v) = size whole v ≤ 512
 -- where a fault is told, the text has no value that is within
 abbrev pub TellsOfNoDocument : Options → Bool → List ℕ → Type 0
 TellsOfNoDocument o whole s = (f : Fault) (v : Option Plain) → Told o whole s f → IsDocument o s v → IsWithin whole v → ⊥
+
+-- the text has a value that is within, or none
+abbrev pub HasValue : Options → Bool → List ℕ → Type 0
+HasValue o whole s = (v : Option Plain) × IsDocument o s v × IsWithin whole v
+
+-- where reading has come to the end of the text and nothing is wrong there, it is the document of a value that is within
+abbrev pub ReadsToDocument : Options → Bool → List ℕ → Type 0
+ReadsToDocument o whole s = (q : List Opened) (d : Due) (t : List ℕ) → Reached o whole s (at q d t) → Gap o t [] → wrong_end whole q d ≡ None → HasValue o whole s
 
 -- the only fault that is told
 abbrev pub IsOnlyFault : Options → Bool → List ℕ → Fault → Type 0

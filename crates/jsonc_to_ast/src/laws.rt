@@ -3,7 +3,7 @@ ghost use Rattle.std.specs.Prelude.{List, [], ◌∷◌, ℕ, Bool, true, codes}
 ghost use Rattle.jsonc_text.specs.Options.{Options, plain_json};
 ghost use Rattle.jsonc_to_ast.specs.Told.{fault};
 ghost use Rattle.jsonc_text.specs.declared.errors.ParseErrorKind.TheVariants.{ExpectedComma, UnterminatedArray};
-ghost use Rattle.jsonc_to_ast.specs.Laws.{ReachesEndsOfLexemes, HasOneWay, HasOneFault, TellsOfNoDocument, IsOnlyFault};
+ghost use Rattle.jsonc_to_ast.specs.Laws.{ReachesEndsOfLexemes, HasOneWay, HasOneFault, TellsOfNoDocument, IsOnlyFault, ReadsToDocument};
 
 /// Reading comes to the ends of lexemes alone, so never into a string, a number or a comment.
 pub fn reading_ends_lexemes()
@@ -20,6 +20,12 @@ pub fn one_reading()
 /// Where a fault is told, the text has no value, or one that nests too deep.
 pub fn faults_are_of_no_document()
     ensures { (o : Options) (whole : Bool) (s : List ℕ) → TellsOfNoDocument o whole s }
+{}
+
+/// Where reading comes to the end and nothing is wrong there, the text is the document of a value
+/// that does not nest too deep, or of none.
+pub fn reading_to_the_end()
+    ensures { (o : Options) (whole : Bool) (s : List ℕ) → ReadsToDocument o whole s }
 {}
 
 /// Worked rows: of `["a" 1` it is told that a comma is missing after `"a"`, and nothing else; of
