@@ -7,6 +7,7 @@ ghost use Rattle.jsonc_sound.specs.Rows.{RowKind};
 ghost use Rattle.jsonc_sound.specs.TreeChanges.{Top};
 ghost use Rattle.jsonc_seams.specs.Booleans.{StaysSoundWithBoolean};
 ghost use Rattle.jsonc_seams.specs.SoundTrees.{KeptWithoutComment, KeptByBooleans, SoundTreesComeApart, ParsedAreSound, SoundTreesPrint, KeptByStretches, KeptWhereNoneMeet, KeptByValues};
+ghost use Rattle.jsonc_seams.specs.InRows.{KeptByValueInProperty, KeptByValueInRoot, KeptByValueInRow, KeptWithoutCommentInRow, KeptWithSpace};
 ghost use Rattle.jsonc_seams.specs.WorkedEdits.{KeptByAppending, KeptByTakingOut};
 ghost use Rattle.jsonc_seams.specs.LooseLines.{LooseTriviaIsGap, PrintsLoosely, StrictIsLoose, StaysLoose, LooseLinesComeApart};
 ghost use Rattle.jsonc_seams.specs.Worked.{WorkedSpaces};
@@ -106,4 +107,19 @@ pub fn sound_trees()
 pub fn worked_edits()
     ensures appended { (o : Options) (t : OrderedTree) → KeptByAppending o t }
     ensures taken { (o : Options) (t : OrderedTree) → KeptByTakingOut o t }
+{}
+
+/// A space before an element, behind another node of its row, keeps soundness.
+pub fn spaces_may_be_put()
+    ensures { (o : Options) (t : OrderedTree) → KeptWithSpace o t }
+{}
+
+/// Whether a document stays sound without a comment, or with another value, is seen in the row of the
+/// change: no two literals without quotes meet in it that did not. Of a property's value it is seen
+/// behind it in the row of the object.
+pub fn rows_tell()
+    ensures comment { (o : Options) (t : OrderedTree) → KeptWithoutCommentInRow o t }
+    ensures value { (o : Options) (t : OrderedTree) → KeptByValueInRow o t }
+    ensures root { (o : Options) (was now : Top) (front back : OrderedTree) → KeptByValueInRoot o was now front back }
+    ensures held { (o : Options) (t : OrderedTree) → KeptByValueInProperty o t }
 {}

@@ -14,7 +14,7 @@ own_trivia (Content.newline k) h = refl
 own_trivia (Content.comment s) h = refl
 own_trivia content h = cc
 
-front_leaves : (cs : List Content) (back : OrderedTree) → AreTrivia cs → leaves (leaves_then cs back) ≡ cs ++ leaves back
+pub front_leaves : (cs : List Content) (back : OrderedTree) → AreTrivia cs → leaves (leaves_then cs back) ≡ cs ++ leaves back
 front_leaves [] back h = refl
 front_leaves (c ∷ cs) back h = ap (λ l. l ++ leaves (leaves_then cs back)) (own_trivia c h.0) ∙ ap (λ l. c ∷ l) (front_leaves cs back h.1)
 
