@@ -1,26 +1,24 @@
 -- A comment leaves a row, or a value of it gives way: what meets is seen in that row.
-use Rattle.std.proofs.Common.{◌≡◌, ◌≢◌, ◌∙◌, ℕ, sym, ap, subst, refl, true, false, not, ◌&&◌, Bool, List, [], ◌∷◌, ◌++◌, Some, None, is_some, IsTrue, append-nil}
+use Rattle.std.proofs.Common.{◌≡◌, ◌≢◌, ◌∙◌, sym, ap, subst, refl, false, ◌&&◌, List, [], ◌∷◌, ◌++◌, is_some, IsTrue, append-nil}
 use Rattle.std.proofs.lemmas.List.{append_assoc}
 use Rattle.jsonc_text.specs.Options.{Options}
-use Rattle.jsonc_tree.specs.Content.{Content, root, comment, property}
+use Rattle.jsonc_tree.specs.Content.{Content, root}
 use Rattle.jsonc_tree.specs.OrderedTree as ordered
 use Rattle.jsonc_tree.specs.OrderedTree.{OrderedTree, none, more, own_leaf, leaves, followed_by, Replaced}
 use Rattle.jsonc_tree.proofs.OrderedTrees.{leaves-followed_by}
 use Rattle.jsonc_sound.specs.Laws.{DiffersIn}
-use Rattle.jsonc_sound.specs.Sound.{IsValueBefore}
-use Rattle.jsonc_sound.specs.TreeChanges.{Top, leaves_of, DocumentChanged}
+use Rattle.jsonc_sound.specs.TreeChanges.{Top, leaves_of}
 use Rattle.jsonc_sound.specs.TriviaChanges as changes
 use Rattle.jsonc_sound.specs.TriviaChanges.{AreTrivia, leaves_then, LeavesChanged, StretchChanged, EndsInComment, one_comment, line_comment}
 use Rattle.jsonc_sound.proofs.TriviaLeaves.{front_leaves}
 use Rattle.jsonc_seams.specs.Adjacent.{or_else, last_printed}
 use Rattle.jsonc_seams.specs.Alone.{RootAlone, DocumentAlone}
 use Rattle.jsonc_seams.specs.InRows.{KeptWithoutCommentInRow, KeptByValueInRow, KeptByValueInRoot, KeptByValueInProperty, row_around, holding}
-use Rattle.jsonc_seams.specs.LooseLines.{is_loose, LinesEndLoosely}
 use Rattle.jsonc_seams.specs.SoundTrees.{SoundTree}
 use Rattle.jsonc_seams.specs.Spaces.{is_bare_leaf, first_printed, meet}
 use Rattle.jsonc_seams.proofs.Apart.{document_alone}
 use Rattle.jsonc_seams.proofs.LooseComments.{kept_without_comment}
-use Rattle.jsonc_seams.proofs.RowsWithin.{Within, here, deeper, later, InDocument, no_row, root_in, leaves_within, BothWithin, both_within, Prints, LeafPrints, last_some, same_if_some, Starts, starts_with, Ends, ends_with, goes_on, Bounded, nothing, bounded, ends_print, no_more, at_root, further_in, document_in, none_meet_around}
+use Rattle.jsonc_seams.proofs.RowsWithin.{Within, here, deeper, later, InDocument, no_row, root_in, leaves_within, both_within, LeafPrints, last_some, same_if_some, Starts, starts_with, Ends, ends_with, goes_on, Bounded, nothing, bounded, ends_print, no_more, at_root, further_in, document_in, none_meet_around}
 use Rattle.jsonc_seams.proofs.SoundTrees.{kept_by_values}
 use Rattle.jsonc_seams.proofs.Spaces.{last_append, first_append}
 

@@ -2,7 +2,7 @@
 use Rattle.std.proofs.Common.{◌≡◌, sym, ap, subst, refl, Bool, true, false, ◌&&◌, List, [], ◌∷◌, ◌++◌, Some, None, IsTrue}
 use Rattle.jsonc_text.specs.Options.{Options}
 use Rattle.jsonc_tree.specs.Content.{Content}
-use Rattle.jsonc_tree.specs.OrderedTree.{OrderedTree, none, more, leaves}
+use Rattle.jsonc_tree.specs.OrderedTree.{OrderedTree, more}
 use Rattle.jsonc_sound.specs.TreeChanges.{IsElement}
 use Rattle.jsonc_sound.specs.TriviaChanges as changes
 use Rattle.jsonc_sound.specs.TriviaChanges.{LeavesChanged, StretchChanged}
