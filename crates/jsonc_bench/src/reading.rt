@@ -12,7 +12,7 @@ use jsonc_lines::indents_at;
 use jsonc_parser::ParseOptions;
 use jsonc_parser::cst::{
     CstComment, CstContainerNode, CstLeafNode, CstNewlineKind, CstNode, CstObjectProp, CstRootNode,
-    CstStringLit,
+    CstStringLit, HasChildren, IsNode, Readings,
 };
 use jsonc_tree::Tree;
 use std::alloc::{AllocError, Global};
