@@ -37,7 +37,7 @@ pub fn outcome(
     let mut source = FromReader::new(input);
     let mut sink = ToWriter::new(Vec::new(alloc));
     let result = engine(alloc, words.as_slice(), &mut source, &mut sink);
-    let ToWriter { writer, failed: _ } = sink;
+    let ToWriter { writer, .. } = sink;
     let written = Escaped::field(writer.as_slice());
     let shown = match result {
         Ok(()) => format!(in alloc; "0\t{written}\t")?,

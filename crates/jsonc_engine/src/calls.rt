@@ -1,5 +1,5 @@
 //! Where the program's bytes come from and go to, with a count of the calls that failed.
-ghost use Rattle.std.specs.Prelude.{◌≡◌, ℕ, List, Option, OnOk};
+ghost use Rattle.std.specs.Prelude.{◌≡◌, ℕ, List, Option, OnOk, false};
 ghost use Rattle.std.specs.Io.{ReadsAtMost};
 ghost use Rattle.std.specs.Io.KnownBytes.{Appends, Keeps, ReadConsumes};
 ghost use Rattle.jsonc_engine.specs.Calls.{IsCounted};
@@ -30,6 +30,9 @@ pub trait Sink {
     // How many writes and flushes failed, up to `u64::MAX`.
     ghost failed_writes: { Self → ℕ };
 
+    // Whether nothing was written since the last flush.
+    ghost is_flushed: { Self → Type 0 };
+
     /// Writes all the bytes.
     fn write(&mut self, bytes: &[u8]) -> io::Result<()>
         ensures bytes { OnOk result (Appends (contents self.old) (contents self.new) bytes.now) }
@@ -38,6 +41,7 @@ pub trait Sink {
     /// Sees that what was written has left.
     fn flush(&mut self) -> io::Result<()>
         ensures bytes { OnOk result (Keeps (contents self.old) (contents self.new)) }
+        ensures flushed { OnOk result (is_flushed self.new) }
         ensures counted { IsCounted result (failed_writes self.old) (failed_writes self.new) };
 }
 
@@ -81,6 +85,8 @@ pub struct ToWriter<W> {
     pub writer: W,
     /// How many writes and flushes failed, up to `u64::MAX`.
     pub failed: u64,
+    /// Whether something was written since the last flush.
+    pub unflushed: bool,
 }
 
 impl<W: Write> ToWriter<W> {
@@ -88,14 +94,20 @@ impl<W: Write> ToWriter<W> {
     pub fn new(writer: W) -> ToWriter<W>
         ensures writer { result.writer ≡ writer }
         ensures fresh { result.failed ≡ 0 }
+        ensures flushed { result.unflushed ≡ false }
     {
-        ToWriter { writer, failed: 0 }
+        ToWriter {
+            writer,
+            failed: 0,
+            unflushed: false,
+        }
     }
 
     /// Counts the call where it failed.
     fn count<T>(&mut self, outcome: io::Result<T>) -> io::Result<T>
         ensures outcome { result ≡ outcome }
         ensures kept { self.new.writer ≡ self.old.writer }
+        ensures unflushed { self.new.unflushed ≡ self.old.unflushed }
         ensures counted { IsCounted result self.old.failed self.new.failed }
     {
         if outcome.is_err() {
@@ -110,13 +122,17 @@ impl<W: Write> Sink for ToWriter<W> {
 
     ghost failed_writes = { λ s. s.failed };
 
+    ghost is_flushed = { λ s. s.unflushed ≡ false };
+
     fn write(&mut self, bytes: &[u8]) -> io::Result<()> {
+        self.unflushed = true;
         let outcome = self.writer.write_all(bytes);
         self.count(outcome)
     }
 
     fn flush(&mut self) -> io::Result<()> {
         let outcome = self.writer.flush();
+        self.unflushed = outcome.is_err();
         self.count(outcome)
     }
 }

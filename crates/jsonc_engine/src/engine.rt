@@ -29,7 +29,7 @@ fn read_whole<A: Allocator + Copy, S: Source>(alloc: A, source: &mut S) -> Resul
     ensures bytes { IfOk result (λ read. IfSome (S.remaining source.old) (λ input. read.items ≡ input)) }
     ensures failed { IsErrOf result Fault.Read
         → S.failed_reads source.new ≡ one_more (S.failed_reads source.old) }
-    ensures kept { OnOk result (S.failed_reads source.new ≡ S.failed_reads source.old) }
+    ensures kept { ¬ (IsErrOf result Fault.Read) → S.failed_reads source.new ≡ S.failed_reads source.old }
     ensures causes { OnErr result (¬ (IsErrOf result Fault.Read)
         → IsErrOf result (Fault.Edit EditError.OutOfMemory)) }
 {
@@ -52,6 +52,7 @@ fn read_whole<A: Allocator + Copy, S: Source>(alloc: A, source: &mut S) -> Resul
 /// Writes all the bytes, and sees that they have left.
 fn write_whole<K: Sink>(sink: &mut K, bytes: &[u8]) -> Result<(), Fault>
     ensures written { OnOk result (Appends (K.contents sink.old) (K.contents sink.new) bytes.now) }
+    ensures flushed { OnOk result (K.is_flushed sink.new) }
     ensures kept { OnOk result (K.failed_writes sink.new ≡ K.failed_writes sink.old) }
     ensures cause { OnErr result (IsErrOf result Fault.Write) }
     ensures failed { OnErr result (K.failed_writes sink.new ≡ one_more (K.failed_writes sink.old)) }
@@ -129,6 +130,7 @@ pub fn engine<A: Allocator + Copy, S: Source, K: Sink>(
     // What a success wrote.
     ensures printed { OnOk result (Name words.now Command.Print
         → IfSome (S.remaining source.old) (Appends (K.contents sink.old) (K.contents sink.new))) }
+    ensures flushed { OnOk result (Name words.now Command.Print → K.is_flushed sink.new) }
     ensures checked { OnOk result (Name words.now Command.Check → sink.new ≡ sink.old) }
     ensures accepted { OnOk result (IfSome (S.remaining source.old) IsInput) }
 
@@ -143,9 +145,11 @@ pub fn engine<A: Allocator + Copy, S: Source, K: Sink>(
         → K.failed_writes sink.new ≡ one_more (K.failed_writes sink.old) }
     ensures causes { IfErr result EndsRun }
 
-    // A success met no failed call.
-    ensures no_failed_read { OnOk result (S.failed_reads source.new ≡ S.failed_reads source.old) }
-    ensures no_failed_write { OnOk result (K.failed_writes sink.new ≡ K.failed_writes sink.old) }
+    // A failed call is told as such, and as nothing else.
+    ensures no_failed_read { ¬ (IsErrOf result Fault.Read)
+        → S.failed_reads source.new ≡ S.failed_reads source.old }
+    ensures no_failed_write { ¬ (IsErrOf result Fault.Write)
+        → K.failed_writes sink.new ≡ K.failed_writes sink.old }
 
     // Only a failed write leaves anything written.
     ensures unwritten { OnErr result (¬ (IsErrOf result Fault.Write) → sink.new ≡ sink.old) }

@@ -52,14 +52,25 @@ impl fmt::Display for Fault {
 
     ghost output = { λ f. Some (fault_line f) };
 
+    ghost styled_output = { λ f _. Some (fault_line f) };
+
     fn fmt<W: fmt::Write>(&self, f: &mut fmt::Formatter<W>) -> fmt::Result {
         match self {
-            Fault::Input(error) => write!(f, "jsonc: {error}"),
-            Fault::Argument(error) => write!(f, "jsonc: argument: {error}"),
+            Fault::Input(error) => {
+                f.write_str("jsonc: ")?;
+                error.fmt(f)
+            }
+            Fault::Argument(error) => {
+                f.write_str("jsonc: argument: ")?;
+                error.fmt(f)
+            }
             Fault::NoValue => f.write_str("jsonc: argument: no value"),
             Fault::NotObject => f.write_str("jsonc: root value is not an object"),
             Fault::NotArray => f.write_str("jsonc: root value is not an array"),
-            Fault::Edit(error) => write!(f, "jsonc: {error}"),
+            Fault::Edit(error) => {
+                f.write_str("jsonc: ")?;
+                error.fmt(f)
+            }
             Fault::NotUtf8 => f.write_str("jsonc: input is not UTF-8"),
             Fault::Read => f.write_str("jsonc: read failed"),
             Fault::Write => f.write_str("jsonc: write failed"),

@@ -211,6 +211,6 @@ fn whole_run(heap: Heap<'_>) -> Result<Outcome, Outcome> {
         rest: PLAIN.as_bytes(),
     });
     engine(heap, &["print"], &mut source, &mut sink)?;
-    let ToWriter { writer, failed: _ } = sink;
+    let ToWriter { writer, .. } = sink;
     Ok(Outcome::of(writer.rest.is_empty()))
 }

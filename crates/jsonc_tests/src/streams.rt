@@ -76,7 +76,7 @@ fn run(rt: &HostRuntime, reads: usize, writes: usize) -> (Result<(), Fault>, Vec
         calls: Calls { left: writes },
     });
     let result = engine(rt.alloc(), &["print"], &mut source, &mut sink);
-    let ToWriter { writer, failed: _ } = sink;
+    let ToWriter { writer, .. } = sink;
     (result, writer.bytes)
 }
 
