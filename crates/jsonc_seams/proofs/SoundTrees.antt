@@ -1,4 +1,4 @@
--- Soundness in its last form is kept.
+-- Changes that keep soundness.
 use Rattle.std.proofs.Common.{ℕ, ◌≡◌, ◌∙◌, sym, subst, Bool, true, false, List, [], ◌++◌, None, IsTrue, if◌then◌else◌}
 use Rattle.jsonc_text.specs.Options.{Options}
 use Rattle.jsonc_tree.specs.OrderedTree.{OrderedTree, none, leaves, followed_by}

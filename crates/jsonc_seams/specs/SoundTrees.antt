@@ -1,4 +1,4 @@
--- Soundness in its last form: the shape of the grammar, and line comments that end with their lines, in an array or object perhaps behind whitespace. No law of it asks for commas.
+-- Soundness: the shape of the grammar, and line comments that end with their lines, in an array or object perhaps behind whitespace. No law of it asks for commas.
 use Rattle.std.specs.Prelude.{◌≡◌, Bool, ◌↔◌, ℕ, true, false, List, [], ◌++◌, None, IsTrue}
 use Rattle.jsonc_text.specs.Options.{Options}
 use Rattle.jsonc_tree.specs.Content.{Content}

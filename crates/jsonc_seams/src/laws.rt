@@ -90,8 +90,8 @@ pub fn booleans_give_way()
     ensures { (o : Options) (t : OrderedTree) → StaysSoundWithBoolean o t }
 {}
 
-/// Soundness in its last form: parsed documents have it, its documents print documents of the grammar,
-/// and changes of rows and values keep it, under all options.
+/// Soundness, where line comments may end behind whitespace: parsed documents have it, its documents
+/// print documents of the grammar, and changes of rows and values keep it, under all options.
 pub fn sound_trees()
     ensures apart { (o : Options) (t : OrderedTree) → SoundTreesComeApart o t }
     ensures parsed { (o : Options) (t : OrderedTree) → ParsedAreSound o t }
