@@ -5,9 +5,7 @@ use crate::calls::Heap;
 use crate::lines::SPREAD;
 use crate::outcome::Outcome;
 use jsonc_parser::ParseOptions;
-use jsonc_parser::cst::{
-    CstLeafNode, CstNode, CstRootNode, HasChildren, IsNode, ObjectPropName,
-};
+use jsonc_parser::cst::{CstLeafNode, CstNode, CstRootNode, HasChildren, IsNode, ObjectPropName};
 use refusing::Refusing;
 use std::default::Default;
 use std::fmt::Write;
