@@ -1,6 +1,6 @@
 //! What a document tells of itself and of each of its nodes.
 
-ghost use Rattle.std.specs.Prelude.{length};
+ghost use Rattle.std.specs.Prelude.{◌<◌, length};
 ghost use Rattle.jsonc_cst.specs.Document.{Holds};
 ghost use Rattle.jsonc_cst.specs.Nodes.{object_prop_node, string_lit_node};
 
