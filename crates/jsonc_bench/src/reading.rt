@@ -119,17 +119,30 @@ fn push_node(out: &mut String, doc: &CstRootNode<Global>, node: CstNode) -> Resu
     requires { Holds doc.now node }
 {
     let kind = kind_of(node);
-    let depth = node.ancestors(doc).count();
+    let depth = depth_of(doc, node);
     write!(out, "\t{kind} d={depth} ci={} it=", node.child_index(doc))?;
     push_layout(out, doc, node)?;
     out.push_str(" ei=")?;
     push_number(out, node.element_index(doc))?;
     out.push_str(" pi=")?;
-    match node.as_object_prop() {
-        Some(property) => write!(out, "{}", property.property_index(doc))?,
-        None => out.push('-')?,
+    match node {
+        CstNode::Container(CstContainerNode::ObjectProp(property)) => {
+            write!(out, "{}", property.property_index(doc))?;
+        }
+        _ => out.push('-')?,
     }
     push_comments(out, doc, node)
+}
+
+/// How many containers are above a node.
+fn depth_of(doc: &CstRootNode<Global>, node: CstNode) -> usize
+    requires { Holds doc.now node }
+{
+    let mut depth = 0usize;
+    for _ in node.ancestors(doc) {
+        depth = depth.saturating_add(1);
+    }
+    depth
 }
 
 fn push_layout(out: &mut String, doc: &CstRootNode<Global>, node: CstNode) -> Result<(), AllocError>
