@@ -1,0 +1,15 @@
+-- How marks change: in one stretch, which gives way to another.
+use Rattle.std.specs.Prelude.{◌≡◌, List, [], ◌++◌}
+use Rattle.jsonc_sound.specs.TreeChanges.{Top, leaves_of}
+use Rattle.jsonc_marks.specs.Marks.{Mark, marks_of}
+
+-- the marks y are the marks x, but that a stretch of them has given way to another
+pub record MarksDifferIn (was now x y : List Mark) : Type 0 where
+  pub front : List Mark
+  pub back : List Mark
+  pub before : x ≡ front ++ (was ++ back)
+  pub after : y ≡ front ++ (now ++ back)
+
+-- the marks of a node with what is below it
+abbrev pub marks_under : Top → List Mark
+marks_under top = marks_of (leaves_of top)

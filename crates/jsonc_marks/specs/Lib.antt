@@ -1,0 +1,5 @@
+pub mod Marks
+pub mod Written
+pub mod Changes
+pub mod Laws
+pub mod Worked
