@@ -1,20 +1,19 @@
 -- Where a stretch of leaves gives way to another, its marks do.
-use Rattle.std.proofs.Common.{◌≡◌, ◌∙◌, ◌||◌, sym, ap, subst, refl, Bool, true, false, ℕ, List, [], ◌∷◌, ◌++◌, IsTrue, chars, filter}
-use Rattle.std.proofs.lemmas.List.{append-nil}
+use Rattle.std.proofs.Common.{◌≡◌, ◌∙◌, ◌||◌, sym, ap, refl, ℕ, List, [], ◌∷◌, ◌++◌, IsTrue, chars}
 use Rattle.std.proofs.lemmas.List.Elements.{filter_map-append, filter-append}
 use Rattle.jsonc_tree.specs.Content.{Content}
 use Rattle.jsonc_tree.specs.OrderedTree.{OrderedTree, leaves}
 use Rattle.jsonc_nodes.specs.Kinds.{is_trivia, is_whitespace, is_newline}
 use Rattle.jsonc_sound.specs.Laws.{DiffersIn}
 use Rattle.jsonc_sound.specs.TreeChanges.{Top, leaves_of, DocumentChanged}
-use Rattle.jsonc_sound.specs.TriviaChanges.{AreTrivia, StretchChanged}
+use Rattle.jsonc_build.specs.Lines.{is_line_comment}
+use Rattle.jsonc_sound.specs.TriviaChanges.{AreTrivia, StretchChanged, EndsInComment, one_comment, line_comment}
 use Rattle.jsonc_sound.proofs.LeavesAround as around
 use Rattle.jsonc_sound.proofs.TriviaLeaves as trivia
 use Rattle.jsonc_seams.specs.InRows.{SpacePut}
 use Rattle.jsonc_seams.proofs.SpacePut.{document_put}
-use Rattle.jsonc_marks.specs.Marks.{Mark, comment_mark, mark_of_leaf, marks_of, marks, is_comment, comments_of}
-use Rattle.jsonc_marks.specs.Changes.{MarksDifferIn, marks_under}
-use Rattle.jsonc_marks.specs.Laws.{AreBlanks}
+use Rattle.jsonc_marks.specs.Marks.{Mark, trimmed, comment_mark, mark_of_leaf, marks_of, marks, is_comment, comments_of}
+use Rattle.jsonc_marks.specs.Changes.{MarksDifferIn, AreBlanks, marks_under}
 
 pub marks_join : (first second : List Content) → marks_of (first ++ second) ≡ marks_of first ++ marks_of second
 marks_join first second = filter_map-append mark_of_leaf first second
@@ -23,19 +22,26 @@ marks_join first second = filter_map-append mark_of_leaf first second
 marks_parted : (front stretch back : List Content) → marks_of (front ++ (stretch ++ back)) ≡ marks_of front ++ (marks_of stretch ++ marks_of back)
 marks_parted front stretch back = marks_join front (stretch ++ back) ∙ ap (λ ms. marks_of front ++ ms) (marks_join stretch back)
 
-pub marks_give_way : (was now x y : List Content) → DiffersIn was now x y → MarksDifferIn (marks_of was) (marks_of now) (marks_of x) (marks_of y)
-marks_give_way was now x y d = record {
-  front = marks_of d.front;
-  back = marks_of d.back;
-  before = ap marks_of d.before ∙ marks_parted d.front was d.back;
-  after = ap marks_of d.after ∙ marks_parted d.front now d.back;
-}
+pub marks_follow : (was now x y : List Content) (d : DiffersIn was now x y) → (m : MarksDifferIn (marks_of was) (marks_of now) (marks_of x) (marks_of y)) × (m.front ≡ marks_of d.front) × (m.back ≡ marks_of d.back)
+marks_follow was now x y d = (
+  record {
+    front = marks_of d.front;
+    back = marks_of d.back;
+    before = ap marks_of d.before ∙ marks_parted d.front was d.back;
+    after = ap marks_of d.after ∙ marks_parted d.front now d.back;
+  },
+  refl,
+  refl,
+)
+
+pub marks_differ : (was now x y : List Content) → DiffersIn was now x y → MarksDifferIn (marks_of was) (marks_of now) (marks_of x) (marks_of y)
+marks_differ was now x y d = (marks_follow was now x y d).0
 
 pub values_marks : (t : OrderedTree) (was now : Top) (path : List ℕ) (u : OrderedTree) → DocumentChanged was now path t u → MarksDifferIn (marks_under was) (marks_under now) (marks t) (marks u)
-values_marks t was now path u k = marks_give_way (leaves_of was) (leaves_of now) (leaves t) (leaves u) (around.document_differs k)
+values_marks t was now path u k = marks_differ (leaves_of was) (leaves_of now) (leaves t) (leaves u) (around.document_differs k)
 
 pub trivias_marks : (t : OrderedTree) (was now : List Content) (u : OrderedTree) → StretchChanged was now t u → AreTrivia was → AreTrivia now → MarksDifferIn (marks_of was) (marks_of now) (marks t) (marks u)
-trivias_marks t was now u k old new = marks_give_way was now (leaves t) (leaves u) (trivia.document_differs was now old new k)
+trivias_marks t was now u k old new = marks_differ was now (leaves t) (leaves u) (trivia.document_differs was now old new k)
 
 -- trivia has comments alone
 trivia_comments : (content : Content) (rest : List Content) → IsTrue (is_trivia content) → comments_of (marks_of rest) ≡ marks_of rest → comments_of (marks_of (content ∷ rest)) ≡ marks_of (content ∷ rest)
@@ -48,6 +54,14 @@ pub trivia_has_comments : (contents : List Content) → AreTrivia contents → c
 trivia_has_comments [] h = refl
 trivia_has_comments (content ∷ rest) h = trivia_comments content rest h.0 (trivia_has_comments rest h.1)
 
+comment_last : (front : List Content) (content : Content) → IsTrue (is_line_comment content) → (ms : List Mark) × (s : List ℕ) × (marks_of (front ++ content ∷ []) ≡ ms ++ Mark.comment s ∷ [])
+comment_last front (Content.comment s) h = (marks_of front, trimmed (chars s), marks_join front (Content.comment s ∷ []))
+comment_last front content h = cc
+
+pub last_is_comment : (contents : List Content) → EndsInComment contents → (ms : List Mark) × (s : List ℕ) × (marks_of contents ≡ ms ++ Mark.comment s ∷ [])
+last_is_comment contents (one_comment {s = s}) = ([], trimmed (chars s), refl)
+last_is_comment contents (line_comment front content h) = comment_last front content h
+
 -- blanks have no marks
 blank_first : (content : Content) (rest : List Content) → IsTrue (is_whitespace content || is_newline content) → marks_of (content ∷ rest) ≡ marks_of rest
 blank_first (Content.whitespace s) rest h = refl
@@ -58,10 +72,12 @@ pub blanks_unmarked : (contents : List Content) → AreBlanks contents → marks
 blanks_unmarked [] h = refl
 blanks_unmarked (content ∷ rest) h = blank_first content rest h.0 ∙ blanks_unmarked rest h.1
 
-pub one_mark_leaves : (blanks : List Content) (s : List ℕ) (x y : List Content) → AreBlanks blanks → DiffersIn (blanks ++ Content.comment s ∷ []) [] x y → MarksDifferIn (comment_mark (chars s) ∷ []) [] (marks_of x) (marks_of y)
+pub one_mark_leaves : (blanks : List Content) (s : List ℕ) (x y : List Content) → AreBlanks blanks → (d : DiffersIn (blanks ++ Content.comment s ∷ []) [] x y)
+    → (m : MarksDifferIn (comment_mark (chars s) ∷ []) [] (marks_of x) (marks_of y)) × (m.front ≡ marks_of d.front) × (m.back ≡ marks_of d.back)
 one_mark_leaves blanks s x y h d =
     let one : marks_of (blanks ++ Content.comment s ∷ []) ≡ comment_mark (chars s) ∷ [] = marks_join blanks (Content.comment s ∷ []) ∙ ap (λ ms. ms ++ comment_mark (chars s) ∷ []) (blanks_unmarked blanks h) in
-    subst (λ ms. MarksDifferIn ms [] (marks_of x) (marks_of y)) one (marks_give_way (blanks ++ Content.comment s ∷ []) [] x y d)
+    let m = marks_follow (blanks ++ Content.comment s ∷ []) [] x y d in
+    (record { front = m.0.front; back = m.0.back; before = m.0.before ∙ ap (λ ms. m.0.front ++ (ms ++ m.0.back)) one; after = m.0.after }, m.1, m.2)
 
 pub blanks_keep_marks : (was now x y : List Content) → AreBlanks was → AreBlanks now → DiffersIn was now x y → marks_of y ≡ marks_of x
 blanks_keep_marks was now x y h k d =

@@ -1,11 +1,10 @@
 -- What a value is laid out as has the literals that are written for it.
-use Rattle.std.proofs.Common.{◌≡◌, ◌∙◌, ◌||◌, sym, ap, refl, Bool, true, false, ℕ, List, [], ◌∷◌, ◌++◌, chars, encode_utf8_all, filter, if◌then◌else◌}
+use Rattle.std.proofs.Common.{◌≡◌, ◌∙◌, ◌||◌, sym, ap, refl, Bool, true, false, ℕ, List, [], ◌∷◌, ◌++◌, chars, encode_utf8_all, if◌then◌else◌}
 use Rattle.std.specs.List.{flat_map}
 use Rattle.std.proofs.lemmas.List.{append_assoc, append-nil}
 use Rattle.std.proofs.lemmas.List.Elements.{filter-append}
 use Rattle.std.proofs.lemmas.Str.{chars-encodes}
 use Rattle.jsonc_text.specs.Plain.{Plain, Items, no_items, item, Members, no_members, member}
-use Rattle.jsonc_tree.specs.Content.{Content}
 use Rattle.jsonc_tree.specs.OrderedTree.{OrderedTree, none, own_leaf, leaves}
 use Rattle.jsonc_input.specs.Spelling.{spelled}
 use Rattle.jsonc_from_input.specs.Layout.{Layout, deeper}
@@ -13,8 +12,7 @@ use Rattle.jsonc_from_input.specs.Laid.{LaidNode, laid, laid_items, laid_members
 use Rattle.jsonc_from_input.specs.Texts.{IsCharacters, IsOfTexts, AreOfTexts, AreNamedOfTexts}
 use Rattle.jsonc_from_input.proofs.SpelledTexts.{spelled_characters}
 use Rattle.jsonc_marks.specs.Marks.{Mark, marks_of, marks, is_comment, comments_of}
-use Rattle.jsonc_marks.specs.Written.{written, items_written, members_written, property_written}
-use Rattle.jsonc_marks.specs.Laws.{marks_laid}
+use Rattle.jsonc_marks.specs.Written.{written, items_written, members_written, property_written, marks_laid}
 use Rattle.jsonc_marks.proofs.GivingWay.{marks_join}
 
 -- a node, and then a row

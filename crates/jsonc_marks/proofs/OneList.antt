@@ -1,9 +1,11 @@
--- A text has at most one list of marks.
-use Rattle.std.proofs.Common.{ℕ, ◌≡◌, ◌∙◌, sym, ap, subst, refl, true, List, [], ◌∷◌, ◌++◌}
+-- A text has at most one list of marks, and one where it has lexemes and comments.
+use Rattle.std.proofs.Common.{ℕ, ◌≡◌, ◌∙◌, sym, ap, subst, refl, true, List, [], ◌∷◌}
 use Rattle.std.specs.List.{cons_option}
 use Rattle.jsonc_text.specs.Options.{Options}
 use Rattle.jsonc_text.specs.Gaps.{is_blank}
-use Rattle.jsonc_text.specs.Lexemes.{Scanned, IsScanned}
+use Rattle.jsonc_text.specs.Lexemes.{Scanned}
+use Rattle.jsonc_text.specs.Places as places
+use Rattle.jsonc_text.specs.Places.{Placed, AreTokens}
 use Rattle.jsonc_text.proofs.Basics.{clash, text_same}
 use Rattle.jsonc_text.proofs.UniqueLexemes.{scanned_unique}
 use Rattle.jsonc_text.proofs.UniqueTokens.{scanned_no_blank}
@@ -23,3 +25,8 @@ marks_unique {o} (one w s {t = t} {r = r} x e g) (one v u {r = k} {ms = ns} y f 
     let p = scanned_unique o w v t r k x y in
     let q : s ≡ u = text_same e f p.1 in
     same_marks p.0 q (marks_unique g (subst (λ z. AreMarks o z ns) (sym p.1) l))
+
+pub tokens_marked : {o : Options} {at : ℕ} {t : List ℕ} {ts : List Placed} → AreTokens o at t ts → (ms : List Mark) × AreMarks o t ms
+tokens_marked places.no_more = ([], no_more)
+tokens_marked (places.blank h g) = let k = tokens_marked g in (k.0, blank h k.1)
+tokens_marked (places.one w s x e g) = let k = tokens_marked g in (cons_option (mark_of w s) k.0, one w s x e k.1)

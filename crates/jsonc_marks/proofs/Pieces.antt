@@ -1,9 +1,8 @@
 -- The leaves of a sound tree one by one: each is a lexeme or trivia alone, and line comments end with their lines.
-use Rattle.std.proofs.Common.{ℕ, ◌≡◌, sym, subst, refl, Bool, true, false, ◌&&◌, List, [], ◌∷◌, ◌++◌, IsTrue}
+use Rattle.std.proofs.Common.{ℕ, ◌≡◌, sym, subst, refl, Bool, true, false, List, [], ◌∷◌, ◌++◌, IsTrue}
 use Rattle.std.proofs.lemmas.List.{append_assoc, append-nil}
 use Rattle.jsonc_text.specs.Options.{Options}
 use Rattle.jsonc_text.specs.Lexemes.{is_punctuation}
-use Rattle.jsonc_text.proofs.Basics.{and_both}
 use Rattle.jsonc_tree.specs.Content.{Content, token}
 use Rattle.jsonc_tree.specs.OrderedTree.{OrderedTree, none, more, own_leaf, leaves}
 use Rattle.jsonc_build.specs.Lines.{is_line_comment}
@@ -17,7 +16,7 @@ use Rattle.jsonc_seams.specs.Alone as alone
 use Rattle.jsonc_seams.specs.Alone.{ValueAlone, PartAlone, RowAlone, PropertyAlone, RootAlone, DocumentAlone}
 use Rattle.jsonc_seams.specs.LooseLines.{is_loose, ends_loosely, LinesEndLoosely, DocumentLinesEndLoosely}
 use Rattle.jsonc_seams.proofs.Changed.{alone_element, part_element}
-use Rattle.jsonc_seams.proofs.Comments.{regroup, no_line_leaf}
+use Rattle.jsonc_seams.proofs.Comments.{regroup}
 use Rattle.jsonc_seams.proofs.LooseChanges.{element_no_end}
 use Rattle.jsonc_seams.proofs.Texts.{trivia_leaf, literal_leaf, name_leaf}
 

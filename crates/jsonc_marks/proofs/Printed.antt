@@ -1,5 +1,5 @@
 -- A sound tree prints a text that has the marks of its leaves.
-use Rattle.std.proofs.Common.{ℕ, ◌≡◌, ◌<◌, ◌∙◌, sym, ap, subst, refl, Bool, true, false, ◌==◌, inl, inr, List, [], ◌∷◌, ◌++◌, Some, None, IsTrue, IsUtf8, chars, encode_utf8, encode_utf8_all, arith, rules}
+use Rattle.std.proofs.Common.{ℕ, ◌≡◌, ◌<◌, ◌∙◌, sym, ap, subst, refl, Bool, true, false, inl, inr, List, [], ◌∷◌, ◌++◌, Some, None, IsTrue, IsUtf8, chars, encode_utf8, encode_utf8_all, arith, rules}
 use Rattle.std.specs.List.{flat_map, cons_option}
 use Rattle.std.proofs.lemmas.List.{append_assoc, append-nil}
 use Rattle.std.proofs.lemmas.Str.{chars-nil, chars-append, chars-IsAscii, chars-encodes, encodes-chars, IsUtf8-from_ascii}
@@ -10,11 +10,10 @@ use Rattle.jsonc_text.specs.Text.{next, no, Many, stop, step}
 use Rattle.jsonc_text.specs.Gaps.{is_blank, is_in_line, LineComment, line, BlockComment, IsComment}
 use Rattle.jsonc_text.specs.Grammar.{may_name}
 use Rattle.jsonc_text.specs.Words.{Keyword, keyword_text}
-use Rattle.jsonc_text.specs.Lexemes.{LexemeKind, Scanned, lexeme, line_comment, block_comment, IsScanned, is_punctuation}
+use Rattle.jsonc_text.specs.Lexemes.{LexemeKind, lexeme, line_comment, block_comment, IsScanned, is_punctuation}
 use Rattle.jsonc_text.proofs.Alone.{scanned_before}
-use Rattle.jsonc_text.proofs.Basics.{and_both, or_cases, test_eq}
+use Rattle.jsonc_text.proofs.Basics.{and_both}
 use Rattle.jsonc_text.proofs.BlockComments.{block_inside}
-use Rattle.jsonc_text.proofs.Cuts.{many_split}
 use Rattle.jsonc_text.proofs.Steps.{many_append}
 use Rattle.jsonc_text.proofs.UniqueWords.{many_more}
 use Rattle.jsonc_tree.specs.Content.{Content, text_of, newline_text}
@@ -31,9 +30,9 @@ use Rattle.jsonc_seams.specs.SoundTrees.{SoundTree}
 use Rattle.jsonc_seams.proofs.Apart.{document_alone, document_leaves}
 use Rattle.jsonc_seams.proofs.Ends.{literal_there, name_there}
 use Rattle.jsonc_seams.proofs.Texts.{AllUtf8, text_follower}
-use Rattle.jsonc_marks.specs.Marks.{Mark, trimmed, comment_mark, mark_of, AreMarks, no_more, blank, one, mark_of_leaf, marks_of, marks}
+use Rattle.jsonc_marks.specs.Marks.{Mark, comment_mark, mark_of, AreMarks, no_more, blank, one, mark_of_leaf, marks_of, marks}
 use Rattle.jsonc_marks.specs.Changes.{MarksDifferIn}
-use Rattle.jsonc_marks.proofs.GivingWay.{marks_give_way}
+use Rattle.jsonc_marks.proofs.GivingWay.{marks_differ}
 use Rattle.jsonc_marks.proofs.OneList.{marks_unique}
 use Rattle.jsonc_marks.proofs.Pieces.{Piece, a_literal, a_name, a_token, a_trivia, Pieces, ends_line, LinesFlat, document_pieces, document_flat}
 use Rattle.jsonc_marks.proofs.Trimmed.{blanks_left_out}
@@ -268,4 +267,4 @@ module _ (o : Options) where
       → (ms ns : List Mark) → AreMarks o (printed_text t) ms → AreMarks o (printed_text u) ns → MarksDifferIn (marks_of was) (marks_of now) ms ns
   printed_give_way t u s r was now d ms ns g h =
       subst (λ xs. MarksDifferIn (marks_of was) (marks_of now) xs ns) (marks_unique (prints_its_marks t s) g)
-      (subst (MarksDifferIn (marks_of was) (marks_of now) (marks t)) (marks_unique (prints_its_marks u r) h) (marks_give_way was now (leaves t) (leaves u) d))
+      (subst (MarksDifferIn (marks_of was) (marks_of now) (marks t)) (marks_unique (prints_its_marks u r) h) (marks_differ was now (leaves t) (leaves u) d))

@@ -1,8 +1,7 @@
 -- Texts without the blanks at their ends.
-use Rattle.std.proofs.Common.{ℕ, ◌≡◌, ◌∙◌, ◌+◌, ◌-◌, ◌≤◌, sym, ap, refl, Bool, true, false, cond, List, [], ◌∷◌, ◌++◌, length, take, IsTrue, arith, length-append}
+use Rattle.std.proofs.Common.{ℕ, ◌≡◌, ◌∙◌, ◌+◌, ◌-◌, sym, ap, refl, false, cond, List, [], ◌∷◌, ◌++◌, length, take, IsTrue, arith, length-append}
 use Rattle.std.specs.List.{prefix_len, suffix_len}
 use Rattle.std.proofs.lemmas.List.{append_assoc, append-nil, reverse-append, take-append-le, take_all}
-use Rattle.std.proofs.lemmas.List.Sums.{suffix_len-le-length}
 use Rattle.jsonc_text.specs.Text.{Many, stop, step}
 use Rattle.jsonc_text.specs.Gaps.{is_blank, BlockComment}
 use Rattle.jsonc_text.proofs.BlockComments.{block_inside}

@@ -1,6 +1,8 @@
 -- The worked text and its trees.
-use Rattle.std.proofs.Common.{ℕ, ◌≡◌, refl, true, false, List, [], ◌∷◌, ◌++◌, IsTrue, codes, chars, arith, rules}
+use Rattle.std.proofs.Common.{ℕ, ◌≡◌, refl, true, false, List, [], ◌∷◌, ◌++◌, codes, chars, arith, rules}
 use Rattle.std.proofs.lemmas.Str.{chars-IsAscii}
+use lib.Utf8.{encode}
+use Rattle.jsonc_build.specs.Shape.{printed_text}
 use Rattle.jsonc_text.specs.Options.{all_on}
 use Rattle.jsonc_text.specs.Text.{stop, step}
 use Rattle.jsonc_text.specs.Gaps.{LineComment, line}
@@ -9,7 +11,7 @@ use Rattle.jsonc_text.specs.Numbers.{Sign, Whole, Fraction, Exponent, Unsigned}
 use Rattle.jsonc_text.specs.Strings.{Piece, Pieces}
 use Rattle.jsonc_text.specs.Words.{Keyword, IsKeyword}
 use Rattle.jsonc_text.specs.Lexemes.{LexemeKind, Lexeme, lexeme, line_comment}
-use Rattle.jsonc_text.proofs.Basics.{apart, tails}
+use Rattle.jsonc_text.proofs.Basics.{apart}
 use Rattle.jsonc_marks.specs.Marks.{Mark, AreMarks, no_more, blank, one, marks}
 use Rattle.jsonc_marks.specs.Worked.{worked_text, worked_marks, worked_tree, other_tree}
 
@@ -87,3 +89,11 @@ tree_marks = rw (a_chars, one_chars, comment_chars, b_chars) refl
 
 pub other_marks : marks other_tree ≡ worked_marks
 other_marks = rw (a_chars, one_chars, short_chars, b_chars) refl
+
+pub tree_text : printed_text worked_tree ≡ worked_text
+unfolding encode
+tree_text = chars-IsAscii worked_text (search rules)
+
+pub other_text : printed_text other_tree ≡ worked_text
+unfolding encode
+other_text = chars-IsAscii worked_text (search rules)

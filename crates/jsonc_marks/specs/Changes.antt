@@ -1,5 +1,7 @@
 -- How marks change: in one stretch, which gives way to another.
-use Rattle.std.specs.Prelude.{◌≡◌, List, [], ◌++◌}
+use Rattle.std.specs.Prelude.{◌≡◌, ◌||◌, List, [], ◌∷◌, ◌++◌, IsTrue}
+use Rattle.jsonc_tree.specs.Content.{Content}
+use Rattle.jsonc_nodes.specs.Kinds.{is_whitespace, is_newline}
 use Rattle.jsonc_sound.specs.TreeChanges.{Top, leaves_of}
 use Rattle.jsonc_marks.specs.Marks.{Mark, marks_of}
 
@@ -13,3 +15,8 @@ pub record MarksDifferIn (was now x y : List Mark) : Type 0 where
 -- the marks of a node with what is below it
 abbrev pub marks_under : Top → List Mark
 marks_under top = marks_of (leaves_of top)
+
+-- each of these leaves is whitespace or a line's end
+abbrev pub AreBlanks : List Content → Type 0
+AreBlanks [] = Unit {0}
+AreBlanks (content ∷ rest) = IsTrue (is_whitespace content || is_newline content) × AreBlanks rest

@@ -1,28 +1,32 @@
 -- Laws of marks: what is said of each text, tree and change.
-use Rattle.std.specs.Prelude.{◌≡◌, ◌||◌, ℕ, List, [], ◌∷◌, ◌++◌, IsTrue, chars}
+use Rattle.std.specs.Prelude.{◌≡◌, ℕ, List, [], ◌∷◌, ◌++◌, chars}
 use Rattle.jsonc_text.specs.Options.{Options}
 use Rattle.jsonc_text.specs.Text.{Many}
 use Rattle.jsonc_text.specs.Gaps.{is_blank, BlockComment}
+use Rattle.jsonc_text.specs.Places.{Placed, AreTokens}
 use Rattle.jsonc_text.specs.Plain.{Plain}
 use Rattle.jsonc_tree.specs.Content.{Content}
-use Rattle.jsonc_tree.specs.OrderedTree.{OrderedTree, own_leaf, leaves}
-use Rattle.jsonc_nodes.specs.Kinds.{is_whitespace, is_newline}
+use Rattle.jsonc_tree.specs.OrderedTree.{OrderedTree, leaves}
 use Rattle.jsonc_build.specs.Shape.{printed_text}
 use Rattle.jsonc_from_input.specs.Layout.{Layout}
-use Rattle.jsonc_from_input.specs.Laid.{LaidNode, laid, laid_property}
+use Rattle.jsonc_from_input.specs.Laid.{laid, laid_property}
 use Rattle.jsonc_from_input.specs.Texts.{IsCharacters, IsOfTexts}
 use Rattle.jsonc_sound.specs.Laws.{DiffersIn}
 use Rattle.jsonc_sound.specs.TreeChanges.{Top, DocumentChanged}
-use Rattle.jsonc_sound.specs.TriviaChanges.{AreTrivia, StretchChanged}
+use Rattle.jsonc_sound.specs.TriviaChanges.{AreTrivia, StretchChanged, EndsInComment}
 use Rattle.jsonc_seams.specs.InRows.{SpacePut}
 use Rattle.jsonc_seams.specs.SoundTrees.{SoundTree}
 use Rattle.jsonc_marks.specs.Marks.{Mark, trimmed, comment_mark, AreMarks, marks_of, marks, comments_of}
-use Rattle.jsonc_marks.specs.Changes.{MarksDifferIn, marks_under}
-use Rattle.jsonc_marks.specs.Written.{written, property_written}
+use Rattle.jsonc_marks.specs.Changes.{MarksDifferIn, AreBlanks, marks_under}
+use Rattle.jsonc_marks.specs.Written.{written, property_written, marks_laid}
 
 -- a text has no two lists of marks
 abbrev pub HasOneListOfMarks : Options → List ℕ → Type 0
 HasOneListOfMarks o t = (ms ns : List Mark) → AreMarks o t ms → AreMarks o t ns → ms ≡ ns
+
+-- and has one where it has a list of lexemes and comments
+abbrev pub HasMarksOfTokens : Options → List ℕ → Type 0
+HasMarksOfTokens o t = (at : ℕ) (ts : List Placed) → AreTokens o at t ts → (ms : List Mark) × AreMarks o t ms
 
 -- a block comment ends with no blank
 abbrev pub EndsWithNoBlank : List ℕ → Type 0
@@ -40,9 +44,9 @@ PrintsItsMarks o t = SoundTree o t → AreMarks o (printed_text t) (marks t)
 abbrev pub MarksJoin : List Content → List Content → Type 0
 MarksJoin first second = marks_of (first ++ second) ≡ marks_of first ++ marks_of second
 
--- where a stretch of leaves gives way to another, its marks give way to those of the other
+-- where a stretch of leaves gives way to another, its marks give way to those of the other, and before and behind them stand the marks of the leaves there
 abbrev pub MarksGiveWay : List Content → List Content → List Content → List Content → Type 0
-MarksGiveWay was now x y = DiffersIn was now x y → MarksDifferIn (marks_of was) (marks_of now) (marks_of x) (marks_of y)
+MarksGiveWay was now x y = (d : DiffersIn was now x y) → (m : MarksDifferIn (marks_of was) (marks_of now) (marks_of x) (marks_of y)) × (m.front ≡ marks_of d.front) × (m.back ≡ marks_of d.back)
 
 -- so it is with what two sound trees print
 abbrev pub PrintedMarksGiveWay : Options → OrderedTree → OrderedTree → Type 0
@@ -57,18 +61,17 @@ ValuesMarksGiveWay t = (was now : Top) (path : List ℕ) (u : OrderedTree) → D
 abbrev pub TriviasMarksGiveWay : OrderedTree → Type 0
 TriviasMarksGiveWay t = (was now : List Content) (u : OrderedTree) → StretchChanged was now t u → AreTrivia was → AreTrivia now → MarksDifferIn (marks_of was) (marks_of now) (marks t) (marks u)
 
--- all of which are comments
+-- all marks of trivia are comments, and of trivia that ends in a comment the last mark is one
 abbrev pub TriviaHasComments : List Content → Type 0
 TriviaHasComments contents = AreTrivia contents → comments_of (marks_of contents) ≡ marks_of contents
 
--- each of these leaves is whitespace or a line's end
-abbrev pub AreBlanks : List Content → Type 0
-AreBlanks [] = Unit {0}
-AreBlanks (content ∷ rest) = IsTrue (is_whitespace content || is_newline content) × AreBlanks rest
+abbrev pub LastMarkIsComment : List Content → Type 0
+LastMarkIsComment contents = EndsInComment contents → (ms : List Mark) × (s : List ℕ) × (marks_of contents ≡ ms ++ Mark.comment s ∷ [])
 
--- where a comment leaves with blanks before it, one mark leaves
+-- where a comment leaves with blanks before it, its mark leaves from its place, and no other
 abbrev pub OneMarkLeaves : List Content → List ℕ → List Content → List Content → Type 0
-OneMarkLeaves blanks s x y = AreBlanks blanks → DiffersIn (blanks ++ Content.comment s ∷ []) [] x y → MarksDifferIn (comment_mark (chars s) ∷ []) [] (marks_of x) (marks_of y)
+OneMarkLeaves blanks s x y = AreBlanks blanks → (d : DiffersIn (blanks ++ Content.comment s ∷ []) [] x y)
+    → (m : MarksDifferIn (comment_mark (chars s) ∷ []) [] (marks_of x) (marks_of y)) × (m.front ≡ marks_of d.front) × (m.back ≡ marks_of d.back)
 
 -- where blanks give way to blanks, the marks stay
 abbrev pub BlanksKeepMarks : List Content → List Content → List Content → List Content → Type 0
@@ -78,10 +81,7 @@ BlanksKeepMarks was now x y = AreBlanks was → AreBlanks now → DiffersIn was 
 abbrev pub SpaceKeepsMarks : OrderedTree → Type 0
 SpaceKeepsMarks t = (u : OrderedTree) → SpacePut t u → marks u ≡ marks t
 
--- the marks of the node that a value is laid out as are the literals that are written for the value, however it is laid out
-abbrev pub marks_laid : LaidNode → List Mark
-marks_laid node = marks_of (own_leaf node.content ++ leaves node.below)
-
+-- the marks of the node that a value is laid out as are the literals that are written for the value, in any layout
 abbrev pub LaidAsWritten : Layout → Plain → Type 0
 LaidAsWritten layout v = IsOfTexts v → marks_laid (laid layout v) ≡ written v
 

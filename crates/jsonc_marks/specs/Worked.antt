@@ -4,7 +4,7 @@ use Rattle.jsonc_text.specs.Options.{all_on}
 use Rattle.jsonc_tree.specs.Content.{Content, root, object, array, property}
 use Rattle.jsonc_tree.specs.declared.node.CstNewlineKind.TheVariants.{LineFeed}
 use Rattle.jsonc_tree.specs.OrderedTree.{OrderedTree, none, more}
-use Rattle.jsonc_build.specs.Shape.{token_then}
+use Rattle.jsonc_build.specs.Shape.{token_then, printed_text}
 use Rattle.jsonc_marks.specs.Marks.{Mark, AreMarks, marks}
 
 -- the text: behind a comma a line comment with a blank at its end
@@ -36,5 +36,9 @@ worked_tree = tree_with (leaf_then (Content.comment (codes "// x ")))
 abbrev pub other_tree : OrderedTree
 other_tree = tree_with (λ row. leaf_then (Content.comment (codes "// x")) (leaf_then (Content.whitespace (codes " ")) row))
 
+-- the tree prints the text, and has its marks
+abbrev pub IsWorked : OrderedTree → Type 0
+IsWorked t = (printed_text t ≡ worked_text) × (marks t ≡ worked_marks)
+
 abbrev pub WorkedMarks : Type 0
-WorkedMarks = AreMarks all_on worked_text worked_marks × (marks worked_tree ≡ worked_marks) × (marks other_tree ≡ worked_marks)
+WorkedMarks = AreMarks all_on worked_text worked_marks × IsWorked worked_tree × IsWorked other_tree

@@ -6,15 +6,17 @@ ghost use Rattle.jsonc_tree.specs.Content.{Content};
 ghost use Rattle.jsonc_tree.specs.OrderedTree.{OrderedTree};
 ghost use Rattle.jsonc_from_input.specs.Layout.{Layout};
 ghost use Rattle.jsonc_marks.specs.Marks.{Mark};
-ghost use Rattle.jsonc_marks.specs.Laws.{HasOneListOfMarks, EndsWithNoBlank, LeavesOutBlanks, PrintsItsMarks};
+ghost use Rattle.jsonc_marks.specs.Laws.{HasOneListOfMarks, HasMarksOfTokens, EndsWithNoBlank, LeavesOutBlanks, PrintsItsMarks};
 ghost use Rattle.jsonc_marks.specs.Laws.{MarksJoin, MarksGiveWay, PrintedMarksGiveWay, ValuesMarksGiveWay, TriviasMarksGiveWay};
-ghost use Rattle.jsonc_marks.specs.Laws.{TriviaHasComments, OneMarkLeaves, BlanksKeepMarks, SpaceKeepsMarks};
+ghost use Rattle.jsonc_marks.specs.Laws.{TriviaHasComments, LastMarkIsComment, OneMarkLeaves, BlanksKeepMarks, SpaceKeepsMarks};
 ghost use Rattle.jsonc_marks.specs.Laws.{LaidAsWritten, LaidAsWrittenNamed, WritesNoComments, KeepsOtherComments, HasOtherCommentsAlone};
 ghost use Rattle.jsonc_marks.specs.Worked.{WorkedMarks};
 
-/// A text has one list of marks, whatever the options.
+/// A text has at most one list of marks, whatever the options, and has one where it is lexemes and
+/// comments with blanks between them.
 pub fn one_list_of_marks()
-    ensures { (o : Options) (t : List ℕ) → HasOneListOfMarks o t }
+    ensures one { (o : Options) (t : List ℕ) → HasOneListOfMarks o t }
+    ensures some { (o : Options) (t : List ℕ) → HasMarksOfTokens o t }
 {}
 
 /// What the mark of a comment leaves out: of a block comment nothing, and behind a line comment all
@@ -37,12 +39,13 @@ pub fn marks_give_way()
     ensures printed { (o : Options) (t u : OrderedTree) → PrintedMarksGiveWay o t u }
 {}
 
-/// So where a value of a document gives way to another, and where trivia does: of trivia all marks are
-/// comments.
+/// So where a value of a document gives way to another, and where trivia does: all marks of trivia are
+/// comments, and of trivia that ends in a comment the last mark is one.
 pub fn values_and_trivia_give_way()
     ensures value { (t : OrderedTree) → ValuesMarksGiveWay t }
     ensures trivia { (t : OrderedTree) → TriviasMarksGiveWay t }
     ensures comments { (contents : List Content) → TriviaHasComments contents }
+    ensures last { (contents : List Content) → LastMarkIsComment contents }
 {}
 
 /// Blanks and line ends have no marks: with a comment and blanks before it one mark leaves, and a space
@@ -69,7 +72,8 @@ pub fn other_comments_stay()
 {}
 
 /// Worked rows: `{a:1, // x `, a line's end and ` "b":[null]}` has the marks `a`, `1`, `// x`, `"b"` and
-/// `null`, and so has each tree of it, whether the blank before the line's end is the comment's or not.
+/// `null`, and so has each of two trees that print it, in one of which the blank before the line's end is
+/// the comment's, in the other a leaf of its own.
 pub fn worked_marks()
     ensures { WorkedMarks }
 {}

@@ -1,4 +1,4 @@
-use Rattle.jsonc_marks.proofs.GivingWay.{marks_join, marks_give_way}
+use Rattle.jsonc_marks.proofs.GivingWay.{marks_join, marks_follow}
 use Rattle.jsonc_marks.proofs.Printed.{printed_give_way}
 use Rattle.jsonc_marks.proofs.laws.marks_give_way.Goals as goal
 
@@ -6,7 +6,7 @@ pub returns-clause-join : goal.returns-clause-join
 returns-clause-join c = marks_join
 
 pub returns-clause-leaves : goal.returns-clause-leaves
-returns-clause-leaves c = marks_give_way
+returns-clause-leaves c = marks_follow
 
 pub returns-clause-printed : goal.returns-clause-printed
 returns-clause-printed c = printed_give_way

@@ -1,4 +1,4 @@
-use Rattle.jsonc_marks.proofs.GivingWay.{values_marks, trivias_marks, trivia_has_comments}
+use Rattle.jsonc_marks.proofs.GivingWay.{values_marks, trivias_marks, trivia_has_comments, last_is_comment}
 use Rattle.jsonc_marks.proofs.laws.values_and_trivia_give_way.Goals as goal
 
 pub returns-clause-value : goal.returns-clause-value
@@ -9,3 +9,6 @@ returns-clause-trivia c = trivias_marks
 
 pub returns-clause-comments : goal.returns-clause-comments
 returns-clause-comments c = trivia_has_comments
+
+pub returns-clause-last : goal.returns-clause-last
+returns-clause-last c = last_is_comment
