@@ -139,7 +139,7 @@ module _ (old new : List Node) (n space : ℕ) (tree : IsTree old) (r : StandsBe
   n_no_root : 0 ≢ n
   n_no_root e = none_some (sym tree.root_alone ∙ ap (parent_at old) e ∙ r.parent)
 
-  -- and over what each node is, but the space
+  -- and which nodes it is below, but of the space
   no_parent_space : (k p : ℕ) → parent_at old k ≡ Some p → p ≢ space
   no_parent_space k p said e = omega (arith, tree.within k p said, ap length (ap (children_at old) e ∙ space_bare))
 
@@ -200,50 +200,50 @@ module _ (old new : List Node) (n space : ℕ) (tree : IsTree old) (r : StandsBe
     abbrev rest : List ℕ
     rest = drop (place + 1) row
 
-    abbrev q : ℕ
-    q = place - 1
+    abbrev ahead_place : ℕ
+    ahead_place = place - 1
 
-    abbrev f : ℕ
-    f = get_or row q 0
+    abbrev ahead : ℕ
+    ahead = get_or row ahead_place 0
 
-    q_next : q + 1 ≡ place
-    q_next = omega (arith, behind)
+    n_next : ahead_place + 1 ≡ place
+    n_next = omega (arith, behind)
 
     from_n : drop place row ≡ n ∷ rest
     from_n = drop_more row place 0 place_within ∙ ap (λ m. m ∷ rest) (tree.found n c r.parent)
 
-    up_to_n : take place row ≡ take q row ++ f ∷ []
-    up_to_n = ap (λ k. take k row) (sym q_next) ∙ take_more row q 0 (omega (arith, q_next, place_within))
+    up_to_n : take place row ≡ take ahead_place row ++ ahead ∷ []
+    up_to_n = ap (λ k. take k row) (sym n_next) ∙ take_more row ahead_place 0 (omega (arith, n_next, place_within))
 
-    from_q : drop q row ≡ f ∷ n ∷ rest
-    from_q = drop_more row q 0 (omega (arith, q_next, place_within)) ∙ ap (λ k. f ∷ drop k row) q_next ∙ ap (λ (l : List ℕ). f ∷ l) from_n
+    from_ahead : drop ahead_place row ≡ ahead ∷ n ∷ rest
+    from_ahead = drop_more row ahead_place 0 (omega (arith, n_next, place_within)) ∙ ap (λ k. ahead ∷ drop k row) n_next ∙ ap (λ (l : List ℕ). ahead ∷ l) from_n
 
-    in_two : row ≡ take q row ++ (f ∷ n ∷ rest)
-    in_two = sym (take-append-drop q row) ∙ ap (λ (l : List ℕ). take q row ++ l) from_q
+    in_two : row ≡ take ahead_place row ++ (ahead ∷ n ∷ rest)
+    in_two = sym (take-append-drop ahead_place row) ∙ ap (λ (l : List ℕ). take ahead_place row ++ l) from_ahead
 
     over_container : IsOver old 0 n → IsOver old 0 c
     over_container = container_over 0 n_no_root
 
     -- the container's row, by its parts
-    module _ (front over_f under_n after : OrderedTree) (before : Shows old (take q row) front) (f_over : Shows old (children_at old f) over_f) (n_over : Shows old (children_at old n) under_n) (rest_is : Shows old rest after) where
+    module _ (front under_ahead under_n after : OrderedTree) (before : Shows old (take ahead_place row) front) (ahead_shows : Shows old (children_at old ahead) under_ahead) (n_shows : Shows old (children_at old n) under_n) (rest_is : Shows old rest after) where
       abbrev n_then : OrderedTree
       n_then = more (content_at old n) under_n after
 
       abbrev was : OrderedTree
-      was = followed_by front (more (content_at old f) over_f n_then)
+      was = followed_by front (more (content_at old ahead) under_ahead n_then)
 
       abbrev now : OrderedTree
-      now = followed_by front (more (content_at old f) over_f (space_then n_then))
+      now = followed_by front (more (content_at old ahead) under_ahead (space_then n_then))
 
       row_was : Shows old row was
       row_was =
           subst (λ (l : List ℕ). Shows old l was) (sym in_two)
-          (Shows-append old (take q row) (f ∷ n ∷ rest) front (more (content_at old f) over_f n_then) before (shows_more f_over (shows_more n_over rest_is)))
+          (Shows-append old (take ahead_place row) (ahead ∷ n ∷ rest) front (more (content_at old ahead) under_ahead n_then) before (shows_more ahead_shows (shows_more n_shows rest_is)))
 
-      row_ahead : Shows old (take place row) (followed_by front (more (content_at old f) over_f none))
+      row_ahead : Shows old (take place row) (followed_by front (more (content_at old ahead) under_ahead none))
       row_ahead =
-          subst (λ (l : List ℕ). Shows old l (followed_by front (more (content_at old f) over_f none))) (sym up_to_n)
-          (Shows-append old (take q row) (f ∷ []) front (more (content_at old f) over_f none) before (shows_more f_over shows_none))
+          subst (λ (l : List ℕ). Shows old l (followed_by front (more (content_at old ahead) under_ahead none))) (sym up_to_n)
+          (Shows-append old (take ahead_place row) (ahead ∷ []) front (more (content_at old ahead) under_ahead none) before (shows_more ahead_shows shows_none))
 
       row_space : Shows old (space ∷ []) (space_then none)
       row_space =
@@ -251,12 +251,12 @@ module _ (old new : List Node) (n space : ℕ) (tree : IsTree old) (r : StandsBe
           (shows_more (subst (λ (l : List ℕ). Shows old l none) (sym space_bare) shows_none) shows_none)
 
       row_back : Shows old (drop place row) n_then
-      row_back = subst (λ (l : List ℕ). Shows old l n_then) (sym from_n) (shows_more n_over rest_is)
+      row_back = subst (λ (l : List ℕ). Shows old l n_then) (sym from_n) (shows_more n_shows rest_is)
 
       row_is : Shows new (children_at new c) now
       row_is =
-          subst (λ (t : OrderedTree). Shows new (children_at new c) t) (followed_by-assoc front (more (content_at old f) over_f none) (space_then n_then))
-          (Shows-spliced old new tree r.tree c place place (space ∷ []) r.put space_may_join (followed_by front (more (content_at old f) over_f none)) (space_then none) n_then row_ahead row_space row_back)
+          subst (λ (t : OrderedTree). Shows new (children_at new c) t) (followed_by-assoc front (more (content_at old ahead) under_ahead none) (space_then n_then))
+          (Shows-spliced old new tree r.tree c place place (space ∷ []) r.put space_may_join (followed_by front (more (content_at old ahead) under_ahead none)) (space_then none) n_then row_ahead row_space row_back)
 
       replaced : IsOver old 0 n → Replaced was now (ordered_tree old 0) (ordered_tree new 0)
       replaced over = Replaced-splice old new tree r.tree c place place (space ∷ []) r.put was now row_was row_is 0 tree.first (over_container over)
@@ -277,7 +277,7 @@ module _ (old new : List Node) (n space : ℕ) (tree : IsTree old) (r : StandsBe
     pub puts_space : IsOver old 0 n → SpacePut (ordered_tree old 0) (ordered_tree new 0)
     puts_space over =
         let whole = row_shown old c (ordered_tree old c) (Shows-ordered_tree old tree c container_there) in
-        let two = Shows-part old (take q row) (f ∷ n ∷ rest) whole.0 (subst (λ (l : List ℕ). Shows old l whole.0) in_two whole.1) in
-        let one = first_of old f (n ∷ rest) two.1 two.4 in
+        let two = Shows-part old (take ahead_place row) (ahead ∷ n ∷ rest) whole.0 (subst (λ (l : List ℕ). Shows old l whole.0) in_two whole.1) in
+        let one = first_of old ahead (n ∷ rest) two.1 two.4 in
         let last = first_of old n rest one.1 one.4 in
         document_put two.0 one.0 last.0 last.1 two.3 one.3 last.3 last.4 over

@@ -117,12 +117,12 @@ either_seen : (o p : Option ℕ) (x : ℕ) → or_else o p ≡ Some x → (o ≡
 either_seen None p x e = inr (refl, e)
 either_seen (Some y) p x e = inl e
 
--- the property h holds n, and x is nearest behind it
+-- a property holds n, and x is nearest behind it
 record Held (ns : List Node) (n x : ℕ) : Type 0 where
-  h : ℕ
-  parent : parent_at ns n ≡ Some h
-  is : content_at ns h ≡ property
-  near : nearest ns (siblings_after ns h) ≡ Some x
+  holder : ℕ
+  parent : parent_at ns n ≡ Some holder
+  is : content_at ns holder ≡ property
+  near : nearest ns (siblings_after ns holder) ≡ Some x
 
 property_seen : (ns : List Node) (content : Content) (h x : ℕ) → behind_property ns content h ≡ Some x → (content ≡ property) × (nearest ns (siblings_after ns h) ≡ Some x)
 property_seen ns property h x e = (refl, e)
@@ -132,17 +132,17 @@ holder_seen : (ns : List Node) (n x : ℕ) (o : Option ℕ) → parent_at ns n �
 holder_seen ns n x None said e = absurd (none_some e)
 holder_seen ns n x (Some h) said e =
     let seen = property_seen ns (content_at ns h) h x e in
-    record { h = h; parent = said; is = seen.0; near = seen.1 }
+    record { holder = h; parent = said; is = seen.0; near = seen.1 }
 
 held_behind : (ns : List Node) (n h : ℕ) → parent_at ns n ≡ Some h → content_at ns h ≡ property → behind_holder ns n ≡ nearest ns (siblings_after ns h)
 held_behind ns n h said is = ap (option_and_then (λ p. behind_property ns (content_at ns p) p)) said ∙ ap (λ w. behind_property ns w h) is
 
--- x is nearest behind m: among the children of one container, so many places on
+-- x is nearest behind m among the children of c: so many stand between them, none of which prints something
 record Nearest (ns : List Node) (m x c : ℕ) : Type 0 where
-  k : ℕ
+  between : ℕ
   parent : parent_at ns m ≡ Some c
-  at : place_at ns x ≡ place_at ns m + 1 + k
-  clear : nearest ns (take k (drop (place_at ns m + 1) (children_at ns c))) ≡ None
+  at : place_at ns x ≡ place_at ns m + 1 + between
+  clear : nearest ns (take between (drop (place_at ns m + 1) (children_at ns c))) ≡ None
 
 nearest_in : (ns : List Node) → IsTree ns → (m x c : ℕ) (o : Option ℕ) → parent_at ns x ≡ Some c → parent_at ns m ≡ o → nearest ns (drop (place_at ns m + 1) (with_parent o (children_at ns))) ≡ Some x → Nearest ns m x c
 nearest_in ns tree m x c None told said e =
@@ -155,7 +155,7 @@ nearest_in ns tree m x c (Some p) told said e =
     let is : get_or row (place_at ns m + 1 + f.0) 0 ≡ x = sym (get_or-drop (place_at ns m + 1) row f.0 0) ∙ f.2 in
     let same : p ≡ c = Some_same p c (sym (tree.named p (place_at ns m + 1 + f.0) inn) ∙ ap (parent_at ns) is ∙ told) in
     record {
-      k = f.0;
+      between = f.0;
       parent = said ∙ ap Some same;
       at = ap (place_at ns) (sym is) ∙ tree.placed p (place_at ns m + 1 + f.0) inn;
       clear = ap (λ j. nearest ns (take f.0 (drop (place_at ns m + 1) (children_at ns j)))) (sym same) ∙ f.3;
@@ -324,10 +324,10 @@ module _ (old new : List Node) (n space : ℕ) (tree : IsTree old) (r : StandsBe
 
     after_m : nearest new (siblings_after new m) ≡ Some space
     after_m =
-        let ahead : List ℕ = take near.k (drop (place_at old m + 1) row) in
+        let ahead : List ℕ = take near.between (drop (place_at old m + 1) row) in
         ap (λ k. nearest new (drop (k + 1) (row_of new m))) m_placed
         ∙ ap (λ l. nearest new (drop (place_at old m + 1) l)) (row_new m near.parent)
-        ∙ ap (nearest new) (ahead_on row place space within (place_at old m + 1) near.k near.at)
+        ∙ ap (nearest new) (ahead_on row place space within (place_at old m + 1) near.between near.at)
         ∙ find-append (prints_at new) ahead (space ∷ drop place row)
         ∙ ap (λ o. option_or o (nearest new (space ∷ drop place row))) (nearest_kept ahead ∙ near.clear)
         ∙ nearest_space (drop place row)
@@ -343,13 +343,13 @@ module _ (old new : List Node) (n space : ℕ) (tree : IsTree old) (r : StandsBe
       ap (nearest new) (before_m v near) ∙ nearest_kept (siblings_before old v),
     )
 
-    seen_past_holder : nearest old (siblings_after old v) ≡ None → (held : Held old v n) → Nearest old held.h n c → SpaceSeen
+    seen_past_holder : nearest old (siblings_after old v) ≡ None → (held : Held old v n) → Nearest old held.holder n c → SpaceSeen
     seen_past_holder nothing held near =
-        let apart : v ≢ space = no_space v held.h held.parent in
-        let out : parent_at old v ≢ Some c = λ e. other held.h c near.parent (Some_same held.h c (sym held.parent ∙ e)) in
+        let apart : v ≢ space = no_space v held.holder held.parent in
+        let out : parent_at old v ≢ Some c = λ e. other held.holder c near.parent (Some_same held.holder c (sym held.parent ∙ e)) in
         let mine : nearest new (siblings_after new v) ≡ None = ap (nearest new) (after_kept v apart out) ∙ nearest_kept (siblings_after old v) ∙ nothing in
         let holder : behind_holder new v ≡ Some space =
-        held_behind new v held.h (parent_kept old new n space tree r v apart ∙ held.parent) (contents held.h ∙ held.is) ∙ after_m held.h near in (
+        held_behind new v held.holder (parent_kept old new n space tree r v apart ∙ held.parent) (contents held.holder ∙ held.is) ∙ after_m held.holder near in (
           ap (λ o. or_else o (behind_holder new v)) mine ∙ holder,
           ap (nearest new) (before_kept v apart out) ∙ nearest_kept (siblings_before old v),
         )
@@ -361,7 +361,7 @@ module _ (old new : List Node) (n space : ℕ) (tree : IsTree old) (r : StandsBe
     space_behind e =
         elim (either_seen (nearest old (siblings_after old v)) (behind_holder old v) n e) [
           | inl near ↦ seen_in_row (nearest_to v near)
-          | inr past ↦ let held = holder_seen old v n (parent_at old v) refl past.1 in seen_past_holder past.0 held (nearest_to held.h held.near)
+          | inr past ↦ let held = holder_seen old v n (parent_at old v) refl past.1 in seen_past_holder past.0 held (nearest_to held.holder held.near)
         ]
 
 -- no space is due around n for a literal without quotes
