@@ -1,6 +1,5 @@
 -- What stands nearest among the children of a row is what the leaves of the row print last, or first.
 use Rattle.std.proofs.Common.{ℕ, ◌≡◌, ◌∙◌, sym, ap, subst, refl, Bool, true, false, cond, ◌||◌, ◌&&◌, List, [], ◌∷◌, ◌++◌, reverse, Option, Some, None, is_some, take, IsTrue, chars, rules, append-nil, if◌then◌else◌}
-use Rattle.std.specs.List.{find}
 use Rattle.std.specs.Option.{option_or}
 use Rattle.std.proofs.lemmas.List.{append_assoc, reverse-append}
 use Rattle.std.proofs.lemmas.List.Folds.{find-append}
@@ -27,7 +26,7 @@ use Rattle.jsonc_seams.proofs.Commas.{none_meet}
 use Rattle.jsonc_seams.proofs.RowsWithin.{LeafPrints}
 use Rattle.jsonc_seams.proofs.Spaces.{own_last, first_append, last_append}
 use Rattle.jsonc_seams.proofs.Texts.{literal_leaf, name_leaf, opening_first, closing_first}
-use Rattle.jsonc_spaces.specs.Due.{prints, prints_at, nearest, beginning_in, beginning_of, end_of, begins_bare, ends_bare, is_bare_at, seen_before, behind_holder, due_between}
+use Rattle.jsonc_spaces.specs.Due.{prints, prints_at, nearest, beginning_in, begins_bare, ends_bare, is_bare_at, seen_before, behind_holder, due_between}
 use Rattle.jsonc_spaces.proofs.Whole as whole
 use Rattle.jsonc_spaces.proofs.Whole.{IsWhole, Whole, row_whole, stretch_whole}
 

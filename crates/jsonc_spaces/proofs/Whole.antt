@@ -1,8 +1,8 @@
 -- Rows of a document: each child is whole, a leaf, a value or a property.
-use Rattle.std.proofs.Common.{◌≡◌, refl, subst, Bool, true, false, List, [], ◌∷◌, ◌++◌}
+use Rattle.std.proofs.Common.{◌≡◌, refl, subst, Bool, false, List, []}
 use Rattle.jsonc_text.specs.Options.{Options}
 use Rattle.jsonc_tree.specs.Content.{Content, root, property, is_container}
-use Rattle.jsonc_tree.specs.OrderedTree.{OrderedTree, none, more, own_leaf, leaves, followed_by}
+use Rattle.jsonc_tree.specs.OrderedTree.{OrderedTree, none, more, followed_by}
 use Rattle.jsonc_build.specs.Shape as shape
 use Rattle.jsonc_build.specs.Shape.{IsTrivia, Trivia, IsNameBefore, token_then}
 use Rattle.jsonc_sound.specs.Rows.{RowKind, Last}

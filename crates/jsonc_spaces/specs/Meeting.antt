@@ -1,5 +1,5 @@
 -- Laws: the children of a row tell where two literals without quotes meet among its leaves.
-use Rattle.std.specs.Prelude.{◌≡◌, ℕ, false, ◌&&◌, List, Option, None, reverse, take}
+use Rattle.std.specs.Prelude.{◌≡◌, ℕ, ◌&&◌, List, None, reverse, take}
 use Rattle.jsonc_text.specs.Options.{Options}
 use Rattle.jsonc_tree.specs.OrderedTree.{OrderedTree, leaves, Shows}
 use Rattle.jsonc_tree.specs.Siblings.{row_of, siblings_after}
