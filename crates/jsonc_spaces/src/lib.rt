@@ -9,6 +9,7 @@
 #![tactic(auto)]
 
 mod due;
+pub mod laws;
 mod put;
 
 pub use due::{due_before, due_behind, due_between, is_bare};
