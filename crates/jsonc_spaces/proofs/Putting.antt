@@ -1,5 +1,5 @@
 -- A space that comes directly before a node: what stays as it was, and what the document is then.
-use Rattle.std.proofs.Common.{◌≡◌, ◌≢◌, ℕ, suc, ◌+◌, ◌-◌, ◌<◌, ◌≤◌, ◌||◌, Bool, true, false, cond, List, [], ◌∷◌, ◌++◌, length, get_or, filter, take, drop, slice_index, slice_range, Some, None, inl, inr, refl, sym, ap, subst, ◌∙◌, arith, eq-eqb}
+use Rattle.std.proofs.Common.{◌≡◌, ◌≢◌, ℕ, ◌+◌, ◌-◌, ◌<◌, ◌≤◌, ◌||◌, Bool, false, cond, List, [], ◌∷◌, ◌++◌, length, get_or, filter, take, drop, slice_index, slice_range, Some, None, inl, inr, refl, sym, ap, subst, ◌∙◌, arith, eq-eqb}
 use Rattle.std.proofs.lemmas.Bool.{cases_eq, ne_eqb}
 use Rattle.std.proofs.lemmas.List.{take-append-drop, take_more, drop_more}
 use Rattle.std.proofs.lemmas.List.Edits.{between_none, get_or-insert_below, get_or-insert_at, get_or-insert_above, length-insert}
@@ -138,6 +138,20 @@ module _ (old new : List Node) (n space : ℕ) (tree : IsTree old) (r : StandsBe
 
   n_no_root : 0 ≢ n
   n_no_root e = none_some (sym tree.root_alone ∙ ap (parent_at old) e ∙ r.parent)
+
+  -- and over what each node is, but the space
+  no_parent_space : (k p : ℕ) → parent_at old k ≡ Some p → p ≢ space
+  no_parent_space k p said e = omega (arith, tree.within k p said, ap length (ap (children_at old) e ∙ space_bare))
+
+  pub over_kept : (m k : ℕ) → k ≢ space → IsOver old m k → IsOver new m k
+  over_kept m _ ne IsOver.itself = IsOver.itself
+  over_kept m k ne (IsOver.above {c = p} said over) = IsOver.above (parent_kept k ne ∙ said) (over_kept m p (no_parent_space k p said) over)
+
+  pub over_before : (m k : ℕ) → k ≢ space → IsOver new m k → IsOver old m k
+  over_before m _ ne IsOver.itself = IsOver.itself
+  over_before m k ne (IsOver.above {c = p} said over) =
+      let was : parent_at old k ≡ Some p = sym (parent_kept k ne) ∙ said in
+      IsOver.above was (over_before m p (no_parent_space k p was) over)
 
   -- where the children of the new container are, n and those behind it one place on
   at_space : slice_index (children_at new c) place ≡ space

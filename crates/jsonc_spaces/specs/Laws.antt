@@ -1,15 +1,13 @@
 -- Laws of spaces that come in.
-use Rattle.std.specs.Prelude.{◌≡◌, ◌<◌, ℕ, false, List, IsTrue, length, Option, Some}
-use Rattle.jsonc_text.specs.Options.{Options}
+use Rattle.std.specs.Prelude.{◌≡◌, ◌<◌, ℕ, false, List, IsTrue}
 use Rattle.jsonc_tree.specs.Content.{Content}
-use Rattle.jsonc_tree.specs.OrderedTree.{OrderedTree, leaves, ordered_tree, Shows}
-use Rattle.jsonc_tree.specs.Tree.{Node, content_at, parent_at, place_at, IsTree, IsOver}
+use Rattle.jsonc_tree.specs.OrderedTree.{ordered_tree}
+use Rattle.jsonc_tree.specs.Tree.{Node, content_at, place_at, IsTree, IsOver}
 use Rattle.jsonc_nodes.specs.Siblings.{elements_at}
 use Rattle.jsonc_sound.specs.TreeChanges.{IsElement}
-use Rattle.jsonc_seams.specs.Alone.{DocumentAlone}
 use Rattle.jsonc_seams.specs.InRows.{SpacePut}
 use Rattle.jsonc_seams.specs.Spaces.{is_bare}
-use Rattle.jsonc_spaces.specs.Due.{due_around, due_between, begins_bare, ends_bare, seen_before, seen_behind}
+use Rattle.jsonc_spaces.specs.Due.{due_around, begins_bare, ends_bare, seen_before, seen_behind}
 use Rattle.jsonc_spaces.specs.Put.{StandsBefore, AreSpaced}
 
 -- before an element of the document, behind another child, the space has come into the document, and nothing else has
