@@ -1,2 +1,4 @@
 pub mod Putting
 pub mod Quiet
+pub mod Whole
+pub mod Meeting

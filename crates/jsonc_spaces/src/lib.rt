@@ -12,5 +12,5 @@ mod due;
 pub mod laws;
 mod put;
 
-pub use due::{due_before, due_behind, due_between};
-pub use put::{add_space, put_before};
+pub use due::{due_before, due_behind, due_between, is_bare};
+pub use put::{Space, Spaces, make_spaces, put_spaces};
