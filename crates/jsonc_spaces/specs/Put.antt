@@ -1,5 +1,5 @@
 -- Spaces that come before nodes.
-use Rattle.std.specs.Prelude.{◌≡◌, ◌≤◌, ◌<◌, ℕ, List, [], ◌∷◌, ◌++◌, length, Option, Some, None}
+use Rattle.std.specs.Prelude.{◌≡◌, ◌<◌, ℕ, List, [], ◌∷◌, ◌++◌, length, Option, Some, None}
 use Rattle.std.specs.List.{All}
 use Rattle.jsonc_tree.specs.Building.{Keeps}
 use Rattle.jsonc_tree.specs.Changes.{Splices}
@@ -48,6 +48,11 @@ nodes_of spaces = node_of spaces.before ++ node_of spaces.behind
 abbrev pub IsFree : List Node → Option Space → Type 0
 IsFree ns None = Unit {0}
 IsFree ns (Some s) = IsFreeSpace ns s.leaf
+
+-- the space, if there is one, stands before its node now
+abbrev pub IsPut : List Node → Option Space → List Node → Type 0
+IsPut old None new = new ≡ old
+IsPut old (Some s) new = StandsBefore old new s.node s.leaf
 
 -- no leaf is there twice: the later one was made later
 abbrev pub AreTwo : Option Space → Option Space → Type 0

@@ -1,6 +1,7 @@
 //! Where a space is due.
 
-ghost use Rattle.std.specs.Prelude.{◌≡◌, ◌<◌, Some, length};
+ghost use Rattle.std.specs.Prelude.{◌≡◌, ◌<◌, Some, chars, length, true};
+ghost use Rattle.jsonc_text.specs.Text.{next, starts};
 ghost use Rattle.jsonc_tree.specs.Siblings.{siblings_after};
 ghost use Rattle.jsonc_tree.specs.Stored.{content_of};
 ghost use Rattle.jsonc_nodes.specs.Siblings.{IsThere};
@@ -13,12 +14,19 @@ use jsonc_nodes::{next_siblings, previous_siblings};
 use jsonc_tree::{Kind, Tree};
 use std::alloc::Allocator;
 
+// Whether there is a character in a text.
+fn has_character(text: &str) -> bool
+    ensures { result ≡ starts (λ c. true) (next (chars text.now)) }
+{
+    !text.is_empty()
+}
+
 // Whether a node prints something: a leaf without text prints nothing.
 fn prints_kind<A: Allocator>(kind: &Kind<A>) -> bool
     ensures { result ≡ prints (content_of kind.now) }
 {
     match kind.text() {
-        Some(text) => !text.is_empty(),
+        Some(text) => has_character(text),
         None => true,
     }
 }

@@ -5,7 +5,7 @@ ghost use Rattle.jsonc_tree.specs.Changes.{Adds};
 ghost use Rattle.jsonc_tree.specs.Tree.{parent_at, IsTree};
 ghost use Rattle.jsonc_spaces.specs.Due.{listed};
 ghost use Rattle.jsonc_spaces.specs.Put.{a_space, AreAtHand, AreChildren, AreDue, AreSpaced, IfDue};
-ghost use Rattle.jsonc_spaces.specs.Put.{IsFree, IsFreeSpace, Prepared, StandsBefore, node_of, nodes_of};
+ghost use Rattle.jsonc_spaces.specs.Put.{IsFree, IsFreeSpace, IsPut, Prepared, StandsBefore, node_of, nodes_of};
 
 use jsonc_tree::{Kind, Tree};
 use std::alloc::{AllocError, Allocator};
@@ -94,7 +94,7 @@ fn put_before<A: Allocator>(tree: &mut Tree<A>, space: Space, container: usize)
 fn put_space<A: Allocator>(tree: &mut Tree<A>, space: Option<Space>)
     requires free { IsFree tree.old.nodes space }
     requires child { AreChildren tree.old.nodes (node_of space) }
-    ensures put { AreSpaced tree.old.nodes (node_of space) tree.new.nodes }
+    ensures put { IsPut tree.old.nodes space tree.new.nodes }
     ensures tree { IsTree tree.new.nodes }
 {
     let _ = tree.len();
@@ -115,6 +115,7 @@ pub fn put_spaces<A: Allocator>(tree: &mut Tree<A>, spaces: Spaces)
     ensures put { AreSpaced tree.old.nodes (nodes_of spaces) tree.new.nodes }
     ensures tree { IsTree tree.new.nodes }
 {
+    let _ = tree.len();
     put_space(tree, spaces.before);
     put_space(tree, spaces.behind);
 }
