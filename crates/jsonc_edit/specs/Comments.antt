@@ -45,7 +45,7 @@ pub record IsTakenOut (old new : List Node) (n c : ℕ) : Type 0 where
   pub ready : List Node
   pub spaced : List Node
   pub prepared : Prepared old ready
-  pub spaces : AreSpaced ready (listed (due_without old c n)) spaced
+  pub spaces : AreSpaced ready (listed (due_without ready c n)) spaced
   pub removed : IsRemoved spaced new n
 
 -- it is wherever it has a parent

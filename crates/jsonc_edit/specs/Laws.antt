@@ -104,16 +104,16 @@ ChangesValueTo o old new path n x v =
 -- so it is wherever n gives way to a value of texts, laid out in this layout
 abbrev pub ChangesValueLaidOut : Options → List Node → List Node → ℕ → ℕ → Layout → Plain → Type 0
 ChangesValueLaidOut o old new n m layout v =
-    IsOfTexts v → GivesWay old new n m (laid_top layout v) → (path : List ℕ) (x : Plain) → ChangesValueTo o old new path n x v
+    IsTree old → IsOfTexts v → GivesWay old new n m (laid_top layout v) → (path : List ℕ) (x : Plain) → ChangesValueTo o old new path n x v
 
 -- or as the document tells
 abbrev pub ChangesValueReplaced : Options → List Node → List Node → ℕ → ℕ → Plain → Type 0
 ChangesValueReplaced o old new n m v =
-    IsOfTexts v → IsReplaced old new n v m → (path : List ℕ) (x : Plain) → ChangesValueTo o old new path n x v
+    IsTree old → IsOfTexts v → IsReplaced old new n v m → (path : List ℕ) (x : Plain) → ChangesValueTo o old new path n x v
 
 -- a value is written where a node gives way to it, laid out in a layout that fits
 abbrev pub WritesLaidOut : Options → List Node → List Node → ℕ → ℕ → Layout → Plain → Type 0
-WritesLaidOut o old new n m layout v = FitsLayout o layout → GivesWay old new n m (laid_top layout v) → Writes o old new n m v
+WritesLaidOut o old new n m layout v = IsTree old → FitsLayout o layout → GivesWay old new n m (laid_top layout v) → Writes o old new n m v
 
 -- or as the document tells
 abbrev pub WritesReplaced : Options → List Node → List Node → ℕ → ℕ → Plain → Type 0

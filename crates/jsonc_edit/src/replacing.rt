@@ -1,6 +1,6 @@
 //! Nodes that give way to new ones.
 
-ghost use Rattle.std.specs.Prelude.{◌≡◌, ◌∷◌, ◌+◌, ◌<◌, IfErr, IfNone, IfOk, IfSome, List, None, OnErr, Some, [], length};
+ghost use Rattle.std.specs.Prelude.{◌≡◌, ◌∷◌, ◌++◌, ◌+◌, ◌<◌, IfErr, IfNone, IfOk, IfSome, List, None, OnErr, Some, [], length, if◌then◌else◌};
 ghost use Rattle.jsonc_text.specs.Options.{Options};
 ghost use Rattle.jsonc_tree.specs.Building.{Keeps};
 ghost use Rattle.jsonc_tree.specs.Changes.{CanJoin, Splices};
@@ -8,7 +8,8 @@ ghost use Rattle.jsonc_tree.specs.OrderedTree.{ordered_tree};
 ghost use Rattle.jsonc_tree.specs.Tree.{content_at, parent_at, place_at, IsTree};
 ghost use Rattle.jsonc_input.specs.Views.{plain};
 ghost use Rattle.jsonc_from_input.specs.Layout.{layout_of};
-ghost use Rattle.jsonc_spaces.specs.Due.{due_around};
+ghost use Rattle.jsonc_seams.specs.Spaces.{is_bare};
+ghost use Rattle.jsonc_spaces.specs.Due.{listed};
 ghost use Rattle.jsonc_spaces.specs.Put.{AreAtHand, Prepared};
 ghost use Rattle.jsonc_edit.specs.Reading.{IsReplaced};
 ghost use Rattle.jsonc_edit.specs.Replacing.{laid_top, GivesWay};
@@ -36,24 +37,22 @@ fn put_in_place<A: Allocator>(tree: &mut Tree<A>, container: usize, node: usize,
     tree.splice(container, place, place + 1, &[new]);
 }
 
-// The spaces that are due around a node which gives way to a new one, made.
-fn spaces_around<A: Allocator + Copy>(
+// Makes the spaces that are due, if the new node is a literal without quotes.
+fn spaces_for<A: Allocator + Copy>(
     alloc: A,
     tree: &mut Tree<A>,
-    node: usize,
     new: usize,
+    before: Option<usize>,
+    behind: Option<usize>,
 ) -> Result<Spaces, AllocError>
-    requires node { node < length tree.old.nodes }
-    requires new { new < length tree.old.nodes }
-    ensures hand { IfOk result (λ s. AreAtHand tree.new.nodes (due_around tree.old.nodes node (content_at tree.old.nodes new)) s) }
+    requires { new < length tree.old.nodes }
+    ensures hand { IfOk result (λ s. AreAtHand tree.new.nodes (if is_bare (content_at tree.old.nodes new) then listed before ++ listed behind else []) s) }
     ensures prepared { Prepared tree.old.nodes tree.new.nodes }
 {
     let _ = tree.len();
     if !is_bare(tree.kind(new)) {
         return make_spaces(alloc, tree, None, None);
     }
-    let before = due_before(tree, node);
-    let behind = due_behind(tree, node);
     make_spaces(alloc, tree, before, behind)
 }
 
@@ -82,8 +81,10 @@ pub fn replace_with<A: Allocator + Copy>(
     let Some(container) = tree.parent(node) else {
         return Ok(None);
     };
+    let before = due_before(tree, node);
+    let behind = due_behind(tree, node);
     let new = lay_out(alloc, tree, value, layout)?;
-    let spaces = spaces_around(alloc, tree, node, new)?;
+    let spaces = spaces_for(alloc, tree, new, before, behind)?;
     put_spaces(tree, spaces);
     put_in_place(tree, container, node, new);
     Ok(Some(new))

@@ -31,7 +31,7 @@ use Rattle.jsonc_spaces.proofs.Whole as whole
 use Rattle.jsonc_spaces.proofs.Whole.{IsWhole, Whole, row_whole, stretch_whole}
 
 -- this leaf is printed there, bare or not
-abbrev Printed : Option Content → Bool → Type 0
+abbrev pub Printed : Option Content → Bool → Type 0
 Printed x bare = (leaf : Content) × (x ≡ Some leaf) × (is_bare leaf ≡ bare)
 
 -- a node was found where a leaf is printed, and tells whether it is bare
@@ -118,13 +118,13 @@ module _ (o : Options) where
   row_last (alone.element {content = content} {below = below} {after = after} m p g) = last_of_both (own_leaf content) (leaves below ++ leaves after) (last_of_both (leaves below) (leaves after) (row_last g))
   row_last (alone.comma {after = after} g) = last_of_both (Content.token 0x2C ∷ []) (leaves after) (row_last g)
 
-  value_last : {content : Content} {below : OrderedTree} → ValueAlone o content below → Printed (last_printed (own_leaf content ++ leaves below)) (is_bare content)
+  pub value_last : {content : Content} {below : OrderedTree} → ValueAlone o content below → Printed (last_printed (own_leaf content ++ leaves below)) (is_bare content)
   value_last (alone.literal {content = content} h) =
       subst (λ l. Printed (last_printed (l ++ [])) (is_bare content)) (sym (literal_leaf o content [] h)) (content, own_printed content (literal_prints o content h), refl)
   value_last (alone.an_array {row = row} g) = last_of_both (Content.token 0x5B ∷ []) (leaves row) (row_last g)
   value_last (alone.an_object {row = row} g) = last_of_both (Content.token 0x7B ∷ []) (leaves row) (row_last g)
 
-  value_first : {content : Content} {below : OrderedTree} → ValueAlone o content below → Printed (first_printed (own_leaf content ++ leaves below)) (is_bare content)
+  pub value_first : {content : Content} {below : OrderedTree} → ValueAlone o content below → Printed (first_printed (own_leaf content ++ leaves below)) (is_bare content)
   value_first (alone.literal {content = content} h) =
       subst (λ l. Printed (first_printed (l ++ [])) (is_bare content)) (sym (literal_leaf o content [] h)) (content, first_own content [] (literal_prints o content h), refl)
   value_first (alone.an_array {row = row} g) = (Content.token 0x5B, first_own (Content.token 0x5B) (leaves row) (mark_prints 0x5B (opening_first rows.of_values)), refl)

@@ -140,7 +140,7 @@ module _ (old new : List Node) (n space : ℕ) (tree : IsTree old) (r : StandsBe
   n_no_root e = none_some (sym tree.root_alone ∙ ap (parent_at old) e ∙ r.parent)
 
   -- and which nodes it is below, but of the space
-  no_parent_space : (k p : ℕ) → parent_at old k ≡ Some p → p ≢ space
+  pub no_parent_space : (k p : ℕ) → parent_at old k ≡ Some p → p ≢ space
   no_parent_space k p said e = omega (arith, tree.within k p said, ap length (ap (children_at old) e ∙ space_bare))
 
   pub over_kept : (m k : ℕ) → k ≢ space → IsOver old m k → IsOver new m k

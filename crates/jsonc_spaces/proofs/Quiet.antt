@@ -380,7 +380,7 @@ module _ (old now : List Node) (tree : IsTree old) where
   quiet_still n space s h = ap (begins_bare now) (behind_n old now n space tree s) ∙ begins_quiet old now n space tree s (seen_behind old n) h
 
   -- with a space before what is seen behind it nothing meets it there
-  quiet_behind : (n x space : ℕ) → StandsBefore old now x space → seen_behind old n ≡ Some x → begins_bare now (seen_behind now n) ≡ false
+  pub quiet_behind : (n x space : ℕ) → StandsBefore old now x space → seen_behind old n ≡ Some x → begins_bare now (seen_behind now n) ≡ false
   quiet_behind n x space s e =
       ap (begins_bare now) (space_behind old now x space tree s n e).0
       ∙ ap (λ w. is_bare_at now (beginning_in (children_at now space) space w)) (contents_kept old now x space tree s space ∙ s.was.is)
