@@ -1,12 +1,12 @@
 -- A value takes the place of another where no literal without quotes stands beside it: the document stays sound.
-use Rattle.std.proofs.Common.{◌≡◌, ◌≢◌, ℕ, ◌+◌, ◌<◌, Bool, true, false, ◌&&◌, cond, List, [], ◌∷◌, ◌++◌, length, take, drop, filter, reverse, slice_index, Option, Some, None, IsTrue, inl, inr, refl, sym, ap, subst, ◌∙◌, arith}
+use Rattle.std.proofs.Common.{◌≡◌, ◌≢◌, ℕ, ◌+◌, ◌<◌, Bool, true, false, ◌&&◌, List, [], ◌∷◌, ◌++◌, length, take, drop, filter, reverse, slice_index, Option, Some, None, IsTrue, refl, sym, ap, subst, ◌∙◌, arith}
 use Rattle.std.proofs.lemmas.Bool.{false≢true}
 use Rattle.std.proofs.lemmas.List.{take-append-drop, drop_more, get_or-take, get_or-drop, length-take, length-drop}
 use Rattle.std.specs.Option.{option_and_then}
 use Rattle.jsonc_text.specs.Options.{Options}
-use Rattle.jsonc_tree.specs.Content.{Content, root, array, object, property, token, is_container}
+use Rattle.jsonc_tree.specs.Content.{Content, root, property, token}
 use Rattle.jsonc_tree.specs.OrderedTree.{OrderedTree, none, more, leaves, followed_by, Shows, shows_none, shows_more, ordered_tree, Replaced}
-use Rattle.jsonc_tree.specs.Siblings.{row_of, siblings_after, siblings_before}
+use Rattle.jsonc_tree.specs.Siblings.{row_of, siblings_after}
 use Rattle.jsonc_tree.specs.Order.{with_parent}
 use Rattle.jsonc_tree.specs.Tree.{Node, content_at, parent_at, children_at, place_at, IsTree, IsOver}
 use Rattle.jsonc_tree.proofs.Order.{not_over_parent, parent_there}

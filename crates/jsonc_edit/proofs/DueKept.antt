@@ -1,5 +1,5 @@
 -- Where spaces are due stays so while other nodes are made.
-use Rattle.std.proofs.Common.{◌≡◌, ℕ, zero, suc, ◌+◌, ◌<◌, Bool, cond, ◌&&◌, List, [], ◌∷◌, ◌++◌, length, take, drop, reverse, slice_index, slice_get, Option, Some, None, refl, sym, ap, subst, ◌∙◌, arith, length-drop, length-take, get_or-drop, get_or-take}
+use Rattle.std.proofs.Common.{◌≡◌, ℕ, ◌+◌, ◌<◌, cond, ◌&&◌, List, [], ◌∷◌, length, take, drop, reverse, Option, Some, None, refl, ap, ◌∙◌}
 use Rattle.std.proofs.lemmas.List.Elements.{All-head, All-tail}
 use Rattle.std.specs.List.{find}
 use Rattle.std.specs.Option.{option_and_then}
@@ -13,7 +13,7 @@ use Rattle.jsonc_nodes.specs.Siblings.{AreThere, IsThere}
 use Rattle.jsonc_nodes.proofs.There.{All-reverse, children_there, after_there, before_there, find_there}
 use Rattle.jsonc_seams.specs.Adjacent.{or_else}
 use Rattle.jsonc_seams.specs.Spaces.{is_bare}
-use Rattle.jsonc_spaces.specs.Due.{prints, prints_at, nearest, beginning_in, beginning_of, end_of, is_bare_at, begins_bare, ends_bare, seen_before, seen_behind, behind_holder, behind_property, due_before, due_behind, due_between, due_around, listed}
+use Rattle.jsonc_spaces.specs.Due.{prints, prints_at, nearest, beginning_in, is_bare_at, begins_bare, ends_bare, seen_before, seen_behind, behind_holder, behind_property, due_before, due_behind, due_between}
 
 module _ (old new : List Node) (tree : IsTree old) (keeps : Keeps (length old) old new) where
   nearest_same : (xs : List ℕ) → AreThere old xs → nearest new xs ≡ nearest old xs

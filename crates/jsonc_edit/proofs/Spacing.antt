@@ -1,5 +1,5 @@
 -- What a document is once spaces have come before nodes of it.
-use Rattle.std.proofs.Common.{◌≡◌, ◌≢◌, ℕ, ◌+◌, ◌<◌, ◌≤◌, List, [], ◌∷◌, length, take, drop, slice_index, slice_get, Option, Some, None, inl, inr, refl, sym, ap, subst, ◌∙◌, arith}
+use Rattle.std.proofs.Common.{◌≡◌, ◌≢◌, ℕ, ◌+◌, ◌<◌, List, [], ◌∷◌, length, slice_index, slice_get, Option, Some, None, inl, inr, refl, sym, ap, subst, ◌∙◌, arith}
 use Rattle.std.proofs.lemmas.Bool.{cases_eq, cases_lt}
 use Rattle.std.proofs.lemmas.List.Elements.{All-nil, All-cons, All-head, All-tail}
 use Rattle.std.specs.List.{All}
@@ -9,16 +9,15 @@ use Rattle.jsonc_tree.specs.Content.{Content, whitespace}
 use Rattle.jsonc_tree.specs.OrderedTree.{OrderedTree, Shows, ordered_tree}
 use Rattle.jsonc_tree.specs.Tree.{Node, content_at, parent_at, children_at, place_at, IsTree, IsOver}
 use Rattle.jsonc_tree.specs.Values.{DocumentValueOf}
-use Rattle.jsonc_tree.proofs.Order.{parent_there}
 use Rattle.jsonc_tree.proofs.OrderedTrees.{Shows-unique}
 use Rattle.jsonc_tree.proofs.Over.{either_over}
-use Rattle.jsonc_sound.specs.TreeChanges.{Top, IsElement}
+use Rattle.jsonc_sound.specs.TreeChanges.{IsElement}
 use Rattle.jsonc_sound.proofs.TriviaValues.{document_kept}
 use Rattle.jsonc_seams.specs.InRows.{SpacePut}
 use Rattle.jsonc_seams.specs.SoundTrees.{SoundTree}
 use Rattle.jsonc_seams.proofs.SpacePut.{document_put, kept_with_space}
 use Rattle.jsonc_spaces.specs.Put.{a_space, StandsBefore, AreSpaced}
-use Rattle.jsonc_spaces.proofs.Putting.{contents_kept, parent_kept, row_kept, container_row, elements_kept, over_kept, over_before, no_parent_space, placed_ahead, placed_behind, placed_elsewhere, puts_space}
+use Rattle.jsonc_spaces.proofs.Putting.{contents_kept, parent_kept, row_kept, elements_kept, over_kept, over_before, no_parent_space, placed_ahead, placed_behind, placed_elsewhere, puts_space}
 use Rattle.jsonc_edit.specs.Changes.{row_below, top_at}
 use Rattle.jsonc_edit.specs.Paths.{IsElementOf, StepsTo, LeadsTo, itself, step, IsAt}
 use Rattle.jsonc_edit.specs.Spaced.{SpacesPut, none_put, one_put}
@@ -111,7 +110,7 @@ pub record Free (ns : List Node) (m : ℕ) : Type 0 where
 
 -- it is over no node of the document
 pub free_not_over : (ns : List Node) → IsTree ns → (m k : ℕ) → Free ns m → IsOver ns 0 k → IsOver ns m k → ⊥
-free_not_over ns tree m k free under over = elim (either_over ns m 0 k over under) [ | inl up ↦ over_root up refl | inr down ↦ under_root down refl ]
+free_not_over ns tree m k free under over = elim (either_over ns m 0 k over under) [ inl up ↦ over_root up refl | inr down ↦ under_root down refl ]
   where
     over_root : {j : ℕ} → IsOver ns m j → (j ≡ 0) → ⊥
     over_root IsOver.itself e = omega (arith, e, free.later)

@@ -1,18 +1,16 @@
 -- A comment is taken out, with a space in its place where one is due.
-use Rattle.std.proofs.Common.{◌≡◌, ◌≢◌, ℕ, zero, suc, ◌+◌, ◌<◌, ◌≤◌, Bool, true, false, ◌&&◌, cond, List, [], ◌∷◌, ◌++◌, length, take, drop, reverse, slice_index, Option, Some, None, IsTrue, inl, inr, if◌then◌else◌, refl, sym, ap, subst, ◌∙◌, arith}
+use Rattle.std.proofs.Common.{◌≡◌, ℕ, zero, suc, ◌<◌, ◌≤◌, Bool, true, false, ◌&&◌, cond, List, [], ◌∷◌, length, slice_index, Option, Some, None, IsTrue, inl, inr, if◌then◌else◌, refl, sym, ap, subst, ◌∙◌, arith}
 use Rattle.std.proofs.lemmas.Bool.{cases_Bool}
 use Rattle.std.proofs.lemmas.List.Elements.{All-weaker}
 use Rattle.std.specs.List.{All}
 use Rattle.jsonc_text.specs.Options.{Options}
 use Rattle.jsonc_text.specs.Plain.{Plain}
 use Rattle.jsonc_tree.specs.Building.{Keeps}
-use Rattle.jsonc_tree.specs.Order.{with_parent}
-use Rattle.jsonc_tree.specs.OrderedTree.{OrderedTree, leaves, ordered_tree}
-use Rattle.jsonc_tree.specs.Siblings.{row_of, siblings_after}
+use Rattle.jsonc_tree.specs.OrderedTree.{ordered_tree}
 use Rattle.jsonc_tree.specs.Tree.{Node, content_at, parent_at, children_at, place_at, IsTree, IsOver}
 use Rattle.jsonc_tree.specs.Values.{DocumentValueOf}
 use Rattle.jsonc_tree.proofs.Order.{parent_there}
-use Rattle.jsonc_nodes.specs.Kinds.{is_comment, is_newline, is_whitespace, is_comment_at, is_newline_at, is_whitespace_at}
+use Rattle.jsonc_nodes.specs.Kinds.{is_comment, is_newline, is_whitespace, is_whitespace_at}
 use Rattle.jsonc_build.specs.Lines.{is_line_comment}
 use Rattle.jsonc_sound.proofs.TriviaLeaves.{document_differs}
 use Rattle.jsonc_sound.proofs.TriviaValues.{document_kept}
@@ -21,7 +19,7 @@ use Rattle.jsonc_spaces.specs.Due.{begins_bare, ends_bare, seen_before, seen_beh
 use Rattle.jsonc_spaces.specs.Put.{AreChildren, AreSpaced, Prepared, nodes_of}
 use Rattle.jsonc_spaces.specs.declared.put.Spaces.{Spaces}
 use Rattle.jsonc_spaces.proofs.Quiet.{quiet_behind}
-use Rattle.jsonc_edit.specs.Comments.{blanks_from, newline_from, removed_from, due_without, IsRemoved, IsTakenOut, TakesOut, CommentRemoved, CommentTaken, leaves_gone, LosesComment, HasLeavesWithout, HasValueWithout, IsSoundWithout}
+use Rattle.jsonc_edit.specs.Comments.{blanks_from, newline_from, removed_from, due_without, IsRemoved, IsTakenOut, TakesOut, CommentRemoved, CommentTaken, leaves_gone, LosesComment}
 use Rattle.jsonc_edit.specs.Spaced.{SpacesPut}
 use Rattle.jsonc_edit.proofs.Elements.{Some_same}
 use Rattle.jsonc_edit.proofs.DueKept.{due_between_same}
