@@ -1,13 +1,14 @@
 -- A child of a tree gives way to a node that was built apart.
-use Rattle.std.proofs.Common.{◌≡◌, ◌≢◌, ℕ, ◌+◌, ◌<◌, ◌≤◌, ◌||◌, true, false, cond, List, [], ◌∷◌, length, get_or, slice_range, Some, None, Result, Ok, Err, OnErr, inl, inr, refl, sym, ap, subst, ◌∙◌, arith, eq-eqb}
+use Rattle.std.proofs.Common.{◌≡◌, ◌≢◌, ℕ, ◌+◌, ◌<◌, ◌≤◌, ◌||◌, true, false, cond, List, [], ◌∷◌, ◌++◌, length, get_or, slice_range, Option, Some, None, Result, Ok, Err, OnErr, inl, inr, if◌then◌else◌, refl, sym, ap, subst, ◌∙◌, arith, eq-eqb}
 use Rattle.std.proofs.lemmas.Bool.{cases_Bool, ne_eqb}
 use Rattle.std.proofs.lemmas.List.Edits.{get_or-between, length-between}
-use Rattle.std.specs.List.{splice}
+use Rattle.std.proofs.lemmas.List.Elements.{All-weaker}
+use Rattle.std.specs.List.{splice, All}
 use Rattle.jsonc_text.specs.Plain.{Plain, null, boolean, number, string, array, object}
 use Rattle.jsonc_tree.specs.Content.{Content}
-use Rattle.jsonc_tree.specs.Tree.{Node, parent_at, children_at, place_at, is_container_at, is_in, IsTree}
+use Rattle.jsonc_tree.specs.Tree.{Node, content_at, IsOver, parent_at, children_at, place_at, is_container_at, is_in, IsTree}
 use Rattle.jsonc_tree.specs.Changes.{CanJoin, Splices}
-use Rattle.jsonc_tree.specs.Building.{Builds}
+use Rattle.jsonc_tree.specs.Building.{Builds, Keeps}
 use Rattle.jsonc_tree.proofs.Order.{parent_there}
 use Rattle.jsonc_tree.proofs.Splicing.{in_at, out_from}
 use Rattle.jsonc_tree.proofs.Appending.{CanJoin-one}
@@ -15,11 +16,21 @@ use Rattle.jsonc_sound.specs.TreeChanges.{Top, IsElement, DocumentChanged}
 use Rattle.jsonc_from_input.specs.Layout.{Layout}
 use Rattle.jsonc_from_input.specs.Laid.{laid}
 use Rattle.jsonc_tree.specs.OrderedTree.{OrderedTree, ordered_tree}
+use Rattle.jsonc_seams.specs.Spaces.{is_bare}
+use Rattle.jsonc_spaces.specs.Due.{due_around, due_before, due_behind, listed}
+use Rattle.jsonc_spaces.specs.Put.{AreAtHand, AreChildren, AreSpaced, Prepared, nodes_of}
+use Rattle.jsonc_spaces.specs.declared.put.Spaces.{Spaces}
 use Rattle.jsonc_edit.specs.Changes.{top_at, ChangesAt, Replaces}
-use Rattle.jsonc_edit.specs.Replacing.{laid_top, GivesWay}
+use Rattle.jsonc_edit.specs.Replacing.{laid_top, TakesPlace, GivesWay}
 use Rattle.jsonc_edit.proofs.Elements.{Some_same}
 use Rattle.jsonc_edit.proofs.Splices.{joined_top, replaced_at_path}
-use Rattle.jsonc_edit.proofs.Kept.{at_kept, top_stays, tree_stays, over_no_old, place_kept, built_top}
+use Rattle.jsonc_edit.proofs.DueKept.{due_before_same, due_behind_same}
+use Rattle.jsonc_edit.proofs.Kept.{top_stays, over_no_old, built_top}
+use Rattle.jsonc_edit.proofs.Placed.{IsChild, around_children}
+use Rattle.jsonc_edit.proofs.Spacing.{Aside, AnySpaced, any_spaced}
+
+none_some : {k : ℕ} → None ≡ Some k → ⊥
+none_some e = cc
 
 -- a value is laid out as an element
 pub laid_element : (l : Layout) (v : Plain) → IsElement (laid l v).content
@@ -75,65 +86,148 @@ module _ (ns : List Node) (tree : IsTree ns) (n c : ℕ) (said : parent_at ns n 
         s.parents k ∙ ap (λ b. cond (b || false) (Some c) (cond (is_in k gone) None (parent_at ns k))) (ne_eqb k m ne)
         ∙ ap (λ b. cond b None (parent_at ns k)) (out_of_gone k apart)
 
--- Of the nodes a, n is a child of c, and m was built apart among the nodes b.
-module _ (a b : List Node) (tree : IsTree a) (n c m : ℕ) (now : Content) (below : OrderedTree) (said : parent_at a n ≡ Some c) (built : Builds a b m now below) where
-  there : (n < length a) × (c < length a)
-  there = parent_there a tree n c said
-
-  pub still_child : parent_at b n ≡ Some c
-  still_child = built.keeps.parent n there.0 ∙ said
-
+-- n is a child of c, and m is nobody's, and not over c
+module _ (b d : List Node) (tree : IsTree b) (n c m : ℕ) (said : parent_at b n ≡ Some c) (there : m < length b) (later : 0 < m) (alone : parent_at b m ≡ None) (apart : IsOver b m c → ⊥) where
   pub may_join : CanJoin b c (place_at b n) (place_at b n + 1) (m ∷ [])
-  may_join = CanJoin-one b m c (place_at b n) (place_at b n + 1) built.there (λ e. omega (arith, e, built.later, there.0)) built.alone (over_no_old a b tree built.keeps m c built.later there.1)
+  may_join = CanJoin-one b m c (place_at b n) (place_at b n + 1) there (λ e. omega (arith, e, later)) alone apart
 
-  module _ (d : List Node) (after : IsTree d) (element : IsElement now) (s : Splices b d c (place_at b n) (place_at b n + 1) (m ∷ [])) where
-    replaces : Replaces b d n m
-    replaces = record {
-      container = c;
-      tree = built.tree;
-      after = after;
-      parent = still_child;
-      element = subst IsElement (sym built.is) element;
-      join = may_join;
-      spliced = s;
-    }
+  no_child : n ≢ m
+  no_child e = none_some (sym alone ∙ ap (parent_at b) (sym e) ∙ said)
 
-    put_top : top_at b m ≡ record { content = now; below = below }
-    put_top = built_top built
+  module _ (after : IsTree d) (element : IsElement (content_at b m)) (s : Splices b d c (place_at b n) (place_at b n + 1) (m ∷ [])) where
+    pub replaces : Replaces b d n m
+    replaces = record { container = c; tree = tree; after = after; parent = said; element = element; join = may_join; spliced = s }
 
-    changed_there : ChangesAt a d n (record { content = now; below = below })
-    changed_there path at =
-        let first : DocumentChanged (top_at b n) (top_at b m) path (ordered_tree b 0) (ordered_tree d 0) = replaced_at_path b d n m replaces path (at_kept a b tree built.keeps path n at) in
-        let second : DocumentChanged (top_at a n) (top_at b m) path (ordered_tree b 0) (ordered_tree d 0) = subst (λ (t : Top). DocumentChanged t (top_at b m) path (ordered_tree b 0) (ordered_tree d 0)) (top_stays a b tree built.keeps built.tree n there.0) first in
-        let third : DocumentChanged (top_at a n) (record { content = now; below = below }) path (ordered_tree b 0) (ordered_tree d 0) = subst (λ (t : Top). DocumentChanged (top_at a n) t path (ordered_tree b 0) (ordered_tree d 0)) put_top second in
-        subst (λ (t : OrderedTree). DocumentChanged (top_at a n) (record { content = now; below = below }) path t (ordered_tree d 0)) (tree_stays a b tree built.keeps built.tree) third
+    pub takes_place : TakesPlace b d n m (top_at b m)
+    takes_place = record { replaces = replaces; alone = alone; is = refl }
 
-    same_container : (k : ℕ) → parent_at a n ≡ Some k → k ≡ c
-    same_container k e = Some_same k c (sym e ∙ said)
+-- what stands where, once m has taken the place of n
+pub record InPlace (old new : List Node) (n m : ℕ) (now : Top) : Type 0 where
+  pub changed : ChangesAt old new n now
+  pub put : top_at new m ≡ now
+  pub contents : (k : ℕ) → content_at new k ≡ content_at old k
+  pub children : (k : ℕ) → parent_at old n ≢ Some k → children_at new k ≡ children_at old k
+  pub row : (k : ℕ) → parent_at old n ≡ Some k → children_at new k ≡ splice (children_at old k) (place_at old n) (place_at old n + 1) (m ∷ [])
 
-    pub gives_way : GivesWay a d n m (record { content = now; below = below })
-    gives_way = record {
-      changed = changed_there;
-      put = joined_top b d n m replaces ∙ put_top;
-      fresh = built.later;
-      there = omega (arith, built.there, s.len);
-      parent = put_parent b built.tree n c still_child d m s ∙ sym said;
-      taken_out = gone_parent b built.tree n c still_child d m s (λ e. omega (arith, e, built.later, there.0));
-      contents = λ k h. s.content k ∙ built.keeps.content k h;
-      parents = λ k h ne. other_parent b built.tree n c still_child d m s k (λ e. omega (arith, e, built.later, h)) ne ∙ built.keeps.parent k h;
-      children = λ k h ne. (s.others k (λ e. ne (said ∙ ap Some (sym e)))).0 ∙ built.keeps.children k h;
+pub in_place : (old new : List Node) (n m : ℕ) (now : Top) → TakesPlace old new n m now → InPlace old new n m now
+in_place old new n m now t =
+    let r = t.replaces in
+    record {
+      changed = λ path at. subst (λ (w : Top). DocumentChanged (top_at old n) w path (ordered_tree old 0) (ordered_tree new 0)) t.is (replaced_at_path old new n m r path at);
+      put = joined_top old new n m r ∙ t.is;
+      contents = λ k. r.spliced.content k;
+      children = λ k ne. (r.spliced.others k (λ e. ne (r.parent ∙ ap Some (sym e)))).0;
       row = λ k e.
-          ap (children_at d) (same_container k e) ∙ s.children
-          ∙ ap (λ z. splice (children_at b c) z (z + 1) (m ∷ [])) (place_kept a b tree built.keeps n c said)
-          ∙ ap (λ l. splice l (place_at a n) (place_at a n + 1) (m ∷ [])) (built.keeps.children c there.1)
-          ∙ ap (λ z. splice (children_at a z) (place_at a n) (place_at a n + 1) (m ∷ [])) (sym (same_container k e));
+          let same : k ≡ r.container = Some_same k r.container (sym e ∙ r.parent) in
+          ap (children_at new) same ∙ r.spliced.children ∙ ap (λ z. splice (children_at old z) (place_at old n) (place_at old n + 1) (m ∷ [])) (sym same);
     }
 
--- so it is with the node that a value is laid out as
-pub value_gives_way : (a b d : List Node) → IsTree a → (n c m : ℕ) (l : Layout) (v : Plain) → parent_at a n ≡ Some c → Builds a b m (laid l v).content (laid l v).below → IsTree d
-    → Splices b d c (place_at b n) (place_at b n + 1) (m ∷ []) → GivesWay a d n m (laid_top l v)
-value_gives_way a b d tree n c m l v said built after s =
-    gives_way a b tree n c m (laid l v).content (laid l v).below said built d after (laid_element l v) s
+-- Of the nodes `old`, n is a child of c; m was built apart among the nodes `made`, and spaces were made; then these came in.
+module _ (old made ready spaced : List Node) (tree : IsTree old) (n c m : ℕ) (now : Content) (below : OrderedTree) (said : parent_at old n ≡ Some c) (built : Builds old made m now below) (element : IsElement now)
+    (prepared : Prepared made ready) where
+  low : (n < length old) × (c < length old)
+  low = parent_there old tree n c said
+
+  kept : Keeps (length old) old ready
+  kept = record {
+    len = omega (arith, built.keeps.len, prepared.keeps.len);
+    content = λ k h. prepared.keeps.content k (omega (arith, h, built.keeps.len)) ∙ built.keeps.content k h;
+    parent = λ k h. prepared.keeps.parent k (omega (arith, h, built.keeps.len)) ∙ built.keeps.parent k h;
+    children = λ k h. prepared.keeps.children k (omega (arith, h, built.keeps.len)) ∙ built.keeps.children k h;
+  }
+
+  pub ready_from_old : Prepared old ready
+  ready_from_old = record { keeps = kept; tree = prepared.tree }
+
+  child_ready : parent_at ready n ≡ Some c
+  child_ready = kept.parent n low.0 ∙ said
+
+  m_ready : m < length ready
+  m_ready = omega (arith, built.there, prepared.keeps.len)
+
+  m_element : IsElement (content_at ready m)
+  m_element = subst IsElement (sym (prepared.keeps.content m built.there ∙ built.is)) element
+
+  m_alone : parent_at ready m ≡ None
+  m_alone = prepared.keeps.parent m built.there ∙ built.alone
+
+  m_top : top_at ready m ≡ record { content = now; below = below }
+  m_top = top_stays made ready built.tree prepared.keeps prepared.tree m built.there ∙ built_top built
+
+  child_aside : (x : ℕ) → IsChild old x → Aside ready m x
+  child_aside x (p, told) =
+      let there = parent_there old tree x p told in
+      (p, kept.parent x there.0 ∙ told, over_no_old old ready tree kept m p built.later there.1)
+
+  all_aside : (xs : List ℕ) → All (IsChild old) xs → All (Aside ready m) xs
+  all_aside xs f = All-weaker (IsChild old) (Aside ready m) child_aside xs f
+
+  pub children_ready : (xs : List ℕ) → All (IsChild old) xs → All (IsChild ready) xs
+  children_ready xs f = All-weaker (IsChild old) (IsChild ready) (λ x (p, told). (p, kept.parent x (parent_there old tree x p told).0 ∙ told)) xs f
+
+  pub due_same : due_around ready n now ≡ due_around old n now
+  due_same = ap (λ o. cond (is_bare now) (listed o ++ listed (due_behind ready n)) []) (due_before_same old ready tree kept n low.0) ∙ ap (λ o. cond (is_bare now) (listed (due_before old n) ++ listed o) []) (due_behind_same old ready tree kept n low.0)
+
+  module _ (spaces : AreSpaced ready (due_around old n now) spaced) where
+    after : AnySpaced ready spaced m
+    after = any_spaced m (due_around old n now) ready spaced prepared.tree (all_aside (due_around old n now) (around_children old tree n c said now)) spaces
+
+    pub still_child : parent_at spaced n ≡ Some c
+    still_child = after.parent n c child_ready
+
+    pub still_there : m < length spaced
+    still_there = omega (arith, m_ready, after.len)
+
+    pub not_first_node : 0 < m
+    not_first_node = omega (arith, built.later, low.0)
+
+    pub still_alone : parent_at spaced m ≡ None
+    still_alone = after.alone m_element m_alone
+
+    pub still_apart : IsOver spaced m c → ⊥
+    still_apart over = over_no_old old ready tree kept m c built.later low.1 (after.over m n c child_ready over)
+
+    still_element : IsElement (content_at spaced m)
+    still_element = subst IsElement (sym (after.content m)) m_element
+
+    pub can_join : CanJoin spaced c (place_at spaced n) (place_at spaced n + 1) (m ∷ [])
+    can_join = may_join spaced spaced after.tree n c m still_child still_there not_first_node still_alone still_apart
+
+    pub gives_way : (new : List Node) → IsTree new → Splices spaced new c (place_at spaced n) (place_at spaced n + 1) (m ∷ []) → GivesWay old new n m (record { content = now; below = below })
+    gives_way new last s = record {
+      ready = ready;
+      spaced = spaced;
+      fresh = built.later;
+      prepared = ready_from_old;
+      spaces = subst (λ xs. AreSpaced ready xs spaced) (sym due_same) spaces;
+      place = subst (TakesPlace spaced new n m) (after.top m_ready ∙ m_top) (takes_place spaced new after.tree n c m still_child still_there not_first_node still_alone still_apart last still_element s);
+    }
+
+-- so it is with the node that a value is laid out as, and the spaces that were made for it
+module _ (old made ready : List Node) (tree : IsTree old) (n c m : ℕ) (l : Layout) (v : Plain) (said : parent_at old n ≡ Some c) (built : Builds old made m (laid l v).content (laid l v).below) (prepared : Prepared made ready)
+    (before behind : Option ℕ) (e : before ≡ due_before old n) (f : behind ≡ due_behind old n) (spaces : Spaces) (hand : AreAtHand ready (if is_bare (content_at made m) then listed before ++ listed behind else []) spaces) where
+  due_nodes : nodes_of spaces ≡ due_around old n (laid l v).content
+  due_nodes =
+      hand.are ∙ ap (λ w. if is_bare w then listed before ++ listed behind else []) built.is ∙ ap (λ o. if is_bare (laid l v).content then listed o ++ listed behind else []) e
+      ∙ ap (λ o. if is_bare (laid l v).content then listed (due_before old n) ++ listed o else []) f
+
+  pub value_children : AreChildren ready (nodes_of spaces)
+  value_children =
+      subst (AreChildren ready) (sym due_nodes)
+      (children_ready old made ready ready tree n c m (laid l v).content (laid l v).below said built (laid_element l v) prepared (due_around old n (laid l v).content) (around_children old tree n c said (laid l v).content))
+
+  module _ (spaced : List Node) (put : AreSpaced ready (nodes_of spaces) spaced) where
+    due_put : AreSpaced ready (due_around old n (laid l v).content) spaced
+    due_put = subst (λ xs. AreSpaced ready xs spaced) due_nodes put
+
+    pub value_child : parent_at spaced n ≡ Some c
+    value_child = still_child old made ready spaced tree n c m (laid l v).content (laid l v).below said built (laid_element l v) prepared due_put
+
+    pub value_join : CanJoin spaced c (place_at spaced n) (place_at spaced n + 1) (m ∷ [])
+    value_join = can_join old made ready spaced tree n c m (laid l v).content (laid l v).below said built (laid_element l v) prepared due_put
+
+    pub value_gives_way : (new : List Node) → IsTree new → Splices spaced new c (place_at spaced n) (place_at spaced n + 1) (m ∷ []) → GivesWay old new n m (laid_top l v)
+    value_gives_way = gives_way old made ready spaced tree n c m (laid l v).content (laid l v).below said built (laid_element l v) prepared due_put
 
 -- what holds anyway holds of a refusal
 pub where_refused : {T E P : Type 0} (r : Result T E) → P → OnErr r P

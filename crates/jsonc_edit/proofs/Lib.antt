@@ -19,3 +19,10 @@ pub mod NewPaths
 pub mod OneValue
 pub mod ReplacedValues
 pub mod Removal
+pub mod Held
+pub mod Apart
+pub mod Placed
+pub mod Spacing
+pub mod DueKept
+pub mod TakingOut
+pub mod Refusals

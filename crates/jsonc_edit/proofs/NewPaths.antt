@@ -1,17 +1,16 @@
 -- A new node stands at the path of the node that gave way to it.
-use Rattle.std.proofs.Common.{◌≡◌, ◌≢◌, ℕ, ◌+◌, ◌<◌, Bool, true, List, [], ◌∷◌, ◌++◌, length, take, drop, slice_get, slice_index, filter, Some, ◌⊎◌, inl, inr, refl, sym, ap, subst, ◌∙◌, arith}
+use Rattle.std.proofs.Common.{◌≡◌, ◌≢◌, ℕ, ◌+◌, Bool, true, List, [], ◌∷◌, ◌++◌, length, take, drop, slice_get, slice_index, filter, Some, ◌⊎◌, inl, inr, refl, sym, ap, subst, ◌∙◌}
 use Rattle.std.proofs.lemmas.Bool.{cases_Bool}
-use Rattle.std.proofs.lemmas.List.{get_or-take, length-take}
 use Rattle.std.specs.List.{splice}
 use Rattle.jsonc_tree.specs.Tree.{Node, parent_at, children_at, place_at, IsTree, IsOver}
-use Rattle.jsonc_tree.proofs.Order.{not_over_parent, parent_there}
+use Rattle.jsonc_tree.proofs.Order.{not_over_parent}
 use Rattle.jsonc_tree.proofs.Over.{over_up}
 use Rattle.jsonc_nodes.specs.Kinds.{is_element, is_element_at}
 use Rattle.jsonc_nodes.specs.Siblings.{elements_at}
 use Rattle.jsonc_sound.specs.TreeChanges.{Top, IsElement}
 use Rattle.jsonc_edit.specs.Paths.{IsElementOf, StepsTo, LeadsTo, itself, step, IsAt}
-use Rattle.jsonc_edit.specs.Replacing.{GivesWay}
 use Rattle.jsonc_edit.proofs.Elements.{taken, left, StandsAt, stands_at}
+use Rattle.jsonc_edit.proofs.GivingWay.{InPlace}
 use Rattle.jsonc_edit.proofs.Kept.{filter_same}
 use Rattle.jsonc_edit.proofs.Uniqueness.{element_parent, leads_over, no_way_back, one_over}
 
@@ -25,17 +24,17 @@ found_behind test (x ∷ front) m rest h =
       | inr fails ↦ ap (λ l. slice_get l (length (filter test (x ∷ front)))) (left test x (front ++ m ∷ rest) fails) ∙ ap (λ l. slice_get (filter test (front ++ m ∷ rest)) (length l)) (left test x front fails) ∙ others
     ]
 
-module _ (old new : List Node) (tree : IsTree old) (n m : ℕ) (now : Top) (g : GivesWay old new n m now) (element : IsElement now.content) where
+module _ (old new : List Node) (tree : IsTree old) (n m : ℕ) (now : Top) (g : InPlace old new n m now) (element : IsElement now.content) where
   new_element : is_element_at new m ≡ true
   new_element = subst IsElement (sym (ap (λ (t : Top). t.content) g.put)) element
 
-  same_kind : (k : ℕ) → k < length old → is_element_at new k ≡ is_element_at old k
-  same_kind k h = ap is_element (g.contents k h)
+  same_kind : (k : ℕ) → is_element_at new k ≡ is_element_at old k
+  same_kind k = ap is_element (g.contents k)
 
-  row_stays : (p : ℕ) → p < length old → parent_at old n ≢ Some p → elements_at new p ≡ elements_at old p
-  row_stays p there ne =
-      ap (filter (is_element_at new)) (g.children p there ne)
-      ∙ filter_same (is_element_at new) (is_element_at old) (children_at old p) (λ k h. same_kind (slice_index (children_at old p) k) (tree.there p k h))
+  row_stays : (p : ℕ) → parent_at old n ≢ Some p → elements_at new p ≡ elements_at old p
+  row_stays p ne =
+      ap (filter (is_element_at new)) (g.children p ne)
+      ∙ filter_same (is_element_at new) (is_element_at old) (children_at old p) (λ k h. same_kind (slice_index (children_at old p) k))
 
   -- in the row of the old node
   put_element : (p i : ℕ) → IsElementOf old p i n → IsElementOf new p i m
@@ -46,9 +45,7 @@ module _ (old new : List Node) (tree : IsTree old) (n m : ℕ) (now : Top) (g : 
       let front : List ℕ = take at.0 cs in
       let back : List ℕ = drop (at.0 + 1) cs in
       let kids : children_at new p ≡ front ++ m ∷ back = g.row p (element_parent old tree p i n e) ∙ ap (λ z. splice cs z (z + 1) (m ∷ [])) place in
-      let kinds : filter (is_element_at new) front ≡ filter (is_element_at old) front = filter_same (is_element_at new) (is_element_at old) front (λ k h.
-      let low : k < at.0 = omega (arith, h, at.1, length-take at.0 cs) in
-      same_kind (slice_index front k) (subst (λ j. j < length old) (sym (get_or-take at.0 cs k 0 low)) (tree.there p k (omega (arith, low, at.1))))) in
+      let kinds : filter (is_element_at new) front ≡ filter (is_element_at old) front = filter_same (is_element_at new) (is_element_at old) front (λ k h. same_kind (slice_index front k)) in
       let count : length (filter (is_element_at new) front) ≡ i = ap length kinds ∙ at.4 in
       ap (λ l. slice_get (filter (is_element_at new) l) i) kids
       ∙ subst (λ j. slice_get (filter (is_element_at new) (front ++ m ∷ back)) j ≡ Some m) count (found_behind (is_element_at new) front m back new_element)
@@ -57,7 +54,7 @@ module _ (old new : List Node) (tree : IsTree old) (n m : ℕ) (now : Top) (g : 
   other_element : (p i q : ℕ) → IsElementOf old p i q → q ≢ n → IsOver old q n → IsElementOf new p i q
   other_element p i q e ne over =
       let said = element_parent old tree p i q e in
-      ap (λ l. slice_get l i) (row_stays p (parent_there old tree q p said).1 (λ told. ne (one_over old tree p q n n said told over IsOver.itself))) ∙ e
+      ap (λ l. slice_get l i) (row_stays p (λ told. ne (one_over old tree p q n n said told over IsOver.itself))) ∙ e
 
   -- from the old node the path ended, and from a value above it, it leads to the new one
   abbrev Leads : ℕ → List ℕ → Type 0
@@ -73,14 +70,12 @@ module _ (old new : List Node) (tree : IsTree old) (n m : ℕ) (now : Top) (g : 
   steps_from : (v i q : ℕ) (path : List ℕ) → StepsTo old v i q → IsOver old q n → Leads q path → LeadsTo new m v (i ∷ path)
   steps_from v i q path (StepsTo.in_array a e) over leads =
       let w = leads_from v i q path e over leads in
-      let there : v < length old = (parent_there old tree q v (element_parent old tree v i q e)).1 in
-      step (StepsTo.in_array (g.contents v there ∙ a) w.1) w.2
+      step (StepsTo.in_array (g.contents v ∙ a) w.1) w.2
   steps_from v i q path (StepsTo.in_object {r = r} o f h) over leads =
       let w = leads_from r 1 q path h.1 over leads in
       let held : parent_at old q ≡ Some r = element_parent old tree r 1 q h.1 in
       let ne : r ≢ n = λ e. not_over_parent old tree q n (held ∙ ap Some e) over in
-      let there = parent_there old tree r v (element_parent old tree v i r f) in
-      step (StepsTo.in_object (g.contents v there.1 ∙ o) (other_element v i r f ne (over_up old q r n held over)) (g.contents r there.0 ∙ h.0, w.1)) w.2
+      step (StepsTo.in_object (g.contents v ∙ o) (other_element v i r f ne (over_up old q r n held over)) (g.contents r ∙ h.0, w.1)) w.2
 
   leads_now : (v : ℕ) (path : List ℕ) → LeadsTo old n v path → Leads v path
   leads_now v _ itself = inl (refl, itself)

@@ -1,11 +1,11 @@
 -- What leaves with a comment is trivia, and it leaves the ordered tree.
-use Rattle.std.proofs.Common.{◌≡◌, ◌≢◌, ℕ, zero, suc, ◌+◌, ◌-◌, ◌<◌, ◌≤◌, true, false, List, [], ◌∷◌, ◌++◌, length, get_or, map, slice_index, slice_range, take, drop, Some, None, IsTrue, inl, inr, refl, sym, ap, subst, ◌∙◌, arith, length-drop, get_or-drop}
+use Rattle.std.proofs.Common.{◌≡◌, ◌≢◌, ℕ, zero, suc, ◌+◌, ◌-◌, ◌<◌, ◌≤◌, Bool, true, false, ◌&&◌, List, [], ◌∷◌, ◌++◌, length, get_or, map, slice_index, slice_range, take, drop, reverse, Option, Some, None, IsTrue, inl, inr, refl, sym, ap, subst, ◌∙◌, arith, length-drop, get_or-drop}
 use Rattle.std.proofs.lemmas.Bool.{cases_Bool, cases_lt}
 use Rattle.std.proofs.lemmas.List.{take_more, map-append}
 use Rattle.std.proofs.lemmas.List.Edits.{get_or-between, length-between, split_between}
 use Rattle.jsonc_tree.specs.Content.{Content, root, is_container}
 use Rattle.jsonc_tree.specs.Changes.{CanJoin}
-use Rattle.jsonc_tree.specs.OrderedTree.{OrderedTree, none, more, followed_by, Shows, shows_none, shows_more, ordered_tree, Replaced, here, deeper, later}
+use Rattle.jsonc_tree.specs.OrderedTree.{OrderedTree, none, more, leaves, followed_by, Shows, shows_none, shows_more, ordered_tree, Replaced, here, deeper, later}
 use Rattle.jsonc_tree.specs.Tree.{Node, content_at, parent_at, children_at, place_at, IsTree, IsOver}
 use Rattle.jsonc_tree.proofs.Around.{Shows-spliced, Replaced-splice}
 use Rattle.jsonc_tree.proofs.Order.{over_step, parent_there}
@@ -13,6 +13,18 @@ use Rattle.jsonc_tree.proofs.Rows.{Shows-part}
 use Rattle.jsonc_nodes.specs.Kinds.{is_whitespace, is_newline, is_comment, is_trivia, is_whitespace_at, is_newline_at, is_comment_at, is_trivia_at}
 use Rattle.jsonc_build.specs.Lines.{is_line_comment}
 use Rattle.jsonc_sound.specs.TriviaChanges.{AreTrivia, leaves_then, LeavesChanged, StretchChanged, in_root, inside, EndsInComment, one_comment, line_comment}
+use Rattle.jsonc_text.specs.Options.{Options}
+use Rattle.jsonc_tree.specs.Order.{with_parent}
+use Rattle.jsonc_tree.specs.Siblings.{row_of, siblings_after}
+use Rattle.jsonc_seams.specs.Adjacent.{or_else}
+use Rattle.jsonc_seams.specs.SoundTrees.{SoundTree}
+use Rattle.jsonc_seams.specs.Spaces.{meet}
+use Rattle.jsonc_seams.proofs.Apart.{document_alone}
+use Rattle.jsonc_seams.proofs.RowsTell.{kept_without_comment_in_row}
+use Rattle.jsonc_seams.proofs.RowsWithin.{both_within}
+use Rattle.jsonc_spaces.specs.Due.{nearest, begins_bare, ends_bare, seen_before, seen_behind, behind_holder}
+use Rattle.jsonc_spaces.proofs.Whole.{Whole, whole_before, whole_behind, whole_within}
+use Rattle.jsonc_spaces.proofs.Meeting.{meet_bare}
 use Rattle.jsonc_edit.specs.Changes.{row_below}
 use Rattle.jsonc_edit.specs.Comments.{blanks_from, newline_from, removed_from, CommentRemoved, leaves_gone, TakesTrivia}
 use Rattle.jsonc_edit.proofs.Walk.{Shows-row_below, document_is}
@@ -107,7 +119,7 @@ module _ (ns : List Node) (tree : IsTree ns) where
     abbrev from : ℕ
     from = removed_from ns c n
 
-    from_before : from ≤ place
+    pub from_before : from ≤ place
     from_before =
         elim (cases_Bool (is_line_comment (content_at ns n))) [
           | inl h ↦
@@ -299,3 +311,47 @@ module _ (old new : List Node) (n : ℕ) (r : CommentRemoved old new n) where
     trivia = all_trivia;
     ends = ends_gone old r.tree c n r.parent r.comment;
   }
+
+  -- a sound document stays sound, if no two literals without quotes meet where the comment was
+  module _ (o : Options) (s : SoundTree o (ordered_tree old 0)) where
+    abbrev first_gone : ℕ
+    first_gone = slice_index row i
+
+    i_low : i < length row
+    i_low = omega (arith, from_before old r.tree c n r.parent, r.tree.within n c r.parent)
+
+    first_parent : parent_at old first_gone ≡ Some c
+    first_parent = r.tree.named c i i_low
+
+    first_place : place_at old first_gone ≡ i
+    first_place = r.tree.placed c i i_low
+
+    first_row : row_of old first_gone ≡ row
+    first_row = ap (λ p. with_parent p (children_at old)) first_parent
+
+    comment_row : row_of old n ≡ row
+    comment_row = ap (λ p. with_parent p (children_at old)) r.parent
+
+    seen_first : seen_before old first_gone ≡ nearest old (reverse (take i row))
+    seen_first = ap (λ k. nearest old (reverse (take k (row_of old first_gone)))) first_place ∙ ap (λ l. nearest old (reverse (take i l))) first_row
+
+    not_both : (a : Bool) (x y : Option ℕ) → a && begins_bare old (or_else x y) ≡ false → a && begins_bare old x ≡ false
+    not_both true None y e = refl
+    not_both true (Some k) y e = e
+    not_both false x y e = refl
+
+    pub sound_without : ends_bare old (seen_before old first_gone) && begins_bare old (seen_behind old n) ≡ false → SoundTree o (ordered_tree new 0)
+    sound_without quiet =
+        let it = replaced parts in
+        let rows : Replaced (followed_by parts.front (leaves_then (leaves_gone r) parts.back)) (followed_by parts.front parts.back) (ordered_tree old 0) (ordered_tree new 0) =
+        subst (λ t. Replaced t (followed_by parts.front parts.back) (ordered_tree old 0) (ordered_tree new 0)) (row_was parts) it in
+        let whole : Whole o (followed_by parts.front (followed_by parts.inner parts.back)) = subst (Whole o) parts.joined (whole_within o (document_alone o s.shaped) (both_within it).old) in
+        let front_whole = whole_before o parts.front (followed_by parts.inner parts.back) whole in
+        let back_whole = whole_behind o parts.inner parts.back (whole_behind o parts.front (followed_by parts.inner parts.back) whole) in
+        let behind : begins_bare old (nearest old (siblings_after old n)) ≡ begins_bare old (nearest old (drop j row)) = ap (λ l. begins_bare old (nearest old (drop j l))) comment_row in
+        let none : ends_bare old (seen_before old first_gone) && begins_bare old (nearest old (siblings_after old n)) ≡ false = not_both (ends_bare old (seen_before old first_gone)) (nearest old (siblings_after old n)) (behind_holder old n) quiet in
+        let apart : meet (leaves parts.front) (leaves parts.back) ≡ false =
+        meet_bare old o parts.before front_whole parts.behind back_whole
+        ∙ ap (λ x. ends_bare old x && begins_bare old (nearest old (drop j row))) (sym seen_first)
+        ∙ ap (λ b. ends_bare old (seen_before old first_gone) && b) (sym behind) ∙ none in
+        kept_without_comment_in_row o (ordered_tree old 0) s parts.front parts.back (leaves_gone r) (ordered_tree new 0) rows all_trivia (ends_gone old r.tree c n r.parent r.comment) apart

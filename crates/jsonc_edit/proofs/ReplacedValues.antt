@@ -1,42 +1,49 @@
 -- A value that was replaced, as the document tells or by a layout that fits: what the document is then.
-use Rattle.std.proofs.Common.{◌≡◌, ℕ, false, List, Option, Some, None, Result, Ok, Err, IfOk, IfSome, sym, subst}
+use Rattle.std.proofs.Common.{◌≡◌, ℕ, ◌<◌, false, List, [], length, Option, Some, None, Result, Ok, Err, IfOk, IfSome, IsTrue, sym, subst, ◌∙◌, arith}
 use Rattle.jsonc_text.specs.Options.{Options}
 use Rattle.jsonc_text.specs.Plain.{Plain}
 use Rattle.jsonc_text.specs.Grammar.{IsDocument}
 use Rattle.jsonc_tree.specs.OrderedTree.{OrderedTree, ordered_tree, leaves}
-use Rattle.jsonc_tree.specs.Tree.{Node, parent_at, IsTree, IsOver}
+use Rattle.jsonc_tree.specs.Tree.{Node, content_at, children_at, parent_at, IsTree, IsOver}
+use Rattle.jsonc_tree.proofs.Order.{parent_there}
 use Rattle.jsonc_tree.specs.Values as values
 use Rattle.jsonc_tree.specs.Values.{HasNoValue, DocumentValueOf}
 use Rattle.jsonc_tree.proofs.Over.{over_up}
 use Rattle.jsonc_build.specs.Shape.{PrintsDocument, printed_text}
-use Rattle.jsonc_build.proofs.ShapeValues.{document_printed}
+use Rattle.jsonc_build.specs.Lines.{LinesEnd}
+use Rattle.jsonc_nodes.specs.Kinds.{is_element_at}
 use Rattle.jsonc_from_input.specs.Layout.{Layout}
 use Rattle.jsonc_from_input.proofs.Meanings.{laid_value}
-use Rattle.jsonc_sound.specs.Sound.{Sound, IsNewValue}
-use Rattle.jsonc_sound.specs.TreeChanges.{Top, ElementChanged, DocumentChanged, in_root, leaves_of}
+use Rattle.jsonc_sound.specs.Sound.{IsValueBefore}
+use Rattle.jsonc_sound.specs.TreeChanges.{Top, IsElement, ElementChanged, DocumentChanged, in_root, leaves_of}
 use Rattle.jsonc_sound.specs.Laws.{DiffersIn}
 use Rattle.jsonc_sound.proofs.FirstNodes.{here, over, beyond, meets_first, none_changed, no_element}
-use Rattle.jsonc_sound.proofs.Followers.{value_ends}
 use Rattle.jsonc_sound.proofs.LeavesAround.{document_differs}
-use Rattle.jsonc_sound.proofs.Lines.{document_lines}
-use Rattle.jsonc_sound.proofs.Shapes.{document_kept}
 use Rattle.jsonc_sound.proofs.Values.{document_change}
+use Rattle.jsonc_seams.specs.SoundTrees.{SoundTree}
+use Rattle.jsonc_seams.specs.Spaces.{is_bare}
+use Rattle.jsonc_seams.proofs.LooseShapes.{document_printed}
+use Rattle.jsonc_spaces.specs.Due.{due_around}
+use Rattle.jsonc_spaces.proofs.Quiet.{none_due}
 use Rattle.jsonc_edit.specs.Changes.{top_at}
 use Rattle.jsonc_edit.specs.Paths.{IsAt}
 use Rattle.jsonc_edit.specs.Reading.{layout_for}
 use Rattle.jsonc_edit.specs.Replacing.{laid_top, GivesWay}
+use Rattle.jsonc_edit.specs.Spaced.{SpacesPut}
 use Rattle.jsonc_edit.specs.Writing.{FitsLayout, IsWritable}
 use Rattle.jsonc_edit.specs.Written.{IsWrittenAt, Writes}
 use Rattle.jsonc_edit.specs.Laws.{ChangesValueLaidOut, ChangesValueReplaced, WritesLaidOut, WritesReplaced}
+use Rattle.jsonc_edit.proofs.Apart.{stays_sound_apart}
+use Rattle.jsonc_edit.proofs.Elements.{stands_at}
 use Rattle.jsonc_edit.proofs.Fitting.{layout_fits}
+use Rattle.jsonc_edit.proofs.GivingWay.{in_place}
+use Rattle.jsonc_edit.proofs.Held.{HeldAt, by_root, by_array, by_property, held_at}
+use Rattle.jsonc_edit.proofs.Kept.{at_kept, top_stays, tree_stays}
+use Rattle.jsonc_edit.proofs.Placed.{IsChild, around_placed}
+use Rattle.jsonc_edit.proofs.Spacing.{Spaced, all_spaced, spaces_sound, spaces_value}
 use Rattle.jsonc_edit.proofs.OneValue.{document_once}
 use Rattle.jsonc_edit.proofs.Uniqueness.{leads_over, element_parent}
 use Rattle.jsonc_edit.proofs.Writable.{value_may_stand}
-
--- a sound document in which a value gives way to a whole value
-pub stays_sound : (o : Options) → o.missing_commas ≡ false → {was now : Top} {path : List ℕ} {t u : OrderedTree} (v : Plain) → DocumentChanged was now path t u → IsNewValue o now v → Sound o t → Sound o u
-stays_sound o commas v changed fit s =
-    record { shaped = document_kept o commas (λ r e. value_ends o r e fit.shaped) changed s.shaped; lines = document_lines fit.lines changed s.lines }
 
 -- a document in which an element gives way has a value
 no_value_there : {was now : Top} {i : ℕ} {row new : OrderedTree} → HasNoValue row → ElementChanged was now i row new → ⊥
@@ -62,50 +69,113 @@ means_some o changed (None, text, tree) = absurd (some_value o changed tree)
 means_some o changed (Some x, text, tree) = record { value = x; text = text; tree = tree }
 
 -- a sound document prints the value that it has
-prints_value : (o : Options) (t : OrderedTree) (x : Plain) → Sound o t → DocumentValueOf o t (Some x) → IsDocument o (printed_text t) (Some x)
+prints_value : (o : Options) (t : OrderedTree) (x : Plain) → SoundTree o t → DocumentValueOf o t (Some x) → IsDocument o (printed_text t) (Some x)
 prints_value o t x s value =
     let known = document_printed o t s.shaped s.lines in
     subst (IsDocument o (printed_text t)) (document_once o t known.0 (Some x) known.2 value) known.1
+
+-- a sound document has the value that it has once spaces have come
+means_first : (o : Options) {t u : OrderedTree} → SpacesPut t u → SoundTree o t → (x : Plain) → DocumentValueOf o u (Some x) → IsDocument o (printed_text t) (Some x) × DocumentValueOf o t (Some x)
+means_first o {t} {u} puts s x value =
+    let known = document_printed o t s.shaped s.lines in
+    let same : known.0 ≡ Some x = document_once o u known.0 (Some x) (spaces_value o known.0 puts known.2) value in
+    (subst (IsDocument o (printed_text t)) same known.1, subst (DocumentValueOf o t) same known.2)
 
 -- what stands at a path is a node of the document
 over_at : (ns : List Node) → IsTree ns → (path : List ℕ) (n : ℕ) → IsAt ns path n → IsOver ns 0 n
 over_at ns tree path n (v, e, leads) = over_up ns v 0 n (element_parent ns tree 0 0 v e) (leads_over ns tree n v path leads)
 
+-- it is an element, and somebody's child
+pub at_child : (ns : List Node) → IsTree ns → (n : ℕ) → HeldAt ns n → IsChild ns n × IsElement (content_at ns n)
+at_child ns tree n (by_root e) = ((0, element_parent ns tree 0 0 n e), (stands_at (is_element_at ns) (children_at ns 0) 0 n e).3)
+at_child ns tree n (by_array p i path at a e) = ((p, element_parent ns tree p i n e), (stands_at (is_element_at ns) (children_at ns p) i n e).3)
+at_child ns tree n (by_property p r i path at o e held) = ((r, element_parent ns tree r 1 n held.1), (stands_at (is_element_at ns) (children_at ns r) 1 n held.1).3)
+
+-- n, which stands at the path, has given way to m
+module _ (old new : List Node) (n m : ℕ) (now : Top) (tree : IsTree old) (g : GivesWay old new n m now) (path : List ℕ) (at : IsAt old path n) where
+  ready_at : IsAt g.ready path n
+  ready_at = at_kept old g.ready tree g.prepared.keeps path n at
+
+  ready_child : IsChild g.ready n × IsElement (content_at g.ready n)
+  ready_child = at_child g.ready g.prepared.tree n (held_at g.ready path n ready_at)
+
+  ready_over : IsOver g.ready 0 n
+  ready_over = over_at g.ready g.prepared.tree path n ready_at
+
+  pub spaced : Spaced g.ready g.spaced n
+  spaced =
+      all_spaced n (due_around g.ready n now.content) g.ready g.spaced g.prepared.tree
+      (around_placed g.ready g.prepared.tree n ready_child.0.0 ready_child.0.1 ready_over now.content ready_child.1) g.spaces
+
+  pub spaced_at : IsAt g.spaced path n
+  spaced_at = spaced.at path n ready_at
+
+  -- spaces have come into the document
+  pub put : SpacesPut (ordered_tree old 0) (ordered_tree g.spaced 0)
+  put = subst (λ t. SpacesPut t (ordered_tree g.spaced 0)) (tree_stays old g.ready tree g.prepared.keeps g.prepared.tree) spaced.put
+
+  n_there : n < length old
+  n_there =
+      let said = (at_child old tree n (held_at old path n at)).0 in
+      (parent_there old tree n said.0 said.1).0
+
+  top_is : top_at g.spaced n ≡ top_at old n
+  top_is = spaced.top (omega (arith, n_there, g.prepared.keeps.len)) ∙ top_stays old g.ready tree g.prepared.keeps g.prepared.tree n n_there
+
+  -- and then it has changed at the path
+  pub changed : DocumentChanged (top_at old n) now path (ordered_tree g.spaced 0) (ordered_tree new 0)
+  changed = subst (λ (t : Top). DocumentChanged t now path (ordered_tree g.spaced 0) (ordered_tree new 0)) top_is ((in_place g.spaced new n m now g.place).changed path spaced_at)
+
+  -- a sound document stays sound
+  pub sound_still : (o : Options) → SoundTree o (ordered_tree old 0) → IsValueBefore o now [] → LinesEnd false now.below → SoundTree o (ordered_tree new 0)
+  sound_still o s fit lines =
+      let is = g.place.is in
+      stays_sound_apart o g.spaced new path n m spaced.tree (spaces_sound o put s) spaced_at g.place.replaces (subst (λ (t : Top). IsValueBefore o t []) (sym is) fit) (subst (λ (t : Top). LinesEnd false t.below) (sym is) lines)
+      (λ bare. none_due g.ready g.spaced n g.prepared.tree now.content g.spaces (subst (λ (t : Top). IsTrue (is_bare t.content)) is bare))
+
 module _ (o : Options) (old new : List Node) (n m : ℕ) where
   -- under all options the value changes
   pub laid_out_changes : (layout : Layout) (v : Plain) → ChangesValueLaidOut o old new n m layout v
-  laid_out_changes layout v texts g path x value at = document_change o x v (g.changed path at) (laid_value o layout v texts) value
+  laid_out_changes layout v tree texts g path x value at =
+      document_change o x v (changed old new n m (laid_top layout v) tree g path at) (laid_value o layout v texts) (spaces_value o (Some x) (put old new n m (laid_top layout v) tree g path at) value)
 
   pub replaced_changes : (v : Plain) → ChangesValueReplaced o old new n m v
-  replaced_changes v texts r = laid_out_changes (layout_for old r.0 n) v texts r.2
+  replaced_changes v tree texts r = laid_out_changes (layout_for old r.0 n) v tree texts r.2
 
-  -- where no comma may be missing it is written
-  written_at : (layout : Layout) (v : Plain) (path : List ℕ) → o.missing_commas ≡ false → Sound o (ordered_tree old 0) → IsAt old path n → FitsLayout o layout → IsWritable o v → GivesWay old new n m (laid_top layout v)
+  -- it is written
+  written_at : (layout : Layout) (v : Plain) (path : List ℕ) → IsTree old → SoundTree o (ordered_tree old 0) → IsAt old path n → FitsLayout o layout → IsWritable o v → GivesWay old new n m (laid_top layout v)
       → IsWrittenAt o v path (top_at old n) (top_at new m) (ordered_tree old 0) (ordered_tree new 0)
-  written_at layout v path commas s at f w g =
-      let changed = g.changed path at in
-      let was = means_some o changed (document_printed o (ordered_tree old 0) s.shaped s.lines) in
-      let now = laid_out_changes layout v w.texts g path was.value was.tree at in
-      let sound = stays_sound o commas v changed (value_may_stand o layout v f w) s in
+  written_at layout v path tree s at f w g =
+      let puts = put old new n m (laid_top layout v) tree g path at in
+      let change = changed old new n m (laid_top layout v) tree g path at in
+      let before = spaces_sound o puts s in
+      let is = in_place g.spaced new n m (laid_top layout v) g.place in
+      let was = means_some o change (document_printed o (ordered_tree g.spaced 0) before.shaped before.lines) in
+      let first = means_first o puts s was.value was.tree in
+      let now = laid_out_changes layout v tree w.texts g path was.value first.1 at in
+      let fit = value_may_stand o layout v f w in
+      let sound = sound_still old new n m (laid_top layout v) tree g path at o s fit.shaped fit.lines in
       record {
         given_up = now.0;
         before = was.value;
         after = now.1;
-        old_text = was.text;
+        spaced = ordered_tree g.spaced 0;
+        old_text = first.0;
         new_text = prints_value o (ordered_tree new 0) now.1 sound now.4;
         changed = now.3;
-        around = subst (λ (t : Top). DiffersIn (leaves_of (top_at old n)) (leaves_of t) (leaves (ordered_tree old 0)) (leaves (ordered_tree new 0))) (sym g.put) (document_differs changed);
+        spaces = puts;
+        around = subst (λ (t : Top). DiffersIn (leaves_of (top_at old n)) (leaves_of t) (leaves (ordered_tree g.spaced 0)) (leaves (ordered_tree new 0))) (sym is.put) (document_differs change);
         sound = sound;
       }
 
   pub laid_out_written : (layout : Layout) (v : Plain) → WritesLaidOut o old new n m layout v
-  laid_out_written layout v f g path commas s at w = written_at layout v path commas s at f w g
+  laid_out_written layout v tree f g path s at w = written_at layout v path tree s at f w g
 
   -- the layout that the document tells fits
   pub replaced_written : (v : Plain) → WritesReplaced o old new n m v
-  replaced_written v tree r path commas s at w =
+  replaced_written v tree r path s at w =
       let fits = layout_fits o old r.0 n tree s.shaped (over_at old tree path n at) r.1 in
-      written_at (layout_for old r.0 n) v path commas s at fits w r.2
+      written_at (layout_for old r.0 n) v path tree s at fits w r.2
 
 -- what a call that replaces n answers is written
 pub answer_writes : {E : Type 0} (o : Options) (old new : List Node) (n c : ℕ) (layout : Layout) (v : Plain) → IsTree old → parent_at old n ≡ Some c → layout ≡ layout_for old c n → (r : Result (Option ℕ) E)

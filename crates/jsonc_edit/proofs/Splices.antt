@@ -19,7 +19,7 @@ use Rattle.jsonc_edit.proofs.Elements.{Some_same, StandsAt, stands_at}
 use Rattle.jsonc_edit.proofs.Uniqueness.{element_parent}
 use Rattle.jsonc_edit.proofs.Walk.{Shows-row_below, ChangedIn, RowChanged, apart_kept, top_kept, row_changed, document_changed, changed_over}
 
-spliced_in : (old new : List Node) (c i j : ℕ) (xs : List ℕ) → IsTree old → Splices old new c i j xs → ChangedIn old new c
+pub spliced_in : (old new : List Node) (c i j : ℕ) (xs : List ℕ) → IsTree old → Splices old new c i j xs → ChangedIn old new c
 spliced_in old new c i j xs tree spliced = record {
   tree = tree;
   content = λ n ne. spliced.content n;

@@ -22,7 +22,7 @@ leads_further : (ns : List Node) (p v i n : ℕ) (path : List ℕ) → LeadsTo n
 leads_further ns p _ i n _ itself s = step s itself
 leads_further ns p v i n _ (step {q = q} {path = path} t rest) s = step t (leads_further ns p q i n path rest s)
 
-at_further : (ns : List Node) (p i n : ℕ) (path : List ℕ) → IsAt ns path p → StepsTo ns p i n → IsAt ns (path ++ i ∷ []) n
+pub at_further : (ns : List Node) (p i n : ℕ) (path : List ℕ) → IsAt ns path p → StepsTo ns p i n → IsAt ns (path ++ i ∷ []) n
 at_further ns p i n path (v, e, leads) s = (v, e, leads_further ns p v i n path leads s)
 
 module _ (ns : List Node) (tree : IsTree ns) where

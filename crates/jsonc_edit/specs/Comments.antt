@@ -5,14 +5,17 @@ use Rattle.jsonc_text.specs.Plain.{Plain}
 use Rattle.jsonc_tree.specs.Content.{Content, root, array, token, whitespace, newline, comment}
 use Rattle.jsonc_tree.specs.declared.node.CstNewlineKind.TheVariants.{LineFeed}
 use Rattle.jsonc_tree.specs.Changes.{Splices}
-use Rattle.jsonc_tree.specs.OrderedTree.{leaves, ordered_tree}
+use Rattle.jsonc_tree.specs.OrderedTree.{OrderedTree, leaves, ordered_tree}
 use Rattle.jsonc_tree.specs.Tree.{Node, content_at, parent_at, children_at, place_at, IsTree, IsOver}
 use Rattle.jsonc_tree.specs.Values.{DocumentValueOf}
 use Rattle.jsonc_nodes.specs.Kinds.{is_whitespace_at, is_newline_at, is_comment_at}
 use Rattle.jsonc_build.specs.Lines.{is_line_comment}
 use Rattle.jsonc_sound.specs.Laws.{DiffersIn}
-use Rattle.jsonc_sound.specs.Sound.{Sound}
 use Rattle.jsonc_sound.specs.TriviaChanges.{AreTrivia, StretchChanged, EndsInComment}
+use Rattle.jsonc_seams.specs.SoundTrees.{SoundTree}
+use Rattle.jsonc_spaces.specs.Due.{due_between, listed}
+use Rattle.jsonc_spaces.specs.Put.{AreSpaced, IfDue, Prepared}
+use Rattle.jsonc_edit.specs.Spaced.{SpacesPut}
 use Rattle.jsonc_edit.specs.Worked.{node}
 
 -- in a row of nodes, where the whitespace leaves directly before a place begin: there, if there are none
@@ -32,6 +35,26 @@ removed_from ns c n = if is_line_comment (content_at ns n) then newline_from ns 
 -- the children from there up to the comment have left the row
 abbrev pub IsRemoved : List Node → List Node → ℕ → Type 0
 IsRemoved old new n = (c : ℕ) → parent_at old n ≡ Some c → Splices old new c (removed_from old c n) (place_at old n + 1) []
+
+-- before which node a space is due where the comment n of c leaves
+abbrev pub due_without : List Node → ℕ → ℕ → Option ℕ
+due_without ns c n = due_between ns (slice_index (children_at ns c) (removed_from ns c n)) n
+
+-- The comment has been taken out: what is needed was made ready, a space has come where one is due, and the comment has left, with what leaves with it.
+pub record IsTakenOut (old new : List Node) (n c : ℕ) : Type 0 where
+  pub ready : List Node
+  pub spaced : List Node
+  pub prepared : Prepared old ready
+  pub spaces : AreSpaced ready (listed (due_without ready c n)) spaced
+  pub removed : IsRemoved spaced new n
+
+-- it is wherever it has a parent
+abbrev pub TakesOut : List Node → List Node → ℕ → Type 0
+TakesOut old new n = (c : ℕ) → parent_at old n ≡ Some c → IsTakenOut old new n c
+
+-- it is where a space is due
+abbrev pub WantsSpace : List Node → ℕ → Type 0
+WantsSpace ns n = (c : ℕ) × (parent_at ns n ≡ Some c) × IfDue (due_without ns c n)
 
 -- a comment of the document has left it
 pub record CommentRemoved (old new : List Node) (n : ℕ) : Type 0 where
@@ -53,17 +76,35 @@ pub record TakesTrivia {old new : List Node} {n : ℕ} (r : CommentRemoved old n
   pub trivia : AreTrivia (leaves_gone r)
   pub ends : EndsInComment (leaves_gone r)
 
+-- a comment of the document has been taken out
+pub record CommentTaken (old new : List Node) (n : ℕ) : Type 0 where
+  pub tree : IsTree old
+  pub after : IsTree new
+  pub below : IsOver old 0 n
+  pub comment : IsTrue (is_comment_at old n)
+  pub container : ℕ
+  pub parent : parent_at old n ≡ Some container
+  pub taken : IsTakenOut old new n container
+
+-- spaces have come into the document, and then trivia that ends in a comment has left it: all other leaves stay
+pub record LosesComment (old new : OrderedTree) : Type 0 where
+  pub spaced : OrderedTree
+  pub gone : List Content
+  pub spaces : SpacesPut old spaced
+  pub trivia : AreTrivia gone
+  pub ends : EndsInComment gone
+  pub around : DiffersIn gone [] (leaves spaced) (leaves new)
+
+abbrev pub HasLeavesWithout : List Node → List Node → ℕ → Type 0
+HasLeavesWithout old new n = CommentTaken old new n → LosesComment (ordered_tree old 0) (ordered_tree new 0)
+
 -- without a comment a sound document is sound
 abbrev pub IsSoundWithout : Options → List Node → List Node → ℕ → Type 0
-IsSoundWithout o old new n = CommentRemoved old new n → Sound o (ordered_tree old 0) → Sound o (ordered_tree new 0)
+IsSoundWithout o old new n = CommentTaken old new n → SoundTree o (ordered_tree old 0) → SoundTree o (ordered_tree new 0)
 
 -- and a document has the value that it had, or none as before
 abbrev pub HasValueWithout : Options → List Node → List Node → ℕ → Option Plain → Type 0
-HasValueWithout o old new n w = CommentRemoved old new n → DocumentValueOf o (ordered_tree old 0) w → DocumentValueOf o (ordered_tree new 0) w
-
--- and all other leaves
-abbrev pub HasLeavesWithout : {old new : List Node} {n : ℕ} → CommentRemoved old new n → Type 0
-HasLeavesWithout {old} {new} r = DiffersIn (leaves_gone r) [] (leaves (ordered_tree old 0)) (leaves (ordered_tree new 0))
+HasValueWithout o old new n w = CommentTaken old new n → DocumentValueOf o (ordered_tree old 0) w → DocumentValueOf o (ordered_tree new 0) w
 
 -- a worked document: in an array on lines of their own a comment behind two whitespace leaves, which is node 7
 abbrev pub commented : List ℕ → List Node

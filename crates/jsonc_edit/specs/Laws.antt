@@ -1,5 +1,5 @@
 -- Laws of paths and changes: what is said of each list of nodes, node or change.
-use Rattle.std.specs.Prelude.{◌≡◌, ◌<◌, ℕ, List, length, take, drop, Option, Some}
+use Rattle.std.specs.Prelude.{◌≡◌, ◌<◌, ℕ, false, List, length, take, drop, Option, Some, IsTrue}
 use Rattle.jsonc_text.specs.Options.{Options}
 use Rattle.jsonc_text.specs.Plain.{Plain}
 use Rattle.jsonc_tree.specs.Content.{with_text}
@@ -7,12 +7,15 @@ use Rattle.jsonc_tree.specs.Tree.{Node, content_at, parent_at, children_at, IsTr
 use Rattle.jsonc_tree.specs.OrderedTree.{OrderedTree, followed_by, ordered_tree, Shows}
 use Rattle.jsonc_tree.specs.Values.{DocumentValueOf}
 use Rattle.jsonc_build.specs.Shape.{DocumentShaped}
-use Rattle.jsonc_sound.specs.Sound.{Sound, HasValue, IsNewValue}
+use Rattle.jsonc_sound.specs.Sound.{HasValue, IsNewValue}
 use Rattle.jsonc_sound.specs.TreeChanges.{Top}
 use Rattle.jsonc_sound.specs.Laws.{HasChangedValue}
 use Rattle.jsonc_from_input.specs.Layout.{Layout}
 use Rattle.jsonc_from_input.specs.Laid.{laid_property}
 use Rattle.jsonc_from_input.specs.Texts.{IsCharacters, IsOfTexts}
+use Rattle.jsonc_seams.specs.Spaces.{is_bare}
+use Rattle.jsonc_seams.specs.SoundTrees.{SoundTree}
+use Rattle.jsonc_spaces.specs.Due.{begins_bare, ends_bare, seen_before, seen_behind}
 use Rattle.jsonc_edit.specs.Paths.{IsAt, Stands}
 use Rattle.jsonc_edit.specs.Changes.{row_below, top_at, ChangesAt, Replaces, Respliced, Rewritten}
 use Rattle.jsonc_edit.specs.Reading.{layout_for, IsReplaced}
@@ -61,10 +64,14 @@ HasNewRow {old} {new} {c} s =
 abbrev pub HasNewText : {old new : List Node} {leaf : ℕ} → Rewritten old new leaf → Type 0
 HasNewText {old} {new} {leaf} r = top_at new leaf ≡ record { content = with_text (content_at old leaf) r.text; below = row_below old leaf }
 
--- where n stands at the path in a sound document, and gives way to a node that may stand there, the document that this makes is sound
-abbrev pub StaysSoundAt : Options → List Node → List Node → List ℕ → ℕ → Type 0
-StaysSoundAt o old new path n =
-    Sound o (ordered_tree old 0) → IsAt old path n → (now : Top) (v : Plain) → ChangesAt old new n now → IsNewValue o now v → Sound o (ordered_tree new 0)
+-- nothing that stands beside n ends or begins with a literal without quotes
+abbrev pub IsApart : List Node → ℕ → Type 0
+IsApart ns n = (ends_bare ns (seen_before ns n) ≡ false) × (begins_bare ns (seen_behind ns n) ≡ false)
+
+-- where n stands at the path in a sound document, and a node that may stand there takes its place, the document that this makes is sound, if no literal without quotes comes to stand beside another
+abbrev pub StaysSoundAt : Options → List Node → List Node → List ℕ → ℕ → ℕ → Type 0
+StaysSoundAt o old new path n m =
+    IsTree old → SoundTree o (ordered_tree old 0) → IsAt old path n → (now : Top) (v : Plain) → Replaces old new n m → top_at old m ≡ now → IsNewValue o now v → (IsTrue (is_bare now.content) → IsApart old n) → SoundTree o (ordered_tree new 0)
 
 -- where n stands at the path in a document of value x, and gives way to a node of value v, so does its value there
 abbrev pub ChangesValueAt : Options → List Node → List Node → List ℕ → ℕ → Plain → Type 0
@@ -97,16 +104,16 @@ ChangesValueTo o old new path n x v =
 -- so it is wherever n gives way to a value of texts, laid out in this layout
 abbrev pub ChangesValueLaidOut : Options → List Node → List Node → ℕ → ℕ → Layout → Plain → Type 0
 ChangesValueLaidOut o old new n m layout v =
-    IsOfTexts v → GivesWay old new n m (laid_top layout v) → (path : List ℕ) (x : Plain) → ChangesValueTo o old new path n x v
+    IsTree old → IsOfTexts v → GivesWay old new n m (laid_top layout v) → (path : List ℕ) (x : Plain) → ChangesValueTo o old new path n x v
 
 -- or as the document tells
 abbrev pub ChangesValueReplaced : Options → List Node → List Node → ℕ → ℕ → Plain → Type 0
 ChangesValueReplaced o old new n m v =
-    IsOfTexts v → IsReplaced old new n v m → (path : List ℕ) (x : Plain) → ChangesValueTo o old new path n x v
+    IsTree old → IsOfTexts v → IsReplaced old new n v m → (path : List ℕ) (x : Plain) → ChangesValueTo o old new path n x v
 
 -- a value is written where a node gives way to it, laid out in a layout that fits
 abbrev pub WritesLaidOut : Options → List Node → List Node → ℕ → ℕ → Layout → Plain → Type 0
-WritesLaidOut o old new n m layout v = FitsLayout o layout → GivesWay old new n m (laid_top layout v) → Writes o old new n m v
+WritesLaidOut o old new n m layout v = IsTree old → FitsLayout o layout → GivesWay old new n m (laid_top layout v) → Writes o old new n m v
 
 -- or as the document tells
 abbrev pub WritesReplaced : Options → List Node → List Node → ℕ → ℕ → Plain → Type 0

@@ -1,5 +1,6 @@
 pub mod Paths
 pub mod Changes
+pub mod Spaced
 pub mod Replacing
 pub mod Reading
 pub mod Writing

@@ -1,5 +1,5 @@
 -- What an edit of one value makes of a document's text.
-use Rattle.std.specs.Prelude.{◌≡◌, ℕ, false, List, Some}
+use Rattle.std.specs.Prelude.{ℕ, List, Some}
 use Rattle.jsonc_text.specs.Options.{Options}
 use Rattle.jsonc_text.specs.Plain.{Plain}
 use Rattle.jsonc_text.specs.Grammar.{IsDocument}
@@ -8,28 +8,30 @@ use Rattle.jsonc_tree.specs.OrderedTree.{OrderedTree, leaves, ordered_tree}
 use Rattle.jsonc_build.specs.Shape.{printed_text}
 use Rattle.jsonc_sound.specs.Changes.{Changed}
 use Rattle.jsonc_sound.specs.Laws.{DiffersIn}
-use Rattle.jsonc_sound.specs.Sound.{Sound}
 use Rattle.jsonc_sound.specs.TreeChanges.{Top, leaves_of}
+use Rattle.jsonc_seams.specs.SoundTrees.{SoundTree}
 use Rattle.jsonc_edit.specs.Changes.{top_at}
 use Rattle.jsonc_edit.specs.Paths.{IsAt}
+use Rattle.jsonc_edit.specs.Spaced.{SpacesPut}
 use Rattle.jsonc_edit.specs.Writing.{IsWritable}
 
 -- The value v is written at the path: the old text is a document, the new text is one, and its value is the old one's, but
--- that at the path v stands; of the leaves those of one node have given way to those of another, and all before and after
--- stay. The new document is sound, so it may be edited again.
+-- that at the path v stands; spaces have come in, and then of the leaves those of one node have given way to those of another:
+-- all before and after stay. The new document is sound, so it may be edited again.
 pub record IsWrittenAt (o : Options) (v : Plain) (path : List ℕ) (was now : Top) (old new : OrderedTree) : Type 0 where
   pub given_up : Plain
   pub before : Plain
   pub after : Plain
+  pub spaced : OrderedTree
   pub old_text : IsDocument o (printed_text old) (Some before)
   pub new_text : IsDocument o (printed_text new) (Some after)
   pub changed : Changed given_up v path before after
-  pub around : DiffersIn (leaves_of was) (leaves_of now) (leaves old) (leaves new)
-  pub sound : Sound o new
+  pub spaces : SpacesPut old spaced
+  pub around : DiffersIn (leaves_of was) (leaves_of now) (leaves spaced) (leaves new)
+  pub sound : SoundTree o new
 
--- if no comma may be missing, the old document is sound, n stands in it at the path, and v may be written, then v is written
--- at the path, as the node m
+-- if the old document is sound, n stands in it at the path, and v may be written, then v is written at the path, as the node m
 abbrev pub Writes : Options → List Node → List Node → ℕ → ℕ → Plain → Type 0
 Writes o old new n m v =
-    (path : List ℕ) → o.missing_commas ≡ false → Sound o (ordered_tree old 0) → IsAt old path n → IsWritable o v
+    (path : List ℕ) → SoundTree o (ordered_tree old 0) → IsAt old path n → IsWritable o v
     → IsWrittenAt o v path (top_at old n) (top_at new m) (ordered_tree old 0) (ordered_tree new 0)

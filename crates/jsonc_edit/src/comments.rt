@@ -1,14 +1,17 @@
 //! Comments that leave.
 
-ghost use Rattle.std.specs.Prelude.{◌≡◌, ◌<◌, ◌≤◌, ◌+◌, None, Some, [], length};
-ghost use Rattle.jsonc_tree.specs.Changes.{Splices};
+ghost use Rattle.std.specs.Prelude.{◌≡◌, ◌<◌, ◌≤◌, ◌+◌, IfErr, None, OnErr, OnOk, Some, [], length, slice_index};
+ghost use Rattle.jsonc_tree.specs.Building.{Keeps};
 ghost use Rattle.jsonc_tree.specs.Content.{Content};
+ghost use Rattle.jsonc_tree.specs.OrderedTree.{ordered_tree};
 ghost use Rattle.jsonc_tree.specs.Stored.{content_of};
 ghost use Rattle.jsonc_tree.specs.Tree.{children_at, content_at, parent_at, place_at, IsTree};
 ghost use Rattle.jsonc_build.specs.Lines.{is_line_comment};
-ghost use Rattle.jsonc_edit.specs.Comments.{blanks_from, removed_from, newline_from, IsRemoved};
+ghost use Rattle.jsonc_edit.specs.Comments.{blanks_from, removed_from, newline_from, IsRemoved, TakesOut, WantsSpace};
 
+use crate::error::EditError;
 use jsonc_nodes::{is_newline, is_whitespace};
+use jsonc_spaces::{due_between, make_spaces, put_spaces};
 use jsonc_tree::{Kind, Tree};
 use std::alloc::Allocator;
 
@@ -77,23 +80,59 @@ fn removed_from<A: Allocator>(tree: &Tree<A>, container: usize, comment: usize) 
     newline_from(tree, container, blanks)
 }
 
-/// Takes a comment out of the document.
-///
-/// With a line comment go the whitespace leaves directly before it, and the newline leaf directly
-/// before those. Where the comment is nobody's child no node changes.
-pub fn remove_comment<A: Allocator>(tree: &mut Tree<A>, comment: usize)
-    requires { comment < length tree.old.nodes }
+// The first node that leaves with a comment.
+fn first_removed<A: Allocator>(tree: &Tree<A>, container: usize, comment: usize) -> usize
+    requires { parent_at tree.now.nodes comment ≡ Some container }
+    ensures first { result ≡ slice_index (children_at tree.now.nodes container) (removed_from tree.now.nodes container comment) }
+    ensures there { result < length tree.now.nodes }
+{
+    let _ = tree.len();
+    let from = removed_from(tree, container, comment);
+    tree.child_at(container, from)
+}
+
+// Takes a comment out, and what leaves with it.
+fn take_out<A: Allocator>(tree: &mut Tree<A>, container: usize, comment: usize)
+    requires { parent_at tree.old.nodes comment ≡ Some container }
     ensures removed { IsRemoved tree.old.nodes tree.new.nodes comment }
-    ensures untouched { parent_at tree.old.nodes comment ≡ None → tree.new.nodes ≡ tree.old.nodes }
     ensures tree { IsTree tree.new.nodes }
 {
     let _ = tree.len();
-    let Some(container) = tree.parent(comment) else {
-        return;
-    };
     // A place is below the count of the children, so one more than it is a number too.
     let _ = tree.child_count(container);
     let from = removed_from(tree, container, comment);
     let place = tree.child_index(comment);
     tree.splice(container, from, place + 1, &[]);
+}
+
+/// Takes a comment out of the document.
+///
+/// With a line comment go the whitespace leaves directly before it, and the newline leaf directly
+/// before those. Where two literals without quotes would come to stand directly beside each other, a
+/// space comes between them; its memory alone may be wanted, and a refusal leaves the document, and
+/// every node that was there, as it was. Where the comment is nobody's child no node changes.
+pub fn remove_comment<A: Allocator + Copy>(
+    alloc: A,
+    tree: &mut Tree<A>,
+    comment: usize,
+) -> Result<(), EditError>
+    requires { comment < length tree.old.nodes }
+    ensures removed { OnOk result (TakesOut tree.old.nodes tree.new.nodes comment) }
+    ensures untouched { parent_at tree.old.nodes comment ≡ None → tree.new.nodes ≡ tree.old.nodes }
+    ensures memory { IfErr result (λ e. e ≡ EditError.OutOfMemory) }
+    ensures wanted { OnErr result (WantsSpace tree.old.nodes comment) }
+    ensures kept { OnErr result (Keeps (length tree.old.nodes) tree.old.nodes tree.new.nodes) }
+    ensures document { OnErr result (ordered_tree tree.new.nodes 0 ≡ ordered_tree tree.old.nodes 0) }
+    ensures tree { IsTree tree.new.nodes }
+{
+    let _ = tree.len();
+    let Some(container) = tree.parent(comment) else {
+        return Ok(());
+    };
+    let first = first_removed(tree, container, comment);
+    let due = due_between(tree, first, comment);
+    let spaces = make_spaces(alloc, tree, None, due)?;
+    put_spaces(tree, spaces);
+    take_out(tree, container, comment);
+    Ok(())
 }

@@ -1,5 +1,5 @@
 //! Laws of the definitions: each is the contract of a function that does nothing.
-ghost use Rattle.std.specs.Prelude.{◌≡◌, false, List, [], ◌∷◌, ℕ};
+ghost use Rattle.std.specs.Prelude.{◌≡◌, List, [], ◌∷◌, ℕ};
 ghost use Rattle.std.specs.Prelude.{codes, Option};
 ghost use Rattle.jsonc_text.specs.Options.{Options};
 ghost use Rattle.jsonc_text.specs.Plain.{Plain};
@@ -73,10 +73,10 @@ pub fn rewritten_leaves_change_their_place()
     ensures kept { (old new : List Node) (n : ℕ) → Rewritten old new n → KeepsOthers old new n }
 {}
 
-/// Where a value of a sound document gives way to a node that may stand there, the document that this
-/// makes is sound, if commas may not be missing.
+/// Where in a sound document a node that may stand there takes the place of a value, and no literal
+/// without quotes comes to stand directly beside another, the document that this makes is sound.
 pub fn documents_stay_sound()
-    ensures { (o : Options) (old new : List Node) (path : List ℕ) (n : ℕ) → o.missing_commas ≡ false → StaysSoundAt o old new path n }
+    ensures { (o : Options) (old new : List Node) (path : List ℕ) (n m : ℕ) → StaysSoundAt o old new path n m }
 {}
 
 /// Where a value of a document gives way to another, so does its plain value at the same path, and
@@ -135,23 +135,23 @@ pub fn replaced_values_take_the_path()
 {}
 
 /// What an edit makes of a text: in a sound document the value at a path has been replaced, by
-/// `replace`, or by `replace_with` in a layout that fits. Where no comma may be missing, and the
-/// numbers of the new value are numbers, the text is a document again. Its value is what it was, but
-/// that at the path the new value stands. All leaves before and after are what they were, comments
-/// among them. And the document is sound again.
+/// `replace`, or by `replace_with` in a layout that fits. Where the numbers of the new value are
+/// numbers, the text is a document again. Its value is what it was, but that at the path the new value
+/// stands. Spaces have come where two literals without quotes would have met; all other leaves before
+/// and after are what they were, comments among them. And the document is sound again.
 pub fn replaced_values_are_written()
     ensures laid_out { (o : Options) (old new : List Node) (n m : ℕ) (l : Layout) (v : Plain) → WritesLaidOut o old new n m l v }
     ensures replaced { (o : Options) (old new : List Node) (n m : ℕ) (v : Plain) → WritesReplaced o old new n m v }
 {}
 
 /// What leaves with a comment of the document is trivia that ends in it, and nothing comes in its
-/// place; so a sound document stays sound, if commas may not be missing, and under all options it has
-/// the value that it had. All other leaves stay, in order.
+/// place but a space where two literals without quotes would have met; so a sound document stays
+/// sound, and has the value that it had. All other leaves stay, in order.
 pub fn documents_without_a_comment()
     ensures trivia { (old new : List Node) (n : ℕ) (r : CommentRemoved old new n) → TakesTrivia r }
-    ensures sound { (o : Options) (old new : List Node) (n : ℕ) → o.missing_commas ≡ false → IsSoundWithout o old new n }
+    ensures sound { (o : Options) (old new : List Node) (n : ℕ) → IsSoundWithout o old new n }
     ensures value { (o : Options) (old new : List Node) (n : ℕ) (w : Option Plain) → HasValueWithout o old new n w }
-    ensures kept { (old new : List Node) (n : ℕ) (r : CommentRemoved old new n) → HasLeavesWithout r }
+    ensures kept { (old new : List Node) (n : ℕ) → HasLeavesWithout old new n }
 {}
 
 /// Worked rows: of `[`, two newlines, two whitespace leaves and a comment, a line comment leaves with

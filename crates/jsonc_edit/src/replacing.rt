@@ -1,13 +1,16 @@
 //! Nodes that give way to new ones.
 
-ghost use Rattle.std.specs.Prelude.{◌≡◌, ◌∷◌, ◌+◌, ◌<◌, IfErr, IfNone, IfOk, IfSome, List, None, OnErr, Some, [], length};
+ghost use Rattle.std.specs.Prelude.{◌≡◌, ◌∷◌, ◌++◌, ◌+◌, ◌<◌, IfErr, IfNone, IfOk, IfSome, List, None, OnErr, Some, [], length, if◌then◌else◌};
 ghost use Rattle.jsonc_text.specs.Options.{Options};
 ghost use Rattle.jsonc_tree.specs.Building.{Keeps};
 ghost use Rattle.jsonc_tree.specs.Changes.{CanJoin, Splices};
 ghost use Rattle.jsonc_tree.specs.OrderedTree.{ordered_tree};
-ghost use Rattle.jsonc_tree.specs.Tree.{parent_at, place_at, IsTree};
+ghost use Rattle.jsonc_tree.specs.Tree.{content_at, parent_at, place_at, IsTree};
 ghost use Rattle.jsonc_input.specs.Views.{plain};
 ghost use Rattle.jsonc_from_input.specs.Layout.{layout_of};
+ghost use Rattle.jsonc_seams.specs.Spaces.{is_bare};
+ghost use Rattle.jsonc_spaces.specs.Due.{listed};
+ghost use Rattle.jsonc_spaces.specs.Put.{AreAtHand, Prepared};
 ghost use Rattle.jsonc_edit.specs.Reading.{IsReplaced};
 ghost use Rattle.jsonc_edit.specs.Replacing.{laid_top, GivesWay};
 ghost use Rattle.jsonc_edit.specs.Written.{Writes};
@@ -16,8 +19,9 @@ use crate::error::EditError;
 use crate::reading::layout_for;
 use jsonc_from_input::{Layout, lay_out};
 use jsonc_input::CstInputValue;
+use jsonc_spaces::{Spaces, due_before, due_behind, is_bare, make_spaces, put_spaces};
 use jsonc_tree::Tree;
-use std::alloc::Allocator;
+use std::alloc::{AllocError, Allocator};
 
 // Puts a node that is nobody's child in the place of a child.
 fn put_in_place<A: Allocator>(tree: &mut Tree<A>, container: usize, node: usize, new: usize)
@@ -33,9 +37,29 @@ fn put_in_place<A: Allocator>(tree: &mut Tree<A>, container: usize, node: usize,
     tree.splice(container, place, place + 1, &[new]);
 }
 
+// Makes the spaces that are due, if the new node is a literal without quotes.
+fn spaces_for<A: Allocator + Copy>(
+    alloc: A,
+    tree: &mut Tree<A>,
+    new: usize,
+    before: Option<usize>,
+    behind: Option<usize>,
+) -> Result<Spaces, AllocError>
+    requires { new < length tree.old.nodes }
+    ensures hand { IfOk result (λ s. AreAtHand tree.new.nodes (if is_bare (content_at tree.old.nodes new) then listed before ++ listed behind else []) s) }
+    ensures prepared { Prepared tree.old.nodes tree.new.nodes }
+{
+    let _ = tree.len();
+    if !is_bare(tree.kind(new)) {
+        return make_spaces(alloc, tree, None, None);
+    }
+    make_spaces(alloc, tree, before, behind)
+}
+
 /// Lays a value out as a new node, which a child gives way to, and answers the number of the new node.
 ///
-/// The child is nobody's child then. Where the node has no parent the answer is None, and no node
+/// Where a literal without quotes would come to stand directly beside another, a space comes between
+/// them. The child is nobody's child then. Where the node has no parent the answer is None, and no node
 /// changes. A refusal leaves the document, and every node that was there, as it was.
 pub fn replace_with<A: Allocator + Copy>(
     alloc: A,
@@ -57,15 +81,20 @@ pub fn replace_with<A: Allocator + Copy>(
     let Some(container) = tree.parent(node) else {
         return Ok(None);
     };
+    let before = due_before(tree, node);
+    let behind = due_behind(tree, node);
     let new = lay_out(alloc, tree, value, layout)?;
+    let spaces = spaces_for(alloc, tree, new, before, behind)?;
+    put_spaces(tree, spaces);
     put_in_place(tree, container, node, new);
     Ok(Some(new))
 }
 
 /// Lays a value out as a new node, which a child gives way to, and answers the number of the new node.
 ///
-/// Where the child is the value at a path of a sound document, and no comma may be missing, the text
-/// is a document again, whose value is the old one with the new value at the path.
+/// Where the child is the value at a path of a sound document, the text is a document again, whose
+/// value is the old one with the new value at the path. Where a literal without quotes would come to
+/// stand directly beside another, a space comes between them.
 ///
 /// The document tells how: the indents are those at the container that the child stands in, lines end
 /// as the document's do, and the last of several lines has a comma where that is so in the container,

@@ -1,5 +1,5 @@
 -- The comments of a document in order, and what of them a walk has before it.
-use Rattle.std.proofs.Common.{◌≡◌, ℕ, ◌<◌, ◌++◌, ◌∷◌, Bool, true, cond, List, length, filter, Option, Some, IfSome, IsTrue, sym, ap, subst, ◌∙◌}
+use Rattle.std.proofs.Common.{◌≡◌, ℕ, ◌<◌, ◌++◌, ◌∷◌, Bool, true, cond, List, length, filter, Option, Some, IfSome, IfErr, OnErr, OnOk, Result, Ok, Err, IsTrue, sym, ap, subst, ◌∙◌}
 use Rattle.std.proofs.lemmas.List.{append-nil}
 use Rattle.std.specs.List.{flat_map, slice_get}
 use Rattle.jsonc_tree.specs.Content.{Content, root}
@@ -7,8 +7,10 @@ use Rattle.jsonc_tree.specs.Tree.{Node, IsTree, children_at, parent_at, IsOver, 
 use Rattle.jsonc_tree.specs.Order.{in_order, following, rest_at}
 use Rattle.jsonc_tree.proofs.Order.{in_order_is, following_end}
 use Rattle.jsonc_nodes.specs.Kinds.{is_comment, is_comment_at}
-use Rattle.jsonc_edit.specs.Comments.{IsRemoved, CommentRemoved}
-use Rattle.jsonc_run.specs.Edits.{comment_at}
+use Rattle.jsonc_edit.specs.Comments.{CommentTaken, TakesOut, WantsSpace}
+use Rattle.jsonc_edit.specs.declared.error.EditError.{EditError}
+use Rattle.jsonc_edit.specs.declared.error.EditError.TheVariants.{OutOfMemory}
+use Rattle.jsonc_run.specs.Edits.{comment_at, remove_comment, IsMade, IsToldBy}
 
 module _ (ns : List Node) (tree : IsTree ns) where
   -- a walk over the document has all before it
@@ -40,7 +42,16 @@ module _ (ns : List Node) (tree : IsTree ns) where
       absurd never
   has_container n (above {c = c} said rest) is = (c, said)
 
-  pub comment_leaves : (new : List Node) → IsTree new → (n : ℕ) → IsOver ns 0 n → IsTrue (is_comment_at ns n) → IsRemoved ns new n → CommentRemoved ns new n
-  comment_leaves new after n over is removed =
+  comment_taken : (new : List Node) → IsTree new → (n : ℕ) → IsOver ns 0 n → IsTrue (is_comment_at ns n) → TakesOut ns new n → CommentTaken ns new n
+  comment_taken new after n over is taken =
       let up = has_container n over is in
-      record { container = up.0; tree = tree; after = after; below = over; comment = is; parent = up.1; removed = removed }
+      record { tree = tree; after = after; below = over; comment = is; container = up.0; parent = up.1; taken = taken up.0 up.1 }
+
+  -- what a removal answers
+  pub removal_made : {T E : Type 0} (r : Result T E) (new : List Node) → IsTree new → (n number : ℕ) → comment_at ns number ≡ Some n → IsOver ns 0 n → IsTrue (is_comment_at ns n) → OnOk r (TakesOut ns new n) → OnOk r (IsMade ns (remove_comment number) new)
+  removal_made (Ok x) new after n number at over is taken = (n, at, comment_taken new after n over is taken)
+  removal_made (Err e) new after n number at over is taken = tt
+
+  pub removal_told : {T : Type 0} (r : Result T EditError) (n number : ℕ) → comment_at ns number ≡ Some n → IfErr r (λ e. e ≡ OutOfMemory) → OnErr r (WantsSpace ns n) → IfErr r (IsToldBy ns (remove_comment number))
+  removal_told (Ok x) n number at memory wants = tt
+  removal_told (Err e) n number at memory wants = subst (IsToldBy ns (remove_comment number)) (sym memory) (n, at, wants)

@@ -1,5 +1,5 @@
 -- What edits that were made in order make of a document.
-use Rattle.std.proofs.Common.{Result, Ok, Err, OnOk, ◌≡◌, suc, false, List, [], ◌∷◌, Option, Some, sym, subst, arith}
+use Rattle.std.proofs.Common.{Result, Ok, Err, OnOk, ◌≡◌, suc, List, [], ◌∷◌, Option, Some, sym, subst, arith}
 use Rattle.std.specs.List.{All}
 use Rattle.jsonc_text.specs.Options.{Options}
 use Rattle.jsonc_text.specs.Plain.{Plain}
@@ -8,31 +8,29 @@ use Rattle.jsonc_text.proofs.UniqueValues.{document_unique}
 use Rattle.jsonc_tree.specs.OrderedTree.{OrderedTree, ordered_tree}
 use Rattle.jsonc_tree.specs.Tree.{Node, IsTree}
 use Rattle.jsonc_build.specs.Shape.{printed_text}
-use Rattle.jsonc_build.proofs.ShapeValues.{document_printed}
-use Rattle.jsonc_sound.specs.Sound.{Sound}
 use Rattle.jsonc_sound.proofs.LeavesAround.{document_differs}
-use Rattle.jsonc_sound.proofs.TriviaLeaves as trivia
-use Rattle.jsonc_sound.proofs.TriviaLines.{stays_sound_without}
-use Rattle.jsonc_sound.proofs.TriviaValues.{document_kept}
+use Rattle.jsonc_seams.specs.SoundTrees.{SoundTree}
+use Rattle.jsonc_seams.proofs.LooseShapes.{document_printed}
 use Rattle.jsonc_edit.specs.Changes.{top_at}
 use Rattle.jsonc_edit.specs.Reading.{layout_for}
-use Rattle.jsonc_edit.specs.Comments.{leaves_gone}
+use Rattle.jsonc_edit.specs.Replacing.{laid_top}
 use Rattle.jsonc_edit.proofs.OneValue.{document_once}
-use Rattle.jsonc_edit.proofs.Removal.{takes_trivia}
-use Rattle.jsonc_edit.proofs.ReplacedValues.{replaced_written}
+use Rattle.jsonc_edit.proofs.ReplacedValues.{changed, put, replaced_written}
+use Rattle.jsonc_edit.proofs.TakingOut.{loses_comment, taken_sound, taken_value}
 use Rattle.jsonc_run.specs.Edits.{Operation, replace, remove_comment, AreMade, none_made, first_made, IsMade}
 use Rattle.jsonc_run.specs.Written.{MayBeMade, IsChanged, by_value, by_comment, AreChanged, unchanged, first_changed, StayAround, AllStayAround, all_stay, first_stay, AreWritten, WriteAll}
 
-stays_around : (old new : List Node) (e : Operation) → IsMade old e new → StayAround (ordered_tree old 0) e (ordered_tree new 0)
-stays_around old new (replace path v) (n, m, at, r) =
-    let changed = r.2.changed path at in (top_at old n, layout_for old r.0 n, changed, document_differs changed)
-stays_around old new (remove_comment number) (n, at, r) =
-    let t = takes_trivia old new n r in (leaves_gone r, t.trivia, t.ends, trivia.document_differs (leaves_gone r) [] t.trivia tt t.changed)
+stays_around : (old new : List Node) (e : Operation) → IsTree old → IsMade old e new → StayAround (ordered_tree old 0) e (ordered_tree new 0)
+stays_around old new (replace path v) tree (n, m, at, r) =
+    let top = laid_top (layout_for old r.0 n) v in
+    let change = changed old new n m top tree r.2 path at in
+    (top_at old n, layout_for old r.0 n, ordered_tree r.2.spaced 0, put old new n m top tree r.2 path at, change, document_differs change)
+stays_around old new (remove_comment number) tree (n, at, r) = loses_comment old new n r
 
 -- under all options the leaves around stay
-pub stay_around : (old new : List Node) (es : List Operation) → AreMade old es new → AllStayAround (ordered_tree old 0) es (ordered_tree new 0)
-stay_around old _ [] none_made = all_stay
-stay_around old new (e ∷ es) (first_made {now = now} made tree rest) = first_stay (stays_around old now e made) (stay_around now new es rest)
+pub stay_around : (old new : List Node) (es : List Operation) → IsTree old → AreMade old es new → AllStayAround (ordered_tree old 0) es (ordered_tree new 0)
+stay_around old _ [] tree none_made = all_stay
+stay_around old new (e ∷ es) tree (first_made {now = now} made after rest) = first_stay (stays_around old now e tree made) (stay_around now new es after rest)
 
 -- one edit is written
 record IsWritten (o : Options) (e : Operation) (old new : OrderedTree) : Type 0 where
@@ -41,24 +39,21 @@ record IsWritten (o : Options) (e : Operation) (old new : OrderedTree) : Type 0 
   old_text : IsDocument o (printed_text old) before
   new_text : IsDocument o (printed_text new) after
   changed : IsChanged before e after
-  sound : Sound o new
+  sound : SoundTree o new
 
-module _ (o : Options) (commas : o.missing_commas ≡ false) where
-  -- where no comma may be missing
-  is_written : (old new : List Node) (e : Operation) → IsTree old → IsMade old e new → Sound o (ordered_tree old 0) → MayBeMade o e → IsWritten o e (ordered_tree old 0) (ordered_tree new 0)
+module _ (o : Options) where
+  is_written : (old new : List Node) (e : Operation) → IsTree old → IsMade old e new → SoundTree o (ordered_tree old 0) → MayBeMade o e → IsWritten o e (ordered_tree old 0) (ordered_tree new 0)
   is_written old new (replace path v) tree (n, m, at, r) s may =
-      let w = replaced_written o old new n m v tree r path commas s at may in
+      let w = replaced_written o old new n m v tree r path s at may in
       record { before = Some w.before; after = Some w.after; old_text = w.old_text; new_text = w.new_text; changed = by_value w.changed; sound = w.sound }
   is_written old new (remove_comment number) tree (n, at, r) s may =
-      let t = takes_trivia old new n r in
-      let sound = stays_sound_without o (ordered_tree old 0) commas s (leaves_gone r) (ordered_tree new 0) t.changed t.trivia t.ends in
+      let sound = taken_sound old new n r o s in
       let was = document_printed o (ordered_tree old 0) s.shaped s.lines in
       let now = document_printed o (ordered_tree new 0) sound.shaped sound.lines in
-      let kept = document_kept o (leaves_gone r) [] t.trivia tt was.0 t.changed was.2 in
-      let same : now.0 ≡ was.0 = document_once o (ordered_tree new 0) now.0 was.0 now.2 kept in
+      let same : now.0 ≡ was.0 = document_once o (ordered_tree new 0) now.0 was.0 now.2 (taken_value old new n r o was.0 was.2) in
       record { before = was.0; after = was.0; old_text = was.1; new_text = subst (IsDocument o (printed_text (ordered_tree new 0))) same now.1; changed = by_comment; sound = sound }
 
-  all_written : (old new : List Node) (es : List Operation) → IsTree old → AreMade old es new → Sound o (ordered_tree old 0) → All (MayBeMade o) es → AreWritten o es (ordered_tree old 0) (ordered_tree new 0)
+  all_written : (old new : List Node) (es : List Operation) → IsTree old → AreMade old es new → SoundTree o (ordered_tree old 0) → All (MayBeMade o) es → AreWritten o es (ordered_tree old 0) (ordered_tree new 0)
   all_written old _ [] tree none_made s may =
       let known = document_printed o (ordered_tree old 0) s.shaped s.lines in
       record { before = known.0; after = known.0; old_text = known.1; new_text = known.1; changed = unchanged; around = all_stay; sound = s }
@@ -72,12 +67,12 @@ module _ (o : Options) (commas : o.missing_commas ≡ false) where
         old_text = first.old_text;
         new_text = others.new_text;
         changed = first_changed first.changed (subst (λ (w : Option Plain). AreChanged w es others.after) same others.changed);
-        around = first_stay (stays_around old now e made) others.around;
+        around = first_stay (stays_around old now e tree made) others.around;
         sound = others.sound;
       }
 
 pub write_all : (o : Options) (old new : List Node) (es : List Operation) → IsTree old → AreMade old es new → WriteAll o old es new
-write_all o old new es tree made commas s may = all_written o commas old new es tree made s may
+write_all o old new es tree made s may = all_written o old new es tree made s may
 
 -- so is one, where the answer says that it was made
 pub answer_written : {T E : Type 0} (o : Options) (old new : List Node) (made asked : Operation) → IsTree old → IsTree new → (r : Result T E) → asked ≡ made

@@ -9,7 +9,7 @@ use Rattle.jsonc_tree.specs.Order.{in_order}
 use Rattle.jsonc_nodes.specs.Kinds.{is_comment_at}
 use Rattle.jsonc_edit.specs.declared.error.EditError.{EditError}
 use Rattle.jsonc_edit.specs.declared.error.EditError.TheVariants.{OutOfMemory, MissingBrackets, MissingName, NoSuchPlace}
-use Rattle.jsonc_edit.specs.Comments.{CommentRemoved}
+use Rattle.jsonc_edit.specs.Comments.{CommentTaken, WantsSpace}
 use Rattle.jsonc_edit.specs.Paths.{IsAt}
 use Rattle.jsonc_edit.specs.Reading.{IsReplaced}
 use Rattle.jsonc_run.specs.declared.edit.Edit.{Edit}
@@ -33,10 +33,10 @@ abbrev pub comment_at : List Node → ℕ → Option ℕ
 comment_at ns number = slice_get (filter (is_comment_at ns) (in_order ns 0)) number
 
 -- The edit was made: the node n, which stood at the path, has given way to m, which is the value, laid out as the old nodes tell; or n, the comment of this
--- number, has left the document.
+-- number, has been taken out of the document.
 abbrev pub IsMade : List Node → Operation → List Node → Type 0
 IsMade old (replace path v) new = (n m : ℕ) × IsAt old path n × IsReplaced old new n v m
-IsMade old (remove_comment number) new = (n : ℕ) × (comment_at old number ≡ Some n) × CommentRemoved old new n
+IsMade old (remove_comment number) new = (n : ℕ) × (comment_at old number ≡ Some n) × CommentTaken old new n
 
 -- the edits were made in order, each in the tree that the one before it made
 pub data AreMade : List Node → List Operation → List Node → Type 0 where
@@ -48,10 +48,10 @@ abbrev pub HasItsPlace : List Node → Operation → Type 0
 HasItsPlace ns (replace path v) = (n : ℕ) × IsAt ns path n
 HasItsPlace ns (remove_comment number) = (n : ℕ) × (comment_at ns number ≡ Some n)
 
--- memory may be wanted for a new value, where a node stands at its path; a comment leaves without
+-- memory may be wanted for a new value, where a node stands at its path, and for the space that is due where a comment leaves
 abbrev pub MayWantMemory : List Node → Operation → Type 0
 MayWantMemory ns (replace path v) = (n : ℕ) × IsAt ns path n
-MayWantMemory ns (remove_comment number) = ⊥
+MayWantMemory ns (remove_comment number) = (n : ℕ) × (comment_at ns number ≡ Some n) × WantsSpace ns n
 
 -- why the edit was not made: memory was wanted, or it has no place; nothing else is told
 abbrev pub IsToldBy : List Node → Operation → EditError → Type 0

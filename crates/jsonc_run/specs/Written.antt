@@ -1,20 +1,20 @@
 -- What edits that were made in order make of a document: of its value, its leaves and its text.
-use Rattle.std.specs.Prelude.{◌≡◌, ℕ, false, List, [], ◌∷◌, Option, Some}
+use Rattle.std.specs.Prelude.{ℕ, List, [], ◌∷◌, Option, Some}
 use Rattle.std.specs.List.{All}
 use Rattle.jsonc_text.specs.Options.{Options}
 use Rattle.jsonc_text.specs.Plain.{Plain}
 use Rattle.jsonc_text.specs.Grammar.{IsDocument}
-use Rattle.jsonc_tree.specs.Content.{Content}
 use Rattle.jsonc_tree.specs.Tree.{Node}
 use Rattle.jsonc_tree.specs.OrderedTree.{OrderedTree, leaves, ordered_tree}
 use Rattle.jsonc_build.specs.Shape.{printed_text}
 use Rattle.jsonc_sound.specs.Changes.{Changed}
 use Rattle.jsonc_sound.specs.Laws.{DiffersIn}
-use Rattle.jsonc_sound.specs.Sound.{Sound}
 use Rattle.jsonc_sound.specs.TreeChanges.{Top, leaves_of, DocumentChanged}
-use Rattle.jsonc_sound.specs.TriviaChanges.{AreTrivia, EndsInComment}
 use Rattle.jsonc_from_input.specs.Layout.{Layout}
+use Rattle.jsonc_seams.specs.SoundTrees.{SoundTree}
+use Rattle.jsonc_edit.specs.Comments.{LosesComment}
 use Rattle.jsonc_edit.specs.Replacing.{laid_top}
+use Rattle.jsonc_edit.specs.Spaced.{SpacesPut}
 use Rattle.jsonc_edit.specs.Writing.{IsWritable}
 use Rattle.jsonc_run.specs.Edits.{Operation, replace, remove_comment}
 
@@ -34,13 +34,13 @@ pub data AreChanged : Option Plain → List Operation → Option Plain → Type 
   unchanged : {w : Option Plain} → AreChanged w [] w
   first_changed : {w x y : Option Plain} {e : Operation} {es : List Operation} → IsChanged w e x → AreChanged x es y → AreChanged w (e ∷ es) y
 
--- Of the leaves of t those of the value at the path have given way to those of the new value, in some layout, or trivia that ends in a comment has left. All
--- leaves before and after stay, comments among them.
+-- Spaces have come into the document, and then of its leaves those of the value at the path have given way to those of the new value, in some layout, or
+-- trivia that ends in a comment has left. All leaves before and after stay, comments among them.
 abbrev pub StayAround : OrderedTree → Operation → OrderedTree → Type 0
 StayAround t (replace path v) u =
-    (was : Top) × (layout : Layout) × DocumentChanged was (laid_top layout v) path t u
-    × DiffersIn (leaves_of was) (leaves_of (laid_top layout v)) (leaves t) (leaves u)
-StayAround t (remove_comment number) u = (gone : List Content) × AreTrivia gone × EndsInComment gone × DiffersIn gone [] (leaves t) (leaves u)
+    (was : Top) × (layout : Layout) × (spaced : OrderedTree) × SpacesPut t spaced × DocumentChanged was (laid_top layout v) path spaced u
+    × DiffersIn (leaves_of was) (leaves_of (laid_top layout v)) (leaves spaced) (leaves u)
+StayAround t (remove_comment number) u = LosesComment t u
 
 -- so it is for each of the edits, one after another
 pub data AllStayAround : OrderedTree → List Operation → OrderedTree → Type 0 where
@@ -56,9 +56,8 @@ pub record AreWritten (o : Options) (es : List Operation) (old new : OrderedTree
   pub new_text : IsDocument o (printed_text new) after
   pub changed : AreChanged before es after
   pub around : AllStayAround old es new
-  pub sound : Sound o new
+  pub sound : SoundTree o new
 
--- if no comma may be missing, the old document is sound, and what the edits write may be written, then they are written
+-- if the old document is sound, and what the edits write may be written, then they are written
 abbrev pub WriteAll : Options → List Node → List Operation → List Node → Type 0
-WriteAll o old es new =
-    o.missing_commas ≡ false → Sound o (ordered_tree old 0) → All (MayBeMade o) es → AreWritten o es (ordered_tree old 0) (ordered_tree new 0)
+WriteAll o old es new = SoundTree o (ordered_tree old 0) → All (MayBeMade o) es → AreWritten o es (ordered_tree old 0) (ordered_tree new 0)

@@ -10,6 +10,7 @@ pub enum Edit<A: Allocator> {
     /// is a place among the elements of an array or the properties of an object.
     Replace(Vec<usize, A>, CstInputValue<A>),
     /// The comment of this number, counted from 0 in the order of the document, leaves it. A line comment
-    /// takes along the whitespace and the line end before it.
+    /// takes along the whitespace and the line end before it. Memory is wanted only where a space has to
+    /// come between two literals without quotes.
     RemoveComment(usize),
 }

@@ -6,16 +6,15 @@ ghost use Rattle.jsonc_tree.specs.Tree.{IsTree, Node};
 ghost use Rattle.jsonc_run.specs.Edits.{AreMade, Operation};
 ghost use Rattle.jsonc_run.specs.Written.{AllStayAround, WriteAll};
 
-/// What a list of edits makes of a text: in a sound document edits have been made in order. Where no
-/// comma may be missing, and the numbers of the values that they write are numbers, the text is a
-/// document again. Its value is what the edits, one after another, make of the old one. And the
-/// document is sound again.
+/// What a list of edits makes of a text: in a sound document edits have been made in order. Where the
+/// numbers of the values that they write are numbers, the text is a document again, under all options.
+/// Its value is what the edits, one after another, make of the old one. And the document is sound again.
 pub fn edits_are_written()
     ensures { (o : Options) (old new : List Node) (es : List Operation) → IsTree old → AreMade old es new → WriteAll o old es new }
 {}
 
-/// Under all options each edit in turn leaves all leaves around what it replaces or takes out as they
-/// were.
+/// Each edit in turn leaves all leaves around what it replaces or takes out as they were, but for the
+/// spaces that come where two literals without quotes would meet.
 pub fn edits_keep_the_leaves_around()
-    ensures { (old new : List Node) (es : List Operation) → AreMade old es new → AllStayAround (ordered_tree old 0) es (ordered_tree new 0) }
+    ensures { (old new : List Node) (es : List Operation) → IsTree old → AreMade old es new → AllStayAround (ordered_tree old 0) es (ordered_tree new 0) }
 {}

@@ -4,9 +4,9 @@
 //! (`specs/Edits.antt`). An edit lets the value at a path give way to another, or takes the comment of
 //! a number out ([`find_comment`]). One that is refused leaves the document as the ones before it left
 //! it.
-//! In a sound document where no comma may be missing, the text that a list of edits makes is a document
-//! again, whose value is what the same edits make of the old one's, and which is sound
-//! (`specs/Written.antt`).
+//! In a sound document the text that a list of edits makes is a document again, whose value is what the
+//! same edits make of the old one's, and which is sound (`specs/Written.antt`). Where two literals
+//! without quotes would come to stand directly beside each other, an edit writes a space between them.
 #![tactic(auto)]
 
 mod comments;

@@ -32,7 +32,7 @@ pub fn make<A: Allocator + Copy>(
     let _ = tree.len();
     match edit {
         Edit::Replace(path, value) => replace_at(alloc, tree, path, value),
-        Edit::RemoveComment(number) => remove_at(tree, *number),
+        Edit::RemoveComment(number) => remove_at(alloc, tree, *number),
     }
 }
 
@@ -62,25 +62,29 @@ fn replace_at<A: Allocator + Copy>(
 }
 
 // Takes the comment of a number out.
-fn remove_at<A: Allocator>(tree: &mut Tree<A>, number: usize) -> Result<(), EditError>
+fn remove_at<A: Allocator + Copy>(
+    alloc: A,
+    tree: &mut Tree<A>,
+    number: usize,
+) -> Result<(), EditError>
     ensures made { OnOk result (IsMade tree.old.nodes (asked_without number) tree.new.nodes) }
     ensures told { IfErr result (IsToldBy tree.old.nodes (asked_without number)) }
-    ensures untouched { OnErr result (tree.new.nodes ≡ tree.old.nodes) }
+    ensures kept { OnErr result (Keeps (length tree.old.nodes) tree.old.nodes tree.new.nodes) }
+    ensures document { OnErr result (ordered_tree tree.new.nodes 0 ≡ ordered_tree tree.old.nodes 0) }
     ensures tree { IsTree tree.new.nodes }
 {
     let _ = tree.len();
     let Some(comment) = find_comment(tree, number) else {
         return Err(EditError::NoSuchPlace);
     };
-    remove_comment(tree, comment);
-    Ok(())
+    remove_comment(alloc, tree, comment)
 }
 
 /// Makes edits in order, each in the document that the one before it made. Where one is refused, the
 /// answer is how many were made and why the next was not, and the document is as they left it.
 ///
-/// Where the document was sound and no comma may be missing, the text is a document again, whose value
-/// is what the edits that were made make of the old one's.
+/// Where the document was sound the text is a document again, whose value is what the edits that were
+/// made make of the old one's.
 pub fn run<A: Allocator + Copy>(
     alloc: A,
     tree: &mut Tree<A>,

@@ -1,8 +1,12 @@
-use Rattle.jsonc_sound.proofs.Followers.{value_ends}
-use Rattle.jsonc_sound.proofs.Lines.{document_lines}
-use Rattle.jsonc_sound.proofs.Shapes.{document_kept}
+use Rattle.std.proofs.Common.{[], false, IsTrue, sym, subst}
+use Rattle.jsonc_build.specs.Lines.{LinesEnd}
+use Rattle.jsonc_sound.specs.Sound.{IsValueBefore}
+use Rattle.jsonc_sound.specs.TreeChanges.{Top}
+use Rattle.jsonc_seams.specs.Spaces.{is_bare}
+use Rattle.jsonc_edit.proofs.Apart.{stays_sound_apart}
 use Rattle.jsonc_edit.proofs.laws.documents_stay_sound.Goals as goal
 
 pub returns : goal.returns
-returns c = λ o old new path n commas s at now v changed fit.
-    record { shaped = document_kept o commas (λ r e. value_ends o r e fit.shaped) (changed path at) s.shaped; lines = document_lines fit.lines (changed path at) s.lines }
+returns c = λ o old new path n m tree s at now v r is fit quiet.
+    stays_sound_apart o old new path n m tree s at r (subst (λ (t : Top). IsValueBefore o t []) (sym is) fit.shaped) (subst (λ (t : Top). LinesEnd false t.below) (sym is) fit.lines)
+    (λ bare. quiet (subst (λ (t : Top). IsTrue (is_bare t.content)) is bare))

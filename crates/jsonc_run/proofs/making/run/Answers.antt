@@ -23,9 +23,9 @@ returns-in-Err-clause-stopped g c = record {
 pub returns-in-Err-clause-written_so_far : goal.returns-in-Err-clause-written_so_far
 returns-in-Err-clause-written_so_far g c =
     let es : List Operation = take c.loop-count.count (operations_of c.args.edits.now) in
-    λ o commas s may.
+    λ o s may.
     subst (λ (t : OrderedTree). AreWritten o es (ordered_tree c.args.tree.now.nodes 0) t) (sym c.in-Err.ensures.document)
-    (write_all o c.args.tree.now.nodes c.loop-count.tree.nodes es c.len.ensures.tree c.loop-count.invariant.1 commas s may)
+    (write_all o c.args.tree.now.nodes c.loop-count.tree.nodes es c.len.ensures.tree c.loop-count.invariant.1 s may)
 
 pub loop-count-preserved : goal.loop-count-preserved
 loop-count-preserved g c =

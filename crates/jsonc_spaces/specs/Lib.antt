@@ -1,0 +1,4 @@
+pub mod Due
+pub mod Put
+pub mod Laws
+pub mod Meeting
