@@ -4,7 +4,7 @@ use Rattle.std.specs.List.{find}
 use Rattle.jsonc_text.specs.declared.errors.ParseStringErrorKind.{ParseStringErrorKind}
 use Rattle.jsonc_tree.specs.Content.{text_of}
 use Rattle.jsonc_tree.specs.Tree.{Node, content_at, children_at}
-use Rattle.jsonc_lines.specs.Indents.{is_property}
+use Rattle.jsonc_nodes.specs.Kinds.{is_property}
 use Rattle.jsonc_nodes.specs.Names.{FirstNamed, IsNoString, StandsFor}
 use Rattle.jsonc_nodes.specs.Properties.{name_at, value_at}
 use Rattle.jsonc_nodes.specs.Siblings.{siblings_after, siblings_before, root_above, elements_at, element_index_at}
