@@ -7,10 +7,9 @@ use Rattle.std.proofs.lemmas.List.Elements.{filter_passes}
 use Rattle.jsonc_tree.specs.Content as content
 use Rattle.jsonc_tree.specs.Tree.{Node, nowhere, content_at, IsTree}
 use Rattle.jsonc_nodes.specs.Comments.{comments_beside}
-use Rattle.jsonc_nodes.specs.Kinds.{is_beside_at, is_comment, is_comment_at}
+use Rattle.jsonc_nodes.specs.Kinds.{is_beside_at, is_comment, is_comment_at, is_property}
 use Rattle.jsonc_nodes.specs.Names.{FirstNamed, none, here, later}
 use Rattle.jsonc_nodes.specs.Siblings.{AreThere}
-use Rattle.jsonc_lines.specs.Indents.{is_property}
 use Rattle.jsonc_lines.specs.Kinds.{is_comma}
 use Rattle.jsonc_lines.specs.Siblings.{if_comma}
 use Rattle.jsonc_cst.specs.declared.cst.node.CstNode.{CstNode}

@@ -1,10 +1,10 @@
 -- What the readings of a document answer: those of its tree, with typed nodes for numbers.
-use Rattle.std.specs.Prelude.{◌≡◌, ℕ, Bool, List, length, map, filter, Option, Some, None, option_map, if◌then◌else◌}
+use Rattle.std.specs.Prelude.{◌≡◌, ℕ, Bool, List, length, map, filter, Option, Some, None, option_map, chars, if◌then◌else◌}
 use Rattle.std.specs.List.{find}
 use Rattle.jsonc_text.specs.declared.errors.ParseStringErrorKind.{ParseStringErrorKind}
 use Rattle.jsonc_tree.specs.Content.{text_of}
 use Rattle.jsonc_tree.specs.Tree.{Node, content_at, children_at}
-use Rattle.jsonc_lines.specs.Indents.{is_property}
+use Rattle.jsonc_nodes.specs.Kinds.{is_property}
 use Rattle.jsonc_nodes.specs.Names.{FirstNamed, IsNoString, StandsFor}
 use Rattle.jsonc_nodes.specs.Properties.{name_at, value_at}
 use Rattle.jsonc_nodes.specs.Siblings.{siblings_after, siblings_before, root_above, elements_at, element_index_at}
@@ -24,7 +24,7 @@ use Rattle.jsonc_cst.specs.declared.cst.node.CstLeafNode.TheVariants.{StringLit,
 use Rattle.jsonc_cst.specs.declared.cst.node.CstNode.TheVariants.{Container, Leaf}
 use Rattle.jsonc_cst.specs.declared.cst.node.ObjectPropName.TheVariants.{String, Word}
 use Rattle.jsonc_cst.specs.Document.{content_of, nodes_of, parent_of}
-use Rattle.jsonc_cst.specs.Nodes.{number_of, object_prop_node, string_lit_node, is_element_node, typed_at}
+use Rattle.jsonc_cst.specs.Nodes.{number_of, object_prop_node, string_lit_node, word_lit_node, is_element_node, typed_at}
 
 -- a node of one kind, by its number
 abbrev pub root_under : ℕ → CstRoot
@@ -141,3 +141,13 @@ module _ {A : Type 0} where
   -- no string stands at the front of its leaf, and the kind of fault is true of that
   abbrev pub LeafIsNoString : CstRootNode A → CstStringLit → ParseStringErrorKind → Type 0
   LeafIsNoString d string kind = IsNoString (text_of (content_of d (string_lit_node string))) kind
+
+  -- a name stands for these characters: a string decoded, a word by its text
+  abbrev pub NameStandsFor : CstRootNode A → ObjectPropName → List ℕ → Type 0
+  NameStandsFor d (String x) v = LeafStandsFor d x v
+  NameStandsFor d (Word x) v = v ≡ chars (text_of (content_of d (word_lit_node x)))
+
+  -- it is a string, which stands for nothing, and the kind of fault is true of that
+  abbrev pub NameIsNoString : CstRootNode A → ObjectPropName → ParseStringErrorKind → Type 0
+  NameIsNoString d (String x) kind = LeafIsNoString d x kind
+  NameIsNoString d (Word x) kind = ⊥

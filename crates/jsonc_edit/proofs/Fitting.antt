@@ -6,7 +6,7 @@ use Rattle.jsonc_tree.specs.Tree.{Node, content_at, parent_at, IsTree, IsOver}
 use Rattle.jsonc_tree.specs.OrderedTree.{ordered_tree}
 use Rattle.jsonc_tree.proofs.Order.{over_step}
 use Rattle.jsonc_build.specs.Shape.{DocumentShaped}
-use Rattle.jsonc_lines.specs.Indents.{is_property}
+use Rattle.jsonc_nodes.specs.Kinds.{is_property}
 use Rattle.jsonc_edit.specs.Reading.{layout_for, commas_told_by}
 use Rattle.jsonc_edit.specs.Writing.{FitsLayout}
 use Rattle.jsonc_edit.proofs.FittingCommas.{commas_fit}

@@ -2,7 +2,8 @@
 use Rattle.std.specs.Prelude.{◌≡◌, ℕ, List, Some, if◌then◌else◌}
 use Rattle.jsonc_text.specs.Plain.{Plain}
 use Rattle.jsonc_tree.specs.Tree.{Node, content_at, parent_at}
-use Rattle.jsonc_lines.specs.Indents.{is_property, indents_at}
+use Rattle.jsonc_nodes.specs.Kinds.{is_property}
+use Rattle.jsonc_lines.specs.Indents.{indents_at}
 use Rattle.jsonc_lines.specs.Breadth.{newline_kind_at, uses_trailing_commas_at}
 use Rattle.jsonc_from_input.specs.Layout.{Layout}
 use Rattle.jsonc_edit.specs.Replacing.{laid_top, GivesWay}

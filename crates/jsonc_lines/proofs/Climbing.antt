@@ -4,7 +4,8 @@ use Rattle.std.proofs.lemmas.Bool.{ne_eqb}
 use Rattle.jsonc_tree.specs.Order.{upward}
 use Rattle.jsonc_tree.specs.Tree.{Node, content_at, parent_at, IsTree}
 use Rattle.jsonc_tree.proofs.Order.{levels, one_more, levels_parent, upward_is, upward_none}
-use Rattle.jsonc_lines.specs.Indents.{beyond_properties, is_property, is_property_at, levels_among}
+use Rattle.jsonc_nodes.specs.Kinds.{is_property}
+use Rattle.jsonc_lines.specs.Indents.{beyond_properties, is_property_at, levels_among}
 
 module _ (ns : List Node) (tree : IsTree ns) where
   -- the parent is nearer to the top

@@ -2,9 +2,9 @@
 use Rattle.std.specs.Prelude.{ℕ, zero, suc, ◌+◌, ◌==◌, Bool, true, false, List, [], ◌∷◌, ◌++◌, map, length, drop, Option, Some, None, unwrap_or, option_and_then, option_map, is_some, nat_eq, if◌then◌else◌}
 use Rattle.std.specs.Option.{option_or}
 use Rattle.std.specs.List.{starts_with}
-use Rattle.jsonc_tree.specs.Content.{Content, property}
 use Rattle.jsonc_tree.specs.Order.{upward}
 use Rattle.jsonc_tree.specs.Tree.{Node, content_at, parent_at, children_at}
+use Rattle.jsonc_nodes.specs.Kinds.{is_property}
 use Rattle.jsonc_nodes.specs.Properties.{element_from}
 use Rattle.jsonc_nodes.specs.Siblings.{root_above}
 use Rattle.jsonc_lines.specs.Lines.{indent_at}
@@ -13,10 +13,6 @@ use Rattle.jsonc_lines.specs.Lines.{indent_at}
 pub record IndentTexts : Type 0 where
   pub current : List ℕ
   pub single : List ℕ
-
-abbrev pub is_property : Content → Bool
-is_property property = true
-is_property _ = false
 
 abbrev pub is_property_at : List Node → Option ℕ → Bool
 is_property_at ns None = false

@@ -1,12 +1,16 @@
 -- The kinds of nodes that stand in a row, as readings tell them apart.
 use Rattle.std.specs.Prelude.{ℕ, Bool, true, false, List, ◌==◌, not}
-use Rattle.jsonc_tree.specs.Content.{Content, token, whitespace, newline, comment}
+use Rattle.jsonc_tree.specs.Content.{Content, property, token, whitespace, newline, comment}
 use Rattle.jsonc_tree.specs.Tree.{Node, content_at}
 use Rattle.jsonc_tree.specs.Values.{is_passed_over}
 
 -- neither whitespace, a newline, a comment nor a token
 abbrev pub is_element : Content → Bool
 is_element content = not (is_passed_over content)
+
+abbrev pub is_property : Content → Bool
+is_property property = true
+is_property _ = false
 
 abbrev pub is_colon : Content → Bool
 is_colon (token c) = c == 0x3A

@@ -58,9 +58,15 @@ pub fn names(heap: Heap<'_>) -> Result<Outcome, Outcome> {
     let Some(name) = first.decoded_name(&document)? else {
         return Err(Outcome::Other);
     };
+    let (Some(quoted), Some(word)) = (first.name(&document), second.name(&document)) else {
+        return Err(Outcome::Other);
+    };
+    let in_quotes = quoted.decoded_value(&document)?;
+    let without = word.decoded_value(&document)?;
+    let are_named = name.as_str() == "a" && in_quotes.as_str() == "a" && without.as_str() == "b";
     let value = string.decoded_value(&document)?;
     let is_array = second.array_value(&document).is_some();
-    Ok(Outcome::of(is_array && name.as_str() == "a" && value.as_str() == "x\ty"))
+    Ok(Outcome::of(is_array && are_named && value.as_str() == "x\ty"))
 }
 
 /// The properties of an object are its children 3 and 9 of 12.

@@ -14,14 +14,16 @@ use Rattle.jsonc_text.specs.Tokens.{scanned_of}
 use Rattle.jsonc_text.proofs.Cuts.{byte_length-append, many_split, place_after, chars_between}
 use Rattle.jsonc_text.proofs.Steps.{rest_end}
 use Rattle.jsonc_scan.specs.declared.scanner.Scanner.{Scanner}
-use Rattle.jsonc_scan.specs.Scanner.{start_of, end_of, PassesBlanks, StandsAt, left}
+use Rattle.jsonc_scan.specs.Scanner.{text_of, start_of, end_of, PassesBlanks, StandsAt, left}
 use Rattle.jsonc_to_ast.specs.declared.comments.GapComments.{GapComments}
 use Rattle.jsonc_to_ast.specs.declared.context.Context.{Context}
 use Rattle.jsonc_to_ast.specs.declared.collect.CommentCollectionStrategy.{CommentCollectionStrategy}
-use Rattle.jsonc_to_ast.specs.Collected.{takes_comments, taken, all_placed, collected, AreCollected, CollectsMore, HasNoted, NotesMore, NotesLexeme, ShowsNoted, IsSilent, Collects}
+use Rattle.jsonc_to_ast.specs.Collected.{takes_comments, taken, all_placed, collected, AreCollected, CollectsMore, StaysLent, HasNoted, NotesMore, NotesLexeme, ShowsNoted, IsSilent, Collects}
 use Rattle.jsonc_to_ast.specs.Comments.{MapOf, HasPassed, AreUnderEnds}
 use Rattle.jsonc_to_ast.specs.Context.{text_in, options_in, token_end, tokens_asked, comments_asked, Keeps}
+use Rattle.jsonc_to_ast.specs.Lent.{AreLentIn}
 use Rattle.jsonc_to_ast.proofs.Gaps.{stands}
+use Rattle.jsonc_to_ast.proofs.Lent.{none_lent}
 use Rattle.jsonc_to_ast.proofs.GapEnds.{gaps_ascend, under_ends, no_gaps}
 
 -- blanks before tokens
@@ -88,6 +90,7 @@ module _ {A : Type 0} where
     passed = [];
     stand = λ ts h. h;
     more = λ asked. sym (append-nil (collected c));
+    lent = λ h. h;
     noted = λ ts h. subst (λ l. HasNoted l c) (sym (append-nil ts)) h;
     silent = λ off. All-nil (λ p. is_comment p.what ≡ false);
   }
@@ -100,6 +103,7 @@ module _ {A : Type 0} where
         passed = h.passed ++ k.passed;
         stand = λ ts all. subst (λ l. AreTokens (options_in a) (token_end a) (rest (text_in a) (token_end a)) l) (sym (append_assoc h.passed k.passed ts)) (h.stand (k.passed ++ ts) (stand ts all));
         more = λ asked. more_on asked;
+        lent = λ l. subst (λ t. AreLentIn t b.tokens → AreLentIn t c.tokens) kept.text k.lent (h.lent l);
         noted = λ ts n. subst (λ l. HasNoted l c) (append_assoc ts h.passed k.passed) (k.noted (ts ++ h.passed) (h.noted ts n));
         silent = λ off. All-append (λ p. is_comment p.what ≡ false) h.passed k.passed (h.silent off) (k.silent (ap (λ o. o.comments) kept.options ∙ off));
       }
@@ -136,22 +140,22 @@ module _ {A : Type 0} where
         past_blanks (placed_here s (scanned_of t) ∷ ts) (tokens_past_one (text_in now) (utf8_of now) (options_in now) ts (scanned_of t) (start_of s) (end_of s) here.spans here.stands after)
 
     one_passed : (t : Token A) → StandsAt s (Some t) → CollectsMore now new (taken now.comments_are_tokens (placed_here s (scanned_of t) ∷ []))
-        → NotesMore now new (placed_here s (scanned_of t) ∷ []) → IsSilent (options_in now) (placed_here s (scanned_of t) ∷ []) → Collects now new
-    one_passed t at more noted silent = record { passed = placed_here s (scanned_of t) ∷ []; stand = past_one t at; more = more; noted = noted; silent = silent }
+        → StaysLent now new → NotesMore now new (placed_here s (scanned_of t) ∷ []) → IsSilent (options_in now) (placed_here s (scanned_of t) ∷ []) → Collects now new
+    one_passed t at more lent noted silent = record { passed = placed_here s (scanned_of t) ∷ []; stand = past_one t at; more = more; lent = lent; noted = noted; silent = silent }
 
   -- a token that is no comment, after blanks
   pub collects_lexeme : (start now new : Context A) (s : Scanner A) (f : Option (Token A)) (t : Token A) → Keeps start now → Collects start now → PassesBlanks now.scanner s → new.scanner ≡ s → StandsAt s f → f ≡ Some t
-      → is_comment (scanned_of t) ≡ false → CollectsMore now new (placed_here s (scanned_of t) ∷ []) → NotesMore now new (placed_here s (scanned_of t) ∷ []) → Collects start new
-  collects_lexeme start now new s f t kept so_far blanks same at is lexeme more noted =
+      → is_comment (scanned_of t) ≡ false → CollectsMore now new (placed_here s (scanned_of t) ∷ []) → StaysLent now new → NotesMore now new (placed_here s (scanned_of t) ∷ []) → Collects start new
+  collects_lexeme start now new s f t kept so_far blanks same at is lexeme more lent noted =
       let p = placed_here s (scanned_of t) in
       let here = taken_lexeme now.comments_are_tokens p lexeme in
-      collects_on start now new kept so_far (one_passed now new s blanks same t (subst (StandsAt s) is at) (λ asked. more asked ∙ ap (λ l. collected now ++ l) (sym here)) noted (λ off. All-cons (λ p. is_comment p.what ≡ false) p [] lexeme (All-nil (λ p. is_comment p.what ≡ false))))
+      collects_on start now new kept so_far (one_passed now new s blanks same t (subst (StandsAt s) is at) (λ asked. more asked ∙ ap (λ l. collected now ++ l) (sym here)) lent noted (λ off. All-cons (λ p. is_comment p.what ≡ false) p [] lexeme (All-nil (λ p. is_comment p.what ≡ false))))
 
   -- it, where nothing is collected
   pub collects_nothing : (start now : Context A) (s : Scanner A) (f : Option (Token A)) (t : Token A) (new : Context A) → Keeps start now → Collects start now → PassesBlanks now.scanner s → new.scanner ≡ s → StandsAt s f → f ≡ Some t
-      → is_comment (scanned_of t) ≡ false → tokens_asked now ≡ false → comments_asked new ≡ false → Collects start new
-  collects_nothing start now s f t new kept so_far blanks same at is lexeme none apart =
-      collects_lexeme start now new s f t kept so_far blanks same at is lexeme (λ asked. absurd (both (tokens_asked now) asked none)) (λ ts h. no_comments new.comments apart (ts ++ placed_here s (scanned_of t) ∷ []))
+      → is_comment (scanned_of t) ≡ false → tokens_asked now ≡ false → new.tokens ≡ now.tokens → comments_asked new ≡ false → Collects start new
+  collects_nothing start now s f t new kept so_far blanks same at is lexeme none tokens apart =
+      collects_lexeme start now new s f t kept so_far blanks same at is lexeme (λ asked. absurd (both (tokens_asked now) asked none)) (λ h. subst (AreLentIn (text_in now)) (sym tokens) h) (λ ts h. no_comments new.comments apart (ts ++ placed_here s (scanned_of t) ∷ []))
     where
       no_comments : (found : Option (GapComments A)) → is_some found ≡ false → (ts : List Placed) → IfSome found (HasPassed ts)
       no_comments None e ts = tt
@@ -159,19 +163,20 @@ module _ {A : Type 0} where
 
   -- it, where its gap is ended after it is collected
   pub collects_on_lexeme : (start now mid new : Context A) (s : Scanner A) (f : Option (Token A)) (t : Token A) → Keeps start now → Collects start now → PassesBlanks now.scanner s → mid.scanner ≡ s → StandsAt s f → f ≡ Some t
-      → is_comment (scanned_of t) ≡ false → CollectsMore now mid (placed_here s (scanned_of t) ∷ []) → mid.comments ≡ now.comments → new.scanner ≡ mid.scanner → new.tokens ≡ mid.tokens → NotesLexeme mid new → Collects start new
-  collects_on_lexeme start now mid new s f t kept so_far blanks here at is lexeme more apart same tokens noted =
+      → is_comment (scanned_of t) ≡ false → CollectsMore now mid (placed_here s (scanned_of t) ∷ []) → (AreLentIn (text_of s) now.tokens → AreLentIn (text_of s) mid.tokens) → mid.comments ≡ now.comments → new.scanner ≡ mid.scanner → new.tokens ≡ mid.tokens → NotesLexeme mid new → Collects start new
+  collects_on_lexeme start now mid new s f t kept so_far blanks here at is lexeme more lent apart same tokens noted =
       let w = scanned_of t in
-      collects_lexeme start now new s f t kept so_far blanks (same ∙ here) at is lexeme (λ asked. ap all_placed tokens ∙ more asked)
+      let stays = subst (λ b. AreLentIn b now.tokens → AreLentIn b new.tokens) blanks.text (subst (λ found. AreLentIn (text_of s) now.tokens → AreLentIn (text_of s) found) (sym tokens) lent) in
+      collects_lexeme start now new s f t kept so_far blanks (same ∙ here) at is lexeme (λ asked. ap all_placed tokens ∙ more asked) stays
       (λ ts h. subst (λ x. HasNoted (ts ++ placed_here x w ∷ []) new) here (noted w lexeme ts (subst (λ found. IfSome found (HasPassed ts)) (sym apart) h)))
 
   -- a comment
   pub collects_comment : (start now new : Context A) (s : Scanner A) (f : Option (Token A)) (t : Token A) → Keeps start now → Collects start now → PassesBlanks now.scanner s → new.scanner ≡ s → StandsAt s f → f ≡ Some t
       → is_comment (scanned_of t) ≡ true → (now.comments_are_tokens ≡ true → CollectsMore now new (placed_here s (scanned_of t) ∷ [])) → (now.comments_are_tokens ≡ false → collected new ≡ collected now)
-      → NotesMore now new (placed_here s (scanned_of t) ∷ []) → IsTrue (options_in now).comments → Collects start new
-  collects_comment start now new s f t kept so_far blanks same at is comment more none noted allowed =
+      → (AreLentIn (text_of s) now.tokens → AreLentIn (text_of s) new.tokens) → NotesMore now new (placed_here s (scanned_of t) ∷ []) → IsTrue (options_in now).comments → Collects start new
+  collects_comment start now new s f t kept so_far blanks same at is comment more none lent noted allowed =
       let p = placed_here s (scanned_of t) in
-      collects_on start now new kept so_far (one_passed now new s blanks same t (subst (StandsAt s) is at) (λ asked. either now.comments_are_tokens refl asked) noted (λ off. absurd (both (options_in now).comments allowed off)))
+      collects_on start now new kept so_far (one_passed now new s blanks same t (subst (StandsAt s) is at) (λ asked. either now.comments_are_tokens refl asked) (subst (λ b. AreLentIn b now.tokens → AreLentIn b new.tokens) blanks.text lent) noted (λ off. absurd (both (options_in now).comments allowed off)))
     where
       either : (b : Bool) → now.comments_are_tokens ≡ b → IsTrue (tokens_asked now) → collected new ≡ collected now ++ taken now.comments_are_tokens (placed_here s (scanned_of t) ∷ [])
       either true e asked = more e asked ∙ ap (λ l. collected now ++ l) (sym (taken_comment now.comments_are_tokens (placed_here s (scanned_of t)) e))
@@ -179,17 +184,23 @@ module _ {A : Type 0} where
 
   -- blanks up to the end of the text
   pub collects_end : (start now new : Context A) (s : Scanner A) (f : Option (Token A)) → Keeps start now → Collects start now → PassesBlanks now.scanner s → new.scanner ≡ s → StandsAt s f → f ≡ None
-      → collected new ≡ collected now → ((ts : List Placed) → HasNoted ts now → HasNoted ts new) → Collects start new
-  collects_end start now new s f kept so_far blanks same at is none still_noted =
+      → collected new ≡ collected now → StaysLent now new → ((ts : List Placed) → HasNoted ts now → HasNoted ts new) → Collects start new
+  collects_end start now new s f kept so_far blanks same at is none lent still_noted =
       let here = subst (StandsAt s) is at in
       let e : token_end new ≡ start_of s = ap end_of same ∙ here.1 ∙ sym here.0 in
       collects_on start now new kept so_far (record {
         passed = [];
         stand = λ ts h. past_blanks now new s blanks same ts (subst (λ k. AreTokens (options_in now) k (rest (text_in now) k) ts) e h);
         more = λ asked. none ∙ sym (append-nil (collected now));
+        lent = lent;
         noted = λ ts h. subst (λ l. HasNoted l new) (sym (append-nil ts)) (still_noted ts h);
         silent = λ off. All-nil (λ p. is_comment p.what ≡ false);
       })
+
+  -- the tokens of a whole text are lent where no backslash is in them
+  pub all_lent : (start end : Context A) (found : Option (Vec (TokenAndRange A) A)) (bytes : List ℕ) → text_in start ≡ bytes → collected start ≡ [] → Collects start end → found ≡ end.tokens → AreLentIn bytes found
+  all_lent start end found bytes text empty h e =
+      subst (AreLentIn bytes) (sym e) (subst (λ b. AreLentIn b end.tokens) text (h.lent (none_lent (text_in start) start.tokens empty)))
 
   -- from the start of a text to its end
   module _ (start end : Context A) (f : Option (Token A)) (o : Options) (bytes : List ℕ) (text : text_in start ≡ bytes) (options : options_in start ≡ o) (zero : token_end start ≡ 0)

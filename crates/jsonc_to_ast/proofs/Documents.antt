@@ -1,16 +1,11 @@
 -- Reading goes through a document to its end, so no fault is told of one.
-use Rattle.std.proofs.Common.{ℕ, suc, max, ◌+◌, ◌<◌, ◌≤◌, ◌≡◌, ◌∙◌, sym, ap, subst, refl, Bool, true, false, ◌&&◌, List, [], ◌∷◌, length, Option, Some, None, IsTrue, arith, nat_lt, inl, inr, ◌⊎◌}
+use Rattle.std.proofs.Common.{ℕ, ◌+◌, ◌≤◌, ◌≡◌, Bool, true, false, List, [], Some, None, arith, inl, inr}
 use Rattle.jsonc_text.specs.Gaps.{Gap}
-use Rattle.jsonc_text.specs.Grammar.{IsValue, AreElements, AreProperties, IsProperty, IsDocument, literal_value, literal, empty_array, array, empty_object, object, last_element, element, last_property, property, named, Separates, Closes}
-use Rattle.jsonc_text.specs.Lexemes.{LexemeKind, punctuation}
 use Rattle.jsonc_text.specs.Options.{Options}
-use Rattle.jsonc_text.specs.Plain.{Plain, Items, no_items, item, Members, no_members, member, depth, items_depth, members_depth, around, items_around, members_around}
-use Rattle.jsonc_to_ast.specs.declared.container.Container.{Container}
-use Rattle.jsonc_to_ast.specs.declared.container.Container.TheVariants.{Array, Object}
-use Rattle.jsonc_to_ast.specs.Containers.{opening, closing}
-use Rattle.jsonc_to_ast.specs.Reached.{Opened, container, Due, document, end, first, comma, colon, Place, at, ItemMayCome, first_item, further_item, without_comma, ValueMayCome, of_text, of_array, of_property, CloseMayCome, empty, after_item, after_comma, Step, takes_literal, opens, closes, takes_comma, takes_name, takes_colon, ComesTo, here, on, Reached, after_value, count, size}
+use Rattle.jsonc_text.specs.Plain.{Plain}
+use Rattle.jsonc_to_ast.specs.Reached.{Opened, Due, document, end, Place, at, of_text, Step, ComesTo, here, on, Reached, count, size}
 use Rattle.jsonc_to_ast.specs.Told.{Fault, Stops, no_lexeme, wrong_lexeme, wrong_ending, wrong_end, Told}
-use Rattle.jsonc_to_ast.specs.Laws.{IsWithin, TellsOfNoDocument}
+use Rattle.jsonc_to_ast.specs.Laws.{TellsOfNoDocument}
 use Rattle.jsonc_to_ast.proofs.EndsOfGaps.{gap_end, lexeme_ends, end_ends, comment_ends, tells_ends}
 use Rattle.jsonc_to_ast.proofs.Order.{order}
 use Rattle.jsonc_to_ast.proofs.ReadsValues.{value_reads}

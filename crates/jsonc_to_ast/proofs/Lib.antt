@@ -2,6 +2,7 @@ pub mod Grammar
 pub mod Gaps
 pub mod Noting
 pub mod GapEnds
+pub mod Lent
 pub mod Collecting
 pub mod Scans
 pub mod Names

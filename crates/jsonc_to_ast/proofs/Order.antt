@@ -1,15 +1,15 @@
 -- Of two places that reading comes to, one lies before the other.
-use Rattle.std.proofs.Common.{ℕ, ◌+◌, ◌<◌, ◌≤◌, ◌≡◌, ◌∙◌, sym, ap, subst, refl, Bool, List, [], ◌∷◌, ◌++◌, length, length-append, arith, inl, inr, ◌⊎◌}
-use Rattle.jsonc_text.specs.Gaps.{Gap, none, blank, comment, IsComment, line, block}
+use Rattle.std.proofs.Common.{ℕ, ◌<◌, ◌≤◌, ◌≡◌, sym, ap, subst, refl, Bool, List, ◌∷◌, ◌++◌, length, length-append, arith, inl, inr, ◌⊎◌}
+use Rattle.jsonc_text.specs.Gaps.{Gap, none, blank, comment, line, block}
 use Rattle.jsonc_text.specs.Lexemes.{LexemeKind, Lexeme, lexeme}
 use Rattle.jsonc_text.specs.Options.{Options}
 use Rattle.jsonc_text.proofs.Alone.{some_text}
 use Rattle.jsonc_text.proofs.BlockComments.{block_inside}
 use Rattle.jsonc_text.proofs.Cuts.{many_split}
-use Rattle.jsonc_to_ast.specs.Reached.{Opened, Due, document, Place, at, Step, ComesTo, here, on, Reached}
-use Rattle.jsonc_to_ast.specs.Told.{Fault, Stops, Told}
+use Rattle.jsonc_to_ast.specs.Reached.{Opened, Due, Place, at, Step, ComesTo, here, on}
+use Rattle.jsonc_to_ast.specs.Told.{Fault, Stops}
 use Rattle.jsonc_to_ast.specs.Laws.{HasOneWay, HasOneFault}
-use Rattle.jsonc_to_ast.proofs.ReadLexemes.{left, OneLexeme, one_lexeme}
+use Rattle.jsonc_to_ast.proofs.ReadLexemes.{left, one_lexeme}
 use Rattle.jsonc_to_ast.proofs.Unique.{step_unique, stops_no_step, stops_unique}
 
 pub order : {o : Options} {whole : Bool} {p n r : Place} → ComesTo o whole p n → ComesTo o whole p r → ComesTo o whole n r ⊎ ComesTo o whole r n

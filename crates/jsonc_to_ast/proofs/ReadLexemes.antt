@@ -7,7 +7,7 @@ use Rattle.jsonc_text.specs.Grammar.{IsName}
 use Rattle.jsonc_to_ast.specs.declared.container.Container.{Container}
 use Rattle.jsonc_to_ast.specs.declared.container.Container.TheVariants.{Array, Object}
 use Rattle.jsonc_to_ast.specs.Containers.{opening, closing}
-use Rattle.jsonc_to_ast.specs.Reached.{Opened, Due, Place, at, Step, takes_literal, opens, closes, takes_comma, takes_name, takes_colon, ComesTo, here, on, Reached, after_value}
+use Rattle.jsonc_to_ast.specs.Reached.{Opened, Place, at, Step, takes_literal, opens, closes, takes_comma, takes_name, takes_colon, ComesTo, here, on, Reached, after_value}
 use Rattle.jsonc_to_ast.specs.Laws.{Lexemes, none, more}
 
 -- the text from a place on

@@ -1,10 +1,10 @@
 -- A text that reading goes through to its end is a document.
-use Rattle.std.proofs.Common.{ℕ, suc, max, ◌+◌, ◌≤◌, ◌≡◌, ◌∙◌, sym, ap, subst, refl, Bool, true, false, ◌&&◌, List, [], ◌∷◌, length, Option, Some, None, IsTrue, arith, nat_lt, inl, inr, ◌⊎◌}
+use Rattle.std.proofs.Common.{ℕ, ◌+◌, ◌≤◌, ◌≡◌, refl, Bool, true, false, List, [], ◌∷◌, length, Some, None, IsTrue, arith, nat_lt, inl, inr, ◌⊎◌}
 use Rattle.jsonc_text.specs.Gaps.{Gap}
 use Rattle.jsonc_text.specs.Grammar.{IsValue, AreElements, AreProperties, IsProperty, literal_value, literal, empty_array, array, empty_object, object, last_element, element, last_property, property, named, Separates, Closes}
 use Rattle.jsonc_text.specs.Lexemes.{LexemeKind, punctuation}
 use Rattle.jsonc_text.specs.Options.{Options}
-use Rattle.jsonc_text.specs.Plain.{Plain, Items, no_items, item, Members, no_members, member, depth, items_depth, members_depth, around, items_around, members_around}
+use Rattle.jsonc_text.specs.Plain.{Plain, Items, no_items, item, Members, no_members, member, items_depth, members_depth, items_around, members_around}
 use Rattle.jsonc_text.specs.Words.{Keyword}
 use Rattle.jsonc_to_ast.specs.declared.container.Container.{Container}
 use Rattle.jsonc_to_ast.specs.declared.container.Container.TheVariants.{Array, Object}

@@ -1,16 +1,16 @@
 -- Worked rows.
-use Rattle.std.proofs.Common.{ℕ, ◌≡◌, ◌≢◌, refl, Bool, true, false, List, [], ◌∷◌, Some, codes, IsTrue, not, ◌==◌}
+use Rattle.std.proofs.Common.{ℕ, refl, true, false, List, [], ◌∷◌, codes, IsTrue, not, ◌==◌}
 use Rattle.jsonc_text.proofs.Basics.{clash, eq_test}
 use Rattle.jsonc_text.specs.declared.errors.ParseErrorKind.TheVariants.{ExpectedComma, UnterminatedArray}
-use Rattle.jsonc_text.specs.Gaps.{Gap, none, blank}
-use Rattle.jsonc_text.specs.Lexemes.{LexemeKind, Lexeme, string, number}
-use Rattle.jsonc_text.specs.Numbers.{Number, Sign, Unsigned, Whole, Fraction, Exponent}
+use Rattle.jsonc_text.specs.Gaps.{none, blank}
+use Rattle.jsonc_text.specs.Lexemes.{Lexeme, string, number}
+use Rattle.jsonc_text.specs.Numbers.{Sign, Unsigned, Whole, Fraction, Exponent}
 use Rattle.jsonc_text.specs.Options.{plain_json}
-use Rattle.jsonc_text.specs.Strings.{IsString, Decodes, Piece, Pieces}
+use Rattle.jsonc_text.specs.Strings.{Piece, Pieces}
 use Rattle.jsonc_text.specs.Text.{stop}
 use Rattle.jsonc_to_ast.specs.declared.container.Container.TheVariants.{Array}
 use Rattle.jsonc_to_ast.specs.Reached.{container, at, comma, of_text, of_array, first_item, takes_literal, opens, here, on}
-use Rattle.jsonc_to_ast.specs.Told.{Fault, fault, Told, wrong_lexeme, wrong_ending}
+use Rattle.jsonc_to_ast.specs.Told.{fault, Told, wrong_lexeme, wrong_ending}
 
 -- a string of one character
 one_string : (c : ℕ) (r : List ℕ) → IsTrue (not (c == 0x22)) → IsTrue (not (c == 0x5C)) → Lexeme plain_json (string (c ∷ [])) (0x22 ∷ c ∷ 0x22 ∷ r) r

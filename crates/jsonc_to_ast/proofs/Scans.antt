@@ -16,6 +16,7 @@ use Rattle.jsonc_text.proofs.Cuts.{place_after}
 use Rattle.jsonc_to_ast.specs.declared.context.Context.{Context}
 use Rattle.jsonc_to_ast.specs.Collected.{collected, CollectsMore, NotesMore, Collects}
 use Rattle.jsonc_to_ast.specs.Context.{text_in, options_in, token_start, token_end, tokens_asked, comments_asked, Keeps, Passes, Finds, IsBracket, Leads, IsToken}
+use Rattle.jsonc_to_ast.specs.Lent.{AreLentIn}
 use Rattle.jsonc_ast.specs.Located.{Between, One, Ends, TrailingComma}
 use Rattle.jsonc_to_ast.proofs.Collecting.{placed_here, collects_same, collects_comment}
 use Rattle.jsonc_to_ast.proofs.Gaps.{join, change, nothing, passed, stands, comment_passed, gap_append}
@@ -62,14 +63,14 @@ module _ {A : Type 0} where
   -- a comment after a gap
   pub passing_on : (start now new : Context A) (s : Scanner A) (f : Option (Token A)) (t : Token A) → f ≡ Some t → new.scanner ≡ s → tokens_asked new ≡ tokens_asked now → new.comments_are_tokens ≡ now.comments_are_tokens → comments_asked new ≡ comments_asked now
       → Passing start now → PassesBlanks now.scanner s → StandsAt s f → is_comment (scanned_of t) ≡ true → IsTrue (options_of s).comments
-      → (now.comments_are_tokens ≡ true → CollectsMore now new (placed_here s (scanned_of t) ∷ [])) → (now.comments_are_tokens ≡ false → collected new ≡ collected now) → NotesMore now new (placed_here s (scanned_of t) ∷ []) → Passing start new
-  passing_on start now new s f t is same asked strategy apart h blanks at comment allowed more none_more noted =
+      → (now.comments_are_tokens ≡ true → CollectsMore now new (placed_here s (scanned_of t) ∷ [])) → (now.comments_are_tokens ≡ false → collected new ≡ collected now) → (AreLentIn (text_of s) now.tokens → AreLentIn (text_of s) new.tokens) → NotesMore now new (placed_here s (scanned_of t) ∷ []) → Passing start new
+  passing_on start now new s f t is same asked strategy apart h blanks at comment allowed more none_more lent noted =
       let may : IsTrue (options_in start).comments = ap (λ p. p.comments) (sym (blanks.options ∙ h.kept.options)) ∙ allowed in
       let gap = comment_passed (text_in start) (options_in start) (token_end start) now.scanner s t h.kept.text h.kept.options blanks h.gap (subst (StandsAt s) is at) comment may in
       record {
         kept = record { text = ap text_of same ∙ blanks.text ∙ h.kept.text; options = ap options_of same ∙ blanks.options ∙ h.kept.options; tokens = asked ∙ h.kept.tokens; comments = strategy ∙ h.kept.comments; apart = apart ∙ h.kept.apart };
         gap = subst (λ x. Between (text_in start) (Gap (options_in start)) (token_end start) (end_of x)) (sym same) gap;
-        collects = collects_comment start now new s f t h.kept h.collects blanks same at is comment more none_more noted (ap (λ p. p.comments) (sym blanks.options) ∙ allowed);
+        collects = collects_comment start now new s f t h.kept h.collects blanks same at is comment more none_more lent noted (ap (λ p. p.comments) (sym blanks.options) ∙ allowed);
       }
 
   -- a token that is punctuation

@@ -1,7 +1,6 @@
 -- Strings and names, as they are kept.
-use Rattle.std.proofs.Common.{ℕ, ◌≡◌, ◌∙◌, ◌++◌, sym, ap, subst, refl, List, [], ◌∷◌, map, Option, Some, None, chars}
-use Rattle.std.specs.List.{All, flat_map}
-use Rattle.std.specs.Cow.{cow_str_bytes}
+use Rattle.std.proofs.Common.{ℕ, ◌≡◌, ◌∙◌, ◌++◌, sym, ap, subst, refl, List, [], ◌∷◌, map, Some, None, chars}
+use Rattle.std.specs.List.{flat_map}
 use Rattle.std.specs.declared.borrow.CowStr.{CowStr}
 use Rattle.std.proofs.lemmas.List.{map_push, append-nil}
 use Rattle.std.proofs.lemmas.List.Elements.{All-append, All-nil, All-cons}

@@ -1,9 +1,9 @@
 -- One step leads on from a place, or one fault is told there.
-use Rattle.std.proofs.Common.{ℕ, ◌≡◌, ◌∙◌, sym, ap, refl, Bool, true, false, cond, not, ◌||◌, ◌==◌, List, [], ◌∷◌, Option, Some, None, IsTrue, inl, inr}
+use Rattle.std.proofs.Common.{ℕ, ◌≡◌, ◌∙◌, sym, ap, refl, Bool, true, false, cond, not, ◌==◌, List, [], ◌∷◌, Some, None, IsTrue, inl, inr}
 use Rattle.jsonc_text.specs.declared.errors.ParseErrorKind.{ParseErrorKind}
 use Rattle.jsonc_text.specs.Gaps.{Gap, IsComment, is_blank}
 use Rattle.jsonc_text.specs.Text.{next, starts}
-use Rattle.jsonc_text.specs.Grammar.{IsName, literal_value, may_name}
+use Rattle.jsonc_text.specs.Grammar.{literal_value, may_name}
 use Rattle.jsonc_text.specs.Lexemes.{LexemeKind, Lexeme, lexeme, punctuation, string}
 use Rattle.jsonc_text.specs.Options.{Options}
 use Rattle.jsonc_text.specs.Plain.{Plain}
@@ -14,12 +14,12 @@ use Rattle.jsonc_scan.specs.Told.{Tells}
 use Rattle.jsonc_scan.proofs.OneFault.{one_fault as one_lexeme_fault}
 use Rattle.jsonc_to_ast.specs.declared.container.Container.{Container}
 use Rattle.jsonc_to_ast.specs.declared.container.Container.TheVariants.{Array, Object}
-use Rattle.jsonc_to_ast.specs.Containers.{opening, closing}
+use Rattle.jsonc_to_ast.specs.Containers.{closing}
 use Rattle.jsonc_to_ast.specs.Scanned.{begins_value}
 use Rattle.jsonc_to_ast.specs.Reached.{Opened, container, property, Due, document, end, first, further, comma, colon, value, Place, at, ItemMayCome, first_item, further_item, without_comma, ValueMayCome, of_text, of_array, of_property, CloseMayCome, empty, after_item, after_comma, Step, takes_literal, opens, closes, takes_comma, takes_name, takes_colon, after_value, is_deep}
-use Rattle.jsonc_to_ast.specs.Told.{Fault, fault, is_mark, wrong, wrong_value, wrong_name, wrong_item, wrong_end, Stops, no_lexeme, wrong_lexeme, wrong_ending}
+use Rattle.jsonc_to_ast.specs.Told.{Fault, fault, is_mark, wrong, wrong_value, wrong_name, wrong_item, Stops, no_lexeme, wrong_lexeme, wrong_ending}
 use Rattle.jsonc_to_ast.proofs.EndsOfGaps.{gap_end, lexeme_ends, end_ends, comment_ends, tells_ends, tells_first, tells_no_lexeme, tells_no_comment, comment_no_lexeme}
-use Rattle.jsonc_to_ast.proofs.ReadLexemes.{opening_mark, closing_mark}
+use Rattle.jsonc_to_ast.proofs.ReadLexemes.{closing_mark}
 
 -- the place after a lexeme that may stand there
 pub past_value : LexemeKind → List Opened → List ℕ → List ℕ → Place

@@ -14,6 +14,7 @@ use Rattle.jsonc_to_ast.specs.declared.collect.CommentCollectionStrategy.TheVari
 use Rattle.jsonc_to_ast.specs.declared.context.Context.{Context}
 use Rattle.jsonc_to_ast.specs.Comments.{MapOf, HasPassed, ShowsGaps, AreUnderEnds}
 use Rattle.jsonc_to_ast.specs.Context.{text_in, options_in, token_start, token_end, tokens_asked}
+use Rattle.jsonc_to_ast.specs.Lent.{AreLentIn}
 
 -- whether comments stand among the tokens
 abbrev pub takes_comments : CommentCollectionStrategy → Bool
@@ -79,6 +80,10 @@ module _ {A : Type 0} where
   abbrev pub OmitsComment : Context A → Context A → Type 0
   OmitsComment old new = old.comments_are_tokens ≡ false → collected new ≡ collected old
 
+  -- if the string tokens collected so far are lent where no backslash is in them, and copied elsewhere, so are they after more
+  abbrev pub StaysLent : Context A → Context A → Type 0
+  StaysLent old new = AreLentIn (text_in old) old.tokens → AreLentIn (text_in old) new.tokens
+
   -- where comments are asked for apart, those of these lexemes and comments are noted
   abbrev pub HasNoted : List Placed → Context A → Type 0
   HasNoted ts c = IfSome c.comments (HasPassed ts)
@@ -103,5 +108,6 @@ module _ {A : Type 0} where
     pub passed : List Placed
     pub stand : (ts : List Placed) → AreTokens (options_in old) (token_end new) (rest (text_in old) (token_end new)) ts → AreTokens (options_in old) (token_end old) (rest (text_in old) (token_end old)) (passed ++ ts)
     pub more : CollectsMore old new (taken old.comments_are_tokens passed)
+    pub lent : StaysLent old new
     pub noted : NotesMore old new passed
     pub silent : IsSilent (options_in old) passed

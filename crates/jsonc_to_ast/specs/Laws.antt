@@ -5,7 +5,7 @@ use Rattle.jsonc_text.specs.Grammar.{IsDocument}
 use Rattle.jsonc_text.specs.Plain.{Plain}
 use Rattle.jsonc_text.specs.Lexemes.{LexemeKind, Lexeme}
 use Rattle.jsonc_text.specs.Options.{Options}
-use Rattle.jsonc_to_ast.specs.Reached.{Opened, Due, Place, at, Reached, size}
+use Rattle.jsonc_to_ast.specs.Reached.{Opened, Due, at, Reached, size}
 use Rattle.jsonc_to_ast.specs.Told.{Fault, wrong_end, Told}
 
 -- s is lexemes, with a gap before each, and then t

@@ -5,6 +5,7 @@ pub mod Context
 pub mod Reads
 pub mod Comments
 pub mod Refusals
+pub mod Lent
 pub mod Collected
 pub mod Reached
 pub mod Told

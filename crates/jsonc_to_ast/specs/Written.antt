@@ -1,11 +1,10 @@
--- How the strings and names of a syntax tree, and the string tokens of a list, stand in their text.
-use Rattle.std.specs.Prelude.{ℕ, ◌≡◌, List, ◌∷◌, [], Option, Some, None, chars}
+-- How the strings and names of a syntax tree stand in their text.
+use Rattle.std.specs.Prelude.{ℕ, ◌≡◌, List, ◌∷◌, [], Option, Some, chars}
 use Rattle.std.specs.List.{All}
 use Rattle.std.specs.Cow.{cow_str_bytes}
 use Rattle.jsonc_text.specs.declared.common.Range.{Range}
 use Rattle.jsonc_text.specs.declared.tokens.Token.{Token}
 use Rattle.jsonc_text.specs.declared.tokens.Token.TheVariants as token
-use Rattle.jsonc_text.specs.declared.tokens.TokenAndRange.{TokenAndRange}
 use Rattle.jsonc_text.specs.Lexemes.{LexemeKind, Lexeme, lexeme, string}
 use Rattle.jsonc_text.specs.Options.{Options}
 use Rattle.jsonc_string.specs.Escapes.{IsLentUnescaped}
@@ -27,15 +26,7 @@ module _ {A : Type 0} where
   abbrev pub AreWritten : Options → List ℕ → List (ObjectPropName A) → Type 0
   AreWritten o bytes = All (IsWritten o bytes)
 
-  -- a string token is lent by the text exactly where no backslash is in its literal
-  abbrev pub IsLentIn : List ℕ → TokenAndRange A → Type 0
-  IsLentIn bytes t = IsLentAt bytes t.range t.token
-    where
-      IsLentAt : List ℕ → Range → Token A → Type 0
-      IsLentAt bytes r (token.String v) = IsLentUnescaped bytes r.start r.end v
-      IsLentAt bytes r _ = Unit {0}
-
-  -- the last token, if it is a string, is so
+  -- the last token, if it is a string, is lent by the text exactly where no backslash is in it
   abbrev pub IsLentHere : Context A → Option (Token A) → Type 0
   IsLentHere c = IsLent c.scanner
 

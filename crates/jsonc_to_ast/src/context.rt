@@ -46,7 +46,7 @@ impl<'a, A: Allocator + Copy> Context<'a, A> {
     ghost use Rattle.jsonc_to_ast.specs.Context.{IsBracket};
     ghost use Rattle.jsonc_to_ast.specs.Refusals.{here, after};
     ghost use Rattle.jsonc_to_ast.specs.Written.{IsLentHere, IsWritten};
-    ghost use Rattle.jsonc_to_ast.specs.Collected.{takes_comments, is_separate, collected, CollectsLast, CollectsComment, OmitsComment, HasNoted, NotesComment, NotesLexeme, ShowsNoted, Collects};
+    ghost use Rattle.jsonc_to_ast.specs.Collected.{takes_comments, is_separate, collected, CollectsLast, CollectsComment, OmitsComment, StaysLent, HasNoted, NotesComment, NotesLexeme, ShowsNoted, Collects};
 
     /// A parser at the start of a text.
     pub fn new(
@@ -183,6 +183,7 @@ impl<'a, A: Allocator + Copy> Context<'a, A> {
         ensures comments { self.new.comments_are_tokens ≡ self.old.comments_are_tokens }
         ensures apart { self.new.comments ≡ self.old.comments }
         ensures collected { OnOk result (CollectsLast self.old self.new (scanned_of token.now)) }
+        ensures lent { OnOk result (IsLentHere self.old (Some token.now) → StaysLent self.old self.new) }
         ensures memory { IfErr result (λ e. kind_of e ≡ ParseErrorKind.OutOfMemory) }
         ensures fault { IfErr result (IsFault (text_in self.old)) }
     {
@@ -270,6 +271,7 @@ impl<'a, A: Allocator + Copy> Context<'a, A> {
         ensures noted { OnOk result (NotesComment self.old self.new (scanned_of comment.now)) }
         ensures collected { OnOk result (CollectsComment self.old self.new (scanned_of comment.now)) }
         ensures omitted { OnOk result (OmitsComment self.old self.new) }
+        ensures lent { OnOk result (IsLentHere self.old (Some comment.now) → StaysLent self.old self.new) }
         ensures allowed { OnOk result (IsTrue (options_in self.old).comments) }
         ensures refused { IfErr result (RefusesComment self.old) }
         ensures fault { IfErr result (IsFault (text_in self.old)) }

@@ -15,6 +15,7 @@ ghost use Rattle.jsonc_to_ast.specs.Told.{IsTold, IsUnexpected, StopsAtContainer
 ghost use Rattle.jsonc_to_ast.specs.declared.container.Container.TheVariants.{Object};
 ghost use Rattle.jsonc_ast.specs.Spelled.{spelled, spelled_in_property};
 ghost use Rattle.jsonc_ast.specs.Views.{located, member_of, plain};
+ghost use Rattle.jsonc_to_ast.specs.Lent.{AreLentIn};
 ghost use Rattle.jsonc_to_ast.specs.Results.{located_in, plain_in};
 ghost use Rattle.jsonc_to_ast.specs.Written.{AreWritten, AreWrittenIn, IsLentHere, spelled_of};
 
@@ -205,6 +206,7 @@ pub fn parse_to_ast<'a, A: Allocator + Copy>(
     ensures refused { IfErr result (RefusesText (parse_options options.now) text.now) }
     ensures tokens { IfOk result (λ r. is_some r.tokens ≡ collect.now.tokens) }
     ensures collected { IfOk result (HoldsCollected (parse_options options.now) text.now collect.now) }
+    ensures lent { IfOk result (λ r. AreLentIn text.now r.tokens) }
     ensures apart { IfOk result (λ r. is_some r.comments ≡ is_separate collect.now.comments) }
     ensures comments { IfOk result (HoldsComments (parse_options options.now) text.now) }
     ensures fault { IfErr result (IsFault text.now) }

@@ -8,10 +8,10 @@ use Rattle.jsonc_tree.specs.Content.{Content}
 use Rattle.jsonc_tree.specs.OrderedTree.{OrderedTree, none, more}
 use Rattle.jsonc_tree.specs.Values.{is_passed_over, is_loose_name, IsStringText, IsNameLeaf, HasNoValue, ValueOf, ItemsOf, MembersOf, PropertyOf, HoldsValue, DocumentValueOf}
 use Rattle.jsonc_tree.specs.Values as values
-use Rattle.jsonc_nodes.specs.Kinds.{is_element, is_colon}
+use Rattle.jsonc_nodes.specs.Kinds.{is_element, is_colon, is_property}
 use Rattle.jsonc_nodes.specs.Properties.{is_name}
 use Rattle.jsonc_nodes.specs.Names.{Names, StandsFor}
-use Rattle.jsonc_to_input.specs.Given.{Gives, FirstGives, GivesItems, GivesMembers, RowHasName, gives_nothing, is_property, from_colon, name_leaf, elements_before_colon, HaveColons, no_element, pass_to_element, first_element, no_more_items, pass_to_items, one_item, no_more_members, pass_to_members, one_member, named_value, no_property}
+use Rattle.jsonc_to_input.specs.Given.{Gives, FirstGives, GivesItems, GivesMembers, RowHasName, gives_nothing, from_colon, name_leaf, elements_before_colon, HaveColons, no_element, pass_to_element, first_element, no_more_items, pass_to_items, one_item, no_more_members, pass_to_members, one_member, named_value, no_property}
 use Rattle.jsonc_to_input.specs.Taken.{TreeGives}
 
 not_so : {X : Type 0} → false ≡ true → X

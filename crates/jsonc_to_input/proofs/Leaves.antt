@@ -11,7 +11,8 @@ use Rattle.jsonc_tree.specs.OrderedTree.{OrderedTree}
 use Rattle.jsonc_input.specs.declared.value.CstInputValue.{CstInputValue, Null, the_lemmas}
 use Rattle.jsonc_input.specs.Views.{plain}
 use Rattle.jsonc_nodes.specs.Names.{StandsFor, is_string}
-use Rattle.jsonc_to_input.specs.Given.{Gives, gives_nothing, is_property}
+use Rattle.jsonc_nodes.specs.Kinds.{is_property}
+use Rattle.jsonc_to_input.specs.Given.{Gives, gives_nothing}
 use Rattle.jsonc_to_input.specs.Taken.{IsTakenAt}
 
 not_so : {X : Type 0} → false ≡ true → X

@@ -9,7 +9,8 @@ use Rattle.jsonc_input.specs.declared.value.CstInputValue.{CstInputValue}
 use Rattle.jsonc_input.specs.Views.{plain, chars_of, items_plain, members_plain}
 use Rattle.jsonc_nodes.specs.Names.{HasName}
 use Rattle.jsonc_nodes.specs.Properties.{value_at}
-use Rattle.jsonc_to_input.specs.Given.{Gives, GivesMember, named_value, nameless, valueless, no_property, is_property, holds_value}
+use Rattle.jsonc_nodes.specs.Kinds.{is_property}
+use Rattle.jsonc_to_input.specs.Given.{Gives, GivesMember, named_value, nameless, valueless, no_property, holds_value}
 use Rattle.jsonc_to_input.specs.Taken.{GivesAt, IsTaken, IsTakenAt, AreTaken, AreMembersTaken, IsMemberTaken}
 use Rattle.jsonc_to_input.proofs.Shown.{value_gives, no_value_gives, has_name_shown, shown_has_name, tree_gives}
 

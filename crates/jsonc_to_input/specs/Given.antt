@@ -4,7 +4,7 @@ use Rattle.jsonc_text.specs.Plain.{Plain, Items, no_items, item, Members, no_mem
 use Rattle.jsonc_tree.specs.Content.{Content}
 use Rattle.jsonc_tree.specs.OrderedTree.{OrderedTree, none, more}
 use Rattle.jsonc_tree.specs.Values.{is_passed_over}
-use Rattle.jsonc_nodes.specs.Kinds.{is_element, is_colon}
+use Rattle.jsonc_nodes.specs.Kinds.{is_element, is_property, is_colon}
 use Rattle.jsonc_nodes.specs.Properties.{is_name}
 use Rattle.jsonc_nodes.specs.Names.{StandsFor, Names}
 
@@ -12,10 +12,6 @@ use Rattle.jsonc_nodes.specs.Names.{StandsFor, Names}
 abbrev pub gives_nothing : Content → Bool
 gives_nothing (Content.word s) = true
 gives_nothing content = is_passed_over content
-
-abbrev pub is_property : Content → Bool
-is_property Content.property = true
-is_property _ = false
 
 -- the root or a property, which gives what the node that is its value gives
 abbrev pub holds_value : Content → Bool

@@ -9,12 +9,19 @@ use crate::part::Part;
 use std::alloc::Allocator;
 
 /// How a line ends.
-#[derive(Clone, Copy, PartialEq, Eq, Debug, Default)]
+#[derive(Clone, Copy, PartialEq, Eq, Debug)]
 pub enum CstNewlineKind {
-    #[default]
     LineFeed,
     CarriageReturnLineFeed,
     CarriageReturn,
+}
+
+impl Default for CstNewlineKind {
+    fn default() -> Self
+        ensures { result ≡ CstNewlineKind.LineFeed }
+    {
+        CstNewlineKind::LineFeed
+    }
 }
 
 /// What a node is, a leaf with its text.

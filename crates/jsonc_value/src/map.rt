@@ -24,6 +24,7 @@ mod retain;
 
 use indexmap::{IndexSet, set};
 pub use iter::{IntoIter, Iter};
+pub use lends::Entry;
 use std::alloc::{AllocError, AllocFailed, Allocator};
 use std::borrow::CowStr;
 use std::hash::{BuildHasherDefault, FoldHasher, Hash};

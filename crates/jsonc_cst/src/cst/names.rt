@@ -4,11 +4,11 @@ ghost use Rattle.std.specs.Prelude.{◌≡◌, ◌≢◌, chars, string_bytes, I
 ghost use Rattle.jsonc_text.specs.declared.errors.ParseStringErrorKind.TheVariants.{OutOfMemory};
 ghost use Rattle.jsonc_nodes.specs.Names.{HasName, NameReads};
 ghost use Rattle.jsonc_cst.specs.Document.{nodes_of, Holds};
-ghost use Rattle.jsonc_cst.specs.Nodes.{object_node, object_prop_node, string_lit_node};
-ghost use Rattle.jsonc_cst.specs.Readings.{IsFirstNamed, LeafIsNoString, LeafStandsFor};
+ghost use Rattle.jsonc_cst.specs.Nodes.{name_node, object_node, object_prop_node, string_lit_node};
+ghost use Rattle.jsonc_cst.specs.Readings.{IsFirstNamed, LeafIsNoString, LeafStandsFor, NameIsNoString, NameStandsFor};
 ghost use Rattle.jsonc_cst.specs.Tree.{NodesAreTree};
 
-use super::node::{CstObject, CstObjectProp, CstStringLit};
+use super::node::{CstObject, CstObjectProp, CstStringLit, ObjectPropName};
 use super::{CstRootNode, EditError};
 use jsonc_text::errors::ParseStringErrorKind;
 use std::alloc::Allocator;
@@ -26,6 +26,26 @@ impl CstStringLit {
         ensures fault { IfErr result (λ k. k ≢ OutOfMemory → LeafIsNoString doc.now self k) }
     {
         jsonc_nodes::decoded_value(doc.alloc, &doc.tree, self.number)
+    }
+}
+
+impl ObjectPropName {
+    /// What the name stands for: a string decoded, as by its own call, and a word as it is written.
+    pub fn decoded_value<A: Allocator + Copy>(
+        self,
+        doc: &CstRootNode<A>,
+    ) -> Result<String<A>, ParseStringErrorKind>
+        requires { Holds doc.now (name_node self) }
+        ensures found { IfOk result (λ s. NameStandsFor doc.now self (chars (string_bytes s))) }
+        ensures fault { IfErr result (λ k. k ≢ OutOfMemory → NameIsNoString doc.now self k) }
+    {
+        match self {
+            ObjectPropName::String(string) => string.decoded_value(doc),
+            ObjectPropName::Word(word) => match String::from_str(doc.alloc, word.raw_value(doc)) {
+                Ok(text) => Ok(text),
+                Err(_) => Err(ParseStringErrorKind::OutOfMemory),
+            },
+        }
     }
 }
 

@@ -1,7 +1,8 @@
 use Rattle.std.proofs.Common.{refl, length, sym, ap, ◌∙◌}
 use Rattle.jsonc_tree.specs.Order.{upward}
 use Rattle.jsonc_tree.proofs.Order.{parent_within}
-use Rattle.jsonc_lines.specs.Indents.{beyond_properties, is_property}
+use Rattle.jsonc_nodes.specs.Kinds.{is_property}
+use Rattle.jsonc_lines.specs.Indents.{beyond_properties}
 use Rattle.jsonc_lines.proofs.Climbing.{beyond_here, beyond_none, beyond_on, climb_smaller}
 use Rattle.jsonc_lines.proofs.indents.beyond_properties.Goals as goal
 

@@ -3,7 +3,7 @@ use Rattle.jsonc_ast.specs.Located.{IsLocatedDocument}
 use Rattle.jsonc_ast.specs.Views.{located}
 use Rattle.jsonc_to_ast.proofs.Grammar.{located_document}
 use Rattle.jsonc_to_ast.proofs.Leaves.{empty_document, value_document}
-use Rattle.jsonc_to_ast.proofs.Collecting.{collects_turn, all_collected, all_noted}
+use Rattle.jsonc_to_ast.proofs.Collecting.{collects_turn, all_collected, all_lent, all_noted}
 use Rattle.jsonc_to_ast.proofs.Scans.{moved, kept_on}
 use Rattle.std.proofs.Common.{inr}
 use Rattle.jsonc_to_ast.proofs.NoValues.{value_read, document_no_token, document_no_value, document_no_end, document_goes_on, document_from_start}
@@ -169,3 +169,20 @@ returns-clause-written g c =
     let here = c.scan.new.self in
     let value = c.in_ok-value.ensures.written (subst (IsLentHere here) c.in-Some.is c.in_ok-token.ensures.lent) in
     written_from_start old (spelled c.in_ok-value.value) _ _ start.text start.options (still_written old here (spelled c.in_ok-value.value) c.scan.ensures.kept value)
+
+pub returns-in_default-clause-lent : goal.returns-in_default-clause-lent
+returns-in_default-clause-lent g c =
+    let start = c.new-context.ensures in
+    all_lent c.new-context.result c.scan.new.self _ _ start.text start.collected c.in_ok-token.ensures.collects c.take_comments.ensures.tokens
+
+pub returns-clause-lent : goal.returns-clause-lent
+returns-clause-lent g c =
+    let start = c.new-context.ensures in
+    let old = c.new-context.result in
+    let now = c.scan.new.self in
+    let mid = c.parse_value.new.context in
+    let end = c.scan-2.new.self in
+    let read = c.in_ok-token.ensures in
+    let value = c.in_ok-value.ensures in
+    let last = c.in_ok-scan.ensures in
+    all_lent old end _ _ start.text start.collected (collects_turn old now mid end read.kept read.collects value.kept value.collects last.collects) c.take_comments-2.ensures.tokens

@@ -1,4 +1,5 @@
-use Rattle.std.proofs.Common.{sym, ◌∙◌, refl}
+use Rattle.std.proofs.Common.{sym, ◌∙◌, refl, subst}
+use Rattle.jsonc_scan.specs.Scanner.{IsLent}
 use Rattle.jsonc_to_ast.proofs.Scans.{passing_start, scan_found, passing_on}
 use Rattle.jsonc_to_ast.proofs.Collecting.{collects_end, collects_nothing, collects_on_lexeme}
 use Rattle.jsonc_to_ast.proofs.Refusals.{err_of, scan_refused, comment_refused}
@@ -21,6 +22,7 @@ pub loop-token-preserved : goal.loop-token-preserved
 loop-token-preserved g c =
     passing_on c.args.self.now c.loop-token.self c.pass_comment.new.self c.scan.new.self c.in_ok-token.field-0 c.in-Some.token c.in-Some.is c.pass_comment.ensures.scanner c.pass_comment.ensures.tokens c.pass_comment.ensures.comments c.pass_comment.ensures.apart
     c.loop-token.invariant c.scan.ensures.blanks c.in_ok-token.ensures.found (sym c.is_comment.ensures ∙ c.if-not-is_comment.false) c.in_ok-pass_comment.ensures.allowed c.in_ok-pass_comment.ensures.collected c.in_ok-pass_comment.ensures.omitted
+    (c.in_ok-pass_comment.ensures.lent (subst (IsLent c.scan.new.self) c.in-Some.is c.in_ok-token.ensures.lent))
     (c.in_ok-pass_comment.ensures.noted (sym c.is_comment.ensures ∙ c.if-not-is_comment.false))
 
 pub returns-in_err-token-clause-refused : goal.returns-in_err-token-clause-refused
@@ -39,13 +41,14 @@ returns-in_err-pass_comment-clause-refused g c =
 pub returns-in_default-clause-collects : goal.returns-in_default-clause-collects
 returns-in_default-clause-collects g c =
     let so_far = c.loop-token.invariant in
-    collects_end c.args.self.now c.loop-token.self _ c.scan.new.self c.in_ok-token.field-0 so_far.kept so_far.collects c.scan.ensures.blanks refl c.in_ok-token.ensures.found c.in_default.is refl (λ ts h. h)
+    collects_end c.args.self.now c.loop-token.self _ c.scan.new.self c.in_ok-token.field-0 so_far.kept so_far.collects c.scan.ensures.blanks refl c.in_ok-token.ensures.found c.in_default.is refl (λ h. h) (λ ts h. h)
 
 pub returns-then-not-is_comment-clause-collects : goal.returns-then-not-is_comment-clause-collects
 returns-then-not-is_comment-clause-collects g c =
     let so_far = c.loop-token.invariant in
     collects_on_lexeme c.args.self.now c.loop-token.self c.collect.new.self c.end_gap.new.self c.scan.new.self c.in_ok-token.field-0 c.in-Some.token so_far.kept so_far.collects c.scan.ensures.blanks c.collect.ensures.scanner c.in_ok-token.ensures.found c.in-Some.is
-    (sym c.is_comment.ensures ∙ c.if-not-is_comment.true) c.in_ok-collect.ensures.collected c.collect.ensures.apart c.end_gap.ensures.scanner c.end_gap.ensures.tokens c.in_ok-end_gap.ensures.noted
+    (sym c.is_comment.ensures ∙ c.if-not-is_comment.true) c.in_ok-collect.ensures.collected (c.in_ok-collect.ensures.lent (subst (IsLent c.scan.new.self) c.in-Some.is c.in_ok-token.ensures.lent))
+    c.collect.ensures.apart c.end_gap.ensures.scanner c.end_gap.ensures.tokens c.in_ok-end_gap.ensures.noted
 
 pub returns-then-not-collects-clause-found : goal.returns-then-not-collects-clause-found
 returns-then-not-collects-clause-found g c =
@@ -55,7 +58,7 @@ pub returns-then-not-collects-clause-collects : goal.returns-then-not-collects-c
 returns-then-not-collects-clause-collects g c =
     let so_far = c.loop-token.invariant in
     collects_nothing c.args.self.now c.loop-token.self c.scan.new.self c.in_ok-token.field-0 c.in-Some.token _ so_far.kept so_far.collects c.scan.ensures.blanks refl c.in_ok-token.ensures.found c.in-Some.is
-    (sym c.is_comment.ensures ∙ c.if-not-is_comment.true) (c.collects.ensures.tokens c.if-not-collects.true) (c.collects.ensures.comments c.if-not-collects.true)
+    (sym c.is_comment.ensures ∙ c.if-not-is_comment.true) (c.collects.ensures.tokens c.if-not-collects.true) refl (c.collects.ensures.comments c.if-not-collects.true)
 
 pub returns-in_err-token-clause-told : goal.returns-in_err-token-clause-told
 returns-in_err-token-clause-told g c =
