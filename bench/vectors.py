@@ -3,8 +3,6 @@ import glob
 import os
 import re
 
-# Files whose answers follow a rule that the Rust crate does not have: that edits write a space where literals would join.
-OTHER_RULES = {'spaces.cases'}
 EDITS = {'Replace', 'RemoveComment'}
 COMMANDS_TO_COME = {b'set': 3, b'append': 2, b'remove': 2, b'sort': 1}
 
@@ -36,10 +34,8 @@ def is_not_yet(case):
 
 
 def read(folder):
-    """Every case of a folder with its stored answer, both as lists of fields, file by file, but for those of other rules."""
+    """Every case of a folder with its stored answer, both as lists of fields, file by file."""
     for path in sorted(glob.glob(os.path.join(folder, '*.cases'))):
-        if os.path.basename(path) in OTHER_RULES:
-            continue
         with open(path, encoding='ascii', newline='\n') as cases:
             cases = cases.read().split('\n')
         with open(path.removesuffix('cases') + 'answers', encoding='ascii', newline='\n') as answers:

@@ -9,10 +9,11 @@
 //! [`replace`] lets a node give way to a new value, laid out as the document tells
 //! (`specs/Replacing.antt`, `specs/Reading.antt`). All memory is asked for before the document changes.
 //! A value whose numbers are numbers is laid out as a whole value, which may stand where another stood
-//! (`specs/Writing.antt`). So where no comma may be missing the text is a document again, whose value
-//! is the old one with the new value at the path (`specs/Written.antt`).
+//! (`specs/Writing.antt`). So the text is a document again, whose value is the old one with the new
+//! value at the path (`specs/Written.antt`). Where two literals without quotes would come to stand
+//! directly beside each other, a space comes between them (`specs/Spaced.antt`).
 //! [`remove_comment`] takes a comment out, a line comment with what stands before it on its line
-//! (`specs/Comments.antt`), and asks for no memory.
+//! (`specs/Comments.antt`), and asks for memory only where a space has to come in its place.
 //! [`EditError`] says why a document was not changed.
 #![tactic(auto)]
 

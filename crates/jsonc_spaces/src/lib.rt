@@ -4,8 +4,8 @@
 //! `null` stand directly beside each other that did not before. Then a space comes between them: in the
 //! innermost container that holds both, directly before the child that holds the second
 //! (`specs/Due.antt`). Leaves that print nothing are passed over. [`due_between`], [`due_before`] and
-//! [`due_behind`] tell where one is due, [`add_space`] makes it, nobody's child yet, and [`put_before`]
-//! puts it in, which takes no memory (`specs/Put.antt`).
+//! [`due_behind`] tell where one is due, [`make_spaces`] makes it, nobody's child yet, and
+//! [`put_spaces`] puts it in, which takes no memory (`specs/Put.antt`).
 #![tactic(auto)]
 
 mod due;
