@@ -1,9 +1,9 @@
 -- What leaves with a comment is trivia, and it leaves the ordered tree.
-use Rattle.std.proofs.Common.{◌≡◌, ◌≢◌, ℕ, zero, suc, ◌+◌, ◌-◌, ◌<◌, ◌≤◌, Bool, true, false, ◌&&◌, List, [], ◌∷◌, ◌++◌, length, get_or, map, slice_index, slice_range, take, drop, reverse, Option, Some, None, IsTrue, inl, inr, refl, sym, ap, subst, ◌∙◌, arith, length-drop, get_or-drop}
+use Rattle.std.proofs.Common.{◌≡◌, ◌≢◌, ℕ, zero, suc, ◌+◌, ◌-◌, ◌<◌, ◌≤◌, Bool, true, false, ◌&&◌, ◌||◌, List, [], ◌∷◌, ◌++◌, length, get_or, map, slice_index, slice_range, take, drop, reverse, Option, Some, None, IsTrue, inl, inr, refl, sym, ap, subst, ◌∙◌, arith, length-drop, get_or-drop}
 use Rattle.std.proofs.lemmas.Bool.{cases_Bool, cases_lt}
 use Rattle.std.proofs.lemmas.List.{take_more, map-append}
 use Rattle.std.proofs.lemmas.List.Edits.{get_or-between, length-between, split_between}
-use Rattle.jsonc_tree.specs.Content.{Content, root, is_container}
+use Rattle.jsonc_tree.specs.Content.{Content, root, comment, is_container}
 use Rattle.jsonc_tree.specs.Changes.{CanJoin}
 use Rattle.jsonc_tree.specs.OrderedTree.{OrderedTree, none, more, leaves, followed_by, Shows, shows_none, shows_more, ordered_tree, Replaced, here, deeper, later}
 use Rattle.jsonc_tree.specs.Tree.{Node, content_at, parent_at, children_at, place_at, IsTree, IsOver}
@@ -22,6 +22,7 @@ use Rattle.jsonc_seams.specs.Spaces.{meet}
 use Rattle.jsonc_seams.proofs.Apart.{document_alone}
 use Rattle.jsonc_seams.proofs.RowsTell.{kept_without_comment_in_row}
 use Rattle.jsonc_seams.proofs.RowsWithin.{both_within}
+use Rattle.jsonc_marks.specs.Changes.{AreBlanks}
 use Rattle.jsonc_spaces.specs.Due.{nearest, begins_bare, ends_bare, seen_before, seen_behind, behind_holder}
 use Rattle.jsonc_spaces.proofs.Whole.{Whole, whole_before, whole_behind, whole_within}
 use Rattle.jsonc_spaces.proofs.Meeting.{meet_bare}
@@ -52,6 +53,25 @@ comment_ends : (c : Content) → IsTrue (is_comment c) → EndsInComment (c ∷ 
 comment_ends (Content.comment s) h = one_comment
 comment_ends c h = cc
 
+-- blanks, or a line's end
+abbrev is_gap : Content → Bool
+is_gap content = is_whitespace content || is_newline content
+
+abbrev is_gap_at : List Node → ℕ → Bool
+is_gap_at ns n = is_gap (content_at ns n)
+
+whitespace_gap : (c : Content) → is_whitespace c ≡ true → IsTrue (is_gap c)
+whitespace_gap c h = ap (λ b. b || is_newline c) h
+
+newline_gap : (c : Content) → is_newline c ≡ true → IsTrue (is_gap c)
+newline_gap (Content.newline k) h = refl
+newline_gap c h = cc
+
+gap_trivia : (c : Content) → IsTrue (is_gap c) → IsTrue (is_trivia c)
+gap_trivia (Content.whitespace s) h = refl
+gap_trivia (Content.newline k) h = refl
+gap_trivia c h = cc
+
 module _ (ns : List Node) (row : List ℕ) where
   blanks_before : (place : ℕ) → blanks_from ns row place ≤ place
   blanks_before zero = omega arith
@@ -61,7 +81,7 @@ module _ (ns : List Node) (row : List ℕ) where
         | inr h ↦ (let e : blanks_from ns row (suc place) ≡ suc place = rw h refl in omega (arith, e))
       ]
 
-  blanks_are : (place at : ℕ) → blanks_from ns row place ≤ at → at < place → IsTrue (is_trivia_at ns (slice_index row at))
+  blanks_are : (place at : ℕ) → blanks_from ns row place ≤ at → at < place → IsTrue (is_gap_at ns (slice_index row at))
   blanks_are zero at a b = absurd (omega (arith, b))
   blanks_are (suc place) at a b =
       elim (cases_Bool (is_whitespace_at ns (slice_index row place))) [
@@ -70,7 +90,7 @@ module _ (ns : List Node) (row : List ℕ) where
             let e : blanks_from ns row (suc place) ≡ blanks_from ns row place = rw h refl in
             elim (cases_lt at place) [
               | inl l ↦ blanks_are place at (omega (arith, e, a)) l
-              | inr m ↦ (let same : place ≡ at = omega (arith, m, b) in subst (λ k. IsTrue (is_trivia_at ns (slice_index row k))) same (whitespace_trivia (content_at ns (slice_index row place)) h))
+              | inr m ↦ (let same : place ≡ at = omega (arith, m, b) in subst (λ k. IsTrue (is_gap_at ns (slice_index row k))) same (whitespace_gap (content_at ns (slice_index row place)) h))
             ]
       ]
 
@@ -82,7 +102,7 @@ module _ (ns : List Node) (row : List ℕ) where
         | inr h ↦ (let e : newline_from ns row (suc place) ≡ suc place = rw h refl in omega (arith, e))
       ]
 
-  newline_is : (place at : ℕ) → newline_from ns row place ≤ at → at < place → IsTrue (is_trivia_at ns (slice_index row at))
+  newline_is : (place at : ℕ) → newline_from ns row place ≤ at → at < place → IsTrue (is_gap_at ns (slice_index row at))
   newline_is zero at a b = absurd (omega (arith, b))
   newline_is (suc place) at a b =
       elim (cases_Bool (is_newline_at ns (slice_index row place))) [
@@ -90,8 +110,18 @@ module _ (ns : List Node) (row : List ℕ) where
         | inl h ↦
             let e : newline_from ns row (suc place) ≡ place = rw h refl in
             let s : place ≡ at = omega (arith, e, a, b) in
-            subst (λ k. IsTrue (is_trivia_at ns (slice_index row k))) s (newline_trivia (content_at ns (slice_index row place)) h)
+            subst (λ k. IsTrue (is_gap_at ns (slice_index row k))) s (newline_gap (content_at ns (slice_index row place)) h)
       ]
+
+-- these nodes are blanks if each is
+are_gaps : (ns : List Node) (xs : List ℕ) → ((k : ℕ) → k < length xs → IsTrue (is_gap_at ns (get_or xs k 0))) → AreBlanks (map (content_at ns) xs)
+are_gaps ns [] h = tt
+are_gaps ns (x ∷ xs) h = (h 0 (omega arith), are_gaps ns xs (λ k l. h (suc k) (omega (arith, l))))
+
+-- a comment has its text
+comment_text : (c : Content) → IsTrue (is_comment c) → (s : List ℕ) × (c ≡ Content.comment s)
+comment_text (Content.comment s) h = (s, refl)
+comment_text c h = cc
 
 -- these nodes are trivia if each is
 are_trivia : (ns : List Node) (xs : List ℕ) → ((k : ℕ) → k < length xs → IsTrue (is_trivia_at ns (get_or xs k 0))) → AreTrivia (map (content_at ns) xs)
@@ -128,8 +158,8 @@ module _ (ns : List Node) (tree : IsTree ns) where
           | inr h ↦ (let e : from ≡ place = rw h refl in omega (arith, e))
         ]
 
-    between_trivia : (at : ℕ) → from ≤ at → at < place → IsTrue (is_trivia_at ns (slice_index cs at))
-    between_trivia at a b =
+    between_gap : (at : ℕ) → from ≤ at → at < place → IsTrue (is_gap_at ns (slice_index cs at))
+    between_gap at a b =
         elim (cases_Bool (is_line_comment (content_at ns n))) [
           | inr h ↦ (let e : from ≡ place = rw h refl in absurd (omega (arith, e, a, b)))
           | inl h ↦
@@ -139,6 +169,9 @@ module _ (ns : List Node) (tree : IsTree ns) where
                 | inr m ↦ blanks_are ns cs place at m b
               ]
         ]
+
+    between_trivia : (at : ℕ) → from ≤ at → at < place → IsTrue (is_trivia_at ns (slice_index cs at))
+    between_trivia at a b = gap_trivia (content_at ns (slice_index cs at)) (between_gap at a b)
 
     abbrev gone : List ℕ
     gone = slice_range cs from (place + 1)
@@ -157,6 +190,16 @@ module _ (ns : List Node) (tree : IsTree ns) where
 
     gone_contents : map (content_at ns) gone ≡ map (content_at ns) first ++ content_at ns n ∷ []
     gone_contents = ap (map (content_at ns)) gone_is ∙ map-append (content_at ns) first (n ∷ [])
+
+    pub blanks_gone : AreBlanks (map (content_at ns) first)
+    blanks_gone =
+        are_gaps ns first (λ k l.
+        let le : from ≤ place = from_before in
+        let inn : place < length cs = tree.within n c said in
+        let size : length first ≡ place - from = length-between cs from place (omega (arith, inn)) in
+        let low : from + k < place = omega (arith, l, size, le) in
+        let here_is : get_or first k 0 ≡ get_or cs (from + k) 0 = get_or-between cs from place k 0 (omega (arith, low)) in
+        subst (λ m. IsTrue (is_gap_at ns m)) (sym here_is) (between_gap (from + k) (omega arith) low))
 
     trivia_gone : IsTrue (is_comment_at ns n) → AreTrivia (map (content_at ns) gone)
     trivia_gone h =
@@ -304,6 +347,21 @@ module _ (old new : List Node) (n : ℕ) (r : CommentRemoved old new n) where
     changed =
         subst (λ t. StretchChanged (leaves_gone r) [] t (ordered_tree new 0)) old_is
         (subst (λ t. StretchChanged (leaves_gone r) [] (more root (row_below old 0) none) t) new_is (root_changed three.front three.back some_gone row_was refl roots))
+
+  -- blanks, and the comment
+  pub gone_blanks : List Content
+  gone_blanks = map (content_at old) (slice_range row i (place_at old n))
+
+  pub gone_text : (s : List ℕ) × (content_at old n ≡ comment s)
+  gone_text = comment_text (content_at old n) r.comment
+
+  pub are_gone_blanks : AreBlanks gone_blanks
+  unfolding gone_blanks
+  are_gone_blanks = blanks_gone old r.tree c n r.parent
+
+  pub blanks_and_comment : leaves_gone r ≡ gone_blanks ++ comment gone_text.0 ∷ []
+  unfolding gone_blanks
+  blanks_and_comment = gone_contents old r.tree c n r.parent ∙ ap (λ w. map (content_at old) (slice_range row i (place_at old n)) ++ w ∷ []) gone_text.1
 
   pub takes_trivia : TakesTrivia r
   takes_trivia = record {

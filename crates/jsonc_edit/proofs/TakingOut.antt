@@ -6,12 +6,13 @@ use Rattle.std.specs.List.{All}
 use Rattle.jsonc_text.specs.Options.{Options}
 use Rattle.jsonc_text.specs.Plain.{Plain}
 use Rattle.jsonc_tree.specs.Building.{Keeps}
-use Rattle.jsonc_tree.specs.OrderedTree.{ordered_tree}
+use Rattle.jsonc_tree.specs.OrderedTree.{leaves, ordered_tree}
 use Rattle.jsonc_tree.specs.Tree.{Node, content_at, parent_at, children_at, place_at, IsTree, IsOver}
 use Rattle.jsonc_tree.specs.Values.{DocumentValueOf}
 use Rattle.jsonc_tree.proofs.Order.{parent_there}
 use Rattle.jsonc_nodes.specs.Kinds.{is_comment, is_newline, is_whitespace, is_whitespace_at}
 use Rattle.jsonc_build.specs.Lines.{is_line_comment}
+use Rattle.jsonc_sound.specs.Laws.{DiffersIn}
 use Rattle.jsonc_sound.proofs.TriviaLeaves.{document_differs}
 use Rattle.jsonc_sound.proofs.TriviaValues.{document_kept}
 use Rattle.jsonc_seams.specs.SoundTrees.{SoundTree}
@@ -25,7 +26,7 @@ use Rattle.jsonc_edit.proofs.Elements.{Some_same}
 use Rattle.jsonc_edit.proofs.DueKept.{due_between_same}
 use Rattle.jsonc_edit.proofs.Kept.{tree_stays, place_kept}
 use Rattle.jsonc_edit.proofs.Placed.{IsChild, between_children, between_placed}
-use Rattle.jsonc_edit.proofs.Removal.{from_before, takes_trivia, sound_without}
+use Rattle.jsonc_edit.proofs.Removal.{from_before, takes_trivia, gone_blanks, gone_text, are_gone_blanks, blanks_and_comment, sound_without}
 use Rattle.jsonc_edit.proofs.Spacing.{Spaced, all_spaced, parent_stays, spaces_sound, spaces_value}
 
 -- what leaves with a comment stays the same while other nodes are made
@@ -204,11 +205,11 @@ module _ (old new : List Node) (n : ℕ) (r : CommentTaken old new n) where
       let t = takes_trivia spaced_nodes new n removed in
       record {
         spaced = ordered_tree spaced_nodes 0;
-        gone = leaves_gone removed;
+        blanks = gone_blanks spaced_nodes new n removed;
+        text = (gone_text spaced_nodes new n removed).0;
         spaces = subst (λ u. SpacesPut u (ordered_tree spaced_nodes 0)) same_tree spaced.put;
-        trivia = t.trivia;
-        ends = t.ends;
-        around = document_differs (leaves_gone removed) [] t.trivia tt t.changed;
+        are_blanks = are_gone_blanks spaced_nodes new n removed;
+        around = subst (λ l. DiffersIn l [] (leaves (ordered_tree spaced_nodes 0)) (leaves (ordered_tree new 0))) (blanks_and_comment spaced_nodes new n removed) (document_differs (leaves_gone removed) [] t.trivia tt t.changed);
       }
 
   pub taken_sound : (o : Options) → SoundTree o (ordered_tree old 0) → SoundTree o (ordered_tree new 0)

@@ -1,5 +1,5 @@
 -- What leaves with a comment.
-use Rattle.std.specs.Prelude.{◌≡◌, ℕ, zero, suc, ◌+◌, List, [], ◌∷◌, Option, Some, None, codes, map, slice_index, slice_range, if◌then◌else◌, IsTrue}
+use Rattle.std.specs.Prelude.{◌≡◌, ℕ, zero, suc, ◌+◌, List, [], ◌∷◌, ◌++◌, Option, Some, None, codes, map, slice_index, slice_range, if◌then◌else◌, IsTrue}
 use Rattle.jsonc_text.specs.Options.{Options}
 use Rattle.jsonc_text.specs.Plain.{Plain}
 use Rattle.jsonc_tree.specs.Content.{Content, root, array, token, whitespace, newline, comment}
@@ -13,6 +13,7 @@ use Rattle.jsonc_build.specs.Lines.{is_line_comment}
 use Rattle.jsonc_sound.specs.Laws.{DiffersIn}
 use Rattle.jsonc_sound.specs.TriviaChanges.{AreTrivia, StretchChanged, EndsInComment}
 use Rattle.jsonc_seams.specs.SoundTrees.{SoundTree}
+use Rattle.jsonc_marks.specs.Changes.{AreBlanks}
 use Rattle.jsonc_spaces.specs.Due.{due_between, listed}
 use Rattle.jsonc_spaces.specs.Put.{AreSpaced, IfDue, Prepared}
 use Rattle.jsonc_edit.specs.Spaced.{SpacesPut}
@@ -86,14 +87,14 @@ pub record CommentTaken (old new : List Node) (n : ℕ) : Type 0 where
   pub parent : parent_at old n ≡ Some container
   pub taken : IsTakenOut old new n container
 
--- spaces have come into the document, and then trivia that ends in a comment has left it: all other leaves stay
+-- spaces have come into the document, and then a comment has left it, with the blanks and line ends before it that leave with it: all other leaves stay
 pub record LosesComment (old new : OrderedTree) : Type 0 where
   pub spaced : OrderedTree
-  pub gone : List Content
+  pub blanks : List Content
+  pub text : List ℕ
   pub spaces : SpacesPut old spaced
-  pub trivia : AreTrivia gone
-  pub ends : EndsInComment gone
-  pub around : DiffersIn gone [] (leaves spaced) (leaves new)
+  pub are_blanks : AreBlanks blanks
+  pub around : DiffersIn (blanks ++ comment text ∷ []) [] (leaves spaced) (leaves new)
 
 abbrev pub HasLeavesWithout : List Node → List Node → ℕ → Type 0
 HasLeavesWithout old new n = CommentTaken old new n → LosesComment (ordered_tree old 0) (ordered_tree new 0)

@@ -1,3 +1,4 @@
 pub mod Made
 pub mod Written
 pub mod Numbered
+pub mod Marking

@@ -1,2 +1,3 @@
 pub mod Edits
 pub mod Written
+pub mod Marked

@@ -35,7 +35,7 @@ pub data AreChanged : Option Plain → List Operation → Option Plain → Type 
   first_changed : {w x y : Option Plain} {e : Operation} {es : List Operation} → IsChanged w e x → AreChanged x es y → AreChanged w (e ∷ es) y
 
 -- Spaces have come into the document, and then of its leaves those of the value at the path have given way to those of the new value, in some layout, or
--- trivia that ends in a comment has left. All leaves before and after stay, comments among them.
+-- one comment has left, with blanks before it. All leaves before and after stay, other comments among them.
 abbrev pub StayAround : OrderedTree → Operation → OrderedTree → Type 0
 StayAround t (replace path v) u =
     (was : Top) × (layout : Layout) × (spaced : OrderedTree) × SpacesPut t spaced × DocumentChanged was (laid_top layout v) path spaced u

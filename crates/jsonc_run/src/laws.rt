@@ -4,6 +4,7 @@ ghost use Rattle.jsonc_text.specs.Options.{Options};
 ghost use Rattle.jsonc_tree.specs.OrderedTree.{ordered_tree};
 ghost use Rattle.jsonc_tree.specs.Tree.{IsTree, Node};
 ghost use Rattle.jsonc_run.specs.Edits.{AreMade, Operation};
+ghost use Rattle.jsonc_run.specs.Marked.{MarkAll};
 ghost use Rattle.jsonc_run.specs.Written.{AllStayAround, WriteAll};
 
 /// What a list of edits makes of a text: in a sound document edits have been made in order. Where the
@@ -17,4 +18,11 @@ pub fn edits_are_written()
 /// spaces that come where two literals without quotes would meet.
 pub fn edits_keep_the_leaves_around()
     ensures { (old new : List Node) (es : List Operation) → IsTree old → AreMade old es new → AllStayAround (ordered_tree old 0) es (ordered_tree new 0) }
+{}
+
+/// What a list of edits makes of the marks of a sound document's text, which are its literals and its
+/// comments as they are written: for each edit in turn one stretch of them gives way to the literals of
+/// the new value, or one comment leaves, and all others stay, in order.
+pub fn edits_change_the_marks()
+    ensures { (o : Options) (old new : List Node) (es : List Operation) → IsTree old → AreMade old es new → MarkAll o old es new }
 {}

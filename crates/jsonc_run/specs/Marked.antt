@@ -1,0 +1,29 @@
+-- What edits that were made in order make of the marks of a document: its literals and comments, as they are written.
+use Rattle.std.specs.Prelude.{ℕ, List, [], ◌∷◌}
+use Rattle.std.specs.List.{All}
+use Rattle.jsonc_text.specs.Options.{Options}
+use Rattle.jsonc_tree.specs.Tree.{Node}
+use Rattle.jsonc_tree.specs.OrderedTree.{ordered_tree}
+use Rattle.jsonc_build.specs.Shape.{printed_text}
+use Rattle.jsonc_seams.specs.SoundTrees.{SoundTree}
+use Rattle.jsonc_marks.specs.Changes.{MarksDifferIn}
+use Rattle.jsonc_marks.specs.Marks as marks
+use Rattle.jsonc_marks.specs.Marks.{Mark, AreMarks}
+use Rattle.jsonc_marks.specs.Written.{written}
+use Rattle.jsonc_run.specs.Edits.{Operation, replace, remove_comment}
+use Rattle.jsonc_run.specs.Written.{MayBeMade}
+
+-- one stretch of the marks has given way to the literals that are written for the new value; or one comment has left. All others stay, in order.
+abbrev pub IsMarked : List Mark → Operation → List Mark → Type 0
+IsMarked x (replace path v) y = (was : List Mark) × MarksDifferIn was (written v) x y
+IsMarked x (remove_comment number) y = (s : List ℕ) × MarksDifferIn (marks.comment s ∷ []) [] x y
+
+-- so it is for each of the edits, one after another
+pub data AreMarked : List Mark → List Operation → List Mark → Type 0 where
+  none_marked : {x : List Mark} → AreMarked x [] x
+  first_marked : {x y z : List Mark} {e : Operation} {es : List Operation} → IsMarked x e y → AreMarked y es z → AreMarked x (e ∷ es) z
+
+-- so the edits change the marks of the text of a sound document, if what they write may be written
+abbrev pub MarkAll : Options → List Node → List Operation → List Node → Type 0
+MarkAll o old es new =
+    SoundTree o (ordered_tree old 0) → All (MayBeMade o) es → (x y : List Mark) → AreMarks o (printed_text (ordered_tree old 0)) x → AreMarks o (printed_text (ordered_tree new 0)) y → AreMarked x es y
