@@ -8,7 +8,8 @@ use crate::outcome::Outcome;
 use crate::telling::{tell_below, tell_held, tell_kind, tell_lines, tell_places};
 use jsonc_parser::ParseOptions;
 use jsonc_parser::cst::{
-    CstContainerNode, CstLeafNode, CstNode, CstRootNode, HasChildren, IsNode, Readings,
+    CstContainerNode, CstLeafNode, CstNode, CstRootNode, HasChildren, IsNode, ObjectPropName,
+    Readings,
 };
 use refusing::Refusing;
 use std::alloc::{AllocError, Global};
@@ -24,6 +25,8 @@ enum Asked {
     Half,
     /// A node of its kind.
     Kind,
+    /// The name of a property, where it could be one, else a node of any kind.
+    Name,
 }
 
 /// What each node tells.
@@ -138,6 +141,22 @@ fn tell_leaf(
     }
 }
 
+/// Asks a string or a word as the name of a property.
+fn tell_name(
+    out: &mut Awaited<'_>,
+    doc: &CstRootNode<Heap<'_>>,
+    node: CstLeafNode,
+    told: Told,
+) -> Result<(), Outcome>
+    requires { Holds doc.now (CstNode.Leaf node) }
+{
+    match node {
+        CstLeafNode::StringLit(string) => tell(out, doc, ObjectPropName::String(string), told),
+        CstLeafNode::WordLit(word) => tell(out, doc, ObjectPropName::Word(word), told),
+        _ => tell(out, doc, node, told),
+    }
+}
+
 fn tell_as(
     out: &mut Awaited<'_>,
     doc: &CstRootNode<Heap<'_>>,
@@ -148,11 +167,12 @@ fn tell_as(
     requires { Holds doc.now node }
 {
     match (asked, node) {
-        (Asked::Node, _) => tell_node(out, doc, node, told),
         (Asked::Half, CstNode::Container(container)) => tell_whole(out, doc, container, told),
         (Asked::Half, CstNode::Leaf(leaf)) => tell(out, doc, leaf, told),
         (Asked::Kind, CstNode::Container(container)) => tell_container(out, doc, container, told),
         (Asked::Kind, CstNode::Leaf(leaf)) => tell_leaf(out, doc, leaf, told),
+        (Asked::Name, CstNode::Leaf(leaf)) => tell_name(out, doc, leaf, told),
+        _ => tell_node(out, doc, node, told),
     }
 }
 
@@ -200,19 +220,21 @@ fn is_told(
 }
 
 /// The calls that take no memory, and as what they are asked.
-const PLAIN: [(Told, Asked); 5] = [
+const PLAIN: [(Told, Asked); 6] = [
     (Told::Places, Asked::Node),
     (Told::Places, Asked::Half),
     (Told::Places, Asked::Kind),
+    (Told::Places, Asked::Name),
     (Told::Kinds, Asked::Node),
     (Told::Held, Asked::Node),
 ];
 
 /// Those that may want memory.
-const STARRED: [(Told, Asked); 6] = [
+const STARRED: [(Told, Asked); 7] = [
     (Told::Lines, Asked::Node),
     (Told::Lines, Asked::Half),
     (Told::Lines, Asked::Kind),
+    (Told::Lines, Asked::Name),
     (Told::Below, Asked::Node),
     (Told::Below, Asked::Half),
     (Told::Below, Asked::Kind),

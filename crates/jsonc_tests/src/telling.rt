@@ -37,6 +37,28 @@ fn write_place(
     }
 }
 
+/// How many containers are above it.
+fn count_above<N: IsNode>(doc: &CstRootNode<Heap<'_>>, node: N) -> usize
+    requires { Holds doc.now (N.node_of node) }
+{
+    let mut count = 0usize;
+    for _ in node.ancestors(doc) {
+        count = count.saturating_add(1);
+    }
+    count
+}
+
+/// How many siblings are after it.
+fn count_after<N: IsNode>(doc: &CstRootNode<Heap<'_>>, node: N) -> usize
+    requires { Holds doc.now (N.node_of node) }
+{
+    let mut count = 0usize;
+    for _ in node.next_siblings(doc) {
+        count = count.saturating_add(1);
+    }
+    count
+}
+
 /// What is above it and beside it, and what it prints. It takes no memory.
 pub fn tell_places<N: Readings>(
     out: &mut Awaited<'_>,
@@ -46,16 +68,12 @@ pub fn tell_places<N: Readings>(
     requires { Holds doc.now (N.node_of node) }
 {
     let parent = name_of(node.parent(doc));
-    write!(
-        out,
-        "{} {parent} {} ",
-        node.child_index(doc),
-        node.ancestors(doc).count()
-    )?;
+    let above = count_above(doc, node);
+    write!(out, "{} {parent} {above} ", node.child_index(doc))?;
     write_place(out, doc, node.previous_sibling(doc))?;
     write!(out, " {} ", node.previous_siblings(doc).count())?;
     write_place(out, doc, node.next_sibling(doc))?;
-    write!(out, " {} ", node.next_siblings(doc).count())?;
+    write!(out, " {} ", count_after(doc, node))?;
     let is_below = node.root_node(doc).is_some();
     write!(out, "{is_below} {} ", node.has_blank_line_before(doc))?;
     match node.trailing_comma(doc) {
