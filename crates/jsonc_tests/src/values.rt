@@ -42,6 +42,20 @@ fn is_object(value: Option<CstInputValue<Heap<'_>>>, wanted: &[(&str, &str)]) ->
     }
 }
 
+fn is_string(value: &Option<CstInputValue<Heap<'_>>>, text: &str) -> bool {
+    match value {
+        Some(CstInputValue::String(found)) => found.as_str() == text,
+        _ => false,
+    }
+}
+
+fn is_array(value: &Option<CstInputValue<Heap<'_>>>, count: usize) -> bool {
+    match value {
+        Some(CstInputValue::Array(elements)) => elements.len() == count,
+        _ => false,
+    }
+}
+
 /// Of equal names the last value stands at the first place, of the document and of its root.
 fn are_names_joined(heap: Heap<'_>) -> Result<bool, Outcome> {
     let doc = CstRootNode::parse(heap, TWICE, &ParseOptions::default())?;
@@ -67,12 +81,12 @@ fn are_nodes_taken(heap: Heap<'_>) -> Result<bool, Outcome> {
     let Some(word) = first.name(&doc) else {
         return Err(Outcome::Other);
     };
-    let is_string =
-        matches!(first.to_value(&doc)?, Some(CstInputValue::String(s)) if s.as_str() == "a");
-    let is_array = matches!(array.to_value(&doc)?, Some(CstInputValue::Array(v)) if v.len() == 2);
+    let string = first.to_value(&doc)?;
+    let elements = array.to_value(&doc)?;
+    let is_listed = is_string(&string, "a") && is_array(&elements, 2);
     let is_object = is_object(inner.to_value(&doc)?, &[("k", "0")]);
     let is_none = word.to_value(&doc)?.is_none() && colon.to_value(&doc)?.is_none();
-    Ok(is_string && is_array && is_object && is_none)
+    Ok(is_listed && is_object && is_none)
 }
 
 /// Values of documents, and of nodes in them.
