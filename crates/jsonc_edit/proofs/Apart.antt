@@ -5,7 +5,7 @@ use Rattle.std.proofs.lemmas.List.{take-append-drop, drop_more, get_or-take, get
 use Rattle.std.specs.Option.{option_and_then}
 use Rattle.jsonc_text.specs.Options.{Options}
 use Rattle.jsonc_tree.specs.Content.{Content, root, property, token}
-use Rattle.jsonc_tree.specs.OrderedTree.{OrderedTree, none, more, leaves, followed_by, Shows, shows_none, shows_more, ordered_tree, Replaced}
+use Rattle.jsonc_tree.specs.OrderedTree.{OrderedTree, none, more, leaves, followed_by, Shows, shows_none, shows_more, ordered_tree, Replaced, Top}
 use Rattle.jsonc_tree.specs.Siblings.{row_of, siblings_after}
 use Rattle.jsonc_tree.specs.Order.{with_parent}
 use Rattle.jsonc_tree.specs.Tree.{Node, content_at, parent_at, children_at, place_at, IsTree, IsOver}
@@ -21,7 +21,7 @@ use Rattle.jsonc_sound.specs.Rows as rows
 use Rattle.jsonc_sound.specs.Rows.{RowKind, Last, closing}
 use Rattle.jsonc_sound.specs.Sound.{IsValueBefore}
 use Rattle.jsonc_sound.proofs.HeldValues.{document_held}
-use Rattle.jsonc_sound.specs.TreeChanges.{Top, IsElement, leaves_of, DocumentChanged}
+use Rattle.jsonc_sound.specs.TreeChanges.{IsElement, leaves_of, DocumentChanged}
 use Rattle.jsonc_seams.specs.Adjacent.{or_else, last_printed}
 use Rattle.jsonc_seams.specs.Alone as alone
 use Rattle.jsonc_seams.specs.Alone.{ValueAlone, PartAlone, RowAlone, PropertyAlone, RootAlone}

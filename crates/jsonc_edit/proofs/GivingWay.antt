@@ -12,16 +12,16 @@ use Rattle.jsonc_tree.specs.Building.{Builds, Keeps}
 use Rattle.jsonc_tree.proofs.Order.{parent_there}
 use Rattle.jsonc_tree.proofs.Splicing.{in_at, out_from}
 use Rattle.jsonc_tree.proofs.Appending.{CanJoin-one}
-use Rattle.jsonc_sound.specs.TreeChanges.{Top, IsElement, DocumentChanged}
+use Rattle.jsonc_sound.specs.TreeChanges.{IsElement, DocumentChanged}
 use Rattle.jsonc_from_input.specs.Layout.{Layout}
 use Rattle.jsonc_from_input.specs.Laid.{laid}
-use Rattle.jsonc_tree.specs.OrderedTree.{OrderedTree, ordered_tree}
+use Rattle.jsonc_tree.specs.OrderedTree.{OrderedTree, ordered_tree, Top}
 use Rattle.jsonc_seams.specs.Spaces.{is_bare}
 use Rattle.jsonc_spaces.specs.Due.{due_around, due_before, due_behind, listed}
 use Rattle.jsonc_spaces.specs.Put.{AreAtHand, AreChildren, AreSpaced, Prepared, nodes_of}
 use Rattle.jsonc_spaces.specs.declared.put.Spaces.{Spaces}
 use Rattle.jsonc_edit.specs.Changes.{top_at, ChangesAt, Replaces}
-use Rattle.jsonc_edit.specs.Replacing.{laid_top, TakesPlace, GivesWay}
+use Rattle.jsonc_edit.specs.Replacing.{TakesPlace, GivesWay}
 use Rattle.jsonc_edit.proofs.Elements.{Some_same}
 use Rattle.jsonc_edit.proofs.Splices.{joined_top, replaced_at_path}
 use Rattle.jsonc_edit.proofs.DueKept.{due_before_same, due_behind_same}
@@ -226,7 +226,7 @@ module _ (old made ready : List Node) (tree : IsTree old) (n c m : ℕ) (l : Lay
     pub value_join : CanJoin spaced c (place_at spaced n) (place_at spaced n + 1) (m ∷ [])
     value_join = can_join old made ready spaced tree n c m (laid l v).content (laid l v).below said built (laid_element l v) prepared due_put
 
-    pub value_gives_way : (new : List Node) → IsTree new → Splices spaced new c (place_at spaced n) (place_at spaced n + 1) (m ∷ []) → GivesWay old new n m (laid_top l v)
+    pub value_gives_way : (new : List Node) → IsTree new → Splices spaced new c (place_at spaced n) (place_at spaced n + 1) (m ∷ []) → GivesWay old new n m (laid l v)
     value_gives_way = gives_way old made ready spaced tree n c m (laid l v).content (laid l v).below said built (laid_element l v) prepared due_put
 
 -- what holds anyway holds of a refusal

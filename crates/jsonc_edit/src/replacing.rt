@@ -12,7 +12,8 @@ ghost use Rattle.jsonc_seams.specs.Spaces.{is_bare};
 ghost use Rattle.jsonc_spaces.specs.Due.{listed};
 ghost use Rattle.jsonc_spaces.specs.Put.{AreAtHand, Prepared};
 ghost use Rattle.jsonc_edit.specs.Reading.{IsReplaced};
-ghost use Rattle.jsonc_edit.specs.Replacing.{laid_top, GivesWay};
+ghost use Rattle.jsonc_from_input.specs.Laid.{laid};
+ghost use Rattle.jsonc_edit.specs.Replacing.{GivesWay};
 ghost use Rattle.jsonc_edit.specs.Written.{Writes};
 
 use crate::error::EditError;
@@ -69,7 +70,7 @@ pub fn replace_with<A: Allocator + Copy>(
     layout: &Layout<A>,
 ) -> Result<Option<usize>, EditError>
     requires { node < length tree.old.nodes }
-    ensures replaced { IfOk result (λ o. IfSome o (λ m. GivesWay tree.old.nodes tree.new.nodes node m (laid_top (layout_of layout.now) (plain value.now)))) }
+    ensures replaced { IfOk result (λ o. IfSome o (λ m. GivesWay tree.old.nodes tree.new.nodes node m (laid (layout_of layout.now) (plain value.now)))) }
     ensures none { IfOk result (λ o. IfNone o (parent_at tree.old.nodes node ≡ None)) }
     ensures untouched { IfOk result (λ o. IfNone o (tree.new.nodes ≡ tree.old.nodes)) }
     ensures memory { IfErr result (λ e. e ≡ EditError.OutOfMemory) }

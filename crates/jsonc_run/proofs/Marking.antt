@@ -14,7 +14,7 @@ use Rattle.jsonc_marks.proofs.GivingWay.{marks_follow, one_mark_leaves, space_ke
 use Rattle.jsonc_marks.proofs.Laid.{laid_as_written}
 use Rattle.jsonc_marks.proofs.OneList.{marks_unique}
 use Rattle.jsonc_marks.proofs.Printed.{prints_its_marks}
-use Rattle.jsonc_edit.specs.Replacing.{laid_top}
+use Rattle.jsonc_from_input.specs.Laid.{laid}
 use Rattle.jsonc_edit.specs.Spaced.{SpacesPut, none_put, one_put}
 use Rattle.jsonc_run.specs.Edits.{Operation, replace, remove_comment, AreMade, none_made, first_made, IsMade}
 use Rattle.jsonc_run.specs.Written.{MayBeMade, StayAround, AllStayAround, all_stay, first_stay}
@@ -28,8 +28,8 @@ spaces_keep_marks (one_put {t = t} {s = s} k rest) = spaces_keep_marks rest ∙ 
 
 one_marked : (o : Options) (t u : OrderedTree) (e : Operation) → MayBeMade o e → StayAround t e u → IsMarked (marks t) e (marks u)
 one_marked o t u (replace path v) may (was, layout, spaced, puts, changed, differs) =
-    let m = (marks_follow (leaves_of was) (leaves_of (laid_top layout v)) (leaves spaced) (leaves u) differs).0 in
-    (marks_under was, subst (λ l. MarksDifferIn (marks_under was) l (marks t) (marks u)) (laid_as_written layout v may.texts) (subst (λ l. MarksDifferIn (marks_under was) (marks_under (laid_top layout v)) l (marks u)) (spaces_keep_marks puts) m))
+    let m = (marks_follow (leaves_of was) (leaves_of (laid layout v)) (leaves spaced) (leaves u) differs).0 in
+    (marks_under was, subst (λ l. MarksDifferIn (marks_under was) l (marks t) (marks u)) (laid_as_written layout v may.texts) (subst (λ l. MarksDifferIn (marks_under was) (marks_under (laid layout v)) l (marks u)) (spaces_keep_marks puts) m))
 one_marked o t u (remove_comment number) may r =
     let m = (one_mark_leaves r.blanks r.text (leaves r.spaced) (leaves u) r.are_blanks r.around).0 in
     (trimmed (chars r.text), subst (λ l. MarksDifferIn (Mark.comment (trimmed (chars r.text)) ∷ []) [] l (marks u)) (spaces_keep_marks r.spaces) m)

@@ -13,7 +13,7 @@ use Rattle.jsonc_seams.specs.SoundTrees.{SoundTree}
 use Rattle.jsonc_seams.proofs.LooseShapes.{document_printed}
 use Rattle.jsonc_edit.specs.Changes.{top_at}
 use Rattle.jsonc_edit.specs.Reading.{layout_for}
-use Rattle.jsonc_edit.specs.Replacing.{laid_top}
+use Rattle.jsonc_from_input.specs.Laid.{laid}
 use Rattle.jsonc_edit.proofs.OneValue.{document_once}
 use Rattle.jsonc_edit.proofs.ReplacedValues.{changed, put, replaced_written}
 use Rattle.jsonc_edit.proofs.TakingOut.{loses_comment, taken_sound, taken_value}
@@ -22,7 +22,7 @@ use Rattle.jsonc_run.specs.Written.{MayBeMade, IsChanged, by_value, by_comment, 
 
 stays_around : (old new : List Node) (e : Operation) → IsTree old → IsMade old e new → StayAround (ordered_tree old 0) e (ordered_tree new 0)
 stays_around old new (replace path v) tree (n, m, at, r) =
-    let top = laid_top (layout_for old r.0 n) v in
+    let top = laid (layout_for old r.0 n) v in
     let change = changed old new n m top tree r.2 path at in
     (top_at old n, layout_for old r.0 n, ordered_tree r.2.spaced 0, put old new n m top tree r.2 path at, change, document_differs change)
 stays_around old new (remove_comment number) tree (n, at, r) = loses_comment old new n r

@@ -5,15 +5,15 @@ use Rattle.jsonc_text.specs.Options.{Options}
 use Rattle.jsonc_text.specs.Plain.{Plain}
 use Rattle.jsonc_text.specs.Grammar.{IsDocument}
 use Rattle.jsonc_tree.specs.Tree.{Node}
-use Rattle.jsonc_tree.specs.OrderedTree.{OrderedTree, leaves, ordered_tree}
+use Rattle.jsonc_tree.specs.OrderedTree.{OrderedTree, leaves, ordered_tree, Top}
 use Rattle.jsonc_build.specs.Shape.{printed_text}
 use Rattle.jsonc_sound.specs.Changes.{Changed}
 use Rattle.jsonc_sound.specs.Laws.{DiffersIn}
-use Rattle.jsonc_sound.specs.TreeChanges.{Top, leaves_of, DocumentChanged}
+use Rattle.jsonc_sound.specs.TreeChanges.{leaves_of, DocumentChanged}
 use Rattle.jsonc_from_input.specs.Layout.{Layout}
 use Rattle.jsonc_seams.specs.SoundTrees.{SoundTree}
 use Rattle.jsonc_edit.specs.Comments.{LosesComment}
-use Rattle.jsonc_edit.specs.Replacing.{laid_top}
+use Rattle.jsonc_from_input.specs.Laid.{laid}
 use Rattle.jsonc_edit.specs.Spaced.{SpacesPut}
 use Rattle.jsonc_edit.specs.Writing.{IsWritable}
 use Rattle.jsonc_run.specs.Edits.{Operation, replace, remove_comment}
@@ -38,8 +38,8 @@ pub data AreChanged : Option Plain → List Operation → Option Plain → Type 
 -- one comment has left, with blanks before it. All leaves before and after stay, other comments among them.
 abbrev pub StayAround : OrderedTree → Operation → OrderedTree → Type 0
 StayAround t (replace path v) u =
-    (was : Top) × (layout : Layout) × (spaced : OrderedTree) × SpacesPut t spaced × DocumentChanged was (laid_top layout v) path spaced u
-    × DiffersIn (leaves_of was) (leaves_of (laid_top layout v)) (leaves spaced) (leaves u)
+    (was : Top) × (layout : Layout) × (spaced : OrderedTree) × SpacesPut t spaced × DocumentChanged was (laid layout v) path spaced u
+    × DiffersIn (leaves_of was) (leaves_of (laid layout v)) (leaves spaced) (leaves u)
 StayAround t (remove_comment number) u = LosesComment t u
 
 -- so it is for each of the edits, one after another

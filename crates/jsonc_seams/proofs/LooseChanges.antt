@@ -1,9 +1,9 @@
 -- Line comments that end loosely, in rows that change.
 use Rattle.std.proofs.Common.{ℕ, ◌≡◌, ap, subst, refl, Bool, true, false, ◌&&◌, List, IsTrue}
 use Rattle.jsonc_tree.specs.Content.{Content}
-use Rattle.jsonc_tree.specs.OrderedTree.{OrderedTree, none, more, followed_by}
+use Rattle.jsonc_tree.specs.OrderedTree.{OrderedTree, none, more, followed_by, Top}
 use Rattle.jsonc_build.specs.Lines.{ends_line, LinesEnd, DocumentLinesEnd}
-use Rattle.jsonc_sound.specs.TreeChanges.{Top, IsElement, ElementChanged, this_element, passed, later_element, ValueChanged, itself, in_array, in_object, DocumentChanged, in_root}
+use Rattle.jsonc_sound.specs.TreeChanges.{IsElement, ElementChanged, this_element, passed, later_element, ValueChanged, itself, in_array, in_object, DocumentChanged, in_root}
 use Rattle.jsonc_sound.proofs.FirstNodes.{no_element, line_comment_over}
 use Rattle.jsonc_seams.specs.LooseLines.{is_loose, ends_loosely, LinesEndLoosely, DocumentLinesEndLoosely}
 

@@ -3,10 +3,10 @@ use Rattle.std.specs.Prelude.{◌≡◌, ◌↔◌, ℕ, List, ◌++◌, Bool, t
 use Rattle.jsonc_text.specs.Options.{Options}
 use Rattle.jsonc_text.specs.Gaps.{Gap}
 use Rattle.jsonc_nodes.specs.Kinds.{is_trivia}
-use Rattle.jsonc_sound.specs.TreeChanges.{Top, DocumentChanged}
+use Rattle.jsonc_sound.specs.TreeChanges.{DocumentChanged}
 use Rattle.jsonc_build.specs.Shape.{Trivia, DocumentShaped, PrintsDocument, printed_text}
 use Rattle.jsonc_tree.specs.Content.{Content, root, array, object, newline, whitespace}
-use Rattle.jsonc_tree.specs.OrderedTree.{OrderedTree, none, more, followed_by}
+use Rattle.jsonc_tree.specs.OrderedTree.{OrderedTree, none, more, followed_by, Top}
 use Rattle.jsonc_build.specs.Lines.{is_line_comment, DocumentLinesEnd}
 
 -- below these a comment's newline may stand behind whitespace

@@ -2,9 +2,8 @@
 ghost use Rattle.std.specs.Prelude.{◌≡◌, Bool, false, List, Option, ℕ};
 ghost use Rattle.jsonc_text.specs.Options.{Options};
 ghost use Rattle.jsonc_tree.specs.Content.{Content};
-ghost use Rattle.jsonc_tree.specs.OrderedTree.{OrderedTree};
+ghost use Rattle.jsonc_tree.specs.OrderedTree.{OrderedTree, Top};
 ghost use Rattle.jsonc_sound.specs.Rows.{RowKind};
-ghost use Rattle.jsonc_sound.specs.TreeChanges.{Top};
 ghost use Rattle.jsonc_seams.specs.Booleans.{StaysSoundWithBoolean};
 ghost use Rattle.jsonc_seams.specs.SoundTrees.{KeptWithoutComment, KeptByBooleans, SoundTreesComeApart, ParsedAreSound, SoundTreesPrint, KeptByStretches, KeptWhereNoneMeet, KeptByValues};
 ghost use Rattle.jsonc_seams.specs.InRows.{KeptByValueInProperty, KeptByValueInRoot, KeptByValueInRow, KeptWithoutCommentInRow, KeptWithSpace};

@@ -2,7 +2,7 @@
 use Rattle.std.proofs.Common.{ℕ, ◌≡◌, subst, refl, Bool, true, false, List, arith}
 use Rattle.jsonc_text.specs.Options.{Options}
 use Rattle.jsonc_tree.specs.Content.{Content}
-use Rattle.jsonc_tree.specs.OrderedTree.{OrderedTree, none, more}
+use Rattle.jsonc_tree.specs.OrderedTree.{OrderedTree, none, more, Top}
 use Rattle.jsonc_build.specs.Lines.{LinesEnd, DocumentLinesEnd}
 use Rattle.jsonc_build.specs.Shape as shape
 use Rattle.jsonc_build.specs.Shape.{ValueShaped, ElementsShaped, PropertiesShaped, PropertyShaped, DocumentShaped, token_then, printed_text}
@@ -10,7 +10,7 @@ use Rattle.jsonc_sound.specs.Sound.{Sound, IsValueBefore}
 use Rattle.jsonc_sound.specs.Rows as rows
 use Rattle.jsonc_sound.specs.Rows.{RowKind, opening, container_of, GoesOn, IsRow}
 use Rattle.jsonc_sound.specs.SoundRows.{IsSoundValue, IsSoundRow}
-use Rattle.jsonc_sound.specs.TreeChanges.{Top, property_of, ElementChanged, this_element, passed, later_element, HeldChanged, ValueChanged, itself, in_array, in_object, DocumentChanged, in_root}
+use Rattle.jsonc_sound.specs.TreeChanges.{property_of, ElementChanged, this_element, passed, later_element, HeldChanged, ValueChanged, itself, in_array, in_object, DocumentChanged, in_root}
 use Rattle.jsonc_sound.proofs.FirstNodes.{here, over, beyond, meets_first, none_changed, no_element, value_element, name_element}
 use Rattle.jsonc_sound.proofs.Lines.{document_lines}
 use Rattle.jsonc_sound.proofs.Rows.{trivia_changed, token_changed, only_changed, separated_changed, closed_changed}

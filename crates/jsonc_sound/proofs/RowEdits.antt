@@ -2,10 +2,10 @@
 use Rattle.std.proofs.Common.{[], ◌≡◌, ◌∙◌, ◌⊎◌, ◌↔◌, inl, inr, sym, ap, subst, refl, IsTrue, false}
 use Rattle.jsonc_text.specs.Options.{Options}
 use Rattle.jsonc_tree.specs.Content.{Content, token}
-use Rattle.jsonc_tree.specs.OrderedTree.{OrderedTree, none, more, followed_by}
+use Rattle.jsonc_tree.specs.OrderedTree.{OrderedTree, none, more, followed_by, Top}
 use Rattle.jsonc_tree.specs.Values.{is_passed_over}
 use Rattle.jsonc_build.specs.Shape.{IsTrivia, token_then}
-use Rattle.jsonc_sound.specs.TreeChanges.{Top, IsElement}
+use Rattle.jsonc_sound.specs.TreeChanges.{IsElement}
 use Rattle.jsonc_sound.specs.Rows as rows
 use Rattle.jsonc_sound.specs.Rows.{RowKind, closing, IsPart, Last, may_begin, may_end, GoesOn, GoesTo}
 use Rattle.jsonc_sound.specs.RowEdits.{last_after, last_behind, takes_comma, may_follow}

@@ -3,11 +3,11 @@ use Rattle.std.proofs.Common.{ℕ, ◌≡◌, ◌∙◌, sym, ap, subst, refl, a
 use Rattle.jsonc_text.specs.Options.{Options}
 use Rattle.jsonc_text.specs.Text.{next}
 use Rattle.jsonc_tree.specs.Content.{Content, token, text_of}
-use Rattle.jsonc_tree.specs.OrderedTree.{OrderedTree, none, more}
+use Rattle.jsonc_tree.specs.OrderedTree.{OrderedTree, none, more, Top}
 use Rattle.jsonc_build.specs.Shape as shape
 use Rattle.jsonc_build.specs.Shape.{Trivia, Separated, Closed, token_then, printed_text}
 use Rattle.jsonc_build.proofs.ShapeTexts.{text_leaf, trivia_utf8}
-use Rattle.jsonc_sound.specs.TreeChanges.{Top, IsElement, ElementChanged}
+use Rattle.jsonc_sound.specs.TreeChanges.{IsElement, ElementChanged}
 use Rattle.jsonc_sound.proofs.FirstNodes.{here, over, beyond, meets_first, none_changed, no_element, trivia_over}
 use Rattle.jsonc_sound.proofs.Followers.{next_append}
 

@@ -3,13 +3,13 @@ use Rattle.std.proofs.Common.{ℕ, ◌≡◌, ◌∙◌, sym, ap, subst, refl, f
 use Rattle.jsonc_text.specs.Options.{Options}
 use Rattle.jsonc_text.specs.Text.{next}
 use Rattle.jsonc_tree.specs.Content.{Content}
-use Rattle.jsonc_tree.specs.OrderedTree.{OrderedTree, none, more}
+use Rattle.jsonc_tree.specs.OrderedTree.{OrderedTree, none, more, Top}
 use Rattle.jsonc_build.specs.Shape as shape
 use Rattle.jsonc_build.specs.Shape.{Trivia, ValueShaped, ElementsShaped, PropertiesShaped, PropertyShaped, DocumentShaped, token_then, printed_text}
 use Rattle.jsonc_build.proofs.ShapeValues.{colon_mark, close_bracket_mark, close_brace_mark}
 use Rattle.jsonc_sound.specs.Followers.{EndsLiterals, StandsInRows}
 use Rattle.jsonc_sound.specs.Sound.{IsValueBefore}
-use Rattle.jsonc_sound.specs.TreeChanges.{Top, property_of, ElementChanged, HeldChanged, ValueChanged, itself, in_array, in_object, DocumentChanged, in_root}
+use Rattle.jsonc_sound.specs.TreeChanges.{property_of, ElementChanged, HeldChanged, ValueChanged, itself, in_array, in_object, DocumentChanged, in_root}
 use Rattle.jsonc_sound.proofs.FirstNodes.{here, over, beyond, meets_first, none_changed, no_element, value_element, name_element}
 use Rattle.jsonc_sound.proofs.Followers.{name_next, value_ends, property_ends, none_ends, mark_next, trivia_ends, separated_ends, closed_ends}
 use Rattle.jsonc_sound.proofs.Rows.{trivia_changed, token_changed, only_changed, separated_changed, closed_changed}

@@ -6,7 +6,7 @@ use Rattle.jsonc_text.specs.Gaps.{is_blank}
 use Rattle.jsonc_tree.specs.Content.{property}
 use Rattle.jsonc_build.specs.Shape.{PropertyShaped}
 use Rattle.jsonc_sound.specs.Sound.{IsValueBefore}
-use Rattle.jsonc_sound.specs.TreeChanges.{Top}
+use Rattle.jsonc_tree.specs.OrderedTree.{Top}
 
 -- a blank, `/`, `,`, `]` or `}`: each literal ends before it
 abbrev pub ends_literals : ℕ → Bool

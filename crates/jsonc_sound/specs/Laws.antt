@@ -3,11 +3,11 @@ use Rattle.std.specs.Prelude.{◌≡◌, List, ℕ, ◌++◌, Some}
 use Rattle.jsonc_text.specs.Options.{Options}
 use Rattle.jsonc_text.specs.Plain.{Plain}
 use Rattle.jsonc_tree.specs.Content.{Content}
-use Rattle.jsonc_tree.specs.OrderedTree.{OrderedTree, leaves}
+use Rattle.jsonc_tree.specs.OrderedTree.{OrderedTree, leaves, Top}
 use Rattle.jsonc_tree.specs.Values.{DocumentValueOf}
 use Rattle.jsonc_sound.specs.Changes.{Changed}
 use Rattle.jsonc_sound.specs.Sound.{Sound, HasValue, IsNewValue}
-use Rattle.jsonc_sound.specs.TreeChanges.{Top, leaves_of, DocumentChanged}
+use Rattle.jsonc_sound.specs.TreeChanges.{leaves_of, DocumentChanged}
 
 -- where a value of the document, if it is sound, gives way to a node that may stand there, the document that this makes is sound
 abbrev pub StaysSound : Options → OrderedTree → Type 0

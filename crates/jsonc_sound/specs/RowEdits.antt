@@ -2,8 +2,8 @@
 use Rattle.std.specs.Prelude.{◌↔◌, ◌⊎◌, Bool, true, false, IsTrue, ◌==◌, if◌then◌else◌}
 use Rattle.jsonc_text.specs.Options.{Options}
 use Rattle.jsonc_tree.specs.Content.{Content}
-use Rattle.jsonc_tree.specs.OrderedTree.{OrderedTree, none, more, followed_by}
-use Rattle.jsonc_sound.specs.TreeChanges.{Top, IsElement}
+use Rattle.jsonc_tree.specs.OrderedTree.{OrderedTree, none, more, followed_by, Top}
+use Rattle.jsonc_sound.specs.TreeChanges.{IsElement}
 use Rattle.jsonc_sound.specs.Rows.{RowKind, Last, nothing_yet, an_element, a_comma, may_begin, may_end, GoesOn, GoesTo}
 
 -- what stands last behind a node, where this stood last before it: trivia is passed over, and a token in a stretch is a comma

@@ -2,11 +2,10 @@
 use Rattle.std.specs.Prelude.{◌≡◌, ◌↔◌, ℕ, Bool, List, IsTrue}
 use Rattle.jsonc_text.specs.Options.{Options}
 use Rattle.jsonc_text.specs.Plain.{Items, no_items, item, Members, no_members, member}
-use Rattle.jsonc_tree.specs.OrderedTree.{OrderedTree, none, more, followed_by}
+use Rattle.jsonc_tree.specs.OrderedTree.{OrderedTree, none, more, followed_by, Top}
 use Rattle.jsonc_tree.specs.Values.{ItemsOf, MembersOf}
 use Rattle.jsonc_build.specs.Lines.{ends_line, LinesEnd}
 use Rattle.jsonc_build.specs.Shape.{ValueShaped, DocumentShaped, token_then}
-use Rattle.jsonc_sound.specs.TreeChanges.{Top}
 use Rattle.jsonc_sound.specs.Rows.{RowKind, holder, closing, Last, may_end, GoesOn, GoesTo, IsRow, IsRootWithRow}
 
 -- a container has the shape of the grammar, whatever follows, exactly where such a row stands below it

@@ -2,9 +2,8 @@
 use Rattle.std.specs.Prelude.{◌≡◌, ℕ, Bool, true, false, IsTrue}
 use Rattle.jsonc_text.specs.Options.{Options}
 use Rattle.jsonc_tree.specs.Content.{Content, root, array, object}
-use Rattle.jsonc_tree.specs.OrderedTree.{OrderedTree, none, more}
+use Rattle.jsonc_tree.specs.OrderedTree.{OrderedTree, none, more, Top}
 use Rattle.jsonc_build.specs.Shape.{IsTrivia, token_then}
-use Rattle.jsonc_sound.specs.TreeChanges.{Top}
 use Rattle.jsonc_sound.specs.Followers.{StandsInRows, PropertyStandsInRows}
 
 -- what a row's elements are: values in an array, properties in an object

@@ -1,10 +1,10 @@
 -- Laws of rows in documents: what a sound document gives of a value in it, and what the new row of a container has to show.
 use Rattle.std.specs.Prelude.{List, ℕ, false}
 use Rattle.jsonc_text.specs.Options.{Options}
-use Rattle.jsonc_tree.specs.OrderedTree.{OrderedTree}
+use Rattle.jsonc_tree.specs.OrderedTree.{OrderedTree, Top}
 use Rattle.jsonc_build.specs.Lines.{LinesEnd}
 use Rattle.jsonc_sound.specs.Sound.{Sound, IsValueBefore}
-use Rattle.jsonc_sound.specs.TreeChanges.{Top, DocumentChanged}
+use Rattle.jsonc_sound.specs.TreeChanges.{DocumentChanged}
 use Rattle.jsonc_sound.specs.Rows.{RowKind, container_of, nothing_yet, GoesOn}
 
 -- the node is a value before some text, and its line comments end with their lines

@@ -2,14 +2,13 @@
 ghost use Rattle.std.specs.Prelude.{◌≡◌, false, Bool, List, Option, ℕ};
 ghost use Rattle.jsonc_text.specs.Options.{Options};
 ghost use Rattle.jsonc_text.specs.Plain.{Plain, Items, Members};
-ghost use Rattle.jsonc_tree.specs.OrderedTree.{OrderedTree};
+ghost use Rattle.jsonc_tree.specs.OrderedTree.{OrderedTree, Top};
 ghost use Rattle.jsonc_build.specs.Shape.{DocumentShaped};
 ghost use Rattle.jsonc_sound.specs.Followers.{StandsInRows};
 ghost use Rattle.jsonc_sound.specs.Laws.{StaysSound, ChangesValue, KeepsLeavesAround};
 ghost use Rattle.jsonc_sound.specs.TriviaLaws.{IsSoundAgain, KeepsOtherLeaves, KeepsShape, KeepsValue, StaysSoundWithout, WordsEnd};
 ghost use Rattle.jsonc_sound.specs.Worked.{AreElements, IsWorkedChange};
 ghost use Rattle.jsonc_sound.specs.Sound.{IsValueBefore};
-ghost use Rattle.jsonc_sound.specs.TreeChanges.{Top};
 ghost use Rattle.jsonc_sound.specs.Rows.{RowKind, Last, GoesTo};
 ghost use Rattle.jsonc_sound.specs.RowEdits.{StretchGivesWay, last_behind, RestFollows, TakesBefore, TakesBehind, LetsGo};
 ghost use Rattle.jsonc_sound.specs.SoundRows.{HoldsSoundValues, HoldsSoundRows, StaysSoundWithRow};
