@@ -17,7 +17,7 @@ CRATE = os.path.join(HERE, '..', 'crates', 'jsonc_bench')
 # Longer cases are left out, but for those that show a depth.
 LONGEST = 1500
 LOOKUP = 'a look-up is get or take, with a kind or none, and a word'
-EDIT = 'an edit is Replace, a path and a value, or RemoveComment and a number'
+EDIT = 'an edit is Replace, a path and a value, Remove and a path, or RemoveComment and a number'
 NO_CASES = [
     ('', None),
     ('% a line that begins so is passed over', None),
@@ -101,7 +101,7 @@ def edits_shown(case, answer):
     text, edits = case[3], vectors.edits_of(case)
     signs = [sign for sign in ('\\x0A', '\\x0D', '\\x09', '//', '/*', ',]', ',}') if sign in text]
     for name, place, *value in edits:
-        yield name, place if name == 'Replace' else int(place) > 1, len(edits) > 1
+        yield name, int(place) > 1 if name == 'RemoveComment' else place, len(edits) > 1
         yield name, signs, [word[:1] for word in value][:2]
         for word in value:
             yield name, word if word[0] in '[{' else word[0]

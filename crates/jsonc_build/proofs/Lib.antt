@@ -15,6 +15,7 @@ pub mod GapShapes
 pub mod LeafShapes
 pub mod Shapes
 pub mod ShapeTexts
+pub mod LooseLines
 pub mod ShapeValues
 pub mod Building
 pub mod Parts

@@ -1,12 +1,12 @@
 -- What the rows of a document's shape print.
-use Rattle.std.proofs.Common.{ℕ, ◌<◌, ◌≡◌, ◌∙◌, sym, ap, subst, refl, Bool, true, inl, inr, List, [], ◌∷◌, ◌++◌, length, arith, rules, IsTrue, IsUtf8, chars, encode_utf8_all, length-append}
+use Rattle.std.proofs.Common.{ℕ, ◌<◌, ◌≡◌, ◌∙◌, sym, ap, subst, refl, inl, inr, List, [], ◌∷◌, ◌++◌, length, arith, rules, IsTrue, IsUtf8, chars, encode_utf8_all, length-append}
 use Rattle.std.proofs.lemmas.List.{append_assoc}
-use Rattle.std.proofs.lemmas.Str.{chars-nil, chars-append, chars-IsAscii, IsUtf8-append, IsUtf8-from_ascii, encodes-chars}
+use Rattle.std.proofs.lemmas.Str.{chars-append, chars-IsAscii, IsUtf8-append, IsUtf8-from_ascii, encodes-chars}
 use lib.Utf8.{encode}
 use Rattle.jsonc_text.specs.Options.{Options}
 use Rattle.jsonc_text.specs.Text.{next, no, Many, stop, step}
 use Rattle.jsonc_text.specs.Gaps as gaps
-use Rattle.jsonc_text.specs.Gaps.{Gap, is_blank, is_in_line, LineComment, line, BlockComment, block, IsComment}
+use Rattle.jsonc_text.specs.Gaps.{Gap, is_blank, is_in_line, LineComment, line, BlockComment, IsComment}
 use Rattle.jsonc_text.specs.Plain.{Plain, Items, Members}
 use Rattle.jsonc_text.specs.Lexemes.{line_comment, block_comment}
 use Rattle.jsonc_text.proofs.Alone.{scanned_before}
@@ -20,9 +20,8 @@ use Rattle.jsonc_tree.specs.OrderedTree.{OrderedTree, none, more, printed}
 use Rattle.jsonc_tree.proofs.OrderedTrees.{printed-more}
 use Rattle.jsonc_tree.specs.Values as values
 use Rattle.jsonc_tree.specs.Values.{is_passed_over, HasNoValue, ItemsOf, MembersOf, HoldsValue}
-use Rattle.jsonc_to_ast.proofs.Gaps.{gap_append}
 use Rattle.jsonc_build.specs.Leaves.{is_inner_blank}
-use Rattle.jsonc_build.specs.Lines.{is_line_comment, ends_line, LinesEnd}
+use Rattle.jsonc_build.specs.Lines.{is_line_comment}
 use Rattle.jsonc_build.specs.Shape.{IsTrivia, Trivia, nothing, trivia, printed_text}
 
 -- the text of a row is that of its first node, and then that of those after it
@@ -43,14 +42,13 @@ newline_chars LineFeed = chars-IsAscii (10 ∷ []) (search rules)
 newline_chars CarriageReturnLineFeed = chars-IsAscii (13 ∷ 10 ∷ []) (search rules)
 newline_chars CarriageReturn = chars-IsAscii (13 ∷ []) (search rules)
 
-newline_more : (k : CstNewlineKind) (below after : OrderedTree) → printed_text (more (Content.newline k) below after) ≡ newline_text k ++ chars (printed below ++ printed after)
-newline_more k below after =
-    ap chars (printed-more (Content.newline k) below after) ∙ chars-append (newline_text k) (printed below ++ printed after) (newline_utf8 k) ∙ ap (λ t. t ++ chars (printed below ++ printed after)) (newline_chars k)
-
 newline_ends : (k : CstNewlineKind) (t : List ℕ) → IsTrue (no is_in_line (next (newline_text k ++ t)))
 newline_ends LineFeed t = refl
 newline_ends CarriageReturnLineFeed t = refl
 newline_ends CarriageReturn t = refl
+
+pub newline_no_line : (k : CstNewlineKind) (t : List ℕ) → IsTrue (no is_in_line (next (chars (text_of (Content.newline k)) ++ t)))
+newline_no_line k t = subst (λ x. IsTrue (no is_in_line (next (x ++ t)))) (sym (newline_chars k)) (newline_ends k t)
 
 newline_gap : (o : Options) (k : CstNewlineKind) (t : List ℕ) → Gap o (newline_text k ++ t) t
 newline_gap o LineFeed t = gaps.blank refl gaps.none
@@ -94,26 +92,8 @@ comment_before o s t u k ends = by (chars s) refl k
         let inside = block_inside b in
         inr (scanned_before o (block_comment inside.0) (chars s) t (subst (λ x. BlockComment x []) (sym e) b, e ∙ inside.1) tt).0
 
--- the end of a row's line
-row_ends : (at_end : Bool) (z : List ℕ) → (at_end ≡ true → z ≡ []) → (row : OrderedTree) → IsTrue (ends_line at_end row) → IsTrue (no is_in_line (next (printed_text row ++ z)))
-row_ends at_end z f none h = rw (ap (λ t. t ++ z) chars-nil ∙ f h) refl
-row_ends at_end z f (more (Content.newline k) below after) h =
-    subst (λ t. IsTrue (no is_in_line (next t))) (sym (ap (λ t. t ++ z) (newline_more k below after) ∙ append_assoc (newline_text k) (chars (printed below ++ printed after)) z)) (newline_ends k (chars (printed below ++ printed after) ++ z))
-row_ends at_end z f (more Content.root below after) h = cc
-row_ends at_end z f (more Content.object below after) h = cc
-row_ends at_end z f (more Content.array below after) h = cc
-row_ends at_end z f (more Content.property below after) h = cc
-row_ends at_end z f (more (Content.string s) below after) h = cc
-row_ends at_end z f (more (Content.word s) below after) h = cc
-row_ends at_end z f (more (Content.number s) below after) h = cc
-row_ends at_end z f (more (Content.boolean b) below after) h = cc
-row_ends at_end z f (more Content.null below after) h = cc
-row_ends at_end z f (more (Content.token c) below after) h = cc
-row_ends at_end z f (more (Content.whitespace s) below after) h = cc
-row_ends at_end z f (more (Content.comment s) below after) h = cc
-
 -- leaves of trivia are gaps, and have no value
-leaf_gap : (o : Options) (content : Content) (x : List ℕ) → IsTrivia o content → (IsTrue (is_line_comment content) → IsTrue (no is_in_line (next x))) → Gap o (chars (text_of content) ++ x) x
+pub leaf_gap : (o : Options) (content : Content) (x : List ℕ) → IsTrivia o content → (IsTrue (is_line_comment content) → IsTrue (no is_in_line (next x))) → Gap o (chars (text_of content) ++ x) x
 leaf_gap o (Content.whitespace s) x h f = blanks_gap x h.1 refl
 leaf_gap o (Content.newline k) x h f = subst (λ t. Gap o (t ++ x) x) (sym (newline_chars k)) (newline_gap o k x)
 leaf_gap o (Content.comment s) x h f = gaps.comment h.0 (comment_before o s x h.1.0 h.1.1 f) gaps.none
@@ -144,15 +124,6 @@ passed_over o Content.null h = absurd h
 passed_over o (Content.token c) h = absurd h
 
 module _ (o : Options) where
-  pub trivia_gap : {at_end : Bool} {t r : OrderedTree} (z : List ℕ) → (at_end ≡ true → z ≡ []) → Trivia o t r → LinesEnd at_end t → Gap o (printed_text t ++ z) (printed_text r ++ z) × LinesEnd at_end r
-  trivia_gap z f nothing l = (gaps.none, l)
-  trivia_gap {at_end} {r = r} z f (trivia {content = content} {t = t} h g) l =
-      let first = leaf_gap o content (printed_text t ++ z) h (λ k. row_ends at_end z f t (l.0 k)) in
-      let others = trivia_gap z f g l.2 in
-      let split : printed_text (more content none t) ++ z ≡ chars (text_of content) ++ (printed_text t ++ z) =
-      ap (λ x. x ++ z) (text_leaf content t (trivia_utf8 o content h)) ∙ append_assoc (chars (text_of content)) (printed_text t) z in
-      (subst (λ x. Gap o x (printed_text r ++ z)) (sym split) (gap_append first others.0), others.1)
-
   pub trivia_items : {t r : OrderedTree} {vs : Items} → Trivia o t r → ItemsOf o r vs → ItemsOf o t vs
   trivia_items nothing h = h
   trivia_items (trivia {content = content} x g) h = values.pass_to_items (passed_over o content x) (trivia_items g h)

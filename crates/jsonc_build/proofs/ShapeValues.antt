@@ -1,4 +1,4 @@
--- A tree of a document's shape prints a document, and has its value.
+-- A tree of a document's shape prints a document, and has its value, where its line comments end with their lines.
 use Rattle.std.proofs.Common.{ℕ, ◌<◌, ◌≡◌, ◌∙◌, sym, ap, subst, refl, Bool, true, false, inl, inr, List, [], ◌∷◌, ◌++◌, length, arith, rules, Some, None, IsUtf8, chars, encode_utf8, length-append}
 use Rattle.std.proofs.lemmas.List.{append_assoc, append-nil}
 use Rattle.std.proofs.lemmas.Str.{chars-nil, chars-IsAscii, IsUtf8-append, IsUtf8-nil, IsUtf8-from_ascii}
@@ -6,7 +6,7 @@ use lib.Utf8.{encode}
 use Rattle.jsonc_text.specs.Options.{Options}
 use Rattle.jsonc_text.specs.Gaps.{Gap}
 use Rattle.jsonc_text.specs.Words as words
-use Rattle.jsonc_text.specs.Words.{EndsThere, keyword_text}
+use Rattle.jsonc_text.specs.Words.{keyword_text}
 use Rattle.jsonc_text.specs.Lexemes as lexemes
 use Rattle.jsonc_text.specs.Lexemes.{LexemeKind, Lexeme, lexeme}
 use Rattle.jsonc_text.specs.Plain.{Plain, Items, no_items, item, Members, no_members, member}
@@ -18,11 +18,12 @@ use Rattle.jsonc_tree.specs.OrderedTree.{OrderedTree, none, more, printed}
 use Rattle.jsonc_tree.specs.Values as values
 use Rattle.jsonc_tree.specs.Values.{IsNameLeaf, ValueOf, ItemsOf, MembersOf, PropertyOf}
 use Rattle.jsonc_tree.proofs.OrderedTrees.{printed-more}
-use Rattle.jsonc_build.specs.Lines.{LinesEnd, DocumentLinesEnd}
+use Rattle.jsonc_build.specs.Lines.{is_loose, LinesEndLoosely, DocumentLinesEndLoosely}
 use Rattle.jsonc_build.specs.Shape as shape
-use Rattle.jsonc_build.specs.Shape.{IsLiteralBefore, IsNameBefore, Trivia, Separated, Closed, ValueShaped, ElementsShaped, PropertiesShaped, PropertyShaped, DocumentShaped, PrintsDocument, token_then, printed_text}
+use Rattle.jsonc_build.specs.Shape.{IsLiteralBefore, IsNameBefore, Separated, Closed, ValueShaped, ElementsShaped, PropertiesShaped, PropertyShaped, DocumentShaped, PrintsDocument, token_then, printed_text}
 use Rattle.jsonc_build.proofs.LexemeEnds.{lexeme_more}
-use Rattle.jsonc_build.proofs.ShapeTexts.{text_more, text_leaf, trivia_gap, trivia_items, trivia_members, trivia_value, trivia_none, trivia_row_utf8, trivia_some}
+use Rattle.jsonc_build.proofs.LooseLines.{Stops, value_stops, elements_stop, properties_stop, trivia_gap}
+use Rattle.jsonc_build.proofs.ShapeTexts.{text_more, text_leaf, trivia_items, trivia_members, trivia_value, trivia_none, trivia_row_utf8, trivia_some}
 
 -- punctuation is one byte
 pub record Mark (c : ℕ) : Type 0 where
@@ -215,21 +216,21 @@ module _ (o : Options) where
   properties_some (shape.last_property {below = below} {after = after} p c) = more_some Content.property below after (property_utf8 p) (closed_some close_brace_mark c)
   properties_some (shape.property {below = below} {after = after} p s e) = more_some Content.property below after (property_utf8 p) (separated_some s (properties_some e))
 
-  closed_stands : {b : ℕ} {row : OrderedTree} (z : List ℕ) → Mark b → Closed o b row → LinesEnd false row → Closes o b (printed_text row ++ z) z
+  closed_stands : {b : ℕ} {row : OrderedTree} (z : List ℕ) → Mark b → Closed o b row → LinesEndLoosely true false row → Closes o b (printed_text row ++ z) z
   closed_stands z m (shape.plain g) l =
-      let gap = trivia_gap o z (λ e. cc) g l in
+      let gap = trivia_gap o z true false (λ e. cc) tt g l in
       grammar.plain (subst (Gap o _) (closing_text m z) gap.0)
   closed_stands z m (shape.trailing_comma {u = u} x g h) l =
-      let before = trivia_gap o z (λ e. cc) g l in
-      let after = trivia_gap o z (λ e. cc) h before.1.2 in
+      let before = trivia_gap o z true false (λ e. cc) tt g l in
+      let after = trivia_gap o z true false (λ e. cc) tt h before.1.2 in
       grammar.trailing_comma x (subst (Gap o _) (ap (λ t. t ++ z) (mark_text comma_mark u)) before.0) (subst (Gap o _) (closing_text m z) after.0)
 
-  separated_stands : {row next : OrderedTree} (z : List ℕ) → Separated o row next → LinesEnd false row → Separates o (printed_text row ++ z) (printed_text next ++ z) × LinesEnd false next
-  separated_stands z (shape.comma {u = u} g h) l =
-      let before = trivia_gap o z (λ e. cc) g l in
-      let after = trivia_gap o z (λ e. cc) h before.1.2 in
+  separated_stands : {row next : OrderedTree} (z : List ℕ) → Stops next → Separated o row next → LinesEndLoosely true false row → Separates o (printed_text row ++ z) (printed_text next ++ z) × LinesEndLoosely true false next
+  separated_stands z s (shape.comma {u = u} g h) l =
+      let before = trivia_gap o z true false (λ e. cc) tt g l in
+      let after = trivia_gap o z true false (λ e. cc) s h before.1.2 in
       (grammar.comma (subst (Gap o _) (ap (λ t. t ++ z) (mark_text comma_mark u)) before.0) after.0, after.1)
-  separated_stands z (shape.no_comma x g) l = let gap = trivia_gap o z (λ e. cc) g l in (grammar.no_comma x gap.0, gap.1)
+  separated_stands z s (shape.no_comma x g) l = let gap = trivia_gap o z true false (λ e. cc) s g l in (grammar.no_comma x gap.0, gap.1)
 
   closed_items : {b : ℕ} {row : OrderedTree} → Closed o b row → ItemsOf o row no_items
   closed_items (shape.plain g) = trivia_items o g (values.pass_to_items refl values.no_more_items)
@@ -256,47 +257,47 @@ module _ (o : Options) where
   node_text content below after z u = sym (ap (λ t. t ++ z) (text_more content below after u) ∙ append_assoc (chars (text_of content ++ printed below)) (printed_text after) z)
 
   mutual
-    value_stands : {content : Content} {below : OrderedTree} {r : List ℕ} (z : List ℕ) → Carries o r z → ValueShaped o content below r → LinesEnd false below → Stands o content below z
+    value_stands : {content : Content} {below : OrderedTree} {r : List ℕ} (z : List ℕ) → Carries o r z → ValueShaped o content below r → LinesEndLoosely (is_loose content) false below → Stands o content below z
     value_stands z f (shape.literal {content = content} h) l = literal_stands content z f h
     value_stands z f (shape.empty_array {t = t} g) l =
-        let gap = trivia_gap o z (λ e. cc) g l.2 in
+        let gap = trivia_gap o z true false (λ e. cc) tt g l.2 in
         (Plain.array no_items, subst (λ x. IsValue o (x ++ z) (Plain.array no_items) z) (sym (mark_text bracket_mark t)) (grammar.empty_array (subst (Gap o _) (closing_text close_bracket_mark z) gap.0)), values.array (values.pass_to_items refl (trivia_items o g (values.pass_to_items refl values.no_more_items))))
     value_stands z f (shape.array {t = t} g e) l =
-        let gap = trivia_gap o z (λ e. cc) g l.2 in
+        let gap = trivia_gap o z true false (λ e. cc) (elements_stop e) g l.2 in
         let es = elements_stand z e gap.1 in
         (Plain.array es.0, subst (λ x. IsValue o (x ++ z) (Plain.array es.0) z) (sym (mark_text bracket_mark t)) (grammar.array gap.0 es.1), values.array (values.pass_to_items refl (trivia_items o g es.2)))
     value_stands z f (shape.empty_object {t = t} g) l =
-        let gap = trivia_gap o z (λ e. cc) g l.2 in
+        let gap = trivia_gap o z true false (λ e. cc) tt g l.2 in
         (Plain.object no_members, subst (λ x. IsValue o (x ++ z) (Plain.object no_members) z) (sym (mark_text brace_mark t)) (grammar.empty_object (subst (Gap o _) (closing_text close_brace_mark z) gap.0)), values.object (values.pass_to_members refl (trivia_members o g (values.pass_to_members refl values.no_more_members))))
     value_stands z f (shape.object {t = t} g p) l =
-        let gap = trivia_gap o z (λ e. cc) g l.2 in
+        let gap = trivia_gap o z true false (λ e. cc) (properties_stop p) g l.2 in
         let ps = properties_stand z p gap.1 in
         (Plain.object ps.0, subst (λ x. IsValue o (x ++ z) (Plain.object ps.0) z) (sym (mark_text brace_mark t)) (grammar.object gap.0 ps.1), values.object (values.pass_to_members refl (trivia_members o g ps.2)))
 
-    elements_stand : {row : OrderedTree} (z : List ℕ) → ElementsShaped o row → LinesEnd false row → (vs : Items) × AreElements o (printed_text row ++ z) vs z × ItemsOf o row vs
+    elements_stand : {row : OrderedTree} (z : List ℕ) → ElementsShaped o row → LinesEndLoosely true false row → (vs : Items) × AreElements o (printed_text row ++ z) vs z × ItemsOf o row vs
     elements_stand z (shape.last_element {content = content} {below = below} {after = after} v c) l =
         let one = value_stands (printed_text after ++ z) (carries_more (printed_text after) z (closed_some close_bracket_mark c)) v l.1 in
         (item one.0 no_items, subst (λ x. AreElements o x (item one.0 no_items) z) (node_text content below after z (value_utf8 v)) (grammar.last_element one.1 (closed_stands z close_bracket_mark c l.2)), values.one_item one.2 (closed_items c))
     elements_stand z (shape.element {content = content} {below = below} {after = after} v s e) l =
         let one = value_stands (printed_text after ++ z) (carries_more (printed_text after) z (separated_some s (elements_some e))) v l.1 in
-        let gap = separated_stands z s l.2 in
+        let gap = separated_stands z (elements_stop e) s l.2 in
         let others = elements_stand z e gap.1 in
         (item one.0 others.0, subst (λ x. AreElements o x (item one.0 others.0) z) (node_text content below after z (value_utf8 v)) (grammar.element one.1 gap.0 others.1), values.one_item one.2 (separated_items s others.2))
 
-    properties_stand : {row : OrderedTree} (z : List ℕ) → PropertiesShaped o row → LinesEnd false row → (ms : Members) × AreProperties o (printed_text row ++ z) ms z × MembersOf o row ms
+    properties_stand : {row : OrderedTree} (z : List ℕ) → PropertiesShaped o row → LinesEndLoosely true false row → (ms : Members) × AreProperties o (printed_text row ++ z) ms z × MembersOf o row ms
     properties_stand z (shape.last_property {below = below} {after = after} p c) l =
         let one = property_stands (printed_text after ++ z) (carries_more (printed_text after) z (closed_some close_brace_mark c)) p l.1 in
         (member one.0 one.1 no_members, subst (λ x. AreProperties o x (member one.0 one.1 no_members) z) (node_text Content.property below after z (property_utf8 p)) (grammar.last_property one.2 (closed_stands z close_brace_mark c l.2)), values.one_member one.3 (closed_members c))
     properties_stand z (shape.property {below = below} {after = after} p s e) l =
         let one = property_stands (printed_text after ++ z) (carries_more (printed_text after) z (separated_some s (properties_some e))) p l.1 in
-        let gap = separated_stands z s l.2 in
+        let gap = separated_stands z (properties_stop e) s l.2 in
         let others = properties_stand z e gap.1 in
         (member one.0 one.1 others.0, subst (λ x. AreProperties o x (member one.0 one.1 others.0) z) (node_text Content.property below after z (property_utf8 p)) (grammar.property one.2 gap.0 others.1), values.one_member one.3 (separated_members s others.2))
 
-    property_stands : {row : OrderedTree} {r : List ℕ} (z : List ℕ) → Carries o r z → PropertyShaped o row r → LinesEnd false row → (name : List ℕ) × (v : Plain) × IsProperty o (printed_text row ++ z) name v z × PropertyOf o row name v
+    property_stands : {row : OrderedTree} {r : List ℕ} (z : List ℕ) → Carries o r z → PropertyShaped o row r → LinesEndLoosely false false row → (name : List ℕ) × (v : Plain) × IsProperty o (printed_text row ++ z) name v z × PropertyOf o row name v
     property_stands z f (shape.named {name = name} {content = content} {below = below} {after = after} {u = u} n g h v) l =
-        let before = trivia_gap o z (λ e. cc) g l.2 in
-        let behind = trivia_gap o z (λ e. cc) h before.1.2 in
+        let before = trivia_gap o z false false (λ e. cc) tt g l.2 in
+        let behind = trivia_gap o z false false (λ e. cc) (value_stops none v) h before.1.2 in
         let one = value_stands z f v behind.1.1 in
         let some : 0 < length (printed_text after) = trivia_some o g (mark_some colon_mark u) in
         let called = name_stands name (printed_text after ++ z) (carries_more (printed_text after) z some) n in
@@ -308,15 +309,15 @@ module _ (o : Options) where
   root_text : (row : OrderedTree) → printed_text (more Content.root row none) ≡ printed_text row
   root_text row = ap chars (printed-more Content.root row none ∙ append-nil (printed row))
 
-  pub document_printed : (tree : OrderedTree) → DocumentShaped o tree → DocumentLinesEnd tree → PrintsDocument o tree
+  pub document_printed : (tree : OrderedTree) → DocumentShaped o tree → DocumentLinesEndLoosely tree → PrintsDocument o tree
   document_printed tree (shape.no_value {row = row} g) (row2, e, l) =
       let same : row2 ≡ row = cc in
-      let gap = trivia_gap o [] (λ e. refl) g (subst (LinesEnd true) same l) in
+      let gap = trivia_gap o [] false true (λ e. refl) tt g (subst (LinesEndLoosely false true) same l) in
       (None, subst (λ t. Gap o t []) (append-nil (printed_text row) ∙ sym (root_text row)) (subst (Gap o _) (ap (λ t. t ++ []) chars-nil) gap.0), (row, refl, trivia_none o g))
   document_printed tree (shape.a_value {content = content} {row = row} {below = below} {after = after} g v h) (row2, e, l) =
       let same : row2 ≡ row = cc in
-      let before = trivia_gap o [] (λ e. refl) g (subst (LinesEnd true) same l) in
-      let behind = trivia_gap o [] (λ e. refl) h before.1.2 in
+      let before = trivia_gap o [] false true (λ e. refl) (value_stops after v) g (subst (LinesEndLoosely false true) same l) in
+      let behind = trivia_gap o [] false true (λ e. refl) tt h before.1.2 in
       let one = value_stands (printed_text after) (λ k s x. x) v before.1.1 in
       let here : List ℕ = chars (text_of content ++ printed below) ++ printed_text after in
       let start : Gap o (printed_text (more Content.root row none)) here =

@@ -1,11 +1,14 @@
-//! A law of the definitions: the contract of a function that does nothing.
+//! Laws of the definitions: each is the contract of a function that does nothing.
 ghost use Rattle.jsonc_text.specs.Options.{Options};
 ghost use Rattle.jsonc_tree.specs.OrderedTree.{OrderedTree};
-ghost use Rattle.jsonc_build.specs.Lines.{DocumentLinesEnd};
+ghost use Rattle.jsonc_build.specs.Lines.{DocumentLinesEnd, DocumentLinesEndLoosely};
 ghost use Rattle.jsonc_build.specs.Shape.{DocumentShaped, PrintsDocument};
 
-/// A tree of a document's shape whose line comments end with their lines prints a text of the
-/// grammar, and has the value of that text, whatever the options.
+/// A tree of a document's shape whose line comments end with their lines, in an array or object
+/// perhaps behind whitespace, prints a text of the grammar, and has the value of that text, whatever
+/// the options. So does one whose line comments end directly with their lines: they end so too.
 pub fn shaped_trees_print_documents()
-    ensures { (o : Options) (t : OrderedTree) → DocumentShaped o t → DocumentLinesEnd t → PrintsDocument o t }
+    ensures loosely { (o : Options) (t : OrderedTree) → DocumentShaped o t → DocumentLinesEndLoosely t → PrintsDocument o t }
+    ensures directly { (o : Options) (t : OrderedTree) → DocumentShaped o t → DocumentLinesEnd t → PrintsDocument o t }
+    ensures strict { (t : OrderedTree) → DocumentLinesEnd t → DocumentLinesEndLoosely t }
 {}

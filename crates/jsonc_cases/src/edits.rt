@@ -29,6 +29,7 @@ fn read_edit(alloc: Global, edit: &str) -> Result<Option<Edit<Global>>, CaseErro
             let path = read_path(alloc, path)?;
             Ok(Some(Edit::Replace(path, read_value(alloc, value)?)))
         }
+        ["Remove", path] => Ok(Some(Edit::Remove(read_path(alloc, path)?))),
         ["RemoveComment", number] => Ok(Some(Edit::RemoveComment(read_number(number)?))),
         _ => Ok(None),
     }

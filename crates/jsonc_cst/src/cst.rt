@@ -18,6 +18,7 @@ ghost use Rattle.jsonc_cst.specs.Document.{printed_of, tree_of, HasNoDeeperValue
 ghost use Rattle.jsonc_cst.specs.Tree.{NodesAreTree};
 
 mod access;
+mod edits;
 mod elements;
 pub mod input;
 mod into;
@@ -31,6 +32,7 @@ mod siblings;
 mod values;
 
 pub use access::AncestorIterator;
+pub use edits::ReplaceWith;
 pub use input::CstInputValue;
 use jsonc_build::build;
 pub use jsonc_edit::{EditError, TrailingCommaMode};

@@ -5,7 +5,7 @@ use Rattle.std.proofs.lemmas.List.{take-append-drop, drop_more, get_or-take, get
 use Rattle.std.specs.Option.{option_and_then}
 use Rattle.jsonc_text.specs.Options.{Options}
 use Rattle.jsonc_tree.specs.Content.{Content, root, property, token}
-use Rattle.jsonc_tree.specs.OrderedTree.{OrderedTree, none, more, leaves, followed_by, Shows, shows_none, shows_more, ordered_tree, Replaced}
+use Rattle.jsonc_tree.specs.OrderedTree.{OrderedTree, none, more, leaves, followed_by, Shows, shows_none, shows_more, ordered_tree, Replaced, Top}
 use Rattle.jsonc_tree.specs.Siblings.{row_of, siblings_after}
 use Rattle.jsonc_tree.specs.Order.{with_parent}
 use Rattle.jsonc_tree.specs.Tree.{Node, content_at, parent_at, children_at, place_at, IsTree, IsOver}
@@ -14,23 +14,22 @@ use Rattle.jsonc_tree.proofs.Over.{sibling_not_over}
 use Rattle.jsonc_tree.proofs.OrderedTrees.{Shows-unique}
 use Rattle.jsonc_tree.proofs.Rows.{Shows-append, Shows-part}
 use Rattle.jsonc_nodes.specs.Kinds.{is_element_at}
-use Rattle.jsonc_build.specs.Lines.{LinesEnd, is_line_comment}
+use Rattle.jsonc_build.specs.Lines.{LinesEnd, is_loose, LinesEndLoosely}
 use Rattle.jsonc_build.specs.Shape as shape
 use Rattle.jsonc_build.specs.Shape.{Trivia, token_then}
 use Rattle.jsonc_sound.specs.Rows as rows
 use Rattle.jsonc_sound.specs.Rows.{RowKind, Last, closing}
 use Rattle.jsonc_sound.specs.Sound.{IsValueBefore}
 use Rattle.jsonc_sound.proofs.HeldValues.{document_held}
-use Rattle.jsonc_sound.specs.TreeChanges.{Top, IsElement, leaves_of, DocumentChanged}
+use Rattle.jsonc_sound.specs.TreeChanges.{IsElement, leaves_of, DocumentChanged}
 use Rattle.jsonc_seams.specs.Adjacent.{or_else, last_printed}
 use Rattle.jsonc_seams.specs.Alone as alone
-use Rattle.jsonc_seams.specs.Alone.{ValueAlone, PartAlone, RowAlone, PropertyAlone, RootAlone}
+use Rattle.jsonc_seams.specs.Alone.{ValueAlone, RowAlone, PropertyAlone}
 use Rattle.jsonc_seams.specs.InRows.{row_around, holding}
-use Rattle.jsonc_seams.specs.LooseLines.{is_loose, LinesEndLoosely}
 use Rattle.jsonc_seams.specs.SoundTrees.{SoundTree}
 use Rattle.jsonc_seams.specs.Spaces.{is_bare, is_bare_leaf, first_printed, meet}
 use Rattle.jsonc_seams.proofs.Apart.{value_alone, document_alone}
-use Rattle.jsonc_seams.proofs.LooseChanges.{document_loosens}
+use Rattle.jsonc_build.proofs.LooseLines.{loosens}
 use Rattle.jsonc_seams.proofs.RowsTell.{kept_by_value_in_row, kept_by_value_in_root, kept_by_value_in_property}
 use Rattle.jsonc_seams.proofs.Spaces.{first_append}
 use Rattle.jsonc_spaces.specs.Due.{nearest, begins_bare, ends_bare, seen_before, seen_behind, behind_holder, behind_property}
@@ -65,17 +64,6 @@ not_met front now back bare p q f g =
     behind : (a b : Bool) → (IsTrue a → b ≡ false) → a && b ≡ false
     behind true b h = h refl
     behind false b h = refl
-
--- line comments of a value end with their lines
-value_loosens : (content : Content) (below : OrderedTree) → IsElement content → LinesEnd false below → LinesEndLoosely (is_loose content) false below
-value_loosens content below e l = by (document_loosens {tree = more root (more content below none) none} (more content below none, refl, (λ h. absurd (no_comment content e h), l, tt)))
-  where
-    no_comment : (c : Content) → IsElement c → IsTrue (is_line_comment c) → ⊥
-    no_comment (Content.comment s) e h = cc
-    no_comment c e h = cc
-
-    by : (row : OrderedTree) × (more root (more content below none) none ≡ more root row none) × LinesEndLoosely false true row → LinesEndLoosely (is_loose content) false below
-    by (row, e, l) = let same : row ≡ more content below none = cc in (subst (LinesEndLoosely false true) same l).1
 
 -- an element is neither first nor last in a container
 no_more : (front back : OrderedTree) (top : Top) → none ≡ row_around front top back → ⊥
@@ -241,7 +229,7 @@ module _ (o : Options) (old new : List Node) (path : List ℕ) (n m : ℕ) (tree
   changed = replaced_at_path old new n m r path at
 
   loose : LinesEndLoosely (is_loose now.content) false now.below
-  loose = value_loosens (content_at old m) (row_below old m) r.element lines
+  loose = loosens (is_loose (content_at old m)) false (row_below old m) lines
 
   value : ValueAlone o now.content now.below
   value = value_alone o fit

@@ -12,16 +12,16 @@ use Rattle.jsonc_tree.specs.Building.{Builds, Keeps}
 use Rattle.jsonc_tree.proofs.Order.{parent_there}
 use Rattle.jsonc_tree.proofs.Splicing.{in_at, out_from}
 use Rattle.jsonc_tree.proofs.Appending.{CanJoin-one}
-use Rattle.jsonc_sound.specs.TreeChanges.{Top, IsElement, DocumentChanged}
+use Rattle.jsonc_sound.specs.TreeChanges.{IsElement, DocumentChanged}
 use Rattle.jsonc_from_input.specs.Layout.{Layout}
 use Rattle.jsonc_from_input.specs.Laid.{laid}
-use Rattle.jsonc_tree.specs.OrderedTree.{OrderedTree, ordered_tree}
+use Rattle.jsonc_tree.specs.OrderedTree.{OrderedTree, ordered_tree, Top}
 use Rattle.jsonc_seams.specs.Spaces.{is_bare}
 use Rattle.jsonc_spaces.specs.Due.{due_around, due_before, due_behind, listed}
 use Rattle.jsonc_spaces.specs.Put.{AreAtHand, AreChildren, AreSpaced, Prepared, nodes_of}
 use Rattle.jsonc_spaces.specs.declared.put.Spaces.{Spaces}
 use Rattle.jsonc_edit.specs.Changes.{top_at, ChangesAt, Replaces}
-use Rattle.jsonc_edit.specs.Replacing.{laid_top, TakesPlace, GivesWay}
+use Rattle.jsonc_edit.specs.Replacing.{TakesPlace, GivesWay, GivesWayRaw}
 use Rattle.jsonc_edit.proofs.Elements.{Some_same}
 use Rattle.jsonc_edit.proofs.Splices.{joined_top, replaced_at_path}
 use Rattle.jsonc_edit.proofs.DueKept.{due_before_same, due_behind_same}
@@ -226,8 +226,33 @@ module _ (old made ready : List Node) (tree : IsTree old) (n c m : ℕ) (l : Lay
     pub value_join : CanJoin spaced c (place_at spaced n) (place_at spaced n + 1) (m ∷ [])
     value_join = can_join old made ready spaced tree n c m (laid l v).content (laid l v).below said built (laid_element l v) prepared due_put
 
-    pub value_gives_way : (new : List Node) → IsTree new → Splices spaced new c (place_at spaced n) (place_at spaced n + 1) (m ∷ []) → GivesWay old new n m (laid_top l v)
+    pub value_gives_way : (new : List Node) → IsTree new → Splices spaced new c (place_at spaced n) (place_at spaced n + 1) (m ∷ []) → GivesWay old new n m (laid l v)
     value_gives_way = gives_way old made ready spaced tree n c m (laid l v).content (laid l v).below said built (laid_element l v) prepared due_put
+
+-- and where no space comes
+module _ (old made : List Node) (tree : IsTree old) (n c m : ℕ) (l : Layout) (v : Plain) (said : parent_at old n ≡ Some c) (built : Builds old made m (laid l v).content (laid l v).below) where
+  there_raw : (n < length old) × (c < length old)
+  there_raw = parent_there old tree n c said
+
+  pub child_raw : parent_at made n ≡ Some c
+  child_raw = built.keeps.parent n there_raw.0 ∙ said
+
+  later_raw : 0 < m
+  later_raw = omega (arith, built.later, there_raw.0)
+
+  apart_raw : IsOver made m c → ⊥
+  apart_raw over = over_no_old old made tree built.keeps m c built.later there_raw.1 over
+
+  pub join_raw : CanJoin made c (place_at made n) (place_at made n + 1) (m ∷ [])
+  join_raw = may_join made made built.tree n c m child_raw built.there later_raw built.alone apart_raw
+
+  pub gives_way_raw : (new : List Node) → IsTree new → Splices made new c (place_at made n) (place_at made n + 1) (m ∷ []) → GivesWayRaw old new n m (laid l v)
+  gives_way_raw new after s = record {
+    ready = made;
+    fresh = built.later;
+    prepared = record { keeps = built.keeps; tree = built.tree };
+    place = subst (TakesPlace made new n m) (built_top built) (takes_place made new built.tree n c m child_raw built.there later_raw built.alone apart_raw after (subst IsElement (sym built.is) (laid_element l v)) s);
+  }
 
 -- what holds anyway holds of a refusal
 pub where_refused : {T E P : Type 0} (r : Result T E) → P → OnErr r P

@@ -1,9 +1,9 @@
 -- Where a value stands: in the root, in an array or in a property; and the rows around a value that has changed.
 use Rattle.std.proofs.Common.{◌≡◌, ℕ, List, [], ◌∷◌, ◌++◌, subst}
 use Rattle.jsonc_tree.specs.Content.{Content, array, object}
-use Rattle.jsonc_tree.specs.OrderedTree.{OrderedTree, none, more, Replaced, here, deeper, later}
+use Rattle.jsonc_tree.specs.OrderedTree.{OrderedTree, none, more, Replaced, here, deeper, later, Top}
 use Rattle.jsonc_tree.specs.Tree.{Node, content_at}
-use Rattle.jsonc_sound.specs.TreeChanges.{Top, ElementChanged, this_element, passed, later_element, ValueChanged, DocumentChanged, in_root}
+use Rattle.jsonc_sound.specs.TreeChanges.{ElementChanged, this_element, passed, later_element, ValueChanged, DocumentChanged, in_root}
 use Rattle.jsonc_edit.specs.Paths.{IsElementOf, IsHeldBy, StepsTo, in_array, in_object, LeadsTo, itself, step, IsAt}
 use Rattle.jsonc_edit.proofs.Standing.{at_further}
 

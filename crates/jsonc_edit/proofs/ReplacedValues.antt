@@ -3,7 +3,7 @@ use Rattle.std.proofs.Common.{◌≡◌, ℕ, ◌<◌, false, List, [], length, 
 use Rattle.jsonc_text.specs.Options.{Options}
 use Rattle.jsonc_text.specs.Plain.{Plain}
 use Rattle.jsonc_text.specs.Grammar.{IsDocument}
-use Rattle.jsonc_tree.specs.OrderedTree.{OrderedTree, ordered_tree, leaves}
+use Rattle.jsonc_tree.specs.OrderedTree.{OrderedTree, ordered_tree, leaves, Top}
 use Rattle.jsonc_tree.specs.Tree.{Node, content_at, children_at, parent_at, IsTree, IsOver}
 use Rattle.jsonc_tree.proofs.Order.{parent_there}
 use Rattle.jsonc_tree.specs.Values as values
@@ -15,20 +15,21 @@ use Rattle.jsonc_nodes.specs.Kinds.{is_element_at}
 use Rattle.jsonc_from_input.specs.Layout.{Layout}
 use Rattle.jsonc_from_input.proofs.Meanings.{laid_value}
 use Rattle.jsonc_sound.specs.Sound.{IsValueBefore}
-use Rattle.jsonc_sound.specs.TreeChanges.{Top, IsElement, ElementChanged, DocumentChanged, in_root, leaves_of}
+use Rattle.jsonc_sound.specs.TreeChanges.{IsElement, ElementChanged, DocumentChanged, in_root, leaves_of}
 use Rattle.jsonc_sound.specs.Laws.{DiffersIn}
 use Rattle.jsonc_sound.proofs.FirstNodes.{here, over, beyond, meets_first, none_changed, no_element}
 use Rattle.jsonc_sound.proofs.LeavesAround.{document_differs}
 use Rattle.jsonc_sound.proofs.Values.{document_change}
 use Rattle.jsonc_seams.specs.SoundTrees.{SoundTree}
 use Rattle.jsonc_seams.specs.Spaces.{is_bare}
-use Rattle.jsonc_seams.proofs.LooseShapes.{document_printed}
+use Rattle.jsonc_build.proofs.ShapeValues.{document_printed}
 use Rattle.jsonc_spaces.specs.Due.{due_around}
 use Rattle.jsonc_spaces.proofs.Quiet.{none_due}
 use Rattle.jsonc_edit.specs.Changes.{top_at}
 use Rattle.jsonc_edit.specs.Paths.{IsAt}
 use Rattle.jsonc_edit.specs.Reading.{layout_for}
-use Rattle.jsonc_edit.specs.Replacing.{laid_top, GivesWay}
+use Rattle.jsonc_from_input.specs.Laid.{laid}
+use Rattle.jsonc_edit.specs.Replacing.{GivesWay}
 use Rattle.jsonc_edit.specs.Spaced.{SpacesPut}
 use Rattle.jsonc_edit.specs.Writing.{FitsLayout, IsWritable}
 use Rattle.jsonc_edit.specs.Written.{IsWrittenAt, Writes}
@@ -137,24 +138,24 @@ module _ (o : Options) (old new : List Node) (n m : ℕ) where
   -- under all options the value changes
   pub laid_out_changes : (layout : Layout) (v : Plain) → ChangesValueLaidOut o old new n m layout v
   laid_out_changes layout v tree texts g path x value at =
-      document_change o x v (changed old new n m (laid_top layout v) tree g path at) (laid_value o layout v texts) (spaces_value o (Some x) (put old new n m (laid_top layout v) tree g path at) value)
+      document_change o x v (changed old new n m (laid layout v) tree g path at) (laid_value o layout v texts) (spaces_value o (Some x) (put old new n m (laid layout v) tree g path at) value)
 
   pub replaced_changes : (v : Plain) → ChangesValueReplaced o old new n m v
   replaced_changes v tree texts r = laid_out_changes (layout_for old r.0 n) v tree texts r.2
 
   -- it is written
-  written_at : (layout : Layout) (v : Plain) (path : List ℕ) → IsTree old → SoundTree o (ordered_tree old 0) → IsAt old path n → FitsLayout o layout → IsWritable o v → GivesWay old new n m (laid_top layout v)
+  written_at : (layout : Layout) (v : Plain) (path : List ℕ) → IsTree old → SoundTree o (ordered_tree old 0) → IsAt old path n → FitsLayout o layout → IsWritable o v → GivesWay old new n m (laid layout v)
       → IsWrittenAt o v path (top_at old n) (top_at new m) (ordered_tree old 0) (ordered_tree new 0)
   written_at layout v path tree s at f w g =
-      let puts = put old new n m (laid_top layout v) tree g path at in
-      let change = changed old new n m (laid_top layout v) tree g path at in
+      let puts = put old new n m (laid layout v) tree g path at in
+      let change = changed old new n m (laid layout v) tree g path at in
       let before = spaces_sound o puts s in
-      let is = in_place g.spaced new n m (laid_top layout v) g.place in
+      let is = in_place g.spaced new n m (laid layout v) g.place in
       let was = means_some o change (document_printed o (ordered_tree g.spaced 0) before.shaped before.lines) in
       let first = means_first o puts s was.value was.tree in
       let now = laid_out_changes layout v tree w.texts g path was.value first.1 at in
       let fit = value_may_stand o layout v f w in
-      let sound = sound_still old new n m (laid_top layout v) tree g path at o s fit.shaped fit.lines in
+      let sound = sound_still old new n m (laid layout v) tree g path at o s fit.shaped fit.lines in
       record {
         given_up = now.0;
         before = was.value;
@@ -179,8 +180,8 @@ module _ (o : Options) (old new : List Node) (n m : ℕ) where
 
 -- what a call that replaces n answers is written
 pub answer_writes : {E : Type 0} (o : Options) (old new : List Node) (n c : ℕ) (layout : Layout) (v : Plain) → IsTree old → parent_at old n ≡ Some c → layout ≡ layout_for old c n → (r : Result (Option ℕ) E)
-    → IfOk r (λ a. IfSome a (λ m. GivesWay old new n m (laid_top layout v))) → IfOk r (λ a. IfSome a (λ m. Writes o old new n m v))
+    → IfOk r (λ a. IfSome a (λ m. GivesWay old new n m (laid layout v))) → IfOk r (λ a. IfSome a (λ m. Writes o old new n m v))
 answer_writes o old new n c layout v tree said told (Ok (Some m)) g =
-    replaced_written o old new n m v tree (c, said, subst (λ (l : Layout). GivesWay old new n m (laid_top l v)) told g)
+    replaced_written o old new n m v tree (c, said, subst (λ (l : Layout). GivesWay old new n m (laid l v)) told g)
 answer_writes o old new n c layout v tree said told (Ok None) g = tt
 answer_writes o old new n c layout v tree said told (Err e) g = tt

@@ -5,13 +5,13 @@ use Rattle.jsonc_tree.specs.Content.{Content, root, object, array, property, str
 use Rattle.jsonc_tree.specs.Tree.{Node, content_at, parent_at, children_at, place_at, IsTree, IsOver}
 use Rattle.jsonc_tree.specs.Values.{is_passed_over}
 use Rattle.jsonc_tree.specs.Changes.{Splices}
-use Rattle.jsonc_tree.specs.OrderedTree.{OrderedTree, Shows}
+use Rattle.jsonc_tree.specs.OrderedTree.{OrderedTree, Shows, Top}
 use Rattle.jsonc_tree.proofs.Order.{not_over_parent, over_step, parent_there}
 use Rattle.jsonc_tree.proofs.Over.{over_up}
 use Rattle.jsonc_tree.proofs.OrderedTrees.{Shows-unique}
 use Rattle.jsonc_tree.proofs.Around.{Shows-spliced}
 use Rattle.jsonc_nodes.specs.Kinds.{is_element_at}
-use Rattle.jsonc_sound.specs.TreeChanges.{Top, IsElement}
+use Rattle.jsonc_sound.specs.TreeChanges.{IsElement}
 use Rattle.jsonc_edit.specs.Paths.{IsElementOf}
 use Rattle.jsonc_edit.specs.Changes.{row_below, top_at, ChangesAt, Replaces, Respliced, Rewritten}
 use Rattle.jsonc_edit.specs.Laws.{ChangesOver, KeepsOthers, HasNewRow, HasNewText}

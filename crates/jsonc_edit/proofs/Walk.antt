@@ -4,13 +4,13 @@ use Rattle.std.proofs.lemmas.Bool.{cases_eq}
 use Rattle.std.proofs.lemmas.List.{take-append-drop, drop_more}
 use Rattle.jsonc_tree.specs.Content.{Content, root, array, object, property}
 use Rattle.jsonc_tree.specs.Tree.{Node, content_at, parent_at, children_at, place_at, IsTree, IsOver}
-use Rattle.jsonc_tree.specs.OrderedTree.{OrderedTree, none, more, followed_by, Shows, shows_more, ordered_tree}
+use Rattle.jsonc_tree.specs.OrderedTree.{OrderedTree, none, more, followed_by, Shows, shows_more, ordered_tree, Top}
 use Rattle.jsonc_tree.proofs.Order.{not_over_parent, parent_there}
 use Rattle.jsonc_tree.proofs.Over.{over_up, sibling_not_over}
 use Rattle.jsonc_tree.proofs.OrderedTrees.{Shows-ordered_tree, Shows-unique}
 use Rattle.jsonc_tree.proofs.Rows.{Shows-append, Shows-part, Shows-kept}
 use Rattle.jsonc_nodes.specs.Kinds.{is_element_at}
-use Rattle.jsonc_sound.specs.TreeChanges.{Top, IsElement, ElementChanged, this_element, ValueChanged, DocumentChanged, in_root}
+use Rattle.jsonc_sound.specs.TreeChanges.{IsElement, ElementChanged, this_element, ValueChanged, DocumentChanged, in_root}
 use Rattle.jsonc_edit.specs.Paths.{IsElementOf, StepsTo, LeadsTo, itself, step, IsAt}
 use Rattle.jsonc_edit.specs.Changes.{row_below, top_at, ChangesAt}
 use Rattle.jsonc_edit.proofs.Elements.{StandsAt, stands_at, changed_behind}

@@ -14,14 +14,15 @@ use Rattle.jsonc_input.specs.Numbers.{IsAlwaysNumber}
 use Rattle.jsonc_input.specs.Spelling.{spelled}
 use Rattle.jsonc_input.proofs.Spelled.{spelled_string}
 use Rattle.jsonc_from_input.specs.Layout.{Layout, deeper}
-use Rattle.jsonc_from_input.specs.Laid.{LaidNode, laid, laid_items, laid_members, laid_property, leaf, property_of, number_leaf, string_leaf, holds_filled}
+use Rattle.jsonc_tree.specs.OrderedTree.{Top}
+use Rattle.jsonc_from_input.specs.Laid.{laid, laid_items, laid_members, laid_property, leaf, property_of, number_leaf, string_leaf, holds_filled}
 use Rattle.jsonc_from_input.specs.Texts.{IsCharacters, IsOfTexts, AreOfTexts, AreNamedOfTexts}
 use Rattle.jsonc_from_input.proofs.Meanings.{laid_value, laid_pair}
 use Rattle.jsonc_from_input.proofs.SpelledTexts.{spelled_characters}
 use Rattle.jsonc_sound.specs.Sound.{IsNewValue}
 use Rattle.jsonc_sound.proofs.Followers.{value_ends}
-use Rattle.jsonc_edit.specs.Replacing.{laid_top}
-use Rattle.jsonc_edit.specs.Writing.{FitsLayout, IsOfNumbers, AreOfNumbers, AreNamedOfNumbers, IsWritable, IsNewProperty}
+use Rattle.jsonc_rows.specs.Properties.{IsNewProperty}
+use Rattle.jsonc_edit.specs.Writing.{FitsLayout, IsOfNumbers, AreOfNumbers, AreNamedOfNumbers, IsWritable}
 use Rattle.jsonc_edit.proofs.WrittenRows.{EachNode, one_of_rows, IsValueNode, IsPropertyNode, deeper_fits, space_is_trivia, line_is_trivia, array_of_lines, object_of_lines, elements_on_line}
 use Rattle.jsonc_edit.proofs.WrittenLines.{pair_ends}
 use Rattle.jsonc_edit.proofs.WrittenLines as lines
@@ -42,7 +43,7 @@ string_before o s h r =
     ((spelled s, (known, refl)), subst (λ t. IsString o (t ++ r) s r) (sym (chars-encodes (spelled s) known)) (spelled_string o s r))
 
 -- a name with a value
-property_stands : (o : Options) (name : List ℕ) (value : LaidNode) → IsCharacters name → IsValueNode o value → IsPropertyNode o (property_of name value)
+property_stands : (o : Options) (name : List ℕ) (value : Top) → IsCharacters name → IsValueNode o value → IsPropertyNode o (property_of name value)
 property_stands o name value h v = (
   refl,
   λ r e. shape.named {name = string_leaf name} (name, string_before o name h _) shape.nothing (shape.trivia (space_is_trivia o) shape.nothing) (v r e),
@@ -73,7 +74,7 @@ mutual
   members_stand o layout f no_members t n = tt
   members_stand o layout f (member name v ms) t n = (property_stands o name (laid layout v) t.0 (value_stands o layout f v t.1 n.0), members_stand o layout f ms t.2 n.1)
 
-pub value_may_stand : (o : Options) (layout : Layout) (v : Plain) → FitsLayout o layout → IsWritable o v → IsNewValue o (laid_top layout v) v
+pub value_may_stand : (o : Options) (layout : Layout) (v : Plain) → FitsLayout o layout → IsWritable o v → IsNewValue o (laid layout v) v
 value_may_stand o layout v f w =
     record { shaped = value_stands o layout f v w.texts w.numbers [] refl; value = laid_value o layout v w.texts; lines = (lines.value_ends layout v).below }
 

@@ -2,10 +2,10 @@
 use Rattle.std.proofs.Common.{◌≡◌, ℕ, Bool, true, false, ◌||◌, List, [], ◌∷◌, refl}
 use Rattle.jsonc_text.specs.Plain.{Plain, Items, no_items, item, Members, no_members, member}
 use Rattle.jsonc_tree.specs.Content.{Content, token, whitespace, newline}
-use Rattle.jsonc_tree.specs.OrderedTree.{OrderedTree, none}
+use Rattle.jsonc_tree.specs.OrderedTree.{OrderedTree, none, Top}
 use Rattle.jsonc_build.specs.Lines.{is_line_comment, LinesEnd}
 use Rattle.jsonc_from_input.specs.Layout.{Layout, deeper}
-use Rattle.jsonc_from_input.specs.Laid.{LaidNode, laid, laid_items, laid_members, laid_property, on_one_line, on_lines, node_then, leaf_then, line_then, comma_if, gap_if, closed, property_of, string_leaf, holds_filled, is_some_node}
+use Rattle.jsonc_from_input.specs.Laid.{laid, laid_items, laid_members, laid_property, on_one_line, on_lines, node_then, leaf_then, line_then, comma_if, gap_if, closed, property_of, string_leaf, holds_filled, is_some_node}
 use Rattle.jsonc_edit.proofs.WrittenRows.{EachNode, one_of_rows}
 
 -- the line comments of a row end with their lines
@@ -13,11 +13,11 @@ pub record Ends (row : OrderedTree) : Type 0 where
   pub lines : LinesEnd false row
 
 -- the node is no line comment, and those below it end
-pub record EndsBelow (node : LaidNode) : Type 0 where
+pub record EndsBelow (node : Top) : Type 0 where
   pub none_here : is_line_comment node.content ≡ false
   pub below : LinesEnd false node.below
 
-node_ends : {node : LaidNode} {row : OrderedTree} → EndsBelow node → Ends row → Ends (node_then node row)
+node_ends : {node : Top} {row : OrderedTree} → EndsBelow node → Ends row → Ends (node_then node row)
 node_ends {node} h k = record { lines = (λ c. let never : ⊥ = cc (c, h.none_here) in absurd never, h.below, k.lines) }
 
 leaf_ends : {content : Content} {row : OrderedTree} → is_line_comment content ≡ false → Ends row → Ends (leaf_then content row)
@@ -40,15 +40,15 @@ gap_ends false k = k
 line_ends : (layout : Layout) {row : OrderedTree} → Ends row → Ends (line_then layout row)
 line_ends layout k = leaf_ends {content = newline layout.newline} refl (leaf_ends {content = whitespace layout.current} refl k)
 
-one_line_ends : (nodes : List LaidNode) {row : OrderedTree} → EachNode EndsBelow nodes → Ends row → Ends (on_one_line nodes row)
+one_line_ends : (nodes : List Top) {row : OrderedTree} → EachNode EndsBelow nodes → Ends row → Ends (on_one_line nodes row)
 one_line_ends [] h k = k
 one_line_ends (node ∷ nodes) h k = node_ends h.0 (gap_ends (is_some_node nodes) (one_line_ends nodes h.1 k))
 
-lines_end : (layout : Layout) (nodes : List LaidNode) {row : OrderedTree} → EachNode EndsBelow nodes → Ends row → Ends (on_lines layout nodes row)
+lines_end : (layout : Layout) (nodes : List Top) {row : OrderedTree} → EachNode EndsBelow nodes → Ends row → Ends (on_lines layout nodes row)
 lines_end layout [] h k = k
 lines_end layout (node ∷ nodes) h k = line_ends layout (node_ends h.0 (comma_ends (layout.trailing_commas || is_some_node nodes) (lines_end layout nodes h.1 k)))
 
-property_ends : (name : List ℕ) {value : LaidNode} → EndsBelow value → EndsBelow (property_of name value)
+property_ends : (name : List ℕ) {value : Top} → EndsBelow value → EndsBelow (property_of name value)
 property_ends name h =
     let row = leaf_ends {content = string_leaf name} refl (leaf_ends {content = token 0x3A} refl (space_ends (node_ends h (record { lines = tt })))) in
     record { none_here = refl; below = row.lines }

@@ -7,19 +7,19 @@ use Rattle.jsonc_text.specs.Text.{end_or, Many, stop, step}
 use Rattle.jsonc_text.proofs.Steps.{many_append}
 use Rattle.jsonc_text.proofs.UniqueWords.{many_more}
 use Rattle.jsonc_tree.specs.Content.{Content, whitespace}
-use Rattle.jsonc_tree.specs.OrderedTree.{OrderedTree, none}
+use Rattle.jsonc_tree.specs.OrderedTree.{OrderedTree, none, Top}
 use Rattle.jsonc_build.specs.Leaves.{is_inner_blank}
 use Rattle.jsonc_build.specs.Shape as shape
 use Rattle.jsonc_build.specs.Shape.{IsTrivia, Trivia, Separated, Closed, ValueShaped, ElementsShaped, PropertiesShaped, PropertyShaped, token_then, printed_text}
 use Rattle.jsonc_build.proofs.ShapeValues.{Mark, comma_mark, close_bracket_mark, close_brace_mark}
 use Rattle.jsonc_from_input.specs.Layout.{Layout, deeper}
-use Rattle.jsonc_from_input.specs.Laid.{LaidNode, on_one_line, on_lines, node_then, space_then, line_then, comma_if, closed, is_some_node}
+use Rattle.jsonc_from_input.specs.Laid.{on_one_line, on_lines, node_then, space_then, line_then, comma_if, closed, is_some_node}
 use Rattle.jsonc_sound.specs.Followers.{ends_literals, EndsLiterals}
 use Rattle.jsonc_sound.proofs.Followers.{mark_next, closed_ends}
 use Rattle.jsonc_edit.specs.Writing.{IsIndent, FitsLayout}
 
 -- each node of a list
-abbrev pub EachNode : (LaidNode → Type 0) → List LaidNode → Type 0
+abbrev pub EachNode : (Top → Type 0) → List Top → Type 0
 EachNode P [] = Unit {0}
 EachNode P (node ∷ nodes) = P node × EachNode P nodes
 
@@ -29,10 +29,10 @@ one_of_rows P true x y h k = h
 one_of_rows P false x y h k = k
 
 -- the node is a value, or a property, before whatever ends literals
-abbrev pub IsValueNode : Options → LaidNode → Type 0
+abbrev pub IsValueNode : Options → Top → Type 0
 IsValueNode o node = (r : List ℕ) → EndsLiterals r → ValueShaped o node.content node.below r
 
-abbrev pub IsPropertyNode : Options → LaidNode → Type 0
+abbrev pub IsPropertyNode : Options → Top → Type 0
 IsPropertyNode o node = (node.content ≡ Content.property) × ((r : List ℕ) → EndsLiterals r → PropertyShaped o node.below r)
 
 -- an indent one level deeper is one too
@@ -74,11 +74,11 @@ last_closed o bracket true row f g = shape.trailing_comma (f refl) shape.nothing
 last_closed o bracket false row f g = shape.plain g
 
 -- Rows of one kind, before their bracket.
-module _ (o : Options) (bracket : ℕ) (mark : Mark bracket) (ends : IsTrue (ends_literals bracket)) (IsNode : LaidNode → Type 0) (IsRow : OrderedTree → Type 0)
-    (last : (node : LaidNode) (after : OrderedTree) → IsNode node → EndsLiterals (printed_text after) → Closed o bracket after → IsRow (node_then node after))
-    (next : (node : LaidNode) (after u : OrderedTree) → IsNode node → EndsLiterals (printed_text after) → Separated o after u → IsRow u → IsRow (node_then node after)) where
+module _ (o : Options) (bracket : ℕ) (mark : Mark bracket) (ends : IsTrue (ends_literals bracket)) (IsNode : Top → Type 0) (IsRow : OrderedTree → Type 0)
+    (last : (node : Top) (after : OrderedTree) → IsNode node → EndsLiterals (printed_text after) → Closed o bracket after → IsRow (node_then node after))
+    (next : (node : Top) (after u : OrderedTree) → IsNode node → EndsLiterals (printed_text after) → Separated o after u → IsRow u → IsRow (node_then node after)) where
   -- on lines of their own
-  rows_of_lines : (layout : Layout) → FitsLayout o layout → (closing : OrderedTree) → Trivia o closing (token_then bracket none) → (node : LaidNode) (nodes : List LaidNode) → IsNode node → EachNode IsNode nodes
+  rows_of_lines : (layout : Layout) → FitsLayout o layout → (closing : OrderedTree) → Trivia o closing (token_then bracket none) → (node : Top) (nodes : List Top) → IsNode node → EachNode IsNode nodes
       → IsRow (node_then node (comma_if (layout.trailing_commas || is_some_node nodes) (on_lines layout nodes closing)))
   rows_of_lines layout f closing g node [] h k =
       let c = last_closed o bracket layout.trailing_commas closing f.commas g in
@@ -89,13 +89,13 @@ module _ (o : Options) (bracket : ℕ) (mark : Mark bracket) (ends : IsTrue (end
       next node (comma_if (layout.trailing_commas || true) row) rest h (parted_ends layout.trailing_commas row) (parted o layout.trailing_commas (line_is_trivia o layout f shape.nothing)) (rows_of_lines layout f closing g m nodes k.0 k.1)
 
 -- an array, and an object, with its elements or properties on lines
-pub array_of_lines : (o : Options) (layout : Layout) → FitsLayout o layout → (closing : OrderedTree) → Trivia o closing (token_then 0x5D none) → (node : LaidNode) (nodes : List LaidNode) → EachNode (IsValueNode o) (node ∷ nodes)
+pub array_of_lines : (o : Options) (layout : Layout) → FitsLayout o layout → (closing : OrderedTree) → Trivia o closing (token_then 0x5D none) → (node : Top) (nodes : List Top) → EachNode (IsValueNode o) (node ∷ nodes)
     → (r : List ℕ) → ValueShaped o Content.array (token_then 0x5B (on_lines layout (node ∷ nodes) closing)) r
 array_of_lines o layout f closing g node nodes h r =
     shape.array (line_is_trivia o layout f shape.nothing)
     (rows_of_lines o 0x5D close_bracket_mark refl (IsValueNode o) (ElementsShaped o) (λ n after k e c. shape.last_element (k (printed_text after) e) c) (λ n after u k e s t. shape.element (k (printed_text after) e) s t) layout f closing g node nodes h.0 h.1)
 
-pub object_of_lines : (o : Options) (layout : Layout) → FitsLayout o layout → (closing : OrderedTree) → Trivia o closing (token_then 0x7D none) → (node : LaidNode) (nodes : List LaidNode) → EachNode (IsPropertyNode o) (node ∷ nodes)
+pub object_of_lines : (o : Options) (layout : Layout) → FitsLayout o layout → (closing : OrderedTree) → Trivia o closing (token_then 0x7D none) → (node : Top) (nodes : List Top) → EachNode (IsPropertyNode o) (node ∷ nodes)
     → (r : List ℕ) → ValueShaped o Content.object (token_then 0x7B (on_lines layout (node ∷ nodes) closing)) r
 object_of_lines o layout f closing g node nodes h r =
     shape.object (line_is_trivia o layout f shape.nothing)
@@ -104,7 +104,7 @@ object_of_lines o layout f closing g node nodes h r =
     (λ n after u k e s t. subst (λ w. PropertiesShaped o (OrderedTree.more w n.below after)) (sym k.0) (shape.property (k.1 (printed_text after) e) s t)) layout f closing g node nodes h.0 h.1)
 
 -- elements on one line
-pub elements_on_line : (o : Options) (node : LaidNode) (nodes : List LaidNode) → EachNode (IsValueNode o) (node ∷ nodes) → ElementsShaped o (on_one_line (node ∷ nodes) (closed 0x5D))
+pub elements_on_line : (o : Options) (node : Top) (nodes : List Top) → EachNode (IsValueNode o) (node ∷ nodes) → ElementsShaped o (on_one_line (node ∷ nodes) (closed 0x5D))
 elements_on_line o node [] h =
     let c : Closed o 0x5D (closed 0x5D) = shape.plain shape.nothing in
     shape.last_element (h.0 (printed_text (closed 0x5D)) (closed_ends o close_bracket_mark refl c)) c

@@ -2,8 +2,8 @@
 use Rattle.std.specs.Prelude.{◌≡◌, ℕ, ◌+◌, ◌<◌, List, [], ◌∷◌, length, Some}
 use Rattle.jsonc_tree.specs.Tree.{Node, content_at, parent_at, place_at, IsTree}
 use Rattle.jsonc_tree.specs.Changes.{Splices, CanJoin, Rewrites}
-use Rattle.jsonc_tree.specs.OrderedTree.{OrderedTree, grown, ordered_tree}
-use Rattle.jsonc_sound.specs.TreeChanges.{Top, IsElement, DocumentChanged}
+use Rattle.jsonc_tree.specs.OrderedTree.{OrderedTree, grown, ordered_tree, Top}
+use Rattle.jsonc_sound.specs.TreeChanges.{IsElement, DocumentChanged}
 use Rattle.jsonc_edit.specs.Paths.{IsAt}
 
 -- the row of trees below a node

@@ -4,23 +4,23 @@ use Rattle.jsonc_text.specs.Options.{Options}
 use Rattle.jsonc_text.specs.Plain.{Plain}
 use Rattle.jsonc_tree.specs.Content.{with_text}
 use Rattle.jsonc_tree.specs.Tree.{Node, content_at, parent_at, children_at, IsTree, IsOver}
-use Rattle.jsonc_tree.specs.OrderedTree.{OrderedTree, followed_by, ordered_tree, Shows}
+use Rattle.jsonc_tree.specs.OrderedTree.{OrderedTree, followed_by, ordered_tree, Shows, Top}
 use Rattle.jsonc_tree.specs.Values.{DocumentValueOf}
 use Rattle.jsonc_build.specs.Shape.{DocumentShaped}
 use Rattle.jsonc_sound.specs.Sound.{HasValue, IsNewValue}
-use Rattle.jsonc_sound.specs.TreeChanges.{Top}
 use Rattle.jsonc_sound.specs.Laws.{HasChangedValue}
 use Rattle.jsonc_from_input.specs.Layout.{Layout}
-use Rattle.jsonc_from_input.specs.Laid.{laid_property}
+use Rattle.jsonc_from_input.specs.Laid.{laid, laid_property}
 use Rattle.jsonc_from_input.specs.Texts.{IsCharacters, IsOfTexts}
 use Rattle.jsonc_seams.specs.Spaces.{is_bare}
 use Rattle.jsonc_seams.specs.SoundTrees.{SoundTree}
 use Rattle.jsonc_spaces.specs.Due.{begins_bare, ends_bare, seen_before, seen_behind}
+use Rattle.jsonc_rows.specs.Properties.{IsNewProperty}
 use Rattle.jsonc_edit.specs.Paths.{IsAt, Stands}
 use Rattle.jsonc_edit.specs.Changes.{row_below, top_at, ChangesAt, Replaces, Respliced, Rewritten}
 use Rattle.jsonc_edit.specs.Reading.{layout_for, IsReplaced}
-use Rattle.jsonc_edit.specs.Replacing.{laid_top, GivesWay}
-use Rattle.jsonc_edit.specs.Writing.{FitsLayout, IsWritable, IsNewProperty}
+use Rattle.jsonc_edit.specs.Replacing.{GivesWay}
+use Rattle.jsonc_edit.specs.Writing.{FitsLayout, IsWritable}
 use Rattle.jsonc_edit.specs.Written.{Writes}
 
 -- a path leads to no two nodes
@@ -80,7 +80,7 @@ ChangesValueAt o old new path n x =
 
 -- in a layout that fits, a value that may be written is laid out as a whole value
 abbrev pub LaysOutWhole : Options → Layout → Plain → Type 0
-LaysOutWhole o layout v = FitsLayout o layout → IsWritable o v → IsNewValue o (laid_top layout v) v
+LaysOutWhole o layout v = FitsLayout o layout → IsWritable o v → IsNewValue o (laid layout v) v
 
 -- and under a name as a whole property
 abbrev pub LaysOutWholeNamed : Options → Layout → List ℕ → Plain → Type 0
@@ -104,7 +104,7 @@ ChangesValueTo o old new path n x v =
 -- so it is wherever n gives way to a value of texts, laid out in this layout
 abbrev pub ChangesValueLaidOut : Options → List Node → List Node → ℕ → ℕ → Layout → Plain → Type 0
 ChangesValueLaidOut o old new n m layout v =
-    IsTree old → IsOfTexts v → GivesWay old new n m (laid_top layout v) → (path : List ℕ) (x : Plain) → ChangesValueTo o old new path n x v
+    IsTree old → IsOfTexts v → GivesWay old new n m (laid layout v) → (path : List ℕ) (x : Plain) → ChangesValueTo o old new path n x v
 
 -- or as the document tells
 abbrev pub ChangesValueReplaced : Options → List Node → List Node → ℕ → ℕ → Plain → Type 0
@@ -113,7 +113,7 @@ ChangesValueReplaced o old new n m v =
 
 -- a value is written where a node gives way to it, laid out in a layout that fits
 abbrev pub WritesLaidOut : Options → List Node → List Node → ℕ → ℕ → Layout → Plain → Type 0
-WritesLaidOut o old new n m layout v = IsTree old → FitsLayout o layout → GivesWay old new n m (laid_top layout v) → Writes o old new n m v
+WritesLaidOut o old new n m layout v = IsTree old → FitsLayout o layout → GivesWay old new n m (laid layout v) → Writes o old new n m v
 
 -- or as the document tells
 abbrev pub WritesReplaced : Options → List Node → List Node → ℕ → ℕ → Plain → Type 0
@@ -121,4 +121,4 @@ WritesReplaced o old new n m v = IsTree old → IsReplaced old new n v m → Wri
 
 -- where n gives way to a value, this stands at the path of n
 abbrev pub TakesPath : List Node → List Node → ℕ → ℕ → Layout → Plain → Type 0
-TakesPath old new n m layout v = IsTree old → GivesWay old new n m (laid_top layout v) → (path : List ℕ) → IsAt old path n → IsAt new path m
+TakesPath old new n m layout v = IsTree old → GivesWay old new n m (laid layout v) → (path : List ℕ) → IsAt old path n → IsAt new path m

@@ -6,7 +6,8 @@ use Rattle.jsonc_nodes.specs.Kinds.{is_property}
 use Rattle.jsonc_lines.specs.Indents.{indents_at}
 use Rattle.jsonc_lines.specs.Breadth.{newline_kind_at, uses_trailing_commas_at}
 use Rattle.jsonc_from_input.specs.Layout.{Layout}
-use Rattle.jsonc_edit.specs.Replacing.{laid_top, GivesWay}
+use Rattle.jsonc_from_input.specs.Laid.{laid}
+use Rattle.jsonc_edit.specs.Replacing.{GivesWay, GivesWayRaw}
 
 -- the node whose containers tell whether trailing commas are used, for a child n of c: the value itself in a property, else the container
 abbrev pub commas_told_by : List Node → ℕ → ℕ → ℕ
@@ -19,4 +20,8 @@ layout_for ns c n =
 
 -- the child n has given way to m, which is the value, laid out as the old nodes tell
 abbrev pub IsReplaced : List Node → List Node → ℕ → Plain → ℕ → Type 0
-IsReplaced old new n v m = (c : ℕ) × (parent_at old n ≡ Some c) × GivesWay old new n m (laid_top (layout_for old c n) v)
+IsReplaced old new n v m = (c : ℕ) × (parent_at old n ≡ Some c) × GivesWay old new n m (laid (layout_for old c n) v)
+
+-- the same where no space has come
+abbrev pub IsReplacedRaw : List Node → List Node → ℕ → Plain → ℕ → Type 0
+IsReplacedRaw old new n v m = (c : ℕ) × (parent_at old n ≡ Some c) × GivesWayRaw old new n m (laid (layout_for old c n) v)

@@ -1,17 +1,10 @@
 -- A node of a document gives way to one that was not there before.
 use Rattle.std.specs.Prelude.{◌≡◌, ℕ, ◌≤◌, List, length, None}
-use Rattle.jsonc_text.specs.Plain.{Plain}
 use Rattle.jsonc_tree.specs.Tree.{Node, parent_at}
-use Rattle.jsonc_sound.specs.TreeChanges.{Top}
-use Rattle.jsonc_from_input.specs.Layout.{Layout}
-use Rattle.jsonc_from_input.specs.Laid.{laid}
+use Rattle.jsonc_tree.specs.OrderedTree.{Top}
 use Rattle.jsonc_spaces.specs.Due.{due_around}
 use Rattle.jsonc_spaces.specs.Put.{AreSpaced, Prepared}
 use Rattle.jsonc_edit.specs.Changes.{top_at, Replaces}
-
--- the node that a value is laid out as
-abbrev pub laid_top : Layout → Plain → Top
-laid_top layout v = record { content = (laid layout v).content; below = (laid layout v).below }
 
 -- the element m, which was nobody's child, has taken the place of the child n: what it is, with the row below it
 pub record TakesPlace (old new : List Node) (n m : ℕ) (now : Top) : Type 0 where
@@ -28,3 +21,10 @@ pub record GivesWay (old new : List Node) (n m : ℕ) (now : Top) : Type 0 where
   pub prepared : Prepared old ready
   pub spaces : AreSpaced ready (due_around ready n now.content) spaced
   pub place : TakesPlace spaced new n m now
+
+-- The child n has given way to a new node, m, and no space has come: what is needed was made ready, and m has taken its place.
+pub record GivesWayRaw (old new : List Node) (n m : ℕ) (now : Top) : Type 0 where
+  pub ready : List Node
+  pub fresh : length old ≤ m
+  pub prepared : Prepared old ready
+  pub place : TakesPlace ready new n m now

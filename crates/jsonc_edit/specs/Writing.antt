@@ -1,17 +1,13 @@
 -- What may be written into a document.
-use Rattle.std.specs.Prelude.{ℕ, false, List, IsTrue}
+use Rattle.std.specs.Prelude.{ℕ, List, IsTrue}
 use Rattle.jsonc_text.specs.Options.{Options}
 use Rattle.jsonc_text.specs.Text.{Many}
 use Rattle.jsonc_text.specs.Numbers.{NumberLit}
 use Rattle.jsonc_text.specs.Plain.{Plain, Items, no_items, item, Members, no_members, member}
-use Rattle.jsonc_tree.specs.OrderedTree.{OrderedTree}
-use Rattle.jsonc_tree.specs.Values.{PropertyOf}
 use Rattle.jsonc_build.specs.Leaves.{is_inner_blank}
-use Rattle.jsonc_build.specs.Lines.{LinesEnd}
-use Rattle.jsonc_build.specs.Shape.{IsText, PropertyShaped}
+use Rattle.jsonc_build.specs.Shape.{IsText}
 use Rattle.jsonc_from_input.specs.Layout.{Layout}
 use Rattle.jsonc_from_input.specs.Texts.{IsOfTexts}
-use Rattle.jsonc_sound.specs.Followers.{EndsLiterals}
 
 -- an indent: blanks within a line, or none
 abbrev pub IsIndent : List ℕ → Type 0
@@ -45,9 +41,3 @@ abbrev mutual
 pub record IsWritable (o : Options) (v : Plain) : Type 0 where
   pub texts : IsOfTexts v
   pub numbers : IsOfNumbers o v
-
--- the row of a property of this name and value, whole: it may stand wherever literals end
-pub record IsNewProperty (o : Options) (row : OrderedTree) (name : List ℕ) (v : Plain) : Type 0 where
-  pub shaped : (r : List ℕ) → EndsLiterals r → PropertyShaped o row r
-  pub value : PropertyOf o row name v
-  pub lines : LinesEnd false row

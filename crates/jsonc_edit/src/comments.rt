@@ -49,8 +49,8 @@ fn blanks_from<A: Allocator>(tree: &Tree<A>, container: usize, place: usize) -> 
     from
 }
 
-// The place of the newline leaf directly before a place, or that place.
-fn newline_from<A: Allocator>(tree: &Tree<A>, container: usize, place: usize) -> usize
+/// The place of the newline leaf directly before a place of a container's row, or that place.
+pub fn newline_from<A: Allocator>(tree: &Tree<A>, container: usize, place: usize) -> usize
     requires there { container < length tree.now.nodes }
     requires within { place ≤ length (children_at tree.now.nodes container) }
     ensures from { result ≡ newline_from tree.now.nodes (children_at tree.now.nodes container) place }

@@ -19,7 +19,7 @@ ghost use Rattle.jsonc_edit.specs.Laws.{TakesPath, WritesLaidOut, WritesReplaced
 ghost use Rattle.jsonc_edit.specs.Changes.{Respliced, Rewritten};
 ghost use Rattle.jsonc_edit.specs.Comments.{commented, removed_from, CommentRemoved, HasLeavesWithout, HasValueWithout, IsSoundWithout, TakesTrivia};
 ghost use Rattle.jsonc_edit.specs.Paths.{IsAt};
-ghost use Rattle.jsonc_edit.specs.Replacing.{laid_top};
+ghost use Rattle.jsonc_from_input.specs.Laid.{laid};
 ghost use Rattle.jsonc_edit.specs.Worked.{worked_nodes};
 ghost use Rattle.jsonc_edit.specs.WorkedValue.{two_spaces, worked_value};
 ghost use Rattle.jsonc_edit.specs.Writing.{FitsLayout, IsOfNumbers, IsWritable};
@@ -103,7 +103,7 @@ pub fn values_may_be_written<A: Allocator>(value: &CstInputValue<A>)
 /// A worked row: with two spaces a level `{"a":[1]}` is written on three lines, with a space after
 /// the colon; the layout and the value fit all options.
 pub fn worked_writing()
-    ensures text { printed (laid_top two_spaces worked_value).below ≡ codes "{\n  \"a\": [1]\n}" }
+    ensures text { printed (laid two_spaces worked_value).below ≡ codes "{\n  \"a\": [1]\n}" }
     ensures layout { (o : Options) → FitsLayout o two_spaces }
     ensures value { (o : Options) → IsWritable o worked_value }
 {}

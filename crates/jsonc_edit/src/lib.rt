@@ -25,8 +25,9 @@ mod paths;
 mod reading;
 mod replacing;
 
-pub use comments::remove_comment;
+pub use comments::{newline_from, remove_comment};
 pub use error::EditError;
 pub use modes::TrailingCommaMode;
 pub use paths::find;
-pub use replacing::{replace, replace_with};
+pub use reading::layout_for;
+pub use replacing::{put_in_place, replace, replace_name, replace_with};

@@ -20,8 +20,8 @@ fn commas_told_by<A: Allocator>(tree: &Tree<A>, container: usize, node: usize) -
     }
 }
 
-// The layout for what replaces a child of a container.
-pub(crate) fn layout_for<A: Allocator + Copy>(
+/// The layout for what replaces a child of a container, as the document tells.
+pub fn layout_for<A: Allocator + Copy>(
     alloc: A,
     tree: &Tree<A>,
     container: usize,
@@ -29,7 +29,7 @@ pub(crate) fn layout_for<A: Allocator + Copy>(
 ) -> Result<Layout<A>, AllocError>
     requires container { container < length tree.now.nodes }
     requires node { node < length tree.now.nodes }
-    ensures { IfOk result (λ l. layout_of l ≡ layout_for tree.now.nodes container node) }
+    ensures layout { IfOk result (λ l. layout_of l ≡ layout_for tree.now.nodes container node) }
 {
     let indents = indents_at(alloc, tree, container)?;
     let teller = commas_told_by(tree, container, node);

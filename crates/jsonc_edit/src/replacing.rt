@@ -11,8 +11,9 @@ ghost use Rattle.jsonc_from_input.specs.Layout.{layout_of};
 ghost use Rattle.jsonc_seams.specs.Spaces.{is_bare};
 ghost use Rattle.jsonc_spaces.specs.Due.{listed};
 ghost use Rattle.jsonc_spaces.specs.Put.{AreAtHand, Prepared};
-ghost use Rattle.jsonc_edit.specs.Reading.{IsReplaced};
-ghost use Rattle.jsonc_edit.specs.Replacing.{laid_top, GivesWay};
+ghost use Rattle.jsonc_edit.specs.Reading.{IsReplaced, IsReplacedRaw};
+ghost use Rattle.jsonc_from_input.specs.Laid.{laid};
+ghost use Rattle.jsonc_edit.specs.Replacing.{GivesWay, GivesWayRaw};
 ghost use Rattle.jsonc_edit.specs.Written.{Writes};
 
 use crate::error::EditError;
@@ -23,8 +24,8 @@ use jsonc_spaces::{Spaces, due_before, due_behind, is_bare, make_spaces, put_spa
 use jsonc_tree::Tree;
 use std::alloc::{AllocError, Allocator};
 
-// Puts a node that is nobody's child in the place of a child.
-fn put_in_place<A: Allocator>(tree: &mut Tree<A>, container: usize, node: usize, new: usize)
+/// Puts a node that is nobody's child in the place of a child. No memory is wanted.
+pub fn put_in_place<A: Allocator>(tree: &mut Tree<A>, container: usize, node: usize, new: usize)
     requires child { parent_at tree.old.nodes node ≡ Some container }
     requires join { CanJoin tree.old.nodes container (place_at tree.old.nodes node) (place_at tree.old.nodes node + 1) (new ∷ []) }
     ensures put { Splices tree.old.nodes tree.new.nodes container (place_at tree.old.nodes node) (place_at tree.old.nodes node + 1) (new ∷ []) }
@@ -69,7 +70,7 @@ pub fn replace_with<A: Allocator + Copy>(
     layout: &Layout<A>,
 ) -> Result<Option<usize>, EditError>
     requires { node < length tree.old.nodes }
-    ensures replaced { IfOk result (λ o. IfSome o (λ m. GivesWay tree.old.nodes tree.new.nodes node m (laid_top (layout_of layout.now) (plain value.now)))) }
+    ensures replaced { IfOk result (λ o. IfSome o (λ m. GivesWay tree.old.nodes tree.new.nodes node m (laid (layout_of layout.now) (plain value.now)))) }
     ensures none { IfOk result (λ o. IfNone o (parent_at tree.old.nodes node ≡ None)) }
     ensures untouched { IfOk result (λ o. IfNone o (tree.new.nodes ≡ tree.old.nodes)) }
     ensures memory { IfErr result (λ e. e ≡ EditError.OutOfMemory) }
@@ -122,4 +123,56 @@ pub fn replace<A: Allocator + Copy>(
     };
     let layout = layout_for(alloc, tree, container, node)?;
     replace_with(alloc, tree, node, value, &layout)
+}
+
+// Lays a value out as a new node, which a child gives way to, without a space.
+fn replace_raw<A: Allocator + Copy>(
+    alloc: A,
+    tree: &mut Tree<A>,
+    container: usize,
+    node: usize,
+    value: &CstInputValue<A>,
+    layout: &Layout<A>,
+) -> Result<usize, EditError>
+    requires { parent_at tree.old.nodes node ≡ Some container }
+    ensures replaced { IfOk result (λ m. GivesWayRaw tree.old.nodes tree.new.nodes node m (laid (layout_of layout.now) (plain value.now))) }
+    ensures memory { IfErr result (λ e. e ≡ EditError.OutOfMemory) }
+    ensures kept { OnErr result (Keeps (length tree.old.nodes) tree.old.nodes tree.new.nodes) }
+    ensures document { OnErr result (ordered_tree tree.new.nodes 0 ≡ ordered_tree tree.old.nodes 0) }
+    ensures tree { IsTree tree.new.nodes }
+{
+    let _ = tree.len();
+    let new = lay_out(alloc, tree, value, layout)?;
+    put_in_place(tree, container, node, new);
+    Ok(new)
+}
+
+/// Lays a value out as a new node, which the name of a property gives way to, and answers the number of
+/// the new node.
+///
+/// The document tells how, as for [`replace`], but no space comes beside the new node: `{a:1"b":2}` with
+/// 7 for its second name is `{a:17:2}`. Where the node has no parent the answer is None, and no node
+/// changes. A refusal leaves the document, and every node that was there, as it was.
+pub fn replace_name<A: Allocator + Copy>(
+    alloc: A,
+    tree: &mut Tree<A>,
+    node: usize,
+    value: &CstInputValue<A>,
+) -> Result<Option<usize>, EditError>
+    requires { node < length tree.old.nodes }
+    ensures replaced { IfOk result (λ o. IfSome o (IsReplacedRaw tree.old.nodes tree.new.nodes node (plain value.now))) }
+    ensures none { IfOk result (λ o. IfNone o (parent_at tree.old.nodes node ≡ None)) }
+    ensures untouched { IfOk result (λ o. IfNone o (tree.new.nodes ≡ tree.old.nodes)) }
+    ensures memory { IfErr result (λ e. e ≡ EditError.OutOfMemory) }
+    ensures kept { OnErr result (Keeps (length tree.old.nodes) tree.old.nodes tree.new.nodes) }
+    ensures document { OnErr result (ordered_tree tree.new.nodes 0 ≡ ordered_tree tree.old.nodes 0) }
+    ensures tree { IsTree tree.new.nodes }
+{
+    let _ = tree.len();
+    let Some(container) = tree.parent(node) else {
+        return Ok(None);
+    };
+    let told = layout_for(alloc, tree, container, node)?;
+    let raw = replace_raw(alloc, tree, container, node, value, &told)?;
+    Ok(Some(raw))
 }

@@ -6,17 +6,17 @@ use Rattle.jsonc_text.specs.Options.{Options}
 use Rattle.jsonc_text.specs.Strings.{IsString}
 use Rattle.jsonc_text.specs.Plain.{Plain, Items, no_items, item, Members, no_members, member}
 use Rattle.jsonc_tree.specs.Content.{Content}
-use Rattle.jsonc_tree.specs.OrderedTree.{OrderedTree, none}
+use Rattle.jsonc_tree.specs.OrderedTree.{OrderedTree, none, Top}
 use Rattle.jsonc_tree.specs.Values.{IsStringText, ValueOf, ItemsOf, MembersOf, PropertyOf, HoldsValue, HasNoValue}
 use Rattle.jsonc_input.specs.Spelling.{spelled}
 use Rattle.jsonc_input.proofs.Spelled.{spelled_string}
 use Rattle.jsonc_from_input.specs.Layout.{Layout, deeper}
-use Rattle.jsonc_from_input.specs.Laid.{LaidNode, laid, laid_items, laid_members, laid_property, on_one_line, on_lines, comma_if, gap_if, closed, holds_filled, is_some_node, line_then}
+use Rattle.jsonc_from_input.specs.Laid.{laid, laid_items, laid_members, laid_property, on_one_line, on_lines, comma_if, gap_if, closed, holds_filled, is_some_node, line_then}
 use Rattle.jsonc_from_input.specs.Texts.{IsCharacters, IsOfTexts, AreOfTexts, AreNamedOfTexts}
 use Rattle.jsonc_from_input.proofs.SpelledTexts.{spelled_characters}
 
 -- the node has the value
-abbrev pub NodeHas : Options → LaidNode → Plain → Type 0
+abbrev pub NodeHas : Options → Top → Plain → Type 0
 NodeHas o node v = ValueOf o node.content node.below v
 
 spelled_text : (o : Options) (s : List ℕ) → IsCharacters s → IsStringText o (encode_utf8_all (spelled s)) s

@@ -5,14 +5,14 @@ use Rattle.std.proofs.lemmas.Bool.{lt-ltb, le-ltb}
 use Rattle.std.specs.declared.string.String.{String}
 use Rattle.jsonc_text.specs.Plain.{Items, no_items, item, Members}
 use Rattle.jsonc_tree.specs.Tree.{Node}
-use Rattle.jsonc_tree.specs.OrderedTree.{OrderedTree, none, followed_by}
+use Rattle.jsonc_tree.specs.OrderedTree.{OrderedTree, none, followed_by, Top}
 use Rattle.jsonc_tree.specs.Building.{Keeps}
 use Rattle.jsonc_tree.proofs.Rows.{followed_by-none, followed_by-assoc}
 use Rattle.jsonc_input.specs.Views.{plain, items_plain, members_plain, chars_of}
 use Rattle.jsonc_input.specs.declared.value.CstInputValue.{CstInputValue}
 use Rattle.jsonc_from_input.specs.Layout.{Layout, deeper}
 use Rattle.jsonc_from_input.specs.Extending.{Extends, IsUnfinished}
-use Rattle.jsonc_from_input.specs.Laid.{LaidNode, node_then, comma_if, gap_if, line_then, is_some_node, on_lines, on_one_line, laid, laid_items, laid_members, laid_property, spread, elements_row, properties_row, holds_filled}
+use Rattle.jsonc_from_input.specs.Laid.{node_then, comma_if, gap_if, line_then, is_some_node, on_lines, on_one_line, laid, laid_items, laid_members, laid_property, spread, elements_row, properties_row, holds_filled}
 use Rattle.jsonc_from_input.proofs.Extending.{extends_none, extends_then, keeps_both}
 use Rattle.jsonc_tree.proofs.Builder.{Keeps-same}
 
@@ -35,34 +35,34 @@ gap_followed true next = refl
 gap_followed false next = refl
 
 -- a node on a line of its own, or on one line with others, and what is between it and the next one
-abbrev pub entry_on_line : Layout → LaidNode → Bool → OrderedTree
+abbrev pub entry_on_line : Layout → Top → Bool → OrderedTree
 entry_on_line layout node b = line_then layout (node_then node (comma_if b none))
 
-abbrev pub entry_among : LaidNode → Bool → OrderedTree
+abbrev pub entry_among : Top → Bool → OrderedTree
 entry_among node b = node_then node (gap_if b none)
 
-lines_more : (layout : Layout) (node : LaidNode) (nodes : List LaidNode) → on_lines layout (node ∷ nodes) none ≡ followed_by (entry_on_line layout node (layout.trailing_commas || is_some_node nodes)) (on_lines layout nodes none)
+lines_more : (layout : Layout) (node : Top) (nodes : List Top) → on_lines layout (node ∷ nodes) none ≡ followed_by (entry_on_line layout node (layout.trailing_commas || is_some_node nodes)) (on_lines layout nodes none)
 lines_more layout node nodes = ap (λ row. line_then layout (node_then node row)) (comma_followed (layout.trailing_commas || is_some_node nodes) (on_lines layout nodes none))
 
-line_more : (node : LaidNode) (nodes : List LaidNode) → on_one_line (node ∷ nodes) none ≡ followed_by (entry_among node (is_some_node nodes)) (on_one_line nodes none)
+line_more : (node : Top) (nodes : List Top) → on_one_line (node ∷ nodes) none ≡ followed_by (entry_among node (is_some_node nodes)) (on_one_line nodes none)
 line_more node nodes = ap (node_then node) (gap_followed (is_some_node nodes) (on_one_line nodes none))
 
 -- a row that comes after
-lines_then : (layout : Layout) (nodes : List LaidNode) (past row : OrderedTree) → followed_by (on_lines layout nodes past) row ≡ on_lines layout nodes (followed_by past row)
+lines_then : (layout : Layout) (nodes : List Top) (past row : OrderedTree) → followed_by (on_lines layout nodes past) row ≡ on_lines layout nodes (followed_by past row)
 lines_then layout [] past row = refl
 lines_then layout (node ∷ nodes) past row =
     let b : Bool = layout.trailing_commas || is_some_node nodes in
     ap (λ t. line_then layout (node_then node (followed_by t row))) (comma_followed b (on_lines layout nodes past))
     ∙ ap (λ t. line_then layout (node_then node t)) (followed_by-assoc (comma_if b none) (on_lines layout nodes past) row ∙ ap (followed_by (comma_if b none)) (lines_then layout nodes past row) ∙ sym (comma_followed b (on_lines layout nodes (followed_by past row))))
 
-line_then_row : (nodes : List LaidNode) (row : OrderedTree) → followed_by (on_one_line nodes none) row ≡ on_one_line nodes row
+line_then_row : (nodes : List Top) (row : OrderedTree) → followed_by (on_one_line nodes none) row ≡ on_one_line nodes row
 line_then_row [] row = refl
 line_then_row (node ∷ nodes) row =
     let b : Bool = is_some_node nodes in
     ap (λ t. node_then node (followed_by t row)) (gap_followed b (on_one_line nodes none))
     ∙ ap (node_then node) (followed_by-assoc (gap_if b none) (on_one_line nodes none) row ∙ ap (followed_by (gap_if b none)) (line_then_row nodes row) ∙ sym (gap_followed b (on_one_line nodes row)))
 
-spread_then : (layout : Layout) (nodes : List LaidNode) (row : OrderedTree) → followed_by (spread layout nodes none) row ≡ spread layout nodes row
+spread_then : (layout : Layout) (nodes : List Top) (row : OrderedTree) → followed_by (spread layout nodes none) row ≡ spread layout nodes row
 spread_then layout [] row = refl
 spread_then layout (node ∷ nodes) row = lines_then (deeper layout) (node ∷ nodes) (line_then layout none) row
 
@@ -166,7 +166,7 @@ module _ {A : Type 0} where
       ∙ ap (λ c. followed_by (entry_among (laid layout (plain x)) c) (line_from layout xs (i + 1))) (some_items layout (drop (i + 1) xs) n (others_left xs i n k))
 
   -- the node of a property with its name and its value
-  abbrev pub pair_laid : Layout → String A × CstInputValue A → LaidNode
+  abbrev pub pair_laid : Layout → String A × CstInputValue A → Top
   pair_laid layout p = laid_property layout (chars_of p.0) (plain p.1)
 
   pub properties_at : (layout : Layout) (ps : List (String A × CstInputValue A)) (i n : ℕ) (p : String A × CstInputValue A) (b : Bool) → i < length ps → p ≡ get_or ps i p → n ≡ length ps - i - 1 → b ≡ (layout.trailing_commas || nat_lt 0 n)
@@ -179,10 +179,10 @@ module _ {A : Type 0} where
       ∙ ap (λ c. followed_by (entry_on_line layout (pair_laid layout p) c) (properties_from layout ps (i + 1))) (sym is)
 
 -- one node more, on a line of its own or on the one line
-pub line_written : {old now b d e : List Node} {c : ℕ} {whole left after : OrderedTree} (layout : Layout) (node : LaidNode) (comma : Bool) → Written old now c whole left → left ≡ followed_by (entry_on_line layout node comma) after
+pub line_written : {old now b d e : List Node} {c : ℕ} {whole left after : OrderedTree} (layout : Layout) (node : Top) (comma : Bool) → Written old now c whole left → left ≡ followed_by (entry_on_line layout node comma) after
     → Keeps c now b → Extends now b c (line_then layout none) → Keeps c b d → Extends b d c (node_then node none) → Keeps c d e → Extends d e c (comma_if comma none) → Written old e c whole after
 line_written layout node comma w is k1 e1 k2 e2 k3 e3 = written_more (entry_on_line layout node comma) w (keeps_both (keeps_both k1 k2) k3) (extends_then (extends_then e1 e2) e3) is
 
-pub among_written : {old now b d : List Node} {c : ℕ} {whole left after : OrderedTree} (node : LaidNode) (gap : Bool) → Written old now c whole left → left ≡ followed_by (entry_among node gap) after
+pub among_written : {old now b d : List Node} {c : ℕ} {whole left after : OrderedTree} (node : Top) (gap : Bool) → Written old now c whole left → left ≡ followed_by (entry_among node gap) after
     → Keeps c now b → Extends now b c (node_then node none) → Keeps c b d → Extends b d c (gap_if gap none) → Written old d c whole after
 among_written node gap w is k1 e1 k2 e2 = written_more (entry_among node gap) w (keeps_both k1 k2) (extends_then e1 e2) is

@@ -2,9 +2,8 @@
 use Rattle.std.specs.Prelude.{ℕ, ◌≡◌, ◌<◌, List, None, length, IsTrue}
 use Rattle.jsonc_tree.specs.Content.{Content}
 use Rattle.jsonc_tree.specs.Tree.{Node, Tree, parent_at, is_container_at, IsTree}
-use Rattle.jsonc_tree.specs.OrderedTree.{OrderedTree, none, followed_by}
+use Rattle.jsonc_tree.specs.OrderedTree.{OrderedTree, none, followed_by, Top}
 use Rattle.jsonc_tree.specs.Building.{Keeps, Builds}
-use Rattle.jsonc_from_input.specs.Laid.{LaidNode}
 
 -- the nodes are a tree, and this one is a container that is nobody's child
 pub record IsUnfinished (ns : List Node) (container : ℕ) : Type 0 where
@@ -19,11 +18,11 @@ pub record Extends (old new : List Node) (container : ℕ) (row : OrderedTree) :
   pub builds : (first : List Node) (content : Content) (below : OrderedTree) → Builds first old container content below → Builds first new container content (followed_by below row)
 
 -- this node is built
-abbrev pub BuildsNode : List Node → List Node → ℕ → LaidNode → Type 0
+abbrev pub BuildsNode : List Node → List Node → ℕ → Top → Type 0
 BuildsNode old new n node = Builds old new n node.content node.below
 
 -- the same of the nodes of two trees: the answer is the number of this node, or the container has this row more
-abbrev pub Makes : Tree → Tree → LaidNode → ℕ → Type 0
+abbrev pub Makes : Tree → Tree → Top → ℕ → Type 0
 Makes old new node n = BuildsNode old.nodes new.nodes n node
 
 abbrev pub Gains : Tree → Tree → ℕ → (OrderedTree → OrderedTree) → Type 0

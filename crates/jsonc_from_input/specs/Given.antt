@@ -1,27 +1,27 @@
 -- What the calls are given, laid out.
 use Rattle.std.specs.Prelude.{ℕ, List, chars}
 use Rattle.jsonc_text.specs.Plain.{Plain}
-use Rattle.jsonc_tree.specs.OrderedTree.{OrderedTree}
+use Rattle.jsonc_tree.specs.OrderedTree.{OrderedTree, Top}
 use Rattle.jsonc_input.specs.Views.{plain, items_plain, members_plain}
 use Rattle.jsonc_input.specs.declared.value.CstInputValue.{CstInputValue}
 use Rattle.std.specs.declared.string.String.{String}
 use Rattle.jsonc_from_input.specs.Layout.{layout_of}
-use Rattle.jsonc_from_input.specs.Laid.{LaidNode, laid, laid_items, laid_members, laid_property, on_lines, on_one_line, elements_row, properties_row, line_then}
+use Rattle.jsonc_from_input.specs.Laid.{laid, laid_items, laid_members, laid_property, on_lines, on_one_line, elements_row, properties_row, line_then}
 use Rattle.jsonc_from_input.specs.declared.layout.Layout.{Layout}
 
 module _ {A : Type 0} where
   -- the node of a value, and that of a property with this text as its name
-  abbrev pub value_node : Layout A → CstInputValue A → LaidNode
+  abbrev pub value_node : Layout A → CstInputValue A → Top
   value_node l v = laid (layout_of l) (plain v)
 
-  abbrev pub property_node : Layout A → List ℕ → CstInputValue A → LaidNode
+  abbrev pub property_node : Layout A → List ℕ → CstInputValue A → Top
   property_node l name v = laid_property (layout_of l) (chars name) (plain v)
 
   -- that of an array and of an object, and what stands between their brackets
-  abbrev pub array_node : Layout A → List (CstInputValue A) → LaidNode
+  abbrev pub array_node : Layout A → List (CstInputValue A) → Top
   array_node l vs = laid (layout_of l) (Plain.array (items_plain vs))
 
-  abbrev pub object_node : Layout A → List (String A × CstInputValue A) → LaidNode
+  abbrev pub object_node : Layout A → List (String A × CstInputValue A) → Top
   object_node l ps = laid (layout_of l) (Plain.object (members_plain ps))
 
   abbrev pub array_row : Layout A → List (CstInputValue A) → OrderedTree → OrderedTree

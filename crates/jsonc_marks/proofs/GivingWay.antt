@@ -2,10 +2,10 @@
 use Rattle.std.proofs.Common.{◌≡◌, ◌∙◌, ◌||◌, sym, ap, refl, ℕ, List, [], ◌∷◌, ◌++◌, IsTrue, chars}
 use Rattle.std.proofs.lemmas.List.Elements.{filter_map-append, filter-append}
 use Rattle.jsonc_tree.specs.Content.{Content}
-use Rattle.jsonc_tree.specs.OrderedTree.{OrderedTree, leaves}
+use Rattle.jsonc_tree.specs.OrderedTree.{OrderedTree, leaves, Top}
 use Rattle.jsonc_nodes.specs.Kinds.{is_trivia, is_whitespace, is_newline}
 use Rattle.jsonc_sound.specs.Laws.{DiffersIn}
-use Rattle.jsonc_sound.specs.TreeChanges.{Top, leaves_of, DocumentChanged}
+use Rattle.jsonc_sound.specs.TreeChanges.{leaves_of, DocumentChanged}
 use Rattle.jsonc_build.specs.Lines.{is_line_comment}
 use Rattle.jsonc_sound.specs.TriviaChanges.{AreTrivia, StretchChanged, EndsInComment, one_comment, line_comment}
 use Rattle.jsonc_sound.proofs.LeavesAround as around

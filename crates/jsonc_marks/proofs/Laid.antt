@@ -5,10 +5,10 @@ use Rattle.std.proofs.lemmas.List.{append_assoc, append-nil}
 use Rattle.std.proofs.lemmas.List.Elements.{filter-append}
 use Rattle.std.proofs.lemmas.Str.{chars-encodes}
 use Rattle.jsonc_text.specs.Plain.{Plain, Items, no_items, item, Members, no_members, member}
-use Rattle.jsonc_tree.specs.OrderedTree.{OrderedTree, none, own_leaf, leaves}
+use Rattle.jsonc_tree.specs.OrderedTree.{OrderedTree, none, own_leaf, leaves, Top}
 use Rattle.jsonc_input.specs.Spelling.{spelled}
 use Rattle.jsonc_from_input.specs.Layout.{Layout, deeper}
-use Rattle.jsonc_from_input.specs.Laid.{LaidNode, laid, laid_items, laid_members, laid_property, node_then, comma_if, gap_if, line_then, is_some_node, on_one_line, on_lines, spread, closed, holds_filled}
+use Rattle.jsonc_from_input.specs.Laid.{laid, laid_items, laid_members, laid_property, node_then, comma_if, gap_if, line_then, is_some_node, on_one_line, on_lines, spread, closed, holds_filled}
 use Rattle.jsonc_from_input.specs.Texts.{IsCharacters, IsOfTexts, AreOfTexts, AreNamedOfTexts}
 use Rattle.jsonc_from_input.proofs.SpelledTexts.{spelled_characters}
 use Rattle.jsonc_marks.specs.Marks.{Mark, marks_of, marks, is_comment, comments_of}
@@ -16,7 +16,7 @@ use Rattle.jsonc_marks.specs.Written.{written, items_written, members_written, p
 use Rattle.jsonc_marks.proofs.GivingWay.{marks_join}
 
 -- a node, and then a row
-node_marks : (node : LaidNode) (row : OrderedTree) → marks (node_then node row) ≡ marks_laid node ++ marks row
+node_marks : (node : Top) (row : OrderedTree) → marks (node_then node row) ≡ marks_laid node ++ marks row
 node_marks node row = ap marks_of (sym (append_assoc (own_leaf node.content) (leaves node.below) (leaves row))) ∙ marks_join (own_leaf node.content ++ leaves node.below) (leaves row)
 
 gap_marks : (b : Bool) (row : OrderedTree) → marks (gap_if b row) ≡ marks row
@@ -28,26 +28,26 @@ comma_marks true row = refl
 comma_marks false row = refl
 
 -- nodes, and then a row, on one line or on several
-one_more : (node : LaidNode) (nodes : List LaidNode) (row after : OrderedTree) → marks row ≡ flat_map marks_laid nodes ++ marks after → marks (node_then node row) ≡ flat_map marks_laid (node ∷ nodes) ++ marks after
+one_more : (node : Top) (nodes : List Top) (row after : OrderedTree) → marks row ≡ flat_map marks_laid nodes ++ marks after → marks (node_then node row) ≡ flat_map marks_laid (node ∷ nodes) ++ marks after
 one_more node nodes row after e = node_marks node row ∙ ap (λ ms. marks_laid node ++ ms) e ∙ sym (append_assoc (marks_laid node) (flat_map marks_laid nodes) (marks after))
 
-line_marks : (nodes : List LaidNode) (after : OrderedTree) → marks (on_one_line nodes after) ≡ flat_map marks_laid nodes ++ marks after
+line_marks : (nodes : List Top) (after : OrderedTree) → marks (on_one_line nodes after) ≡ flat_map marks_laid nodes ++ marks after
 line_marks [] after = refl
 line_marks (node ∷ nodes) after =
     one_more node nodes (gap_if (is_some_node nodes) (on_one_line nodes after)) after (gap_marks (is_some_node nodes) (on_one_line nodes after) ∙ line_marks nodes after)
 
-lines_marks : (layout : Layout) (nodes : List LaidNode) (after : OrderedTree) → marks (on_lines layout nodes after) ≡ flat_map marks_laid nodes ++ marks after
+lines_marks : (layout : Layout) (nodes : List Top) (after : OrderedTree) → marks (on_lines layout nodes after) ≡ flat_map marks_laid nodes ++ marks after
 lines_marks layout [] after = refl
 lines_marks layout (node ∷ nodes) after =
     let b : Bool = layout.trailing_commas || is_some_node nodes in
     one_more node nodes (comma_if b (on_lines layout nodes after)) after (comma_marks b (on_lines layout nodes after) ∙ lines_marks layout nodes after)
 
-spread_marks : (layout : Layout) (nodes : List LaidNode) (after : OrderedTree) → marks (spread layout nodes after) ≡ flat_map marks_laid nodes ++ marks after
+spread_marks : (layout : Layout) (nodes : List Top) (after : OrderedTree) → marks (spread layout nodes after) ≡ flat_map marks_laid nodes ++ marks after
 spread_marks layout [] after = refl
 spread_marks layout (node ∷ nodes) after = lines_marks (deeper layout) (node ∷ nodes) (line_then layout after)
 
 -- the marks before a last bracket
-before_bracket : (bracket : ℕ) (nodes : List LaidNode) (row : OrderedTree) (ms : List Mark) → marks row ≡ flat_map marks_laid nodes ++ marks (closed bracket) → flat_map marks_laid nodes ≡ ms → marks row ≡ ms
+before_bracket : (bracket : ℕ) (nodes : List Top) (row : OrderedTree) (ms : List Mark) → marks row ≡ flat_map marks_laid nodes ++ marks (closed bracket) → flat_map marks_laid nodes ≡ ms → marks row ≡ ms
 before_bracket bracket nodes row ms e f = e ∙ append-nil (flat_map marks_laid nodes) ∙ f
 
 either_row : (b : Bool) (x y : OrderedTree) (ms : List Mark) → marks x ≡ ms → marks y ≡ ms → marks (if b then x else y) ≡ ms

@@ -5,7 +5,7 @@ use Rattle.jsonc_text.specs.Options.{Options}
 use Rattle.jsonc_text.specs.Lexemes.{is_punctuation}
 use Rattle.jsonc_tree.specs.Content.{Content, token}
 use Rattle.jsonc_tree.specs.OrderedTree.{OrderedTree, none, more, own_leaf, leaves}
-use Rattle.jsonc_build.specs.Lines.{is_line_comment}
+use Rattle.jsonc_build.specs.Lines.{is_line_comment, is_loose, ends_loosely, LinesEndLoosely, DocumentLinesEndLoosely}
 use Rattle.jsonc_build.specs.Shape as shape
 use Rattle.jsonc_build.specs.Shape.{IsTrivia, Trivia, IsLiteralBefore, IsNameBefore, token_then}
 use Rattle.jsonc_sound.specs.Rows as rows
@@ -14,7 +14,6 @@ use Rattle.jsonc_sound.specs.TreeChanges.{IsElement}
 use Rattle.jsonc_sound.proofs.FirstNodes.{no_element, line_comment_over, name_element}
 use Rattle.jsonc_seams.specs.Alone as alone
 use Rattle.jsonc_seams.specs.Alone.{ValueAlone, PartAlone, RowAlone, PropertyAlone, RootAlone, DocumentAlone}
-use Rattle.jsonc_seams.specs.LooseLines.{is_loose, ends_loosely, LinesEndLoosely, DocumentLinesEndLoosely}
 use Rattle.jsonc_seams.proofs.Changed.{alone_element, part_element}
 use Rattle.jsonc_seams.proofs.Comments.{regroup}
 use Rattle.jsonc_seams.proofs.LooseChanges.{element_no_end}

@@ -2,7 +2,8 @@
 use Rattle.std.specs.Prelude.{◌≡◌, ◌||◌, List, [], ◌∷◌, ◌++◌, IsTrue}
 use Rattle.jsonc_tree.specs.Content.{Content}
 use Rattle.jsonc_nodes.specs.Kinds.{is_whitespace, is_newline}
-use Rattle.jsonc_sound.specs.TreeChanges.{Top, leaves_of}
+use Rattle.jsonc_tree.specs.OrderedTree.{Top}
+use Rattle.jsonc_sound.specs.TreeChanges.{leaves_of}
 use Rattle.jsonc_marks.specs.Marks.{Mark, marks_of}
 
 -- the marks y are the marks x, but that a stretch of them has given way to another

@@ -6,13 +6,13 @@ use Rattle.jsonc_text.specs.Gaps.{is_blank, BlockComment}
 use Rattle.jsonc_text.specs.Places.{Placed, AreTokens}
 use Rattle.jsonc_text.specs.Plain.{Plain}
 use Rattle.jsonc_tree.specs.Content.{Content}
-use Rattle.jsonc_tree.specs.OrderedTree.{OrderedTree, leaves}
+use Rattle.jsonc_tree.specs.OrderedTree.{OrderedTree, leaves, Top}
 use Rattle.jsonc_build.specs.Shape.{printed_text}
 use Rattle.jsonc_from_input.specs.Layout.{Layout}
 use Rattle.jsonc_from_input.specs.Laid.{laid, laid_property}
 use Rattle.jsonc_from_input.specs.Texts.{IsCharacters, IsOfTexts}
 use Rattle.jsonc_sound.specs.Laws.{DiffersIn}
-use Rattle.jsonc_sound.specs.TreeChanges.{Top, DocumentChanged}
+use Rattle.jsonc_sound.specs.TreeChanges.{DocumentChanged}
 use Rattle.jsonc_sound.specs.TriviaChanges.{AreTrivia, StretchChanged, EndsInComment}
 use Rattle.jsonc_seams.specs.InRows.{SpacePut}
 use Rattle.jsonc_seams.specs.SoundTrees.{SoundTree}

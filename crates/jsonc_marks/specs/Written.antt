@@ -3,8 +3,7 @@ use Rattle.std.specs.Prelude.{ℕ, List, [], ◌∷◌, ◌++◌}
 use Rattle.jsonc_text.specs.Plain.{Plain, Items, no_items, item, Members, no_members, member}
 use Rattle.jsonc_text.specs.Words.{Keyword, keyword_text}
 use Rattle.jsonc_input.specs.Spelling.{spelled}
-use Rattle.jsonc_tree.specs.OrderedTree.{own_leaf, leaves}
-use Rattle.jsonc_from_input.specs.Laid.{LaidNode}
+use Rattle.jsonc_tree.specs.OrderedTree.{own_leaf, leaves, Top}
 use Rattle.jsonc_marks.specs.Marks.{Mark, marks_of}
 
 -- a string and a name as they are spelled, a number as it is, and of a container those of what it holds
@@ -30,5 +29,5 @@ abbrev pub property_written : List ℕ → Plain → List Mark
 property_written name v = Mark.literal (spelled name) ∷ written v
 
 -- the marks of a laid node
-abbrev pub marks_laid : LaidNode → List Mark
+abbrev pub marks_laid : Top → List Mark
 marks_laid node = marks_of (own_leaf node.content ++ leaves node.below)

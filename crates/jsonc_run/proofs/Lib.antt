@@ -1,4 +1,5 @@
 pub mod Made
+pub mod EntryPaths
 pub mod Written
 pub mod Numbered
 pub mod Marking

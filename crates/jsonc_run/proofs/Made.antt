@@ -1,10 +1,13 @@
 -- Edits that were made: one more of them, and where none can be.
-use Rattle.std.proofs.Common.{◌≡◌, ◌<◌, ◌+◌, ℕ, zero, suc, List, Option, [], ◌∷◌, ◌++◌, Some, None, IfSome, IfNone, map, take, length, get_or, sym, ap, subst, ◌∙◌, arith}
+use Rattle.std.proofs.Common.{◌≡◌, ◌<◌, ◌+◌, ℕ, zero, suc, List, Option, [], ◌∷◌, ◌++◌, Some, None, IfSome, IfNone, IfErr, OnOk, Result, Ok, Err, map, take, length, get_or, sym, ap, subst, ◌∙◌, arith}
 use Rattle.std.specs.List.{slice_get}
 use Rattle.jsonc_tree.specs.Tree.{Node, IsTree, parent_at}
 use Rattle.jsonc_edit.specs.Paths.{FindsExactly, IsAt, LeadsTo, StepsTo, itself, step}
 use Rattle.jsonc_edit.proofs.Uniqueness.{element_parent}
-use Rattle.jsonc_run.specs.Edits.{Operation, AreMade, none_made, first_made, IsMade}
+use Rattle.jsonc_edit.specs.declared.error.EditError.{EditError}
+use Rattle.jsonc_edit.specs.declared.error.EditError.TheVariants.{OutOfMemory, MissingBrackets, MissingName, NoSuchPlace}
+use Rattle.jsonc_remove.specs.Removed.{IsKeptFor, TakesElement}
+use Rattle.jsonc_run.specs.Edits.{Operation, remove, AreMade, none_made, first_made, IsEntryAt, IsMade, IsToldBy}
 
 -- what a path leads to has a parent
 module _ (ns : List Node) (tree : IsTree ns) where
@@ -52,3 +55,19 @@ some_is r P m e h = subst (λ (q : Option ℕ). IfSome q P) e h
 
 pub none_is : (r : Option ℕ) (P : Type 0) → r ≡ None → IfNone r P → P
 none_is r P e h = subst (λ (q : Option ℕ). IfNone q P) e h
+
+-- what is answered where an entry is taken out
+module _ (ns : List Node) (path : List ℕ) (n : ℕ) (at : IsEntryAt ns path n) where
+  pub entry_made : {T E : Type 0} (r : Result T E) (new : List Node) → OnOk r (TakesElement ns new n) → OnOk r (IsMade ns (remove path) new)
+  entry_made (Ok x) new takes = (n, at, takes)
+  entry_made (Err e) new takes = tt
+
+  kept_told : (e : EditError) → IsKeptFor ns n e → IsToldBy ns (remove path) e
+  kept_told OutOfMemory why = (n, at, why)
+  kept_told MissingBrackets why = (n, at, why)
+  kept_told MissingName why = why
+  kept_told NoSuchPlace why = absurd why
+
+  pub entry_told : {T : Type 0} (r : Result T EditError) → IfErr r (IsKeptFor ns n) → IfErr r (IsToldBy ns (remove path))
+  entry_told (Ok x) why = tt
+  entry_told (Err e) why = kept_told e why

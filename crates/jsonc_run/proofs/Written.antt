@@ -1,52 +1,88 @@
 -- What edits that were made in order make of a document.
-use Rattle.std.proofs.Common.{Result, Ok, Err, OnOk, ◌≡◌, suc, List, [], ◌∷◌, Option, Some, sym, subst, arith}
+use Rattle.std.proofs.Common.{Result, Ok, Err, OnOk, ◌≡◌, ℕ, suc, List, [], ◌∷◌, ◌++◌, Option, Some, None, IsTrue, sym, refl, ap, subst, ◌∙◌, arith}
 use Rattle.std.specs.List.{All}
 use Rattle.jsonc_text.specs.Options.{Options}
 use Rattle.jsonc_text.specs.Plain.{Plain}
 use Rattle.jsonc_text.specs.Grammar.{IsDocument}
 use Rattle.jsonc_text.proofs.UniqueValues.{document_unique}
 use Rattle.jsonc_tree.specs.OrderedTree.{OrderedTree, ordered_tree}
-use Rattle.jsonc_tree.specs.Tree.{Node, IsTree}
+use Rattle.jsonc_tree.specs.Tree.{Node, content_at, IsTree}
 use Rattle.jsonc_build.specs.Shape.{printed_text}
 use Rattle.jsonc_sound.proofs.LeavesAround.{document_differs}
 use Rattle.jsonc_seams.specs.SoundTrees.{SoundTree}
-use Rattle.jsonc_seams.proofs.LooseShapes.{document_printed}
+use Rattle.jsonc_build.proofs.ShapeValues.{document_printed}
 use Rattle.jsonc_edit.specs.Changes.{top_at}
 use Rattle.jsonc_edit.specs.Reading.{layout_for}
-use Rattle.jsonc_edit.specs.Replacing.{laid_top}
+use Rattle.jsonc_from_input.specs.Laid.{laid}
 use Rattle.jsonc_edit.proofs.OneValue.{document_once}
 use Rattle.jsonc_edit.proofs.ReplacedValues.{changed, put, replaced_written}
 use Rattle.jsonc_edit.proofs.TakingOut.{loses_comment, taken_sound, taken_value}
-use Rattle.jsonc_run.specs.Edits.{Operation, replace, remove_comment, AreMade, none_made, first_made, IsMade}
-use Rattle.jsonc_run.specs.Written.{MayBeMade, IsChanged, by_value, by_comment, AreChanged, unchanged, first_changed, StayAround, AllStayAround, all_stay, first_stay, AreWritten, WriteAll}
+use Rattle.jsonc_edit.specs.Paths.{IsElementOf, LeadsTo, itself}
+use Rattle.jsonc_lines.specs.Kinds.{holds_values}
+use Rattle.jsonc_remove.specs.Removed.{TakesElement}
+use Rattle.jsonc_remove.proofs.Entries.{entry_taken}
+use Rattle.jsonc_remove.proofs.Lost.{removes_entry}
+use Rattle.jsonc_remove.proofs.LostValue.{removes_value}
+use Rattle.jsonc_remove.proofs.Roots.{value_taken}
+use Rattle.jsonc_run.specs.Edits.{Operation, replace, remove, remove_comment, AreMade, none_made, first_made, IsEntryAt, the_value, an_entry, IsEntryOf, in_array, in_object, IsMade}
+use Rattle.jsonc_run.specs.Written.{MayBeMade, IsChanged, by_value, by_entry, by_all, by_comment, AreChanged, unchanged, first_changed, EntryLeft, entry_left, value_left, StayAround, AllStayAround, all_stay, first_stay, AreWritten, WriteAll}
 
-stays_around : (old new : List Node) (e : Operation) → IsTree old → IsMade old e new → StayAround (ordered_tree old 0) e (ordered_tree new 0)
-stays_around old new (replace path v) tree (n, m, at, r) =
-    let top = laid_top (layout_for old r.0 n) v in
+-- an entry is an element of an array or object
+entry_held : (ns : List Node) (c i n : ℕ) → IsEntryOf ns c i n → IsTrue (holds_values (content_at ns c)) × IsElementOf ns c i n
+entry_held ns c i n (in_array is element) = (ap holds_values is, element)
+entry_held ns c i n (in_object is element property) = (ap holds_values is, element)
+
+leads_to_itself : (ns : List Node) (n v : ℕ) → LeadsTo ns n v [] → v ≡ n
+leads_to_itself ns n _ itself = refl
+
+-- an entry that is taken out of a sound document leaves it
+entry_leaves : (o : Options) (old new : List Node) (path : List ℕ) (n : ℕ) → IsTree old → IsTree new → SoundTree o (ordered_tree old 0) → IsEntryAt old path n → TakesElement old new n → EntryLeft (ordered_tree old 0) (ordered_tree new 0) path
+entry_leaves o old new _ n tree after sound (the_value (v, element, leads)) takes =
+    let is : IsElementOf old 0 0 n = subst (IsElementOf old 0 0) (leads_to_itself old n v leads) element in
+    value_left (top_at old n) (value_taken o old new n tree after sound is takes)
+entry_leaves o old new _ n tree after sound (an_entry front c i at entry) takes =
+    let held = entry_held old c i n entry in
+    entry_left front i (top_at old n) (entry_taken o old new front c i n tree after sound at held.0 held.1 takes)
+
+pub stays_around : (old new : List Node) (e : Operation) → IsTree old → IsTree new → IsMade old e new → StayAround (ordered_tree old 0) e (ordered_tree new 0)
+stays_around old new (replace path v) tree after (n, m, at, r) =
+    let top = laid (layout_for old r.0 n) v in
     let change = changed old new n m top tree r.2 path at in
     (top_at old n, layout_for old r.0 n, ordered_tree r.2.spaced 0, put old new n m top tree r.2 path at, change, document_differs change)
-stays_around old new (remove_comment number) tree (n, at, r) = loses_comment old new n r
+stays_around old new (remove path) tree after (n, at, takes) = λ o sound. entry_leaves o old new path n tree after sound at takes
+stays_around old new (remove_comment number) tree after (n, at, r) = loses_comment old new n r
 
 -- under all options the leaves around stay
 pub stay_around : (old new : List Node) (es : List Operation) → IsTree old → AreMade old es new → AllStayAround (ordered_tree old 0) es (ordered_tree new 0)
 stay_around old _ [] tree none_made = all_stay
-stay_around old new (e ∷ es) tree (first_made {now = now} made after rest) = first_stay (stays_around old now e tree made) (stay_around now new es after rest)
+stay_around old new (e ∷ es) tree (first_made {now = now} made after rest) = first_stay (stays_around old now e tree after made) (stay_around now new es after rest)
 
 -- one edit is written
-record IsWritten (o : Options) (e : Operation) (old new : OrderedTree) : Type 0 where
-  before : Option Plain
-  after : Option Plain
-  old_text : IsDocument o (printed_text old) before
-  new_text : IsDocument o (printed_text new) after
-  changed : IsChanged before e after
-  sound : SoundTree o new
+pub record IsWritten (o : Options) (e : Operation) (old new : OrderedTree) : Type 0 where
+  pub before : Option Plain
+  pub after : Option Plain
+  pub old_text : IsDocument o (printed_text old) before
+  pub new_text : IsDocument o (printed_text new) after
+  pub changed : IsChanged before e after
+  pub sound : SoundTree o new
 
 module _ (o : Options) where
-  is_written : (old new : List Node) (e : Operation) → IsTree old → IsMade old e new → SoundTree o (ordered_tree old 0) → MayBeMade o e → IsWritten o e (ordered_tree old 0) (ordered_tree new 0)
-  is_written old new (replace path v) tree (n, m, at, r) s may =
+  -- so is an entry that has left
+  left_written : (t u : OrderedTree) (path : List ℕ) → SoundTree o t → EntryLeft t u path → IsWritten o (remove path) t u
+  left_written t u _ s (entry_left path i top taken) =
+      let w = removes_entry o t u path i top s taken in
+      record { before = Some w.before; after = Some w.after; old_text = w.old_text; new_text = w.new_text; changed = by_entry path i w.loses; sound = w.sound }
+  left_written t u _ s (value_left top taken) =
+      let w = removes_value o t u top s taken in
+      record { before = Some w.before; after = None; old_text = w.old_text; new_text = w.new_text; changed = by_all; sound = w.sound }
+
+  pub is_written : (old new : List Node) (e : Operation) → IsTree old → IsTree new → IsMade old e new → SoundTree o (ordered_tree old 0) → MayBeMade o e → IsWritten o e (ordered_tree old 0) (ordered_tree new 0)
+  is_written old new (replace path v) tree after (n, m, at, r) s may =
       let w = replaced_written o old new n m v tree r path s at may in
       record { before = Some w.before; after = Some w.after; old_text = w.old_text; new_text = w.new_text; changed = by_value w.changed; sound = w.sound }
-  is_written old new (remove_comment number) tree (n, at, r) s may =
+  is_written old new (remove path) tree after (n, at, takes) s may =
+      left_written (ordered_tree old 0) (ordered_tree new 0) path s (entry_leaves o old new path n tree after s at takes)
+  is_written old new (remove_comment number) tree after (n, at, r) s may =
       let sound = taken_sound old new n r o s in
       let was = document_printed o (ordered_tree old 0) s.shaped s.lines in
       let now = document_printed o (ordered_tree new 0) sound.shaped sound.lines in
@@ -58,7 +94,7 @@ module _ (o : Options) where
       let known = document_printed o (ordered_tree old 0) s.shaped s.lines in
       record { before = known.0; after = known.0; old_text = known.1; new_text = known.1; changed = unchanged; around = all_stay; sound = s }
   all_written old new (e ∷ es) tree (first_made {now = now} made after rest) s may =
-      let first = is_written old now e tree made s (may 0 e (omega arith)) in
+      let first = is_written old now e tree after made s (may 0 e (omega arith)) in
       let others = all_written now new es after rest first.sound (λ k d h. may (suc k) d (omega (arith, h))) in
       let same : others.before ≡ first.after = document_unique o (printed_text (ordered_tree now 0)) others.before first.after others.old_text first.new_text in
       record {
@@ -67,7 +103,7 @@ module _ (o : Options) where
         old_text = first.old_text;
         new_text = others.new_text;
         changed = first_changed first.changed (subst (λ (w : Option Plain). AreChanged w es others.after) same others.changed);
-        around = first_stay (stays_around old now e tree made) others.around;
+        around = first_stay (stays_around old now e tree after made) others.around;
         sound = others.sound;
       }
 

@@ -5,17 +5,20 @@ use Rattle.jsonc_text.specs.Options.{Options}
 use Rattle.jsonc_tree.specs.Tree.{Node}
 use Rattle.jsonc_tree.specs.OrderedTree.{ordered_tree}
 use Rattle.jsonc_build.specs.Shape.{printed_text}
+use Rattle.jsonc_tree.specs.OrderedTree.{Top}
 use Rattle.jsonc_seams.specs.SoundTrees.{SoundTree}
 use Rattle.jsonc_marks.specs.Changes.{MarksDifferIn}
 use Rattle.jsonc_marks.specs.Marks as marks
 use Rattle.jsonc_marks.specs.Marks.{Mark, AreMarks}
 use Rattle.jsonc_marks.specs.Written.{written}
-use Rattle.jsonc_run.specs.Edits.{Operation, replace, remove_comment}
+use Rattle.jsonc_rows.specs.Laws.{LosesMarks}
+use Rattle.jsonc_run.specs.Edits.{Operation, replace, remove, remove_comment}
 use Rattle.jsonc_run.specs.Written.{MayBeMade}
 
--- one stretch of the marks has given way to the literals that are written for the new value; or one comment has left. All others stay, in order.
+-- one stretch of the marks has given way to the literals that are written for the new value; or those of an entry have left, with comments beside it; or one comment has left. All others stay, in order.
 abbrev pub IsMarked : List Mark → Operation → List Mark → Type 0
 IsMarked x (replace path v) y = (was : List Mark) × MarksDifferIn was (written v) x y
+IsMarked x (remove path) y = (top : Top) × LosesMarks top x y
 IsMarked x (remove_comment number) y = (s : List ℕ) × MarksDifferIn (marks.comment s ∷ []) [] x y
 
 -- so it is for each of the edits, one after another

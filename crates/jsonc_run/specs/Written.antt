@@ -1,32 +1,37 @@
 -- What edits that were made in order make of a document: of its value, its leaves and its text.
-use Rattle.std.specs.Prelude.{ℕ, List, [], ◌∷◌, Option, Some}
+use Rattle.std.specs.Prelude.{ℕ, List, [], ◌∷◌, ◌++◌, Option, Some, None}
 use Rattle.std.specs.List.{All}
 use Rattle.jsonc_text.specs.Options.{Options}
 use Rattle.jsonc_text.specs.Plain.{Plain}
 use Rattle.jsonc_text.specs.Grammar.{IsDocument}
 use Rattle.jsonc_tree.specs.Tree.{Node}
-use Rattle.jsonc_tree.specs.OrderedTree.{OrderedTree, leaves, ordered_tree}
+use Rattle.jsonc_tree.specs.OrderedTree.{OrderedTree, leaves, ordered_tree, Top}
 use Rattle.jsonc_build.specs.Shape.{printed_text}
 use Rattle.jsonc_sound.specs.Changes.{Changed}
 use Rattle.jsonc_sound.specs.Laws.{DiffersIn}
-use Rattle.jsonc_sound.specs.TreeChanges.{Top, leaves_of, DocumentChanged}
+use Rattle.jsonc_sound.specs.TreeChanges.{leaves_of, DocumentChanged}
 use Rattle.jsonc_from_input.specs.Layout.{Layout}
 use Rattle.jsonc_seams.specs.SoundTrees.{SoundTree}
 use Rattle.jsonc_edit.specs.Comments.{LosesComment}
-use Rattle.jsonc_edit.specs.Replacing.{laid_top}
+use Rattle.jsonc_from_input.specs.Laid.{laid}
 use Rattle.jsonc_edit.specs.Spaced.{SpacesPut}
 use Rattle.jsonc_edit.specs.Writing.{IsWritable}
-use Rattle.jsonc_run.specs.Edits.{Operation, replace, remove_comment}
+use Rattle.jsonc_rows.specs.Laws.{LosesEntry}
+use Rattle.jsonc_remove.specs.Laws.{EntryTaken, ValueTaken}
+use Rattle.jsonc_run.specs.Edits.{Operation, replace, remove, remove_comment}
 
 -- documents of these options can hold what the edit writes
 abbrev pub MayBeMade : Options → Operation → Type 0
 MayBeMade o (replace path v) = IsWritable o v
+MayBeMade o (remove path) = Unit {0}
 MayBeMade o (remove_comment number) = Unit {0}
 
--- The edit makes the second value of the first: where another value is written, this is the first, but that at the path the new value stands; where a
--- comment leaves, it is the first, if there is one.
+-- The edit makes the second value of the first: where another value is written, this is the first, but that at the path the new value stands; where an entry
+-- leaves, it is the first without the entry, or none without the document's value; where a comment leaves, it is the first, if there is one.
 pub data IsChanged : Option Plain → Operation → Option Plain → Type 0 where
   by_value : {given_up v x y : Plain} {path : List ℕ} → Changed given_up v path x y → IsChanged (Some x) (replace path v) (Some y)
+  by_entry : (path : List ℕ) (i : ℕ) {x y : Plain} → LosesEntry path i x y → IsChanged (Some x) (remove (path ++ i ∷ [])) (Some y)
+  by_all : {x : Plain} → IsChanged (Some x) (remove []) None
   by_comment : {w : Option Plain} {number : ℕ} → IsChanged w (remove_comment number) w
 
 -- the edits, one after another, make the second value of the first
@@ -34,12 +39,19 @@ pub data AreChanged : Option Plain → List Operation → Option Plain → Type 
   unchanged : {w : Option Plain} → AreChanged w [] w
   first_changed : {w x y : Option Plain} {e : Operation} {es : List Operation} → IsChanged w e x → AreChanged x es y → AreChanged w (e ∷ es) y
 
+-- an entry has left a sound document, with what leaves with it and no more; or the document's value has
+pub data EntryLeft (t u : OrderedTree) : List ℕ → Type 0 where
+  entry_left : (path : List ℕ) (i : ℕ) (top : Top) → EntryTaken path i top t u → EntryLeft t u (path ++ i ∷ [])
+  value_left : (top : Top) → ValueTaken top t u → EntryLeft t u []
+
 -- Spaces have come into the document, and then of its leaves those of the value at the path have given way to those of the new value, in some layout, or
--- one comment has left, with blanks before it. All leaves before and after stay, other comments among them.
+-- one comment has left, with blanks before it. All leaves before and after stay, other comments among them. Where an entry leaves a sound document, all stays
+-- around what leaves with it.
 abbrev pub StayAround : OrderedTree → Operation → OrderedTree → Type 0
 StayAround t (replace path v) u =
-    (was : Top) × (layout : Layout) × (spaced : OrderedTree) × SpacesPut t spaced × DocumentChanged was (laid_top layout v) path spaced u
-    × DiffersIn (leaves_of was) (leaves_of (laid_top layout v)) (leaves spaced) (leaves u)
+    (was : Top) × (layout : Layout) × (spaced : OrderedTree) × SpacesPut t spaced × DocumentChanged was (laid layout v) path spaced u
+    × DiffersIn (leaves_of was) (leaves_of (laid layout v)) (leaves spaced) (leaves u)
+StayAround t (remove path) u = (o : Options) → SoundTree o t → EntryLeft t u path
 StayAround t (remove_comment number) u = LosesComment t u
 
 -- so it is for each of the edits, one after another

@@ -1,8 +1,9 @@
 //! Lists of edits, made in order.
 //!
 //! [`make`] makes one edit, and [`run`] a list of them: each on what the ones before it have made
-//! (`specs/Edits.antt`). An edit lets the value at a path give way to another, or takes the comment of
-//! a number out ([`find_comment`]). One that is refused leaves the document as the ones before it left
+//! (`specs/Edits.antt`). An edit lets the value at a path give way to another, takes the element or
+//! property at a path out, or the document's value ([`find_entry`]), or the comment of a number
+//! ([`find_comment`]). One that is refused leaves the document as the ones before it left
 //! it.
 //! In a sound document the text that a list of edits makes is a document again, whose value is what the
 //! same edits make of the old one's, and which is sound (`specs/Written.antt`). Where two literals
@@ -11,9 +12,11 @@
 
 mod comments;
 mod edit;
+mod entries;
 pub mod laws;
 mod making;
 
 pub use comments::find_comment;
 pub use edit::Edit;
+pub use entries::find_entry;
 pub use making::{make, run};

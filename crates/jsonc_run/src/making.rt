@@ -6,13 +6,15 @@ ghost use Rattle.jsonc_tree.specs.Building.{Keeps};
 ghost use Rattle.jsonc_tree.specs.OrderedTree.{ordered_tree};
 ghost use Rattle.jsonc_tree.specs.Tree.{IsTree};
 ghost use Rattle.jsonc_input.specs.Views.{plain};
-ghost use Rattle.jsonc_run.specs.Edits.{operation_of, operations_of, replace as asked, remove_comment as asked_without, AreMade, IsMade, IsToldBy, StopsAt};
+ghost use Rattle.jsonc_run.specs.Edits.{operation_of, operations_of, replace as asked, remove as asked_out, remove_comment as asked_without, AreMade, IsMade, IsToldBy, StopsAt};
 ghost use Rattle.jsonc_run.specs.Written.{WriteAll};
 
 use crate::comments::find_comment;
 use crate::edit::Edit;
+use crate::entries::find_entry;
 use jsonc_edit::{EditError, find, remove_comment, replace};
 use jsonc_input::CstInputValue;
+use jsonc_remove::remove;
 use jsonc_tree::Tree;
 use std::alloc::Allocator;
 
@@ -32,6 +34,7 @@ pub fn make<A: Allocator + Copy>(
     let _ = tree.len();
     match edit {
         Edit::Replace(path, value) => replace_at(alloc, tree, path, value),
+        Edit::Remove(path) => remove_entry(alloc, tree, path),
         Edit::RemoveComment(number) => remove_at(alloc, tree, *number),
     }
 }
@@ -59,6 +62,25 @@ fn replace_at<A: Allocator + Copy>(
         Ok(None) => Err(EditError::NoSuchPlace),
         Err(error) => Err(error),
     }
+}
+
+// Takes the entry at a path out.
+fn remove_entry<A: Allocator + Copy>(
+    alloc: A,
+    tree: &mut Tree<A>,
+    path: &[usize],
+) -> Result<(), EditError>
+    ensures made { OnOk result (IsMade tree.old.nodes (asked_out path.now) tree.new.nodes) }
+    ensures told { IfErr result (IsToldBy tree.old.nodes (asked_out path.now)) }
+    ensures kept { OnErr result (Keeps (length tree.old.nodes) tree.old.nodes tree.new.nodes) }
+    ensures document { OnErr result (ordered_tree tree.new.nodes 0 ≡ ordered_tree tree.old.nodes 0) }
+    ensures tree { IsTree tree.new.nodes }
+{
+    let _ = tree.len();
+    let Some(node) = find_entry(tree, path) else {
+        return Err(EditError::NoSuchPlace);
+    };
+    remove(alloc, tree, node)
 }
 
 // Takes the comment of a number out.

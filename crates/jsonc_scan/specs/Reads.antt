@@ -5,8 +5,9 @@ use Rattle.jsonc_scan.specs.declared.lexeme.Lexeme.TheVariants.{Word, Boolean, N
 use Rattle.jsonc_scan.specs.declared.lexeme.Read.{Read}
 use Rattle.jsonc_scan.specs.declared.lexeme.Mark.{Mark}
 use Rattle.jsonc_scan.specs.declared.string.StringRead.{StringRead}
-use Rattle.jsonc_string.specs.Escapes.{IsLentUnescaped}
-use Rattle.std.specs.Cow.{cow_str_bytes}
+use Rattle.jsonc_string.specs.Escapes.{IsLentUnescaped, StringHoldsBackslash}
+use Rattle.jsonc_string.specs.declared.decode.Decoded.{Decoded}
+use Rattle.std.specs.Cow.{cow_str_bytes, IsOwnedStr}
 use Rattle.jsonc_text.specs.Options.{Options}
 use Rattle.jsonc_text.specs.Lexemes.{Scanned, lexeme, line_comment, block_comment, punctuation, string, word, number, keyword, is_punctuation, Lexeme as IsLexeme, IsScanned}
 use Rattle.jsonc_text.specs.Words.{boolean, null}
@@ -122,8 +123,14 @@ abbrev pub NothingAt : Options → List ℕ → ℕ → Type 0
 NothingAt o bytes start = (what : Scanned) → NoneFrom (IsScanned o what) bytes start
 
 module _ {A : Type 0} where
-  -- the string stands at a place, ends where it was read to, and was given away as it was kept
-  pub record IsStringRead (o : Options) (bytes : List ℕ) (start : ℕ) (read : StringRead A) : Type 0 where
+  -- the string stands at a place and ends where it was read to; it is lent by the text exactly where no backslash is in it
+  pub record IsStringRead (o : Options) (bytes : List ℕ) (start : ℕ) (read : Decoded A) : Type 0 where
+    pub stands : Between (IsScanned o (lexeme (string (chars (cow_str_bytes read.string))))) bytes start read.end
+    pub lent : IsLentUnescaped bytes start read.end read.string
+    pub escaped : IsOwnedStr read.string → StringHoldsBackslash bytes start
+
+  -- and was given away as it was kept
+  pub record IsStringTwice (o : Options) (bytes : List ℕ) (start : ℕ) (read : StringRead A) : Type 0 where
     pub stands : Between (IsScanned o (lexeme (string (chars (cow_str_bytes read.given))))) bytes start read.end
     pub lent : IsLentUnescaped bytes start read.end read.given
     pub same : cow_str_bytes read.kept ≡ cow_str_bytes read.given

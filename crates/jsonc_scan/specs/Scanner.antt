@@ -1,5 +1,5 @@
 -- What a scanner has before it.
-use Rattle.std.specs.Prelude.{ℕ, ◌≡◌, ◌≤◌, ◌<◌, List, Option, Some, None, option_map, length, IsTrue}
+use Rattle.std.specs.Prelude.{ℕ, ◌+◌, ◌≡◌, ◌≤◌, ◌<◌, List, Option, Some, None, option_map, length, IsTrue}
 use Rattle.jsonc_scan.specs.declared.scanner.Scanner.{Scanner}
 use Rattle.jsonc_text.specs.declared.errors.ParseError.{ParseError}
 use Rattle.jsonc_text.specs.declared.tokens.Token.{Token}
@@ -7,7 +7,8 @@ use Rattle.jsonc_text.specs.Options.{Options}
 use Rattle.jsonc_text.specs.OptionsOf.{parse_options}
 use Rattle.jsonc_text.specs.Text.{rest, next, no, Many}
 use Rattle.jsonc_text.specs.Gaps.{is_blank}
-use Rattle.jsonc_text.specs.Lexemes.{Scanned, IsScanned}
+use Rattle.jsonc_text.specs.Chars.{Steps}
+use Rattle.jsonc_text.specs.Lexemes.{Scanned, IsScanned, lexeme, punctuation}
 use Rattle.jsonc_text.specs.Tokens.{scanned_of}
 use Rattle.jsonc_scan.specs.Reads.{NothingAt}
 use Rattle.jsonc_scan.specs.Told.{IsTrueOf}
@@ -71,3 +72,11 @@ module _ {A : Type 0} where
   pub record GoesOn (s : Scanner A) : Type 0 where
     pub inside : start_of s < length (text_of s)
     pub no_blank : IsTrue (no is_blank (next (rest (text_of s) (start_of s))))
+
+  -- this character of one byte comes next
+  abbrev pub ComesNext : Scanner A → ℕ → Type 0
+  ComesNext s c = Steps (text_of s) (end_of s) c (end_of s + 1)
+
+  -- this punctuation stands where the scanner's token begins, and ends where the scanner is
+  abbrev pub IsMarkHere : Scanner A → ℕ → Type 0
+  IsMarkHere s c = (start_of s < end_of s) × IsScanned (options_of s) (lexeme (punctuation c)) (rest (text_of s) (start_of s)) (left s)

@@ -36,6 +36,7 @@ pub(crate) fn quote_at(text: &str, start: usize, options: &ParseOptions) -> Opti
 }
 
 /// The lexeme or comment at a place where no string begins and no punctuation stands.
+#[inline(always)]
 pub(crate) fn read_lexeme<'a>(
     text: &'a str,
     start: usize,

@@ -1,10 +1,10 @@
 //! Turning a text into tokens.
-ghost use Rattle.std.specs.Prelude.{◌≡◌, ◌≢◌, ◌≤◌, IsCharBoundary, IfOk, IfErr, OnErr, None, option_map};
+ghost use Rattle.std.specs.Prelude.{◌≡◌, ◌≢◌, ◌≤◌, ◌<◌, IsCharBoundary, IsTrue, IfOk, IfErr, OnErr, None, option_map};
 
 use crate::lexeme::{mark_token, token_of};
 use crate::reads::{quote_at, read_lexeme, read_punctuation};
-use crate::string::read_string;
-use jsonc_text::chars::blanks_end;
+use crate::string::{read_string, read_string_twice};
+use jsonc_text::chars::{blanks_end, has_byte};
 use jsonc_text::errors::{ParseError, ParseErrorKind};
 use jsonc_text::options::{ParseOptions, ScannerOptions};
 use jsonc_text::tokens::Token;
@@ -87,8 +87,68 @@ impl<'a, A: Allocator> Scanner<'a, A> {
 
 impl<'a, A: Allocator + Copy> Scanner<'a, A> {
     ghost use Rattle.jsonc_text.specs.Faults.{IsFault, kind_of};
-    ghost use Rattle.jsonc_scan.specs.Scanner.{text_of, start_of, end_of, token_of, PassesBlanks, StandsAt, NothingStands, GoesOn, IsLent, HoldsEscape, IsTrueThere};
+    ghost use Rattle.jsonc_scan.specs.Scanner.{text_of, start_of, end_of, token_of, PassesBlanks, StandsAt, NothingStands, GoesOn, IsLent, HoldsEscape, IsTrueThere, ComesNext, IsMarkHere};
+    ghost use Rattle.jsonc_text.specs.Lexemes.{is_punctuation};
     ghost use Rattle.jsonc_text.specs.Tokens.{scanned_of};
+
+    /// Whether an ASCII character comes next, with no blank before it.
+    #[inline(always)]
+    pub fn has_next(&self, character: u8) -> bool
+        requires { character < 128 }
+        ensures { IsTrue result → ComesNext self.now character }
+    {
+        has_byte(self.file_text, self.byte_index, character)
+    }
+
+    /// Passes a punctuation character that comes next. The last token that the scanner keeps stays
+    /// what it was.
+    #[inline(always)]
+    pub fn pass_mark(&mut self, mark: u8)
+        requires next { ComesNext self.old mark }
+        requires mark { IsTrue (is_punctuation mark) }
+        ensures blanks { PassesBlanks self.old self.new }
+        ensures found { IsMarkHere self.new mark }
+    {
+        self.token_start = self.byte_index;
+        self.byte_index += 1;
+    }
+
+    /// Moves to the next token, and gives it away; or none at the end of the text. The last token
+    /// that the scanner keeps stays what it was.
+    ///
+    /// After an error the scanner stands where the refused token begins.
+    #[inline(always)]
+    pub fn step(&mut self) -> Result<Option<Token<'a, A>>, ParseError>
+        ensures blanks { PassesBlanks self.old self.new }
+        ensures found { IfOk result (StandsAt self.new) }
+        ensures lent { IfOk result (IsLent self.new) }
+        ensures nothing { IfErr result (λ e. kind_of e ≢ ParseErrorKind.OutOfMemory → NothingStands self.new) }
+        ensures begins { IfErr result (λ _. GoesOn self.new) }
+        ensures fault { IfErr result (IsFault (text_of self.new)) }
+        ensures told { IfErr result (λ e. kind_of e ≢ ParseErrorKind.OutOfMemory → IsTrueThere self.new e) }
+        ensures memory { IfErr result (λ e. kind_of e ≡ ParseErrorKind.OutOfMemory → HoldsEscape self.new) }
+        ensures keeps { token_of self.new ≡ token_of self.old }
+        ensures stays { OnErr result (end_of self.new ≡ start_of self.new) }
+    {
+        let start = blanks_end(self.file_text, self.byte_index);
+        self.byte_index = start;
+        self.token_start = start;
+        if start == self.file_text.len() {
+            return Ok(None);
+        }
+        if let Some(mark) = read_punctuation(self.file_text, start) {
+            self.byte_index = start + 1;
+            return Ok(Some(mark_token(mark)));
+        }
+        if let Some(quote) = quote_at(self.file_text, start, &self.options) {
+            let read = read_string(self.alloc, self.file_text, start, quote, &self.options)?;
+            self.byte_index = read.end;
+            return Ok(Some(Token::String(read.string)));
+        }
+        let read = read_lexeme(self.file_text, start, &self.options)?;
+        self.byte_index = read.end;
+        Ok(Some(token_of(read.lexeme)))
+    }
 
     /// Moves to the next token, and answers it; or none at the end of the text.
     ///
@@ -120,7 +180,7 @@ impl<'a, A: Allocator + Copy> Scanner<'a, A> {
             return Ok(Some(mark_token(mark)));
         }
         if let Some(quote) = quote_at(self.file_text, start, &self.options) {
-            let read = read_string(self.alloc, self.file_text, start, quote, &self.options)?;
+            let read = read_string_twice(self.alloc, self.file_text, start, quote, &self.options)?;
             self.byte_index = read.end;
             self.current_token = Some(Token::String(read.kept));
             return Ok(Some(Token::String(read.given)));

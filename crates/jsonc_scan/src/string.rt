@@ -5,11 +5,11 @@ ghost use Rattle.jsonc_text.specs.Faults.{IsFault, kind_of};
 ghost use Rattle.jsonc_text.specs.OptionsOf.{parse_options};
 ghost use Rattle.jsonc_text.specs.Text.{Spans};
 ghost use Rattle.jsonc_string.specs.Escapes.{StringHoldsBackslash};
-ghost use Rattle.jsonc_scan.specs.Reads.{IsStringRead, NothingAt};
+ghost use Rattle.jsonc_scan.specs.Reads.{IsStringRead, IsStringTwice, NothingAt};
 ghost use Rattle.jsonc_scan.specs.Refusals.{IsFaultOfString, IsToldOfString};
 ghost use Rattle.jsonc_string.specs.Quotes.{OpensString};
 
-use jsonc_string::decode::decode_string;
+use jsonc_string::decode::{Decoded, decode_string};
 use jsonc_string::escape::{Literal, StringFault};
 use jsonc_text::errors::{ParseError, ParseErrorKind, ParseStringErrorKind};
 use jsonc_text::options::ParseOptions;
@@ -31,7 +31,7 @@ pub(crate) fn read_string<'a, A: Allocator + Copy>(
     start: usize,
     quote: u8,
     options: &ParseOptions,
-) -> Result<StringRead<'a, A>, ParseError>
+) -> Result<Decoded<'a, A>, ParseError>
     requires boundary { IsCharBoundary text.now start }
     requires quote { OpensString (parse_options options.now) text.now start quote }
     ensures found { IfOk result (IsStringRead (parse_options options.now) text.now start) }
@@ -45,17 +45,39 @@ pub(crate) fn read_string<'a, A: Allocator + Copy>(
         quote,
         extended: options.allow_extended_string_escapes,
     };
-    let decoded = match decode_string(alloc, text, literal) {
-        Ok(decoded) => decoded,
-        Err(fault) => return Err(string_error(text, fault)),
+    match decode_string(alloc, text, literal) {
+        Ok(decoded) => Ok(decoded),
+        Err(fault) => Err(string_error(text, fault)),
+    }
+}
+
+/// The same, once to keep and once to give away.
+pub(crate) fn read_string_twice<'a, A: Allocator + Copy>(
+    alloc: A,
+    text: &'a str,
+    start: usize,
+    quote: u8,
+    options: &ParseOptions,
+) -> Result<StringRead<'a, A>, ParseError>
+    requires boundary { IsCharBoundary text.now start }
+    requires quote { OpensString (parse_options options.now) text.now start quote }
+    ensures found { IfOk result (IsStringTwice (parse_options options.now) text.now start) }
+    ensures none { IfErr result (λ e. kind_of e ≢ ParseErrorKind.OutOfMemory → NothingAt (parse_options options.now) text.now start) }
+    ensures fault { IfErr result (IsFault text.now) }
+    ensures told { IfErr result (IsFaultOfString (parse_options options.now) text.now start) }
+    ensures memory { IfErr result (λ e. kind_of e ≡ ParseErrorKind.OutOfMemory → StringHoldsBackslash text.now start) }
+{
+    let read = match read_string(alloc, text, start, quote, options) {
+        Ok(read) => read,
+        Err(error) => return Err(error),
     };
-    let Ok(given) = copy_of(&decoded.string) else {
+    let Ok(given) = copy_of(&read.string) else {
         return Err(ParseError::out_of_memory());
     };
     Ok(StringRead {
-        kept: decoded.string,
+        kept: read.string,
         given,
-        end: decoded.end,
+        end: read.end,
     })
 }
 

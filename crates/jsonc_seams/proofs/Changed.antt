@@ -2,15 +2,15 @@
 use Rattle.std.proofs.Common.{ℕ, ◌≡◌, sym, subst, refl, Bool, false, List, [], ◌++◌, arith, None}
 use Rattle.jsonc_text.specs.Options.{Options}
 use Rattle.jsonc_tree.specs.Content.{Content}
-use Rattle.jsonc_tree.specs.OrderedTree.{OrderedTree, none, leaves}
+use Rattle.jsonc_tree.specs.OrderedTree.{OrderedTree, none, leaves, Top}
 use Rattle.jsonc_build.specs.Lines.{LinesEnd}
 use Rattle.jsonc_build.specs.Shape as shape
-use Rattle.jsonc_build.specs.Shape.{Trivia, ValueShaped, DocumentShaped, token_then}
+use Rattle.jsonc_build.specs.Shape.{Trivia, ValueShaped, DocumentShaped}
 use Rattle.jsonc_sound.specs.Laws.{DiffersIn}
 use Rattle.jsonc_sound.specs.Rows as rows
 use Rattle.jsonc_sound.specs.Rows.{RowKind, closing, Last}
 use Rattle.jsonc_sound.specs.Sound.{Sound}
-use Rattle.jsonc_sound.specs.TreeChanges.{Top, IsElement, leaves_of, ElementChanged, HeldChanged, property_of, ValueChanged, itself, in_array, in_object, DocumentChanged, in_root}
+use Rattle.jsonc_sound.specs.TreeChanges.{IsElement, leaves_of, ElementChanged, HeldChanged, property_of, ValueChanged, itself, in_array, in_object, DocumentChanged, in_root}
 use Rattle.jsonc_sound.proofs.FirstNodes.{here, over, beyond, meets_first, none_changed, no_element, trivia_over, value_element, name_element}
 use Rattle.jsonc_sound.proofs.Lines.{document_lines}
 use Rattle.jsonc_sound.proofs.Rows.{trivia_changed, token_changed, only_changed}

@@ -6,24 +6,16 @@ use Rattle.jsonc_text.specs.Text.{starts}
 use Rattle.jsonc_tree.specs.Content.{Content, token}
 use Rattle.jsonc_tree.specs.OrderedTree.{OrderedTree, own_leaf, leaves, followed_by}
 use Rattle.jsonc_tree.proofs.OrderedTrees.{leaves-followed_by}
-use Rattle.jsonc_build.specs.Lines.{LinesEnd}
 use Rattle.jsonc_build.specs.Shape.{IsTrivia}
 use Rattle.jsonc_sound.specs.Rows as rows
-use Rattle.jsonc_sound.specs.Rows.{RowKind, closing, Last, container_of}
-use Rattle.jsonc_sound.specs.RowEdits.{last_behind}
-use Rattle.jsonc_sound.specs.Sound.{Sound}
-use Rattle.jsonc_sound.specs.TreeChanges.{DocumentChanged}
-use Rattle.jsonc_sound.proofs.HeldValues.{sound_value}
+use Rattle.jsonc_sound.specs.Rows.{RowKind, closing, Last}
 use Rattle.jsonc_seams.specs.Adjacent.{first_char, or_else, follower, LeavesEnd, last_printed}
 use Rattle.jsonc_seams.specs.Alone as alone
-use Rattle.jsonc_seams.specs.Alone.{may_come, may_stand, RowAlone, StretchAlone}
+use Rattle.jsonc_seams.specs.Alone.{may_stand, RowAlone, StretchAlone}
 use Rattle.jsonc_seams.specs.Spaces.{is_bare, is_bare_leaf, first_printed, meet}
-use Rattle.jsonc_seams.proofs.Apart.{value_alone}
 use Rattle.jsonc_seams.proofs.Flat.{AllLeaves, joined_all, node_all, mark_all, trivia_one, part_leaves_all, all_begin}
 use Rattle.jsonc_seams.proofs.Leaves.{joined_leaves, last_serves}
-use Rattle.jsonc_seams.proofs.Rows.{row_of}
-use Rattle.jsonc_seams.proofs.Spaces.{own_last, last_append, last_of, serves_unless, not_both, stretch_no_word, sound_where_none_meet}
-use Rattle.jsonc_seams.proofs.Stretches.{GivesWay, gives_way, rest_comes}
+use Rattle.jsonc_seams.proofs.Spaces.{own_last, last_append, last_of, serves_unless, not_both, stretch_no_word}
 use Rattle.jsonc_seams.proofs.Texts.{trivia_leaf, comma_first, closing_first}
 
 trivia_not_bare : (o : Options) (content : Content) → IsTrivia o content → is_bare content ≡ false
@@ -121,19 +113,6 @@ module _ (o : Options) (kind : RowKind) where
   none_meet commas rows.nothing_yet stretch rest s g = false_and _ (is_bare_leaf (first_printed (leaves rest))) (ends_well s (λ h. h)).not_bare
   none_meet commas rows.an_element stretch rest s g = and_false (is_bare_leaf (last_printed (leaves stretch))) _ (begins_well commas tt g)
   none_meet commas rows.a_comma stretch rest s g = false_and _ (is_bare_leaf (first_printed (leaves rest))) (ends_well s (λ h. h)).not_bare
-
-  pub sound_by_the_row : o.missing_commas ≡ false → (t : OrderedTree) → Sound o t → (front was now back : OrderedTree) (path : List ℕ) (u : OrderedTree)
-      → DocumentChanged (container_of kind (followed_by front (followed_by was back))) (container_of kind (followed_by front (followed_by now back))) path t u
-      → (to : Last) → StretchAlone o kind (last_behind rows.nothing_yet front) now to → IsTrue (may_come o to back)
-      → LinesEnd false (followed_by front (followed_by now back)) → LeavesEnd o (leaves now) None
-      → Sound o u
-  sound_by_the_row commas t s front was now back path u c to k h l e =
-      let way = gives_way o kind front was now back (row_of o kind (followed_by front (followed_by was back)) (value_alone o (sound_value o s c).shaped)) to k h in
-      let behind = none_meet commas to now back k (rest_comes_to way) in
-      sound_where_none_meet o t s kind front was now back path u c to k h l e (none_meet commas (last_behind rows.nothing_yet front) front (followed_by now back) way.before way.middle) behind
-    where
-      rest_comes_to : (way : GivesWay o kind front now back) → RowAlone o kind to back
-      rest_comes_to way = rest_comes o kind to way.rest h
 
   -- two stretches one after another
   stretch_all : {last to : Last} {stretch : OrderedTree} → StretchAlone o kind last stretch to → AllLeaves (leaves stretch)

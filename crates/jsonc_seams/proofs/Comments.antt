@@ -15,7 +15,7 @@ use Rattle.jsonc_tree.specs.OrderedTree.{OrderedTree, none, more, own_leaf, leav
 use Rattle.jsonc_nodes.specs.Kinds.{is_trivia}
 use Rattle.jsonc_build.specs.Lines.{is_line_comment, ends_line, LinesEnd, DocumentLinesEnd}
 use Rattle.jsonc_build.specs.Shape as shape
-use Rattle.jsonc_build.specs.Shape.{IsTrivia, Trivia, token_then}
+use Rattle.jsonc_build.specs.Shape.{Trivia}
 use Rattle.jsonc_sound.specs.Laws.{DiffersIn}
 use Rattle.jsonc_sound.specs.Rows.{RowKind, Last}
 use Rattle.jsonc_sound.specs.Sound.{Sound}

@@ -6,15 +6,15 @@ use Rattle.jsonc_text.specs.Text.{starts}
 use Rattle.jsonc_text.proofs.Basics.{test_eq}
 use Rattle.jsonc_text.proofs.UniqueGaps.{comment_begins}
 use Rattle.jsonc_tree.specs.Content.{Content, token}
-use Rattle.jsonc_tree.specs.OrderedTree.{OrderedTree, own_leaf, leaves}
+use Rattle.jsonc_tree.specs.OrderedTree.{OrderedTree, own_leaf, leaves, Top}
 use Rattle.jsonc_build.specs.Lines.{LinesEnd}
 use Rattle.jsonc_build.specs.Shape as shape
-use Rattle.jsonc_build.specs.Shape.{IsTrivia, Trivia, IsLiteralBefore, IsNameBefore, token_then, DocumentShaped}
+use Rattle.jsonc_build.specs.Shape.{IsTrivia, Trivia, IsLiteralBefore, IsNameBefore, DocumentShaped}
 use Rattle.jsonc_sound.specs.Laws.{DiffersIn}
 use Rattle.jsonc_sound.specs.Rows as rows
 use Rattle.jsonc_sound.specs.Rows.{RowKind, closing, Last}
 use Rattle.jsonc_sound.specs.Sound.{Sound, IsValueBefore}
-use Rattle.jsonc_sound.specs.TreeChanges.{Top, leaves_of, DocumentChanged}
+use Rattle.jsonc_sound.specs.TreeChanges.{leaves_of, DocumentChanged}
 use Rattle.jsonc_sound.proofs.Characters.{ends_names, text_ends_names}
 use Rattle.jsonc_sound.proofs.Followers.{leaf_ends}
 use Rattle.jsonc_sound.proofs.Lines.{document_lines}

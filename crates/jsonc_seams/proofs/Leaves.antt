@@ -7,10 +7,6 @@ use Rattle.jsonc_sound.specs.Laws.{DiffersIn}
 use Rattle.jsonc_seams.specs.Adjacent.{EndsBefore, first_char, or_else, follower, LeavesEnd, last_printed, MayEndBefore, LastEnds}
 use Rattle.jsonc_seams.proofs.Ends.{unprinted_ends}
 
-or_else_assoc : (x y z : Option ℕ) → or_else (or_else x y) z ≡ or_else x (or_else y z)
-or_else_assoc None y z = refl
-or_else_assoc (Some c) y z = refl
-
 pub follower_append : (first second : List Content) (n : Option ℕ) → follower (first ++ second) n ≡ follower first (follower second n)
 follower_append [] second n = refl
 follower_append (content ∷ rest) second n = ap (or_else (first_char content)) (follower_append rest second n)

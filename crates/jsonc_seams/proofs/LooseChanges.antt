@@ -1,24 +1,10 @@
 -- Line comments that end loosely, in rows that change.
 use Rattle.std.proofs.Common.{ℕ, ◌≡◌, ap, subst, refl, Bool, true, false, ◌&&◌, List, IsTrue}
 use Rattle.jsonc_tree.specs.Content.{Content}
-use Rattle.jsonc_tree.specs.OrderedTree.{OrderedTree, none, more, followed_by}
-use Rattle.jsonc_build.specs.Lines.{ends_line, LinesEnd, DocumentLinesEnd}
-use Rattle.jsonc_sound.specs.TreeChanges.{Top, IsElement, ElementChanged, this_element, passed, later_element, ValueChanged, itself, in_array, in_object, DocumentChanged, in_root}
+use Rattle.jsonc_tree.specs.OrderedTree.{OrderedTree, none, more, followed_by, Top}
+use Rattle.jsonc_build.specs.Lines.{is_loose, ends_loosely, LinesEndLoosely, DocumentLinesEndLoosely}
+use Rattle.jsonc_sound.specs.TreeChanges.{IsElement, ElementChanged, this_element, passed, later_element, ValueChanged, itself, in_array, in_object, DocumentChanged, in_root}
 use Rattle.jsonc_sound.proofs.FirstNodes.{no_element, line_comment_over}
-use Rattle.jsonc_seams.specs.LooseLines.{is_loose, ends_loosely, LinesEndLoosely, DocumentLinesEndLoosely}
-
--- strict is loose
-first_loosens : (loose at_end : Bool) (row : OrderedTree) → IsTrue (ends_line at_end row) → IsTrue (ends_loosely loose at_end row)
-first_loosens loose at_end none h = h
-first_loosens loose at_end (more (Content.newline k) below after) h = refl
-first_loosens loose at_end (more content below after) h = cc
-
-loosens : (loose at_end : Bool) (row : OrderedTree) → LinesEnd at_end row → LinesEndLoosely loose at_end row
-loosens loose at_end none l = tt
-loosens loose at_end (more content below after) l = (λ h. first_loosens loose at_end after (l.0 h), loosens (is_loose content) false below l.1, loosens loose at_end after l.2)
-
-pub document_loosens : {tree : OrderedTree} → DocumentLinesEnd tree → DocumentLinesEndLoosely tree
-document_loosens (row, e, l) = (row, e, loosens false true row l)
 
 -- two stretches
 pub ends_joined : (loose at_end : Bool) (s t : OrderedTree) → ends_loosely loose at_end (followed_by s t) ≡ ends_loosely loose (ends_loosely loose at_end t) s

@@ -5,9 +5,9 @@ use Rattle.jsonc_text.specs.Options.{Options}
 use Rattle.jsonc_text.specs.Words.{EndsWord}
 use Rattle.jsonc_tree.specs.Content.{Content, token}
 use Rattle.jsonc_tree.specs.OrderedTree.{OrderedTree, none, more, own_leaf, leaves, followed_by}
-use Rattle.jsonc_build.specs.Lines.{is_line_comment}
+use Rattle.jsonc_build.specs.Lines.{is_line_comment, is_loose, ends_loosely, LinesEndLoosely, DocumentLinesEndLoosely}
 use Rattle.jsonc_build.specs.Shape as shape
-use Rattle.jsonc_build.specs.Shape.{IsTrivia, Trivia, IsNameBefore, DocumentShaped, token_then}
+use Rattle.jsonc_build.specs.Shape.{IsTrivia, Trivia, IsNameBefore}
 use Rattle.jsonc_sound.specs.Laws.{DiffersIn}
 use Rattle.jsonc_sound.specs.Rows as rows
 use Rattle.jsonc_sound.specs.Rows.{RowKind, closing, Last}
@@ -17,7 +17,6 @@ use Rattle.jsonc_sound.proofs.FirstNodes.{no_element, line_comment_over, name_el
 use Rattle.jsonc_seams.specs.Adjacent.{first_char, follower, LeavesEnd, last_printed, MayEndBefore, LastEnds}
 use Rattle.jsonc_seams.specs.Alone as alone
 use Rattle.jsonc_seams.specs.Alone.{ValueAlone, PartAlone, RowAlone, PropertyAlone, RootAlone, DocumentAlone}
-use Rattle.jsonc_seams.specs.LooseLines.{is_loose, ends_loosely, LinesEndLoosely, DocumentLinesEndLoosely}
 use Rattle.jsonc_seams.specs.SoundTrees.{SoundTree}
 use Rattle.jsonc_seams.specs.Spaces.{is_bare_leaf, first_printed, meet}
 use Rattle.jsonc_seams.proofs.Apart.{document_alone, document_leaves}

@@ -4,10 +4,10 @@ use Rattle.std.proofs.lemmas.List.{append_assoc}
 use Rattle.jsonc_text.specs.Options.{Options}
 use Rattle.jsonc_tree.specs.Content.{Content, root}
 use Rattle.jsonc_tree.specs.OrderedTree as ordered
-use Rattle.jsonc_tree.specs.OrderedTree.{OrderedTree, none, more, own_leaf, leaves, followed_by, Replaced}
+use Rattle.jsonc_tree.specs.OrderedTree.{OrderedTree, none, more, own_leaf, leaves, followed_by, Replaced, Top}
 use Rattle.jsonc_tree.proofs.OrderedTrees.{leaves-followed_by}
 use Rattle.jsonc_sound.specs.Laws.{DiffersIn}
-use Rattle.jsonc_sound.specs.TreeChanges.{Top, leaves_of}
+use Rattle.jsonc_sound.specs.TreeChanges.{leaves_of}
 use Rattle.jsonc_sound.specs.TriviaChanges as changes
 use Rattle.jsonc_sound.specs.TriviaChanges.{AreTrivia, leaves_then, LeavesChanged, StretchChanged, EndsInComment, one_comment, line_comment}
 use Rattle.jsonc_sound.proofs.TriviaLeaves.{front_leaves}

@@ -13,7 +13,7 @@ use Rattle.jsonc_tree.specs.OrderedTree as ordered
 use Rattle.jsonc_tree.specs.OrderedTree.{OrderedTree, none, more, own_leaf, leaves, followed_by, Replaced}
 use Rattle.jsonc_nodes.specs.Kinds.{is_trivia}
 use Rattle.jsonc_build.specs.Shape as shape
-use Rattle.jsonc_build.specs.Shape.{IsTrivia, Trivia, IsLiteralBefore, IsNameBefore, token_then}
+use Rattle.jsonc_build.specs.Shape.{Trivia, IsLiteralBefore, IsNameBefore, token_then}
 use Rattle.jsonc_sound.specs.Rows as rows
 use Rattle.jsonc_sound.specs.Rows.{RowKind, opening, closing, Last}
 use Rattle.jsonc_sound.specs.TriviaChanges.{AreTrivia, leaves_then}
@@ -108,7 +108,7 @@ name_literal (lexemes.punctuation c) h = cc
 lexeme_prints : (o : Options) (k : LexemeKind) (s : List ℕ) → IsLiteral k → Lexeme o k (chars s ++ []) [] → IsTrue (starts (λ c. true) (next (chars s)))
 lexeme_prints o k s lit h = any_start begins_literal (next (chars s)) (subst (λ t. IsTrue (starts begins_literal (next t))) (append-nil (chars s)) (lexeme_begins o k (chars s ++ []) [] lit h))
 
-literal_prints : (o : Options) (content : Content) → IsLiteralBefore o content [] → LeafPrints content
+pub literal_prints : (o : Options) (content : Content) → IsLiteralBefore o content [] → LeafPrints content
 literal_prints o (Content.string s) h = lexeme_prints o (lexemes.string h.0) s tt h.1.1
 literal_prints o (Content.number s) h = lexeme_prints o (lexemes.number (chars s)) s tt h.1
 literal_prints o (Content.boolean true) h = subst (λ t. IsTrue (starts (λ c. true) (next t))) (sym (chars-IsAscii (text_of (Content.boolean true)) (search rules))) refl
@@ -116,7 +116,7 @@ literal_prints o (Content.boolean false) h = subst (λ t. IsTrue (starts (λ c. 
 literal_prints o Content.null h = subst (λ t. IsTrue (starts (λ c. true) (next t))) (sym (chars-IsAscii (text_of Content.null) (search rules))) refl
 literal_prints o content h = absurd h
 
-name_prints : (o : Options) (content : Content) → IsNameBefore o content [] → LeafPrints content
+pub name_prints : (o : Options) (content : Content) → IsNameBefore o content [] → LeafPrints content
 name_prints o (Content.string s) h = literal_prints o (Content.string s) h
 name_prints o (Content.word s) h = lexeme_prints o h.1.2 s (name_literal h.1.2 h.1.3) h.1.4
 name_prints o content h = absurd h
@@ -136,9 +136,6 @@ pub data Ends : OrderedTree → Type 0 where
 pub data Bounded : OrderedTree → Type 0 where
   nothing : Bounded none
   bounded : {row : OrderedTree} → Starts row → Ends row → Bounded row
-
-no_end : Ends none → ⊥
-no_end e = elim e [ ]
 
 pub ends_print : {row : OrderedTree} → Ends row → Prints (leaves row)
 ends_print (ends_with {content = content} {below = below} n p) = subst Prints (append_assoc (own_leaf content) (leaves below) []) (prints_before (own_leaf content ++ leaves below) [] p)
@@ -168,10 +165,10 @@ pub no_row : {x : OrderedTree} {f b : List Content} → Within x f b none → �
 no_row w = elim w [ ]
 
 module _ (o : Options) where
-  opening_print : (kind : RowKind) → LeafPrints (Content.token (opening kind))
+  pub opening_print : (kind : RowKind) → LeafPrints (Content.token (opening kind))
   opening_print kind = mark_prints (opening kind) (first_char (Content.token (opening kind))) (opening_first kind)
 
-  closing_print : (kind : RowKind) → LeafPrints (Content.token (closing kind))
+  pub closing_print : (kind : RowKind) → LeafPrints (Content.token (closing kind))
   closing_print kind = mark_prints (closing kind) (first_char (Content.token (closing kind))) (closing_first kind)
 
   literal_no_trivia : (content : Content) → IsLiteralBefore o content [] → IsTrue (not (is_trivia content))
@@ -196,7 +193,7 @@ module _ (o : Options) where
   value_prints (alone.an_array {row = row} g) = leaf_prints (Content.token 0x5B) (leaves row) (opening_print rows.of_values)
   value_prints (alone.an_object {row = row} g) = leaf_prints (Content.token 0x7B) (leaves row) (opening_print rows.of_properties)
 
-  row_ends : {kind : RowKind} {last : Last} {row : OrderedTree} → RowAlone o kind last row → Ends row
+  pub row_ends : {kind : RowKind} {last : Last} {row : OrderedTree} → RowAlone o kind last row → Ends row
   row_ends (alone.closes {kind = kind} m) = ends_with refl (leaf_prints (Content.token (closing kind)) [] (closing_print kind))
   row_ends (alone.trivia h g) = goes_on (row_ends g)
   row_ends (alone.element m p g) = goes_on (row_ends g)

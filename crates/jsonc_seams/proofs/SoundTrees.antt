@@ -1,17 +1,16 @@
 -- Changes that keep soundness.
 use Rattle.std.proofs.Common.{ℕ, ◌≡◌, ◌∙◌, sym, subst, Bool, true, false, List, [], ◌++◌, None, IsTrue, if◌then◌else◌}
 use Rattle.jsonc_text.specs.Options.{Options}
-use Rattle.jsonc_tree.specs.OrderedTree.{OrderedTree, none, leaves, followed_by}
+use Rattle.jsonc_tree.specs.OrderedTree.{OrderedTree, none, leaves, followed_by, Top}
+use Rattle.jsonc_build.specs.Lines.{is_loose, ends_loosely, LinesEndLoosely}
 use Rattle.jsonc_build.specs.Shape.{token_then}
 use Rattle.jsonc_sound.specs.Laws.{DiffersIn}
 use Rattle.jsonc_sound.specs.Rows as rows
-use Rattle.jsonc_sound.specs.Rows.{RowKind, opening, holder, Last, container_of}
-use Rattle.jsonc_sound.specs.RowEdits.{last_behind}
+use Rattle.jsonc_sound.specs.Rows.{RowKind, opening, holder, Last, container_of, last_behind}
 use Rattle.jsonc_sound.specs.Sound.{IsValueBefore}
-use Rattle.jsonc_sound.specs.TreeChanges.{Top, leaves_of, DocumentChanged}
+use Rattle.jsonc_sound.specs.TreeChanges.{leaves_of, DocumentChanged}
 use Rattle.jsonc_seams.specs.Adjacent.{LeavesEnd}
 use Rattle.jsonc_seams.specs.Alone.{StretchAlone, may_come}
-use Rattle.jsonc_seams.specs.LooseLines.{is_loose, ends_loosely, LinesEndLoosely}
 use Rattle.jsonc_seams.specs.SoundTrees.{SoundTree}
 use Rattle.jsonc_seams.specs.Spaces.{meet, space_then, spaced_before, spaced}
 use Rattle.jsonc_seams.proofs.Flat.{shaped_value_where_none_meet}

@@ -3,13 +3,13 @@ use Rattle.std.proofs.Common.{◌≡◌, sym, ap, subst, refl, Bool, true, false
 use Rattle.jsonc_text.specs.Options.{Options}
 use Rattle.jsonc_tree.specs.Content.{Content}
 use Rattle.jsonc_tree.specs.OrderedTree.{OrderedTree, more}
+use Rattle.jsonc_build.specs.Lines.{is_loose, ends_loosely, LinesEndLoosely, DocumentLinesEndLoosely}
 use Rattle.jsonc_sound.specs.TreeChanges.{IsElement}
 use Rattle.jsonc_sound.specs.TriviaChanges as changes
 use Rattle.jsonc_sound.specs.TriviaChanges.{LeavesChanged, StretchChanged}
 use Rattle.jsonc_sound.proofs.TriviaLeaves.{document_differs}
 use Rattle.jsonc_seams.specs.Adjacent.{or_else, follower, LeavesEnd, LastEnds}
 use Rattle.jsonc_seams.specs.InRows.{SpaceCome, before_element, later, deeper, SpacePut, in_root}
-use Rattle.jsonc_seams.specs.LooseLines.{is_loose, ends_loosely, LinesEndLoosely, DocumentLinesEndLoosely}
 use Rattle.jsonc_seams.specs.SoundTrees.{SoundTree}
 use Rattle.jsonc_seams.specs.Spaces.{space_then}
 use Rattle.jsonc_seams.proofs.Apart.{document_leaves}

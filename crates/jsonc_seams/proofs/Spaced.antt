@@ -11,8 +11,7 @@ use Rattle.jsonc_build.specs.Leaves.{is_inner_blank}
 use Rattle.jsonc_build.specs.Lines.{is_line_comment, ends_line, LinesEnd}
 use Rattle.jsonc_build.specs.Shape.{IsTrivia, DocumentShaped}
 use Rattle.jsonc_sound.specs.Rows as rows
-use Rattle.jsonc_sound.specs.Rows.{RowKind, Last, container_of}
-use Rattle.jsonc_sound.specs.RowEdits.{last_behind}
+use Rattle.jsonc_sound.specs.Rows.{RowKind, Last, container_of, last_behind}
 use Rattle.jsonc_sound.specs.Sound.{Sound}
 use Rattle.jsonc_sound.specs.TreeChanges.{DocumentChanged}
 use Rattle.jsonc_sound.proofs.FirstNodes.{no_element, line_comment_over, line_end_same}
@@ -21,7 +20,7 @@ use Rattle.jsonc_sound.proofs.Lines.{document_lines}
 use Rattle.jsonc_sound.proofs.JoinedRows.{joined_lines, parted_lines}
 use Rattle.jsonc_seams.specs.Adjacent.{first_char, or_else, LeavesEnd, last_printed}
 use Rattle.jsonc_seams.specs.Alone as alone
-use Rattle.jsonc_seams.specs.Alone.{may_come, PartAlone, RowAlone, StretchAlone}
+use Rattle.jsonc_seams.specs.Alone.{may_come, StretchAlone}
 use Rattle.jsonc_seams.specs.Spaces.{is_bare_leaf, first_printed, meet, space_then, spaced_before, spaced_behind, spaced}
 use Rattle.jsonc_seams.proofs.Apart.{value_alone}
 use Rattle.jsonc_seams.proofs.Changed.{part_element}

@@ -13,10 +13,9 @@ use Rattle.jsonc_tree.specs.Content.{Content, token}
 use Rattle.jsonc_tree.specs.OrderedTree.{OrderedTree, own_leaf, leaves, followed_by}
 use Rattle.jsonc_build.specs.Lines.{LinesEnd}
 use Rattle.jsonc_build.specs.Shape as shape
-use Rattle.jsonc_build.specs.Shape.{IsTrivia, Trivia, IsLiteralBefore, IsNameBefore, token_then, DocumentShaped}
+use Rattle.jsonc_build.specs.Shape.{IsTrivia, Trivia, IsLiteralBefore, IsNameBefore, DocumentShaped}
 use Rattle.jsonc_sound.specs.Rows as rows
-use Rattle.jsonc_sound.specs.Rows.{RowKind, opening, closing, Last, container_of}
-use Rattle.jsonc_sound.specs.RowEdits.{last_behind}
+use Rattle.jsonc_sound.specs.Rows.{RowKind, closing, Last, container_of, last_behind}
 use Rattle.jsonc_sound.specs.Sound.{Sound}
 use Rattle.jsonc_sound.specs.TreeChanges.{DocumentChanged}
 use Rattle.jsonc_sound.proofs.Characters.{ends_names, text_ends_names, goes_on_apart}

@@ -5,11 +5,10 @@ use Rattle.jsonc_tree.specs.Content.{Content, token}
 use Rattle.jsonc_tree.specs.OrderedTree.{OrderedTree, none, more, followed_by}
 use Rattle.jsonc_build.specs.Shape.{IsTrivia, token_then}
 use Rattle.jsonc_sound.specs.Rows as rows
-use Rattle.jsonc_sound.specs.Rows.{RowKind, opening, closing, Last, may_end, container_of}
-use Rattle.jsonc_sound.specs.RowEdits.{last_after, last_behind, takes_comma}
+use Rattle.jsonc_sound.specs.Rows.{RowKind, closing, Last, may_end, last_after, last_behind, takes_comma}
 use Rattle.jsonc_sound.specs.TreeChanges.{IsElement}
 use Rattle.jsonc_seams.specs.Alone as alone
-use Rattle.jsonc_seams.specs.Alone.{may_stand, may_come, ValueAlone, PartAlone, RowAlone, StretchAlone, DocumentAlone}
+use Rattle.jsonc_seams.specs.Alone.{may_stand, may_come, PartAlone, RowAlone, StretchAlone}
 use Rattle.jsonc_seams.proofs.Changed.{part_element}
 
 -- by what a node is

@@ -6,7 +6,7 @@ use Rattle.std.proofs.lemmas.Str.{chars-nil, chars-append, chars-IsAscii, IsUtf8
 use lib.Utf8.{encode}
 use Rattle.jsonc_text.specs.Options.{Options}
 use Rattle.jsonc_text.specs.Text.{next}
-use Rattle.jsonc_tree.specs.Content.{Content, is_container, text_of}
+use Rattle.jsonc_tree.specs.Content.{Content, text_of}
 use Rattle.jsonc_tree.specs.OrderedTree.{OrderedTree, none, more, own_leaf, leaves}
 use Rattle.jsonc_build.specs.Shape as shape
 use Rattle.jsonc_build.specs.Shape.{IsTrivia, Trivia, IsLiteralBefore, IsNameBefore, token_then, printed_text}
@@ -20,9 +20,6 @@ use Rattle.jsonc_seams.specs.Alone.{ValueAlone, PartAlone, RowAlone, PropertyAlo
 use Rattle.jsonc_seams.proofs.Leaves.{follower_append}
 
 -- a leaf is its own only leaf
-leaf_of : (content : Content) → is_container content ≡ false → own_leaf content ≡ content ∷ []
-leaf_of content e = rw e refl
-
 pub trivia_leaf : (o : Options) (content : Content) → IsTrivia o content → own_leaf content ≡ content ∷ []
 trivia_leaf o (Content.whitespace s) h = refl
 trivia_leaf o (Content.newline k) h = refl

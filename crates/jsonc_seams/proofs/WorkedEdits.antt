@@ -1,16 +1,15 @@
 -- Two edits as stretches.
 use Rattle.std.proofs.Common.{ℕ, ◌≡◌, sym, subst, refl, true, false, List, [], ◌++◌, None, IsTrue, append-nil}
 use Rattle.jsonc_text.specs.Options.{Options}
-use Rattle.jsonc_tree.specs.OrderedTree.{OrderedTree, none, own_leaf, leaves, followed_by}
+use Rattle.jsonc_tree.specs.OrderedTree.{OrderedTree, none, own_leaf, leaves, followed_by, Top}
+use Rattle.jsonc_build.specs.Lines.{LinesEndLoosely}
 use Rattle.jsonc_sound.specs.Rows as rows
-use Rattle.jsonc_sound.specs.Rows.{RowKind, Last, container_of}
-use Rattle.jsonc_sound.specs.RowEdits.{last_behind}
+use Rattle.jsonc_sound.specs.Rows.{RowKind, container_of, last_behind}
 use Rattle.jsonc_sound.specs.Sound.{IsValueBefore}
-use Rattle.jsonc_sound.specs.TreeChanges.{Top, DocumentChanged}
+use Rattle.jsonc_sound.specs.TreeChanges.{DocumentChanged}
 use Rattle.jsonc_seams.specs.Adjacent.{LeavesEnd}
 use Rattle.jsonc_seams.specs.Alone as alone
 use Rattle.jsonc_seams.specs.Alone.{may_come, StretchAlone}
-use Rattle.jsonc_seams.specs.LooseLines.{LinesEndLoosely}
 use Rattle.jsonc_seams.specs.SoundTrees.{SoundTree}
 use Rattle.jsonc_seams.specs.Spaces.{spaced}
 use Rattle.jsonc_seams.specs.WorkedEdits.{appended}

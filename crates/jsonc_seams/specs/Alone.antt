@@ -4,8 +4,7 @@ use Rattle.jsonc_text.specs.Options.{Options}
 use Rattle.jsonc_tree.specs.Content.{Content, root, array, object, property}
 use Rattle.jsonc_tree.specs.OrderedTree.{OrderedTree, none, more}
 use Rattle.jsonc_build.specs.Shape.{IsTrivia, Trivia, IsLiteralBefore, IsNameBefore, token_then}
-use Rattle.jsonc_sound.specs.Rows.{RowKind, of_values, of_properties, closing, Last, nothing_yet, an_element, a_comma, may_end}
-use Rattle.jsonc_sound.specs.RowEdits.{takes_comma}
+use Rattle.jsonc_sound.specs.Rows.{RowKind, of_values, of_properties, closing, Last, nothing_yet, an_element, a_comma, may_end, takes_comma}
 
 -- an element may stand here: first, after a comma, or where commas may be missing after an element
 abbrev pub may_stand : Options → Last → Bool

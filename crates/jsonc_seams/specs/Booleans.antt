@@ -3,10 +3,10 @@ use Rattle.std.specs.Prelude.{◌≡◌, ℕ, Bool, false, ◌&&◌, ◌||◌, �
 use Rattle.jsonc_text.specs.Options.{Options}
 use Rattle.jsonc_text.specs.Numbers.{is_x, is_sign}
 use Rattle.jsonc_tree.specs.Content.{Content}
-use Rattle.jsonc_tree.specs.OrderedTree.{OrderedTree, none, leaves}
+use Rattle.jsonc_tree.specs.OrderedTree.{OrderedTree, none, leaves, Top}
 use Rattle.jsonc_sound.specs.Laws.{DiffersIn}
 use Rattle.jsonc_sound.specs.Sound.{Sound}
-use Rattle.jsonc_sound.specs.TreeChanges.{Top, leaves_of, DocumentChanged}
+use Rattle.jsonc_sound.specs.TreeChanges.{leaves_of, DocumentChanged}
 use Rattle.jsonc_seams.specs.Adjacent.{last_printed}
 
 -- `0x` or `0X` stands first

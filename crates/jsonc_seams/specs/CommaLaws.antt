@@ -1,28 +1,18 @@
--- Laws of spaces where commas stand, and of stretches one after another.
-use Rattle.std.specs.Prelude.{◌≡◌, ℕ, false, List, [], None, IsTrue}
+-- Rows in which commas may not be missing, stretches one after another, and nodes that stand alone.
+use Rattle.std.specs.Prelude.{◌≡◌, ℕ, false, List, [], None}
 use Rattle.jsonc_text.specs.Options.{Options}
-use Rattle.jsonc_tree.specs.OrderedTree.{OrderedTree, leaves, followed_by}
-use Rattle.jsonc_build.specs.Lines.{LinesEnd}
-use Rattle.jsonc_sound.specs.Sound.{Sound, IsValueBefore}
-use Rattle.jsonc_sound.specs.TreeChanges.{Top, leaves_of, DocumentChanged}
-use Rattle.jsonc_sound.specs.Rows.{RowKind, Last, nothing_yet, container_of}
-use Rattle.jsonc_sound.specs.RowEdits.{last_behind}
+use Rattle.jsonc_tree.specs.OrderedTree.{OrderedTree, leaves, followed_by, Top}
 use Rattle.jsonc_build.specs.Shape.{PropertyShaped}
+use Rattle.jsonc_sound.specs.Rows.{RowKind, Last}
+use Rattle.jsonc_sound.specs.Sound.{IsValueBefore}
+use Rattle.jsonc_sound.specs.TreeChanges.{leaves_of}
 use Rattle.jsonc_seams.specs.Adjacent.{LeavesEnd}
-use Rattle.jsonc_seams.specs.Alone.{ValueAlone, PropertyAlone, RowAlone, StretchAlone, may_come}
+use Rattle.jsonc_seams.specs.Alone.{ValueAlone, PropertyAlone, RowAlone, StretchAlone}
 use Rattle.jsonc_seams.specs.Spaces.{meet}
 
 -- where commas may not be missing, no two literals without quotes meet in a row
 abbrev pub NoneMeetInRows : Options → RowKind → OrderedTree → OrderedTree → Type 0
 NoneMeetInRows o kind stretch rest = (last mid : Last) → StretchAlone o kind last stretch mid → RowAlone o kind mid rest → meet (leaves stretch) (leaves rest) ≡ false
-
--- so there a document stays sound by what stands last before the stretch and behind it alone
-abbrev pub StaysSoundByTheRow : Options → OrderedTree → Type 0
-StaysSoundByTheRow o t = Sound o t → (kind : RowKind) (front was now back : OrderedTree) (path : List ℕ) (u : OrderedTree)
-    → DocumentChanged (container_of kind (followed_by front (followed_by was back))) (container_of kind (followed_by front (followed_by now back))) path t u
-    → (to : Last) → StretchAlone o kind (last_behind nothing_yet front) now to → IsTrue (may_come o to back)
-    → LinesEnd false (followed_by front (followed_by now back)) → LeavesEnd o (leaves now) None
-    → Sound o u
 
 -- two stretches whose leaves end make one whose leaves end, where no two literals without quotes meet
 abbrev pub StretchesJoin : Options → RowKind → OrderedTree → OrderedTree → Type 0

@@ -2,11 +2,11 @@
 use Rattle.std.specs.Prelude.{◌≡◌, ◌≢◌, ℕ, false, List, [], ◌++◌}
 use Rattle.jsonc_text.specs.Options.{Options}
 use Rattle.jsonc_tree.specs.Content.{Content, root}
-use Rattle.jsonc_tree.specs.OrderedTree.{OrderedTree, none, more, leaves, followed_by, Replaced}
+use Rattle.jsonc_tree.specs.OrderedTree.{OrderedTree, none, more, leaves, followed_by, Replaced, Top}
+use Rattle.jsonc_build.specs.Lines.{is_loose, LinesEndLoosely}
 use Rattle.jsonc_sound.specs.Sound.{IsValueBefore}
-use Rattle.jsonc_sound.specs.TreeChanges.{Top, IsElement, leaves_of, property_of, DocumentChanged}
+use Rattle.jsonc_sound.specs.TreeChanges.{IsElement, leaves_of, property_of, DocumentChanged}
 use Rattle.jsonc_sound.specs.TriviaChanges.{AreTrivia, leaves_then, EndsInComment}
-use Rattle.jsonc_seams.specs.LooseLines.{is_loose, LinesEndLoosely}
 use Rattle.jsonc_seams.specs.SoundTrees.{SoundTree}
 use Rattle.jsonc_seams.specs.Spaces.{meet, space_then}
 

@@ -2,14 +2,13 @@
 use Rattle.std.specs.Prelude.{◌↔◌, ℕ, List, ◌++◌, Option, None, IsTrue, false}
 use Rattle.jsonc_text.specs.Options.{Options}
 use Rattle.jsonc_tree.specs.Content.{Content}
-use Rattle.jsonc_tree.specs.OrderedTree.{OrderedTree, leaves, followed_by}
+use Rattle.jsonc_tree.specs.OrderedTree.{OrderedTree, leaves, followed_by, Top}
 use Rattle.jsonc_build.specs.Lines.{LinesEnd, DocumentLinesEnd}
 use Rattle.jsonc_build.specs.Shape.{DocumentShaped, PrintsDocument}
 use Rattle.jsonc_sound.specs.Laws.{DiffersIn}
 use Rattle.jsonc_sound.specs.Sound.{Sound}
-use Rattle.jsonc_sound.specs.TreeChanges.{Top, leaves_of, DocumentChanged}
-use Rattle.jsonc_sound.specs.Rows.{RowKind, Last, nothing_yet, container_of}
-use Rattle.jsonc_sound.specs.RowEdits.{last_behind}
+use Rattle.jsonc_sound.specs.TreeChanges.{leaves_of, DocumentChanged}
+use Rattle.jsonc_sound.specs.Rows.{RowKind, Last, nothing_yet, container_of, last_behind}
 use Rattle.jsonc_seams.specs.Adjacent.{follower, LeavesEnd, LastEnds}
 use Rattle.jsonc_seams.specs.Alone.{ValueAlone, StretchAlone, may_come, DocumentAlone}
 

@@ -3,18 +3,16 @@ use Rattle.std.specs.Prelude.{◌≡◌, Bool, ◌↔◌, ℕ, true, false, List
 use Rattle.jsonc_text.specs.Options.{Options}
 use Rattle.jsonc_tree.specs.Content.{Content}
 use Rattle.jsonc_sound.specs.TriviaChanges.{AreTrivia, StretchChanged, EndsInComment}
-use Rattle.jsonc_tree.specs.OrderedTree.{OrderedTree, leaves, followed_by}
-use Rattle.jsonc_build.specs.Lines.{DocumentLinesEnd}
+use Rattle.jsonc_tree.specs.OrderedTree.{OrderedTree, leaves, followed_by, Top}
+use Rattle.jsonc_build.specs.Lines.{DocumentLinesEnd, is_loose, LinesEndLoosely, DocumentLinesEndLoosely}
 use Rattle.jsonc_build.specs.Shape.{DocumentShaped, PrintsDocument}
 use Rattle.jsonc_sound.specs.Laws.{DiffersIn}
-use Rattle.jsonc_sound.specs.Rows.{RowKind, Last, nothing_yet, container_of}
-use Rattle.jsonc_sound.specs.RowEdits.{last_behind}
+use Rattle.jsonc_sound.specs.Rows.{RowKind, Last, nothing_yet, container_of, last_behind}
 use Rattle.jsonc_sound.specs.Sound.{IsValueBefore}
-use Rattle.jsonc_sound.specs.TreeChanges.{Top, leaves_of, DocumentChanged}
+use Rattle.jsonc_sound.specs.TreeChanges.{leaves_of, DocumentChanged}
 use Rattle.jsonc_seams.specs.Adjacent.{LeavesEnd, last_printed}
 use Rattle.jsonc_seams.specs.Booleans.{is_hex_leaf, boolean_leaf}
 use Rattle.jsonc_seams.specs.Alone.{DocumentAlone, StretchAlone, may_come}
-use Rattle.jsonc_seams.specs.LooseLines.{is_loose, LinesEndLoosely, DocumentLinesEndLoosely}
 use Rattle.jsonc_seams.specs.Spaces.{meet, spaced}
 
 pub record SoundTree (o : Options) (tree : OrderedTree) : Type 0 where

@@ -2,13 +2,12 @@
 use Rattle.std.specs.Prelude.{◌≡◌, ℕ, false, List, [], ◌++◌, Option, None, Some, IsTrue}
 use Rattle.jsonc_text.specs.Options.{Options}
 use Rattle.jsonc_tree.specs.Content.{Content}
-use Rattle.jsonc_tree.specs.OrderedTree.{OrderedTree, leaves, followed_by}
+use Rattle.jsonc_tree.specs.OrderedTree.{OrderedTree, leaves, followed_by, Top}
 use Rattle.jsonc_build.specs.Lines.{LinesEnd}
 use Rattle.jsonc_sound.specs.Sound.{Sound, IsValueBefore}
-use Rattle.jsonc_sound.specs.TreeChanges.{Top, leaves_of, DocumentChanged}
+use Rattle.jsonc_sound.specs.TreeChanges.{leaves_of, DocumentChanged}
 use Rattle.jsonc_sound.specs.Laws.{DiffersIn}
-use Rattle.jsonc_sound.specs.Rows.{RowKind, Last, nothing_yet, container_of}
-use Rattle.jsonc_sound.specs.RowEdits.{last_behind}
+use Rattle.jsonc_sound.specs.Rows.{RowKind, Last, nothing_yet, container_of, last_behind}
 use Rattle.jsonc_seams.specs.Adjacent.{follower, LeavesEnd, LastEnds}
 use Rattle.jsonc_seams.specs.Alone.{RowAlone, StretchAlone, may_come}
 use Rattle.jsonc_seams.specs.Spaces.{meet, spaced}

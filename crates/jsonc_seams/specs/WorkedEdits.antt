@@ -1,14 +1,13 @@
 -- Two edits as stretches: a value put behind the last element of an array, and a stretch of a row taken out.
 use Rattle.std.specs.Prelude.{◌≡◌, ℕ, true, false, List, [], IsTrue}
 use Rattle.jsonc_text.specs.Options.{Options}
-use Rattle.jsonc_tree.specs.OrderedTree.{OrderedTree, none, more, leaves, followed_by}
+use Rattle.jsonc_tree.specs.OrderedTree.{OrderedTree, none, more, leaves, followed_by, Top}
+use Rattle.jsonc_build.specs.Lines.{LinesEndLoosely}
 use Rattle.jsonc_build.specs.Shape.{token_then}
-use Rattle.jsonc_sound.specs.Rows.{RowKind, of_values, nothing_yet, an_element, container_of}
-use Rattle.jsonc_sound.specs.RowEdits.{last_behind}
+use Rattle.jsonc_sound.specs.Rows.{RowKind, of_values, nothing_yet, an_element, container_of, last_behind}
 use Rattle.jsonc_sound.specs.Sound.{IsValueBefore}
-use Rattle.jsonc_sound.specs.TreeChanges.{Top, DocumentChanged}
+use Rattle.jsonc_sound.specs.TreeChanges.{DocumentChanged}
 use Rattle.jsonc_seams.specs.Alone.{may_come}
-use Rattle.jsonc_seams.specs.LooseLines.{LinesEndLoosely}
 use Rattle.jsonc_seams.specs.SoundTrees.{SoundTree}
 use Rattle.jsonc_seams.specs.Spaces.{space_then, spaced}
 

@@ -2,16 +2,15 @@
 ghost use Rattle.std.specs.Prelude.{◌≡◌, Bool, false, List, Option, ℕ};
 ghost use Rattle.jsonc_text.specs.Options.{Options};
 ghost use Rattle.jsonc_tree.specs.Content.{Content};
-ghost use Rattle.jsonc_tree.specs.OrderedTree.{OrderedTree};
+ghost use Rattle.jsonc_tree.specs.OrderedTree.{OrderedTree, Top};
 ghost use Rattle.jsonc_sound.specs.Rows.{RowKind};
-ghost use Rattle.jsonc_sound.specs.TreeChanges.{Top};
 ghost use Rattle.jsonc_seams.specs.Booleans.{StaysSoundWithBoolean};
 ghost use Rattle.jsonc_seams.specs.SoundTrees.{KeptWithoutComment, KeptByBooleans, SoundTreesComeApart, ParsedAreSound, SoundTreesPrint, KeptByStretches, KeptWhereNoneMeet, KeptByValues};
 ghost use Rattle.jsonc_seams.specs.InRows.{KeptByValueInProperty, KeptByValueInRoot, KeptByValueInRow, KeptWithoutCommentInRow, KeptWithSpace};
 ghost use Rattle.jsonc_seams.specs.WorkedEdits.{KeptByAppending, KeptByTakingOut};
-ghost use Rattle.jsonc_seams.specs.LooseLines.{LooseTriviaIsGap, PrintsLoosely, StrictIsLoose, StaysLoose, LooseLinesComeApart};
+ghost use Rattle.jsonc_seams.specs.LooseLines.{LooseTriviaIsGap, StaysLoose, LooseLinesComeApart};
 ghost use Rattle.jsonc_seams.specs.Worked.{WorkedSpaces};
-ghost use Rattle.jsonc_seams.specs.CommaLaws.{NoneMeetInRows, StaysSoundByTheRow, StretchesJoin, ValuesStandAlone, WholeValuesEnd, PropertiesStandAlone};
+ghost use Rattle.jsonc_seams.specs.CommaLaws.{NoneMeetInRows, StretchesJoin, ValuesStandAlone, WholeValuesEnd, PropertiesStandAlone};
 ghost use Rattle.jsonc_seams.specs.TriviaLaws.{KeepsNodes, StaysSoundWithTrivia, StaysSoundWithoutComment, StaysSoundWithSpaceForComment};
 ghost use Rattle.jsonc_seams.specs.SpaceLaws.{SpaceServes, StretchEnds, StaysSoundWhereNoneMeet, StaysSoundWithValue, StaysSoundWithSpaces};
 ghost use Rattle.jsonc_seams.specs.Laws.{ShapesComeApart, NodesPrint, LeavesComeApart, GoesByTheLast, SeamsServe, StaysSoundAtSeams, StaysSoundWithStretch};
@@ -51,11 +50,10 @@ pub fn literals_meet_across_spaces()
     ensures value { (o : Options) (t : OrderedTree) → StaysSoundWithValue o t }
 {}
 
-/// Where commas may not be missing no two literals without quotes meet, so a document stays sound by its
-/// rows alone; and stretches whose leaves end make one.
+/// Where commas may not be missing no two literals without quotes meet. Stretches whose leaves end, and
+/// in which none meet, make one; and a value or a property of the grammar's shape stands alone.
 pub fn rows_with_commas()
     ensures none { (o : Options) (kind : RowKind) (stretch rest : OrderedTree) → o.missing_commas ≡ false → NoneMeetInRows o kind stretch rest }
-    ensures sound { (o : Options) (t : OrderedTree) → o.missing_commas ≡ false → StaysSoundByTheRow o t }
     ensures join { (o : Options) (kind : RowKind) (first second : OrderedTree) → StretchesJoin o kind first second }
     ensures values { (o : Options) (top : Top) → ValuesStandAlone o top × WholeValuesEnd o top }
     ensures properties { (o : Options) (row : OrderedTree) → PropertiesStandAlone o row }
@@ -75,11 +73,10 @@ pub fn worked_spaces()
     ensures { WorkedSpaces }
 {}
 
-/// Where a line comment's newline stands behind whitespace, trivia is a gap all the same.
+/// Where a line comment's newline stands behind whitespace, trivia is a gap all the same; and line
+/// comments still end so where a value gives way, or one stretch follows another.
 pub fn loose_lines_are_gaps()
     ensures gaps { (o : Options) (loose : Bool) (t r : OrderedTree) → LooseTriviaIsGap o loose t r }
-    ensures prints { (o : Options) (t : OrderedTree) → PrintsLoosely o t }
-    ensures strict { (t : OrderedTree) → StrictIsLoose t }
     ensures changed { (t : OrderedTree) → StaysLoose t }
     ensures apart { (loose at_end : Bool) (first second : OrderedTree) → LooseLinesComeApart loose at_end first second }
 {}

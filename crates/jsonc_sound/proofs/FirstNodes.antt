@@ -4,14 +4,14 @@ use Rattle.jsonc_text.specs.Options.{Options}
 use Rattle.jsonc_text.specs.Plain.{Plain}
 use Rattle.jsonc_text.proofs.Basics.{clash}
 use Rattle.jsonc_tree.specs.Content.{Content}
-use Rattle.jsonc_tree.specs.OrderedTree.{OrderedTree, none, more}
+use Rattle.jsonc_tree.specs.OrderedTree.{OrderedTree, none, more, Top}
 use Rattle.jsonc_tree.specs.Values as values
 use Rattle.jsonc_tree.specs.Values.{is_passed_over, IsNameLeaf, ValueOf, HasNoValue}
 use Rattle.jsonc_build.specs.Lines.{is_line_comment, ends_line}
 use Rattle.jsonc_build.specs.Shape as shape
 use Rattle.jsonc_build.specs.Shape.{IsTrivia, IsLiteralBefore, IsNameBefore, ValueShaped}
 use Rattle.jsonc_build.proofs.ShapeTexts.{trivia_none}
-use Rattle.jsonc_sound.specs.TreeChanges.{Top, IsElement, ElementChanged, this_element, passed, later_element}
+use Rattle.jsonc_sound.specs.TreeChanges.{IsElement, ElementChanged, this_element, passed, later_element}
 
 -- the first node is the one that gives way, or it stays: it is passed over, or an element before that one
 pub data Meets (was now : Top) (i : ℕ) (content : Content) (below after new : OrderedTree) : Type 0 where

@@ -2,20 +2,15 @@
 use Rattle.std.proofs.Common.{ℕ, ◌≡◌, subst, refl, Bool, true, false, List, arith}
 use Rattle.jsonc_text.specs.Options.{Options}
 use Rattle.jsonc_tree.specs.Content.{Content}
-use Rattle.jsonc_tree.specs.OrderedTree.{OrderedTree, none, more}
+use Rattle.jsonc_tree.specs.OrderedTree.{OrderedTree, none, more, Top}
 use Rattle.jsonc_build.specs.Lines.{LinesEnd, DocumentLinesEnd}
 use Rattle.jsonc_build.specs.Shape as shape
-use Rattle.jsonc_build.specs.Shape.{ValueShaped, ElementsShaped, PropertiesShaped, PropertyShaped, DocumentShaped, token_then, printed_text}
+use Rattle.jsonc_build.specs.Shape.{ValueShaped, ElementsShaped, PropertiesShaped, PropertyShaped, DocumentShaped, printed_text}
 use Rattle.jsonc_sound.specs.Sound.{Sound, IsValueBefore}
-use Rattle.jsonc_sound.specs.Rows as rows
-use Rattle.jsonc_sound.specs.Rows.{RowKind, opening, container_of, GoesOn, IsRow}
-use Rattle.jsonc_sound.specs.SoundRows.{IsSoundValue, IsSoundRow}
-use Rattle.jsonc_sound.specs.TreeChanges.{Top, property_of, ElementChanged, this_element, passed, later_element, HeldChanged, ValueChanged, itself, in_array, in_object, DocumentChanged, in_root}
+use Rattle.jsonc_sound.specs.Laws.{IsSoundValue}
+use Rattle.jsonc_sound.specs.TreeChanges.{property_of, ElementChanged, this_element, passed, later_element, HeldChanged, ValueChanged, itself, in_array, in_object, DocumentChanged, in_root}
 use Rattle.jsonc_sound.proofs.FirstNodes.{here, over, beyond, meets_first, none_changed, no_element, value_element, name_element}
-use Rattle.jsonc_sound.proofs.Lines.{document_lines}
 use Rattle.jsonc_sound.proofs.Rows.{trivia_changed, token_changed, only_changed, separated_changed, closed_changed}
-use Rattle.jsonc_sound.proofs.RowShapes.{container_row, row_container}
-use Rattle.jsonc_sound.proofs.Shapes.{document_kept}
 
 -- line comments of what gives way
 row_lines_held : {x y : Top} {i : ℕ} {row new : OrderedTree} (at_end : Bool) → ElementChanged x y i row new → LinesEnd at_end row → LinesEnd false x.below
@@ -106,16 +101,3 @@ module _ (o : Options) where
 
   pub sound_value : {was now : Top} {path : List ℕ} {t u : OrderedTree} → Sound o t → DocumentChanged was now path t u → IsSoundValue o was
   sound_value s d = let v = document_held d s.shaped in record { following = v.0; shaped = v.1; lines = document_lines_held d s.lines }
-
-module _ (o : Options) (commas : o.missing_commas ≡ false) where
-  same_row : (kind : RowKind) (row : OrderedTree) → IsRow o kind (token_then (opening kind) row) → GoesOn o kind rows.nothing_yet row
-  same_row kind row (other, e, g) =
-      let same : other ≡ row = cc in
-      subst (GoesOn o kind rows.nothing_yet) same g
-
-  pub sound_row : {t u : OrderedTree} (kind : RowKind) (row : OrderedTree) {now : Top} {path : List ℕ} → Sound o t → DocumentChanged (container_of kind row) now path t u → IsSoundRow o kind row
-  sound_row kind row s d = let v = sound_value o s d in record { goes_on = same_row kind row (container_row o commas kind v.shaped); lines = v.lines.2 }
-
-  pub sound_with_row : {t u : OrderedTree} (kind : RowKind) (new : OrderedTree) {was : Top} {path : List ℕ} → Sound o t → DocumentChanged was (container_of kind new) path t u → IsSoundRow o kind new → Sound o u
-  sound_with_row kind new s d n =
-      record { shaped = document_kept o commas (λ r e. row_container o commas kind r (new, refl, n.goes_on)) d s.shaped; lines = document_lines (λ h. cc, tt, n.lines) d s.lines }

@@ -2,9 +2,9 @@
 use Rattle.std.proofs.Common.{ℕ, ◌≡◌, ◌∙◌, sym, ap, List, [], ◌++◌}
 use Rattle.std.proofs.lemmas.List.{append_assoc, append-nil}
 use Rattle.jsonc_tree.specs.Content.{Content}
-use Rattle.jsonc_tree.specs.OrderedTree.{OrderedTree, more, own_leaf, leaves}
+use Rattle.jsonc_tree.specs.OrderedTree.{OrderedTree, more, own_leaf, leaves, Top}
 use Rattle.jsonc_sound.specs.Laws.{DiffersIn}
-use Rattle.jsonc_sound.specs.TreeChanges.{Top, leaves_of, ElementChanged, this_element, passed, later_element, ValueChanged, itself, in_array, in_object, DocumentChanged, in_root}
+use Rattle.jsonc_sound.specs.TreeChanges.{leaves_of, ElementChanged, this_element, passed, later_element, ValueChanged, itself, in_array, in_object, DocumentChanged, in_root}
 
 node_assoc : (a b f s t : List Content) → a ++ (b ++ (f ++ (s ++ t))) ≡ (a ++ (b ++ f)) ++ (s ++ t)
 node_assoc a b f s t = ap (λ l. a ++ l) (sym (append_assoc b f (s ++ t))) ∙ sym (append_assoc a (b ++ f) (s ++ t))

@@ -5,16 +5,10 @@ pub mod Characters
 pub mod NumberEnds
 pub mod Followers
 pub mod Rows
-pub mod Shapes
 pub mod Lines
 pub mod Values
-pub mod TriviaShapes
-pub mod TriviaWords
 pub mod TriviaLines
 pub mod TriviaValues
 pub mod TriviaLeaves
-pub mod WordsEnd
-pub mod RowShapes
 pub mod JoinedRows
-pub mod RowEdits
 pub mod HeldValues

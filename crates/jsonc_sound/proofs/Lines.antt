@@ -1,8 +1,8 @@
 -- Line comments still end with their lines where a value gives way to another.
 use Rattle.std.proofs.Common.{ℕ, ◌≡◌, subst, refl, Bool, true, false, List, IsTrue}
-use Rattle.jsonc_tree.specs.OrderedTree.{OrderedTree}
+use Rattle.jsonc_tree.specs.OrderedTree.{OrderedTree, Top}
 use Rattle.jsonc_build.specs.Lines.{ends_line, LinesEnd, DocumentLinesEnd}
-use Rattle.jsonc_sound.specs.TreeChanges.{Top, ElementChanged, this_element, passed, later_element, ValueChanged, itself, in_array, in_object, DocumentChanged, in_root}
+use Rattle.jsonc_sound.specs.TreeChanges.{ElementChanged, this_element, passed, later_element, ValueChanged, itself, in_array, in_object, DocumentChanged, in_root}
 use Rattle.jsonc_sound.proofs.FirstNodes.{no_element, line_comment_over, line_end_over, line_end_same}
 
 -- where a newline is first in a row, it stays

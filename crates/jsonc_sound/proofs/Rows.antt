@@ -1,27 +1,18 @@
 -- The change of an element behind trivia and marks.
-use Rattle.std.proofs.Common.{ℕ, ◌≡◌, ◌∙◌, sym, ap, subst, refl, arith, chars}
+use Rattle.std.proofs.Common.{ℕ, ◌≡◌, sym, subst, refl, arith}
 use Rattle.jsonc_text.specs.Options.{Options}
-use Rattle.jsonc_text.specs.Text.{next}
-use Rattle.jsonc_tree.specs.Content.{Content, token, text_of}
-use Rattle.jsonc_tree.specs.OrderedTree.{OrderedTree, none, more}
+use Rattle.jsonc_tree.specs.Content.{Content, token}
+use Rattle.jsonc_tree.specs.OrderedTree.{OrderedTree, none, more, Top}
 use Rattle.jsonc_build.specs.Shape as shape
-use Rattle.jsonc_build.specs.Shape.{Trivia, Separated, Closed, token_then, printed_text}
-use Rattle.jsonc_build.proofs.ShapeTexts.{text_leaf, trivia_utf8}
-use Rattle.jsonc_sound.specs.TreeChanges.{Top, IsElement, ElementChanged}
+use Rattle.jsonc_build.specs.Shape.{Trivia, Separated, Closed, token_then}
+use Rattle.jsonc_sound.specs.TreeChanges.{IsElement, ElementChanged}
 use Rattle.jsonc_sound.proofs.FirstNodes.{here, over, beyond, meets_first, none_changed, no_element, trivia_over}
-use Rattle.jsonc_sound.proofs.Followers.{next_append}
 
 -- what a row goes on with has changed, and nothing before it
-pub record Carried (o : Options) (was now : Top) (i : ℕ) (row r new : OrderedTree) : Type 0 where
+pub record Carried (o : Options) (was now : Top) (i : ℕ) (r new : OrderedTree) : Type 0 where
   pub rest : OrderedTree
   pub trivia : Trivia o new rest
   pub changed : ElementChanged was now i r rest
-  pub begins : next (printed_text r) ≡ next (printed_text rest) → next (printed_text row) ≡ next (printed_text new)
-
-leaf_begins : (o : Options) (content : Content) (t u : OrderedTree) → shape.IsTrivia o content → next (printed_text t) ≡ next (printed_text u) → next (printed_text (more content none t)) ≡ next (printed_text (more content none u))
-leaf_begins o content t u h e =
-    let known = trivia_utf8 o content h in
-    ap next (text_leaf content t known) ∙ next_append (chars (text_of content)) (printed_text t) (printed_text u) e ∙ ap next (sym (text_leaf content u known))
 
 -- the first node of a row with a change of its element 0 is that element, if it is one
 pub record Only (was now : Top) (content : Content) (below after new : OrderedTree) : Type 0 where
@@ -30,12 +21,12 @@ pub record Only (was now : Top) (content : Content) (below after new : OrderedTr
   pub made : new ≡ more now.content now.below after
 
 module _ (o : Options) {was now : Top} where
-  pub trivia_changed : {i : ℕ} {t r new : OrderedTree} → Trivia o t r → ElementChanged was now i t new → Carried o was now i t r new
-  trivia_changed {new = new} shape.nothing e = record { rest = new; trivia = shape.nothing; changed = e; begins = λ h. h }
+  pub trivia_changed : {i : ℕ} {t r new : OrderedTree} → Trivia o t r → ElementChanged was now i t new → Carried o was now i r new
+  trivia_changed {new = new} shape.nothing e = record { rest = new; trivia = shape.nothing; changed = e }
   trivia_changed {i} {r = r} {new = new} (shape.trivia {content = content} {t = t} h g) e =
       elim (meets_first e) [
         | here a p b q f ↦ absurd (no_element content q (trivia_over o content h))
-        | over {rest = rest} q k f ↦ (let m = trivia_changed g k in record { rest = m.rest; trivia = subst (λ u. Trivia o u m.rest) (sym f) (shape.trivia h m.trivia); changed = m.changed; begins = λ s. leaf_begins o content t rest h (m.begins s) ∙ ap (λ u. next (printed_text u)) (sym f) })
+        | over {rest = rest} q k f ↦ (let m = trivia_changed g k in record { rest = m.rest; trivia = subst (λ u. Trivia o u m.rest) (sym f) (shape.trivia h m.trivia); changed = m.changed })
         | beyond a q k f ↦ absurd (no_element content q (trivia_over o content h))
       ]
 

@@ -6,10 +6,9 @@ use Rattle.jsonc_tree.specs.Content.{Content}
 use Rattle.jsonc_tree.specs.OrderedTree.{OrderedTree, none, more, followed_by}
 use Rattle.jsonc_nodes.specs.Kinds.{is_trivia}
 use Rattle.jsonc_build.specs.Shape as shape
-use Rattle.jsonc_build.specs.Shape.{Trivia, Separated, Closed, ElementsShaped, PropertiesShaped, token_then}
+use Rattle.jsonc_build.specs.Shape.{Trivia, token_then}
 use Rattle.jsonc_sound.specs.TreeChanges.{IsElement}
 use Rattle.jsonc_sound.specs.TriviaChanges.{AreTrivia, AreTriviaOf, leaves_then, LeavesChanged, given_way, come, later, deeper}
-use Rattle.jsonc_sound.proofs.FirstNodes.{value_element}
 
 -- a stretch may stand at the end of its row, if there is one or where it may come
 abbrev pub Fits : List Content → Bool → OrderedTree → Type 0
@@ -87,14 +86,6 @@ solid_element (Content.newline k) h = h
 solid_element (Content.comment s) h = h
 solid_element content h = refl
 
-pub solid_elements : {o : Options} {row : OrderedTree} → ElementsShaped o row → Solid row
-solid_elements (shape.last_element {content = content} v c) = solid_element content (value_element v)
-solid_elements (shape.element {content = content} v s e) = solid_element content (value_element v)
-
-pub solid_properties : {o : Options} {row : OrderedTree} → PropertiesShaped o row → Solid row
-solid_properties (shape.last_property p c) = refl
-solid_properties (shape.property p s e) = refl
-
 no_front : (was : List Content) (back : OrderedTree) → AreTrivia was → was ≢ [] → Solid (leaves_then was back) → ⊥
 no_front [] back h ne s = ne refl
 no_front (c ∷ cs) back h ne s = clash (is_trivia c) s h.0
@@ -159,23 +150,4 @@ module _ (o : Options) (was now : List Content) (old : AreTrivia was) (allowed :
       elim (trivia_passed g refl h n) [
         | inl i ↦ inl i
         | inr m ↦ (let rest = leaf_behind m.2 in inr (rest.0, subst (Trivia o new) rest.1 m.1, rest.2, carried.over_it (subst (N (token_then c u)) rest.1 m.3)))
-      ]
-
-  pub separated_passed : {t r new : OrderedTree} → Separated o t r → Solid r → Open was now false t new → N t new → Passed was now false N (Separated o) r new
-  separated_passed (shape.comma g h) s k n =
-      elim (marked_passed g k n) [
-        | inl i ↦ inl (shape.comma i h)
-        | inr m ↦ elim (trivia_passed h s m.2 m.3) [ inl i ↦ inl (shape.comma m.1 i) | inr l ↦ inr (l.0, shape.comma m.1 l.1, l.2, l.3) ]
-      ]
-  separated_passed (shape.no_comma x g) s k n = elim (trivia_passed g s k n) [ inl i ↦ inl (shape.no_comma x i) | inr l ↦ inr (l.0, shape.no_comma x l.1, l.2, l.3) ]
-
-  pub closing_passed : {b : ℕ} {t new : OrderedTree} → Trivia o t (token_then b none) → Open was now false t new → N t new → Trivia o new (token_then b none)
-  closing_passed g k n = elim (marked_passed g k n) [ inl i ↦ i | inr m ↦ absurd (none_open m.2) ]
-
-  pub closed_passed : {b : ℕ} {t new : OrderedTree} → Closed o b t → Open was now false t new → N t new → Closed o b new
-  closed_passed (shape.plain g) k n = shape.plain (closing_passed g k n)
-  closed_passed (shape.trailing_comma x g h) k n =
-      elim (marked_passed g k n) [
-        | inl i ↦ shape.trailing_comma x i h
-        | inr m ↦ shape.trailing_comma x m.1 (closing_passed h m.2 m.3)
       ]

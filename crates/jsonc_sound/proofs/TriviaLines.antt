@@ -1,14 +1,24 @@
 -- Line comments still end with their lines where a stretch that ends in a comment leaves.
-use Rattle.std.proofs.Common.{◌≡◌, subst, refl, Bool, true, false, List, [], IsTrue}
-use Rattle.jsonc_text.specs.Options.{Options}
+use Rattle.std.proofs.Common.{◌≡◌, subst, refl, Bool, true, false, List, [], IsTrue, ◌∷◌, ◌++◌}
 use Rattle.jsonc_tree.specs.Content.{Content}
 use Rattle.jsonc_tree.specs.OrderedTree.{OrderedTree, none, more, followed_by}
-use Rattle.jsonc_build.specs.Lines.{ends_line, LinesEnd, DocumentLinesEnd}
-use Rattle.jsonc_sound.specs.TriviaChanges.{leaves_then, LeavesChanged, given_way, come, later, deeper, StretchChanged, in_root, inside, EndsInComment}
+use Rattle.jsonc_build.specs.Lines.{is_line_comment, ends_line, LinesEnd, DocumentLinesEnd}
+use Rattle.jsonc_sound.specs.TriviaChanges.{leaves_then, LeavesChanged, given_way, come, later, deeper, StretchChanged, in_root, inside, EndsInComment, one_comment, line_comment}
 use Rattle.jsonc_sound.proofs.FirstNodes.{line_end_same}
-use Rattle.jsonc_sound.specs.TriviaLaws.{StaysSoundWithout}
-use Rattle.jsonc_sound.proofs.TriviaShapes.{document_kept}
-use Rattle.jsonc_sound.proofs.TriviaWords.{LinesEndInOld, front_lines, in_old, old_carried, old_words}
+
+-- what follows a stretch that ends in a line comment
+lines_taken : (at_end : Bool) (cs : List Content) (back : OrderedTree) → LinesEnd at_end (leaves_then cs back) → LinesEnd at_end back
+lines_taken at_end [] back l = l
+lines_taken at_end (c ∷ cs) back l = lines_taken at_end cs back l.2
+
+line_behind : (at_end : Bool) (front : List Content) (c : Content) (back : OrderedTree) → IsTrue (is_line_comment c) → LinesEnd at_end (leaves_then (front ++ c ∷ []) back) → IsTrue (ends_line at_end back)
+line_behind at_end [] c back h l = l.0 h
+line_behind at_end (d ∷ front) c back h l = line_behind at_end front c back h l.2
+
+-- where the stretch leaves, a line that ended before it ends
+front_lines : (at_end : Bool) {was : List Content} (back : OrderedTree) → EndsInComment was → LinesEnd at_end (leaves_then was back) → LinesEnd at_end back × (IsTrue (ends_line at_end (leaves_then was back)) → IsTrue (ends_line at_end back))
+front_lines at_end back one_comment l = (l.2, λ h. cc)
+front_lines at_end back (line_comment front c h) l = (lines_taken at_end (front ++ c ∷ []) back l, λ e. line_behind at_end front c back h l)
 
 -- the lines of the one row end, and the other begins with a line's end if the one does
 abbrev LinesKept : Bool → OrderedTree → OrderedTree → Type 0
@@ -39,8 +49,3 @@ module _ {was : List Content} (ends : EndsInComment was) where
   document_lines (inside {row = row} {new = new} h) (below, same, l) =
       let first : below ≡ row = cc in
       (new, refl, (row_lines true h (subst (LinesEnd true) first l)).0)
-
--- so without a comment a sound document is sound
-pub stays_sound_without : (o : Options) (t : OrderedTree) → o.missing_commas ≡ false → StaysSoundWithout o t
-stays_sound_without o t commas s was u k old ends =
-    record { shaped = document_kept o commas was [] old tt LinesEndInOld old_carried (old_words o was old ends commas tt) (in_old s.lines) k s.shaped; lines = document_lines ends k s.lines }

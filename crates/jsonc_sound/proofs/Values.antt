@@ -3,14 +3,14 @@ use Rattle.std.proofs.Common.{ℕ, ◌≡◌, sym, subst, refl, List, Some, arit
 use Rattle.jsonc_text.specs.Options.{Options}
 use Rattle.jsonc_text.specs.Plain.{Plain, Items, item, Members, member}
 use Rattle.jsonc_tree.specs.Content.{Content}
-use Rattle.jsonc_tree.specs.OrderedTree.{OrderedTree}
+use Rattle.jsonc_tree.specs.OrderedTree.{OrderedTree, Top}
 use Rattle.jsonc_tree.specs.Values as values
 use Rattle.jsonc_tree.specs.Values.{ValueOf, ItemsOf, MembersOf, PropertyOf, HoldsValue, DocumentValueOf}
 use Rattle.jsonc_sound.specs.Changes as changes
 use Rattle.jsonc_sound.specs.Changes.{ItemChanged, MemberChanged, Changed}
 use Rattle.jsonc_sound.specs.Laws.{HasChangedValue}
 use Rattle.jsonc_sound.specs.Sound.{HasValue}
-use Rattle.jsonc_sound.specs.TreeChanges.{Top, property_of, ElementChanged, HeldChanged, ValueChanged, itself, in_array, in_object, DocumentChanged, in_root}
+use Rattle.jsonc_sound.specs.TreeChanges.{property_of, ElementChanged, HeldChanged, ValueChanged, itself, in_array, in_object, DocumentChanged, in_root}
 use Rattle.jsonc_sound.proofs.FirstNodes.{here, over, beyond, meets_first, none_changed, no_element, value_of_element, name_leaf_element}
 
 module _ (o : Options) where

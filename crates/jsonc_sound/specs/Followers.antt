@@ -1,12 +1,10 @@
 -- What may follow every value in a row.
-use Rattle.std.specs.Prelude.{ℕ, ◌≡◌, Bool, List, ◌||◌, ◌==◌, IsTrue}
+use Rattle.std.specs.Prelude.{ℕ, Bool, List, ◌||◌, ◌==◌, IsTrue}
 use Rattle.jsonc_text.specs.Options.{Options}
 use Rattle.jsonc_text.specs.Text.{next, end_or}
 use Rattle.jsonc_text.specs.Gaps.{is_blank}
-use Rattle.jsonc_tree.specs.Content.{property}
-use Rattle.jsonc_build.specs.Shape.{PropertyShaped}
 use Rattle.jsonc_sound.specs.Sound.{IsValueBefore}
-use Rattle.jsonc_sound.specs.TreeChanges.{Top}
+use Rattle.jsonc_tree.specs.OrderedTree.{Top}
 
 -- a blank, `/`, `,`, `]` or `}`: each literal ends before it
 abbrev pub ends_literals : ℕ → Bool
@@ -19,7 +17,3 @@ EndsLiterals r = IsTrue (end_or ends_literals (next r))
 -- the node is a value before each such text
 abbrev pub StandsInRows : Options → Top → Type 0
 StandsInRows o top = (r : List ℕ) → EndsLiterals r → IsValueBefore o top r
-
--- the node is a property, with a row that is one before each such text
-abbrev pub PropertyStandsInRows : Options → Top → Type 0
-PropertyStandsInRows o top = (top.content ≡ property) × ((r : List ℕ) → EndsLiterals r → PropertyShaped o top.below r)

@@ -1,17 +1,24 @@
 -- Laws of changes: what is said of each change of a document.
-use Rattle.std.specs.Prelude.{◌≡◌, List, ℕ, ◌++◌, Some}
+use Rattle.std.specs.Prelude.{◌≡◌, false, List, ℕ, ◌++◌, Some}
 use Rattle.jsonc_text.specs.Options.{Options}
 use Rattle.jsonc_text.specs.Plain.{Plain}
 use Rattle.jsonc_tree.specs.Content.{Content}
-use Rattle.jsonc_tree.specs.OrderedTree.{OrderedTree, leaves}
+use Rattle.jsonc_tree.specs.OrderedTree.{OrderedTree, leaves, Top}
 use Rattle.jsonc_tree.specs.Values.{DocumentValueOf}
+use Rattle.jsonc_build.specs.Lines.{LinesEnd}
 use Rattle.jsonc_sound.specs.Changes.{Changed}
-use Rattle.jsonc_sound.specs.Sound.{Sound, HasValue, IsNewValue}
-use Rattle.jsonc_sound.specs.TreeChanges.{Top, leaves_of, DocumentChanged}
+use Rattle.jsonc_sound.specs.Sound.{Sound, IsValueBefore, HasValue}
+use Rattle.jsonc_sound.specs.TreeChanges.{leaves_of, DocumentChanged}
 
--- where a value of the document, if it is sound, gives way to a node that may stand there, the document that this makes is sound
-abbrev pub StaysSound : Options → OrderedTree → Type 0
-StaysSound o t = Sound o t → (was now : Top) (path : List ℕ) (u : OrderedTree) (v : Plain) → DocumentChanged was now path t u → IsNewValue o now v → Sound o u
+-- the node is a value before some text, and its line comments end with their lines
+pub record IsSoundValue (o : Options) (top : Top) : Type 0 where
+  pub following : List ℕ
+  pub shaped : IsValueBefore o top following
+  pub lines : LinesEnd false top.below
+
+-- each value of the document that can give way, if this is sound, is such a node
+abbrev pub HoldsSoundValues : Options → OrderedTree → Type 0
+HoldsSoundValues o t = Sound o t → (was now : Top) (path : List ℕ) (u : OrderedTree) → DocumentChanged was now path t u → IsSoundValue o was
 
 -- what gave way had a value, and the document u has the value x, but that at the path this one has given way to v
 abbrev pub HasChangedValue : Options → Top → List ℕ → OrderedTree → Plain → Plain → Type 0

@@ -8,5 +8,3 @@ pub mod TriviaChanges
 pub mod TriviaLaws
 pub mod Rows
 pub mod RowLaws
-pub mod RowEdits
-pub mod SoundRows

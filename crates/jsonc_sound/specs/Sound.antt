@@ -2,11 +2,10 @@
 use Rattle.std.specs.Prelude.{List, ℕ, [], false}
 use Rattle.jsonc_text.specs.Options.{Options}
 use Rattle.jsonc_text.specs.Plain.{Plain}
-use Rattle.jsonc_tree.specs.OrderedTree.{OrderedTree}
+use Rattle.jsonc_tree.specs.OrderedTree.{OrderedTree, Top}
 use Rattle.jsonc_tree.specs.Values.{ValueOf}
 use Rattle.jsonc_build.specs.Lines.{LinesEnd, DocumentLinesEnd}
 use Rattle.jsonc_build.specs.Shape.{DocumentShaped, ValueShaped}
-use Rattle.jsonc_sound.specs.TreeChanges.{Top}
 
 -- the tree of a document that has the shape of the grammar, whose line comments end with their lines
 pub record Sound (o : Options) (tree : OrderedTree) : Type 0 where

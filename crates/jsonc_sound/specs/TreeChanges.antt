@@ -1,13 +1,8 @@
 -- The change of one value of an ordered tree, at a path of places among elements.
 use Rattle.std.specs.Prelude.{ℕ, suc, not, List, [], ◌∷◌, ◌++◌, IsTrue}
 use Rattle.jsonc_tree.specs.Content.{Content, root, array, object, property}
-use Rattle.jsonc_tree.specs.OrderedTree.{OrderedTree, none, more, own_leaf, leaves}
+use Rattle.jsonc_tree.specs.OrderedTree.{OrderedTree, Top, none, more, own_leaf, leaves}
 use Rattle.jsonc_tree.specs.Values.{is_passed_over}
-
--- a node: what it is, and the row below it
-pub record Top : Type 0 where
-  pub content : Content
-  pub below : OrderedTree
 
 -- a node that is neither trivia nor a token: a value, a property or its name
 abbrev pub IsElement : Content → Type 0

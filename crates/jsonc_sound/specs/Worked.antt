@@ -1,9 +1,9 @@
 -- A worked document: `{a:[1,_]}`, with a node in the place of the `_`.
 use Rattle.std.specs.Prelude.{[], ◌∷◌, codes}
 use Rattle.jsonc_tree.specs.Content.{root, object, array, property, word, number}
-use Rattle.jsonc_tree.specs.OrderedTree.{OrderedTree, none, more}
+use Rattle.jsonc_tree.specs.OrderedTree.{OrderedTree, none, more, Top}
 use Rattle.jsonc_build.specs.Shape.{token_then}
-use Rattle.jsonc_sound.specs.TreeChanges.{Top, IsElement, DocumentChanged}
+use Rattle.jsonc_sound.specs.TreeChanges.{IsElement, DocumentChanged}
 
 -- the row of its array
 abbrev pub one_and : Top → OrderedTree

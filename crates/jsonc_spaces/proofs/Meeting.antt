@@ -1,31 +1,26 @@
 -- What stands nearest among the children of a row is what the leaves of the row print last, or first.
-use Rattle.std.proofs.Common.{ℕ, ◌≡◌, ◌∙◌, sym, ap, subst, refl, Bool, true, false, cond, ◌||◌, ◌&&◌, List, [], ◌∷◌, ◌++◌, reverse, Option, Some, None, is_some, take, IsTrue, chars, rules, append-nil, if◌then◌else◌}
+use Rattle.std.proofs.Common.{ℕ, ◌≡◌, ◌∙◌, sym, ap, subst, refl, Bool, true, false, cond, ◌||◌, ◌&&◌, List, [], ◌∷◌, ◌++◌, reverse, Option, Some, None, is_some, take, IsTrue, append-nil, if◌then◌else◌}
 use Rattle.std.specs.Option.{option_or}
 use Rattle.std.proofs.lemmas.List.{append_assoc, reverse-append}
 use Rattle.std.proofs.lemmas.List.Folds.{find-append}
-use Rattle.std.proofs.lemmas.Str.{chars-IsAscii}
 use Rattle.jsonc_text.specs.Options.{Options}
-use Rattle.jsonc_text.specs.Text.{next, starts}
-use Rattle.jsonc_text.specs.Lexemes as lexemes
-use Rattle.jsonc_text.specs.Lexemes.{LexemeKind, Lexeme}
-use Rattle.jsonc_text.specs.Grammar.{may_name}
-use Rattle.jsonc_text.proofs.Begins.{IsLiteral, begins_literal, lexeme_begins}
-use Rattle.jsonc_tree.specs.Content.{Content, property, is_container, text_of}
+use Rattle.jsonc_text.specs.Text.{starts}
+use Rattle.jsonc_tree.specs.Content.{Content, property, is_container}
 use Rattle.jsonc_tree.specs.OrderedTree.{OrderedTree, none, more, own_leaf, leaves, Shows, shows_none, shows_more}
 use Rattle.jsonc_tree.specs.Siblings.{first, row_of, siblings_after}
 use Rattle.jsonc_tree.specs.Tree.{Node, content_at, children_at, place_at}
 use Rattle.jsonc_build.specs.Shape as shape
-use Rattle.jsonc_build.specs.Shape.{Trivia, IsLiteralBefore, IsNameBefore, token_then}
+use Rattle.jsonc_build.specs.Shape.{Trivia, IsLiteralBefore}
 use Rattle.jsonc_sound.specs.Rows as rows
-use Rattle.jsonc_sound.specs.Rows.{RowKind, opening, closing, Last}
+use Rattle.jsonc_sound.specs.Rows.{RowKind, closing, Last}
 use Rattle.jsonc_seams.specs.Adjacent.{first_char, or_else, last_printed}
 use Rattle.jsonc_seams.specs.Alone as alone
 use Rattle.jsonc_seams.specs.Alone.{ValueAlone, RowAlone, PropertyAlone, StretchAlone}
 use Rattle.jsonc_seams.specs.Spaces.{is_bare, is_bare_leaf, first_printed, meet}
 use Rattle.jsonc_seams.proofs.Commas.{none_meet}
-use Rattle.jsonc_seams.proofs.RowsWithin.{LeafPrints}
+use Rattle.jsonc_seams.proofs.RowsWithin.{LeafPrints, literal_prints, name_prints, ends_print, opening_print, closing_print, row_ends}
 use Rattle.jsonc_seams.proofs.Spaces.{own_last, first_append, last_append}
-use Rattle.jsonc_seams.proofs.Texts.{literal_leaf, name_leaf, opening_first, closing_first}
+use Rattle.jsonc_seams.proofs.Texts.{literal_leaf, name_leaf}
 use Rattle.jsonc_spaces.specs.Due.{prints, prints_at, nearest, beginning_in, begins_bare, ends_bare, is_bare_at, seen_before, behind_holder, due_between}
 use Rattle.jsonc_spaces.proofs.Whole as whole
 use Rattle.jsonc_spaces.proofs.Whole.{IsWhole, Whole, row_whole, stretch_whole}
@@ -47,33 +42,6 @@ agree_bare : (bare : Option ℕ → Bool) → bare None ≡ false → (x : Optio
 agree_bare bare e x None h = ap is_bare_leaf h ∙ sym e
 agree_bare bare e x (Some m) h = ap is_bare_leaf h.1 ∙ h.2
 
--- literals and names print something
-any_start : (p : ℕ → Bool) (n : Option ℕ) → IsTrue (starts p n) → IsTrue (starts (λ c. true) n)
-any_start p None h = h
-any_start p (Some c) h = refl
-
-lexeme_prints : (o : Options) (k : LexemeKind) (s : List ℕ) → IsLiteral k → Lexeme o k (chars s ++ []) [] → IsTrue (starts (λ c. true) (next (chars s)))
-lexeme_prints o k s lit h = any_start begins_literal (next (chars s)) (subst (λ t. IsTrue (starts begins_literal (next t))) (append-nil (chars s)) (lexeme_begins o k (chars s ++ []) [] lit h))
-
-name_literal : (k : LexemeKind) → IsTrue (may_name k) → IsLiteral k
-name_literal (lexemes.word s) h = tt
-name_literal (lexemes.number s) h = tt
-name_literal (lexemes.keyword k) h = tt
-name_literal k h = cc
-
-literal_prints : (o : Options) (content : Content) → IsLiteralBefore o content [] → LeafPrints content
-literal_prints o (Content.string s) h = lexeme_prints o (lexemes.string h.0) s tt h.1.1
-literal_prints o (Content.number s) h = lexeme_prints o (lexemes.number (chars s)) s tt h.1
-literal_prints o (Content.boolean true) h = subst (λ t. IsTrue (starts (λ c. true) (next t))) (sym (chars-IsAscii (text_of (Content.boolean true)) (search rules))) refl
-literal_prints o (Content.boolean false) h = subst (λ t. IsTrue (starts (λ c. true) (next t))) (sym (chars-IsAscii (text_of (Content.boolean false)) (search rules))) refl
-literal_prints o Content.null h = subst (λ t. IsTrue (starts (λ c. true) (next t))) (sym (chars-IsAscii (text_of Content.null) (search rules))) refl
-literal_prints o content h = absurd h
-
-name_prints : (o : Options) (content : Content) → IsNameBefore o content [] → LeafPrints content
-name_prints o (Content.string s) h = literal_prints o (Content.string s) h
-name_prints o (Content.word s) h = lexeme_prints o h.1.2 s (name_literal h.1.2 h.1.3) h.1.4
-name_prints o content h = absurd h
-
 literal_no_container : (o : Options) (content : Content) → IsLiteralBefore o content [] → is_container content ≡ false
 literal_no_container o (Content.string s) h = refl
 literal_no_container o (Content.number s) h = refl
@@ -88,22 +56,9 @@ own_printed content h = ap (λ b. if b then Some content else None) h
 first_own : (content : Content) (rest : List Content) → LeafPrints content → first_printed (content ∷ rest) ≡ Some content
 first_own content rest h = ap (λ b. if b then Some content else first_printed rest) h
 
-mark_prints : (c : ℕ) → first_char (Content.token c) ≡ Some c → LeafPrints (Content.token c)
-mark_prints c e = subst (λ n. IsTrue (starts (λ d. true) n)) (sym e) refl
-
 -- what a row or two prints, by the second, or by the first
 last_of_both : (a b : List Content) {bare : Bool} → Printed (last_printed b) bare → Printed (last_printed (a ++ b)) bare
 last_of_both a b h = (h.0, last_append a b ∙ ap (λ x. or_else x (last_printed a)) h.1, h.2)
-
-first_of_both : (a b : List Content) {bare : Bool} → Printed (first_printed a) bare → Printed (first_printed (a ++ b)) bare
-first_of_both a b h = (h.0, first_append a b ∙ ap (λ x. or_else x (first_printed b)) h.1, h.2)
-
-some_behind : (a b : List Content) → IsTrue (is_some (first_printed b)) → IsTrue (is_some (first_printed (a ++ b)))
-some_behind a b h = subst (λ x. IsTrue (is_some x)) (sym (first_append a b)) (by (first_printed a))
-  where
-    by : (x : Option Content) → IsTrue (is_some (or_else x (first_printed b)))
-    by None = h
-    by (Some c) = refl
 
 -- a row's last node
 data EndsWith (content : Content) (below : OrderedTree) : OrderedTree → Type 0 where
@@ -113,7 +68,7 @@ data EndsWith (content : Content) (below : OrderedTree) : OrderedTree → Type 0
 module _ (o : Options) where
   -- containers begin and end with brackets, which are not bare
   row_last : {kind : RowKind} {last : Last} {row : OrderedTree} → RowAlone o kind last row → Printed (last_printed (leaves row)) false
-  row_last (alone.closes {kind = kind} m) = (Content.token (closing kind), own_printed (Content.token (closing kind)) (mark_prints (closing kind) (closing_first kind)), refl)
+  row_last (alone.closes {kind = kind} m) = (Content.token (closing kind), own_printed (Content.token (closing kind)) (closing_print o kind), refl)
   row_last (alone.trivia {content = content} {after = after} h g) = last_of_both (own_leaf content) (leaves after) (row_last g)
   row_last (alone.element {content = content} {below = below} {after = after} m p g) = last_of_both (own_leaf content) (leaves below ++ leaves after) (last_of_both (leaves below) (leaves after) (row_last g))
   row_last (alone.comma {after = after} g) = last_of_both (Content.token 0x2C ∷ []) (leaves after) (row_last g)
@@ -127,8 +82,8 @@ module _ (o : Options) where
   pub value_first : {content : Content} {below : OrderedTree} → ValueAlone o content below → Printed (first_printed (own_leaf content ++ leaves below)) (is_bare content)
   value_first (alone.literal {content = content} h) =
       subst (λ l. Printed (first_printed (l ++ [])) (is_bare content)) (sym (literal_leaf o content [] h)) (content, first_own content [] (literal_prints o content h), refl)
-  value_first (alone.an_array {row = row} g) = (Content.token 0x5B, first_own (Content.token 0x5B) (leaves row) (mark_prints 0x5B (opening_first rows.of_values)), refl)
-  value_first (alone.an_object {row = row} g) = (Content.token 0x7B, first_own (Content.token 0x7B) (leaves row) (mark_prints 0x7B (opening_first rows.of_properties)), refl)
+  value_first (alone.an_array {row = row} g) = (Content.token 0x5B, first_own (Content.token 0x5B) (leaves row) (opening_print o rows.of_values), refl)
+  value_first (alone.an_object {row = row} g) = (Content.token 0x7B, first_own (Content.token 0x7B) (leaves row) (opening_print o rows.of_properties), refl)
 
   -- a property ends with its value
   ends_last : {content : Content} {below row : OrderedTree} → ValueAlone o content below → EndsWith content below row → Printed (last_printed (leaves row)) (is_bare content)
@@ -279,10 +234,7 @@ module _ (ns : List Node) where
     meet_bare {xs} {ys} {t} {u} s w r v = ap (λ b. b && is_bare_leaf (first_printed (leaves u))) (front_bare s w) ∙ ap (λ b. ends_bare ns (nearest ns (reverse xs)) && b) (back_bare r v)
 
     -- and where none is found, none is printed
-    pub nothing_printed_front : {xs : List ℕ} {t : OrderedTree} → Shows ns xs t → Whole o t → nearest ns (reverse xs) ≡ None → last_printed (leaves t) ≡ None
-    nothing_printed_front {xs} {t} s w e = subst (Agree (ends_bare ns) (last_printed (leaves t))) e (last_agrees s w)
-
-    pub nothing_printed_back : {xs : List ℕ} {t : OrderedTree} → Shows ns xs t → Whole o t → nearest ns xs ≡ None → first_printed (leaves t) ≡ None
+    nothing_printed_back : {xs : List ℕ} {t : OrderedTree} → Shows ns xs t → Whole o t → nearest ns xs ≡ None → first_printed (leaves t) ≡ None
     nothing_printed_back {xs} {t} s w e = subst (Agree (begins_bare ns) (first_printed (leaves t))) e (first_agrees s w)
 
     -- where commas may not be missing nothing is due in a row that goes on
@@ -290,17 +242,11 @@ module _ (ns : List Node) where
         → (ends_bare ns (nearest ns (reverse xs)) && begins_bare ns (nearest ns ys)) ≡ false
     none_meet_in_row commas {kind} {mid = mid} {stretch = stretch} {rest = rest} s g r h = sym (meet_bare s (stretch_whole o g) r (row_whole o h)) ∙ none_meet o kind commas mid stretch rest g h
 
-    some_printed : {kind : RowKind} {last : Last} {row : OrderedTree} → RowAlone o kind last row → IsTrue (is_some (first_printed (leaves row)))
-    some_printed (alone.closes {kind = kind} m) = subst (λ x. IsTrue (is_some x)) (sym (first_own (Content.token (closing kind)) [] (mark_prints (closing kind) (closing_first kind)))) refl
-    some_printed (alone.trivia {content = content} {after = after} h g) = some_behind (own_leaf content) (leaves after) (some_printed g)
-    some_printed (alone.element {content = content} {below = below} {after = after} m p g) = some_behind (own_leaf content) (leaves below ++ leaves after) (some_behind (leaves below) (leaves after) (some_printed g))
-    some_printed (alone.comma {after = after} g) = some_behind (Content.token 0x2C ∷ []) (leaves after) (some_printed g)
-
     pub found_in_row : {kind : RowKind} {last : Last} {ys : List ℕ} {row : OrderedTree} → Shows ns ys row → RowAlone o kind last row → IsTrue (is_some (nearest ns ys))
     found_in_row {ys = ys} {row = row} s g = by (nearest ns ys) refl
       where
         by : (m : Option ℕ) → nearest ns ys ≡ m → IsTrue (is_some m)
-        by None e = subst (λ x. IsTrue (is_some x)) (nothing_printed_back s (row_whole o g) e) (some_printed g)
+        by None e = subst (λ x. IsTrue (is_some x)) (nothing_printed_back s (row_whole o g) e) (ends_print (row_ends o g))
         by (Some m) e = refl
 
     pub none_due : o.missing_commas ≡ false → (from to : ℕ) {kind : RowKind} {last mid : Last} {front back : OrderedTree} → Shows ns (take (place_at ns from) (row_of ns from)) front → StretchAlone o kind last front mid

@@ -48,10 +48,6 @@ module _ (o : Options) where
   whole_behind none u w = w
   whole_behind (more content below after) u w = whole_behind after u (more_back w)
 
-  pub whole_joined : (t u : OrderedTree) → Whole o t → Whole o u → Whole o (followed_by t u)
-  whole_joined none u w v = v
-  whole_joined (more content below after) u w v = more_whole (more_front w) (whole_joined after u (more_back w) v)
-
   -- rows of containers, of properties and of the root
   trivia_whole : {t r : OrderedTree} → Trivia o t r → Whole o r → Whole o t
   trivia_whole shape.nothing w = w

@@ -112,8 +112,8 @@ fn ends_bare<A: Allocator>(tree: &Tree<A>, found: Option<usize>) -> bool
     }
 }
 
-// The nearest sibling before a node that prints something.
-fn seen_before<A: Allocator>(tree: &Tree<A>, node: usize) -> Option<usize>
+/// The nearest sibling before a node that prints something.
+pub fn seen_before<A: Allocator>(tree: &Tree<A>, node: usize) -> Option<usize>
     requires { node < length tree.now.nodes }
     ensures seen { result ≡ seen_before tree.now.nodes node }
     ensures there { IsThere tree.now.nodes result }

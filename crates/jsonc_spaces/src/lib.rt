@@ -12,5 +12,5 @@ mod due;
 pub mod laws;
 mod put;
 
-pub use due::{due_before, due_behind, due_between, is_bare};
+pub use due::{due_before, due_behind, due_between, is_bare, seen_before};
 pub use put::{Space, Spaces, make_spaces, put_spaces};

@@ -11,7 +11,7 @@ use jsonc_tree::{Kind, Tree};
 use std::alloc::{AllocError, Allocator};
 
 /// A leaf of one space, which is nobody's child yet, and the node before which it is to stand.
-#[derive(Clone, Copy)]
+#[derive(Drop)]
 pub struct Space {
     /// The node.
     pub node: usize,
@@ -20,7 +20,7 @@ pub struct Space {
 }
 
 /// The spaces that a change needs.
-#[derive(Clone, Copy)]
+#[derive(Drop)]
 pub struct Spaces {
     /// Before what comes in.
     pub before: Option<Space>,

@@ -131,10 +131,10 @@ fn nodes_stand_in_their_rows(rt: HostRuntime) -> Result<(), Fail> {
 
 #[test]
 fn names_are_looked_up_or_want_memory(rt: HostRuntime) -> Result<(), Fail> {
-    for number in 0..17u64 {
+    for number in 0..15u64 {
         let heap = Refusing::at(rt.alloc(), number);
         let outcome = Outcome::within(node_names(&heap));
-        let wanted = if number < 16 {
+        let wanted = if number < 14 {
             Outcome::Wanted
         } else {
             Outcome::Answered

@@ -92,6 +92,8 @@ impl<'a, A: Allocator + Copy> GapComments<'a, A> {
     }
 
     /// Passes a lexeme in a range.
+    #[cold]
+    #[inline(never)]
     pub fn pass_lexeme(&mut self, range: Range) -> Result<(), AllocError>
         ensures { OnOk result (PassesLexeme self.old self.new range) }
     {

@@ -39,6 +39,7 @@ impl<'a, A: Allocator + Copy> Context<'a, A> {
     ghost use Rattle.jsonc_text.specs.Text.{Spans};
     ghost use Rattle.jsonc_text.specs.Tokens.{scanned_of};
     ghost use Rattle.jsonc_to_ast.specs.Context.{text_in, options_in, token_end, token_range, tokens_asked, comments_asked, Keeps, Finds, LeadsToFirst, LeadsAfterComma, LeadsToNext, PassesColon, IsToken, IsNameHere, IsNoComment, AtEnd, ClosesNone, Comes};
+    ghost use Rattle.jsonc_scan.specs.Scanner.{ComesNext};
     ghost use Rattle.jsonc_ast.specs.Views.{name_at};
     ghost use Rattle.jsonc_to_ast.specs.Containers.{misplaced_kind, begins};
     ghost use Rattle.jsonc_to_ast.specs.Told.{IsWrongName, StopsAnyhow, StopsAtColon, StopsInside};
@@ -176,7 +177,7 @@ impl<'a, A: Allocator + Copy> Context<'a, A> {
     }
 
     /// Collects the last token, where tokens are asked for.
-    #[cold]
+    #[inline(always)]
     fn collect(&mut self, token: &Token<'a, A>) -> Result<(), ParseError>
         ensures scanner { self.new.scanner ≡ self.old.scanner }
         ensures tokens { tokens_asked self.new ≡ tokens_asked self.old }
@@ -224,7 +225,7 @@ impl<'a, A: Allocator + Copy> Context<'a, A> {
 
     /// Notes that the gap before a lexeme, the last token, has ended, where comments are asked for
     /// apart.
-    #[cold]
+    #[inline(always)]
     fn end_gap(&mut self) -> Result<(), ParseError>
         ensures scanner { self.new.scanner ≡ self.old.scanner }
         ensures tokens { self.new.tokens ≡ self.old.tokens }
@@ -298,7 +299,7 @@ impl<'a, A: Allocator + Copy> Context<'a, A> {
         ensures told { IfErr result (StopsAnyhow self.old) }
     {
         loop {
-            let Some(token) = self.scanner.scan()? else {
+            let Some(token) = self.scanner.step()? else {
                 return Ok(None);
             };
             if !is_comment(&token) {
@@ -313,6 +314,46 @@ impl<'a, A: Allocator + Copy> Context<'a, A> {
             let comment = token;
             self.pass_comment(&comment)?;
         }
+    }
+
+    /// Whether an ASCII character comes next, with no gap before it, and nothing is collected.
+    #[inline(always)]
+    fn has_next(&self, character: u8) -> bool
+        requires { character < 128 }
+        ensures next { IsTrue result → ComesNext self.now.scanner character }
+        ensures tokens { IsTrue result → tokens_asked self.now ≡ false }
+        ensures comments { IsTrue result → comments_asked self.now ≡ false }
+    {
+        if self.collects() {
+            return false;
+        }
+        self.scanner.has_next(character)
+    }
+
+    /// Passes the comma that comes next, where nothing is collected.
+    #[inline(always)]
+    fn pass_next_comma(&mut self)
+        requires next { ComesNext self.old.scanner 0x2C }
+        requires tokens { tokens_asked self.old ≡ false }
+        requires comments { comments_asked self.old ≡ false }
+        ensures kept { Keeps self.old self.new }
+        ensures found { Finds (Gap (options_in self.old)) self.old self.new (Some Token.Comma) }
+        ensures collects { Collects self.old self.new }
+    {
+        self.scanner.pass_mark(b',');
+    }
+
+    /// Passes the colon that comes next, where nothing is collected.
+    #[inline(always)]
+    fn pass_next_colon(&mut self)
+        requires next { ComesNext self.old.scanner 0x3A }
+        requires tokens { tokens_asked self.old ≡ false }
+        requires comments { comments_asked self.old ≡ false }
+        ensures kept { Keeps self.old self.new }
+        ensures found { PassesColon self.old self.new }
+        ensures collects { Collects self.old self.new }
+    {
+        self.scanner.pass_mark(b':');
     }
 
     /// Passes what stands after an opening bracket: answers the token that the first element or
@@ -409,6 +450,10 @@ impl<'a, A: Allocator + Copy> Context<'a, A> {
         ensures stands { IfOk result (λ f. IfSome f (ClosesNone container)) }
         ensures comes { IfOk result (λ f. IfSome f (Comes self.old self.new)) }
     {
+        if self.has_next(b',') {
+            self.pass_next_comma();
+            return self.item_after_comma(container, start);
+        }
         let end = self.scanner.token_end();
         let Some(token) = self.scan()? else {
             return Err(self.unterminated(container, start));
@@ -424,6 +469,7 @@ impl<'a, A: Allocator + Copy> Context<'a, A> {
         }
         Ok(Some(token))
     }
+
     /// The name that the last token is, where the options allow it.
     #[inline(always)]
     pub fn name(&self, token: Token<'a, A>) -> Result<ObjectPropName<'a, A>, ParseError>
@@ -460,6 +506,10 @@ impl<'a, A: Allocator + Copy> Context<'a, A> {
         ensures fault { IfErr result (IsFault (text_in self.old)) }
         ensures told { IfErr result (StopsAtColon self.old) }
     {
+        if self.has_next(b':') {
+            self.pass_next_colon();
+            return Ok(());
+        }
         let Some(token) = self.scan()? else {
             return Err(self.fault_here(ParseErrorKind::ExpectedColonAfterObjectKey));
         };

@@ -1,5 +1,5 @@
 -- Values of one token.
-use Rattle.std.proofs.Common.{ℕ, ◌≤◌, ◌≡◌, ◌∙◌, sym, ap, subst, refl, arith, List, ◌∷◌, Option, Some, None, option_map, Result, Ok, Err, IfOk}
+use Rattle.std.proofs.Common.{ℕ, ◌≤◌, ◌≡◌, ◌∙◌, sym, ap, subst, refl, arith, List, ◌∷◌, Option, Some, None, option_map, Result, Ok, Err, IfOk, OnOk}
 use Rattle.jsonc_text.specs.declared.errors.ParseError.{ParseError}
 use Rattle.jsonc_text.specs.declared.tokens.Token.{Token}
 use Rattle.jsonc_text.specs.declared.tokens.Token.TheVariants as token
@@ -10,13 +10,14 @@ use Rattle.jsonc_text.specs.Plain.{Plain, depth, collapse}
 use Rattle.jsonc_text.specs.Tokens.{scanned_of}
 use Rattle.jsonc_text.specs.Words.{boolean, null}
 use Rattle.jsonc_value.specs.declared.value.JsonValue.{JsonValue}
+use Rattle.jsonc_ast.specs.Views.{Grown}
 use Rattle.jsonc_to_ast.specs.declared.context.Context.{Context}
 use Rattle.jsonc_to_ast.specs.Context.{options_in, IsToken}
 use Rattle.jsonc_to_ast.specs.Refusals.{here, after, NoLiteral}
 use Rattle.jsonc_to_ast.specs.Scanned.{leaf_value}
 use Rattle.jsonc_to_ast.proofs.NoValues.{bracket_token, brace_token}
 use Rattle.jsonc_to_ast.proofs.Refusals.{one_token}
-use Rattle.jsonc_to_value.specs.Reads.{Reads}
+use Rattle.jsonc_to_value.specs.Reads.{Reads, ReadsElement}
 use Rattle.jsonc_to_value.specs.Refusals.{NoValue, NoValueHere}
 use Rattle.jsonc_to_value.specs.Views.{plain}
 
@@ -78,3 +79,9 @@ module _ {A : Type 0} where
   pub leaf_nowhere : (c : Context A) (t : Token A) (count : ℕ) → IsToken c t → (t ≡ token.OpenBracket → ⊥) → (t ≡ token.OpenBrace → ⊥) → NoLiteral c → NoValueHere c count
   leaf_nowhere c t count at a b n =
       leaf_refused (options_in c) (here c) count n (λ u e. bracket_token t a (one_token c t at (punctuation 0x5B) u (refl, e))) (λ u e. brace_token t b (one_token c t at (punctuation 0x7B) u (refl, e)))
+
+  -- the value of the last token, put behind others, is an element
+  pub leaf_element : (c : Context A) (t : Token A) (v : JsonValue A) {X : Type 0} (xs ys : List (JsonValue A)) (count : ℕ) (r : Result X ParseError) → IsToken c t → Some (plain v) ≡ leaf_value (scanned_of t) → count ≤ 512
+      → OnOk r (Grown plain xs ys v) → OnOk r (ReadsElement c c count xs ys)
+  leaf_element c t v xs ys count (Err e) at is small grown = tt
+  leaf_element c t v xs ys count (Ok u) at is small grown = (v, fewer c c (Ok v) count small (leaf_reads c t (Some v) v at refl is), grown)

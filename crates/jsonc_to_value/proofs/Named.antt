@@ -1,7 +1,8 @@
 -- A property: its name, its colon and its value.
-use Rattle.std.proofs.Common.{ℕ, ◌≡◌, sym, subst, arith, List, Option, None, IsUtf8, inr}
+use Rattle.std.proofs.Common.{ℕ, ◌≡◌, sym, subst, arith, List, Option, None, Result, Ok, Err, OnOk, IsUtf8, inr}
 use Rattle.std.specs.Cow.{cow_str_bytes}
 use Rattle.std.specs.declared.borrow.CowStr.{CowStr}
+use Rattle.jsonc_text.specs.declared.errors.ParseError.{ParseError}
 use Rattle.jsonc_text.specs.declared.tokens.Token.{Token}
 use Rattle.jsonc_text.specs.Text.{rest}
 use Rattle.jsonc_text.specs.Gaps.{Gap}
@@ -14,9 +15,9 @@ use Rattle.jsonc_to_ast.specs.Refusals.{here, after, NoTokenAfter, NoColon, NoNa
 use Rattle.jsonc_to_ast.proofs.NoValues.{value_lexeme}
 use Rattle.jsonc_to_ast.proofs.Refusals.{only_here, nothing_at_end}
 use Rattle.jsonc_to_ast.proofs.Scans.{moved, kept_on}
-use Rattle.jsonc_to_value.specs.Reads.{Reads, ReadsProperty}
+use Rattle.jsonc_to_value.specs.Reads.{Reads, ReadsProperty, PutsProperty}
 use Rattle.jsonc_to_value.specs.Refusals.{NoValue, NoValueHere, NoPropertyHere}
-use Rattle.jsonc_to_value.specs.Views.{name_of}
+use Rattle.jsonc_to_value.specs.Views.{name_of, inserted}
 use Rattle.jsonc_to_value.proofs.Objects as objects
 
 module _ {A : Type 0} where
@@ -60,3 +61,9 @@ module _ {A : Type 0} where
             within = read.within;
             on = omega (arith, colon.spans.order, found.0.spans.order, e.scanner.order, read.on);
           }
+
+  -- it is put among the others
+  pub property_put : (c m : Context A) (k : CowStr A) (v : JsonValue A) {X : Type 0} (ps qs : List (CowStr A × JsonValue A)) (count : ℕ) (r : Result X ParseError) → ReadsProperty c m count (k, v) → OnOk r (qs ≡ inserted ps k v)
+      → OnOk r (PutsProperty c m count ps qs)
+  property_put c m k v ps qs count (Err e) read put = tt
+  property_put c m k v ps qs count (Ok u) read put = ((k, v), read, put)

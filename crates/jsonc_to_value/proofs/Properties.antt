@@ -10,7 +10,7 @@ use Rattle.jsonc_value.specs.declared.value.JsonValue.{JsonValue}
 use Rattle.jsonc_to_ast.specs.declared.container.Container.TheVariants.{Object}
 use Rattle.jsonc_to_ast.specs.declared.context.Context.{Context}
 use Rattle.jsonc_to_ast.specs.Context.{text_in, options_in, token_start, token_end, Keeps, IsBracket, Leads, ClosesNone, Comes}
-use Rattle.jsonc_ast.specs.Located.{Between, Ends}
+use Rattle.jsonc_ast.specs.Located.{Ends}
 use Rattle.jsonc_to_ast.specs.Refusals.{LeadsNowhere, LeadsOnlyTo, here, after, NothingFirst, NothingNext, OnlyFirst, OnlyNext}
 use Rattle.jsonc_to_ast.proofs.Loops.{AtHand, leads_hand, leads_on}
 use Rattle.jsonc_to_ast.proofs.NoValues.{properties_item}

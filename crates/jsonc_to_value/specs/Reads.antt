@@ -8,10 +8,11 @@ use Rattle.jsonc_text.specs.Text.{rest}
 use Rattle.jsonc_text.specs.Plain.{Plain, depth, collapse}
 use Rattle.jsonc_text.specs.Grammar.{IsValue, IsProperty, IsDocument}
 use Rattle.jsonc_value.specs.declared.value.JsonValue.{JsonValue}
+use Rattle.jsonc_ast.specs.Views.{Grown}
 use Rattle.jsonc_to_ast.specs.declared.context.Context.{Context}
 use Rattle.jsonc_to_ast.specs.Context.{text_in, options_in, token_end}
 use Rattle.jsonc_to_ast.specs.Refusals.{here}
-use Rattle.jsonc_to_value.specs.Views.{plain, name_of}
+use Rattle.jsonc_to_value.specs.Views.{plain, name_of, inserted}
 use Rattle.jsonc_to_value.specs.Refusals.{IsWithin}
 
 module _ {A : Type 0} where
@@ -23,6 +24,10 @@ module _ {A : Type 0} where
     pub within : depth value + count ≤ 512
     pub on : token_end old ≤ token_end new
 
+  -- such a value stands there, and one more of a list is that value
+  abbrev pub ReadsElement : Context A → Context A → ℕ → List (JsonValue A) → List (JsonValue A) → Type 0
+  ReadsElement old new count xs ys = (v : JsonValue A) × Reads old new count v × Grown plain xs ys v
+
   -- a property stands there, whose name has UTF-8 bytes, and its value is the same
   pub record ReadsProperty (old new : Context A) (count : ℕ) (p : CowStr A × JsonValue A) : Type 0 where
     pub value : Plain
@@ -31,6 +36,10 @@ module _ {A : Type 0} where
     pub collapsed : plain p.1 ≡ collapse value
     pub within : depth value + count ≤ 512
     pub on : token_end old ≤ token_end new
+
+  -- such a property stands there, and is put among the others
+  abbrev pub PutsProperty : Context A → Context A → ℕ → List (CowStr A × JsonValue A) → List (CowStr A × JsonValue A) → Type 0
+  PutsProperty old new count ps qs = (p : CowStr A × JsonValue A) × ReadsProperty old new count p × (qs ≡ inserted ps p.0 p.1)
 
   -- the text has this value, which is within, and what was found is that value collapsed
   abbrev pub IsValueOf : Options → List ℕ → Option (JsonValue A) → Type 0

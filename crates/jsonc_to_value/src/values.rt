@@ -7,12 +7,12 @@ ghost use Rattle.jsonc_text.specs.OptionsOf.{parse_options};
 ghost use Rattle.jsonc_text.specs.Plain.{array, object};
 ghost use Rattle.jsonc_text.specs.Tokens.{scanned_of};
 ghost use Rattle.jsonc_to_ast.specs.Context.{text_in, token_range, Keeps, IsToken, IsBracket, OpensNone};
-ghost use Rattle.jsonc_to_ast.specs.Refusals.{NoLiteral, Tells};
+ghost use Rattle.jsonc_to_ast.specs.Refusals.{NoLiteral, Tells, WantsMemory};
 ghost use Rattle.jsonc_to_ast.specs.Scanned.{leaf_value};
 ghost use Rattle.jsonc_to_ast.specs.Told.{IsTold, IsUnexpected, StopsAtContainer, StopsAtItem, StopsAtValue};
 ghost use Rattle.jsonc_to_ast.specs.declared.container.Container.TheVariants.{Object};
 ghost use Rattle.jsonc_ast.specs.Views.{name_at, Grown};
-ghost use Rattle.jsonc_to_value.specs.Reads.{Reads, ReadsProperty, IsValueOf};
+ghost use Rattle.jsonc_to_value.specs.Reads.{Reads, ReadsElement, PutsProperty, IsValueOf};
 ghost use Rattle.jsonc_to_value.specs.Refusals.{NoValueHere, NoPropertyHere, RefusesText};
 ghost use Rattle.jsonc_to_value.specs.Views.{plain, name_of, inserted, items_plain, members_plain};
 
@@ -24,10 +24,11 @@ use jsonc_to_ast::collect::CollectOptions;
 use jsonc_to_ast::container::{Container, unexpected};
 use jsonc_to_ast::context::Context;
 use jsonc_value::{JsonArray, JsonObject, JsonValue, Map};
-use std::alloc::{AllocError, Allocator};
+use std::alloc::Allocator;
 use std::borrow::CowStr;
 
 /// The value that a token is by itself.
+#[inline(always)]
 fn leaf<'a, A: Allocator>(token: Token<'a, A>) -> Option<JsonValue<'a, A>>
     ensures { option_map plain result ≡ leaf_value (scanned_of token.entry) }
 {
@@ -41,6 +42,7 @@ fn leaf<'a, A: Allocator>(token: Token<'a, A>) -> Option<JsonValue<'a, A>>
 }
 
 /// The value that the last token is by itself.
+#[inline(always)]
 fn parse_leaf<'a, A: Allocator + Copy>(
     context: &Context<'a, A>,
     token: Token<'a, A>,
@@ -105,27 +107,36 @@ fn object_of<'a, A: Allocator>(
 }
 
 /// One element more.
-fn push_value<'a, A: Allocator>(
+#[inline(always)]
+fn push_value<'a, A: Allocator + Copy>(
+    context: &Context<'a, A>,
     elements: &mut Vec<JsonValue<'a, A>, A>,
     value: JsonValue<'a, A>,
-) -> Result<(), AllocError>
-    ensures { OnOk result (Grown plain elements.old.items elements.new.items value.entry) }
+) -> Result<(), ParseError>
+    ensures grown { OnOk result (Grown plain elements.old.items elements.new.items value.entry) }
+    ensures memory { IfErr result WantsMemory }
+    ensures fault { IfErr result (IsFault (text_in context.now)) }
 {
-    elements.push(value)?;
+    let Ok(()) = elements.push(value) else {
+        return Err(context.out_of_memory());
+    };
     Ok(())
 }
 
 /// One property more, or another value of a name that is there.
-fn put_property<'a, A: Allocator>(
+fn put_property<'a, A: Allocator + Copy>(
+    context: &Context<'a, A>,
     properties: &mut Map<CowStr<'a, A>, JsonValue<'a, A>, A>,
     name: CowStr<'a, A>,
     value: JsonValue<'a, A>,
-) -> Result<(), AllocError>
-    ensures { OnOk result (properties.new ≡ inserted properties.old name.entry value.entry) }
+) -> Result<(), ParseError>
+    ensures put { OnOk result (properties.new ≡ inserted properties.old name.entry value.entry) }
+    ensures memory { IfErr result WantsMemory }
+    ensures fault { IfErr result (IsFault (text_in context.now)) }
 {
     match properties.insert(name, value) {
         Ok(_) => Ok(()),
-        Err(_) => Err(AllocError),
+        Err(_) => Err(context.out_of_memory()),
     }
 }
 
@@ -146,6 +157,7 @@ fn check_depth<'a, A: Allocator + Copy>(
 
 /// The value that begins with the last token, inside of so many containers.
 #[cycle(parse)]
+#[inline(always)]
 fn parse_value<'a, A: Allocator + Copy>(
     context: &mut Context<'a, A>,
     token: Token<'a, A>,
@@ -166,8 +178,39 @@ fn parse_value<'a, A: Allocator + Copy>(
     }
 }
 
+/// The element that begins with the last token, inside of so many containers, behind the others.
+/// A literal is made where it is to stand.
+#[cycle(parse)]
+#[inline(always)]
+fn parse_element<'a, A: Allocator + Copy>(
+    context: &mut Context<'a, A>,
+    elements: &mut Vec<JsonValue<'a, A>, A>,
+    token: Token<'a, A>,
+    count: usize,
+) -> Result<(), ParseError>
+    requires token { IsToken context.old token }
+    requires around { count ≤ 512 }
+    ensures kept { OnOk result (Keeps context.old context.new) }
+    ensures found { OnOk result (ReadsElement context.old context.new count elements.old.items elements.new.items) }
+    ensures refused { IfErr result (Tells (NoValueHere context.old count)) }
+    ensures fault { IfErr result (IsFault (text_in context.old)) }
+    ensures told { IfErr result (StopsAtValue context.old token.entry false count) }
+{
+    match token {
+        Token::String(string) => push_value(context, elements, JsonValue::String(string)),
+        Token::Number(number) => push_value(context, elements, JsonValue::Number(number)),
+        Token::Boolean(boolean) => push_value(context, elements, JsonValue::Boolean(boolean)),
+        Token::Null => push_value(context, elements, JsonValue::Null),
+        token => match parse_value(context, token, count) {
+            Ok(value) => push_value(context, elements, value),
+            Err(error) => Err(error),
+        },
+    }
+}
+
 /// The array that begins with the last token, a `[`.
 #[cycle(parse)]
+#[inline(never)]
 fn parse_array<'a, A: Allocator + Copy>(
     context: &mut Context<'a, A>,
     count: usize,
@@ -184,10 +227,7 @@ fn parse_array<'a, A: Allocator + Copy>(
     let mut elements = Vec::new(context.alloc);
     let mut next = context.first_item(Container::Array, None)?;
     while let Some(token) = next {
-        let value = parse_value(context, token, count + 1)?;
-        let Ok(()) = push_value(&mut elements, value) else {
-            return Err(context.out_of_memory());
-        };
+        parse_element(context, &mut elements, token, count + 1)?;
         next = context.next_item(Container::Array, None)?;
     }
     Ok(array_of(elements))
@@ -195,6 +235,7 @@ fn parse_array<'a, A: Allocator + Copy>(
 
 /// The object that begins with the last token, a `{`.
 #[cycle(parse)]
+#[inline(never)]
 fn parse_object<'a, A: Allocator + Copy>(
     context: &mut Context<'a, A>,
     count: usize,
@@ -211,26 +252,24 @@ fn parse_object<'a, A: Allocator + Copy>(
     let mut properties = Map::new(context.alloc);
     let mut next = context.first_item(Container::Object, None)?;
     while let Some(token) = next {
-        let (name, value) = parse_property(context, token, count + 1)?;
-        let Ok(()) = put_property(&mut properties, name, value) else {
-            return Err(context.out_of_memory());
-        };
+        parse_property(context, &mut properties, token, count + 1)?;
         next = context.next_item(Container::Object, None)?;
     }
     Ok(object_of(properties))
 }
 
-/// The property that begins with the last token, inside of so many containers.
+/// The property that begins with the last token, inside of so many containers, put among the others.
 #[cycle(parse)]
 fn parse_property<'a, A: Allocator + Copy>(
     context: &mut Context<'a, A>,
+    properties: &mut Map<CowStr<'a, A>, JsonValue<'a, A>, A>,
     token: Token<'a, A>,
     count: usize,
-) -> Result<(CowStr<'a, A>, JsonValue<'a, A>), ParseError>
+) -> Result<(), ParseError>
     requires token { IsToken context.old token }
     requires around { count ≤ 512 }
     ensures kept { OnOk result (Keeps context.old context.new) }
-    ensures found { IfOk result (ReadsProperty context.old context.new count) }
+    ensures found { OnOk result (PutsProperty context.old context.new count properties.old properties.new) }
     ensures refused { IfErr result (Tells (NoPropertyHere context.old count)) }
     ensures fault { IfErr result (IsFault (text_in context.old)) }
     ensures told { IfErr result (StopsAtItem Object context.old token.entry false count) }
@@ -241,7 +280,7 @@ fn parse_property<'a, A: Allocator + Copy>(
         return Err(context.fault_here(ParseErrorKind::ExpectedObjectValue));
     };
     let value = parse_value(context, token, count)?;
-    Ok((name, value))
+    put_property(context, properties, name, value)
 }
 
 /// Parses a text to its value.

@@ -9,6 +9,11 @@ pub data OrderedTree : Type 0 where
   none : OrderedTree
   more : Content → OrderedTree → OrderedTree → OrderedTree
 
+-- a node: what it is, and the row below it
+pub record Top : Type 0 where
+  pub content : Content
+  pub below : OrderedTree
+
 -- a leaf is its own only leaf
 abbrev pub own_leaf : Content → List Content
 own_leaf content = if is_container content then [] else content ∷ []

@@ -1,4 +1,4 @@
-use Rattle.jsonc_edit.specs.Replacing.{laid_top}
+use Rattle.jsonc_from_input.specs.Laid.{laid}
 use Rattle.jsonc_edit.proofs.GivingWay.{laid_element, in_place}
 use Rattle.jsonc_edit.proofs.NewPaths.{at_now}
 use Rattle.jsonc_edit.proofs.ReplacedValues.{spaced, spaced_at}
@@ -6,4 +6,4 @@ use Rattle.jsonc_edit.proofs.laws.replaced_values_take_the_path.Goals as goal
 
 pub returns : goal.returns
 returns c = λ old new n m l v tree g path at.
-    at_now g.spaced new (spaced old new n m (laid_top l v) tree g path at).tree n m (laid_top l v) (in_place g.spaced new n m (laid_top l v) g.place) (laid_element l v) path (spaced_at old new n m (laid_top l v) tree g path at)
+    at_now g.spaced new (spaced old new n m (laid l v) tree g path at).tree n m (laid l v) (in_place g.spaced new n m (laid l v) g.place) (laid_element l v) path (spaced_at old new n m (laid l v) tree g path at)

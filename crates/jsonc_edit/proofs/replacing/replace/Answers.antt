@@ -11,4 +11,4 @@ layout_for-requires-clause-container g c = (parent_there c.args.tree.now.nodes c
 pub returns-clause-written : goal.returns-clause-written
 returns-clause-written g c = λ p.
     answer_writes p _ _ c.args.node c.in-Some.container (layout_of c.in_ok-layout.layout) (plain c.args.value.now) c.len.ensures.tree (sym c.parent.ensures ∙ c.in-Some.is)
-    c.in_ok-layout.ensures c.replace_with.result c.replace_with.ensures.replaced
+    c.in_ok-layout.ensures.layout c.replace_with.result c.replace_with.ensures.replaced

@@ -1,12 +1,9 @@
 use Rattle.jsonc_seams.proofs.Apart.{value_alone, value_leaves, property_alone, property_leaves}
-use Rattle.jsonc_seams.proofs.Commas.{none_meet, sound_by_the_row, stretches_join}
+use Rattle.jsonc_seams.proofs.Commas.{none_meet, stretches_join}
 use Rattle.jsonc_seams.proofs.laws.rows_with_commas.Goals as goal
 
 pub returns-clause-none : goal.returns-clause-none
 returns-clause-none c = λ o kind stretch rest commas last mid s g. none_meet o kind commas mid stretch rest s g
-
-pub returns-clause-sound : goal.returns-clause-sound
-returns-clause-sound c = λ o t commas s kind. sound_by_the_row o kind commas t s
 
 pub returns-clause-join : goal.returns-clause-join
 returns-clause-join c = λ o kind first second last mid other to s r. stretches_join o kind first second s r

@@ -1,9 +1,10 @@
+use Rattle.jsonc_build.proofs.LooseLines.{document_loosens}
 use Rattle.jsonc_seams.proofs.Apart.{document_alone, document_leaves, document_shaped}
-use Rattle.jsonc_seams.proofs.LooseShapes.{document_printed}
+use Rattle.jsonc_build.proofs.ShapeValues.{document_printed}
 use Rattle.jsonc_seams.proofs.SoundTrees.{kept_by_stretches, kept_where_none_meet, kept_by_values}
 use Rattle.jsonc_seams.proofs.LooseComments.{kept_without_comment}
 use Rattle.jsonc_seams.proofs.Booleans.{shaped_with_boolean}
-use Rattle.jsonc_seams.proofs.LooseChanges.{document_loosens, document_loose}
+use Rattle.jsonc_seams.proofs.LooseChanges.{document_loose}
 use Rattle.jsonc_seams.proofs.laws.sound_trees.Goals as goal
 
 pub returns-clause-apart : goal.returns-clause-apart

@@ -1,8 +1,9 @@
-use Rattle.std.proofs.Common.{◌+◌, arith, subst, false, inr}
+use Rattle.std.proofs.Common.{◌∙◌, arith, subst, sym, ap, Some, false, inr}
 use Rattle.jsonc_text.specs.Tokens.{scanned_of}
 use Rattle.jsonc_text.specs.Grammar.{Separates, Closes}
 use Rattle.jsonc_to_ast.specs.Context.{options_in}
 use Rattle.jsonc_to_ast.specs.Refusals.{Tells}
+use Rattle.jsonc_to_ast.specs.Scanned.{leaf_value}
 use Rattle.jsonc_ast.specs.Views.{name_at}
 use Rattle.jsonc_to_value.specs.Views.{name_of}
 use Rattle.jsonc_to_ast.proofs.Loops.{AtHand, smaller, leads_on}
@@ -11,8 +12,10 @@ use Rattle.jsonc_to_ast.proofs.Scans.{kept_on}
 use Rattle.jsonc_to_value.specs.Refusals.{NoValueHere, NoPropertyHere}
 use Rattle.jsonc_to_value.proofs.Elements as elements
 use Rattle.jsonc_to_value.proofs.Properties as properties
-use Rattle.jsonc_to_value.proofs.Leaves.{fewer, leaf_nowhere}
-use Rattle.jsonc_to_value.proofs.Named.{name_missing, colon_missing, no_token_for_value, end_for_value, value_refused, property_read}
+use Rattle.jsonc_to_value.proofs.Plains.{string_plain, number_plain, boolean_plain, null_plain}
+use Rattle.jsonc_to_value.proofs.Leaves.{fewer, leaf_nowhere, leaf_element}
+use Rattle.jsonc_to_value.proofs.Named.{name_missing, colon_missing, no_token_for_value, end_for_value, value_refused, property_read, property_put}
+use Rattle.jsonc_value.specs.declared.value.JsonValue.TheVariants as JsonValue
 use Rattle.jsonc_to_ast.specs.declared.container.Container.TheVariants.{Array, Object}
 use Rattle.jsonc_to_ast.specs.Told.{StopsAtContainer, StopsAtItem}
 use Rattle.jsonc_to_ast.proofs.Standing.{first_stops, next_stops, element_comes, element_stops, property_comes, property_stops, name_stops, colon_missing_stops, no_token_stops, no_value_stops, value_told_stops, deep_container_stops, leaf_stops, room_apart}
@@ -27,19 +30,19 @@ parse_array-loop-next-init g t c =
 pub parse_array-loop-next-smaller : goal.parse_array-loop-next-smaller
 parse_array-loop-next-smaller g t c =
     let now = c.loop-next.context in
-    let mid = c.parse_value.new.context in
-    let read = c.in_ok-value.ensures in
-    smaller now mid c.next_item.new.self c.in-Some.token (subst (AtHand 0x5D now) c.in-Some.is c.loop-next.invariant.hand) (kept_on now mid c.next_item.new.self read.kept c.next_item.ensures.kept) read.found.on
+    let mid = c.parse_element.new.context in
+    let read = c.in_ok-parse_element.ensures in
+    smaller now mid c.next_item.new.self c.in-Some.token (subst (AtHand 0x5D now) c.in-Some.is c.loop-next.invariant.hand) (kept_on now mid c.next_item.new.self read.kept c.next_item.ensures.kept) read.found.1.on
     (leads_on (Separates (options_in mid)) (Closes (options_in mid) 0x5D) 0x5D mid c.next_item.new.self c.in_ok-next-2.next c.in_ok-next-2.ensures.found)
 
 pub parse_array-loop-next-preserved : goal.parse_array-loop-next-preserved
 parse_array-loop-next-preserved g t c =
     let now = c.loop-next.context in
-    let mid = c.parse_value.new.context in
-    let read = c.in_ok-value.ensures in
+    let mid = c.parse_element.new.context in
+    let read = c.in_ok-parse_element.ensures in
     let next = c.in_ok-next-2.ensures in
-    elements.elements_turn c.args.context.now now c.loop-next.next c.in-Some.token c.args.count c.loop-next.elements.items c.loop-next.invariant c.in-Some.is mid c.in_ok-value.value read.kept read.found
-    c.next_item.new.self c.in_ok-next-2.next c.push_value.new.elements.items c.next_item.ensures.kept next.found next.only next.stands next.comes c.in-Ok.ensures
+    elements.elements_turn c.args.context.now now c.loop-next.next c.in-Some.token c.args.count c.loop-next.elements.items c.loop-next.invariant c.in-Some.is mid read.found.0 read.kept read.found.1
+    c.next_item.new.self c.in_ok-next-2.next c.parse_element.new.elements.items c.next_item.ensures.kept next.found next.only next.stands next.comes read.found.2
 
 pub parse_array-returns-clause-found : goal.parse_array-returns-clause-found
 parse_array-returns-clause-found g t c =
@@ -55,22 +58,22 @@ parse_array-returns-in_err-next-clause-refused g t c =
     let old = c.args.context.now in
     err_of (Tells (NoValueHere old c.args.count)) c.in_err-next.field-0.0 c.from_residual-in_err-next.result c.from_residual-in_err-next.ensures.1 (still (elements.nothing_in_array old c.args.count c.requires.token) c.in_err-next.ensures.refused)
 
-pub parse_array-returns-in_err-value-clause-refused : goal.parse_array-returns-in_err-value-clause-refused
-parse_array-returns-in_err-value-clause-refused g t c =
+pub parse_array-returns-in_err-parse_element-clause-refused : goal.parse_array-returns-in_err-parse_element-clause-refused
+parse_array-returns-in_err-parse_element-clause-refused g t c =
     let old = c.args.context.now in
     let now = c.loop-next.context in
-    err_of (Tells (NoValueHere old c.args.count)) c.in_err-value.field-0.0 c.from_residual-in_err-value.result c.from_residual-in_err-value.ensures.1
+    err_of (Tells (NoValueHere old c.args.count)) c.in_err-parse_element.field-0.0 c.from_residual-in_err-parse_element.result c.from_residual-in_err-parse_element.ensures.1
     (still
-    (elements.element_refused old now c.loop-next.next c.in-Some.token c.args.count c.loop-next.elements.items c.loop-next.invariant c.in-Some.is) c.in_err-value.ensures.refused)
+    (elements.element_refused old now c.loop-next.next c.in-Some.token c.args.count c.loop-next.elements.items c.loop-next.invariant c.in-Some.is) c.in_err-parse_element.ensures.refused)
 
 pub parse_array-returns-in_err-next-2-clause-refused : goal.parse_array-returns-in_err-next-2-clause-refused
 parse_array-returns-in_err-next-2-clause-refused g t c =
     let old = c.args.context.now in
     let now = c.loop-next.context in
-    let read = c.in_ok-value.ensures in
+    let read = c.in_ok-parse_element.ensures in
     err_of (Tells (NoValueHere old c.args.count)) c.in_err-next-2.field-0.0 c.from_residual-in_err-next-2.result c.from_residual-in_err-next-2.ensures.1
     (still
-    (elements.next_refused old now c.loop-next.next c.in-Some.token c.args.count c.loop-next.elements.items c.loop-next.invariant c.in-Some.is c.parse_value.new.context c.in_ok-value.value read.kept read.found) c.in_err-next-2.ensures.refused)
+    (elements.next_refused old now c.loop-next.next c.in-Some.token c.args.count c.loop-next.elements.items c.loop-next.invariant c.in-Some.is c.parse_element.new.context read.found.0 read.kept read.found.1) c.in_err-next-2.ensures.refused)
 
 pub parse_object-loop-next-init : goal.parse_object-loop-next-init
 parse_object-loop-next-init g t c =
@@ -87,39 +90,39 @@ parse_object-returns-in_err-next-clause-refused g t c =
     let old = c.args.context.now in
     err_of (Tells (NoValueHere old c.args.count)) c.in_err-next.field-0.0 c.from_residual-in_err-next.result c.from_residual-in_err-next.ensures.1 (still (properties.nothing_in_object old c.args.count c.requires.token) c.in_err-next.ensures.refused)
 
-pub parse_object-returns-in_err-name-clause-refused : goal.parse_object-returns-in_err-name-clause-refused
-parse_object-returns-in_err-name-clause-refused g t c =
+pub parse_object-returns-in_err-parse_property-clause-refused : goal.parse_object-returns-in_err-parse_property-clause-refused
+parse_object-returns-in_err-parse_property-clause-refused g t c =
     let old = c.args.context.now in
     let now = c.loop-next.context in
-    err_of (Tells (NoValueHere old c.args.count)) c.in_err-name.field-0.0 c.from_residual-in_err-name.result c.from_residual-in_err-name.ensures.1
+    err_of (Tells (NoValueHere old c.args.count)) c.in_err-parse_property.field-0.0 c.from_residual-in_err-parse_property.result c.from_residual-in_err-parse_property.ensures.1
     (still
-    (properties.property_refused old now c.loop-next.next c.in-Some.token c.args.count c.loop-next.properties c.loop-next.invariant c.in-Some.is) c.in_err-name.ensures.refused)
+    (properties.property_refused old now c.loop-next.next c.in-Some.token c.args.count c.loop-next.properties c.loop-next.invariant c.in-Some.is) c.in_err-parse_property.ensures.refused)
 
 pub parse_object-returns-in_err-next-2-clause-refused : goal.parse_object-returns-in_err-next-2-clause-refused
 parse_object-returns-in_err-next-2-clause-refused g t c =
     let old = c.args.context.now in
     let now = c.loop-next.context in
-    let read = c.in_ok-name.ensures in
+    let read = c.in_ok-parse_property.ensures in
     err_of (Tells (NoValueHere old c.args.count)) c.in_err-next-2.field-0.0 c.from_residual-in_err-next-2.result c.from_residual-in_err-next-2.ensures.1
     (still
-    (properties.next_refused old now c.loop-next.next c.in-Some.token c.args.count c.loop-next.properties c.loop-next.invariant c.in-Some.is c.parse_property.new.context (c.in_ok-name.name, c.in_ok-name.value) read.kept read.found) c.in_err-next-2.ensures.refused)
+    (properties.next_refused old now c.loop-next.next c.in-Some.token c.args.count c.loop-next.properties c.loop-next.invariant c.in-Some.is c.parse_property.new.context read.found.0 read.kept read.found.1) c.in_err-next-2.ensures.refused)
 
 pub parse_object-loop-next-smaller : goal.parse_object-loop-next-smaller
 parse_object-loop-next-smaller g t c =
     let now = c.loop-next.context in
     let mid = c.parse_property.new.context in
-    let read = c.in_ok-name.ensures in
-    smaller now mid c.next_item.new.self c.in-Some.token (subst (AtHand 0x7D now) c.in-Some.is c.loop-next.invariant.hand) (kept_on now mid c.next_item.new.self read.kept c.next_item.ensures.kept) read.found.on
+    let read = c.in_ok-parse_property.ensures in
+    smaller now mid c.next_item.new.self c.in-Some.token (subst (AtHand 0x7D now) c.in-Some.is c.loop-next.invariant.hand) (kept_on now mid c.next_item.new.self read.kept c.next_item.ensures.kept) read.found.1.on
     (leads_on (Separates (options_in mid)) (Closes (options_in mid) 0x7D) 0x7D mid c.next_item.new.self c.in_ok-next-2.next c.in_ok-next-2.ensures.found)
 
 pub parse_object-loop-next-preserved : goal.parse_object-loop-next-preserved
 parse_object-loop-next-preserved g t c =
     let now = c.loop-next.context in
     let mid = c.parse_property.new.context in
-    let read = c.in_ok-name.ensures in
+    let read = c.in_ok-parse_property.ensures in
     let next = c.in_ok-next-2.ensures in
-    properties.properties_turn c.args.context.now now c.loop-next.next c.in-Some.token c.args.count c.loop-next.properties c.loop-next.invariant c.in-Some.is mid (c.in_ok-name.name, c.in_ok-name.value) read.kept read.found
-    c.next_item.new.self c.in_ok-next-2.next c.put_property.new.properties c.next_item.ensures.kept next.found next.only next.stands next.comes c.in-Ok.ensures
+    properties.properties_turn c.args.context.now now c.loop-next.next c.in-Some.token c.args.count c.loop-next.properties c.loop-next.invariant c.in-Some.is mid read.found.0 read.kept read.found.1
+    c.next_item.new.self c.in_ok-next-2.next c.parse_property.new.properties c.next_item.ensures.kept next.found next.only next.stands next.comes read.found.2
 
 pub parse_object-returns-clause-found : goal.parse_object-returns-clause-found
 parse_object-returns-clause-found g t c =
@@ -162,8 +165,10 @@ parse_property-returns-clause-found g t c =
     let colon = c.in_ok-pass_colon.ensures in
     let read = c.in_ok-token.ensures in
     let name = c.name_text-name in
-    property_read c.args.context.now c.pass_colon.new.self (name_at c.in_ok-name.field-0) c.args.count c.in_ok-name.ensures.name colon.kept colon.found c.scan.new.self c.in_ok-token.field-0 read.kept read.found
-    c.parse_value.new.context name.result c.in_ok-value.value name.ensures.name name.ensures.utf8 c.in_ok-value.ensures.found
+    property_put c.args.context.now c.parse_value.new.context name.result c.in_ok-value.value c.args.properties.now _ c.args.count c.put_property.result
+    (property_read c.args.context.now c.pass_colon.new.self (name_at c.in_ok-name.field-0) c.args.count c.in_ok-name.ensures.name colon.kept colon.found c.scan.new.self c.in_ok-token.field-0 read.kept read.found
+    c.parse_value.new.context name.result c.in_ok-value.value name.ensures.name name.ensures.utf8 c.in_ok-value.ensures.found)
+    c.put_property.ensures.put
 
 pub parse_value-returns-in_default-clause-found : goal.parse_value-returns-in_default-clause-found
 parse_value-returns-in_default-clause-found g t c = fewer c.args.context.now c.args.context.now c.parse_leaf.result c.args.count c.requires.around c.parse_leaf.ensures.found
@@ -186,15 +191,15 @@ parse_array-returns-in_err-next-clause-told g t c =
     err_of (StopsAtContainer old false c.args.count) e c.from_residual-in_err-next.result c.from_residual-in_err-next.ensures.1
     (λ q d s many starts. first_stops false Array old c.args.count q d s e c.requires.token (room_apart Array c.args.count c.in_ok-check_depth.ensures.within) many starts (λ q. c.in_err-next.ensures.told q _ tt))
 
-pub parse_array-returns-in_err-value-clause-told : goal.parse_array-returns-in_err-value-clause-told
-parse_array-returns-in_err-value-clause-told g t c =
+pub parse_array-returns-in_err-parse_element-clause-told : goal.parse_array-returns-in_err-parse_element-clause-told
+parse_array-returns-in_err-parse_element-clause-told g t c =
     let old = c.args.context.now in
     let now = c.loop-next.context in
     let inv = c.loop-next.invariant in
     let reading = elements.reading_some old now c.loop-next.next c.in-Some.token c.args.count c.loop-next.elements.items inv c.in-Some.is in
-    let e = c.in_err-value.field-0.0 in
-    err_of (StopsAtContainer old false c.args.count) e c.from_residual-in_err-value.result c.from_residual-in_err-value.ensures.1
-    (λ q d s many starts. element_stops false old now c.in-Some.token c.args.count q d s e inv.kept (reading q d s many starts) many c.in_err-value.ensures.told)
+    let e = c.in_err-parse_element.field-0.0 in
+    err_of (StopsAtContainer old false c.args.count) e c.from_residual-in_err-parse_element.result c.from_residual-in_err-parse_element.ensures.1
+    (λ q d s many starts. element_stops false old now c.in-Some.token c.args.count q d s e inv.kept (reading q d s many starts) many c.in_err-parse_element.ensures.told)
 
 pub parse_array-returns-in_err-next-2-clause-told : goal.parse_array-returns-in_err-next-2-clause-told
 parse_array-returns-in_err-next-2-clause-told g t c =
@@ -202,13 +207,13 @@ parse_array-returns-in_err-next-2-clause-told g t c =
     let now = c.loop-next.context in
     let inv = c.loop-next.invariant in
     let reading = elements.reading_some old now c.loop-next.next c.in-Some.token c.args.count c.loop-next.elements.items inv c.in-Some.is in
-    let mid = c.parse_value.new.context in
-    let read = c.in_ok-value.ensures in
+    let mid = c.parse_element.new.context in
+    let read = c.in_ok-parse_element.ensures in
     let e = c.in_err-next-2.field-0.0 in
     err_of (StopsAtContainer old false c.args.count) e c.from_residual-in_err-next-2.result c.from_residual-in_err-next-2.ensures.1
     (λ q d s many starts.
     let h = reading q d s many starts in
-    next_stops false Array old now mid inv.kept read.kept c.in-Some.token q d s h (element_comes false old now mid c.in-Some.token q d s read.found.value c.args.count h read.kept read.found.stands many read.found.within) e (λ q. c.in_err-next-2.ensures.told q _ tt))
+    next_stops false Array old now mid inv.kept read.kept c.in-Some.token q d s h (element_comes false old now mid c.in-Some.token q d s read.found.1.value c.args.count h read.kept read.found.1.stands many read.found.1.within) e (λ q. c.in_err-next-2.ensures.told q _ tt))
 
 pub parse_object-returns-in_err-check_depth-clause-told : goal.parse_object-returns-in_err-check_depth-clause-told
 parse_object-returns-in_err-check_depth-clause-told g t c =
@@ -224,15 +229,15 @@ parse_object-returns-in_err-next-clause-told g t c =
     err_of (StopsAtContainer old false c.args.count) e c.from_residual-in_err-next.result c.from_residual-in_err-next.ensures.1
     (λ q d s many starts. first_stops false Object old c.args.count q d s e c.requires.token (room_apart Object c.args.count c.in_ok-check_depth.ensures.within) many starts (λ q. c.in_err-next.ensures.told q _ tt))
 
-pub parse_object-returns-in_err-name-clause-told : goal.parse_object-returns-in_err-name-clause-told
-parse_object-returns-in_err-name-clause-told g t c =
+pub parse_object-returns-in_err-parse_property-clause-told : goal.parse_object-returns-in_err-parse_property-clause-told
+parse_object-returns-in_err-parse_property-clause-told g t c =
     let old = c.args.context.now in
     let now = c.loop-next.context in
     let inv = c.loop-next.invariant in
     let reading = properties.reading_some old now c.loop-next.next c.in-Some.token c.args.count c.loop-next.properties inv c.in-Some.is in
-    let e = c.in_err-name.field-0.0 in
-    err_of (StopsAtContainer old false c.args.count) e c.from_residual-in_err-name.result c.from_residual-in_err-name.ensures.1
-    (λ q d s many starts. property_stops false old now c.in-Some.token c.args.count q d s e inv.kept (reading q d s many starts) many c.in_err-name.ensures.told)
+    let e = c.in_err-parse_property.field-0.0 in
+    err_of (StopsAtContainer old false c.args.count) e c.from_residual-in_err-parse_property.result c.from_residual-in_err-parse_property.ensures.1
+    (λ q d s many starts. property_stops false old now c.in-Some.token c.args.count q d s e inv.kept (reading q d s many starts) many c.in_err-parse_property.ensures.told)
 
 pub parse_object-returns-in_err-next-2-clause-told : goal.parse_object-returns-in_err-next-2-clause-told
 parse_object-returns-in_err-next-2-clause-told g t c =
@@ -241,12 +246,12 @@ parse_object-returns-in_err-next-2-clause-told g t c =
     let inv = c.loop-next.invariant in
     let reading = properties.reading_some old now c.loop-next.next c.in-Some.token c.args.count c.loop-next.properties inv c.in-Some.is in
     let mid = c.parse_property.new.context in
-    let read = c.in_ok-name.ensures in
+    let read = c.in_ok-parse_property.ensures in
     let e = c.in_err-next-2.field-0.0 in
     err_of (StopsAtContainer old false c.args.count) e c.from_residual-in_err-next-2.result c.from_residual-in_err-next-2.ensures.1
     (λ q d s many starts.
     let h = reading q d s many starts in
-    next_stops false Object old now mid inv.kept read.kept c.in-Some.token q d s h (property_comes false old now mid c.in-Some.token q d s (name_of c.in_ok-name.name) read.found.value c.args.count h read.kept read.found.stands many (omega (arith, read.found.within))) e (λ q. c.in_err-next-2.ensures.told q _ tt))
+    next_stops false Object old now mid inv.kept read.kept c.in-Some.token q d s h (property_comes false old now mid c.in-Some.token q d s (name_of read.found.0.0) read.found.1.value c.args.count h read.kept read.found.1.stands many (omega (arith, read.found.1.within))) e (λ q. c.in_err-next-2.ensures.told q _ tt))
 
 pub parse_property-returns-in_err-name-clause-told : goal.parse_property-returns-in_err-name-clause-told
 parse_property-returns-in_err-name-clause-told g t c =
@@ -298,3 +303,19 @@ parse_value-returns-in-OpenBracket-clause-told g t c = err_some c.parse_array.re
 
 pub parse_value-returns-in-OpenBrace-clause-told : goal.parse_value-returns-in-OpenBrace-clause-told
 parse_value-returns-in-OpenBrace-clause-told g t c = err_some c.parse_object.result (λ e told q d s many starts. told q d s many (starts.may, starts.gap)) c.parse_object.ensures.told
+
+pub parse_element-returns-in-String-clause-found : goal.parse_element-returns-in-String-clause-found
+parse_element-returns-in-String-clause-found g t c =
+    leaf_element c.args.context.now c.args.token (JsonValue.String c.in-String.string) c.args.elements.now.items _ c.args.count c.push_value.result c.requires.token (ap Some (string_plain c.in-String.string) ∙ sym (ap (λ t. leaf_value (scanned_of t)) c.in-String.is)) c.requires.around c.push_value.ensures.grown
+
+pub parse_element-returns-in-Number-clause-found : goal.parse_element-returns-in-Number-clause-found
+parse_element-returns-in-Number-clause-found g t c =
+    leaf_element c.args.context.now c.args.token (JsonValue.Number c.in-Number.number) c.args.elements.now.items _ c.args.count c.push_value-in-Number.result c.requires.token (ap Some (number_plain _ c.in-Number.number) ∙ sym (ap (λ t. leaf_value (scanned_of t)) c.in-Number.is)) c.requires.around c.push_value-in-Number.ensures.grown
+
+pub parse_element-returns-in-Boolean-clause-found : goal.parse_element-returns-in-Boolean-clause-found
+parse_element-returns-in-Boolean-clause-found g t c =
+    leaf_element c.args.context.now c.args.token (JsonValue.Boolean c.in-Boolean.boolean) c.args.elements.now.items _ c.args.count c.push_value-in-Boolean.result c.requires.token (ap Some (boolean_plain _ c.in-Boolean.boolean) ∙ sym (ap (λ t. leaf_value (scanned_of t)) c.in-Boolean.is)) c.requires.around c.push_value-in-Boolean.ensures.grown
+
+pub parse_element-returns-in-Null-clause-found : goal.parse_element-returns-in-Null-clause-found
+parse_element-returns-in-Null-clause-found g t c =
+    leaf_element c.args.context.now c.args.token JsonValue.Null c.args.elements.now.items _ c.args.count c.push_value-in-Null.result c.requires.token (ap Some (null_plain _) ∙ sym (ap (λ t. leaf_value (scanned_of t)) c.in-Null.is)) c.requires.around c.push_value-in-Null.ensures.grown

@@ -7,6 +7,9 @@ use Rattle.jsonc_to_value.proofs.values.+parse.Given as goal
 abbrev pub decreases-parse_value : goal.decreases-parse_value
 decreases-parse_value g l = 4 * (513 - l.count) + 2
 
+abbrev pub decreases-parse_element : goal.decreases-parse_element
+decreases-parse_element g l = 4 * (513 - l.count) + 3
+
 abbrev pub decreases-parse_array : goal.decreases-parse_array
 decreases-parse_array g l = 4 * (513 - l.count) + 1
 

@@ -1,4 +1,5 @@
-use Rattle.std.proofs.Common.{inr, sym, ap, ◌∙◌, ◌∷◌, is_some, refl}
+use Rattle.std.proofs.Common.{inr, sym, ap, ◌∙◌, ◌∷◌, Some, is_some, refl}
+use Rattle.jsonc_text.specs.declared.tokens.Token.TheVariants as token
 use Rattle.jsonc_to_ast.specs.Context.{text_in}
 use Rattle.jsonc_to_ast.specs.Reached.{container, comma}
 use Rattle.jsonc_to_ast.specs.Told.{StopsInside}
@@ -21,8 +22,8 @@ returns-then-is_closed_by-clause-found g c =
 
 pub returns-then-is_comma-clause-found : goal.returns-then-is_comma-clause-found
 returns-then-is_comma-clause-found g c =
-    after_comma c.args.self.now c.scan.new.self c.item_after_comma.new.self c.in_ok-token.field-0 c.in-Some.token (closing c.args.container) c.item_after_comma.result c.scan.ensures.kept c.in_ok-token.ensures.found c.in-Some.is
-    (c.is_comma.ensures.0 c.if-is_comma.true) c.item_after_comma.ensures.found
+    after_comma c.args.self.now c.scan.new.self c.item_after_comma-then-is_comma.new.self c.in_ok-token.field-0 c.in-Some.token (closing c.args.container) c.item_after_comma-then-is_comma.result c.scan.ensures.kept c.in_ok-token.ensures.found c.in-Some.is
+    (c.is_comma.ensures.0 c.if-is_comma.true) c.item_after_comma-then-is_comma.ensures.found
 
 pub returns-clause-found : goal.returns-clause-found
 returns-clause-found g c =
@@ -43,18 +44,18 @@ returns-in_default-clause-refused g c =
 pub returns-then-is_comma-clause-only : goal.returns-then-is_comma-clause-only
 returns-then-is_comma-clause-only g c =
     let read = c.in_ok-token.ensures in
-    ok_some c.item_after_comma.result
-    (λ t. next_after_comma c.args.self.now c.scan.new.self c.in_ok-token.field-0 c.scan.ensures.kept read.found read.lexeme c.in-Some.token c.in-Some.is c.args.container (c.is_comma.ensures.0 c.if-is_comma.true) c.item_after_comma.new.self)
-    c.item_after_comma.ensures.only
+    ok_some c.item_after_comma-then-is_comma.result
+    (λ t. next_after_comma c.args.self.now c.scan.new.self c.in_ok-token.field-0 c.scan.ensures.kept read.found read.lexeme c.in-Some.token c.in-Some.is c.args.container (c.is_comma.ensures.0 c.if-is_comma.true) c.item_after_comma-then-is_comma.new.self)
+    c.item_after_comma-then-is_comma.ensures.only
 
 pub returns-then-is_comma-clause-refused : goal.returns-then-is_comma-clause-refused
 returns-then-is_comma-clause-refused g c =
     let read = c.in_ok-token.ensures in
     let old = c.args.self.now in
     let new = c.scan.new.self in
-    err_some c.item_after_comma.result
+    err_some c.item_after_comma-then-is_comma.result
     (λ e. still (nothing_next old new c.in_ok-token.field-0 c.scan.ensures.kept read.found read.lexeme c.in-Some.token c.in-Some.is c.args.container (c.is_comma.ensures.0 c.if-is_comma.true)))
-    c.item_after_comma.ensures.refused
+    c.item_after_comma-then-is_comma.ensures.refused
 
 pub returns-then-not-self-clause-refused : goal.returns-then-not-self-clause-refused
 returns-then-not-self-clause-refused g c =
@@ -72,7 +73,7 @@ returns-clause-only g c =
 
 pub returns-then-is_comma-clause-collects : goal.returns-then-is_comma-clause-collects
 returns-then-is_comma-clause-collects g c =
-    ok_collects c.item_after_comma.result (collects_on c.args.self.now c.scan.new.self c.item_after_comma.new.self c.scan.ensures.kept c.in_ok-token.ensures.collects) c.item_after_comma.ensures.collects
+    ok_collects c.item_after_comma-then-is_comma.result (collects_on c.args.self.now c.scan.new.self c.item_after_comma-then-is_comma.new.self c.scan.ensures.kept c.in_ok-token.ensures.collects) c.item_after_comma-then-is_comma.ensures.collects
 
 pub returns-clause-stands : goal.returns-clause-stands
 returns-clause-stands g c =
@@ -82,8 +83,8 @@ returns-clause-stands g c =
 pub returns-then-is_comma-clause-comes : goal.returns-then-is_comma-clause-comes
 returns-then-is_comma-clause-comes g c =
     let read = c.in_ok-token.ensures in
-    comes_after_ok c.args.self.now c.scan.new.self c.in_ok-token.field-0 c.scan.ensures.kept read.found read.lexeme c.in-Some.token c.in-Some.is c.args.container c.item_after_comma.new.self c.item_after_comma.result
-    (c.is_comma.ensures.0 c.if-is_comma.true) c.item_after_comma.ensures.found
+    comes_after_ok c.args.self.now c.scan.new.self c.in_ok-token.field-0 c.scan.ensures.kept read.found read.lexeme c.in-Some.token c.in-Some.is c.args.container c.item_after_comma-then-is_comma.new.self c.item_after_comma-then-is_comma.result
+    (c.is_comma.ensures.0 c.if-is_comma.true) c.item_after_comma-then-is_comma.ensures.found
 
 pub returns-clause-comes : goal.returns-clause-comes
 returns-clause-comes g c = inr (c.in_ok-token.ensures.found.0, refuted c.is_comma.ensures.1 c.if-is_comma.false)
@@ -113,10 +114,10 @@ returns-then-is_comma-clause-told g c =
     let kept = c.scan.ensures.kept in
     let mark = c.is_comma.ensures.0 c.if-is_comma.true in
     let one = token_is (text_in new) (options_in new) new.scanner c.in-Some.token 0x2C refl refl (at_token old new f c.in-Some.token 0x2C kept read.found c.in-Some.is) mark in
-    err_some c.item_after_comma.result
+    err_some c.item_after_comma-then-is_comma.result
     (λ e told q a from. comma_stops old new f kept read.found read.lexeme c.in-Some.token c.in-Some.is mark c.args.container e (is_some c.args.start) (container c.args.container a ∷ q) one
     (told one q a (from_before old new kept c.args.start a from)))
-    c.item_after_comma.ensures.told
+    c.item_after_comma-then-is_comma.ensures.told
 
 pub returns-then-not-self-clause-told : goal.returns-then-not-self-clause-told
 returns-then-not-self-clause-told g c = λ q a from.
@@ -126,3 +127,46 @@ returns-then-not-self-clause-told g c = λ q a from.
     missing_stops old new c.in_ok-token.field-0 c.scan.ensures.kept read.found read.lexeme c.in-Some.token c.in-Some.is c.args.container c.missing_comma.result c.token_end-end.result
     (ap (λ p. p.missing_commas) (sym (new.same ∙ c.scan.ensures.kept.options)) ∙ c.if-not-self.true) c.token_end-end.ensures (refuted c.is_closed_by.ensures.1 c.if-is_closed_by.false) (refuted c.is_comma.ensures.1 c.if-is_comma.false)
     c.missing_comma.ensures.comma c.missing_comma.ensures.misplaced (is_some c.args.start) (container c.args.container a ∷ q)
+
+pub returns-then-has_next-clause-found : goal.returns-then-has_next-clause-found
+returns-then-has_next-clause-found g c =
+    let passed = c.pass_next_comma.ensures in
+    after_comma c.args.self.now c.pass_next_comma.new.self c.item_after_comma.new.self (Some token.Comma) token.Comma (closing c.args.container) c.item_after_comma.result passed.kept passed.found refl
+    refl c.item_after_comma.ensures.found
+
+pub returns-then-has_next-clause-only : goal.returns-then-has_next-clause-only
+returns-then-has_next-clause-only g c =
+    let passed = c.pass_next_comma.ensures in
+    ok_some c.item_after_comma.result
+    (λ t. next_after_comma c.args.self.now c.pass_next_comma.new.self (Some token.Comma) passed.kept passed.found refl token.Comma refl c.args.container refl c.item_after_comma.new.self)
+    c.item_after_comma.ensures.only
+
+pub returns-then-has_next-clause-refused : goal.returns-then-has_next-clause-refused
+returns-then-has_next-clause-refused g c =
+    let passed = c.pass_next_comma.ensures in
+    err_some c.item_after_comma.result
+    (λ e. still (nothing_next c.args.self.now c.pass_next_comma.new.self (Some token.Comma) passed.kept passed.found refl token.Comma refl c.args.container refl))
+    c.item_after_comma.ensures.refused
+
+pub returns-then-has_next-clause-collects : goal.returns-then-has_next-clause-collects
+returns-then-has_next-clause-collects g c =
+    let passed = c.pass_next_comma.ensures in
+    ok_collects c.item_after_comma.result (collects_on c.args.self.now c.pass_next_comma.new.self c.item_after_comma.new.self passed.kept passed.collects) c.item_after_comma.ensures.collects
+
+pub returns-then-has_next-clause-comes : goal.returns-then-has_next-clause-comes
+returns-then-has_next-clause-comes g c =
+    let passed = c.pass_next_comma.ensures in
+    comes_after_ok c.args.self.now c.pass_next_comma.new.self (Some token.Comma) passed.kept passed.found refl token.Comma refl c.args.container c.item_after_comma.new.self c.item_after_comma.result
+    refl c.item_after_comma.ensures.found
+
+pub returns-then-has_next-clause-told : goal.returns-then-has_next-clause-told
+returns-then-has_next-clause-told g c =
+    let old = c.args.self.now in
+    let new = c.pass_next_comma.new.self in
+    let passed = c.pass_next_comma.ensures in
+    let kept = passed.kept in
+    let one = token_is (text_in new) (options_in new) new.scanner token.Comma 0x2C refl refl (at_token old new (Some token.Comma) token.Comma 0x2C kept passed.found refl) refl in
+    err_some c.item_after_comma.result
+    (λ e told q a from. comma_stops old new (Some token.Comma) kept passed.found refl token.Comma refl refl c.args.container e (is_some c.args.start) (container c.args.container a ∷ q) one
+    (told one q a (from_before old new kept c.args.start a from)))
+    c.item_after_comma.ensures.told

@@ -1,0 +1,16 @@
+use Rattle.std.proofs.Common.{sym, subst, ◌∙◌}
+use Rattle.jsonc_tree.proofs.Order.{parent_there}
+use Rattle.jsonc_input.specs.Views.{plain}
+use Rattle.jsonc_from_input.specs.Laid.{laid}
+use Rattle.jsonc_edit.specs.Replacing.{GivesWayRaw}
+use Rattle.jsonc_edit.proofs.replacing.replace_name.Goals as goal
+
+pub layout_for-requires-clause-container : goal.layout_for-requires-clause-container
+layout_for-requires-clause-container g c = (parent_there c.args.tree.now.nodes c.len.ensures.tree c.args.node c.in-Some.container (sym c.parent.ensures ∙ c.in-Some.is)).1
+
+pub returns-clause-replaced : goal.returns-clause-replaced
+returns-clause-replaced g c = (
+  c.in-Some.container,
+  sym c.parent.ensures ∙ c.in-Some.is,
+  subst (λ l. GivesWayRaw c.args.tree.now.nodes c.replace_raw.new.tree.nodes c.args.node c.in_ok-raw.raw (laid l (plain c.args.value.now))) c.in_ok-told.ensures.layout c.in_ok-raw.ensures.replaced,
+)

@@ -1,0 +1,275 @@
+-- An element has left a container's row: which row that was, and which it is.
+use Rattle.std.proofs.Common.{◌≡◌, ◌≢◌, ℕ, suc, ◌+◌, ◌<◌, Bool, true, false, not, List, [], ◌∷◌, ◌++◌, length, filter, take, Option, Some, IsTrue, if◌then◌else◌, refl, sym, ap, subst, ◌∙◌, arith}
+use Rattle.std.proofs.lemmas.List.{append_assoc, length-append, map-append, take_at}
+use Rattle.std.proofs.lemmas.List.Elements.{All-head, All-tail, All-append}
+use Rattle.jsonc_text.specs.Options.{Options}
+use Rattle.jsonc_tree.specs.Changes.{Splices}
+use Rattle.jsonc_tree.specs.Content.{Content, token, is_container}
+use Rattle.jsonc_tree.specs.OrderedTree.{OrderedTree, none, more, leaves, followed_by, Shows}
+use Rattle.jsonc_tree.specs.Tree.{Node, content_at, parent_at, children_at, place_at, IsTree}
+use Rattle.jsonc_tree.proofs.Order.{parent_there}
+use Rattle.jsonc_tree.proofs.Rows.{Shows-append, Shows-part, followed_by-assoc, followed_by-none}
+use Rattle.jsonc_nodes.specs.Kinds.{is_element, is_element_at}
+use Rattle.jsonc_build.specs.Shape.{token_then}
+use Rattle.jsonc_lines.specs.Kinds.{holds_values}
+use Rattle.jsonc_sound.specs.Rows.{RowKind, opening, closing}
+use Rattle.jsonc_sound.specs.TriviaChanges.{leaves_then}
+use Rattle.jsonc_seams.specs.Spaces.{meet}
+use Rattle.jsonc_rows.specs.Leaving.{AreBeside, ends_apart, element_count, among, ElementLeaves, with_comma_behind, with_comma_before, with_no_comma, ClosesUp}
+use Rattle.jsonc_spaces.proofs.Whole.{Whole, more_whole, whole_before, whole_behind}
+use Rattle.jsonc_spaces.proofs.Meeting.{meet_bare}
+use Rattle.jsonc_edit.specs.Changes.{row_below, top_at}
+use Rattle.jsonc_edit.specs.Paths.{IsElementOf}
+use Rattle.jsonc_edit.proofs.Elements.{stands_at}
+use Rattle.jsonc_edit.proofs.Walk.{Shows-row_below}
+use Rattle.jsonc_remove.specs.Removed.{IsClosedUp, LosesChild}
+use Rattle.jsonc_remove.proofs.Contents.{apart, count, apart_shown, commas_shown, first_shown, count_shown, count_append, count_beside}
+use Rattle.jsonc_remove.proofs.Going.{Edges}
+use Rattle.jsonc_remove.proofs.Places.{Quiet, place_in}
+use Rattle.jsonc_remove.proofs.Settled.{Settled, settled_behind, settled_before, settled_none, comma_is}
+use Rattle.jsonc_remove.proofs.Stretches.{contents}
+use Rattle.jsonc_remove.proofs.Trees.{trivia_leaves, beside_leaves, leaves_shown, among_shown, leaf_below, quiet_inside, AreKids, all_kids, closes_row as close_up, NewRow, new_row}
+use Rattle.jsonc_remove.proofs.Weaving.{Rewoven, stretch_out, comma_out, Others, others_before, All-front, All-back}
+
+-- two whole rows, one behind the other
+whole_joined : (o : Options) (t u : OrderedTree) → Whole o t → Whole o u → Whole o (followed_by t u)
+whole_joined o none u w v = v
+whole_joined o (more content below after) u (more_whole h r) v = more_whole h (whole_joined o after u r v)
+
+-- what the rows below c are, and that the element has left
+pub record Outcome (old new : List Node) (c n i : ℕ) (kind : RowKind) : Type 0 where
+  pub row : OrderedTree
+  pub left : OrderedTree
+  pub now : OrderedTree
+  pub was : row_below old c ≡ token_then (opening kind) row
+  pub is : row_below new c ≡ token_then (opening kind) now
+  pub leaves : ElementLeaves (top_at old n) i row left
+  pub closes : ClosesUp left now
+
+counted : (ns : List Node) (xs : List ℕ) → length (filter (is_element_at ns) xs) ≡ count (contents ns xs)
+counted ns [] = refl
+counted ns (x ∷ xs) = by (is_element_at ns x) (counted ns xs)
+  where
+    by : (b : Bool) → length (filter (is_element_at ns) xs) ≡ count (contents ns xs) → length (if b then x ∷ filter (is_element_at ns) xs else filter (is_element_at ns) xs) ≡ (if b then suc (count (contents ns xs)) else count (contents ns xs))
+    by true e = ap suc e
+    by false e = e
+
+module _ (o : Options) (old new : List Node) (tree : IsTree old) (after : IsTree new) (c n i open_with last from to : ℕ) (kind : RowKind) (there : c < length old) (n_there : n < length old)
+    (opens : content_at old open_with ≡ token (opening kind)) (closes : content_at old last ≡ token (closing kind)) (holds : IsTrue (holds_values (content_at old c))) (whole : Whole o (row_below old c)) (element : IsElementOf old c i n) where
+  -- the row by its parts
+  module _ (ahead near behind rest : List ℕ) (row : children_at old c ≡ (open_with ∷ ahead) ++ ((near ++ n ∷ behind) ++ (rest ++ last ∷ []))) (edges : Edges (near ++ n ∷ behind) from to) (beside : AreBeside (contents old near)) where
+    abbrev stretch : List ℕ
+    stretch = near ++ n ∷ behind
+
+    abbrev back : List ℕ
+    back = rest ++ last ∷ []
+
+    from_place : place_at old from ≡ length (open_with ∷ ahead)
+    from_place = place_in old tree c (open_with ∷ ahead) (edges.tail ++ back) from (row ∙ ap (λ (l : List ℕ). (open_with ∷ ahead) ++ (l ++ back)) edges.first_is)
+
+    to_place : place_at old to + 1 ≡ length (open_with ∷ ahead) + length stretch
+    to_place =
+        let at : place_at old to ≡ length ((open_with ∷ ahead) ++ edges.init) =
+        place_in old tree c ((open_with ∷ ahead) ++ edges.init) back to
+        (row ∙ ap (λ (l : List ℕ). (open_with ∷ ahead) ++ (l ++ back)) edges.last_is ∙ ap (λ (l : List ℕ). (open_with ∷ ahead) ++ l) (append_assoc edges.init (to ∷ []) back) ∙ sym (append_assoc (open_with ∷ ahead) edges.init (to ∷ back))) in
+        omega (arith, at, length-append (open_with ∷ ahead) edges.init, ap length edges.last_is, length-append edges.init (to ∷ []))
+
+    n_row : children_at old c ≡ ((open_with ∷ ahead) ++ near) ++ n ∷ (behind ++ back)
+    n_row = row ∙ ap (λ (l : List ℕ). (open_with ∷ ahead) ++ l) (append_assoc near (n ∷ behind) back) ∙ sym (append_assoc (open_with ∷ ahead) near (n ∷ (behind ++ back)))
+
+    index : i ≡ count (contents old ahead)
+    index =
+        let at = stands_at (is_element_at old) (children_at old c) i n element in
+        let front : List ℕ = (open_with ∷ ahead) ++ near in
+        let place : at.0 ≡ length front = sym (tree.placed c at.0 at.1) ∙ ap (place_at old) at.2 ∙ place_in old tree c front (behind ++ back) n n_row in
+        let taken : take at.0 (children_at old c) ≡ front = ap (λ k. take k (children_at old c)) place ∙ ap (take (length front)) n_row ∙ take_at front (n ∷ (behind ++ back)) (length front) refl in
+        let no_bracket : count (contents old (open_with ∷ ahead)) ≡ count (contents old ahead) = ap (λ w. if is_element w then suc (count (contents old ahead)) else count (contents old ahead)) opens in
+        sym at.4 ∙ ap (λ l. length (filter (is_element_at old) l)) taken ∙ counted old front ∙ ap count (map-append (content_at old) (open_with ∷ ahead) near) ∙ count_append (contents old (open_with ∷ ahead)) (contents old near)
+        ∙ ap (λ k. k + count (contents old near)) no_bracket ∙ ap (λ k. count (contents old ahead) + k) (count_beside (contents old near) beside) ∙ (let z : count (contents old ahead) + 0 ≡ count (contents old ahead) = omega arith in z)
+
+    -- its trees
+    record Pieces : Type 0 where
+      front : OrderedTree
+      behind_it : OrderedTree
+      rest_of : OrderedTree
+      row_is : OrderedTree
+      shows_front : Shows old ahead front
+      shows_behind : Shows old behind behind_it
+      shows_rest : Shows old back rest_of
+      was : row_below old c ≡ token_then (opening kind) row_is
+      parts : row_is ≡ followed_by front (leaves_then (contents old near) (more (content_at old n) (row_below old n) (followed_by behind_it rest_of)))
+      whole_front : Whole o front
+      whole_rest : Whole o rest_of
+
+    pieces : Pieces
+    pieces =
+        let shown : Shows old ((open_with ∷ []) ++ (ahead ++ (stretch ++ back))) (row_below old c) = subst (λ (l : List ℕ). Shows old l (row_below old c)) row (Shows-row_below old tree c there) in
+        let first = Shows-part old (open_with ∷ []) (ahead ++ (stretch ++ back)) (row_below old c) shown in
+        let second = Shows-part old ahead (stretch ++ back) first.1 first.4 in
+        let third = Shows-part old stretch back second.1 second.4 in
+        let mid = among_shown old tree near n behind third.0 n_there (beside_leaves (contents old near) beside) third.3 in
+        let all : Whole o first.1 = whole_behind o first.0 first.1 (subst (Whole o) first.2 whole) in
+        let parted : Whole o (followed_by second.0 second.1) = subst (Whole o) second.2 all in
+        let last_two : Whole o (followed_by third.0 third.1) = subst (Whole o) third.2 (whole_behind o second.0 second.1 parted) in
+        record {
+          front = second.0;
+          behind_it = mid.after;
+          rest_of = third.1;
+          row_is = first.1;
+          shows_front = second.3;
+          shows_behind = mid.shown;
+          shows_rest = third.4;
+          was = first.2 ∙ leaves_shown old tree (open_with ∷ []) first.0 first.1 (ap is_container opens, tt) first.3 ∙ ap (λ (w : Content). more w none first.1) opens;
+          parts = second.2 ∙ ap (followed_by second.0) (third.2 ∙ mid.is third.1);
+          whole_front = whole_before o second.0 second.1 parted;
+          whole_rest = whole_behind o third.0 third.1 last_two;
+        }
+
+    -- all others stand before the last
+    before_last : Others last ((open_with ∷ ahead) ++ (stretch ++ rest))
+    before_last =
+        others_before old tree c ((open_with ∷ ahead) ++ (stretch ++ rest)) [] last
+        (row ∙ ap (λ (l : List ℕ). (open_with ∷ ahead) ++ l) (sym (append_assoc stretch rest (last ∷ []))) ∙ sym (append_assoc (open_with ∷ ahead) (stretch ++ rest) (last ∷ [])))
+
+    others_ahead : Others last ahead
+    others_ahead = All-tail (λ m. m ≢ last) open_with ahead (All-front (λ m. m ≢ last) (open_with ∷ ahead) (stretch ++ rest) before_last)
+
+    others_rest : Others last rest
+    others_rest = All-back (λ m. m ≢ last) stretch rest (All-back (λ m. m ≢ last) (open_with ∷ ahead) (stretch ++ rest) before_last)
+
+    kids_front : AreKids old c (open_with ∷ ahead)
+    kids_front = All-front (λ m. parent_at old m ≡ Some c) (open_with ∷ ahead) (stretch ++ back) (subst (AreKids old c) row (all_kids old tree c))
+
+    kids_back : AreKids old c back
+    kids_back = All-back (λ m. parent_at old m ≡ Some c) stretch back (All-back (λ m. parent_at old m ≡ Some c) (open_with ∷ ahead) (stretch ++ back) (subst (AreKids old c) row (all_kids old tree c)))
+
+    -- the row that is left is closed up, if it may
+    module _ (joined : List Node) (closed : IsClosedUp joined new c) (stays : List ℕ) (left : OrderedTree) (others : Others last (stays ++ rest)) (kids : AreKids old c (open_with ∷ stays)) (shown : Shows old (stays ++ back) left)
+        (r : Rewoven old joined c (open_with ∷ (stays ++ back))) where
+      regrouped : stays ++ back ≡ (stays ++ rest) ++ last ∷ []
+      regrouped = sym (append_assoc stays rest (last ∷ []))
+
+      then_is : NewRow old new tree after c open_with last kind there opens closes left
+      then_is =
+          new_row old new tree after c open_with last kind there opens closes (stays ++ rest) left
+          (subst (λ (l : List ℕ). AreKids old c (open_with ∷ l)) regrouped (All-append (λ m. parent_at old m ≡ Some c) (open_with ∷ stays) back kids kids_back))
+          (subst (λ (l : List ℕ). Shows old l left) regrouped shown)
+          (close_up old joined new c open_with last (stays ++ rest) holds (subst (λ (l : List ℕ). Rewoven old joined c (open_with ∷ l)) regrouped r) others closed)
+
+  module _ (parted joined : List Node) (s : Splices old parted c (place_at old from) (place_at old to + 1) []) (closed : IsClosedUp joined new c) where
+    -- where the stretch alone leaves
+    module _ (ahead near behind rest : List ℕ) (row : children_at old c ≡ (open_with ∷ ahead) ++ ((near ++ n ∷ behind) ++ (rest ++ last ∷ []))) (edges : Edges (near ++ n ∷ behind) from to) (beside : AreBeside (contents old near)) (same : joined ≡ parted)
+        (p : Pieces ahead near behind rest row edges beside) where
+      stretch_row : NewRow old new tree after c open_with last kind there opens closes (followed_by p.front p.rest_of)
+      stretch_row =
+          then_is ahead near behind rest row edges beside joined closed ahead (followed_by p.front p.rest_of)
+          (All-append (λ m. m ≢ last) ahead rest (others_ahead ahead near behind rest row edges beside) (others_rest ahead near behind rest row edges beside)) (kids_front ahead near behind rest row edges beside)
+          (Shows-append old ahead (rest ++ last ∷ []) p.front p.rest_of p.shows_front p.shows_rest)
+          (subst (λ ns. Rewoven old ns c (open_with ∷ (ahead ++ (rest ++ last ∷ [])))) (sym same)
+          (stretch_out old parted c (place_at old from) (place_at old to + 1) (open_with ∷ ahead) (near ++ n ∷ behind) (rest ++ last ∷ []) row (from_place ahead near behind rest row edges beside) (to_place ahead near behind rest row edges beside) s))
+
+      stretch_quiet : Quiet old (open_with ∷ ahead) (rest ++ last ∷ []) → meet (leaves p.front) (leaves p.rest_of) ≡ false
+      stretch_quiet q = meet_bare old o p.shows_front p.whole_front p.shows_rest p.whole_rest ∙ quiet_inside old open_with ahead (rest ++ last ∷ []) q
+
+      stretch_apart : IsTrue (apart (contents old ahead)) → IsTrue (ends_apart p.front)
+      stretch_apart h = apart_shown old p.shows_front ∙ h
+
+      stretch_index : element_count p.front ≡ i
+      stretch_index = count_shown old p.shows_front ∙ sym (index ahead near behind rest row edges beside)
+
+    pub outcome : (k : Option ℕ) → Settled old c n open_with last from to k → LosesChild parted joined c k → Outcome old new c n i kind
+    outcome _ (settled_none away near line rest row edges beside apart_away none_away trivia_line first quiet) same =
+        let p = pieces away near line rest row edges beside in
+        let r = stretch_row away near line rest row edges beside same p in
+        let whole_row : p.row_is ≡ followed_by p.front (among (contents old near) (top_at old n) (contents old line) p.rest_of) =
+        p.parts ∙ ap (λ (t : OrderedTree). followed_by p.front (leaves_then (contents old near) (more (content_at old n) (row_below old n) t))) (leaves_shown old tree line p.behind_it p.rest_of (trivia_leaves (contents old line) trivia_line) p.shows_behind) in
+        record {
+          row = p.row_is;
+          left = followed_by p.front p.rest_of;
+          now = r.row;
+          was = p.was;
+          is = r.is;
+          leaves =
+              subst (λ k. ElementLeaves (top_at old n) k p.row_is (followed_by p.front p.rest_of)) (stretch_index away near line rest row edges beside same p)
+              (subst (λ t. ElementLeaves (top_at old n) (element_count p.front) t (followed_by p.front p.rest_of)) (sym whole_row)
+              (with_no_comma p.front p.rest_of (contents old near) (contents old line) (stretch_apart away near line rest row edges beside same p apart_away) (commas_shown old p.shows_front ∙ none_away) beside trivia_line
+              (ap not (first_shown old p.shows_rest ∙ first)) (stretch_quiet away near line rest row edges beside same p quiet)));
+          closes = r.shuts;
+        }
+    outcome _ (settled_behind away near between line rest k row edges beside apart_away trivia comma trivia_line quiet) same =
+        let p = pieces away near (between ++ k ∷ line) rest row edges beside in
+        let r = stretch_row away near (between ++ k ∷ line) rest row edges beside same p in
+        let is_k : content_at old k ≡ token 0x2C = comma_is (content_at old k) comma in
+        let k_there : k < length old =
+        (parent_there old tree k c (All-head (λ m. parent_at old m ≡ Some c) k line (All-back (λ m. parent_at old m ≡ Some c) (near ++ n ∷ between) (k ∷ line)
+        (subst (AreKids old c) (sym (append_assoc near (n ∷ between) (k ∷ line))) (All-front (λ m. parent_at old m ≡ Some c) (near ++ n ∷ (between ++ k ∷ line)) (rest ++ last ∷ [])
+        (All-back (λ m. parent_at old m ≡ Some c) (open_with ∷ away) ((near ++ n ∷ (between ++ k ∷ line)) ++ (rest ++ last ∷ [])) (subst (AreKids old c) row (all_kids old tree c)))))))).0 in
+        let mid = among_shown old tree between k line p.behind_it k_there (trivia_leaves (contents old between) trivia) p.shows_behind in
+        let behind_is : followed_by p.behind_it p.rest_of ≡ leaves_then (contents old between) (token_then 0x2C (leaves_then (contents old line) p.rest_of)) =
+        mid.is p.rest_of ∙ ap (λ (w : Content). leaves_then (contents old between) (more w (row_below old k) (followed_by mid.after p.rest_of))) is_k
+        ∙ ap (λ (t : OrderedTree). leaves_then (contents old between) (more (token 0x2C) t (followed_by mid.after p.rest_of))) (leaf_below old tree k k_there (ap is_container is_k))
+        ∙ ap (λ (t : OrderedTree). leaves_then (contents old between) (token_then 0x2C t)) (leaves_shown old tree line mid.after p.rest_of (trivia_leaves (contents old line) trivia_line) mid.shown) in
+        let whole_row : p.row_is ≡ followed_by p.front (among (contents old near) (top_at old n) (contents old between) (token_then 0x2C (leaves_then (contents old line) p.rest_of))) =
+        p.parts ∙ ap (λ (t : OrderedTree). followed_by p.front (leaves_then (contents old near) (more (content_at old n) (row_below old n) t))) behind_is in
+        record {
+          row = p.row_is;
+          left = followed_by p.front p.rest_of;
+          now = r.row;
+          was = p.was;
+          is = r.is;
+          leaves =
+              subst (λ j. ElementLeaves (top_at old n) j p.row_is (followed_by p.front p.rest_of)) (stretch_index away near (between ++ k ∷ line) rest row edges beside same p)
+              (subst (λ t. ElementLeaves (top_at old n) (element_count p.front) t (followed_by p.front p.rest_of)) (sym whole_row)
+              (with_comma_behind p.front p.rest_of (contents old near) (contents old between) (contents old line) (stretch_apart away near (between ++ k ∷ line) rest row edges beside same p apart_away) beside trivia trivia_line
+              (stretch_quiet away near (between ++ k ∷ line) rest row edges beside same p quiet)));
+          closes = r.shuts;
+        }
+    outcome _ (settled_before away mid near line rest {k = k} row edges beside apart_mid none_mid comma trivia_line first far close) loses =
+        let ahead : List ℕ = away ++ k ∷ mid in
+        let back : List ℕ = rest ++ last ∷ [] in
+        let p = pieces ahead near line rest row edges beside in
+        let is_k : content_at old k ≡ token 0x2C = comma_is (content_at old k) comma in
+        let kids = kids_front ahead near line rest row edges beside in
+        let others = others_ahead ahead near line rest row edges beside in
+        let at_k : AreKids old c (k ∷ mid) = All-back (λ m. parent_at old m ≡ Some c) (open_with ∷ away) (k ∷ mid) kids in
+        let k_there : k < length old = (parent_there old tree k c (All-head (λ m. parent_at old m ≡ Some c) k mid at_k)).0 in
+        let two = Shows-part old away (k ∷ mid) p.front p.shows_front in
+        let one = among_shown old tree [] k mid two.1 k_there tt two.4 in
+        let comma_then : (t : OrderedTree) → followed_by two.1 t ≡ token_then 0x2C (followed_by one.after t) = λ t. one.is t ∙ ap (λ (w : Content). more w (row_below old k) (followed_by one.after t)) is_k ∙ ap (λ (b : OrderedTree). more (token 0x2C) b (followed_by one.after t)) (leaf_below old tree k k_there (ap is_container is_k)) in
+        let front_then : (t : OrderedTree) → followed_by p.front t ≡ followed_by two.0 (token_then 0x2C (followed_by one.after t)) = λ t. ap (λ (f : OrderedTree). followed_by f t) two.2 ∙ followed_by-assoc two.0 two.1 t ∙ ap (followed_by two.0) (comma_then t) in
+        let left : OrderedTree = followed_by two.0 (followed_by one.after p.rest_of) in
+        let whole_row : p.row_is ≡ followed_by two.0 (token_then 0x2C (followed_by one.after (among (contents old near) (top_at old n) (contents old line) p.rest_of))) =
+        p.parts ∙ ap (λ (t : OrderedTree). followed_by p.front (leaves_then (contents old near) (more (content_at old n) (row_below old n) t))) (leaves_shown old tree line p.behind_it p.rest_of (trivia_leaves (contents old line) trivia_line) p.shows_behind)
+        ∙ front_then (among (contents old near) (top_at old n) (contents old line) p.rest_of) in
+        let whole_front : Whole o (followed_by two.0 two.1) = subst (Whole o) two.2 p.whole_front in
+        let whole_away : Whole o two.0 = whole_before o two.0 two.1 whole_front in
+        let front_is : two.1 ≡ token_then 0x2C one.after = sym (followed_by-none two.1) ∙ comma_then none ∙ ap (token_then 0x2C) (followed_by-none one.after) in
+        let whole_mid : Whole o one.after = whole_behind o (token_then 0x2C none) one.after (subst (Whole o) front_is (whole_behind o two.0 two.1 whole_front)) in
+        let shows_back : Shows old (mid ++ back) (followed_by one.after p.rest_of) = Shows-append old mid back one.after p.rest_of one.shown p.shows_rest in
+        let stays_row : children_at old c ≡ (open_with ∷ away) ++ k ∷ (mid ++ ((near ++ n ∷ line) ++ back)) = row ∙ append_assoc (open_with ∷ away) (k ∷ mid) ((near ++ n ∷ line) ++ back) in
+        let woven : Rewoven old joined c ((open_with ∷ away) ++ (mid ++ back)) =
+        comma_out old parted tree c (place_at old from) (place_at old to + 1) k (open_with ∷ away) mid (near ++ n ∷ line) back stays_row s (from_place ahead near line rest row edges beside) (to_place ahead near line rest row edges beside) joined loses in
+        let r = then_is ahead near line rest row edges beside joined closed (away ++ mid) left
+        (All-append (λ m. m ≢ last) (away ++ mid) rest (All-append (λ m. m ≢ last) away mid (All-front (λ m. m ≢ last) away (k ∷ mid) others) (All-tail (λ m. m ≢ last) k mid (All-back (λ m. m ≢ last) away (k ∷ mid) others))) (others_rest ahead near line rest row edges beside))
+        (All-append (λ m. parent_at old m ≡ Some c) (open_with ∷ away) mid (All-front (λ m. parent_at old m ≡ Some c) (open_with ∷ away) (k ∷ mid) kids) (All-tail (λ m. parent_at old m ≡ Some c) k mid at_k))
+        (subst (λ (l : List ℕ). Shows old l left) (sym (append_assoc away mid back)) (Shows-append old away (mid ++ back) two.0 (followed_by one.after p.rest_of) two.3 shows_back))
+        (subst (λ (l : List ℕ). Rewoven old joined c (open_with ∷ l)) (sym (append_assoc away mid back)) woven) in
+        let no_comma_counts : count (contents old (k ∷ mid)) ≡ count (contents old mid) = ap (λ w. if is_element w then suc (count (contents old mid)) else count (contents old mid)) is_k in
+        let counts : element_count two.0 + element_count one.after ≡ i =
+        ap (λ j. j + element_count one.after) (count_shown old two.3) ∙ ap (λ j. count (contents old away) + j) (count_shown old one.shown ∙ sym no_comma_counts) ∙ sym (count_append (contents old away) (contents old (k ∷ mid)))
+        ∙ ap count (sym (map-append (content_at old) away (k ∷ mid))) ∙ sym (index ahead near line rest row edges beside) in
+        let mid_apart : IsTrue (ends_apart (token_then 0x2C one.after)) = subst (λ t. IsTrue (ends_apart t)) front_is (apart_shown old two.4 ∙ apart_mid) in
+        record {
+          row = p.row_is;
+          left = left;
+          now = r.row;
+          was = p.was;
+          is = r.is;
+          leaves =
+              subst (λ j. ElementLeaves (top_at old n) j p.row_is left) counts
+              (subst (λ t. ElementLeaves (top_at old n) (element_count two.0 + element_count one.after) t left) (sym whole_row)
+              (with_comma_before two.0 one.after p.rest_of (contents old near) (contents old line) mid_apart (commas_shown old one.shown ∙ none_mid) beside trivia_line (ap not (first_shown old p.shows_rest ∙ first))
+              (meet_bare old o two.3 whole_away shows_back (whole_joined o one.after p.rest_of whole_mid p.whole_rest) ∙ quiet_inside old open_with away (mid ++ back) far)
+              (meet_bare old o one.shown whole_mid p.shows_rest p.whole_rest ∙ close)));
+          closes = r.shuts;
+        }

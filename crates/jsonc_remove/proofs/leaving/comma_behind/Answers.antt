@@ -1,0 +1,7 @@
+use Rattle.std.proofs.Common.{sym, subst}
+use Rattle.jsonc_nodes.specs.Siblings.{IsThere}
+use Rattle.jsonc_remove.proofs.Walking.{trailing_there}
+use Rattle.jsonc_remove.proofs.leaving.comma_behind.Goals as goal
+
+pub if_inner-requires : goal.if_inner-requires
+if_inner-requires g c = subst (IsThere c.args.tree.now.nodes) (sym c.trailing_comma.ensures.comma) (trailing_there c.args.tree.now.nodes c.len.ensures.tree c.args.node)

@@ -1,0 +1,13 @@
+pub mod RowParts
+pub mod LinesLeft
+pub mod SoundLeft
+pub mod Entries
+pub mod LostEntries
+pub mod AtPath
+pub mod LostValues
+pub mod LostMarks
+pub mod RootRows
+pub mod WithoutValue
+pub mod FirstValue
+pub mod Between
+pub mod GivenProperties

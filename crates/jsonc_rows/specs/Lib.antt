@@ -1,0 +1,5 @@
+pub mod Leaving
+pub mod Coming
+pub mod Values
+pub mod Laws
+pub mod Properties

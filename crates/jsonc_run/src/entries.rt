@@ -1,0 +1,52 @@
+//! Entries by their paths.
+
+ghost use Rattle.std.specs.Prelude.{◌≡◌, ◌<◌, Some, length};
+ghost use Rattle.jsonc_tree.specs.Content.{property};
+ghost use Rattle.jsonc_tree.specs.Tree.{content_at};
+ghost use Rattle.jsonc_nodes.specs.Siblings.{IsThere};
+ghost use Rattle.jsonc_edit.specs.Paths.{FindsExactly};
+ghost use Rattle.jsonc_run.specs.Edits.{IsEntryAt, IsEntryOf};
+
+use jsonc_edit::find;
+use jsonc_nodes::element_at;
+use jsonc_tree::{Kind, Tree};
+use std::alloc::Allocator;
+
+// The node, if there is one and it is a property.
+fn if_property<A: Allocator>(tree: &Tree<A>, found: Option<usize>) -> Option<usize>
+    requires { IsThere tree.now.nodes found }
+    ensures found { FindsExactly result (λ n. (found ≡ Some n) × (content_at tree.now.nodes n ≡ property)) }
+    ensures there { IsThere tree.now.nodes result }
+{
+    let node = found?;
+    match tree.kind(node) {
+        Kind::Property => Some(node),
+        _ => None,
+    }
+}
+
+// The entry at a place of an array or object.
+fn entry_of<A: Allocator>(tree: &Tree<A>, container: usize, place: usize) -> Option<usize>
+    requires { container < length tree.now.nodes }
+    ensures found { FindsExactly result (IsEntryOf tree.now.nodes container place) }
+    ensures there { IsThere tree.now.nodes result }
+{
+    match tree.kind(container) {
+        Kind::Array => element_at(tree, container, place),
+        Kind::Object => if_property(tree, element_at(tree, container, place)),
+        _ => None,
+    }
+}
+
+/// What leaves with a path: the document's value, where the path is empty, or the element of an array or
+/// the property of an object that its last step leads to.
+pub fn find_entry<A: Allocator>(tree: &Tree<A>, path: &[usize]) -> Option<usize>
+    ensures found { FindsExactly result (IsEntryAt tree.now.nodes path.now) }
+    ensures there { IsThere tree.now.nodes result }
+{
+    let Some((last, front)) = path.split_last() else {
+        return find(tree, path);
+    };
+    let container = find(tree, front)?;
+    entry_of(tree, container, *last)
+}

@@ -1,0 +1,6 @@
+pub mod Rising
+pub mod Making
+pub mod FirstRow
+pub mod Coming
+pub mod Gaining
+pub mod PropertyGiving

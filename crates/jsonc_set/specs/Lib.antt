@@ -1,0 +1,4 @@
+pub mod RootSet
+pub mod Kinds
+pub mod Giving
+pub mod Laws

@@ -1,0 +1,19 @@
+//! Edits by the numbers of nodes that set values.
+//!
+//! [`set_root`] sets the document's value: another gives way to it, or where none stands it comes with
+//! the ends of lines that it needs (`specs/RootSet.antt`). [`clear_root`] takes all out of the document.
+//! [`object_value_or_create`] and its kin answer the document's object or array, and set an empty one
+//! where there is none (`specs/Kinds.antt`). All memory is asked for before the document changes.
+#![tactic(auto)]
+
+mod first;
+mod kinds;
+pub mod laws;
+mod properties;
+mod root;
+
+pub use kinds::{
+    array_value_or_create, array_value_or_set, object_value_or_create, object_value_or_set,
+};
+pub use properties::replace_property;
+pub use root::{clear_root, set_root};
