@@ -6,7 +6,6 @@ use Rattle.jsonc_text.specs.Plain.{Plain}
 use Rattle.jsonc_tree.specs.Building.{Builds, Keeps}
 use Rattle.jsonc_tree.specs.Changes.{CanJoin, Splices}
 use Rattle.jsonc_tree.specs.Content.{Content, property}
-use Rattle.jsonc_tree.specs.OrderedTree.{ordered_tree}
 use Rattle.jsonc_tree.specs.Tree.{Node, content_at, parent_at, place_at, IsTree, IsOver}
 use Rattle.jsonc_tree.proofs.Order.{parent_there}
 use Rattle.jsonc_sound.specs.TreeChanges.{IsElement}

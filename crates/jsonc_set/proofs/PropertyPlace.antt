@@ -1,19 +1,17 @@
 -- Where a property has given way to another, the object stands where it stood, and the new one is the element that the old one was.
-use Rattle.std.proofs.Common.{◌≡◌, ◌≢◌, ℕ, ◌+◌, ◌<◌, Bool, true, List, [], ◌∷◌, ◌++◌, length, take, drop, filter, slice_get, slice_index, Some, inl, inr, refl, sym, ap, subst, ◌∙◌, arith}
+use Rattle.std.proofs.Common.{◌≡◌, ◌≢◌, ℕ, ◌+◌, Bool, true, List, [], ◌∷◌, ◌++◌, length, take, drop, filter, slice_get, slice_index, Some, inl, inr, refl, sym, ap, subst, ◌∙◌}
 use Rattle.std.proofs.lemmas.Bool.{cases_Bool}
 use Rattle.std.specs.List.{splice}
 use Rattle.jsonc_text.specs.Plain.{Plain}
-use Rattle.jsonc_tree.specs.Building.{Keeps}
 use Rattle.jsonc_tree.specs.OrderedTree.{Top}
-use Rattle.jsonc_tree.specs.Tree.{Node, content_at, parent_at, children_at, place_at, IsTree, IsOver}
+use Rattle.jsonc_tree.specs.Tree.{Node, parent_at, children_at, place_at, IsTree}
 use Rattle.jsonc_tree.proofs.Order.{not_over_parent, parent_there}
 use Rattle.jsonc_tree.proofs.Over.{over_up}
 use Rattle.jsonc_nodes.specs.Kinds.{is_element, is_element_at}
 use Rattle.jsonc_nodes.specs.Siblings.{elements_at}
 use Rattle.jsonc_sound.specs.TreeChanges.{IsElement}
 use Rattle.jsonc_spaces.specs.Due.{listed}
-use Rattle.jsonc_spaces.specs.Put.{AreSpaced, StandsBefore}
-use Rattle.jsonc_spaces.proofs.Putting.{contents_kept}
+use Rattle.jsonc_spaces.specs.Put.{AreSpaced}
 use Rattle.jsonc_edit.specs.Paths.{IsElementOf, StepsTo, LeadsTo, itself, step, IsAt}
 use Rattle.jsonc_edit.specs.Reading.{layout_for}
 use Rattle.jsonc_edit.proofs.Elements.{Some_same, taken, left, StandsAt, stands_at}
@@ -21,7 +19,7 @@ use Rattle.jsonc_edit.proofs.GivingWay.{InPlace, in_place}
 use Rattle.jsonc_edit.proofs.Kept.{at_kept, filter_same}
 use Rattle.jsonc_edit.proofs.Spacing.{at_stays}
 use Rattle.jsonc_edit.proofs.Uniqueness.{element_parent, leads_over}
-use Rattle.jsonc_set.specs.Giving.{due_after, property_top, PropertyGivesWay, IsPropertyReplaced}
+use Rattle.jsonc_set.specs.Giving.{due_after, property_top}
 use Rattle.jsonc_set.specs.Properties.{TakesPropertysPlace}
 use Rattle.jsonc_set.proofs.PropertyRows.{elements_spaced}
 

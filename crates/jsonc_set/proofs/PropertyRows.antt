@@ -1,5 +1,5 @@
 -- A property in the row of an object: what stands beside it, and what it prints first and last.
-use Rattle.std.proofs.Common.{◌≡◌, ℕ, suc, ◌+◌, ◌<◌, Bool, true, false, ◌&&◌, cond, List, [], ◌∷◌, ◌++◌, length, take, drop, filter, Option, Some, None, IsTrue, if◌then◌else◌, refl, sym, ap, subst, ◌∙◌}
+use Rattle.std.proofs.Common.{◌≡◌, ℕ, suc, ◌+◌, Bool, true, false, ◌&&◌, cond, List, [], ◌∷◌, ◌++◌, length, take, drop, filter, Option, Some, None, if◌then◌else◌, refl, sym, ap, subst, ◌∙◌}
 use Rattle.std.proofs.lemmas.Bool.{false≢true}
 use Rattle.std.proofs.lemmas.List.{append-nil, take-append-drop, drop_more}
 use Rattle.std.proofs.lemmas.List.Elements.{All-nil}
@@ -7,7 +7,7 @@ use Rattle.std.specs.List.{All}
 use Rattle.jsonc_text.specs.Options.{Options}
 use Rattle.jsonc_text.specs.Plain.{Plain}
 use Rattle.jsonc_text.specs.Grammar.{IsDocument}
-use Rattle.jsonc_tree.specs.Content.{Content, array, object, property, token, whitespace}
+use Rattle.jsonc_tree.specs.Content.{Content, object, property, token, whitespace}
 use Rattle.jsonc_tree.specs.OrderedTree.{OrderedTree, none, more, own_leaf, leaves, followed_by, Shows, shows_none, shows_more, Top}
 use Rattle.jsonc_tree.specs.Tree.{Node, content_at, parent_at, children_at, place_at, IsTree, IsOver}
 use Rattle.jsonc_tree.specs.Values as values
@@ -16,7 +16,7 @@ use Rattle.jsonc_tree.proofs.Order.{parent_there}
 use Rattle.jsonc_tree.proofs.OrderedTrees.{Shows-unique, leaves-followed_by}
 use Rattle.jsonc_tree.proofs.Over.{over_up}
 use Rattle.jsonc_tree.proofs.Rows.{Shows-part}
-use Rattle.jsonc_build.specs.Shape.{IsLiteralBefore, PrintsDocument, printed_text, token_then}
+use Rattle.jsonc_build.specs.Shape.{IsLiteralBefore, printed_text, token_then}
 use Rattle.jsonc_build.proofs.ShapeValues.{document_printed}
 use Rattle.jsonc_nodes.specs.Kinds.{is_element, is_element_at}
 use Rattle.jsonc_nodes.specs.Siblings.{elements_at}
@@ -32,16 +32,16 @@ use Rattle.jsonc_seams.specs.Alone as alone
 use Rattle.jsonc_seams.specs.Alone.{ValueAlone, RowAlone, PropertyAlone}
 use Rattle.jsonc_seams.specs.InRows.{row_around}
 use Rattle.jsonc_seams.specs.SoundTrees.{SoundTree}
-use Rattle.jsonc_seams.specs.Spaces.{is_bare, is_bare_leaf, first_printed, meet}
+use Rattle.jsonc_seams.specs.Spaces.{is_bare, is_bare_leaf, first_printed}
 use Rattle.jsonc_seams.proofs.RowsWithin.{LeafPrints, name_prints}
 use Rattle.jsonc_seams.proofs.Spaces.{last_append}
 use Rattle.jsonc_marks.specs.Marks.{marks}
 use Rattle.jsonc_marks.proofs.GivingWay.{space_keeps_marks}
 use Rattle.jsonc_rows.specs.Leaving.{element_count}
-use Rattle.jsonc_rows.specs.Properties.{among_properties, object_of}
+use Rattle.jsonc_rows.specs.Properties.{object_of}
 use Rattle.jsonc_spaces.specs.Due.{begins_bare, due_before, due_behind, seen_behind, listed}
 use Rattle.jsonc_spaces.specs.Put.{AreSpaced}
-use Rattle.jsonc_spaces.proofs.Meeting.{Printed, value_last}
+use Rattle.jsonc_spaces.proofs.Meeting.{value_last}
 use Rattle.jsonc_spaces.proofs.Putting.{elements_kept}
 use Rattle.jsonc_spaces.proofs.Quiet.{quiet_behind}
 use Rattle.jsonc_edit.specs.Changes.{row_below, top_at}
