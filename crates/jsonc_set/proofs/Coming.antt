@@ -25,7 +25,7 @@ use Rattle.jsonc_seams.proofs.Changed.{alone_element}
 use Rattle.jsonc_rows.specs.Coming.{ValueComes, value_comes}
 use Rattle.jsonc_rows.specs.Leaving.{among}
 use Rattle.jsonc_rows.proofs.RootRows.{leaves_then_joined, line_ends_trivia, passed_first, root_alone}
-use Rattle.jsonc_edit.specs.Changes.{row_below, top_at, Respliced}
+use Rattle.jsonc_edit.specs.Changes.{row_below, Respliced}
 use Rattle.jsonc_edit.specs.Reading.{layout_for}
 use Rattle.jsonc_from_input.specs.Laid.{laid}
 use Rattle.jsonc_edit.proofs.FittingFinds.{none_first}
@@ -40,7 +40,6 @@ no_container (Content.whitespace s) h = refl
 no_container (Content.newline k) h = refl
 no_container (Content.comment s) h = refl
 no_container content h = cc
-
 
 trivia_is : (o : Options) (content : Content) → IsTrivia o content → IsTrue (is_trivia content)
 trivia_is o (Content.whitespace s) h = refl

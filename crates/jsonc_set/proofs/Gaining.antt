@@ -31,7 +31,7 @@ use Rattle.jsonc_edit.proofs.GivingWay.{laid_element}
 use Rattle.jsonc_edit.proofs.OneValue.{document_once}
 use Rattle.jsonc_edit.proofs.Walk.{Shows-row_below, document_is}
 use Rattle.jsonc_edit.proofs.Writable.{value_may_stand}
-use Rattle.jsonc_set.specs.Laws.{Means, GainsValue, GivesFirstValue, IsBareDocument, LeavesBareDocument}
+use Rattle.jsonc_set.specs.Laws.{Means, GivesFirstValue, LeavesBareDocument}
 use Rattle.jsonc_set.proofs.Coming.{comes_among_rows}
 
 module _ (o : Options) where

@@ -4,3 +4,6 @@ pub mod FirstRow
 pub mod Coming
 pub mod Gaining
 pub mod PropertyGiving
+pub mod PropertyRows
+pub mod WrittenProperty
+pub mod PropertyPlace

@@ -1,5 +1,5 @@
 -- A first value: what was made ready for it, and what its coming does.
-use Rattle.std.proofs.Common.{◌≡◌, ◌≢◌, ◌==◌, ℕ, ◌+◌, ◌<◌, ◌≤◌, Bool, cond, false, List, [], ◌∷◌, ◌++◌, length, map, slice_range, Option, Some, None, IfSome, Result, IfOk, refl, sym, ap, subst, ◌∙◌, arith}
+use Rattle.std.proofs.Common.{◌≡◌, ◌==◌, ℕ, ◌<◌, ◌≤◌, Bool, cond, false, List, [], ◌∷◌, ◌++◌, length, map, slice_range, Option, Some, None, IfSome, Result, IfOk, refl, sym, ap, subst, ◌∙◌, arith}
 use Rattle.std.proofs.lemmas.List.{get_or_default, nil_from_length}
 use Rattle.std.proofs.lemmas.List.Edits.{length-between}
 use Rattle.jsonc_text.specs.Plain.{Plain}
@@ -8,7 +8,6 @@ use Rattle.jsonc_tree.specs.Changes.{CanJoin, MakesRoom, Splices}
 use Rattle.jsonc_tree.specs.Content.{Content}
 use Rattle.jsonc_tree.specs.OrderedTree.{OrderedTree, ordered_tree}
 use Rattle.jsonc_tree.specs.Tree.{Node, content_at, parent_at, children_at, is_in, IsTree}
-use Rattle.jsonc_tree.specs.declared.node.CstNewlineKind.{CstNewlineKind}
 use Rattle.jsonc_tree.proofs.Builder.{Keeps-then, Keeps-fewer, Keeps-room}
 use Rattle.jsonc_tree.proofs.Splicing.{out_from}
 use Rattle.jsonc_from_input.specs.Layout.{Layout}
@@ -21,10 +20,9 @@ use Rattle.jsonc_spaces.specs.Put.{Prepared}
 use Rattle.jsonc_edit.specs.Changes.{top_at}
 use Rattle.jsonc_edit.specs.Comments.{newline_from}
 use Rattle.jsonc_edit.specs.Reading.{layout_for}
-
 use Rattle.jsonc_edit.proofs.FittingFinds.{found_one}
 use Rattle.jsonc_edit.proofs.Kept.{built_top, top_stays, tree_stays}
-use Rattle.jsonc_set.specs.RootSet.{first_place, follows_comment, leads_in, leads_out, line_end_if, FirstValue, IsFresh, KeepsNodes, LineEndMade}
+use Rattle.jsonc_set.specs.RootSet.{first_place, follows_comment, leads_in, leads_out, line_end_if, FirstValue, IsFresh, KeepsNodes}
 use Rattle.jsonc_set.proofs.Rising.{Rising, risen, around_rises, may_join}
 
 -- what is ready stays ready while more is made

@@ -6,7 +6,6 @@ use Rattle.jsonc_text.specs.Plain.{Plain}
 use Rattle.jsonc_tree.specs.Building.{Builds, Keeps}
 use Rattle.jsonc_tree.specs.Changes.{CanJoin, Splices}
 use Rattle.jsonc_tree.specs.Content.{Content, property}
-use Rattle.jsonc_tree.specs.OrderedTree.{ordered_tree}
 use Rattle.jsonc_tree.specs.Tree.{Node, content_at, parent_at, place_at, IsTree, IsOver}
 use Rattle.jsonc_tree.proofs.Order.{parent_there}
 use Rattle.jsonc_sound.specs.TreeChanges.{IsElement}
@@ -26,7 +25,7 @@ use Rattle.jsonc_edit.proofs.Spacing.{Aside, AnySpaced, any_spaced}
 use Rattle.jsonc_set.specs.Giving.{due_after, is_bare_value, property_top, PropertyGivesWay, IsPropertyReplaced}
 use Rattle.jsonc_set.proofs.Making.{still_kept}
 
-last_all : (P : ℕ → Type 0) (o : Option ℕ) (ys : List ℕ) → All P (listed o ++ ys) → All P ys
+pub last_all : (P : ℕ → Type 0) (o : Option ℕ) (ys : List ℕ) → All P (listed o ++ ys) → All P ys
 last_all P None ys f = f
 last_all P (Some x) ys f = All-tail P x ys f
 

@@ -1,4 +1,5 @@
 pub mod RootSet
 pub mod Kinds
 pub mod Giving
+pub mod Properties
 pub mod Laws
