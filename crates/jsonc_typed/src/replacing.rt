@@ -1,4 +1,4 @@
-//! Edits of a document: a value gives way to another, and a comment leaves.
+//! A value gives way to another.
 
 ghost use Rattle.std.specs.Prelude.{◌≡◌, ◌<◌, IfErr, IfNone, IfOk, IfSome, None, false, OnErr, OnOk, length};
 ghost use Rattle.jsonc_text.specs.Options.{Options};
@@ -9,18 +9,15 @@ ghost use Rattle.jsonc_nodes.specs.Properties.{name_at};
 ghost use Rattle.jsonc_edit.specs.Reading.{IsReplaced, IsReplacedRaw};
 ghost use Rattle.jsonc_edit.specs.Written.{Writes};
 ghost use Rattle.jsonc_cst.specs.Document.{parent_of, tree_of, Holds};
-ghost use Rattle.jsonc_cst.specs.Edits.{is_found, is_name_in, IsReplacedAs};
-ghost use Rattle.jsonc_cst.specs.Edits.{HasGivenWay, HasLost, HasWritten, IsSpaceDueWithout, IsUntouched, StillHolds, StillNodes};
-ghost use Rattle.jsonc_cst.specs.Nodes.{comment_node, number_of, IsNodeOf};
+ghost use Rattle.jsonc_typed.specs.Edits.{is_found, is_name_in, IsReplacedAs};
+ghost use Rattle.jsonc_typed.specs.Edits.{HasGivenWay, HasWritten, IsUntouched, StillHolds, StillNodes};
+ghost use Rattle.jsonc_cst.specs.Nodes.{number_of, IsNodeOf};
 ghost use Rattle.jsonc_cst.specs.Tree.{NodesAreTree};
 
-use super::access::node_at;
-use super::navigation::IsNode;
-use super::node::{
-    CstArray, CstBooleanLit, CstComment, CstNode, CstNullKeyword, CstNumberLit, CstObject,
-    CstStringLit, CstWordLit,
+use jsonc_cst::cst::{
+    CstArray, CstBooleanLit, CstNode, CstNullKeyword, CstNumberLit, CstObject, CstRootNode,
+    CstStringLit, CstWordLit, EditError, IsNode, node_at,
 };
-use super::{CstRootNode, EditError};
 use jsonc_input::CstInputValue;
 use jsonc_tree::{Kind, Tree};
 use std::alloc::Allocator;
@@ -154,30 +151,6 @@ pub trait ReplaceWith: IsNode {
         let replaced = replace_node(doc.alloc, &mut doc.tree, self.node().number(), &value);
         doc.nodes_are_tree();
         replaced
-    }
-}
-
-impl CstComment {
-    /// Takes it out of the document.
-    ///
-    /// With a line comment go the whitespace leaves directly before it, and the newline leaf directly
-    /// before those. Where two literals without quotes would come to stand directly beside each other,
-    /// a space comes between them. Its memory alone may be wanted, and a refusal leaves the document as
-    /// it was. Where the comment is nobody's child no node changes.
-    pub fn remove<A: Allocator + Copy>(self, doc: &mut CstRootNode<A>) -> Result<(), EditError>
-        requires { Holds doc.old (comment_node self) }
-        ensures removed { OnOk result (HasLost doc.old doc.new self) }
-        ensures untouched { parent_of doc.old (comment_node self) ≡ None → IsUntouched doc.old doc.new }
-        ensures stays { StillHolds doc.old doc.new }
-        ensures memory { IfErr result (λ e. e ≡ EditError.OutOfMemory) }
-        ensures wanted { OnErr result (IsSpaceDueWithout doc.old self) }
-        ensures document { OnErr result (tree_of doc.new ≡ tree_of doc.old) }
-        ensures tree { NodesAreTree doc.new }
-    {
-        doc.nodes_are_tree();
-        let removed = jsonc_edit::remove_comment(doc.alloc, &mut doc.tree, self.number);
-        doc.nodes_are_tree();
-        removed
     }
 }
 

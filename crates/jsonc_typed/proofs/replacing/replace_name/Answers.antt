@@ -1,7 +1,7 @@
 use Rattle.jsonc_input.specs.Views.{plain}
 use Rattle.jsonc_edit.specs.Reading.{IsReplacedRaw}
-use Rattle.jsonc_cst.proofs.Kept.{as_typed, nodes_stay, of_some, raw_there, stay_raw}
-use Rattle.jsonc_cst.proofs.cst.edits.replace_name.Goals as goal
+use Rattle.jsonc_typed.proofs.Kept.{as_typed, nodes_stay, of_some, raw_there, stay_raw}
+use Rattle.jsonc_typed.proofs.replacing.replace_name.Goals as goal
 
 pub node_at-requires : goal.node_at-requires
 node_at-requires g c =

@@ -1,5 +1,5 @@
 -- Nodes that a document still has after an edit.
-use Rattle.std.proofs.Common.{◌≡◌, ℕ, ◌+◌, ◌<◌, ◌≤◌, List, [], ◌∷◌, length, Option, Some, None, Result, Ok, Err, OnErr, OnOk, IfOk, IfSome, refl, sym, ap, subst, ◌∙◌, arith}
+use Rattle.std.proofs.Common.{◌≡◌, Bool, not, inl, inr, ℕ, ◌+◌, ◌<◌, ◌≤◌, List, [], ◌∷◌, length, Option, Some, None, Result, Ok, Err, OnErr, OnOk, IfOk, IfSome, refl, sym, ap, subst, ◌∙◌, arith}
 use Rattle.jsonc_text.specs.Plain.{Plain}
 use Rattle.jsonc_tree.specs.Building.{Keeps}
 use Rattle.jsonc_tree.specs.Changes.{Splices}
@@ -11,6 +11,8 @@ use Rattle.jsonc_edit.specs.Comments.{TakesOut}
 use Rattle.jsonc_edit.specs.Reading.{IsReplaced, IsReplacedRaw}
 use Rattle.jsonc_edit.specs.Replacing.{GivesWay}
 use Rattle.jsonc_edit.proofs.TakingOut.{parents_spaced}
+use Rattle.std.proofs.lemmas.Bool.{cases_Bool}
+use Rattle.jsonc_remove.specs.Removed.{is_hollow, IsClosedUp, IsTakenFrom, LosesChild, TakesElement}
 use Rattle.jsonc_cst.specs.declared.cst.node.CstNode.{CstNode}
 use Rattle.jsonc_cst.specs.Nodes.{number_of, typed, typed_at, IsNodeOf}
 use Rattle.jsonc_cst.proofs.Family.{number_of-typed}
@@ -102,3 +104,31 @@ stay_taken old new n tree untouched taken (Some c) e =
 pub stay_either : {T E : Type 0} (old new : List Node) (n : ℕ) (r : Result T E) → IsTree old → (parent_at old n ≡ None → new ≡ old) → OnOk r (TakesOut old new n) → OnErr r (Keeps (length old) old new) → Stays old new
 stay_either old new n (Ok x) tree untouched taken kept = stay_taken old new n tree untouched taken (parent_at old n) refl
 stay_either old new n (Err e) tree untouched taken kept = stay_kept old new kept
+
+-- nothing changes where a node has no parent, and what was there stays where it has one
+pub stay_by : (old new : List Node) (n : ℕ) → (parent_at old n ≡ None → new ≡ old) → ((c : ℕ) → parent_at old n ≡ Some c → Stays old new) → (o : Option ℕ) → parent_at old n ≡ o → Stays old new
+stay_by old new n untouched taken None e = stay_same old new (untouched e)
+stay_by old new n untouched taken (Some c) e = taken c e
+
+stay_lost : (old new : List Node) (c : ℕ) (o : Option ℕ) → LosesChild old new c o → Stays old new
+stay_lost old new c None e = stay_same old new e
+stay_lost old new c (Some k) s = stay_spliced old new _ _ _ _ s
+
+stay_closed : (old new : List Node) (c : ℕ) → IsClosedUp old new c → Stays old new
+stay_closed old new c closed =
+    elim (cases_Bool (is_hollow old c)) [
+      | inl e ↦ stay_spliced old new _ _ _ _ (closed.0 e)
+      | inr e ↦ stay_same old new (closed.1 (ap not e))
+    ]
+
+-- where an element is taken out
+stay_taken_from : (old new : List Node) (n c : ℕ) → IsTakenFrom old new n c → Stays old new
+stay_taken_from old new n c t =
+    stay_both old t.ready new (stay_kept old t.ready t.prepared.keeps)
+    (stay_both t.ready t.spaced new (stay_spaced _ t.ready t.spaced t.spaces)
+    (stay_both t.spaced t.parted new (stay_spliced t.spaced t.parted _ _ _ _ t.stretch)
+    (stay_both t.parted t.joined new (stay_lost t.parted t.joined c _ t.comma) (stay_closed t.joined new c t.closed))))
+
+pub stay_element : {T E : Type 0} (old new : List Node) (n : ℕ) (r : Result T E) → (parent_at old n ≡ None → new ≡ old) → OnOk r (TakesElement old new n) → OnErr r (Keeps (length old) old new) → Stays old new
+stay_element old new n (Ok x) untouched taken kept = stay_by old new n untouched (λ c e. stay_taken_from old new n c (taken c e).1) (parent_at old n) refl
+stay_element old new n (Err e) untouched taken kept = stay_kept old new kept

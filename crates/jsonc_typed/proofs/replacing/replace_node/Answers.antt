@@ -1,10 +1,10 @@
 use Rattle.std.proofs.Common.{◌≡◌, false}
 use Rattle.jsonc_input.specs.Views.{plain}
 use Rattle.jsonc_edit.specs.Written.{Writes}
-use Rattle.jsonc_cst.specs.Edits.{is_name_in}
+use Rattle.jsonc_typed.specs.Edits.{is_name_in}
 use Rattle.jsonc_cst.specs.Nodes.{number_of}
-use Rattle.jsonc_cst.proofs.Kept.{answer_under}
-use Rattle.jsonc_cst.proofs.cst.edits.replace_node.Goals as goal
+use Rattle.jsonc_typed.proofs.Kept.{answer_under}
+use Rattle.jsonc_typed.proofs.replacing.replace_node.Goals as goal
 
 pub returns-clause-written : goal.returns-clause-written
 returns-clause-written g c = λ p.

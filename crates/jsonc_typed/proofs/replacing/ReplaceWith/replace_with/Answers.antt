@@ -1,9 +1,9 @@
 use Rattle.std.proofs.Common.{◌≡◌, false, IfOk, IfSome, ap, subst, ◌∙◌}
 use Rattle.jsonc_input.specs.Views.{plain}
 use Rattle.jsonc_edit.specs.Written.{Writes}
-use Rattle.jsonc_cst.specs.Edits.{is_name_in, IsReplacedAs}
+use Rattle.jsonc_typed.specs.Edits.{is_name_in, IsReplacedAs}
 use Rattle.jsonc_cst.specs.Nodes.{number_of}
-use Rattle.jsonc_cst.proofs.cst.edits.ReplaceWith.replace_with.Goals as goal
+use Rattle.jsonc_typed.proofs.replacing.ReplaceWith.replace_with.Goals as goal
 
 pub returns-clause-replaced : goal.returns-clause-replaced
 returns-clause-replaced g c =

@@ -1,8 +1,8 @@
 use Rattle.jsonc_input.specs.Views.{plain}
 use Rattle.jsonc_edit.specs.Reading.{IsReplaced}
 use Rattle.jsonc_edit.specs.Written.{Writes}
-use Rattle.jsonc_cst.proofs.Kept.{as_typed, nodes_stay, of_some, replaced_there, stay_replaced}
-use Rattle.jsonc_cst.proofs.cst.edits.replace_value.Goals as goal
+use Rattle.jsonc_typed.proofs.Kept.{as_typed, nodes_stay, of_some, replaced_there, stay_replaced}
+use Rattle.jsonc_typed.proofs.replacing.replace_value.Goals as goal
 
 pub node_at-requires : goal.node_at-requires
 node_at-requires g c =

@@ -1,15 +1,13 @@
--- What an edit makes of a document: in which node a child gives way to a value, what leaves with a comment, and which nodes the document still has.
+-- What an edit makes of a document: in which node a child gives way to a value, and which nodes the document still has.
 use Rattle.std.specs.Prelude.{◌≡◌, ◌==◌, ℕ, Bool, true, false, List, Option, Some, None, if◌then◌else◌}
 use Rattle.jsonc_text.specs.Options.{Options}
 use Rattle.jsonc_text.specs.Plain.{Plain}
 use Rattle.jsonc_tree.specs.Tree.{Node, content_at, parent_at}
 use Rattle.jsonc_nodes.specs.Kinds.{is_property}
 use Rattle.jsonc_nodes.specs.Properties.{name_at}
-use Rattle.jsonc_edit.specs.Comments.{TakesOut, WantsSpace}
 use Rattle.jsonc_edit.specs.Reading.{IsReplaced, IsReplacedRaw}
 use Rattle.jsonc_edit.specs.Written.{Writes}
 use Rattle.jsonc_cst.specs.declared.cst.CstRootNode.{CstRootNode}
-use Rattle.jsonc_cst.specs.declared.cst.node.CstComment.{CstComment}
 use Rattle.jsonc_cst.specs.declared.cst.node.CstNode.{CstNode}
 use Rattle.jsonc_cst.specs.Document.{nodes_of}
 use Rattle.jsonc_cst.specs.Nodes.{number_of, IsNodeOf}
@@ -53,12 +51,3 @@ module _ {A : Type 0} (old new : CstRootNode A) where
   -- if the old document is sound, and the node a value at a path, then with the new value there the text is a document again, whose value has changed there alone
   abbrev pub HasWritten : Options → CstNode → Plain → CstNode → Type 0
   HasWritten o node v now = is_name_in (nodes_of old) (number_of node) ≡ false → Writes o (nodes_of old) (nodes_of new) (number_of node) (number_of now) v
-
-  -- the comment has left, with what leaves with it, and a space has come where one is due
-  abbrev pub HasLost : CstComment → Type 0
-  HasLost comment = TakesOut (nodes_of old) (nodes_of new) comment.number
-
-module _ {A : Type 0} where
-  -- a space is due where the comment leaves
-  abbrev pub IsSpaceDueWithout : CstRootNode A → CstComment → Type 0
-  IsSpaceDueWithout d comment = WantsSpace (nodes_of d) comment.number
