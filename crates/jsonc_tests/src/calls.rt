@@ -7,10 +7,12 @@ use crate::inputs::inputs;
 use crate::lines::laid_out;
 use crate::maps::changed_map;
 use crate::outcome::Outcome;
+use crate::readings::{listed, spread};
 use crate::tokens::decode_provided;
 use crate::tree_copies::tree_copies;
 use crate::trees::changed_tree;
 use crate::typed::{children, names};
+use crate::values::taken;
 use jsonc_engine::calls::{FromReader, ToWriter};
 use jsonc_engine::command::Command;
 use jsonc_engine::engine::{engine, run_on};
@@ -44,6 +46,9 @@ pub enum Call {
     Document,
     Children,
     Names,
+    Readings,
+    Values,
+    Lists,
     TokenCopy,
     MapChanges,
     TreeChanges,
@@ -53,8 +58,8 @@ pub enum Call {
     WholeRun,
 }
 
-/// All of them.
-pub const CALLS: [Call; 19] = [
+/// Those that want memory where one of their requests is refused.
+pub const CALLS: [Call; 21] = [
     Call::Decode,
     Call::DecodeProvided,
     Call::Inputs,
@@ -67,6 +72,8 @@ pub const CALLS: [Call; 19] = [
     Call::Document,
     Call::Children,
     Call::Names,
+    Call::Readings,
+    Call::Values,
     Call::TokenCopy,
     Call::MapChanges,
     Call::TreeChanges,
@@ -75,6 +82,9 @@ pub const CALLS: [Call; 19] = [
     Call::BytesToBytes,
     Call::WholeRun,
 ];
+
+/// Those that collect lists, and ask again for less where a request was refused.
+pub const LISTS: [Call; 1] = [Call::Lists];
 
 /// A text of plain JSON, with more elements and properties than a list has room for at first.
 const PLAIN: &str =
@@ -108,6 +118,9 @@ pub fn outcome_of(call: Call, heap: Heap<'_>) -> Outcome {
         Call::Document => document(heap),
         Call::Children => children(heap),
         Call::Names => names(heap),
+        Call::Readings => spread(heap),
+        Call::Values => taken(heap),
+        Call::Lists => listed(heap),
         Call::TokenCopy => token_copy(heap),
         Call::MapChanges => changed_map(heap),
         Call::TreeChanges => changed_tree(heap),

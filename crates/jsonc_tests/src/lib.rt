@@ -4,15 +4,21 @@
 #![tactic(auto)]
 
 #[cfg(test)]
+mod answers;
+#[cfg(test)]
 mod awaited;
 #[cfg(test)]
 mod calls;
 #[cfg(test)]
 mod clones;
 #[cfg(test)]
+mod displays;
+#[cfg(test)]
 mod edits;
 #[cfg(test)]
 mod inputs;
+#[cfg(test)]
+mod kinds;
 #[cfg(test)]
 mod lines;
 #[cfg(test)]
@@ -22,9 +28,13 @@ mod nodes;
 #[cfg(test)]
 mod outcome;
 #[cfg(test)]
+mod readings;
+#[cfg(test)]
 mod refusals;
 #[cfg(test)]
 mod streams;
+#[cfg(test)]
+mod telling;
 #[cfg(test)]
 mod tokens;
 #[cfg(test)]
@@ -35,3 +45,5 @@ mod trees;
 mod typed;
 #[cfg(test)]
 mod unasked;
+#[cfg(test)]
+mod values;

@@ -60,7 +60,7 @@ fn above(tree: &Tree<Heap<'_>>, text: &str) -> Result<usize, Outcome>
     }
 }
 
-fn is_text(found: Option<String<Heap<'_>>>, text: &str) -> bool {
+pub fn is_text(found: Option<String<Heap<'_>>>, text: &str) -> bool {
     match found {
         Some(found) => found.as_str() == text,
         None => false,

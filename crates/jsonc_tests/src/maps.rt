@@ -52,15 +52,38 @@ fn is_map_copied(heap: Heap<'_>) -> Result<bool, Outcome> {
 
 /// Each call of a map that may want memory, one after another.
 pub fn changed_map(heap: Heap<'_>) -> Result<Outcome, Outcome> {
-    Ok(Outcome::of(is_map_copied(heap)? && object_of_one(heap)?))
+    let is_copied = is_map_copied(heap)?;
+    Ok(Outcome::of(is_copied && object_of_one(heap)? && is_room_made(heap)?))
+}
+
+/// Puts in four pairs, and says whether they found room, with no request for memory.
+fn found_room(
+    heap: Heap<'_>,
+    map: &mut Map<char, u32, Heap<'_>>,
+    keys: [char; 4],
+) -> Result<bool, Outcome> {
+    let asked = heap.asked();
+    for key in keys {
+        map.insert(key, 0u32)?;
+    }
+    Ok(heap.asked() == asked)
+}
+
+/// Whether room is made for as many pairs as were asked for, at first and later.
+fn is_room_made(heap: Heap<'_>) -> Result<bool, Outcome> {
+    let mut map = Map::with_capacity(heap, 4)?;
+    let is_made = found_room(heap, &mut map, ['a', 'b', 'c', 'd'])?;
+    map.reserve(4)?;
+    Ok(is_made && found_room(heap, &mut map, ['e', 'f', 'g', 'h'])?)
 }
 
 /// Whether an object with room for one property has the one that is put there.
 fn object_of_one(heap: Heap<'_>) -> Result<bool, Outcome> {
     let object = JsonObject::with_capacity(heap, 1)?;
     let mut map = object.take_inner();
+    let asked = heap.asked();
     map.insert(CowStr::Borrowed("a"), JsonValue::Null)?;
-    Ok(JsonObject::new(map).len() == 1)
+    Ok(heap.asked() == asked && JsonObject::new(map).len() == 1)
 }
 
 /// Whether these are the pairs of a map in their order, each written after a blank.

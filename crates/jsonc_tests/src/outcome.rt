@@ -6,6 +6,7 @@ use jsonc_parser::cst::EditError;
 use jsonc_parser::errors::{ParseError, ParseErrorKind};
 use jsonc_string::provider::ParseStringError;
 use std::alloc::{AllocError, AllocFailed};
+use std::fmt;
 
 /// What came of a call.
 #[derive(Clone, Copy, Debug, PartialEq, Eq, Drop)]
@@ -92,6 +93,12 @@ impl From<EditError> for Outcome {
             EditError::OutOfMemory => Outcome::Wanted,
             _ => Outcome::Other,
         }
+    }
+}
+
+impl From<fmt::Error> for Outcome {
+    fn from(_error: fmt::Error) -> Outcome {
+        Outcome::Other
     }
 }
 

@@ -48,6 +48,14 @@ impl<A: Allocator> Refusing<A> {
         }
     }
 
+    /// Refuses the request of this number, counted from 0, and all after it.
+    pub fn starting(heap: A, number: u64) -> Refusing<A> {
+        Refusing {
+            heap,
+            turns: Turns::new(number, u64::MAX),
+        }
+    }
+
     /// Refuses every request.
     pub fn always(heap: A) -> Refusing<A> {
         Refusing {
