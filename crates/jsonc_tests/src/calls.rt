@@ -1,35 +1,24 @@
 //! The calls that may want memory.
 
-use crate::awaited::Awaited;
 use crate::clones::copies;
-use crate::edits::edited;
 use crate::inputs::inputs;
-use crate::lines::laid_out;
 use crate::maps::changed_map;
-use crate::outcome::Outcome;
-use crate::readings::{listed, spread};
 use crate::tokens::decode_provided;
 use crate::tree_copies::tree_copies;
-use crate::trees::changed_tree;
-use crate::typed::{children, names};
-use crate::values::taken;
 use jsonc_engine::calls::{FromReader, ToWriter};
 use jsonc_engine::command::Command;
-use jsonc_engine::engine::{engine, run_on};
-use jsonc_parser::cst::CstRootNode;
+use jsonc_engine::engine::{engine, run_on, run_with};
 use jsonc_parser::tokens::Token;
 use jsonc_parser::{
     CollectOptions, CommentCollectionStrategy, CommentMap, JsonValue, ParseOptions, ParseResult,
     Scanner, ScannerOptions, parse_to_ast, parse_to_value,
 };
 use jsonc_string::provider::parse_string;
-use refusing::Refusing;
-use std::alloc::Global;
+use jsonc_trials::awaited::Awaited;
+use jsonc_trials::outcome::Outcome;
+use jsonc_trials::trial::{Heap, Trial};
 use std::borrow::CowStr;
 use std::default::Default;
-
-/// The allocator that each call is given.
-pub type Heap<'a> = &'a Refusing<Global>;
 
 /// A call that may want memory.
 #[derive(Clone, Copy, Debug)]
@@ -43,23 +32,15 @@ pub enum Call {
     CommentMap,
     Value,
     ValueCopies,
-    Document,
-    Children,
-    Names,
-    Readings,
-    Values,
-    Lists,
     TokenCopy,
     MapChanges,
-    TreeChanges,
-    Layout,
-    Edits,
     BytesToBytes,
+    UnderOptions,
     WholeRun,
 }
 
-/// Those that want memory where one of their requests is refused.
-pub const CALLS: [Call; 21] = [
+/// All of them.
+pub const CALLS: [Call; 14] = [
     Call::Decode,
     Call::DecodeProvided,
     Call::Inputs,
@@ -69,22 +50,33 @@ pub const CALLS: [Call; 21] = [
     Call::CommentMap,
     Call::Value,
     Call::ValueCopies,
-    Call::Document,
-    Call::Children,
-    Call::Names,
-    Call::Readings,
-    Call::Values,
     Call::TokenCopy,
     Call::MapChanges,
-    Call::TreeChanges,
-    Call::Layout,
-    Call::Edits,
     Call::BytesToBytes,
+    Call::UnderOptions,
     Call::WholeRun,
 ];
 
-/// Those that collect lists, and ask again for less where a request was refused.
-pub const LISTS: [Call; 1] = [Call::Lists];
+impl Trial for Call {
+    fn outcome(self, heap: Heap<'_>) -> Outcome {
+        Outcome::within(match self {
+            Call::Decode => decode(heap),
+            Call::DecodeProvided => decode_provided(heap),
+            Call::Inputs => inputs(heap),
+            Call::Scan => scan(heap),
+            Call::SyntaxTree => syntax_tree(heap),
+            Call::SyntaxTreeCopies => tree_copies(heap),
+            Call::CommentMap => comment_map(heap),
+            Call::Value => value(heap),
+            Call::ValueCopies => copies(heap),
+            Call::TokenCopy => token_copy(heap),
+            Call::MapChanges => changed_map(heap),
+            Call::BytesToBytes => bytes_to_bytes(heap),
+            Call::UnderOptions => under_options(heap),
+            Call::WholeRun => whole_run(heap),
+        })
+    }
+}
 
 /// A text of plain JSON, with more elements and properties than a list has room for at first.
 const PLAIN: &str =
@@ -103,33 +95,6 @@ const VALUES: &str = "[true, {'\\x61': '\\x62', 0x1F: +.5, c: Infinity,}] // end
 const ESCAPES: &str = "'one\\ttwo\\u0020three'";
 
 const DECODED: &str = "one\ttwo three";
-
-pub fn outcome_of(call: Call, heap: Heap<'_>) -> Outcome {
-    Outcome::within(match call {
-        Call::Decode => decode(heap),
-        Call::DecodeProvided => decode_provided(heap),
-        Call::Inputs => inputs(heap),
-        Call::Scan => scan(heap),
-        Call::SyntaxTree => syntax_tree(heap),
-        Call::SyntaxTreeCopies => tree_copies(heap),
-        Call::CommentMap => comment_map(heap),
-        Call::Value => value(heap),
-        Call::ValueCopies => copies(heap),
-        Call::Document => document(heap),
-        Call::Children => children(heap),
-        Call::Names => names(heap),
-        Call::Readings => spread(heap),
-        Call::Values => taken(heap),
-        Call::Lists => listed(heap),
-        Call::TokenCopy => token_copy(heap),
-        Call::MapChanges => changed_map(heap),
-        Call::TreeChanges => changed_tree(heap),
-        Call::Layout => laid_out(heap),
-        Call::Edits => edited(heap),
-        Call::BytesToBytes => bytes_to_bytes(heap),
-        Call::WholeRun => whole_run(heap),
-    })
-}
 
 fn decode(heap: Heap<'_>) -> Result<Outcome, Outcome> {
     match parse_string(heap, ESCAPES)? {
@@ -198,13 +163,6 @@ fn value(heap: Heap<'_>) -> Result<Outcome, Outcome> {
     Ok(Outcome::of(is_read && object.len() == 3 && array.len() == 2))
 }
 
-/// The tree is built as the document is read.
-fn document(heap: Heap<'_>) -> Result<Outcome, Outcome> {
-    let document = CstRootNode::parse(heap, LOOSE, &ParseOptions::default())?;
-    let text = document.text()?;
-    Ok(Outcome::of(text.as_str() == LOOSE))
-}
-
 fn token_copy(heap: Heap<'_>) -> Result<Outcome, Outcome> {
     let token = Token::String(CowStr::Owned(String::from_str(heap, "owned")?));
     let copy = token.try_clone()?;
@@ -216,6 +174,20 @@ fn bytes_to_bytes(heap: Heap<'_>) -> Result<Outcome, Outcome> {
         return Err(Outcome::Other);
     };
     Ok(Outcome::of(written.as_str() == PLAIN))
+}
+
+/// What is read is printed, and what is checked is not.
+fn under_options(heap: Heap<'_>) -> Result<Outcome, Outcome> {
+    let options = ParseOptions {
+        allow_comments: false,
+        ..ParseOptions::default()
+    };
+    let printed = run_with(heap, &options, Command::Print, PLAIN.as_bytes())?;
+    let checked = run_with(heap, &options, Command::Check, PLAIN.as_bytes())?;
+    let Some(written) = printed else {
+        return Err(Outcome::Other);
+    };
+    Ok(Outcome::of(written.as_str() == PLAIN && checked.is_none()))
 }
 
 fn whole_run(heap: Heap<'_>) -> Result<Outcome, Outcome> {

@@ -1,22 +1,26 @@
 //! Copies of values, of objects and of arrays.
 
-use crate::calls::Heap;
-use crate::outcome::Outcome;
 use jsonc_parser::{JsonObject, JsonValue, ParseOptions, parse_to_value};
+use jsonc_trials::outcome::Outcome;
+use jsonc_trials::trial::Heap;
 use std::default::Default;
 
 /// An object in which a name and a string own their texts.
 const OBJECT: &str = "{'l\\x61st': [true, 2.5, {}, null], first: 't\\x65xt'}";
 
-fn some_value<'h>(heap: Heap<'h>) -> Result<JsonValue<'static, Heap<'h>>, Outcome> {
-    match parse_to_value(heap, OBJECT, &ParseOptions::default())? {
+/// The value of a text.
+pub fn some_value<'h>(
+    heap: Heap<'h>,
+    text: &'static str,
+) -> Result<JsonValue<'static, Heap<'h>>, Outcome> {
+    match parse_to_value(heap, text, &ParseOptions::default())? {
         Some(value) => Ok(value),
         None => Err(Outcome::Other),
     }
 }
 
 /// The object that a value is.
-fn object_of<'h>(
+pub fn object_of<'h>(
     value: JsonValue<'static, Heap<'h>>,
 ) -> Result<JsonObject<'static, Heap<'h>>, Outcome> {
     match value {
@@ -36,19 +40,19 @@ fn has_names(object: JsonObject<'static, Heap<'_>>, first: &str, second: &str) -
 }
 
 fn is_value_copied(heap: Heap<'_>) -> Result<bool, Outcome> {
-    let value = some_value(heap)?;
+    let value = some_value(heap, OBJECT)?;
     let copy = value.try_clone()?;
     let is_equal = copy == value;
     Ok(is_equal && has_names(object_of(copy)?, "last", "first"))
 }
 
 fn is_object_copied(heap: Heap<'_>) -> Result<bool, Outcome> {
-    let object = object_of(some_value(heap)?)?;
+    let object = object_of(some_value(heap, OBJECT)?)?;
     Ok(object.try_clone()? == object)
 }
 
 fn is_array_copied(heap: Heap<'_>) -> Result<bool, Outcome> {
-    let object = object_of(some_value(heap)?)?;
+    let object = object_of(some_value(heap, OBJECT)?)?;
     let Some(array) = object.get_array("last") else {
         return Ok(false);
     };

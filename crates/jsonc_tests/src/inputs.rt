@@ -1,9 +1,9 @@
 //! Values handed to edits, and the spelling of strings.
 
-use crate::calls::Heap;
-use crate::outcome::Outcome;
 use jsonc_input::CstInputValue;
 use jsonc_input::spelling::spell;
+use jsonc_trials::outcome::Outcome;
+use jsonc_trials::trial::Heap;
 use std::alloc::{AllocError, Allocator, Global};
 use std::test::Fail;
 
@@ -53,9 +53,17 @@ fn is_number<A: Allocator>(value: CstInputValue<A>, digits: &str) -> bool {
     }
 }
 
-fn is_string<A: Allocator>(value: &CstInputValue<A>, wanted: &str) -> bool {
+pub fn is_string<A: Allocator>(value: &CstInputValue<A>, wanted: &str) -> bool {
     match value {
         CstInputValue::String(text) => text.as_str() == wanted,
+        _ => false,
+    }
+}
+
+/// Whether a value is an array of two elements.
+pub fn is_two<A: Allocator>(value: &CstInputValue<A>) -> bool {
+    match value {
+        CstInputValue::Array(elements) => elements.len() == 2,
         _ => false,
     }
 }

@@ -1,8 +1,9 @@
 //! Maps and objects, under an allocator that may refuse, and with ample memory.
 
-use crate::calls::Heap;
-use crate::outcome::Outcome;
 use jsonc_parser::{JsonObject, JsonValue, Map};
+use jsonc_trials::outcome::Outcome;
+use jsonc_trials::trial::Heap;
+use refusing::Refusing;
 use std::alloc::{AllocError, Global};
 use std::borrow::CowStr;
 use std::test::Fail;
@@ -110,6 +111,72 @@ fn changed_pairs(alloc: Global) -> Result<Map<char, u32, Global>, AllocError> {
     }
     map.insert('z', 9)?;
     Ok(map)
+}
+
+/// Whether these are the keys of a map in their order, and these its values.
+fn has_pairs(map: &Map<char, u32, Heap<'_>>, keys: [char; 4], values: [u32; 4]) -> bool {
+    let has_keys = map.keys().copied().eq(keys);
+    let has_values = map.values().copied().eq(values);
+    has_keys && has_values && map.len() == 4 && !map.is_empty()
+}
+
+/// Whether a map gives its pairs up in their order: keys, values and both.
+fn is_given_up(heap: Heap<'_>) -> Result<bool, Outcome> {
+    let (keys, values, pairs) = (extended(heap)?, extended(heap)?, extended(heap)?);
+    heap.refuse_all();
+    let has_keys = keys.into_keys().eq(['a', 'b', 'c', 'd']);
+    let has_values = values.into_values().eq([5, 2, 3, 4]);
+    Ok(has_keys && has_values && pairs.into_iter().last() == Some(('d', 4)))
+}
+
+/// Whether pairs are found by their keys, and none by another.
+fn are_found(map: &Map<char, u32, Heap<'_>>) -> bool {
+    let is_found = map.get(&'b') == Some(&2) && map.get_key_value(&'c') == Some((&'c', &3));
+    let is_missing = map.get(&'x').is_none() && map.get_key_value(&'x').is_none();
+    is_found && is_missing && map.contains_key(&'d') && !map.contains_key(&'x')
+}
+
+/// Whether pairs leave by their keys, and by a predicate.
+fn are_removed(map: &mut Map<char, u32, Heap<'_>>) -> bool {
+    let is_lent = match map.get_mut(&'d') {
+        Some(value) => {
+            *value = 9;
+            true
+        }
+        None => false,
+    };
+    let is_removed = map.remove(&'a') == Some(5) && map.remove_entry(&'b') == Some(('b', 2));
+    let is_missing = map.remove(&'a').is_none() && map.get_mut(&'x').is_none();
+    map.retain(|_key, value| *value != 3);
+    is_lent && is_removed && is_missing && map.get(&'d') == Some(&9) && map.len() == 1
+}
+
+/// Each call of a map that takes no memory, one after another.
+fn is_asked(heap: Heap<'_>) -> Result<bool, Outcome> {
+    let (mut map, same) = (extended(heap)?, extended(heap)?);
+    heap.refuse_all();
+    let is_whole = map == same && has_pairs(&map, ['a', 'b', 'c', 'd'], [5, 2, 3, 4]);
+    let is_changed = are_found(&map) && are_removed(&mut map) && map != same;
+    let has_room = map.capacity() >= 1;
+    map.clear();
+    let fresh: Map<char, u32, Heap<'_>> = Map::new(heap);
+    Ok(is_whole && is_changed && has_room && map.is_empty() && map == fresh)
+}
+
+#[test]
+fn maps_are_asked_without_memory(rt: HostRuntime) -> Result<(), Fail> {
+    let heap = Refusing::ample(rt.alloc());
+    assert_eq!(rt; is_asked(&heap), Ok(true));
+    assert_eq!(rt; heap.refused(), 0);
+    Ok(())
+}
+
+#[test]
+fn maps_are_given_up_without_memory(rt: HostRuntime) -> Result<(), Fail> {
+    let heap = Refusing::ample(rt.alloc());
+    assert_eq!(rt; is_given_up(&heap), Ok(true));
+    assert_eq!(rt; heap.refused(), 0);
+    Ok(())
 }
 
 #[test]

@@ -1,22 +1,26 @@
 //! Copies of syntax trees and of their parts.
 
-use crate::calls::Heap;
-use crate::outcome::Outcome;
 use jsonc_parser::ast::{Object, ObjectProp, Value};
 use jsonc_parser::{CollectOptions, ParseOptions, ParseResult, parse_to_ast};
+use jsonc_trials::outcome::Outcome;
+use jsonc_trials::trial::Heap;
 use std::default::Default;
 
 /// An object in which a name and a string own their texts.
 const OBJECT: &str = "{'l\\x61st': [true, 2.5, {}, null], first: 't\\x65xt'}";
 
-fn some_object<'h>(heap: Heap<'h>) -> Result<Object<'static, Heap<'h>>, Outcome> {
+/// The object that a text is.
+pub fn object_of<'h>(
+    heap: Heap<'h>,
+    text: &'static str,
+) -> Result<Object<'static, Heap<'h>>, Outcome> {
     let ParseResult {
         comments,
         value,
         tokens,
     } = parse_to_ast(
         heap,
-        OBJECT,
+        text,
         &CollectOptions::default(),
         &ParseOptions::default(),
     )?;
@@ -63,7 +67,7 @@ fn is_taken<'h>(
 
 /// An object and its parts are copied, and the copies compared with them; then its properties are taken out.
 pub fn tree_copies(heap: Heap<'_>) -> Result<Outcome, Outcome> {
-    let mut object = some_object(heap)?;
+    let mut object = object_of(heap, OBJECT)?;
     let is_object = object.try_clone()? == object;
     let are_parts = are_parts_copied(&object)?;
     let is_last = is_taken(heap, &mut object, "last")?;

@@ -10,17 +10,17 @@ struct Turns {
     /// How many requests came.
     asked: Cell<u64>,
     /// The number of the first request that is refused, counted from 0.
-    first: u64,
+    first: Cell<u64>,
     /// The number after the last one that is refused.
-    end: u64,
+    end: Cell<u64>,
 }
 
 impl Turns {
     fn new(first: u64, end: u64) -> Turns {
         Turns {
             asked: Cell::new(0),
-            first,
-            end,
+            first: Cell::new(first),
+            end: Cell::new(end),
         }
     }
 
@@ -28,7 +28,19 @@ impl Turns {
     fn refuses(&self) -> bool {
         let number = self.asked.get();
         self.asked.set(number.saturating_add(1));
-        self.first <= number && number < self.end
+        self.first.get() <= number && number < self.end.get()
+    }
+
+    /// Refuses all requests that are still to come, and none that came before.
+    fn close(&self) {
+        self.first.set(self.asked.get());
+        self.end.set(u64::MAX);
+    }
+
+    /// How many of the requests that came were refused.
+    fn refused(&self) -> u64 {
+        let until = self.asked.get().min(self.end.get());
+        until.saturating_sub(self.first.get())
     }
 }
 
@@ -40,6 +52,14 @@ pub struct Refusing<A: Allocator> {
 }
 
 impl<A: Allocator> Refusing<A> {
+    /// Refuses none, until [`Refusing::refuse_all`] is called.
+    pub fn ample(heap: A) -> Refusing<A> {
+        Refusing {
+            heap,
+            turns: Turns::new(u64::MAX, u64::MAX),
+        }
+    }
+
     /// Refuses the request of this number, counted from 0, and no other.
     pub fn at(heap: A, number: u64) -> Refusing<A> {
         Refusing {
@@ -64,9 +84,19 @@ impl<A: Allocator> Refusing<A> {
         }
     }
 
+    /// From now on refuses every request.
+    pub fn refuse_all(&self) {
+        self.turns.close();
+    }
+
     /// How many requests came, the refused ones included.
     pub fn asked(&self) -> u64 {
         self.turns.asked.get()
+    }
+
+    /// How many of them were refused.
+    pub fn refused(&self) -> u64 {
+        self.turns.refused()
     }
 }
 

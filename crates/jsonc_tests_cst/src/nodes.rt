@@ -2,17 +2,15 @@
 ghost use Rattle.std.specs.Prelude.{◌<◌, length, IfOk};
 ghost use Rattle.jsonc_nodes.specs.Siblings.{IsThere};
 
-use crate::calls::Heap;
-use crate::lines::tree_of;
-use crate::outcome::Outcome;
+use crate::documents::tree_of;
 use jsonc_nodes::{
     child_at_index, children, decoded_name, decoded_value, element_index, elements, get,
     leading_comments_same_line, name_of, next_element, next_sibling, previous_element,
     previous_sibling, root_node, trailing_comments_same_line, value_of,
 };
 use jsonc_tree::{Kind, Tree};
-use refusing::Refusing;
-use std::test::Fail;
+use jsonc_trials::outcome::Outcome;
+use jsonc_trials::trial::Heap;
 
 /// A document whose object has twelve children: its properties are children 3 and 9.
 const TEXT: &str = "{\n  \"\\u0061\": 1, // x\n  \"b\": \"\\u0063\"\n}";
@@ -108,38 +106,15 @@ fn names_are_decoded(heap: Heap<'_>, tree: &Tree<Heap<'_>>) -> Result<bool, Outc
 }
 
 /// The names of the document, looked up and decoded.
-fn node_names(heap: Heap<'_>) -> Result<Outcome, Outcome> {
+pub fn node_names(heap: Heap<'_>) -> Result<Outcome, Outcome> {
     let tree = tree_of(heap, TEXT)?;
     Ok(Outcome::of(names_are_decoded(heap, &tree)?))
 }
 
 /// The rows of the document. A list that is collected asks again for less where it was refused, so
 /// that one refusal need not show.
-fn node_rows(heap: Heap<'_>) -> Result<Outcome, Outcome> {
+pub fn node_rows(heap: Heap<'_>) -> Result<Outcome, Outcome> {
     let tree = tree_of(heap, TEXT)?;
     let is_right = siblings_stand(heap, &tree)? && comments_stand(heap, &tree)?;
     Ok(Outcome::of(is_right))
-}
-
-#[test]
-fn nodes_stand_in_their_rows(rt: HostRuntime) -> Result<(), Fail> {
-    let heap = Refusing::at(rt.alloc(), u64::MAX);
-    let outcome = Outcome::within(node_rows(&heap));
-    assert_eq!(rt; outcome, Outcome::Answered);
-    Ok(())
-}
-
-#[test]
-fn names_are_looked_up_or_want_memory(rt: HostRuntime) -> Result<(), Fail> {
-    for number in 0..15u64 {
-        let heap = Refusing::at(rt.alloc(), number);
-        let outcome = Outcome::within(node_names(&heap));
-        let wanted = if number < 14 {
-            Outcome::Wanted
-        } else {
-            Outcome::Answered
-        };
-        assert_eq!(rt; outcome, wanted, "request {number}");
-    }
-    Ok(())
 }

@@ -4,7 +4,7 @@ use jsonc_engine::fault::Fault;
 use jsonc_parser::ParseStringErrorKind;
 use jsonc_parser::cst::EditError;
 use jsonc_parser::errors::{ParseError, ParseErrorKind};
-use jsonc_string::provider::ParseStringError;
+use jsonc_parser::string::ParseStringError;
 use std::alloc::{AllocError, AllocFailed};
 use std::fmt;
 

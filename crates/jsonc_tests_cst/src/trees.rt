@@ -4,9 +4,9 @@ ghost use Rattle.jsonc_tree.specs.Content.{has_text};
 ghost use Rattle.jsonc_tree.specs.Stored.{content_of};
 ghost use Rattle.jsonc_tree.specs.Tree.{is_container_at};
 
-use crate::calls::Heap;
-use crate::outcome::Outcome;
 use jsonc_tree::{Kind, Tree};
+use jsonc_trials::outcome::Outcome;
+use jsonc_trials::trial::Heap;
 
 /// Whether a node is there and may have children.
 fn can_hold(tree: &Tree<Heap<'_>>, node: usize) -> bool
@@ -90,6 +90,17 @@ fn rewrite<'a>(
     Ok(())
 }
 
+/// Whether room is made for as many nodes as are asked for.
+fn is_room_made(heap: Heap<'_>) -> Result<bool, Outcome> {
+    let mut tree = Tree::new(heap)?;
+    tree.reserve_nodes(9)?;
+    let asked = heap.asked();
+    for _ in 0..9 {
+        tree.add(Kind::Null)?;
+    }
+    Ok(heap.asked() == asked && tree.len() == 10)
+}
+
 /// A tree that each change has a part in.
 pub fn changed_tree(heap: Heap<'_>) -> Result<Outcome, Outcome> {
     let mut tree = Tree::new(heap)?;
@@ -107,5 +118,5 @@ pub fn changed_tree(heap: Heap<'_>) -> Result<Outcome, Outcome> {
     )?;
     rewrite(&mut tree, number, String::from_str(heap, "23")?)?;
     let printed = tree.to_string(heap)?;
-    Ok(Outcome::of(printed.as_str() == "[23  ]"))
+    Ok(Outcome::of(printed.as_str() == "[23  ]" && is_room_made(heap)?))
 }

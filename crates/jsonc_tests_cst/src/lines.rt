@@ -1,16 +1,14 @@
 //! How documents are laid out.
 ghost use Rattle.std.specs.Prelude.{◌<◌, IfOk, IfSome, length};
 
-use crate::calls::Heap;
-use crate::outcome::Outcome;
-use jsonc_build::build;
+use crate::documents::tree_of;
 use jsonc_lines::{
     Indents, has_blank_line_before, indent_text, indents_at, newline_kind, single_indent_text,
     trailing_comma, uses_trailing_commas,
 };
-use jsonc_parser::{CollectOptions, ParseOptions, parse_to_ast};
 use jsonc_tree::{CstNewlineKind, Kind, Tree};
-use std::default::Default;
+use jsonc_trials::outcome::Outcome;
+use jsonc_trials::trial::Heap;
 
 /// An object over lines, with a comment at the end of one.
 pub const SPREAD: &str = "{\n  \"a\": 1, // x\n  \"b\": [2]\n}";
@@ -20,13 +18,6 @@ const GROUPED: &str = "[\r\n\t\"a\",\r\n\r\n\t/* c */ \"b\",\r\n]";
 
 /// Objects in one another, whose levels add two blanks to one.
 const NESTED: &str = "{\n \"c\": {\n   \"d\": 3\n }\n}";
-
-/// The tree of a document.
-pub fn tree_of<'h>(heap: Heap<'h>, text: &str) -> Result<Tree<Heap<'h>>, Outcome> {
-    let collect = CollectOptions::default();
-    let parsed = parse_to_ast(heap, text, &collect, &ParseOptions::default())?;
-    Ok(build(heap, text, parsed.value.as_ref())?)
-}
 
 fn is_string(kind: &Kind<Heap<'_>>, text: &str) -> bool {
     match kind {

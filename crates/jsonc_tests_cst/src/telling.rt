@@ -3,13 +3,13 @@ ghost use Rattle.std.specs.Prelude.{IfSome};
 ghost use Rattle.jsonc_cst.specs.Document.{Holds};
 ghost use Rattle.jsonc_cst.specs.Nodes.{object_prop_node, root_node};
 
-use crate::awaited::Awaited;
-use crate::calls::Heap;
-use crate::outcome::Outcome;
 use jsonc_parser::cst::{
     CstContainerNode, CstLeafNode, CstNewlineKind, CstNode, CstObjectProp, CstRootNode,
     HasChildren, IsNode, ObjectPropName, Readings,
 };
+use jsonc_trials::awaited::Awaited;
+use jsonc_trials::outcome::Outcome;
+use jsonc_trials::trial::Heap;
 use std::fmt;
 use std::fmt::Write;
 

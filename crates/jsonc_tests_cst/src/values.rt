@@ -1,9 +1,9 @@
 //! What documents and their nodes stand for, taken as values for edits.
 
-use crate::calls::Heap;
-use crate::outcome::Outcome;
 use jsonc_parser::ParseOptions;
 use jsonc_parser::cst::{CstInputValue, CstRootNode, HasChildren, IsNode, Readings};
+use jsonc_trials::outcome::Outcome;
+use jsonc_trials::trial::Heap;
 use std::default::Default;
 
 /// An object with a name twice.

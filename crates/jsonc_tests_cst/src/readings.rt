@@ -2,13 +2,13 @@
 ghost use Rattle.jsonc_cst.specs.Document.{Holds};
 ghost use Rattle.jsonc_cst.specs.Nodes.{object_node};
 
-use crate::calls::Heap;
 use crate::lines::{SPREAD, is_text};
-use crate::outcome::Outcome;
 use jsonc_parser::ParseOptions;
 use jsonc_parser::cst::{
     CstNewlineKind, CstNode, CstObject, CstRootNode, HasChildren, IsNode, Readings,
 };
+use jsonc_trials::outcome::Outcome;
+use jsonc_trials::trial::Heap;
 use std::default::Default;
 
 /// The lines of an object over four lines, and the comma between its properties.

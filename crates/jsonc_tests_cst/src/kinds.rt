@@ -2,15 +2,15 @@
 ghost use Rattle.jsonc_cst.specs.Document.{Holds};
 
 use crate::answers::{BELOW, HELD, KINDS, LINES, PLACES, TEXT};
-use crate::awaited::Awaited;
-use crate::calls::Heap;
-use crate::outcome::Outcome;
 use crate::telling::{tell_below, tell_held, tell_kind, tell_lines, tell_places};
 use jsonc_parser::ParseOptions;
 use jsonc_parser::cst::{
     CstContainerNode, CstLeafNode, CstNode, CstRootNode, HasChildren, IsNode, ObjectPropName,
     Readings,
 };
+use jsonc_trials::awaited::Awaited;
+use jsonc_trials::outcome::Outcome;
+use jsonc_trials::trial::Heap;
 use refusing::Refusing;
 use std::alloc::{AllocError, Global};
 use std::default::Default;
@@ -242,7 +242,7 @@ const STARRED: [(Told, Asked); 7] = [
 
 #[test]
 fn nodes_of_each_kind_answer(rt: HostRuntime) -> Result<(), Fail> {
-    let heap = Refusing::at(rt.alloc(), u64::MAX);
+    let heap = Refusing::ample(rt.alloc());
     let doc = CstRootNode::parse(&heap, TEXT, &ParseOptions::default())?;
     for (told, asked) in STARRED {
         assert_eq!(rt;
@@ -256,24 +256,17 @@ fn nodes_of_each_kind_answer(rt: HostRuntime) -> Result<(), Fail> {
 
 #[test]
 fn nodes_answer_without_memory(rt: HostRuntime) -> Result<(), Fail> {
-    let ample = Refusing::at(rt.alloc(), u64::MAX);
-    let read = CstRootNode::parse(&ample, TEXT, &ParseOptions::default())?;
-    // What is asked for after the text is read is refused.
-    let heap = Refusing::starting(rt.alloc(), ample.asked());
+    let heap = Refusing::ample(rt.alloc());
     let doc = CstRootNode::parse(&heap, TEXT, &ParseOptions::default())?;
+    heap.refuse_all();
     for (told, asked) in PLAIN {
-        assert_eq!(rt;
-            is_told(rt.alloc(), &read, asked, told),
-            Ok(true),
-            "{told:?} of {asked:?}"
-        );
         assert_eq!(rt;
             is_told(rt.alloc(), &doc, asked, told),
             Ok(true),
             "{told:?} of {asked:?}"
         );
     }
-    assert_eq!(rt; heap.asked(), ample.asked());
+    assert_eq!(rt; heap.refused(), 0);
     assert!(rt; doc.text().is_err());
     Ok(())
 }

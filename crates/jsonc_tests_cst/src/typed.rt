@@ -1,15 +1,13 @@
 //! The nodes of a document, reached from its root and by names.
 
-use crate::awaited::Awaited;
-use crate::calls::Heap;
 use crate::lines::SPREAD;
-use crate::outcome::Outcome;
 use jsonc_parser::ParseOptions;
 use jsonc_parser::cst::{CstLeafNode, CstNode, CstRootNode, HasChildren, IsNode, ObjectPropName};
-use refusing::Refusing;
+use jsonc_trials::awaited::Awaited;
+use jsonc_trials::outcome::Outcome;
+use jsonc_trials::trial::Heap;
 use std::default::Default;
 use std::fmt::Write;
-use std::test::Fail;
 
 /// A comment, an array of nine parts and another comment, with blanks between.
 const TEXT: &str = "/* c */ [1, 2,\n'\\x61'] // end";
@@ -141,12 +139,9 @@ fn elements_stand(heap: Heap<'_>) -> Result<bool, Outcome> {
     Ok(is_one && is_value && element.as_number_lit().is_some())
 }
 
-/// Lists that are collected ask again for less where they were refused, so one refusal need not show.
-#[test]
-fn typed_nodes_stand_in_their_rows(rt: HostRuntime) -> Result<(), Fail> {
-    let heap = Refusing::at(rt.alloc(), u64::MAX);
-    assert_eq!(rt; properties_stand(&heap), Ok(true));
-    assert_eq!(rt; siblings_stand(&heap), Ok(true));
-    assert_eq!(rt; elements_stand(&heap), Ok(true));
-    Ok(())
+/// The rows that typed nodes stand in.
+pub fn typed_rows(heap: Heap<'_>) -> Result<Outcome, Outcome> {
+    let are_properties = properties_stand(heap)?;
+    let are_siblings = siblings_stand(heap)?;
+    Ok(Outcome::of(are_properties && are_siblings && elements_stand(heap)?))
 }

@@ -1,0 +1,37 @@
+//! Tests that cross crates: what no clause says of calls on documents, and of memory that is refused.
+//!
+//! `docs/BENCH.md` says what each test is of.
+#![tactic(auto)]
+
+#[cfg(test)]
+mod answers;
+#[cfg(test)]
+mod calls;
+#[cfg(test)]
+mod documents;
+#[cfg(test)]
+mod edits;
+#[cfg(test)]
+mod kinds;
+#[cfg(test)]
+mod lines;
+#[cfg(test)]
+mod nodes;
+#[cfg(test)]
+mod readings;
+#[cfg(test)]
+mod refusals;
+#[cfg(test)]
+mod replacing;
+#[cfg(test)]
+mod roots;
+#[cfg(test)]
+mod telling;
+#[cfg(test)]
+mod trees;
+#[cfg(test)]
+mod typed;
+#[cfg(test)]
+mod unasked;
+#[cfg(test)]
+mod values;

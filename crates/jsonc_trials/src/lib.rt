@@ -1,0 +1,6 @@
+//! Calls under an allocator that may refuse, for tests: what came of them, and a writer that takes no memory.
+#![tactic(auto)]
+
+pub mod awaited;
+pub mod outcome;
+pub mod trial;
