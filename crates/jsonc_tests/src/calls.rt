@@ -1,19 +1,17 @@
 //! The calls that may want memory.
 
-use crate::clones::copies;
 use crate::inputs::inputs;
-use crate::maps::changed_map;
 use crate::tokens::decode_provided;
 use crate::tree_copies::tree_copies;
 use jsonc_engine::calls::{FromReader, ToWriter};
 use jsonc_engine::command::Command;
 use jsonc_engine::engine::{engine, run_on, run_with};
+use jsonc_parser::string::parse_string;
 use jsonc_parser::tokens::Token;
 use jsonc_parser::{
-    CollectOptions, CommentCollectionStrategy, CommentMap, JsonValue, ParseOptions, ParseResult,
-    Scanner, ScannerOptions, parse_to_ast, parse_to_value,
+    CollectOptions, CommentCollectionStrategy, CommentMap, ParseOptions, ParseResult, Scanner,
+    ScannerOptions, parse_to_ast,
 };
-use jsonc_string::provider::parse_string;
 use jsonc_trials::awaited::Awaited;
 use jsonc_trials::outcome::Outcome;
 use jsonc_trials::trial::{Heap, Trial};
@@ -30,17 +28,14 @@ pub enum Call {
     SyntaxTree,
     SyntaxTreeCopies,
     CommentMap,
-    Value,
-    ValueCopies,
     TokenCopy,
-    MapChanges,
     BytesToBytes,
     UnderOptions,
     WholeRun,
 }
 
 /// All of them.
-pub const CALLS: [Call; 14] = [
+pub const CALLS: [Call; 11] = [
     Call::Decode,
     Call::DecodeProvided,
     Call::Inputs,
@@ -48,10 +43,7 @@ pub const CALLS: [Call; 14] = [
     Call::SyntaxTree,
     Call::SyntaxTreeCopies,
     Call::CommentMap,
-    Call::Value,
-    Call::ValueCopies,
     Call::TokenCopy,
-    Call::MapChanges,
     Call::BytesToBytes,
     Call::UnderOptions,
     Call::WholeRun,
@@ -67,10 +59,7 @@ impl Trial for Call {
             Call::SyntaxTree => syntax_tree(heap),
             Call::SyntaxTreeCopies => tree_copies(heap),
             Call::CommentMap => comment_map(heap),
-            Call::Value => value(heap),
-            Call::ValueCopies => copies(heap),
             Call::TokenCopy => token_copy(heap),
-            Call::MapChanges => changed_map(heap),
             Call::BytesToBytes => bytes_to_bytes(heap),
             Call::UnderOptions => under_options(heap),
             Call::WholeRun => whole_run(heap),
@@ -87,9 +76,6 @@ const LOOSE: &str = "// one\n[{a: '\\x62', 0x1F: +.5, c: Infinity,}, /* two */ [
 
 /// One with comments in three gaps, and with two in the first of them, which ends at 17.
 const COMMENTED: &str = "// one\n/* two */ [1, /* three */ 2] // four";
-
-/// One of two elements, with an escape in a name and in a string.
-const VALUES: &str = "[true, {'\\x61': '\\x62', 0x1F: +.5, c: Infinity,}] // end";
 
 /// A string with more characters than a text has room for at first, and what it decodes to.
 const ESCAPES: &str = "'one\\ttwo\\u0020three'";
@@ -145,22 +131,6 @@ fn comment_count(comments: &CommentMap<'_, Heap<'_>>, place: usize) -> usize {
         Some(shared) => shared.len(),
         None => 0,
     }
-}
-
-fn value(heap: Heap<'_>) -> Result<Outcome, Outcome> {
-    let Some(JsonValue::Array(array)) = parse_to_value(heap, VALUES, &ParseOptions::default())?
-    else {
-        return Err(Outcome::Other);
-    };
-    let (Some(JsonValue::Boolean(true)), Some(JsonValue::Object(object)), None) = (
-        array.get(0),
-        array.get(1),
-        array.get(2),
-    ) else {
-        return Err(Outcome::Other);
-    };
-    let is_read = object.get_number("0x1F") == Some("+.5");
-    Ok(Outcome::of(is_read && object.len() == 3 && array.len() == 2))
 }
 
 fn token_copy(heap: Heap<'_>) -> Result<Outcome, Outcome> {

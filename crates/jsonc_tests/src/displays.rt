@@ -3,7 +3,7 @@
 use jsonc_engine::fault::Fault;
 use jsonc_parser::cst::{CstRootNode, EditError, HasChildren, IsNode};
 use jsonc_parser::errors::{ParseError, ParseErrorKind, SurrogateFault};
-use jsonc_parser::{CollectOptions, ParseOptions, ParseStringErrorKind, parse_to_ast};
+use jsonc_parser::{CollectOptions, ParseOptions, ParseStringErrorKind as StringKind, parse_to_ast};
 use std::alloc::{AllocError, Global};
 use std::default::Default;
 use std::fmt;
@@ -55,36 +55,36 @@ fn is_shown<T: fmt::Display>(alloc: Global, shown: &T, text: &str) -> Result<boo
     Ok(is_plain(alloc, shown, text)? && gives_up(shown))
 }
 
-const STRING_KINDS: [(ParseStringErrorKind, &str); 8] = [
+const STRING_KINDS: [(StringKind, &str); 8] = [
     (
-        ParseStringErrorKind::InvalidEscapeInSingleQuoteString,
+        StringKind::InvalidEscapeInSingleQuoteString,
         "Invalid escape in single quote string",
     ),
     (
-        ParseStringErrorKind::InvalidEscapeInDoubleQuoteString,
+        StringKind::InvalidEscapeInDoubleQuoteString,
         "Invalid escape in double quote string",
     ),
     (
-        ParseStringErrorKind::ExpectedFourHexDigits,
+        StringKind::ExpectedFourHexDigits,
         "Expected four hex digits",
     ),
     (
-        ParseStringErrorKind::ExpectedTwoHexDigits,
+        StringKind::ExpectedTwoHexDigits,
         "Expected two hex digits",
     ),
     (
-        ParseStringErrorKind::InvalidUnicodeEscapeSequence(
+        StringKind::InvalidUnicodeEscapeSequence(
             *b"dF06",
             SurrogateFault::UnpairedLowSurrogate,
         ),
         "Invalid unicode escape sequence. 'dF06 (unpaired low surrogate)' is not a valid UTF8 character",
     ),
-    (ParseStringErrorKind::InvalidEscape, "Invalid escape"),
+    (StringKind::InvalidEscape, "Invalid escape"),
     (
-        ParseStringErrorKind::UnterminatedStringLiteral,
+        StringKind::UnterminatedStringLiteral,
         "Unterminated string literal",
     ),
-    (ParseStringErrorKind::OutOfMemory, "Out of memory"),
+    (StringKind::OutOfMemory, "Out of memory"),
 ];
 
 #[test]

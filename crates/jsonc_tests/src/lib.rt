@@ -1,5 +1,5 @@
-//! Tests that cross crates: what no clause says of calls on texts and values and of runs of the program, of memory
-//! that is refused and of streams that fail.
+//! Tests that cross crates: what no clause says of calls on texts and of runs of the program, of memory that is
+//! refused and of streams that fail.
 //!
 //! `docs/BENCH.md` says what each test is of.
 #![tactic(auto)]
@@ -7,15 +7,9 @@
 #[cfg(test)]
 mod calls;
 #[cfg(test)]
-mod clones;
-#[cfg(test)]
 mod displays;
 #[cfg(test)]
 mod inputs;
-#[cfg(test)]
-mod maps;
-#[cfg(test)]
-mod objects;
 #[cfg(test)]
 mod refusals;
 #[cfg(test)]

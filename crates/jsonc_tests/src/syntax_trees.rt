@@ -1,11 +1,13 @@
 //! Look-ups in syntax trees, and their nodes, which take no memory.
 
 use crate::tree_copies::object_of;
-use jsonc_parser::ast::{Node, NodeKind, Object, ObjectProp, Value};
+use jsonc_parser::ast::{Comment, CommentKind, Node, NodeKind, Object, ObjectProp, Value};
 use jsonc_parser::common::Ranged;
+use jsonc_parser::{CollectOptions, CommentCollectionStrategy, ParseOptions, parse_to_ast};
 use jsonc_trials::outcome::Outcome;
 use jsonc_trials::trial::Heap;
 use refusing::Refusing;
+use std::default::Default;
 use std::test::Fail;
 
 /// An object with a value of each kind, and with a name twice.
@@ -182,19 +184,79 @@ fn are_covered(object: &Object<'static, Heap<'_>>) -> bool {
     is_null && is_array && covered(number, TEXT) == Some("1.5")
 }
 
+/// Each kind is a node of its kind.
+fn are_nodes_made(object: &Object<'static, Heap<'_>>) -> bool {
+    let (Some(string), Some(number), Some(boolean), Some(array)) = (
+        object.get_string("s"),
+        object.get_number("n"),
+        object.get_boolean("t"),
+        object.get_array("a"),
+    ) else {
+        return false;
+    };
+    let are_literals = Node::from(string).kind() == NodeKind::StringLit
+        && Node::from(number).kind() == NodeKind::NumberLit
+        && Node::from(boolean).kind() == NodeKind::BooleanLit;
+    are_literals && Node::from(array).kind() == NodeKind::Array
+}
+
 fn is_asked(heap: Heap<'_>) -> Result<bool, Outcome> {
     let mut object = object_of(heap, TEXT)?;
     let same = object_of(heap, TEXT)?;
     heap.refuse_all();
     let is_same = object == same && are_nodes(&object) && are_covered(&object);
+    let is_made = are_nodes_made(&object);
     let is_found = are_found(&object) && are_not_found(&object);
-    Ok(is_same && is_found && are_taken(&mut object) && object != same)
+    Ok(is_same && is_made && is_found && are_taken(&mut object) && object != same)
 }
 
 #[test]
 fn syntax_trees_are_asked_without_memory(rt: HostRuntime) -> Result<(), Fail> {
     let heap = Refusing::ample(rt.alloc());
     assert_eq!(rt; is_asked(&heap), Ok(true));
+    assert_eq!(rt; heap.refused(), 0);
+    Ok(())
+}
+
+/// Whether a comment is of a kind, and this stands in its marks.
+fn is_comment(comment: &Comment<'_>, kind: CommentKind, text: &str) -> bool {
+    comment.kind() == kind && comment.text() == text
+}
+
+/// The comments of a text, and the text of its last token.
+fn is_collected(heap: Heap<'_>) -> Result<bool, Outcome> {
+    let text = "/* one */ [1] // two";
+    let collect = CollectOptions {
+        comments: CommentCollectionStrategy::Separate,
+        tokens: true,
+    };
+    let parsed = parse_to_ast(heap, text, &collect, &ParseOptions::default())?;
+    heap.refuse_all();
+    let (Some(comments), Some(tokens)) = (&parsed.comments, &parsed.tokens) else {
+        return Err(Outcome::Other);
+    };
+    let (Some(before), Some(behind), Some(bracket)) = (
+        comments.get(&0),
+        comments.get(&13),
+        tokens.get(2),
+    ) else {
+        return Ok(false);
+    };
+    let (Some(one), Some(two)) = (before.get(0), behind.get(0)) else {
+        return Ok(false);
+    };
+    let are_kinds = is_comment(one, CommentKind::Block, " one ")
+        && is_comment(two, CommentKind::Line, " two");
+    let are_covered = covered(one, text) == Some("/* one */")
+        && covered(two, text) == Some("// two")
+        && covered(bracket, text) == Some("]");
+    Ok(are_kinds && are_covered && bracket.token.as_str() == "]" && tokens.len() == 3)
+}
+
+#[test]
+fn collections_are_asked_without_memory(rt: HostRuntime) -> Result<(), Fail> {
+    let heap = Refusing::ample(rt.alloc());
+    assert_eq!(rt; is_collected(&heap), Ok(true));
     assert_eq!(rt; heap.refused(), 0);
     Ok(())
 }

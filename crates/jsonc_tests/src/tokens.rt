@@ -1,7 +1,7 @@
 //! A provider of characters, and the string that is decoded from it.
 ghost use Rattle.std.specs.Prelude.{IsCharBoundary};
 
-use jsonc_string::provider::{CharProvider, parse_string_with_char_provider};
+use jsonc_parser::string::{CharProvider, parse_string_with_char_provider};
 use jsonc_text::chars::{char_at, char_end};
 use jsonc_trials::outcome::Outcome;
 use std::alloc::Allocator;

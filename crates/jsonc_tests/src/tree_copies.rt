@@ -41,9 +41,11 @@ fn are_parts_copied(object: &Object<'static, Heap<'_>>) -> Result<bool, Outcome>
         return Ok(false);
     };
     let is_property = property.try_clone()? == *property;
+    let is_name = property.name.try_clone()? == property.name;
+    let is_value = property.value.try_clone()? == property.value;
     let is_array = array.try_clone()? == *array;
     let is_string = string.try_clone()? == *string;
-    Ok(is_property && is_array && is_string)
+    Ok(is_property && is_name && is_value && is_array && is_string)
 }
 
 /// Takes the property of this name out, and says whether it has the name.

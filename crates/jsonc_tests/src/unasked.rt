@@ -96,19 +96,28 @@ fn scanners_tell_without_memory(rt: HostRuntime) -> Result<(), Fail> {
     Ok(())
 }
 
+fn is_no_property(value: &CstInputValue<Heap<'_>>) -> bool {
+    match value {
+        CstInputValue::Object(properties) => properties.is_empty(),
+        _ => false,
+    }
+}
+
 /// Values for edits are made of what is there.
 fn are_values_made(heap: Heap<'_>) -> Result<bool, Outcome> {
     let text = String::from_str(heap, "a")?;
     let mut elements = Vec::new(heap);
     elements.push(CstInputValue::Null)?;
     elements.push(CstInputValue::Null)?;
+    let properties: Vec<(String<Heap<'_>>, CstInputValue<Heap<'_>>), Heap<'_>> = Vec::new(heap);
     heap.refuse_all();
+    let is_object = is_no_property(&CstInputValue::from(properties));
     let is_bool = matches!(
         CstInputValue::<Heap<'_>>::from(true),
         CstInputValue::Bool(true)
     );
     let is_text = is_string(&CstInputValue::from(text), "a");
-    Ok(is_bool && is_text && is_two(&CstInputValue::from(elements)))
+    Ok(is_bool && is_text && is_object && is_two(&CstInputValue::from(elements)))
 }
 
 #[test]

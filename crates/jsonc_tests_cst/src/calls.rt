@@ -1,13 +1,8 @@
 //! The calls that may want memory.
 
 use crate::documents::document;
-use crate::edits::{edited, laid_out_property, taken_out};
-use crate::lines::laid_out;
-use crate::nodes::{node_names, node_rows};
 use crate::readings::{listed, spread};
 use crate::replacing::{freed, renamed, replaced};
-use crate::roots::{created, exchanged, set};
-use crate::trees::changed_tree;
 use crate::typed::{children, names, typed_rows};
 use crate::values::taken;
 use jsonc_trials::outcome::Outcome;
@@ -21,25 +16,15 @@ pub enum Call {
     Names,
     Readings,
     Values,
-    Lists,
-    TypedRows,
     Replaced,
     Renamed,
     Freed,
-    TreeChanges,
-    NodeNames,
-    NodeRows,
-    Layout,
-    Property,
-    Edits,
-    TakenOut,
-    RootSet,
-    RootCreated,
-    PropertyExchanged,
+    Lists,
+    TypedRows,
 }
 
 /// Those that want memory where one of their requests is refused.
-pub const CALLS: [Call; 17] = [
+pub const CALLS: [Call; 8] = [
     Call::Document,
     Call::Children,
     Call::Names,
@@ -48,19 +33,10 @@ pub const CALLS: [Call; 17] = [
     Call::Replaced,
     Call::Renamed,
     Call::Freed,
-    Call::TreeChanges,
-    Call::NodeNames,
-    Call::Layout,
-    Call::Property,
-    Call::Edits,
-    Call::TakenOut,
-    Call::RootSet,
-    Call::RootCreated,
-    Call::PropertyExchanged,
 ];
 
 /// Those that collect lists, and ask again for less where a request was refused.
-pub const LISTS: [Call; 3] = [Call::Lists, Call::TypedRows, Call::NodeRows];
+pub const LISTS: [Call; 2] = [Call::Lists, Call::TypedRows];
 
 impl Trial for Call {
     fn outcome(self, heap: Heap<'_>) -> Outcome {
@@ -70,21 +46,11 @@ impl Trial for Call {
             Call::Names => names(heap),
             Call::Readings => spread(heap),
             Call::Values => taken(heap),
-            Call::Lists => listed(heap),
-            Call::TypedRows => typed_rows(heap),
             Call::Replaced => replaced(heap),
             Call::Renamed => renamed(heap),
             Call::Freed => freed(heap),
-            Call::TreeChanges => changed_tree(heap),
-            Call::NodeNames => node_names(heap),
-            Call::NodeRows => node_rows(heap),
-            Call::Layout => laid_out(heap),
-            Call::Property => laid_out_property(heap),
-            Call::Edits => edited(heap),
-            Call::TakenOut => taken_out(heap),
-            Call::RootSet => set(heap),
-            Call::RootCreated => created(heap),
-            Call::PropertyExchanged => exchanged(heap),
+            Call::Lists => listed(heap),
+            Call::TypedRows => typed_rows(heap),
         })
     }
 }

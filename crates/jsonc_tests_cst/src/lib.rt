@@ -10,13 +10,7 @@ mod calls;
 #[cfg(test)]
 mod documents;
 #[cfg(test)]
-mod edits;
-#[cfg(test)]
 mod kinds;
-#[cfg(test)]
-mod lines;
-#[cfg(test)]
-mod nodes;
 #[cfg(test)]
 mod readings;
 #[cfg(test)]
@@ -24,11 +18,7 @@ mod refusals;
 #[cfg(test)]
 mod replacing;
 #[cfg(test)]
-mod roots;
-#[cfg(test)]
 mod telling;
-#[cfg(test)]
-mod trees;
 #[cfg(test)]
 mod typed;
 #[cfg(test)]

@@ -2,12 +2,12 @@
 ghost use Rattle.jsonc_cst.specs.Document.{Holds};
 ghost use Rattle.jsonc_cst.specs.Nodes.{object_node};
 
-use crate::lines::{SPREAD, is_text};
 use jsonc_parser::ParseOptions;
 use jsonc_parser::cst::{
     CstNewlineKind, CstNode, CstObject, CstRootNode, HasChildren, IsNode, Readings,
 };
 use jsonc_trials::outcome::Outcome;
+use jsonc_trials::texts::{SPREAD, is_text};
 use jsonc_trials::trial::Heap;
 use std::default::Default;
 

@@ -1,12 +1,12 @@
 //! Values of a document that give way to others, and comments that leave.
 ghost use Rattle.jsonc_cst.specs.Document.{Holds};
-ghost use Rattle.jsonc_cst.specs.Nodes.{object_prop_node};
 
-use crate::documents::{prints, read};
+use crate::documents::read;
 use jsonc_parser::cst::{
     CstComment, CstContainerNode, CstInputValue, CstLeafNode, CstNode, CstObjectProp, CstRootNode,
     HasChildren, IsNode, ObjectPropName, ReplaceWith,
 };
+use jsonc_trials::awaited::prints;
 use jsonc_trials::outcome::Outcome;
 use jsonc_trials::trial::Heap;
 use refusing::Refusing;

@@ -1,10 +1,10 @@
 //! The nodes of a document, reached from its root and by names.
 
-use crate::lines::SPREAD;
 use jsonc_parser::ParseOptions;
 use jsonc_parser::cst::{CstLeafNode, CstNode, CstRootNode, HasChildren, IsNode, ObjectPropName};
 use jsonc_trials::awaited::Awaited;
 use jsonc_trials::outcome::Outcome;
+use jsonc_trials::texts::SPREAD;
 use jsonc_trials::trial::Heap;
 use std::default::Default;
 use std::fmt::Write;

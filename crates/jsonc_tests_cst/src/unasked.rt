@@ -1,7 +1,8 @@
 //! Calls of documents that take no memory, with every request refused.
 
-use crate::documents::{prints, read, tree_of, tree_prints};
+use crate::documents::read;
 use jsonc_parser::cst::{CstNode, HasChildren, IsNode};
+use jsonc_trials::awaited::prints;
 use jsonc_trials::outcome::Outcome;
 use jsonc_trials::trial::Heap;
 use refusing::Refusing;
@@ -9,17 +10,17 @@ use std::test::Fail;
 
 const TEXT: &str = " {\"a\": [1, [\"\\b\", {}], null], // c\r\n \"d\": /* e */ false }\n";
 
-/// A document and a tree print their text.
-fn are_printed(heap: Heap<'_>) -> Result<bool, Outcome> {
-    let (doc, tree) = (read(heap, TEXT)?, tree_of(heap, TEXT)?);
+/// A document prints its text, and so does its root.
+fn is_printed(heap: Heap<'_>) -> Result<bool, Outcome> {
+    let doc = read(heap, TEXT)?;
     heap.refuse_all();
-    Ok(prints(&doc, TEXT) && tree_prints(&tree, TEXT))
+    Ok(prints(&doc, TEXT) && prints(&doc.root().shown(&doc), TEXT))
 }
 
 #[test]
 fn printing_takes_no_memory(rt: HostRuntime) -> Result<(), Fail> {
     let heap = Refusing::ample(rt.alloc());
-    assert_eq!(rt; are_printed(&heap), Ok(true));
+    assert_eq!(rt; is_printed(&heap), Ok(true));
     assert_eq!(rt; heap.refused(), 0);
     Ok(())
 }

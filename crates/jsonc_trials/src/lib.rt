@@ -3,4 +3,5 @@
 
 pub mod awaited;
 pub mod outcome;
+pub mod texts;
 pub mod trial;

@@ -1,7 +1,7 @@
 use Rattle.jsonc_text.specs.Options.{Options}
 use Rattle.jsonc_text.specs.OptionsOf.{parse_options}
 use Rattle.jsonc_cst.proofs.Lent.{located_there}
-use Rattle.jsonc_tests_cst.proofs.documents.tree_of.Goals as goal
+use Rattle.jsonc_tests_tree.proofs.documents.tree_of.Goals as goal
 
 pub build-requires : goal.build-requires
 build-requires c =

@@ -1,6 +1,6 @@
 //! Values taken from documents, laid out and put into others, and what leaves.
 
-use crate::documents::{tree_of, tree_prints};
+use crate::documents::tree_of;
 use jsonc_edit::find;
 use jsonc_from_input::{Layout, lay_out_property};
 use jsonc_input::CstInputValue;
@@ -8,7 +8,7 @@ use jsonc_parser::cst::EditError;
 use jsonc_run::{Edit, find_comment, find_entry, make, run};
 use jsonc_to_input::to_value;
 use jsonc_tree::{CstNewlineKind, Tree};
-use jsonc_trials::awaited::Awaited;
+use jsonc_trials::awaited::{Awaited, prints};
 use jsonc_trials::outcome::Outcome;
 use jsonc_trials::trial::Heap;
 use refusing::Refusing;
@@ -123,7 +123,7 @@ pub fn taken_out(heap: Heap<'_>) -> Result<Outcome, Outcome> {
     let mut tree = tree_of(heap, "[1/*c*/2[3]4]")?;
     let edits = joining(heap)?;
     run_all(heap, &mut tree, edits.as_slice())?;
-    Ok(Outcome::of(tree_prints(&tree, "[-5 2 4]")))
+    Ok(Outcome::of(prints(&tree, "[-5 2 4]")))
 }
 
 /// Edits that take everything out of an array of two elements, and then the array.
@@ -143,13 +143,13 @@ fn is_emptied(heap: Heap<'_>) -> Result<bool, Outcome> {
     let edits = emptying(heap)?;
     heap.refuse_all();
     run_all(heap, &mut tree, edits.as_slice())?;
-    Ok(tree_prints(&tree, "") && find_entry(&tree, &[]).is_none())
+    Ok(prints(&tree, "") && find_entry(&tree, &[]).is_none())
 }
 
 /// Whether an edit finds no such place, and changes nothing.
 fn has_no_place<'h>(heap: Heap<'h>, tree: &mut Tree<Heap<'h>>, edit: &Edit<Heap<'h>>) -> bool {
     match make(heap, tree, edit) {
-        Err(EditError::NoSuchPlace) => tree_prints(tree, "[1] // c"),
+        Err(EditError::NoSuchPlace) => prints(tree, "[1] // c"),
         _ => false,
     }
 }

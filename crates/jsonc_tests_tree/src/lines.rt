@@ -8,10 +8,8 @@ use jsonc_lines::{
 };
 use jsonc_tree::{CstNewlineKind, Kind, Tree};
 use jsonc_trials::outcome::Outcome;
+use jsonc_trials::texts::{SPREAD, is_text};
 use jsonc_trials::trial::Heap;
-
-/// An object over lines, with a comment at the end of one.
-pub const SPREAD: &str = "{\n  \"a\": 1, // x\n  \"b\": [2]\n}";
 
 /// An array with a blank line, a comment before an element and a comma after the last one.
 const GROUPED: &str = "[\r\n\t\"a\",\r\n\r\n\t/* c */ \"b\",\r\n]";
@@ -48,13 +46,6 @@ fn above(tree: &Tree<Heap<'_>>, text: &str) -> Result<usize, Outcome>
     match tree.parent(leaf) {
         Some(parent) if parent < tree.len() => Ok(parent),
         _ => Err(Outcome::Other),
-    }
-}
-
-pub fn is_text(found: Option<String<Heap<'_>>>, text: &str) -> bool {
-    match found {
-        Some(found) => found.as_str() == text,
-        None => false,
     }
 }
 

@@ -1,6 +1,6 @@
 //! A document's value that is set or taken away, and properties that give way to others.
 
-use crate::documents::{tree_of, tree_prints};
+use crate::documents::tree_of;
 use jsonc_edit::find;
 use jsonc_input::CstInputValue;
 use jsonc_run::find_entry;
@@ -9,6 +9,7 @@ use jsonc_set::{
     object_value_or_set, replace_property, set_root,
 };
 use jsonc_tree::Tree;
+use jsonc_trials::awaited::prints;
 use jsonc_trials::outcome::Outcome;
 use jsonc_trials::trial::Heap;
 use refusing::Refusing;
@@ -25,7 +26,7 @@ fn array_of_true<'h>(heap: Heap<'h>) -> Result<CstInputValue<Heap<'h>>, AllocErr
 fn is_set(heap: Heap<'_>, text: &str, wanted: &str) -> Result<bool, Outcome> {
     let mut tree = tree_of(heap, text)?;
     let node = set_root(heap, &mut tree, &array_of_true(heap)?)?;
-    Ok(find(&tree, &[]) == Some(node) && tree_prints(&tree, wanted))
+    Ok(find(&tree, &[]) == Some(node) && prints(&tree, wanted))
 }
 
 /// A first value comes with the line ends that it needs, and another in the place of the old one.
@@ -41,7 +42,7 @@ fn are_created(heap: Heap<'_>) -> Result<bool, Outcome> {
     let is_object = object_value_or_create(heap, &mut tree)?.is_some();
     let mut other = tree_of(heap, "")?;
     let is_array = array_value_or_create(heap, &mut other)?.is_some();
-    let are_right = tree_prints(&tree, "// c\r\n{}\r\n") && tree_prints(&other, "[]\n");
+    let are_right = prints(&tree, "// c\r\n{}\r\n") && prints(&other, "[]\n");
     Ok(is_object && is_array && are_right)
 }
 
@@ -52,7 +53,7 @@ fn are_set(heap: Heap<'_>) -> Result<bool, Outcome> {
     let mut other = tree_of(heap, " // c")?;
     let array = array_value_or_set(heap, &mut other)?;
     let are_found = find(&tree, &[]) == Some(object) && find(&other, &[]) == Some(array);
-    Ok(are_found && tree_prints(&tree, "{} // c") && tree_prints(&other, " // c\n[]\n"))
+    Ok(are_found && prints(&tree, "{} // c") && prints(&other, " // c\n[]\n"))
 }
 
 /// An object or an array, created or set.
@@ -75,7 +76,7 @@ fn is_exchanged<'h>(
     if replace_property(heap, tree, old, name, &value)?.is_none() {
         return Ok(false);
     }
-    Ok(tree_prints(tree, wanted))
+    Ok(prints(tree, wanted))
 }
 
 /// An array of an object of one truth value.
@@ -117,7 +118,7 @@ fn is_value_found(heap: Heap<'_>) -> Result<bool, Outcome> {
         && Some(object_value_or_set(heap, &mut object)?) == is_object;
     let are_none = object_value_or_create(heap, &mut array)?.is_none()
         && array_value_or_create(heap, &mut object)?.is_none();
-    let are_kept = tree_prints(&array, "[1] // c") && tree_prints(&object, "{\"a\": 1} // c");
+    let are_kept = prints(&array, "[1] // c") && prints(&object, "{\"a\": 1} // c");
     Ok(are_created && are_set && are_none && are_kept)
 }
 
@@ -126,7 +127,7 @@ fn is_cleared(heap: Heap<'_>) -> Result<bool, Outcome> {
     let mut tree = tree_of(heap, " [1] // c\n")?;
     heap.refuse_all();
     clear_root(&mut tree);
-    Ok(tree_prints(&tree, "") && find(&tree, &[]).is_none())
+    Ok(prints(&tree, "") && find(&tree, &[]).is_none())
 }
 
 /// A property that has given way to another is nobody's child, and gives way no more.
@@ -142,7 +143,7 @@ fn is_no_child(heap: Heap<'_>) -> Result<bool, Outcome> {
         return Err(Outcome::Other);
     }
     let is_none = replace_property(heap, &mut tree, old, "c", &value)?.is_none();
-    Ok(is_new && is_none && tree_prints(&tree, "{\"b\": [true]}"))
+    Ok(is_new && is_none && prints(&tree, "{\"b\": [true]}"))
 }
 
 #[test]

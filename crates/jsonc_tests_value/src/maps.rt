@@ -117,7 +117,8 @@ fn changed_pairs(alloc: Global) -> Result<Map<char, u32, Global>, AllocError> {
 fn has_pairs(map: &Map<char, u32, Heap<'_>>, keys: [char; 4], values: [u32; 4]) -> bool {
     let has_keys = map.keys().copied().eq(keys);
     let has_values = map.values().copied().eq(values);
-    has_keys && has_values && map.len() == 4 && !map.is_empty()
+    let has_last = map.iter().last() == Some((&keys[3], &values[3]));
+    has_keys && has_values && has_last && map.len() == 4 && !map.is_empty()
 }
 
 /// Whether a map gives its pairs up in their order: keys, values and both.
