@@ -3,7 +3,9 @@
 use jsonc_engine::fault::Fault;
 use jsonc_parser::cst::{CstRootNode, EditError, HasChildren, IsNode};
 use jsonc_parser::errors::{ParseError, ParseErrorKind, SurrogateFault};
-use jsonc_parser::{CollectOptions, ParseOptions, ParseStringErrorKind as StringKind, parse_to_ast};
+use jsonc_parser::{
+    CollectOptions, ParseOptions, ParseStringErrorKind as StringKind, parse_to_ast,
+};
 use std::alloc::{AllocError, Global};
 use std::default::Default;
 use std::fmt;
@@ -68,15 +70,9 @@ const STRING_KINDS: [(StringKind, &str); 8] = [
         StringKind::ExpectedFourHexDigits,
         "Expected four hex digits",
     ),
+    (StringKind::ExpectedTwoHexDigits, "Expected two hex digits"),
     (
-        StringKind::ExpectedTwoHexDigits,
-        "Expected two hex digits",
-    ),
-    (
-        StringKind::InvalidUnicodeEscapeSequence(
-            *b"dF06",
-            SurrogateFault::UnpairedLowSurrogate,
-        ),
+        StringKind::InvalidUnicodeEscapeSequence(*b"dF06", SurrogateFault::UnpairedLowSurrogate),
         "Invalid unicode escape sequence. 'dF06 (unpaired low surrogate)' is not a valid UTF8 character",
     ),
     (StringKind::InvalidEscape, "Invalid escape"),

@@ -184,6 +184,10 @@ fn are_covered(object: &Object<'static, Heap<'_>>) -> bool {
     is_null && is_array && covered(number, TEXT) == Some("1.5")
 }
 
+fn is_kind(node: Node<'_, 'static, Heap<'_>>, kind: NodeKind) -> bool {
+    node.kind() == kind
+}
+
 /// Each kind is a node of its kind.
 fn are_nodes_made(object: &Object<'static, Heap<'_>>) -> bool {
     let (Some(string), Some(number), Some(boolean), Some(array)) = (
@@ -194,10 +198,10 @@ fn are_nodes_made(object: &Object<'static, Heap<'_>>) -> bool {
     ) else {
         return false;
     };
-    let are_literals = Node::from(string).kind() == NodeKind::StringLit
-        && Node::from(number).kind() == NodeKind::NumberLit
-        && Node::from(boolean).kind() == NodeKind::BooleanLit;
-    are_literals && Node::from(array).kind() == NodeKind::Array
+    let are_literals = is_kind(Node::from(string), NodeKind::StringLit)
+        && is_kind(Node::from(number), NodeKind::NumberLit)
+        && is_kind(Node::from(boolean), NodeKind::BooleanLit);
+    are_literals && is_kind(Node::from(array), NodeKind::Array)
 }
 
 fn is_asked(heap: Heap<'_>) -> Result<bool, Outcome> {

@@ -16,11 +16,7 @@ pub enum Call {
 }
 
 /// All of them.
-pub const CALLS: [Call; 3] = [
-    Call::Value,
-    Call::ValueCopies,
-    Call::MapChanges,
-];
+pub const CALLS: [Call; 3] = [Call::Value, Call::ValueCopies, Call::MapChanges];
 
 impl Trial for Call {
     fn outcome(self, heap: Heap<'_>) -> Outcome {
