@@ -45,7 +45,8 @@ fn are_not_found(object: &Object<'static, Heap<'_>>) -> bool {
 
 /// Each kind is taken out, and nothing where the first of the name is of another kind.
 fn are_taken(object: &mut Object<'static, Heap<'_>>) -> bool {
-    let is_kept = object.take_number("s").is_none() && object.properties.len() == 6;
+    let are_missing = object.take_number("s").is_none() && object.take("x").is_none();
+    let is_kept = are_missing && object.properties.len() == 6;
     let (Some(string), Some(number), Some(second)) = (
         object.take_string("s"),
         object.take_number("n"),

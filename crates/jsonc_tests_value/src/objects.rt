@@ -36,7 +36,8 @@ fn are_not_found(object: &JsonObject<'static, Heap<'_>>) -> bool {
 
 /// Each kind is taken out, and nothing where the value is of another kind.
 fn are_taken(object: &mut JsonObject<'static, Heap<'_>>) -> bool {
-    let is_kept = object.take_number("s").is_none() && object.len() == 5;
+    let are_missing = object.take_number("s").is_none() && object.take("x").is_none();
+    let is_kept = are_missing && object.len() == 5;
     let (Some(string), Some(inner), Some(array)) = (
         object.take_string("s"),
         object.take_object("o"),
@@ -45,8 +46,8 @@ fn are_taken(object: &mut JsonObject<'static, Heap<'_>>) -> bool {
         return false;
     };
     let are_literals = string.as_str() == "x"
-        && object.take_boolean("t") == Some(true)
-        && object.take("n").is_some();
+        && object.take_number("n") == Some("1.5")
+        && object.take_boolean("t") == Some(true);
     is_kept && are_literals && inner.is_empty() && !array.is_empty() && object.is_empty()
 }
 
