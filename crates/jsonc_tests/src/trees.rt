@@ -1,7 +1,5 @@
 //! Changes of a tree, each through the tests that make it allowed.
-ghost use Rattle.std.specs.Prelude.{◌≡◌, ◌<◌, IsTrue, length};
-ghost use Rattle.jsonc_tree.specs.Content.{has_text};
-ghost use Rattle.jsonc_tree.specs.Stored.{content_of};
+ghost use Rattle.std.specs.Prelude.{◌<◌, IsTrue, length};
 ghost use Rattle.jsonc_tree.specs.Tree.{is_container_at};
 
 use crate::calls::Heap;
@@ -17,20 +15,6 @@ fn can_hold(tree: &Tree<Heap<'_>>, node: usize) -> bool
         return false;
     }
     tree.kind(node).is_container()
-}
-
-/// Whether a node keeps a text, its own or a part of one.
-fn keeps_text(kind: &Kind<Heap<'_>>) -> bool
-    ensures { result ≡ has_text (content_of kind.now) }
-{
-    match kind {
-        Kind::String(_) | Kind::StringPart(_) => true,
-        Kind::Word(_) | Kind::WordPart(_) => true,
-        Kind::Number(_) | Kind::NumberPart(_) => true,
-        Kind::Whitespace(_) | Kind::WhitespacePart(_) => true,
-        Kind::Comment(_) | Kind::CommentPart(_) => true,
-        _ => false,
-    }
 }
 
 fn push<'a>(
@@ -78,15 +62,12 @@ fn put<'a>(
     Ok(())
 }
 
-fn rewrite<'a>(
-    tree: &mut Tree<Heap<'a>>,
-    leaf: usize,
-    text: String<Heap<'a>>,
-) -> Result<(), Outcome> {
-    if leaf >= tree.len() || !keeps_text(tree.kind(leaf)) {
+/// Another leaf in the place of one.
+fn set<'a>(tree: &mut Tree<Heap<'a>>, leaf: usize, kind: Kind<Heap<'a>>) -> Result<(), Outcome> {
+    if leaf >= tree.len() || tree.kind(leaf).is_container() || kind.is_container() {
         return Err(Outcome::Other);
     }
-    tree.set_text(leaf, text);
+    tree.set_leaf(leaf, kind);
     Ok(())
 }
 
@@ -105,7 +86,7 @@ pub fn changed_tree(heap: Heap<'_>) -> Result<Outcome, Outcome> {
         3,
         Kind::Whitespace(String::from_str(heap, "  ")?),
     )?;
-    rewrite(&mut tree, number, String::from_str(heap, "23")?)?;
+    set(&mut tree, number, Kind::Word(String::from_str(heap, "a")?))?;
     let printed = tree.to_string(heap)?;
-    Ok(Outcome::of(printed.as_str() == "[23  ]"))
+    Ok(Outcome::of(printed.as_str() == "[a  ]"))
 }

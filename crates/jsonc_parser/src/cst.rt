@@ -1,0 +1,16 @@
+//! The document: the tree of a text, in which every byte of it stands, and its edits.
+//!
+//! A [`CstRootNode`] owns its nodes and names each by a number. A caller holds a [`CstNode`], or a
+//! node of one kind as [`CstObject`]: a number that says what it is the number of, and can be copied.
+//! It is asked together with its document, and [`CstRootNode::holds`] tells whether that has it; all
+//! nodes that a call answers are nodes of the document that was asked. [`ReplaceWith`], [`Remove`] and
+//! [`RemoveLeaf`] are the edits of nodes.
+
+pub use jsonc_cst::cst::{
+    AncestorIterator, CstArray, CstBooleanLit, CstComment, CstContainerNode, CstInputValue,
+    CstLeafNode, CstNewline, CstNewlineKind, CstNode, CstNullKeyword, CstNumberLit, CstObject,
+    CstObjectProp, CstRoot, CstRootNode, CstStringLit, CstToken, CstWhitespace, CstWordLit,
+    EditError, HasChildren, IsNode, NextSiblingIterator, ObjectPropName, PreviousSiblingIterator,
+    Readings, Shown, TrailingCommaMode, input,
+};
+pub use jsonc_typed::{Remove, RemoveLeaf, ReplaceWith};
