@@ -4,7 +4,9 @@
 //! node of one kind as [`CstObject`]: a number that says what it is the number of, and can be copied.
 //! It is asked together with its document, and [`CstRootNode::holds`] tells whether that has it; all
 //! nodes that a call answers are nodes of the document that was asked. [`ReplaceWith`], [`Remove`] and
-//! [`RemoveLeaf`] are the edits of nodes.
+//! [`RemoveLeaf`] are the edits of nodes, and [`run`] makes a list of edits, each at its path.
+
+mod lists;
 
 pub use jsonc_cst::cst::{
     AncestorIterator, CstArray, CstBooleanLit, CstComment, CstContainerNode, CstInputValue,
@@ -13,4 +15,6 @@ pub use jsonc_cst::cst::{
     EditError, HasChildren, IsNode, NextSiblingIterator, ObjectPropName, PreviousSiblingIterator,
     Readings, Shown, TrailingCommaMode, input,
 };
-pub use jsonc_typed::{Remove, RemoveLeaf, ReplaceWith};
+pub use jsonc_run::Edit;
+pub use jsonc_typed::{IsDocument, Remove, RemoveLeaf, ReplaceWith};
+pub use lists::run;
