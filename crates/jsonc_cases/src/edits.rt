@@ -31,7 +31,31 @@ fn read_edit(alloc: Global, edit: &str) -> Result<Option<Edit<Global>>, CaseErro
         }
         ["Remove", path] => Ok(Some(Edit::Remove(read_path(alloc, path)?))),
         ["RemoveComment", number] => Ok(Some(Edit::RemoveComment(read_number(number)?))),
+        ["SetRoot", value @ ..] => Ok(Some(Edit::SetRoot(read_value(alloc, value)?))),
+        ["ClearRoot"] => Ok(Some(Edit::ClearRoot)),
+        ["ReplaceProperty", path, name, value @ ..] =>
+            Ok(Some(read_new_property(alloc, path, name, value)?)),
         _ => Ok(None),
+    }
+}
+
+/// The edit that lets the property at a path give way to one of this name and value.
+fn read_new_property(
+    alloc: Global,
+    path: &str,
+    name: &str,
+    value: &[&str],
+) -> Result<Edit<Global>, CaseError> {
+    let path = read_path(alloc, path)?;
+    let name = read_name(alloc, name)?;
+    Ok(Edit::ReplaceProperty(path, name, read_value(alloc, value)?))
+}
+
+/// The name of a property, which stands after a `'`.
+fn read_name(alloc: Global, word: &str) -> Result<String, CaseError> {
+    match word.strip_prefix("'") {
+        Some(name) => unescaped_text(alloc, name),
+        None => Err(CaseError::Edit),
     }
 }
 

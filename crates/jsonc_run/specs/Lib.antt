@@ -1,3 +1,5 @@
+pub mod Places
 pub mod Edits
+pub mod Refusals
 pub mod Written
 pub mod Marked

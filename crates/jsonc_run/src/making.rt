@@ -1,20 +1,24 @@
 //! Edits that are made.
 
-ghost use Rattle.std.specs.Prelude.{◌≡◌, ◌∷◌, [], IfErr, OnErr, OnOk, length, take};
+ghost use Rattle.std.specs.Prelude.{◌≡◌, ◌∷◌, [], IfErr, OnErr, OnOk, chars, length, take};
 ghost use Rattle.jsonc_text.specs.Options.{Options};
 ghost use Rattle.jsonc_tree.specs.Building.{Keeps};
 ghost use Rattle.jsonc_tree.specs.OrderedTree.{ordered_tree};
 ghost use Rattle.jsonc_tree.specs.Tree.{IsTree};
 ghost use Rattle.jsonc_input.specs.Views.{plain};
-ghost use Rattle.jsonc_run.specs.Edits.{operation_of, operations_of, replace as asked, remove as asked_out, remove_comment as asked_without, AreMade, IsMade, IsToldBy, StopsAt};
+ghost use Rattle.jsonc_run.specs.Edits.{operation_of, operations_of, AreMade, IsMade};
+ghost use Rattle.jsonc_run.specs.Edits.{replace as asked, remove as asked_out, remove_comment as asked_without};
+ghost use Rattle.jsonc_run.specs.Edits.{set_root as asked_of_root, replace_property as asked_of_property};
+ghost use Rattle.jsonc_run.specs.Refusals.{IsToldBy, StopsAt};
 ghost use Rattle.jsonc_run.specs.Written.{WriteAll};
 
 use crate::comments::find_comment;
 use crate::edit::Edit;
-use crate::entries::find_entry;
+use crate::entries::{find_entry, find_property};
 use jsonc_edit::{EditError, find, remove_comment, replace};
 use jsonc_input::CstInputValue;
 use jsonc_remove::remove;
+use jsonc_set::{clear_root, replace_property, set_root};
 use jsonc_tree::Tree;
 use std::alloc::Allocator;
 
@@ -32,10 +36,34 @@ pub fn make<A: Allocator + Copy>(
     ensures tree { IsTree tree.new.nodes }
 {
     let _ = tree.len();
+    make_by_kind(alloc, tree, edit)
+}
+
+// Makes an edit, by its kind.
+fn make_by_kind<A: Allocator + Copy>(
+    alloc: A,
+    tree: &mut Tree<A>,
+    edit: &Edit<A>,
+) -> Result<(), EditError>
+    ensures made { OnOk result (IsMade tree.old.nodes (operation_of edit.now) tree.new.nodes) }
+    ensures told { IfErr result (IsToldBy tree.old.nodes (operation_of edit.now)) }
+    ensures kept { OnErr result (Keeps (length tree.old.nodes) tree.old.nodes tree.new.nodes) }
+    ensures document { OnErr result (ordered_tree tree.new.nodes 0 ≡ ordered_tree tree.old.nodes 0) }
+    ensures tree { IsTree tree.new.nodes }
+{
+    let _ = tree.len();
     match edit {
         Edit::Replace(path, value) => replace_at(alloc, tree, path, value),
         Edit::Remove(path) => remove_entry(alloc, tree, path),
         Edit::RemoveComment(number) => remove_at(alloc, tree, *number),
+        Edit::SetRoot(value) => set_value(alloc, tree, value),
+        Edit::ClearRoot => {
+            clear_root(tree);
+            Ok(())
+        }
+        Edit::ReplaceProperty(path, name, value) => {
+            replace_property_at(alloc, tree, path, name, value)
+        }
     }
 }
 
@@ -100,6 +128,48 @@ fn remove_at<A: Allocator + Copy>(
         return Err(EditError::NoSuchPlace);
     };
     remove_comment(alloc, tree, comment)
+}
+
+// Sets the document's value.
+fn set_value<A: Allocator + Copy>(
+    alloc: A,
+    tree: &mut Tree<A>,
+    value: &CstInputValue<A>,
+) -> Result<(), EditError>
+    ensures made { OnOk result (IsMade tree.old.nodes (asked_of_root (plain value.now)) tree.new.nodes) }
+    ensures told { IfErr result (IsToldBy tree.old.nodes (asked_of_root (plain value.now))) }
+    ensures kept { OnErr result (Keeps (length tree.old.nodes) tree.old.nodes tree.new.nodes) }
+    ensures document { OnErr result (ordered_tree tree.new.nodes 0 ≡ ordered_tree tree.old.nodes 0) }
+    ensures tree { IsTree tree.new.nodes }
+{
+    let _ = tree.len();
+    set_root(alloc, tree, value)?;
+    Ok(())
+}
+
+// Lets the property at a path give way to one of this name and value.
+fn replace_property_at<A: Allocator + Copy>(
+    alloc: A,
+    tree: &mut Tree<A>,
+    path: &[usize],
+    name: &str,
+    value: &CstInputValue<A>,
+) -> Result<(), EditError>
+    ensures made { OnOk result (IsMade tree.old.nodes (asked_of_property path.now (chars name.now) (plain value.now)) tree.new.nodes) }
+    ensures told { IfErr result (IsToldBy tree.old.nodes (asked_of_property path.now (chars name.now) (plain value.now))) }
+    ensures kept { OnErr result (Keeps (length tree.old.nodes) tree.old.nodes tree.new.nodes) }
+    ensures document { OnErr result (ordered_tree tree.new.nodes 0 ≡ ordered_tree tree.old.nodes 0) }
+    ensures tree { IsTree tree.new.nodes }
+{
+    let _ = tree.len();
+    let Some(property) = find_property(tree, path) else {
+        return Err(EditError::NoSuchPlace);
+    };
+    let Some(_) = replace_property(alloc, tree, property, name, value)? else {
+        // A property at a path has a parent.
+        unreachable!()
+    };
+    Ok(())
 }
 
 /// Makes edits in order, each in the document that the one before it made. Where one is refused, the
