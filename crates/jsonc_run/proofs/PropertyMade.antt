@@ -4,8 +4,7 @@ use Rattle.jsonc_text.specs.Options.{Options}
 use Rattle.jsonc_text.specs.Plain.{Plain}
 use Rattle.jsonc_tree.specs.Content.{Content}
 use Rattle.jsonc_tree.specs.OrderedTree.{Top, leaves, ordered_tree}
-use Rattle.jsonc_tree.specs.Tree.{Node, content_at, parent_at, IsTree}
-use Rattle.jsonc_from_input.specs.Laid.{laid_property}
+use Rattle.jsonc_tree.specs.Tree.{Node, IsTree}
 use Rattle.jsonc_from_input.specs.Layout.{Layout}
 use Rattle.jsonc_from_input.specs.Texts.{IsCharacters}
 use Rattle.jsonc_sound.specs.Laws.{DiffersIn}
@@ -17,9 +16,8 @@ use Rattle.jsonc_edit.specs.Reading.{layout_for}
 use Rattle.jsonc_edit.specs.Writing.{IsWritable}
 use Rattle.jsonc_edit.proofs.GivingWay.{in_place}
 use Rattle.jsonc_set.specs.Giving.{property_top, IsPropertyReplaced}
-use Rattle.jsonc_set.specs.Properties.{IsPropertyWritten}
 use Rattle.jsonc_set.proofs.WrittenProperty.{writes_property}
-use Rattle.jsonc_run.specs.Places.{IsPropertyAt, a_property, IsPropertyOf}
+use Rattle.jsonc_run.specs.Places.{IsPropertyAt, a_property}
 use Rattle.jsonc_run.specs.Written.{PropertyGivenWay, property_given}
 
 -- the new property is laid out as the document tells
