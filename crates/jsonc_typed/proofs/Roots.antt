@@ -35,7 +35,7 @@ module _ (old new : List Node) (v : Plain) (m : ℕ) (f : FirstValue old new v m
       let there : get_or (f.before ++ m ∷ f.behind) (length f.before) 0 < length f.ready = f.join.there (length f.before) within in
       omega (arith, there, get_or-append_seam f.before m f.behind 0, f.put.len)
 
-  first_content : content_at new m ≡ (laid (layout_for old 0 0) v).content
+  pub first_content : content_at new m ≡ (laid (layout_for old 0 0) v).content
   first_content = f.put.content m ∙ ap (λ (t : Top). t.content) f.is
 
 -- where a value has given way

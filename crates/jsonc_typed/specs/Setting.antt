@@ -25,6 +25,7 @@ use Rattle.jsonc_cst.specs.declared.cst.node.CstNode.{CstNode}
 use Rattle.jsonc_cst.specs.declared.cst.node.CstObject.{CstObject}
 use Rattle.jsonc_cst.specs.Document.{nodes_of}
 use Rattle.jsonc_cst.specs.Nodes.{number_of}
+use Rattle.jsonc_cst.specs.Readings.{typed_if}
 
 -- the root's value, if there was one, has given way to v, and else v has come as the first: it is the node m now
 abbrev pub ValueBecomes : List Node → List Node → Plain → Option ℕ → ℕ → Type 0
@@ -40,6 +41,10 @@ WritesFirst o old new v =
 abbrev pub ValueIsWritten : Options → List Node → List Node → Plain → Option ℕ → ℕ → Type 0
 ValueIsWritten o old new v None m = WritesFirst o old new v
 ValueIsWritten o old new v (Some n) m = Writes o old new n m v
+
+-- the node is the value of the root
+abbrev pub IsRootValue : List Node → CstNode → Type 0
+IsRootValue ns node = typed_if ns (value_at ns 0) ≡ Some node
 
 module _ (old new : List Node) where
   -- v has become the value of the root, which is this node

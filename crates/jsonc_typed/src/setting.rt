@@ -1,6 +1,6 @@
 //! A document's value is set, and a property gives way to another.
 
-ghost use Rattle.std.specs.Prelude.{◌≡◌, ◌<◌, IfErr, IfNone, IfOk, IfSome, None, OnErr, chars, length};
+ghost use Rattle.std.specs.Prelude.{◌≡◌, ◌<◌, IfErr, IfNone, IfOk, IfSome, None, OnErr, Some, chars, length};
 ghost use Rattle.jsonc_text.specs.Options.{Options};
 ghost use Rattle.jsonc_input.specs.Views.{plain};
 ghost use Rattle.jsonc_tree.specs.Content.{Content};
@@ -10,11 +10,12 @@ ghost use Rattle.jsonc_nodes.specs.Properties.{value_at};
 ghost use Rattle.jsonc_set.specs.Kinds.{is_array, is_object, LacksKind};
 ghost use Rattle.jsonc_cst.specs.Document.{nodes_of, parent_of, tree_of, Holds};
 ghost use Rattle.jsonc_cst.specs.Nodes.{array_node, object_node, IsNodeOf};
+ghost use Rattle.jsonc_cst.specs.Readings.{value_under};
 ghost use Rattle.jsonc_cst.specs.Tree.{NodesAreTree};
 ghost use Rattle.jsonc_typed.specs.Edits.{IsUntouched, StillHolds, StillNodes};
 ghost use Rattle.jsonc_typed.specs.Removing.{IsCleared};
 ghost use Rattle.jsonc_typed.specs.Setting.{FindsOrCreatesArray, FindsOrCreatesObject, FindsOrSetsArray};
-ghost use Rattle.jsonc_typed.specs.Setting.{FindsOrSetsObject, HasBecomeProperty, HasWrittenProperty};
+ghost use Rattle.jsonc_typed.specs.Setting.{FindsOrSetsObject, HasBecomeProperty, HasWrittenProperty, IsRootValue};
 ghost use Rattle.jsonc_typed.specs.Setting.{PropertyBecomes, PropertyIsWritten, RootBecomes, RootIsWritten};
 
 use crate::removing::clear;
@@ -57,6 +58,7 @@ fn set_root<A: Allocator + Copy>(
 ) -> Result<CstNode, EditError>
     ensures set { IfOk result (RootBecomes tree.old.nodes tree.new.nodes (plain value.now)) }
     ensures written { (p : Options) → IfOk result (RootIsWritten tree.old.nodes tree.new.nodes p (plain value.now)) }
+    ensures stands { IfOk result (IsRootValue tree.new.nodes) }
     ensures held { IfOk result (IsNodeOf tree.new.nodes) }
     ensures stays { StillNodes tree.old.nodes tree.new.nodes }
     ensures memory { IfErr result (λ e. e ≡ EditError.OutOfMemory) }
@@ -74,6 +76,7 @@ fn object_or_create<A: Allocator + Copy>(
     tree: &mut Tree<A>,
 ) -> Result<Option<CstObject>, EditError>
     ensures value { IfOk result (FindsOrCreatesObject tree.old.nodes tree.new.nodes) }
+    ensures stands { IfOk result (λ o. IfSome o (λ x. IsRootValue tree.new.nodes (object_node x))) }
     ensures held { IfOk result (λ o. IfSome o (λ x. IsNodeOf tree.new.nodes (object_node x))) }
     ensures stays { StillNodes tree.old.nodes tree.new.nodes }
     ensures memory { IfErr result (λ e. e ≡ EditError.OutOfMemory) }
@@ -81,6 +84,7 @@ fn object_or_create<A: Allocator + Copy>(
     ensures document { OnErr result (ordered_tree tree.new.nodes 0 ≡ ordered_tree tree.old.nodes 0) }
     ensures tree { IsTree tree.new.nodes }
 {
+    let _ = tree.len();
     let Some(number) = jsonc_set::object_value_or_create(alloc, tree)? else {
         return Ok(None);
     };
@@ -93,6 +97,7 @@ fn array_or_create<A: Allocator + Copy>(
     tree: &mut Tree<A>,
 ) -> Result<Option<CstArray>, EditError>
     ensures value { IfOk result (FindsOrCreatesArray tree.old.nodes tree.new.nodes) }
+    ensures stands { IfOk result (λ o. IfSome o (λ x. IsRootValue tree.new.nodes (array_node x))) }
     ensures held { IfOk result (λ o. IfSome o (λ x. IsNodeOf tree.new.nodes (array_node x))) }
     ensures stays { StillNodes tree.old.nodes tree.new.nodes }
     ensures memory { IfErr result (λ e. e ≡ EditError.OutOfMemory) }
@@ -100,6 +105,7 @@ fn array_or_create<A: Allocator + Copy>(
     ensures document { OnErr result (ordered_tree tree.new.nodes 0 ≡ ordered_tree tree.old.nodes 0) }
     ensures tree { IsTree tree.new.nodes }
 {
+    let _ = tree.len();
     let Some(number) = jsonc_set::array_value_or_create(alloc, tree)? else {
         return Ok(None);
     };
@@ -109,6 +115,7 @@ fn array_or_create<A: Allocator + Copy>(
 // The document's object, or an empty one that is set where its value is none.
 fn object_or_set<A: Allocator + Copy>(alloc: A, tree: &mut Tree<A>) -> Result<CstObject, EditError>
     ensures value { IfOk result (FindsOrSetsObject tree.old.nodes tree.new.nodes) }
+    ensures stands { IfOk result (λ x. IsRootValue tree.new.nodes (object_node x)) }
     ensures held { IfOk result (λ x. IsNodeOf tree.new.nodes (object_node x)) }
     ensures stays { StillNodes tree.old.nodes tree.new.nodes }
     ensures memory { IfErr result (λ e. e ≡ EditError.OutOfMemory) }
@@ -116,6 +123,7 @@ fn object_or_set<A: Allocator + Copy>(alloc: A, tree: &mut Tree<A>) -> Result<Cs
     ensures document { OnErr result (ordered_tree tree.new.nodes 0 ≡ ordered_tree tree.old.nodes 0) }
     ensures tree { IsTree tree.new.nodes }
 {
+    let _ = tree.len();
     let number = jsonc_set::object_value_or_set(alloc, tree)?;
     Ok(object_at(tree, number))
 }
@@ -123,6 +131,7 @@ fn object_or_set<A: Allocator + Copy>(alloc: A, tree: &mut Tree<A>) -> Result<Cs
 // The document's array, or an empty one that is set where its value is none.
 fn array_or_set<A: Allocator + Copy>(alloc: A, tree: &mut Tree<A>) -> Result<CstArray, EditError>
     ensures value { IfOk result (FindsOrSetsArray tree.old.nodes tree.new.nodes) }
+    ensures stands { IfOk result (λ x. IsRootValue tree.new.nodes (array_node x)) }
     ensures held { IfOk result (λ x. IsNodeOf tree.new.nodes (array_node x)) }
     ensures stays { StillNodes tree.old.nodes tree.new.nodes }
     ensures memory { IfErr result (λ e. e ≡ EditError.OutOfMemory) }
@@ -130,6 +139,7 @@ fn array_or_set<A: Allocator + Copy>(alloc: A, tree: &mut Tree<A>) -> Result<Cst
     ensures document { OnErr result (ordered_tree tree.new.nodes 0 ≡ ordered_tree tree.old.nodes 0) }
     ensures tree { IsTree tree.new.nodes }
 {
+    let _ = tree.len();
     let number = jsonc_set::array_value_or_set(alloc, tree)?;
     Ok(array_at(tree, number))
 }
@@ -201,6 +211,7 @@ impl<A: Allocator + Copy> SetRoot for CstRootNode<A> {
     fn set_value(&mut self, value: CstInputValue<A>) -> Result<CstNode, EditError>
         ensures set { IfOk result (RootBecomes (nodes_of self.old) (nodes_of self.new) (plain value)) }
         ensures written { (p : Options) → IfOk result (RootIsWritten (nodes_of self.old) (nodes_of self.new) p (plain value)) }
+        ensures stands { IfOk result (λ m. value_under self.new 0 ≡ Some m) }
         ensures held { IfOk result (Holds self.new) }
         ensures stays { StillHolds self.old self.new }
         ensures memory { IfErr result (λ e. e ≡ EditError.OutOfMemory) }
@@ -223,6 +234,7 @@ impl<A: Allocator + Copy> SetRoot for CstRootNode<A> {
 
     fn object_value_or_create(&mut self) -> Result<Option<CstObject>, EditError>
         ensures value { IfOk result (FindsOrCreatesObject (nodes_of self.old) (nodes_of self.new)) }
+        ensures stands { IfOk result (λ o. IfSome o (λ x. value_under self.new 0 ≡ Some (object_node x))) }
         ensures held { IfOk result (λ o. IfSome o (λ x. Holds self.new (object_node x))) }
         ensures stays { StillHolds self.old self.new }
         ensures memory { IfErr result (λ e. e ≡ EditError.OutOfMemory) }
@@ -237,6 +249,7 @@ impl<A: Allocator + Copy> SetRoot for CstRootNode<A> {
 
     fn object_value_or_set(&mut self) -> Result<CstObject, EditError>
         ensures value { IfOk result (FindsOrSetsObject (nodes_of self.old) (nodes_of self.new)) }
+        ensures stands { IfOk result (λ x. value_under self.new 0 ≡ Some (object_node x)) }
         ensures held { IfOk result (λ x. Holds self.new (object_node x)) }
         ensures stays { StillHolds self.old self.new }
         ensures memory { IfErr result (λ e. e ≡ EditError.OutOfMemory) }
@@ -251,6 +264,7 @@ impl<A: Allocator + Copy> SetRoot for CstRootNode<A> {
 
     fn array_value_or_create(&mut self) -> Result<Option<CstArray>, EditError>
         ensures value { IfOk result (FindsOrCreatesArray (nodes_of self.old) (nodes_of self.new)) }
+        ensures stands { IfOk result (λ o. IfSome o (λ x. value_under self.new 0 ≡ Some (array_node x))) }
         ensures held { IfOk result (λ o. IfSome o (λ x. Holds self.new (array_node x))) }
         ensures stays { StillHolds self.old self.new }
         ensures memory { IfErr result (λ e. e ≡ EditError.OutOfMemory) }
@@ -265,6 +279,7 @@ impl<A: Allocator + Copy> SetRoot for CstRootNode<A> {
 
     fn array_value_or_set(&mut self) -> Result<CstArray, EditError>
         ensures value { IfOk result (FindsOrSetsArray (nodes_of self.old) (nodes_of self.new)) }
+        ensures stands { IfOk result (λ x. value_under self.new 0 ≡ Some (array_node x)) }
         ensures held { IfOk result (λ x. Holds self.new (array_node x)) }
         ensures stays { StillHolds self.old self.new }
         ensures memory { IfErr result (λ e. e ≡ EditError.OutOfMemory) }
