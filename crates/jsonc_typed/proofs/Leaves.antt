@@ -1,5 +1,5 @@
 -- Leaves that become others of their kind: every node is still what it was.
-use Rattle.std.proofs.Common.{◌≡◌, ℕ, ◌<◌, Bool, true, false, inl, inr, List, length, refl, ap, sym, subst, ◌∙◌, arith}
+use Rattle.std.proofs.Common.{◌≡◌, ℕ, Bool, true, false, inl, inr, List, refl, ap, sym, ◌∙◌, arith}
 use Rattle.std.proofs.lemmas.Bool.{cases_eq}
 use Rattle.jsonc_tree.specs.Changes.{LeafBecomes}
 use Rattle.jsonc_tree.specs.Content as content

@@ -1,7 +1,7 @@
 -- The nodes that set a document's value, or a property: they are there, of their kind, and every other node stays.
-use Rattle.std.proofs.Common.{◌≡◌, ℕ, ◌<◌, ◌++◌, ◌+◌, Bool, true, false, inl, inr, List, ◌∷◌, length, get_or, Option, Some, None, Result, Ok, Err, OnErr, IfOk, IfSome, IfNone, cond, refl, ap, sym, subst, ◌∙◌, arith, length-append}
+use Rattle.std.proofs.Common.{◌≡◌, ℕ, ◌<◌, ◌++◌, Bool, true, false, inl, inr, List, ◌∷◌, length, get_or, Option, Some, None, Result, Ok, Err, OnErr, IfOk, IfSome, IfNone, cond, refl, ap, ◌∙◌, arith, length-append}
 use Rattle.std.proofs.Math.Seq.{get_or-append_seam}
-use Rattle.std.proofs.lemmas.Bool.{cases_Bool, cases_lt, false≢true}
+use Rattle.std.proofs.lemmas.Bool.{cases_lt, false≢true}
 use Rattle.std.proofs.lemmas.List.{get_or_past}
 use Rattle.jsonc_text.specs.Options.{Options}
 use Rattle.jsonc_text.specs.Plain.{Plain}
