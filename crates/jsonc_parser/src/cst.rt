@@ -3,8 +3,10 @@
 //! A [`CstRootNode`] owns its nodes and names each by a number. A caller holds a [`CstNode`], or a
 //! node of one kind as [`CstObject`]: a number that says what it is the number of, and can be copied.
 //! It is asked together with its document, and [`CstRootNode::holds`] tells whether that has it; all
-//! nodes that a call answers are nodes of the document that was asked. [`ReplaceWith`], [`Remove`] and
-//! [`RemoveLeaf`] are the edits of nodes.
+//! nodes that a call answers are nodes of the document that was asked. [`ReplaceWith`],
+//! [`ReplaceProperty`], [`Remove`] and [`RemoveLeaf`] are the edits of nodes, [`SetRoot`] has those of
+//! the document's value, and [`SetRawValue`], [`SetToken`], [`SetWhitespace`] and [`SetNewline`] write a
+//! leaf anew as it stands.
 
 pub use jsonc_cst::cst::{
     AncestorIterator, CstArray, CstBooleanLit, CstComment, CstContainerNode, CstInputValue,
@@ -13,4 +15,7 @@ pub use jsonc_cst::cst::{
     EditError, HasChildren, IsNode, NextSiblingIterator, ObjectPropName, PreviousSiblingIterator,
     Readings, Shown, TrailingCommaMode, input,
 };
-pub use jsonc_typed::{Remove, RemoveLeaf, ReplaceWith};
+pub use jsonc_typed::{
+    Remove, RemoveLeaf, ReplaceProperty, ReplaceWith, SetNewline, SetRawValue, SetRoot, SetToken,
+    SetWhitespace,
+};

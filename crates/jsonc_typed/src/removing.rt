@@ -108,7 +108,7 @@ fn remove_alone<A: Allocator>(tree: &mut Tree<A>, number: usize)
 }
 
 // Takes all that stands in the root out of it.
-fn clear<A: Allocator>(tree: &mut Tree<A>)
+pub(crate) fn clear<A: Allocator>(tree: &mut Tree<A>)
     ensures taken { IsCleared tree.old.nodes tree.new.nodes }
     ensures stays { StillNodes tree.old.nodes tree.new.nodes }
     ensures tree { IsTree tree.new.nodes }
