@@ -6,14 +6,18 @@
 //! where there is none (`specs/Kinds.antt`). All memory is asked for before the document changes.
 #![tactic(auto)]
 
+mod booleans;
 mod first;
 mod kinds;
 pub mod laws;
 mod properties;
 mod root;
+mod values;
 
+pub use booleans::set_boolean;
 pub use kinds::{
     array_value_or_create, array_value_or_set, object_value_or_create, object_value_or_set,
 };
 pub use properties::replace_property;
 pub use root::{clear_root, set_root};
+pub use values::{property_array_or_set, property_object_or_set, set_property_value};
