@@ -6,7 +6,9 @@
 //! nodes that a call answers are nodes of the document that was asked. [`ReplaceWith`],
 //! [`ReplaceProperty`], [`Remove`] and [`RemoveLeaf`] are the edits of nodes, [`SetRoot`] has those of
 //! the document's value, and [`SetRawValue`], [`SetToken`], [`SetWhitespace`] and [`SetNewline`] write a
-//! leaf anew as it stands.
+//! leaf anew as it stands. [`run`] makes a list of edits, each at its path.
+
+mod lists;
 
 pub use jsonc_cst::cst::{
     AncestorIterator, CstArray, CstBooleanLit, CstComment, CstContainerNode, CstInputValue,
@@ -15,7 +17,9 @@ pub use jsonc_cst::cst::{
     EditError, HasChildren, IsNode, NextSiblingIterator, ObjectPropName, PreviousSiblingIterator,
     Readings, Shown, TrailingCommaMode, input,
 };
+pub use jsonc_run::Edit;
 pub use jsonc_typed::{
-    Remove, RemoveLeaf, ReplaceProperty, ReplaceWith, SetNewline, SetRawValue, SetRoot, SetToken,
-    SetWhitespace,
+    IsDocument, Remove, RemoveLeaf, ReplaceProperty, ReplaceWith, SetNewline, SetRawValue, SetRoot,
+    SetToken, SetWhitespace,
 };
+pub use lists::run;

@@ -7,14 +7,17 @@
 //! [`ReplaceWith`] and [`ReplaceProperty`] let a node give way to another, [`Remove`] and [`RemoveLeaf`]
 //! take one out, and [`SetRoot`] has what sets the document's value. [`SetRawValue`], [`SetToken`],
 //! [`SetWhitespace`] and [`SetNewline`] write one leaf anew as it stands, without memory, whatever the
-//! document makes of that (`specs/Raw.antt`).
+//! document makes of that (`specs/Raw.antt`). A closure that reads the document is lent one by
+//! [`IsDocument`].
 #![tactic(auto)]
 
+mod document;
 mod raw;
 mod removing;
 mod replacing;
 mod setting;
 
+pub use document::IsDocument;
 pub use raw::{SetNewline, SetRawValue, SetToken, SetWhitespace};
 pub use removing::{Remove, RemoveLeaf};
 pub use replacing::ReplaceWith;
