@@ -22,6 +22,7 @@ use Rattle.std.proofs.lemmas.List.Elements.{All-nil, All-cons}
 use Rattle.jsonc_ast.specs.Spelled.{spelled, spelled_in_property, spelled_in_elements, spelled_in_properties}
 use Rattle.jsonc_to_ast.specs.Written.{IsWritten, IsLentHere, AreWrittenIn}
 use Rattle.jsonc_to_ast.proofs.Spelling.{element_written, property_written, still_written}
+use Rattle.jsonc_text.specs.Faults.{IsFault}
 use Rattle.jsonc_to_ast.proofs.values.+parse.Goals as goal
 
 pub parse_array-loop-next-init : goal.parse_array-loop-next-init
@@ -397,3 +398,68 @@ parse_property-returns-clause-written g t c = λ lent.
     let kept = kept_on old c.pass_colon.new.self here c.pass_colon.ensures.kept c.scan.ensures.kept in
     let value = still_written old here (spelled c.in_ok-value.value) kept (c.in_ok-value.ensures.written (subst (IsLentHere here) c.in-Some.is c.in_ok-found.ensures.lent)) in
     subst (AreWrittenIn old) (sym c.property_of.ensures.spelled) (All-cons (IsWritten (options_in old) (text_in old)) c.in_ok-name.name (spelled c.in_ok-value.value) (c.in_ok-name.ensures.written lent) value)
+
+pub parse_array-returns-in_err-next-clause-fault : goal.parse_array-returns-in_err-next-clause-fault
+parse_array-returns-in_err-next-clause-fault g t c =
+    let e = c.in_err-next.field-0.0 in
+    err_of (IsFault (text_in c.args.context.now)) e c.from_residual.result c.from_residual.ensures.1 c.in_err-next.ensures.fault
+
+pub parse_array-returns-in_err-check_nesting-clause-fault : goal.parse_array-returns-in_err-check_nesting-clause-fault
+parse_array-returns-in_err-check_nesting-clause-fault g t c =
+    let e = c.in_err-check_nesting.field-0.0 in
+    err_of (IsFault (text_in c.args.context.now)) e c.from_residual-in_err-check_nesting.result c.from_residual-in_err-check_nesting.ensures.1 (subst (λ b. IsFault b e) (c.loop-next.invariant.so_far.kept.text) c.in_err-check_nesting.ensures.fault)
+
+pub parse_array-returns-in_err-value-clause-fault : goal.parse_array-returns-in_err-value-clause-fault
+parse_array-returns-in_err-value-clause-fault g t c =
+    let e = c.in_err-value.field-0.0 in
+    err_of (IsFault (text_in c.args.context.now)) e c.from_residual-in_err-value.result c.from_residual-in_err-value.ensures.1 (subst (λ b. IsFault b e) (c.loop-next.invariant.so_far.kept.text) c.in_err-value.ensures.fault)
+
+pub parse_array-returns-in_err-next-2-clause-fault : goal.parse_array-returns-in_err-next-2-clause-fault
+parse_array-returns-in_err-next-2-clause-fault g t c =
+    let e = c.in_err-next-2.field-0.0 in
+    err_of (IsFault (text_in c.args.context.now)) e c.from_residual-in_err-next-2.result c.from_residual-in_err-next-2.ensures.1 (subst (λ b. IsFault b e) (c.in_ok-value.ensures.kept.text ∙ c.loop-next.invariant.so_far.kept.text) c.in_err-next-2.ensures.fault)
+
+pub parse_object-returns-in_err-next-clause-fault : goal.parse_object-returns-in_err-next-clause-fault
+parse_object-returns-in_err-next-clause-fault g t c =
+    let e = c.in_err-next.field-0.0 in
+    err_of (IsFault (text_in c.args.context.now)) e c.from_residual.result c.from_residual.ensures.1 c.in_err-next.ensures.fault
+
+pub parse_object-returns-in_err-property-clause-fault : goal.parse_object-returns-in_err-property-clause-fault
+parse_object-returns-in_err-property-clause-fault g t c =
+    let e = c.in_err-property.field-0.0 in
+    err_of (IsFault (text_in c.args.context.now)) e c.from_residual-in_err-property.result c.from_residual-in_err-property.ensures.1 (subst (λ b. IsFault b e) (c.loop-next.invariant.so_far.kept.text) c.in_err-property.ensures.fault)
+
+pub parse_object-returns-in_err-next-2-clause-fault : goal.parse_object-returns-in_err-next-2-clause-fault
+parse_object-returns-in_err-next-2-clause-fault g t c =
+    let e = c.in_err-next-2.field-0.0 in
+    err_of (IsFault (text_in c.args.context.now)) e c.from_residual-in_err-next-2.result c.from_residual-in_err-next-2.ensures.1 (subst (λ b. IsFault b e) (c.in_ok-property.ensures.kept.text ∙ c.loop-next.invariant.so_far.kept.text) c.in_err-next-2.ensures.fault)
+
+pub parse_property-returns-in_err-name-clause-fault : goal.parse_property-returns-in_err-name-clause-fault
+parse_property-returns-in_err-name-clause-fault g t c =
+    let e = c.in_err-name.field-0.0 in
+    err_of (IsFault (text_in c.args.context.now)) e c.from_residual.result c.from_residual.ensures.1 c.in_err-name.ensures.fault
+
+pub parse_property-returns-in_err-pass_colon-clause-fault : goal.parse_property-returns-in_err-pass_colon-clause-fault
+parse_property-returns-in_err-pass_colon-clause-fault g t c =
+    let e = c.in_err-pass_colon.field-0.0 in
+    err_of (IsFault (text_in c.args.context.now)) e c.from_residual-in_err-pass_colon.result c.from_residual-in_err-pass_colon.ensures.1 c.in_err-pass_colon.ensures.fault
+
+pub parse_property-returns-in_err-found-clause-fault : goal.parse_property-returns-in_err-found-clause-fault
+parse_property-returns-in_err-found-clause-fault g t c =
+    let e = c.in_err-found.field-0.0 in
+    err_of (IsFault (text_in c.args.context.now)) e c.from_residual-in_err-found.result c.from_residual-in_err-found.ensures.1 (subst (λ b. IsFault b e) (c.in_ok-pass_colon.ensures.kept.text) c.in_err-found.ensures.fault)
+
+pub parse_property-returns-in_err-check_nesting-clause-fault : goal.parse_property-returns-in_err-check_nesting-clause-fault
+parse_property-returns-in_err-check_nesting-clause-fault g t c =
+    let e = c.in_err-check_nesting.field-0.0 in
+    err_of (IsFault (text_in c.args.context.now)) e c.from_residual-in_err-check_nesting.result c.from_residual-in_err-check_nesting.ensures.1 (subst (λ b. IsFault b e) (c.in_ok-found.ensures.kept.text ∙ c.in_ok-pass_colon.ensures.kept.text) c.in_err-check_nesting.ensures.fault)
+
+pub parse_property-returns-in_default-clause-fault : goal.parse_property-returns-in_default-clause-fault
+parse_property-returns-in_default-clause-fault g t c =
+    let e = c.fault_here.result in
+    subst (λ b. IsFault b e) (c.in_ok-found.ensures.kept.text ∙ c.in_ok-pass_colon.ensures.kept.text) c.fault_here.ensures.fault
+
+pub parse_property-returns-in_err-value-clause-fault : goal.parse_property-returns-in_err-value-clause-fault
+parse_property-returns-in_err-value-clause-fault g t c =
+    let e = c.in_err-value.field-0.0 in
+    err_of (IsFault (text_in c.args.context.now)) e c.from_residual-in_err-value.result c.from_residual-in_err-value.ensures.1 (subst (λ b. IsFault b e) (c.in_ok-found.ensures.kept.text ∙ c.in_ok-pass_colon.ensures.kept.text) c.in_err-value.ensures.fault)

@@ -19,6 +19,8 @@ use Rattle.std.proofs.Common.{subst}
 use Rattle.jsonc_ast.specs.Spelled.{spelled}
 use Rattle.jsonc_to_ast.specs.Written.{IsLentHere}
 use Rattle.jsonc_to_ast.proofs.Spelling.{still_written}
+use Rattle.jsonc_text.specs.Faults.{IsFault}
+use Rattle.std.proofs.Common.{◌∙◌}
 use Rattle.jsonc_to_ast.proofs.values.parse_whole.Goals as goal
 
 pub returns-in_default-clause-end : goal.returns-in_default-clause-end
@@ -128,3 +130,22 @@ returns-in_default-2-clause-told g c =
     text_stops true old _ _ c.fault_here.result refl refl c.requires
     (second_stops true old c.scan.new.self c.in_ok-token.field-0 c.scan.ensures.kept read.found read.lexeme c.in-Some.token c.in-Some.is mid (value_at x) value.kept (value_read c.scan.new.self mid x value.found) value.within
     c.scan-2.new.self c.in_ok-scan.field-0 c.scan-2.ensures.kept last.found last.lexeme c.in_default-2.not-None c.fault_here.result c.fault_here.ensures.kind c.fault_here.ensures.range)
+
+pub returns-in_err-token-clause-fault : goal.returns-in_err-token-clause-fault
+returns-in_err-token-clause-fault g c = err_of (IsFault (text_in c.args.context.now)) c.in_err-token.field-0.0 c.from_residual.result c.from_residual.ensures.1 c.in_err-token.ensures.fault
+
+pub returns-in_err-value-clause-fault : goal.returns-in_err-value-clause-fault
+returns-in_err-value-clause-fault g c =
+    let e = c.in_err-value.field-0.0 in
+    err_of (IsFault (text_in c.args.context.now)) e c.from_residual-in_err-value.result c.from_residual-in_err-value.ensures.1 (subst (λ b. IsFault b e) c.scan.ensures.kept.text c.in_err-value.ensures.fault)
+
+pub returns-in_err-scan-clause-fault : goal.returns-in_err-scan-clause-fault
+returns-in_err-scan-clause-fault g c =
+    let e = c.in_err-scan.field-0.0 in
+    err_of (IsFault (text_in c.args.context.now)) e c.from_residual-in_err-scan.result c.from_residual-in_err-scan.ensures.1
+    (subst (λ b. IsFault b e) (c.in_ok-value.ensures.kept.text ∙ c.scan.ensures.kept.text) c.in_err-scan.ensures.fault)
+
+pub returns-in_default-2-clause-fault : goal.returns-in_default-2-clause-fault
+returns-in_default-2-clause-fault g c =
+    let e = c.fault_here.result in
+    subst (λ b. IsFault b e) (c.scan-2.ensures.kept.text ∙ c.in_ok-value.ensures.kept.text ∙ c.scan.ensures.kept.text) c.fault_here.ensures.fault
