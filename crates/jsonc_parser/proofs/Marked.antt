@@ -6,7 +6,8 @@ use Rattle.jsonc_tree.specs.Tree.{Node, IsTree}
 use Rattle.jsonc_build.specs.Shape.{printed_text}
 use Rattle.jsonc_edit.specs.declared.error.EditError.{EditError}
 use Rattle.jsonc_marks.specs.Marks.{Mark, AreMarks}
-use Rattle.jsonc_run.specs.Edits.{Operation, StopsAt}
+use Rattle.jsonc_run.specs.Edits.{Operation}
+use Rattle.jsonc_run.specs.Refusals.{StopsAt}
 use Rattle.jsonc_run.specs.Marked.{AreMarked, MarkAll}
 use Rattle.jsonc_run.proofs.Marking.{mark_all}
 

@@ -5,7 +5,8 @@ use denote.Ref.{Bor}
 use denote.Param.Members.{Shared}
 use Rattle.jsonc_text.specs.Options.{Options}
 use Rattle.jsonc_edit.specs.declared.error.EditError.{EditError}
-use Rattle.jsonc_run.specs.Edits.{AreMade, Operation, StopsAt}
+use Rattle.jsonc_run.specs.Edits.{AreMade, Operation}
+use Rattle.jsonc_run.specs.Refusals.{StopsAt}
 use Rattle.jsonc_run.specs.Marked.{MarkAll}
 use Rattle.jsonc_run.specs.Written.{WriteAll}
 use Rattle.jsonc_cst.specs.declared.cst.CstRootNode.{CstRootNode}
