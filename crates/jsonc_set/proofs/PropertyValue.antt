@@ -1,6 +1,6 @@
 -- The value of a property is its child; and what is taken back leaves the nodes as they were.
-use Rattle.std.proofs.Common.{◌≡◌, ℕ, ◌+◌, ◌<◌, ◌≤◌, Bool, false, cond, All, List, [], ◌∷◌, ◌++◌, length, take, drop, get_or, slice_index, slice_range, Option, Some, None, inl, inr, refl, sym, ap, subst, ◌∙◌, arith, append-nil, length-append}
-use Rattle.std.specs.List.{find, splice, position}
+use Rattle.std.proofs.Common.{◌≡◌, ℕ, ◌+◌, ◌<◌, false, cond, All, List, [], ◌∷◌, ◌++◌, length, take, drop, get_or, slice_index, slice_range, Option, Some, None, inl, inr, sym, ap, subst, ◌∙◌, arith, append-nil, length-append}
+use Rattle.std.specs.List.{splice, position}
 use Rattle.std.specs.Option.{option_and_then}
 use Rattle.std.proofs.Math.Seq.{get_or-append_seam, take-append_seam}
 use Rattle.std.proofs.lemmas.Bool.{cases_eq}
@@ -96,7 +96,7 @@ module _ (old held after new : List Node) (p : ℕ) (content : Content) (there :
     children = children_back;
   }
 
-pub kept_back : (old held after new : List Node) (p : ℕ) (content : Content) → p < length old → Pushes old held p content → Keeps (length held) held after → IsTree after → (leaf : ℕ) → leaf ≡ length old
-    → Splices after new p (place_at after leaf) (place_at after leaf + 1) [] → Keeps (length old) old new
-kept_back old held after new p content there pushed keeps tree leaf e taken =
-    taken_back old held after new p content there pushed keeps tree (subst (λ k. Splices after new p (place_at after k) (place_at after k + 1) []) e taken)
+pub kept_back : (old held after new : List Node) (p : ℕ) (content : Content) → p < length old → Pushes old held p content → Keeps (length held) held after → IsTree after → (k : ℕ) → k ≡ length old
+    → Splices after new p (place_at after k) (place_at after k + 1) [] → Keeps (length old) old new
+kept_back old held after new p content there pushed keeps tree k e taken =
+    taken_back old held after new p content there pushed keeps tree (subst (λ j. Splices after new p (place_at after j) (place_at after j + 1) []) e taken)

@@ -27,7 +27,7 @@ use Rattle.jsonc_sound.specs.Rows as rows
 use Rattle.jsonc_sound.specs.Rows.{Last}
 use Rattle.jsonc_sound.specs.TreeChanges.{IsElement, leaves_of, DocumentChanged}
 use Rattle.jsonc_sound.proofs.HeldValues.{document_held}
-use Rattle.jsonc_sound.proofs.LeavesAround.{differs_as, document_differs, within}
+use Rattle.jsonc_sound.proofs.LeavesAround.{document_differs, within}
 use Rattle.jsonc_sound.proofs.Values.{document_change}
 use Rattle.jsonc_seams.specs.Adjacent.{last_printed}
 use Rattle.jsonc_seams.specs.Alone as alone
@@ -54,21 +54,20 @@ use Rattle.jsonc_spaces.proofs.Quiet.{space_before}
 use Rattle.jsonc_edit.specs.Changes.{row_below, top_at, LeafChanged}
 use Rattle.jsonc_edit.specs.Paths.{IsElementOf, IsHeldBy, StepsTo, LeadsTo, itself, step, IsAt}
 use Rattle.jsonc_edit.specs.Spaced.{SpacesPut}
-use Rattle.jsonc_edit.specs.Written.{IsWrittenAt}
-use Rattle.jsonc_edit.proofs.Elements.{Some_same, StandsAt, stands_at}
+use Rattle.jsonc_edit.proofs.Elements.{StandsAt, stands_at}
 use Rattle.jsonc_edit.proofs.GivingWay.{parent_holds}
 use Rattle.jsonc_edit.proofs.Held.{HeldAt, by_root, by_array, by_property, held_at}
 use Rattle.jsonc_edit.proofs.Kept.{at_kept, filter_same, place_kept, top_stays, tree_stays}
 use Rattle.jsonc_edit.proofs.Placed.{Placed, not_first}
 use Rattle.jsonc_edit.proofs.ReplacedValues.{at_child}
 use Rattle.jsonc_edit.proofs.Spacing.{Spaced, all_spaced, spaces_sound}
-use Rattle.jsonc_edit.proofs.Splices.{leaf_content, leaf_over}
+use Rattle.jsonc_edit.proofs.Splices.{leaf_over}
 use Rattle.jsonc_edit.proofs.Uniqueness.{element_parent}
 use Rattle.jsonc_edit.proofs.Walk.{ChangedIn, Shows-row_below, apart_kept, document_is}
 use Rattle.jsonc_set.specs.Booleans.{due_for, is_boolean, is_hex_at, BooleanSet, IsBooleanWritten, StaysAtPath, WritesBoolean}
-use Rattle.jsonc_set.proofs.BooleanSetting.{boolean_of, contents_spaced, seen_child}
+use Rattle.jsonc_set.proofs.BooleanSetting.{boolean_of}
 use Rattle.jsonc_set.proofs.HexRows.{Flat, a_leaf, more_flat, flat_before, array_flat, property_flat, root_flat, hex_seen}
-use Rattle.jsonc_set.proofs.PropertyRows.{over_at, Parted, parted, ObjectRow, object_row, Inside, inside_of, counted_elements, some_value_of, prints_value, prints_first, spaces_marks}
+use Rattle.jsonc_set.proofs.PropertyRows.{over_at, Parted, parted, object_row, inside_of, counted_elements, some_value_of, prints_value, prints_first, spaces_marks}
 
 -- the leaves of a row with a node in it
 node_list : (front back : OrderedTree) (top : Top) → leaves (row_around front top back) ≡ leaves front ++ (leaves_of top ++ leaves back)

@@ -10,7 +10,7 @@ use Rattle.jsonc_seams.specs.Booleans.{boolean_leaf, is_hex_leaf}
 use Rattle.jsonc_seams.specs.SoundTrees.{SoundTree}
 use Rattle.jsonc_marks.specs.Changes.{MarksDifferIn, marks_under}
 use Rattle.jsonc_marks.specs.Marks.{marks}
-use Rattle.jsonc_marks.specs.Written as marks
+use Rattle.jsonc_marks.specs.Written as written_marks
 use Rattle.jsonc_spaces.specs.Due.{listed, seen_before}
 use Rattle.jsonc_spaces.specs.Put.{AreSpaced, IfDue, Prepared}
 use Rattle.jsonc_edit.specs.Changes.{top_at}
@@ -46,7 +46,7 @@ WantsSpaceFor ns n b = IfDue (due_for ns n b)
 -- The truth value is written at the path, as any other value would be, and of the literals and comments that of the old one has given way to its own.
 pub record IsBooleanWritten (o : Options) (path : List ℕ) (b : Bool) (was : Top) (old new : OrderedTree) : Type 0 where
   pub written : IsWrittenAt o (Plain.boolean b) path was (boolean_leaf b) old new
-  pub marked : MarksDifferIn (marks_under was) (marks.written (Plain.boolean b)) (marks old) (marks new)
+  pub marked : MarksDifferIn (marks_under was) (written_marks.written (Plain.boolean b)) (marks old) (marks new)
 
 -- so it is where a truth value at a path of a sound document was set
 abbrev pub WritesBoolean : Options → List Node → List Node → List ℕ → ℕ → Bool → Type 0
