@@ -1,5 +1,5 @@
 -- What an edit that asks for a value of a shape has made: an empty one has come first, or taken the place of another, or all has stayed.
-use Rattle.std.proofs.Common.{◌≡◌, ℕ, Bool, true, false, not, List, [], Option, Some, None, IsTrue, inl, inr, refl, sym, ap, subst, ◌∙◌}
+use Rattle.std.proofs.Common.{◌≡◌, ℕ, Bool, true, false, not, List, Option, Some, None, inl, inr, refl, sym, ap, subst, ◌∙◌}
 use Rattle.std.proofs.lemmas.Bool.{cases_Bool}
 use Rattle.std.specs.List.{find}
 use Rattle.jsonc_text.specs.Options.{Options}
