@@ -46,7 +46,8 @@ impl fmt::Display for CaseError {
             CaseError::TextNotUtf8 => "its text is not UTF-8",
             CaseError::Word => "a word begins with '",
             CaseError::Lookup => "a look-up is get or take, with a kind or none, and a word",
-            CaseError::Edit => "an edit is its kind, and the path, name, value or number that it takes",
+            CaseError::Edit =>
+                "an edit is its kind, and the path, name, value, number or words that it takes",
             CaseError::OutOfMemory => "out of memory",
         })
     }

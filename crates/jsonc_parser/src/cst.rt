@@ -17,7 +17,7 @@ pub use jsonc_cst::cst::{
     EditError, HasChildren, IsNode, NextSiblingIterator, ObjectPropName, PreviousSiblingIterator,
     Readings, Shown, TrailingCommaMode, input,
 };
-pub use jsonc_run::Edit;
+pub use jsonc_run::{Edit, Over, Shape};
 pub use jsonc_typed::{
     IsDocument, Remove, RemoveLeaf, ReplaceProperty, ReplaceWith, SetNewline, SetRawValue, SetRoot,
     SetToken, SetWhitespace,

@@ -1,5 +1,5 @@
 -- What edits that were made in order make of the marks of a document.
-use Rattle.std.proofs.Common.{ℕ, ◌≡◌, suc, List, [], ◌∷◌, sym, ap, subst, ◌∙◌, arith, chars}
+use Rattle.std.proofs.Common.{ℕ, ◌≡◌, suc, List, [], ◌∷◌, sym, refl, ap, subst, ◌∙◌, arith, chars}
 use Rattle.std.specs.List.{All}
 use Rattle.jsonc_text.specs.Options.{Options}
 use Rattle.jsonc_text.specs.Plain.{Plain}
@@ -25,9 +25,14 @@ use Rattle.jsonc_edit.specs.Writing.{IsWritable}
 use Rattle.jsonc_remove.proofs.Lost.{removes_entry}
 use Rattle.jsonc_remove.proofs.LostValue.{removes_value}
 use Rattle.jsonc_set.proofs.PropertyRows.{spaces_marks}
-use Rattle.jsonc_run.specs.Edits.{Operation, replace, remove, remove_comment, set_root, clear_root, replace_property, AreMade, none_made, first_made}
-use Rattle.jsonc_run.specs.Written.{MayBeMade, EntryLeft, entry_left, value_left, ValueGivesWay, RootValueSet, given_way, has_come, PropertyGivenWay, property_given, StayAround}
+use Rattle.jsonc_run.specs.declared.edit.Over.{Over}
+use Rattle.jsonc_run.specs.declared.edit.Shape.{Shape}
+use Rattle.jsonc_run.specs.declared.edit.Shape.TheVariants.{Object, Array}
+use Rattle.jsonc_run.specs.Shapes.{empty_of}
+use Rattle.jsonc_run.specs.Edits.{Operation, replace, remove, remove_comment, set_root, clear_root, replace_property, ensure_root, AreMade, none_made, first_made}
+use Rattle.jsonc_run.specs.Written.{MayBeMade, EntryLeft, entry_left, value_left, ValueGivesWay, RootValueSet, given_way, has_come, RootValueEnsured, all_kept, empty_set, PropertyGivenWay, property_given, StayAround}
 use Rattle.jsonc_run.specs.Marked.{IsMarked, AreMarked, none_marked, first_marked, MarkAll}
+use Rattle.jsonc_run.proofs.Ensured.{empty_writable}
 use Rattle.jsonc_run.proofs.Written.{is_written, stays_around, write_all}
 
 -- where spaces come, and then of the leaves some give way to others, so do their marks
@@ -51,6 +56,12 @@ root_marked o t u v may (has_come layout row next was is comes) =
           (subst (λ x. MarksDifferIn [] (marks_under top) (marks x) (marks u)) (sym was) (subst (λ x. MarksDifferIn [] (marks_under top) (marks (root_with row)) (marks x)) (sym is) (marks_with_first top row next comes))),
     )
 
+-- an empty array or object has no marks
+ensured_marked : (o : Options) (t u : OrderedTree) (shape : Shape) (how : Over) → RootValueEnsured shape t u → IsMarked (marks t) (ensure_root shape how) (marks u)
+ensured_marked o t u shape how (all_kept same) = ([], record { front = []; back = marks t; before = refl; after = ap marks same })
+ensured_marked o t u Object how (empty_set set) = root_marked o t u (empty_of Object) (empty_writable o Object) set
+ensured_marked o t u Array how (empty_set set) = root_marked o t u (empty_of Array) (empty_writable o Array) set
+
 -- a property that gives way leaves its marks to those of the new one
 property_marked : (o : Options) (t u : OrderedTree) (path name : List ℕ) (v : Plain) → IsCharacters name → IsWritable o v → PropertyGivenWay name v t u path → IsMarked (marks t) (replace_property path name v) (marks u)
 property_marked o t u _ name v texts may (property_given path i layout spaced front was back puts changed around) =
@@ -70,6 +81,7 @@ one_marked o t u (remove_comment number) may s r =
 one_marked o t u (set_root v) may s set = root_marked o t u v may (set o s)
 one_marked o t u clear_root may s bare = ap marks bare ∙ root_marks none
 one_marked o t u (replace_property path name v) may s given = property_marked o t u path name v may.0 may.1 (given o s may.0 may.1)
+one_marked o t u (ensure_root shape how) may s set = ensured_marked o t u shape how (set o s)
 
 all_marked : (o : Options) (old new : List Node) (es : List Operation) → IsTree old → AreMade old es new → SoundTree o (ordered_tree old 0) → All (MayBeMade o) es → AreMarked (marks (ordered_tree old 0)) es (marks (ordered_tree new 0))
 all_marked o old _ [] tree none_made s may = none_marked

@@ -55,7 +55,7 @@ value_gives_way old new path n m v tree at r =
       around = document_differs change;
     }
 
-root_is : (ns : List Node) → IsTree ns → ordered_tree ns 0 ≡ root_with (row_below ns 0)
+pub root_is : (ns : List Node) → IsTree ns → ordered_tree ns 0 ≡ root_with (row_below ns 0)
 root_is ns tree = sym (document_is ns tree (row_below ns 0) (Shows-row_below ns tree 0 tree.first))
 
 -- so the value of a sound document is set

@@ -1,5 +1,5 @@
 -- What edits that were made in order make of a document.
-use Rattle.std.proofs.Common.{Result, Ok, Err, OnOk, ◌≡◌, ℕ, suc, List, [], ◌∷◌, Option, Some, None, IsTrue, refl, ap, subst, arith}
+use Rattle.std.proofs.Common.{Result, Ok, Err, OnOk, ◌≡◌, ℕ, suc, List, [], ◌∷◌, Option, Some, None, IsTrue, sym, refl, ap, subst, ◌∙◌, arith}
 use Rattle.std.specs.List.{All}
 use Rattle.jsonc_text.specs.Options.{Options}
 use Rattle.jsonc_text.specs.Plain.{Plain}
@@ -28,9 +28,15 @@ use Rattle.jsonc_set.specs.Giving.{IsPropertyReplaced}
 use Rattle.jsonc_set.proofs.Gaining.{gives_first_value, leaves_bare}
 use Rattle.jsonc_set.proofs.WrittenProperty.{writes_property}
 use Rattle.jsonc_run.specs.Places.{IsEntryAt, the_value, an_entry, IsEntryOf, in_array, in_object, IsPropertyAt, a_property}
-use Rattle.jsonc_run.specs.Edits.{Operation, replace, remove, remove_comment, set_root, clear_root, replace_property, AreMade, none_made, first_made, RootSet, IsMade}
-use Rattle.jsonc_run.specs.Written.{MayBeMade, IsChanged, by_value, by_entry, by_all, by_comment, by_root, by_clearing, by_property, AreChanged, unchanged, first_changed}
+use Rattle.jsonc_run.specs.Edits.{Operation, replace, remove, remove_comment, set_root, clear_root, replace_property, ensure_root, AreMade, none_made, first_made, RootSet, IsMade}
+use Rattle.jsonc_run.specs.Written.{MayBeMade, IsChanged, by_value, by_entry, by_all, by_comment, by_root, by_clearing, by_property, by_ensuring, AreChanged, unchanged, first_changed}
+use Rattle.jsonc_run.specs.declared.edit.Over.{Over}
+use Rattle.jsonc_run.specs.declared.edit.Over.TheVariants as over
+use Rattle.jsonc_run.specs.declared.edit.Shape.{Shape}
+use Rattle.jsonc_run.specs.Shapes.{empty_of}
+use Rattle.jsonc_run.specs.Written.{comes_first, has_it, may_stay, must_give_way}
 use Rattle.jsonc_run.specs.Written.{EntryLeft, entry_left, value_left, StayAround, AllStayAround, all_stay, first_stay, AreWritten, WriteAll}
+use Rattle.jsonc_run.proofs.Ensured.{empty_writable, held, Ensured, created, stayed, other_stayed, replaced, ensured, value_ensured}
 use Rattle.jsonc_run.proofs.PropertyMade.{property_gives_way}
 use Rattle.jsonc_run.proofs.Roots.{value_stands, value_gives_way, root_value_set, whole_changed, emptied, no_leaves}
 
@@ -58,6 +64,7 @@ stays_around old new (remove_comment number) tree after (n, at, r) = loses_comme
 stays_around old new (set_root v) tree after made = λ o sound. root_value_set o old new v tree sound (value_at old 0) refl made
 stays_around old new clear_root tree after made = no_leaves new after (emptied old new made)
 stays_around old new (replace_property path name v) tree after (n, m, at, r) = λ o sound texts may. property_gives_way o old new path n m name v tree sound at texts may r
+stays_around old new (ensure_root shape how) tree after made = λ o sound. value_ensured o old new shape how tree sound (ensured old new shape how made)
 
 -- under all options the leaves around stay
 pub stay_around : (old new : List Node) (es : List Operation) → IsTree old → AreMade old es new → AllStayAround (ordered_tree old 0) es (ordered_tree new 0)
@@ -107,6 +114,31 @@ module _ (o : Options) where
       let w = writes_property o old new front c i n m name v tree s at inside.of_object inside.element texts may r in
       record { before = Some w.before; after = Some w.after; old_text = w.old_text; new_text = w.new_text; changed = by_property front i w.replaced; sound = w.sound }
 
+  -- a document that was to have a value of a shape
+  root_ensured : (old new : List Node) (shape : Shape) (how : Over) → IsTree old → SoundTree o (ordered_tree old 0) → Ensured old new shape how → IsWritten o (ensure_root shape how) (ordered_tree old 0) (ordered_tree new 0)
+  root_ensured old new shape how tree s (created m e f) =
+      let w = gives_first_value o old new (empty_of shape) m tree s e (empty_writable o shape) f in
+      record { before = None; after = Some (empty_of shape); old_text = w.before.text; new_text = w.after.text; changed = by_ensuring comes_first; sound = w.after.sound }
+  root_ensured old new shape how tree s (stayed n e is same) =
+      let h = held o old tree s n e in
+      subst (λ (ns : List Node). IsWritten o (ensure_root shape how) (ordered_tree old 0) (ordered_tree ns 0)) (sym same)
+      (record { before = Some h.value; after = Some h.value; old_text = h.text; new_text = h.text; changed = by_ensuring (has_it (sym (h.told shape) ∙ is)); sound = s })
+  root_ensured old new shape _ tree s (other_stayed n e is same) =
+      let h = held o old tree s n e in
+      subst (λ (ns : List Node). IsWritten o (ensure_root shape over.Keep) (ordered_tree old 0) (ordered_tree ns 0)) (sym same)
+      (record { before = Some h.value; after = Some h.value; old_text = h.text; new_text = h.text; changed = by_ensuring (may_stay (sym (h.told shape) ∙ is)); sound = s })
+  root_ensured old new shape _ tree s (replaced n m e is r) =
+      let h = held o old tree s n e in
+      let w = replaced_written o old new n m (empty_of shape) tree r [] s (value_stands old tree n e) (empty_writable o shape) in
+      record {
+        before = Some h.value;
+        after = Some (empty_of shape);
+        old_text = h.text;
+        new_text = subst (λ x. IsDocument o (printed_text (ordered_tree new 0)) (Some x)) (whole_changed w.changed) w.new_text;
+        changed = by_ensuring (must_give_way (sym (h.told shape) ∙ is));
+        sound = w.sound;
+      }
+
   pub is_written : (old new : List Node) (e : Operation) → IsTree old → IsTree new → IsMade old e new → SoundTree o (ordered_tree old 0) → MayBeMade o e → IsWritten o e (ordered_tree old 0) (ordered_tree new 0)
   is_written old new (replace path v) tree after (n, m, at, r) s may =
       let w = replaced_written o old new n m v tree r path s at may in
@@ -122,6 +154,7 @@ module _ (o : Options) where
   is_written old new (set_root v) tree after made s may = root_written old new v tree s may (value_at old 0) refl made
   is_written old new clear_root tree after made s may = root_cleared old new after s (emptied old new made)
   is_written old new (replace_property path name v) tree after (n, m, at, r) s may = property_written old new path n m name v tree s at may.0 may.1 r
+  is_written old new (ensure_root shape how) tree after made s may = root_ensured old new shape how tree s (ensured old new shape how made)
 
   all_written : (old new : List Node) (es : List Operation) → IsTree old → AreMade old es new → SoundTree o (ordered_tree old 0) → All (MayBeMade o) es → AreWritten o es (ordered_tree old 0) (ordered_tree new 0)
   all_written old _ [] tree none_made s may =

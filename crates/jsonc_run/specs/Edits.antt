@@ -10,13 +10,19 @@ use Rattle.jsonc_edit.specs.Paths.{IsAt}
 use Rattle.jsonc_edit.specs.Reading.{IsReplaced}
 use Rattle.jsonc_remove.specs.Removed.{TakesElement}
 use Rattle.jsonc_set.specs.Giving.{IsPropertyReplaced}
+use Rattle.jsonc_set.specs.Kinds.{FoundOrCreated, FoundOrSet}
 use Rattle.jsonc_set.specs.RootSet.{FirstValue}
 use Rattle.jsonc_run.specs.declared.edit.Edit.{Edit}
-use Rattle.jsonc_run.specs.declared.edit.Edit.TheVariants.{Replace, Remove, RemoveComment, SetRoot, ClearRoot, ReplaceProperty}
+use Rattle.jsonc_run.specs.declared.edit.Edit.TheVariants.{Replace, Remove, RemoveComment, SetRoot, ClearRoot, ReplaceProperty, EnsureRoot}
+use Rattle.jsonc_run.specs.declared.edit.Over.{Over}
+use Rattle.jsonc_run.specs.declared.edit.Over.TheVariants as over
+use Rattle.jsonc_run.specs.declared.edit.Shape.{Shape}
 use Rattle.jsonc_run.specs.Places.{comment_at, IsEntryAt, IsPropertyAt}
+use Rattle.jsonc_run.specs.Shapes.{is_of, empty_of}
 
 -- What an edit asks for: that the value at the path gives way to this one, that the entry at the path leaves, or the comment of this number; that the
--- document's value is this one, or that all leaves the document; that the property at the path gives way to one of this name and value.
+-- document's value is this one, or that all leaves the document; that the property at the path gives way to one of this name and value; that the document has
+-- a value of a shape.
 pub data Operation : Type 0 where
   replace : List ℕ → Plain → Operation
   remove : List ℕ → Operation
@@ -24,6 +30,7 @@ pub data Operation : Type 0 where
   set_root : Plain → Operation
   clear_root : Operation
   replace_property : List ℕ → List ℕ → Plain → Operation
+  ensure_root : Shape → Over → Operation
 
 module _ {A : Type 0} where
   abbrev pub operation_of : Edit A → Operation
@@ -33,6 +40,7 @@ module _ {A : Type 0} where
   operation_of (SetRoot value) = set_root (plain value)
   operation_of ClearRoot = clear_root
   operation_of (ReplaceProperty path name value) = replace_property path.items (chars_of name) (plain value)
+  operation_of (EnsureRoot shape how) = ensure_root shape how
 
   abbrev pub operations_of : List (Edit A) → List Operation
   operations_of edits = map operation_of edits
@@ -42,9 +50,16 @@ abbrev pub RootSet : List Node → List Node → Plain → Option ℕ → Type 0
 RootSet old new v None = (m : ℕ) × FirstValue old new v m
 RootSet old new v (Some n) = (m : ℕ) × IsReplaced old new n v m
 
+-- where the document's value is of the shape nothing has changed, and where there was none an empty one has been set; in the place of another too, or that has
+-- stayed
+abbrev pub RootEnsured : Shape → Over → List Node → List Node → Type 0
+RootEnsured shape over.Keep old new = (answer : Option ℕ) × FoundOrCreated (is_of shape) (empty_of shape) old new (value_at old 0) answer
+RootEnsured shape over.Replace old new = (m : ℕ) × FoundOrSet (is_of shape) (empty_of shape) old new (value_at old 0) m
+
 -- The edit was made: the node n, which stood at the path, has given way to m, which is the value, laid out as the old nodes tell; or n, the entry at the path,
 -- has been taken out with what leaves with it; or n, the comment of this number, has been taken out of the document; or the document's value has been set; or
--- all the root's children have been taken out; or n, the property at the path, has given way to m.
+-- all the root's children have been taken out; or n, the property at the path, has given way to m; or the document has a value of
+-- the shape, if it had none of another that was to stay.
 abbrev pub IsMade : List Node → Operation → List Node → Type 0
 IsMade old (replace path v) new = (n m : ℕ) × IsAt old path n × IsReplaced old new n v m
 IsMade old (remove path) new = (n : ℕ) × IsEntryAt old path n × TakesElement old new n
@@ -52,6 +67,7 @@ IsMade old (remove_comment number) new = (n : ℕ) × (comment_at old number ≡
 IsMade old (set_root v) new = RootSet old new v (value_at old 0)
 IsMade old clear_root new = Splices old new 0 0 (length (children_at old 0)) []
 IsMade old (replace_property path name v) new = (n m : ℕ) × IsPropertyAt old path n × IsPropertyReplaced old new n name v m
+IsMade old (ensure_root shape how) new = RootEnsured shape how old new
 
 -- the edits were made in order, each in the tree that the one before it made
 pub data AreMade : List Node → List Operation → List Node → Type 0 where

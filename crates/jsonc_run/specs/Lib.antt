@@ -1,4 +1,5 @@
 pub mod Places
+pub mod Shapes
 pub mod Edits
 pub mod Refusals
 pub mod Written

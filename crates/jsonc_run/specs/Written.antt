@@ -1,5 +1,5 @@
 -- What edits that were made in order make of a document: of its value, its leaves and its text.
-use Rattle.std.specs.Prelude.{◌≡◌, ℕ, List, [], ◌∷◌, ◌++◌, Option, Some, None}
+use Rattle.std.specs.Prelude.{◌≡◌, ℕ, true, false, List, [], ◌∷◌, ◌++◌, Option, Some, None}
 use Rattle.std.specs.List.{All}
 use Rattle.jsonc_text.specs.Options.{Options}
 use Rattle.jsonc_text.specs.Plain.{Plain}
@@ -21,7 +21,11 @@ use Rattle.jsonc_rows.specs.Coming.{ValueComes}
 use Rattle.jsonc_rows.specs.Laws.{LosesEntry, root_with}
 use Rattle.jsonc_rows.specs.Properties.{PropertyChanged, ReplacesMember}
 use Rattle.jsonc_remove.specs.Laws.{EntryTaken, ValueTaken}
-use Rattle.jsonc_run.specs.Edits.{Operation, replace, remove, remove_comment, set_root, clear_root, replace_property}
+use Rattle.jsonc_run.specs.declared.edit.Over.{Over}
+use Rattle.jsonc_run.specs.declared.edit.Over.TheVariants as over
+use Rattle.jsonc_run.specs.declared.edit.Shape.{Shape}
+use Rattle.jsonc_run.specs.Shapes.{has_shape, empty_of}
+use Rattle.jsonc_run.specs.Edits.{Operation, replace, remove, remove_comment, set_root, clear_root, replace_property, ensure_root}
 
 -- documents of these options can hold what the edit writes: its value, and the name of its property
 abbrev pub MayBeMade : Options → Operation → Type 0
@@ -31,10 +35,19 @@ MayBeMade o (remove_comment number) = Unit {0}
 MayBeMade o (set_root v) = IsWritable o v
 MayBeMade o clear_root = Unit {0}
 MayBeMade o (replace_property path name v) = IsCharacters name × IsWritable o v
+MayBeMade o (ensure_root shape how) = Unit {0}
+
+-- the second value is the empty one of the shape, where there was none, or one of another shape that was to give way; any other has stayed
+pub data EnsuredValue (shape : Shape) : Over → Option Plain → Option Plain → Type 0 where
+  comes_first : {how : Over} → EnsuredValue shape how None (Some (empty_of shape))
+  has_it : {how : Over} {x : Plain} → has_shape shape x ≡ true → EnsuredValue shape how (Some x) (Some x)
+  may_stay : {x : Plain} → has_shape shape x ≡ false → EnsuredValue shape over.Keep (Some x) (Some x)
+  must_give_way : {x : Plain} → has_shape shape x ≡ false → EnsuredValue shape over.Replace (Some x) (Some (empty_of shape))
 
 -- The edit makes the second value of the first: where another value is written, this is the first, but that at the path the new value stands; where an entry
 -- leaves, it is the first without the entry, or none without the document's value; where a comment leaves, it is the first, if there is one; where the
--- document's value is set, it is that, and where the root is cleared there is none; where a property gives way, it is the first, but for that entry.
+-- document's value is set, it is that, and where the root is cleared there is none; where a property gives way, it is the first, but for that entry; where
+-- a value of a shape is to be there, it is the first or an empty one.
 pub data IsChanged : Option Plain → Operation → Option Plain → Type 0 where
   by_value : {given_up v x y : Plain} {path : List ℕ} → Changed given_up v path x y → IsChanged (Some x) (replace path v) (Some y)
   by_entry : (path : List ℕ) (i : ℕ) {x y : Plain} → LosesEntry path i x y → IsChanged (Some x) (remove (path ++ i ∷ [])) (Some y)
@@ -44,6 +57,7 @@ pub data IsChanged : Option Plain → Operation → Option Plain → Type 0 wher
   by_clearing : {w : Option Plain} → IsChanged w clear_root None
   by_property : (path : List ℕ) (i : ℕ) {name : List ℕ} {v x y : Plain} → ReplacesMember path i name v x y
       → IsChanged (Some x) (replace_property (path ++ i ∷ []) name v) (Some y)
+  by_ensuring : {shape : Shape} {how : Over} {w x : Option Plain} → EnsuredValue shape how w x → IsChanged w (ensure_root shape how) x
 
 -- the edits, one after another, make the second value of the first
 pub data AreChanged : Option Plain → List Operation → Option Plain → Type 0 where
@@ -70,6 +84,11 @@ pub data RootValueSet (v : Plain) (t u : OrderedTree) : Type 0 where
   given_way : ValueGivesWay [] v t u → RootValueSet v t u
   has_come : (layout : Layout) (row next : OrderedTree) → t ≡ root_with row → u ≡ root_with next → ValueComes (laid layout v) row next → RootValueSet v t u
 
+-- all has stayed, or the empty value of a shape has been set
+pub data RootValueEnsured (shape : Shape) (t u : OrderedTree) : Type 0 where
+  all_kept : u ≡ t → RootValueEnsured shape t u
+  empty_set : RootValueSet (empty_of shape) t u → RootValueEnsured shape t u
+
 -- spaces have come into the document, and then in the row of the object at the path, between its front and its rest, a property has given way to one of this
 -- name and value, in some layout; all leaves before and after stay
 pub data PropertyGivenWay (name : List ℕ) (v : Plain) (t u : OrderedTree) : List ℕ → Type 0 where
@@ -88,6 +107,7 @@ StayAround t (remove_comment number) u = LosesComment t u
 StayAround t (set_root v) u = (o : Options) → SoundTree o t → RootValueSet v t u
 StayAround t clear_root u = u ≡ root_with none
 StayAround t (replace_property path name v) u = (o : Options) → SoundTree o t → IsCharacters name → IsWritable o v → PropertyGivenWay name v t u path
+StayAround t (ensure_root shape how) u = (o : Options) → SoundTree o t → RootValueEnsured shape t u
 
 -- so it is for each of the edits, one after another
 pub data AllStayAround : OrderedTree → List Operation → OrderedTree → Type 0 where

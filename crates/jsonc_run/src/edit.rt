@@ -3,6 +3,22 @@
 use jsonc_input::CstInputValue;
 use std::alloc::Allocator;
 
+/// The kind of an array or object that is to be there.
+#[derive(Clone, Copy, Debug, PartialEq, Eq)]
+pub enum Shape {
+    Object,
+    Array,
+}
+
+/// What becomes of a value of another kind than the one that is to be there.
+#[derive(Clone, Copy, Debug, PartialEq, Eq)]
+pub enum Over {
+    /// It stays.
+    Keep,
+    /// It gives way.
+    Replace,
+}
+
 /// An edit of a document.
 ///
 /// Each step of a path is a place among the elements of an array or the properties of an object. What is
@@ -26,4 +42,7 @@ pub enum Edit<A: Allocator> {
     /// The property of an object that the last step of a path leads to gives way to one of this name and
     /// value.
     ReplaceProperty(Vec<usize, A>, String<A>, CstInputValue<A>),
+    /// The document has an array or an object: where it has no value, an empty one is set; where it has a
+    /// value of another kind, that stays or gives way to an empty one.
+    EnsureRoot(Shape, Over),
 }

@@ -1,24 +1,30 @@
 //! Edits that are made.
 
-ghost use Rattle.std.specs.Prelude.{◌≡◌, ◌∷◌, [], IfErr, OnErr, OnOk, chars, length, take};
+ghost use Rattle.std.specs.Prelude.{◌≡◌, ◌∷◌, [], IfErr, IfOk, None, OnErr, OnOk, chars, length, take};
 ghost use Rattle.jsonc_text.specs.Options.{Options};
 ghost use Rattle.jsonc_tree.specs.Building.{Keeps};
 ghost use Rattle.jsonc_tree.specs.OrderedTree.{ordered_tree};
 ghost use Rattle.jsonc_tree.specs.Tree.{IsTree};
 ghost use Rattle.jsonc_input.specs.Views.{plain};
+ghost use Rattle.jsonc_nodes.specs.Properties.{value_at};
+ghost use Rattle.jsonc_set.specs.Kinds.{FoundOrCreated, FoundOrSet, LacksKind};
 ghost use Rattle.jsonc_run.specs.Edits.{operation_of, operations_of, AreMade, IsMade};
 ghost use Rattle.jsonc_run.specs.Edits.{replace as asked, remove as asked_out, remove_comment as asked_without};
-ghost use Rattle.jsonc_run.specs.Edits.{set_root as asked_of_root, replace_property as asked_of_property};
+ghost use Rattle.jsonc_run.specs.Edits.{set_root as asked_of_root, replace_property as asked_of_property, ensure_root as asked_for};
 ghost use Rattle.jsonc_run.specs.Refusals.{IsToldBy, StopsAt};
+ghost use Rattle.jsonc_run.specs.Shapes.{empty_of, is_of};
 ghost use Rattle.jsonc_run.specs.Written.{WriteAll};
 
 use crate::comments::find_comment;
-use crate::edit::Edit;
+use crate::edit::{Edit, Over, Shape};
 use crate::entries::{find_entry, find_property};
 use jsonc_edit::{EditError, find, remove_comment, replace};
 use jsonc_input::CstInputValue;
 use jsonc_remove::remove;
-use jsonc_set::{clear_root, replace_property, set_root};
+use jsonc_set::{
+    array_value_or_create, array_value_or_set, clear_root, object_value_or_create,
+    object_value_or_set, replace_property, set_root,
+};
 use jsonc_tree::Tree;
 use std::alloc::Allocator;
 
@@ -64,6 +70,7 @@ fn make_by_kind<A: Allocator + Copy>(
         Edit::ReplaceProperty(path, name, value) => {
             replace_property_at(alloc, tree, path, name, value)
         }
+        Edit::EnsureRoot(shape, over) => ensure_value(alloc, tree, *shape, *over),
     }
 }
 
@@ -170,6 +177,70 @@ fn replace_property_at<A: Allocator + Copy>(
         unreachable!()
     };
     Ok(())
+}
+
+// Sees that the document has a value of a shape.
+fn ensure_value<A: Allocator + Copy>(
+    alloc: A,
+    tree: &mut Tree<A>,
+    shape: Shape,
+    over: Over,
+) -> Result<(), EditError>
+    ensures made { OnOk result (IsMade tree.old.nodes (asked_for shape over) tree.new.nodes) }
+    ensures told { IfErr result (IsToldBy tree.old.nodes (asked_for shape over)) }
+    ensures kept { OnErr result (Keeps (length tree.old.nodes) tree.old.nodes tree.new.nodes) }
+    ensures document { OnErr result (ordered_tree tree.new.nodes 0 ≡ ordered_tree tree.old.nodes 0) }
+    ensures tree { IsTree tree.new.nodes }
+{
+    let _ = tree.len();
+    match over {
+        Over::Keep => {
+            found_or_created(alloc, tree, shape)?;
+            Ok(())
+        }
+        Over::Replace => {
+            found_or_set(alloc, tree, shape)?;
+            Ok(())
+        }
+    }
+}
+
+// The document's value, if it has a shape; where there is none, an empty one is set.
+fn found_or_created<A: Allocator + Copy>(
+    alloc: A,
+    tree: &mut Tree<A>,
+    shape: Shape,
+) -> Result<Option<usize>, EditError>
+    ensures value { IfOk result (FoundOrCreated (is_of shape) (empty_of shape) tree.old.nodes tree.new.nodes (value_at tree.old.nodes 0)) }
+    ensures memory { IfErr result (λ e. e ≡ EditError.OutOfMemory) }
+    ensures wanted { OnErr result (value_at tree.old.nodes 0 ≡ None) }
+    ensures kept { OnErr result (Keeps (length tree.old.nodes) tree.old.nodes tree.new.nodes) }
+    ensures document { OnErr result (ordered_tree tree.new.nodes 0 ≡ ordered_tree tree.old.nodes 0) }
+    ensures tree { IsTree tree.new.nodes }
+{
+    match shape {
+        Shape::Object => object_value_or_create(alloc, tree),
+        Shape::Array => array_value_or_create(alloc, tree),
+    }
+}
+
+// The document's value, if it has a shape; where it is another, or there is none, an empty one is set.
+fn found_or_set<A: Allocator + Copy>(
+    alloc: A,
+    tree: &mut Tree<A>,
+    shape: Shape,
+) -> Result<usize, EditError>
+    ensures value { IfOk result (FoundOrSet (is_of shape) (empty_of shape) tree.old.nodes tree.new.nodes (value_at tree.old.nodes 0)) }
+    ensures memory { IfErr result (λ e. e ≡ EditError.OutOfMemory) }
+    ensures wanted { OnErr result (LacksKind (is_of shape) tree.old.nodes (value_at tree.old.nodes 0)) }
+    ensures kept { OnErr result (Keeps (length tree.old.nodes) tree.old.nodes tree.new.nodes) }
+    ensures document { OnErr result (ordered_tree tree.new.nodes 0 ≡ ordered_tree tree.old.nodes 0) }
+    ensures tree { IsTree tree.new.nodes }
+{
+    match shape {
+        Shape::Object => object_value_or_set(alloc, tree),
+        Shape::Array => array_value_or_set(alloc, tree),
+    }
 }
 
 /// Makes edits in order, each in the document that the one before it made. Where one is refused, the
