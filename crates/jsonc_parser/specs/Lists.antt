@@ -1,5 +1,5 @@
 -- What a list of edits makes of a document.
-use Rattle.std.specs.Prelude.{◌≡◌, ℕ, List, take}
+use Rattle.std.specs.Prelude.{◌≡◌, ℕ, List}
 use Rattle.std.specs.declared.cmp.Ordering.{Ordering}
 use denote.Ref.{Bor}
 use denote.Param.Members.{Shared}
