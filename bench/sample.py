@@ -17,7 +17,7 @@ CRATE = os.path.join(HERE, '..', 'crates', 'jsonc_bench')
 # Longer cases are left out, but for those that show a depth.
 LONGEST = 1500
 LOOKUP = 'a look-up is get or take, with a kind or none, and a word'
-EDIT = 'an edit is Replace, a path and a value, Remove and a path, or RemoveComment and a number'
+EDIT = 'an edit is its kind, and the path, name, value, number or words that it takes'
 NO_CASES = [
     ('', None),
     ('% a line that begins so is passed over', None),
@@ -40,6 +40,10 @@ NO_CASES = [
     ('bad-mark\tedit\t1111111111\t1\tReplace / X', EDIT),
     ('bad-property\tedit\t1111111111\t1\tReplace / {1 N N', EDIT),
     ('bad-number\tedit\t1111111111\t1\tRemoveComment x', EDIT),
+    ('bad-root\tedit\t1111111111\t1\tSetRoot', EDIT),
+    ('bad-kind-of-value\tedit\t1111111111\t1\tEnsureRoot one keep', EDIT),
+    ('bad-way\tedit\t1111111111\t1\tEnsureRoot obj away', EDIT),
+    ('bad-new-name\tedit\t1111111111\t{}\tReplaceProperty /0 a N', EDIT),
     ("bad-call\tjobj\t1111111111\t{}\thas 'a", LOOKUP),
 ]
 # What the Rust crate's test of deep objects states; bench/crate has it with 600 of them, and here they are all.
@@ -100,7 +104,8 @@ def edits_shown(case, answer):
     """Of each edit its kind, its path and what it writes; how the edits end; and what is in the text."""
     text, edits = case[3], vectors.edits_of(case)
     signs = [sign for sign in ('\\x0A', '\\x0D', '\\x09', '//', '/*', ',]', ',}') if sign in text]
-    for name, place, *value in edits:
+    for name, *words in edits:
+        place, value = ('', words) if name in ('SetRoot', 'ClearRoot', 'EnsureRoot') else (words[0], words[1:])
         yield name, int(place) > 1 if name == 'RemoveComment' else place, len(edits) > 1
         yield name, signs, [word[:1] for word in value][:2]
         for word in value:

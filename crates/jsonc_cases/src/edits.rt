@@ -3,7 +3,7 @@
 use crate::error::CaseError;
 use crate::escape::unescaped_text;
 use jsonc_input::CstInputValue;
-use jsonc_run::Edit;
+use jsonc_run::{Edit, Over, Shape};
 use std::alloc::Global;
 
 /// The edits that a field lists, as `Replace /0 [1 #2 ; RemoveComment 0`, or none where one is of a
@@ -31,7 +31,54 @@ fn read_edit(alloc: Global, edit: &str) -> Result<Option<Edit<Global>>, CaseErro
         }
         ["Remove", path] => Ok(Some(Edit::Remove(read_path(alloc, path)?))),
         ["RemoveComment", number] => Ok(Some(Edit::RemoveComment(read_number(number)?))),
+        ["SetRoot", value @ ..] => Ok(Some(Edit::SetRoot(read_value(alloc, value)?))),
+        ["ClearRoot"] => Ok(Some(Edit::ClearRoot)),
+        ["ReplaceProperty", path, name, value @ ..] => Ok(Some(read_new_property(
+            alloc, path, name, value,
+        )?)),
+        ["EnsureRoot", shape, over] => Ok(Some(Edit::EnsureRoot(
+            read_shape(shape)?,
+            read_over(over)?,
+        ))),
         _ => Ok(None),
+    }
+}
+
+/// The edit that lets the property at a path give way to one of this name and value.
+fn read_new_property(
+    alloc: Global,
+    path: &str,
+    name: &str,
+    value: &[&str],
+) -> Result<Edit<Global>, CaseError> {
+    let path = read_path(alloc, path)?;
+    let name = read_name(alloc, name)?;
+    Ok(Edit::ReplaceProperty(path, name, read_value(alloc, value)?))
+}
+
+/// An array or an object.
+fn read_shape(word: &str) -> Result<Shape, CaseError> {
+    match word {
+        "obj" => Ok(Shape::Object),
+        "arr" => Ok(Shape::Array),
+        _ => Err(CaseError::Edit),
+    }
+}
+
+/// What becomes of a value of another kind.
+fn read_over(word: &str) -> Result<Over, CaseError> {
+    match word {
+        "keep" => Ok(Over::Keep),
+        "replace" => Ok(Over::Replace),
+        _ => Err(CaseError::Edit),
+    }
+}
+
+/// The name of a property, which stands after a `'`.
+fn read_name(alloc: Global, word: &str) -> Result<String, CaseError> {
+    match word.strip_prefix("'") {
+        Some(name) => unescaped_text(alloc, name),
+        None => Err(CaseError::Edit),
     }
 }
 

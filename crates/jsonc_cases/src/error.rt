@@ -47,7 +47,7 @@ impl fmt::Display for CaseError {
             CaseError::Word => "a word begins with '",
             CaseError::Lookup => "a look-up is get or take, with a kind or none, and a word",
             CaseError::Edit =>
-                "an edit is Replace, a path and a value, Remove and a path, or RemoveComment and a number",
+                "an edit is its kind, and the path, name, value, number or words that it takes",
             CaseError::OutOfMemory => "out of memory",
         })
     }

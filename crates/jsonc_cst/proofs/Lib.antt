@@ -3,4 +3,3 @@ pub mod Family
 pub mod Readings
 pub mod Colons
 pub mod Tree
-pub mod Kept

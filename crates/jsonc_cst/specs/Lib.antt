@@ -4,4 +4,3 @@ pub mod Tree
 pub mod Nodes
 pub mod Layout
 pub mod Values
-pub mod Edits

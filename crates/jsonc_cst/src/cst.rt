@@ -18,7 +18,6 @@ ghost use Rattle.jsonc_cst.specs.Document.{printed_of, tree_of, HasNoDeeperValue
 ghost use Rattle.jsonc_cst.specs.Tree.{NodesAreTree};
 
 mod access;
-mod edits;
 mod elements;
 pub mod input;
 mod into;
@@ -31,8 +30,7 @@ mod root;
 mod siblings;
 mod values;
 
-pub use access::AncestorIterator;
-pub use edits::ReplaceWith;
+pub use access::{AncestorIterator, node_at};
 pub use input::CstInputValue;
 use jsonc_build::build;
 pub use jsonc_edit::{EditError, TrailingCommaMode};
@@ -56,8 +54,11 @@ use std::fmt;
 /// A document: a text that keeps its every byte, comments, blanks and commas too.
 #[derive(Drop)]
 pub struct CstRootNode<A: Allocator> {
-    tree: Tree<A>,
-    alloc: A,
+    // Both are open to the crate of edits; what users name asks for neither.
+    #[doc(hidden)]
+    pub tree: Tree<A>,
+    #[doc(hidden)]
+    pub alloc: A,
 }
 
 impl<A: Allocator + Copy> CstRootNode<A> {

@@ -1,9 +1,8 @@
 -- What a change of one node makes of a document.
-use Rattle.std.proofs.Common.{◌≡◌, ◌≢◌, ℕ, ◌+◌, ◌<◌, not, List, [], ◌∷◌, length, slice_index, Some, refl, sym, ap, subst, ◌∙◌, arith}
+use Rattle.std.proofs.Common.{◌≡◌, ◌≢◌, ℕ, ◌+◌, ◌<◌, List, [], ◌∷◌, length, slice_index, Some, refl, sym, ap, subst, ◌∙◌, arith}
 use Rattle.std.specs.List.{splice}
-use Rattle.jsonc_tree.specs.Content.{Content, root, object, array, property, string, word, number, boolean, null, token, whitespace, newline, comment, with_text}
+use Rattle.jsonc_tree.specs.Content.{Content}
 use Rattle.jsonc_tree.specs.Tree.{Node, content_at, parent_at, children_at, place_at, IsTree, IsOver}
-use Rattle.jsonc_tree.specs.Values.{is_passed_over}
 use Rattle.jsonc_tree.specs.Changes.{Splices}
 use Rattle.jsonc_tree.specs.OrderedTree.{OrderedTree, Shows, Top}
 use Rattle.jsonc_tree.proofs.Order.{not_over_parent, over_step, parent_there}
@@ -13,8 +12,8 @@ use Rattle.jsonc_tree.proofs.Around.{Shows-spliced}
 use Rattle.jsonc_nodes.specs.Kinds.{is_element_at}
 use Rattle.jsonc_sound.specs.TreeChanges.{IsElement}
 use Rattle.jsonc_edit.specs.Paths.{IsElementOf}
-use Rattle.jsonc_edit.specs.Changes.{row_below, top_at, ChangesAt, Replaces, Respliced, Rewritten}
-use Rattle.jsonc_edit.specs.Laws.{ChangesOver, KeepsOthers, HasNewRow, HasNewText}
+use Rattle.jsonc_edit.specs.Changes.{row_below, top_at, ChangesAt, Replaces, Respliced, LeafChanged}
+use Rattle.jsonc_edit.specs.Laws.{ChangesElementsOver, ChangesOver, KeepsOthers, HasNewContent, HasNewRow}
 use Rattle.jsonc_edit.proofs.Elements.{Some_same, StandsAt, stands_at}
 use Rattle.jsonc_edit.proofs.Uniqueness.{element_parent}
 use Rattle.jsonc_edit.proofs.Walk.{Shows-row_below, ChangedIn, RowChanged, apart_kept, top_kept, row_changed, document_changed, changed_over}
@@ -75,7 +74,7 @@ module _ (old new : List Node) (c : ℕ) (s : Respliced old new c) where
   respliced = spliced_in old new c s.from s.to s.put s.tree s.spliced
 
   pub respliced_over : ChangesOver old new c
-  respliced_over = changed_over old new c respliced s.after s.spliced.len (λ element. subst IsElement (sym (s.spliced.content c)) element)
+  respliced_over n over = changed_over old new c respliced s.after s.spliced.len n over (λ element. subst IsElement (sym (s.spliced.content n)) element)
 
   pub respliced_others : KeepsOthers old new c
   respliced_others = top_kept old new c respliced s.after s.spliced.len
@@ -86,42 +85,26 @@ module _ (old new : List Node) (c : ℕ) (s : Respliced old new c) where
       Shows-unique new (children_at new c) (row_below new c) _ (Shows-row_below new s.after c (omega (arith, s.there, s.spliced.len)))
       (Shows-spliced old new s.tree s.after c s.from s.to s.put s.spliced s.join front inner back before put later)
 
--- another text keeps a node's kind
-is_passed_over-with_text : (content : Content) (s : List ℕ) → is_passed_over (with_text content s) ≡ is_passed_over content
-is_passed_over-with_text root s = refl
-is_passed_over-with_text object s = refl
-is_passed_over-with_text array s = refl
-is_passed_over-with_text property s = refl
-is_passed_over-with_text (string t) s = refl
-is_passed_over-with_text (word t) s = refl
-is_passed_over-with_text (number t) s = refl
-is_passed_over-with_text (boolean b) s = refl
-is_passed_over-with_text null s = refl
-is_passed_over-with_text (token c) s = refl
-is_passed_over-with_text (whitespace t) s = refl
-is_passed_over-with_text (newline k) s = refl
-is_passed_over-with_text (comment t) s = refl
-
-module _ (old new : List Node) (leaf : ℕ) (r : Rewritten old new leaf) where
-  rewritten : ChangedIn old new leaf
-  rewritten = record {
+module _ (old new : List Node) (leaf : ℕ) (r : LeafChanged old new leaf) where
+  changed_leaf : ChangedIn old new leaf
+  changed_leaf = record {
     tree = r.tree;
-    content = r.rewrites.others;
-    children = λ n ne. r.rewrites.children n;
+    content = r.becomes.others;
+    children = λ n ne. r.becomes.children n;
   }
 
-  pub rewritten_over : ChangesOver old new leaf
-  rewritten_over = changed_over old new leaf rewritten r.after r.rewrites.len (λ element. subst IsElement (sym r.rewrites.content) (ap not (is_passed_over-with_text (content_at old leaf) r.text) ∙ element))
+  pub leaf_over : ChangesElementsOver old new leaf
+  leaf_over = changed_over old new leaf changed_leaf r.after r.becomes.len
 
-  pub rewritten_others : KeepsOthers old new leaf
-  rewritten_others = top_kept old new leaf rewritten r.after r.rewrites.len
+  pub leaf_others : KeepsOthers old new leaf
+  leaf_others = top_kept old new leaf changed_leaf r.after r.becomes.len
 
   -- what is below the leaf stays
-  pub rewritten_text : HasNewText r
-  rewritten_text =
+  pub leaf_content : HasNewContent r
+  leaf_content =
       let cs : List ℕ = children_at old leaf in
-      let row : Shows new cs (row_below old leaf) = apart_kept old new leaf rewritten cs (row_below old leaf) (λ k h. not_over_parent old r.tree (slice_index cs k) leaf (r.tree.named leaf k h)) (Shows-row_below old r.tree leaf r.there) in
-      let shown : Shows new (children_at new leaf) (row_below old leaf) = subst (λ (l : List ℕ). Shows new l (row_below old leaf)) (sym (r.rewrites.children leaf)) row in
-      let same : row_below new leaf ≡ row_below old leaf = Shows-unique new (children_at new leaf) (row_below new leaf) (row_below old leaf) (Shows-row_below new r.after leaf (omega (arith, r.there, r.rewrites.len))) shown in
-      let first : top_at new leaf ≡ record { content = with_text (content_at old leaf) r.text; below = row_below new leaf } = ap (λ (w : Content). record { content = w; below = row_below new leaf }) r.rewrites.content in
-      first ∙ ap (λ (t : OrderedTree). record { content = with_text (content_at old leaf) r.text; below = t }) same
+      let row : Shows new cs (row_below old leaf) = apart_kept old new leaf changed_leaf cs (row_below old leaf) (λ k h. not_over_parent old r.tree (slice_index cs k) leaf (r.tree.named leaf k h)) (Shows-row_below old r.tree leaf r.there) in
+      let shown : Shows new (children_at new leaf) (row_below old leaf) = subst (λ (l : List ℕ). Shows new l (row_below old leaf)) (sym (r.becomes.children leaf)) row in
+      let same : row_below new leaf ≡ row_below old leaf = Shows-unique new (children_at new leaf) (row_below new leaf) (row_below old leaf) (Shows-row_below new r.after leaf (omega (arith, r.there, r.becomes.len))) shown in
+      let first : top_at new leaf ≡ record { content = r.content; below = row_below new leaf } = ap (λ (w : Content). record { content = w; below = row_below new leaf }) r.becomes.content in
+      first ∙ ap (λ (t : OrderedTree). record { content = r.content; below = t }) same

@@ -1,6 +1,5 @@
 -- From the change of one row up to the document: on the way to the root each row changes in one element.
-use Rattle.std.proofs.Common.{◌≡◌, ◌≢◌, ℕ, ◌+◌, ◌<◌, List, [], ◌∷◌, ◌++◌, length, slice_index, take, drop, filter, Some, inl, inr, refl, sym, ap, subst, ◌∙◌, arith, add-zero, length-take, length-drop, get_or-take, get_or-drop}
-use Rattle.std.proofs.lemmas.Bool.{cases_eq}
+use Rattle.std.proofs.Common.{◌≡◌, ◌≢◌, ℕ, ◌+◌, ◌<◌, List, [], ◌∷◌, ◌++◌, length, slice_index, take, drop, filter, Some, refl, sym, ap, subst, ◌∙◌, arith, add-zero, length-take, length-drop, get_or-take, get_or-drop}
 use Rattle.std.proofs.lemmas.List.{take-append-drop, drop_more}
 use Rattle.jsonc_tree.specs.Content.{Content, root, array, object, property}
 use Rattle.jsonc_tree.specs.Tree.{Node, content_at, parent_at, children_at, place_at, IsTree, IsOver}
@@ -170,17 +169,14 @@ over_through : (ns : List Node) (x y z : ℕ) → IsOver ns x y → IsOver ns y 
 over_through ns x y _ first IsOver.itself = first
 over_through ns x y z first (IsOver.above {c = p} said rest) = IsOver.above said (over_through ns x y p first rest)
 
--- where what the nodes over the one that changed are stays the same, and that stays an element if it is one, each of them has changed where it stands
-pub changed_over : (old new : List Node) (c : ℕ) → ChangedIn old new c → IsTree new → length new ≡ length old → (IsElement (content_at old c) → IsElement (content_at new c)) → (n : ℕ) → IsOver old n c → ChangesAt old new n (top_at new n)
-changed_over old new c changed after long kind n over path at =
+-- each node over the one that changed, if it stays an element, has changed where it stands
+pub changed_over : (old new : List Node) (c : ℕ) → ChangedIn old new c → IsTree new → length new ≡ length old → (n : ℕ) → IsOver old n c → (IsElement (content_at old n) → IsElement (content_at new n)) → ChangesAt old new n (top_at new n)
+changed_over old new c changed after long n over kind path at =
     document_changed old new c changed n (top_at old n) (top_at new n)
     (λ p i element.
     let standing : StandsAt (is_element_at old) (children_at old p) i n = stands_at (is_element_at old) (children_at old p) i n element in
     let there = element_there old changed.tree p i n element in
-    let still : IsElement (content_at new n) = elim (cases_eq n c) [
-      | inl is ↦ subst (λ m. IsElement (content_at new m)) (sym is) (kind (subst (λ m. IsElement (content_at old m)) is standing.3))
-      | inr ne ↦ subst IsElement (sym (changed.content n ne)) standing.3
-    ] in
+    let still : IsElement (content_at new n) = kind standing.3 in
     row_above old new c changed p i n (row_below old n) (row_below new n) element over still (Shows-row_below old changed.tree n there) (Shows-row_below new after n (omega (arith, there, long))))
     (λ p q said above.
     let up = over_up old q p c said (over_through old q n c above over) in

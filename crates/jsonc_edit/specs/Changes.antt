@@ -1,7 +1,8 @@
 -- Changes of one node of a document, and what they make of its ordered tree.
 use Rattle.std.specs.Prelude.{◌≡◌, ℕ, ◌+◌, ◌<◌, List, [], ◌∷◌, length, Some}
+use Rattle.jsonc_tree.specs.Content.{Content}
 use Rattle.jsonc_tree.specs.Tree.{Node, content_at, parent_at, place_at, IsTree}
-use Rattle.jsonc_tree.specs.Changes.{Splices, CanJoin, Rewrites}
+use Rattle.jsonc_tree.specs.Changes.{Splices, CanJoin, LeafBecomes}
 use Rattle.jsonc_tree.specs.OrderedTree.{OrderedTree, grown, ordered_tree, Top}
 use Rattle.jsonc_sound.specs.TreeChanges.{IsElement, DocumentChanged}
 use Rattle.jsonc_edit.specs.Paths.{IsAt}
@@ -39,10 +40,10 @@ pub record Respliced (old new : List Node) (c : ℕ) : Type 0 where
   pub join : CanJoin old c from to put
   pub spliced : Splices old new c from to put
 
--- a leaf that is there gets another text
-pub record Rewritten (old new : List Node) (leaf : ℕ) : Type 0 where
-  pub text : List ℕ
+-- a leaf that is there becomes another
+pub record LeafChanged (old new : List Node) (leaf : ℕ) : Type 0 where
+  pub content : Content
   pub tree : IsTree old
   pub there : leaf < length old
   pub after : IsTree new
-  pub rewrites : Rewrites old new leaf text
+  pub becomes : LeafBecomes old new leaf content

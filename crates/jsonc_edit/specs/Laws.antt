@@ -2,12 +2,12 @@
 use Rattle.std.specs.Prelude.{◌≡◌, ◌<◌, ℕ, false, List, length, take, drop, Option, Some, IsTrue}
 use Rattle.jsonc_text.specs.Options.{Options}
 use Rattle.jsonc_text.specs.Plain.{Plain}
-use Rattle.jsonc_tree.specs.Content.{with_text}
 use Rattle.jsonc_tree.specs.Tree.{Node, content_at, parent_at, children_at, IsTree, IsOver}
 use Rattle.jsonc_tree.specs.OrderedTree.{OrderedTree, followed_by, ordered_tree, Shows, Top}
 use Rattle.jsonc_tree.specs.Values.{DocumentValueOf}
 use Rattle.jsonc_build.specs.Shape.{DocumentShaped}
 use Rattle.jsonc_sound.specs.Sound.{HasValue, IsNewValue}
+use Rattle.jsonc_sound.specs.TreeChanges.{IsElement}
 use Rattle.jsonc_sound.specs.Laws.{HasChangedValue}
 use Rattle.jsonc_from_input.specs.Layout.{Layout}
 use Rattle.jsonc_from_input.specs.Laid.{laid, laid_property}
@@ -17,7 +17,7 @@ use Rattle.jsonc_seams.specs.SoundTrees.{SoundTree}
 use Rattle.jsonc_spaces.specs.Due.{begins_bare, ends_bare, seen_before, seen_behind}
 use Rattle.jsonc_rows.specs.Properties.{IsNewProperty}
 use Rattle.jsonc_edit.specs.Paths.{IsAt, Stands}
-use Rattle.jsonc_edit.specs.Changes.{row_below, top_at, ChangesAt, Replaces, Respliced, Rewritten}
+use Rattle.jsonc_edit.specs.Changes.{row_below, top_at, ChangesAt, Replaces, Respliced, LeafChanged}
 use Rattle.jsonc_edit.specs.Reading.{layout_for, IsReplaced}
 use Rattle.jsonc_edit.specs.Replacing.{GivesWay}
 use Rattle.jsonc_edit.specs.Writing.{FitsLayout, IsWritable}
@@ -51,6 +51,11 @@ KeepsReplacement old new n m = Replaces old new n m → top_at new m ≡ top_at 
 abbrev pub ChangesOver : List Node → List Node → ℕ → Type 0
 ChangesOver old new c = (n : ℕ) → IsOver old n c → ChangesAt old new n (top_at new n)
 
+-- so has each node over c that is an element still, if it was one
+abbrev pub ChangesElementsOver : List Node → List Node → ℕ → Type 0
+ChangesElementsOver old new c =
+    (n : ℕ) → IsOver old n c → (IsElement (content_at old n) → IsElement (content_at new n)) → ChangesAt old new n (top_at new n)
+
 -- any other node, and the row below it, are what they were
 abbrev pub KeepsOthers : List Node → List Node → ℕ → Type 0
 KeepsOthers old new c = (n : ℕ) → n < length old → (IsOver old n c → ⊥) → top_at new n ≡ top_at old n
@@ -60,9 +65,9 @@ abbrev pub HasNewRow : {old new : List Node} {c : ℕ} → Respliced old new c �
 HasNewRow {old} {new} {c} s =
     (front inner back : OrderedTree) → Shows old (take s.from (children_at old c)) front → Shows old s.put inner → Shows old (drop s.to (children_at old c)) back → row_below new c ≡ followed_by front (followed_by inner back)
 
--- the leaf has the new text, over what was below it
-abbrev pub HasNewText : {old new : List Node} {leaf : ℕ} → Rewritten old new leaf → Type 0
-HasNewText {old} {new} {leaf} r = top_at new leaf ≡ record { content = with_text (content_at old leaf) r.text; below = row_below old leaf }
+-- the leaf is what it became, over what was below it
+abbrev pub HasNewContent : {old new : List Node} {leaf : ℕ} → LeafChanged old new leaf → Type 0
+HasNewContent {old} {new} {leaf} r = top_at new leaf ≡ record { content = r.content; below = row_below old leaf }
 
 -- nothing that stands beside n ends or begins with a literal without quotes
 abbrev pub IsApart : List Node → ℕ → Type 0

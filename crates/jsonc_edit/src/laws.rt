@@ -10,13 +10,13 @@ ghost use Rattle.jsonc_input.specs.Views.{plain};
 ghost use Rattle.jsonc_from_input.specs.Layout.{Layout};
 ghost use Rattle.jsonc_edit.specs.Laws.{AllStand, HasOneNode, HasOnePath, ShowsBelow};
 ghost use Rattle.jsonc_edit.specs.Laws.{ReplacesAtPath, KeepsReplacement};
-ghost use Rattle.jsonc_edit.specs.Laws.{ChangesOver, KeepsOthers, HasNewRow, HasNewText};
+ghost use Rattle.jsonc_edit.specs.Laws.{ChangesElementsOver, ChangesOver, KeepsOthers, HasNewContent, HasNewRow};
 ghost use Rattle.jsonc_edit.specs.Laws.{ChangesValueAt, StaysSoundAt};
 ghost use Rattle.jsonc_edit.specs.Laws.{LaysOutWhole, LaysOutWholeNamed};
 ghost use Rattle.jsonc_edit.specs.Laws.{HasFittingLayout, HasOneValue};
 ghost use Rattle.jsonc_edit.specs.Laws.{ChangesValueLaidOut, ChangesValueReplaced};
 ghost use Rattle.jsonc_edit.specs.Laws.{TakesPath, WritesLaidOut, WritesReplaced};
-ghost use Rattle.jsonc_edit.specs.Changes.{Respliced, Rewritten};
+ghost use Rattle.jsonc_edit.specs.Changes.{LeafChanged, Respliced};
 ghost use Rattle.jsonc_edit.specs.Comments.{commented, removed_from, CommentRemoved, HasLeavesWithout, HasValueWithout, IsSoundWithout, TakesTrivia};
 ghost use Rattle.jsonc_edit.specs.Paths.{IsAt};
 ghost use Rattle.jsonc_from_input.specs.Laid.{laid};
@@ -65,12 +65,13 @@ pub fn spliced_rows_change_their_place()
     ensures kept { (old new : List Node) (c : ℕ) → Respliced old new c → KeepsOthers old new c }
 {}
 
-/// A leaf that gets another text changes the document at its path, or at that of each value over
-/// it, to the row that is now below. The leaf has the new text, and any other node is what it was.
-pub fn rewritten_leaves_change_their_place()
-    ensures changed { (old new : List Node) (n : ℕ) → Rewritten old new n → ChangesOver old new n }
-    ensures text { (old new : List Node) (n : ℕ) (r : Rewritten old new n) → HasNewText r }
-    ensures kept { (old new : List Node) (n : ℕ) → Rewritten old new n → KeepsOthers old new n }
+/// A leaf that becomes another changes the document at the path of each value over it, and at its
+/// own if it is a value still, to the row that is now below. The leaf is what it became, and any
+/// other node is what it was.
+pub fn changed_leaves_change_their_place()
+    ensures changed { (old new : List Node) (n : ℕ) → LeafChanged old new n → ChangesElementsOver old new n }
+    ensures content { (old new : List Node) (n : ℕ) (r : LeafChanged old new n) → HasNewContent r }
+    ensures kept { (old new : List Node) (n : ℕ) → LeafChanged old new n → KeepsOthers old new n }
 {}
 
 /// Where in a sound document a node that may stand there takes the place of a value, and no literal

@@ -6,10 +6,10 @@
 //! where, by [`errors::ParseError`].
 #![tactic(auto)]
 
+pub mod cst;
 pub mod string;
 
 pub use jsonc_ast::ast;
-pub use jsonc_cst::cst;
 pub use jsonc_scan::scanner::Scanner;
 pub use jsonc_text::errors::ParseStringErrorKind;
 pub use jsonc_text::options::{ParseOptions, ScannerOptions};

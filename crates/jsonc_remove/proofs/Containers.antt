@@ -42,7 +42,7 @@ same_nodes ns c tree = record { tree = tree; content = λ n ne. refl; children =
 
 pub held_at : (o : Options) (ns : List Node) → IsTree ns → SoundTree o (ordered_tree ns 0) → (path : List ℕ) (c : ℕ) → IsAt ns path c → IsTrue (holds_values (content_at ns c)) → Held o (content_at ns c) (row_below ns c)
 held_at o ns tree sound path c at holds =
-    let there : DocumentChanged (top_at ns c) (top_at ns c) path (ordered_tree ns 0) (ordered_tree ns 0) = changed_over ns ns c (same_nodes ns c tree) tree refl (λ e. e) c IsOver.itself path at in
+    let there : DocumentChanged (top_at ns c) (top_at ns c) path (ordered_tree ns 0) (ordered_tree ns 0) = changed_over ns ns c (same_nodes ns c tree) tree refl c IsOver.itself (λ e. e) path at in
     held o holds (value_alone o (document_held o there sound.shaped).1)
 
 -- the last of a row

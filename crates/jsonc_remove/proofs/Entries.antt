@@ -322,8 +322,8 @@ module _ (o : Options) (old new : List Node) (path : List ℕ) (c i n : ℕ) (tr
 
   changed : DocumentChanged (top_at spaced c) (top_at new c) path (ordered_tree spaced 0) (ordered_tree new 0)
   changed =
-      changed_over spaced new c (record { tree = s.tree; content = λ k ne. moved.content k; children = moved.children }) after moved.len
-      (λ e. subst IsElement (sym (moved.content c)) e) c IsOver.itself path at_spaced
+      changed_over spaced new c (record { tree = s.tree; content = λ k ne. moved.content k; children = moved.children }) after moved.len c IsOver.itself
+      (λ e. subst IsElement (sym (moved.content c)) e) path at_spaced
 
   holder_spaced : content_at spaced c ≡ holder was_held.kind
   holder_spaced = content_spaced c c_there ∙ was_held.is

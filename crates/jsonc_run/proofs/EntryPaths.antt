@@ -1,10 +1,13 @@
--- What leaves with a path, and where nothing does.
-use Rattle.std.proofs.Common.{◌≡◌, ℕ, List, [], ◌∷◌, ◌++◌, length, Option, Some, None, refl, sym, ap, subst, ◌∙◌, arith}
+-- What an edit finds behind a path, and where there is nothing.
+use Rattle.std.proofs.Common.{◌≡◌, ℕ, List, [], ◌∷◌, ◌++◌, length, slice_get, Option, Some, None, refl, sym, subst, ◌∙◌, arith}
 use Rattle.std.proofs.lemmas.List.{same_from_push}
-use Rattle.jsonc_tree.specs.Tree.{Node}
+use Rattle.jsonc_tree.specs.Content.{object, property}
+use Rattle.jsonc_tree.specs.Tree.{Node, content_at}
+use Rattle.jsonc_nodes.specs.Siblings.{elements_at}
 use Rattle.jsonc_edit.specs.Paths.{IsAt, FindsExactly}
 use Rattle.jsonc_edit.proofs.Elements.{Some_same}
-use Rattle.jsonc_run.specs.Edits.{IsEntryAt, the_value, an_entry, IsEntryOf}
+use Rattle.jsonc_edit.proofs.FittingFinds.{none_is_some}
+use Rattle.jsonc_run.specs.Places.{IsEntryAt, the_value, an_entry, IsEntryOf, IsPropertyAt, a_property, IsPropertyOf}
 
 not_empty : (front : List ℕ) (i : ℕ) → front ++ i ∷ [] ≡ [] → ⊥
 not_empty [] i e = cc
@@ -14,6 +17,7 @@ empty_list : (xs : List ℕ) → length xs ≡ 0 → xs ≡ []
 empty_list [] e = refl
 empty_list (x ∷ xs) e = absurd (omega (arith, e))
 
+-- With an empty path the document's value is found.
 module _ (ns : List Node) where
   value_of : (path : List ℕ) (n : ℕ) → path ≡ [] → IsEntryAt ns path n → IsAt ns path n
   value_of _ n empty (the_value at) = at
@@ -23,36 +27,62 @@ module _ (ns : List Node) where
   of_value path n empty at =
       subst (λ (p : List ℕ). IsEntryAt ns p n) (sym empty) (the_value (subst (λ (p : List ℕ). IsAt ns p n) empty at))
 
-  -- with the empty path it is the document's value
   pub value_found : (path : List ℕ) (found : Option ℕ) → length path ≡ 0 → FindsExactly found (IsAt ns path) → FindsExactly found (IsEntryAt ns path)
   value_found path found none finds =
       let empty = empty_list path none in λ n. ((λ e. of_value path n empty ((finds n).0 e)), λ h. (finds n).1 (value_of path n empty h))
 
-  module _ (path front : List ℕ) (i : ℕ) (parts : path ≡ front ++ i ∷ []) where
-    -- with any other it is an entry of what stands at the path before the last step
-    entry_there : (p : List ℕ) (n : ℕ) → p ≡ front ++ i ∷ [] → IsEntryAt ns p n → (c : ℕ) × IsAt ns front c × IsEntryOf ns c i n
-    entry_there _ n same (the_value at) = absurd (not_empty front i (sym same))
-    entry_there _ n same (an_entry before c j at entry) =
-        let ends = same_from_push before front j i same in
-        (c, subst (λ (p : List ℕ). IsAt ns p c) ends.0 at, subst (λ k. IsEntryOf ns c k n) ends.1 entry)
+  property_in_none : (path : List ℕ) (n : ℕ) → path ≡ [] → IsPropertyAt ns path n → ⊥
+  property_in_none _ n empty (a_property front c i at inside) = not_empty front i empty
 
-    entry_in : (c n : ℕ) → FindsExactly (Some c) (IsAt ns front) → IsEntryAt ns path n → IsEntryOf ns c i n
-    entry_in c n at h =
-        let it = entry_there path n parts h in
-        subst (λ d. IsEntryOf ns d i n) (sym (Some_same c it.0 ((at it.0).1 it.1))) it.2
+  -- but no property
+  pub no_property : (path : List ℕ) → length path ≡ 0 → FindsExactly None (IsPropertyAt ns path)
+  no_property path none = λ n. (λ e. none_is_some n e, λ h. absurd (property_in_none path n (empty_list path none) h))
 
-    pub entry_found : (c : ℕ) (found : Option ℕ) → FindsExactly (Some c) (IsAt ns front) → FindsExactly found (IsEntryOf ns c i) → FindsExactly found (IsEntryAt ns path)
-    entry_found c found at entry = λ n. (
-      λ e. subst (λ (p : List ℕ). IsEntryAt ns p n) (sym parts) (an_entry front c i ((at c).0 refl) ((entry n).0 e)),
-      λ h. (entry n).1 (entry_in c n at h),
-    )
+-- what is an element of an object, and a property, is a property of it
+pub property_of_object : (ns : List Node) (c i : ℕ) (held found : Option ℕ) → content_at ns c ≡ object → held ≡ slice_get (elements_at ns c) i → FindsExactly found (λ n. (held ≡ Some n) × (content_at ns n ≡ property))
+    → FindsExactly found (IsPropertyOf ns c i)
+property_of_object ns c i held found is element finds = λ n. (
+  λ e. record { of_object = is; element = sym element ∙ ((finds n).0 e).0; is = ((finds n).0 e).1 },
+  λ h. (finds n).1 (element ∙ h.element, h.is),
+)
 
-    nowhere : (n : ℕ) → FindsExactly None (IsAt ns front) → IsEntryAt ns path n → None ≡ Some n
-    nowhere n at h =
-        let it = entry_there path n parts h in
-        let wrong : None ≡ Some it.0 = (at it.0).1 it.1 in
-        let never : ⊥ = cc in
-        absurd never
+-- With any other path what is found is in the container at its front, at the place of its last step.
+module _ (ns : List Node) (front : List ℕ) (Holds : ℕ → ℕ → Type 0) (At : ℕ → Type 0) (goes : (c n : ℕ) → IsAt ns front c → Holds c n → At n) (comes : (n : ℕ) → At n → (c : ℕ) × IsAt ns front c × Holds c n) where
+  behind_front : (c : ℕ) (found : Option ℕ) → FindsExactly (Some c) (IsAt ns front) → FindsExactly found (Holds c) → FindsExactly found At
+  behind_front c found at inside = λ n. (
+    λ e. goes c n ((at c).0 refl) ((inside n).0 e),
+    λ h. let it = comes n h in (inside n).1 (subst (λ d. Holds d n) (sym (Some_same c it.0 ((at it.0).1 it.1))) it.2),
+  )
 
-    pub nothing_found : FindsExactly None (IsAt ns front) → FindsExactly None (IsEntryAt ns path)
-    nothing_found at = λ n. ((λ e. let never : ⊥ = cc in absurd never), λ h. nowhere n at h)
+  behind_none : FindsExactly None (IsAt ns front) → FindsExactly None At
+  behind_none at = λ n. (λ e. none_is_some n e, λ h. let it = comes n h in none_is_some it.0 ((at it.0).1 it.1))
+
+module _ (ns : List Node) (path front : List ℕ) (i : ℕ) (parts : path ≡ front ++ i ∷ []) where
+  entry_goes : (c n : ℕ) → IsAt ns front c → IsEntryOf ns c i n → IsEntryAt ns path n
+  entry_goes c n at entry = subst (λ (p : List ℕ). IsEntryAt ns p n) (sym parts) (an_entry front c i at entry)
+
+  entry_there : (p : List ℕ) (n : ℕ) → p ≡ front ++ i ∷ [] → IsEntryAt ns p n → (c : ℕ) × IsAt ns front c × IsEntryOf ns c i n
+  entry_there _ n same (the_value at) = absurd (not_empty front i (sym same))
+  entry_there _ n same (an_entry before c j at entry) =
+      let ends = same_from_push before front j i same in
+      (c, subst (λ (p : List ℕ). IsAt ns p c) ends.0 at, subst (λ k. IsEntryOf ns c k n) ends.1 entry)
+
+  pub entry_found : (c : ℕ) (found : Option ℕ) → FindsExactly (Some c) (IsAt ns front) → FindsExactly found (IsEntryOf ns c i) → FindsExactly found (IsEntryAt ns path)
+  entry_found c found at entry = behind_front ns front (λ d n. IsEntryOf ns d i n) (IsEntryAt ns path) entry_goes (λ n h. entry_there path n parts h) c found at entry
+
+  pub nothing_found : FindsExactly None (IsAt ns front) → FindsExactly None (IsEntryAt ns path)
+  nothing_found at = behind_none ns front (λ d n. IsEntryOf ns d i n) (IsEntryAt ns path) entry_goes (λ n h. entry_there path n parts h) at
+
+  property_goes : (c n : ℕ) → IsAt ns front c → IsPropertyOf ns c i n → IsPropertyAt ns path n
+  property_goes c n at inside = subst (λ (p : List ℕ). IsPropertyAt ns p n) (sym parts) (a_property front c i at inside)
+
+  property_there : (p : List ℕ) (n : ℕ) → p ≡ front ++ i ∷ [] → IsPropertyAt ns p n → (c : ℕ) × IsAt ns front c × IsPropertyOf ns c i n
+  property_there _ n same (a_property before c j at inside) =
+      let ends = same_from_push before front j i same in
+      (c, subst (λ (p : List ℕ). IsAt ns p c) ends.0 at, subst (λ k. IsPropertyOf ns c k n) ends.1 inside)
+
+  pub property_found : (c : ℕ) (found : Option ℕ) → FindsExactly (Some c) (IsAt ns front) → FindsExactly found (IsPropertyOf ns c i) → FindsExactly found (IsPropertyAt ns path)
+  property_found c found at inside = behind_front ns front (λ d n. IsPropertyOf ns d i n) (IsPropertyAt ns path) property_goes (λ n h. property_there path n parts h) c found at inside
+
+  pub no_property_found : FindsExactly None (IsAt ns front) → FindsExactly None (IsPropertyAt ns path)
+  no_property_found at = behind_none ns front (λ d n. IsPropertyOf ns d i n) (IsPropertyAt ns path) property_goes (λ n h. property_there path n parts h) at

@@ -7,7 +7,12 @@ use Rattle.jsonc_edit.proofs.Uniqueness.{element_parent}
 use Rattle.jsonc_edit.specs.declared.error.EditError.{EditError}
 use Rattle.jsonc_edit.specs.declared.error.EditError.TheVariants.{OutOfMemory, MissingBrackets, MissingName, NoSuchPlace}
 use Rattle.jsonc_remove.specs.Removed.{IsKeptFor, TakesElement}
-use Rattle.jsonc_run.specs.Edits.{Operation, remove, AreMade, none_made, first_made, IsEntryAt, IsMade, IsToldBy}
+use Rattle.jsonc_edit.specs.Reading.{IsReplaced}
+use Rattle.jsonc_set.specs.RootSet.{FirstValue}
+use Rattle.jsonc_text.specs.Plain.{Plain}
+use Rattle.jsonc_run.specs.Places.{IsEntryAt, IsPropertyAt, a_property}
+use Rattle.jsonc_run.specs.Edits.{Operation, remove, AreMade, none_made, first_made, IsMade, RootSet}
+use Rattle.jsonc_run.specs.Refusals.{IsToldBy}
 
 -- what a path leads to has a parent
 module _ (ns : List Node) (tree : IsTree ns) where
@@ -23,6 +28,17 @@ module _ (ns : List Node) (tree : IsTree ns) where
       let child = leads_to_child n v 0 path (element_parent ns tree 0 0 v e) leads in
       let wrong : None ≡ Some child.0 = sym none ∙ child.1 in
       cc
+
+  -- and so has a property at a path
+  pub property_not_alone : (path : List ℕ) (n : ℕ) → IsPropertyAt ns path n → parent_at ns n ≡ None → ⊥
+  property_not_alone _ n (a_property front c i at inside) none =
+      let wrong : None ≡ Some c = sym none ∙ element_parent ns tree c i n inside.element in
+      cc
+
+-- the root's value was set, where one stood or none
+pub root_set : (old new : List Node) (v : Plain) (m : ℕ) (w : Option ℕ) → IfSome w (λ n. IsReplaced old new n v m) → IfNone w (FirstValue old new v m) → RootSet old new v w
+root_set old new v m None replaced first = (m, first)
+root_set old new v m (Some n) replaced first = (m, replaced)
 
 -- one more edit
 pub made_more : {old now new : List Node} (es : List Operation) (e : Operation) → AreMade old es now → IsMade now e new → IsTree new → AreMade old (es ++ e ∷ []) new
@@ -55,6 +71,11 @@ some_is r P m e h = subst (λ (q : Option ℕ). IfSome q P) e h
 
 pub none_is : (r : Option ℕ) (P : Type 0) → r ≡ None → IfNone r P → P
 none_is r P e h = subst (λ (q : Option ℕ). IfNone q P) e h
+
+-- where memory alone is told of, what holds of want of it holds of what is told
+pub told_of_memory : {T : Type 0} (P : EditError → Type 0) (r : Result T EditError) → IfErr r (λ e. e ≡ OutOfMemory) → P OutOfMemory → IfErr r P
+told_of_memory P (Ok x) memory wanted = tt
+told_of_memory P (Err e) memory wanted = subst P (sym memory) wanted
 
 -- what is answered where an entry is taken out
 module _ (ns : List Node) (path : List ℕ) (n : ℕ) (at : IsEntryAt ns path n) where

@@ -1,30 +1,71 @@
 -- What edits that were made in order make of the marks of a document.
-use Rattle.std.proofs.Common.{ℕ, ◌≡◌, suc, List, [], ◌∷◌, sym, refl, subst, ◌∙◌, arith, chars}
+use Rattle.std.proofs.Common.{ℕ, ◌≡◌, suc, List, [], ◌∷◌, sym, refl, ap, subst, ◌∙◌, arith, chars}
 use Rattle.std.specs.List.{All}
 use Rattle.jsonc_text.specs.Options.{Options}
-use Rattle.jsonc_tree.specs.OrderedTree.{OrderedTree, leaves, ordered_tree}
+use Rattle.jsonc_text.specs.Plain.{Plain}
+use Rattle.jsonc_tree.specs.OrderedTree.{OrderedTree, none, leaves, ordered_tree, Top}
 use Rattle.jsonc_tree.specs.Tree.{Node, IsTree}
-use Rattle.jsonc_sound.specs.TreeChanges.{leaves_of}
+use Rattle.jsonc_from_input.specs.Laid.{laid, laid_property}
+use Rattle.jsonc_from_input.specs.Texts.{IsCharacters}
+use Rattle.jsonc_sound.specs.Laws.{DiffersIn}
+use Rattle.jsonc_sound.specs.TreeChanges.{leaves_of, property_of}
+use Rattle.jsonc_seams.specs.SoundTrees.{SoundTree}
 use Rattle.jsonc_marks.specs.Changes.{MarksDifferIn, marks_under}
 use Rattle.jsonc_marks.specs.Marks.{Mark, marks, trimmed}
-use Rattle.jsonc_marks.proofs.GivingWay.{marks_follow, one_mark_leaves, space_keeps_marks}
-use Rattle.jsonc_marks.proofs.Laid.{laid_as_written}
+use Rattle.jsonc_marks.specs.Written.{written}
+use Rattle.jsonc_marks.proofs.GivingWay.{marks_follow, one_mark_leaves}
+use Rattle.jsonc_marks.proofs.Laid.{laid_as_written, laid_as_written_named}
 use Rattle.jsonc_marks.proofs.OneList.{marks_unique}
 use Rattle.jsonc_marks.proofs.Printed.{prints_its_marks}
-use Rattle.jsonc_from_input.specs.Laid.{laid}
-use Rattle.jsonc_edit.specs.Spaced.{SpacesPut, none_put, one_put}
+use Rattle.jsonc_rows.specs.Laws.{root_with}
+use Rattle.jsonc_rows.proofs.FirstValue.{marks_with_first}
+use Rattle.jsonc_rows.proofs.RootRows.{root_marks}
+use Rattle.jsonc_edit.specs.Spaced.{SpacesPut}
+use Rattle.jsonc_edit.specs.Writing.{IsWritable}
 use Rattle.jsonc_remove.proofs.Lost.{removes_entry}
 use Rattle.jsonc_remove.proofs.LostValue.{removes_value}
-use Rattle.jsonc_run.specs.Edits.{Operation, replace, remove, remove_comment, AreMade, none_made, first_made, IsMade}
-use Rattle.jsonc_seams.specs.SoundTrees.{SoundTree}
-use Rattle.jsonc_run.specs.Written.{MayBeMade, EntryLeft, entry_left, value_left, StayAround}
+use Rattle.jsonc_set.proofs.PropertyRows.{spaces_marks}
+use Rattle.jsonc_run.specs.declared.edit.Over.{Over}
+use Rattle.jsonc_run.specs.declared.edit.Shape.{Shape}
+use Rattle.jsonc_run.specs.declared.edit.Shape.TheVariants.{Object, Array}
+use Rattle.jsonc_run.specs.Shapes.{empty_of}
+use Rattle.jsonc_run.specs.Edits.{Operation, replace, remove, remove_comment, set_root, clear_root, replace_property, ensure_root, AreMade, none_made, first_made}
+use Rattle.jsonc_run.specs.Written.{MayBeMade, EntryLeft, entry_left, value_left, ValueGivesWay, RootValueSet, given_way, has_come, RootValueEnsured, all_kept, empty_set, PropertyGivenWay, property_given, StayAround}
 use Rattle.jsonc_run.specs.Marked.{IsMarked, AreMarked, none_marked, first_marked, MarkAll}
+use Rattle.jsonc_run.proofs.Ensured.{empty_writable}
 use Rattle.jsonc_run.proofs.Written.{is_written, stays_around, write_all}
 
--- spaces have no marks
-spaces_keep_marks : {t u : OrderedTree} → SpacesPut t u → marks u ≡ marks t
-spaces_keep_marks none_put = refl
-spaces_keep_marks (one_put {t = t} {s = s} k rest) = spaces_keep_marks rest ∙ space_keeps_marks t s k
+-- where spaces come, and then of the leaves some give way to others, so do their marks
+marks_given : (was now : Top) (t spaced u : OrderedTree) → SpacesPut t spaced → DiffersIn (leaves_of was) (leaves_of now) (leaves spaced) (leaves u) → MarksDifferIn (marks_under was) (marks_under now) (marks t) (marks u)
+marks_given was now t spaced u puts differs =
+    let m = (marks_follow (leaves_of was) (leaves_of now) (leaves spaced) (leaves u) differs).0 in
+    subst (λ l. MarksDifferIn (marks_under was) (marks_under now) l (marks u)) (spaces_marks puts) m
+
+-- a value that gives way leaves its marks to those of the new one
+value_marked : (o : Options) (t u : OrderedTree) (path : List ℕ) (v : Plain) → IsWritable o v → ValueGivesWay path v t u → (was : List Mark) × MarksDifferIn was (written v) (marks t) (marks u)
+value_marked o t u path v may g =
+    (marks_under g.was, subst (λ l. MarksDifferIn (marks_under g.was) l (marks t) (marks u)) (laid_as_written g.layout v may.texts) (marks_given g.was (laid g.layout v) t g.spaced u g.spaces g.around))
+
+-- a first value's marks come in
+root_marked : (o : Options) (t u : OrderedTree) (v : Plain) → IsWritable o v → RootValueSet v t u → IsMarked (marks t) (set_root v) (marks u)
+root_marked o t u v may (given_way g) = value_marked o t u [] v may g
+root_marked o t u v may (has_come layout row next was is comes) =
+    let top : Top = laid layout v in (
+      [],
+      subst (λ l. MarksDifferIn [] l (marks t) (marks u)) (laid_as_written layout v may.texts)
+          (subst (λ x. MarksDifferIn [] (marks_under top) (marks x) (marks u)) (sym was) (subst (λ x. MarksDifferIn [] (marks_under top) (marks (root_with row)) (marks x)) (sym is) (marks_with_first top row next comes))),
+    )
+
+-- an empty array or object has no marks
+ensured_marked : (o : Options) (t u : OrderedTree) (shape : Shape) (how : Over) → RootValueEnsured shape t u → IsMarked (marks t) (ensure_root shape how) (marks u)
+ensured_marked o t u shape how (all_kept same) = ([], record { front = []; back = marks t; before = refl; after = ap marks same })
+ensured_marked o t u Object how (empty_set set) = root_marked o t u (empty_of Object) (empty_writable o Object) set
+ensured_marked o t u Array how (empty_set set) = root_marked o t u (empty_of Array) (empty_writable o Array) set
+
+-- a property that gives way leaves its marks to those of the new one
+property_marked : (o : Options) (t u : OrderedTree) (path name : List ℕ) (v : Plain) → IsCharacters name → IsWritable o v → PropertyGivenWay name v t u path → IsMarked (marks t) (replace_property path name v) (marks u)
+property_marked o t u _ name v texts may (property_given path i layout spaced front was back puts changed around) =
+    (marks_under (property_of was), subst (λ l. MarksDifferIn (marks_under (property_of was)) l (marks t) (marks u)) (laid_as_written_named layout name v texts may.texts) (marks_given (property_of was) (property_of (laid_property layout name v).below) t spaced u puts around))
 
 -- an entry that leaves takes its marks along, and comments beside it
 entry_marked : (o : Options) (t u : OrderedTree) (path : List ℕ) → SoundTree o t → EntryLeft t u path → IsMarked (marks t) (remove path) (marks u)
@@ -32,13 +73,15 @@ entry_marked o t u _ s (entry_left path i top taken) = (top, (removes_entry o t 
 entry_marked o t u _ s (value_left top taken) = (top, (removes_value o t u top s taken).marks)
 
 one_marked : (o : Options) (t u : OrderedTree) (e : Operation) → MayBeMade o e → SoundTree o t → StayAround t e u → IsMarked (marks t) e (marks u)
-one_marked o t u (replace path v) may s (was, layout, spaced, puts, changed, differs) =
-    let m = (marks_follow (leaves_of was) (leaves_of (laid layout v)) (leaves spaced) (leaves u) differs).0 in
-    (marks_under was, subst (λ l. MarksDifferIn (marks_under was) l (marks t) (marks u)) (laid_as_written layout v may.texts) (subst (λ l. MarksDifferIn (marks_under was) (marks_under (laid layout v)) l (marks u)) (spaces_keep_marks puts) m))
+one_marked o t u (replace path v) may s g = value_marked o t u path v may g
 one_marked o t u (remove path) may s left = entry_marked o t u path s (left o s)
 one_marked o t u (remove_comment number) may s r =
     let m = (one_mark_leaves r.blanks r.text (leaves r.spaced) (leaves u) r.are_blanks r.around).0 in
-    (trimmed (chars r.text), subst (λ l. MarksDifferIn (Mark.comment (trimmed (chars r.text)) ∷ []) [] l (marks u)) (spaces_keep_marks r.spaces) m)
+    (trimmed (chars r.text), subst (λ l. MarksDifferIn (Mark.comment (trimmed (chars r.text)) ∷ []) [] l (marks u)) (spaces_marks r.spaces) m)
+one_marked o t u (set_root v) may s set = root_marked o t u v may (set o s)
+one_marked o t u clear_root may s bare = ap marks bare ∙ root_marks none
+one_marked o t u (replace_property path name v) may s given = property_marked o t u path name v may.0 may.1 (given o s may.0 may.1)
+one_marked o t u (ensure_root shape how) may s set = ensured_marked o t u shape how (set o s)
 
 all_marked : (o : Options) (old new : List Node) (es : List Operation) → IsTree old → AreMade old es new → SoundTree o (ordered_tree old 0) → All (MayBeMade o) es → AreMarked (marks (ordered_tree old 0)) es (marks (ordered_tree new 0))
 all_marked o old _ [] tree none_made s may = none_marked

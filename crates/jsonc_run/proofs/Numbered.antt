@@ -10,7 +10,9 @@ use Rattle.jsonc_nodes.specs.Kinds.{is_comment, is_comment_at}
 use Rattle.jsonc_edit.specs.Comments.{CommentTaken, TakesOut, WantsSpace}
 use Rattle.jsonc_edit.specs.declared.error.EditError.{EditError}
 use Rattle.jsonc_edit.specs.declared.error.EditError.TheVariants.{OutOfMemory}
-use Rattle.jsonc_run.specs.Edits.{comment_at, remove_comment, IsMade, IsToldBy}
+use Rattle.jsonc_run.specs.Places.{comment_at}
+use Rattle.jsonc_run.specs.Edits.{remove_comment, IsMade}
+use Rattle.jsonc_run.specs.Refusals.{IsToldBy}
 
 module _ (ns : List Node) (tree : IsTree ns) where
   -- a walk over the document has all before it

@@ -1,21 +1,21 @@
 -- What edits that were made in order make of a document.
-use Rattle.std.proofs.Common.{Result, Ok, Err, OnOk, ◌≡◌, ℕ, suc, List, [], ◌∷◌, ◌++◌, Option, Some, None, IsTrue, sym, refl, ap, subst, ◌∙◌, arith}
+use Rattle.std.proofs.Common.{Result, Ok, Err, OnOk, ◌≡◌, ℕ, suc, List, [], ◌∷◌, Option, Some, None, IsTrue, sym, refl, ap, subst, ◌∙◌, arith}
 use Rattle.std.specs.List.{All}
 use Rattle.jsonc_text.specs.Options.{Options}
 use Rattle.jsonc_text.specs.Plain.{Plain}
 use Rattle.jsonc_text.specs.Grammar.{IsDocument}
 use Rattle.jsonc_text.proofs.UniqueValues.{document_unique}
 use Rattle.jsonc_tree.specs.OrderedTree.{OrderedTree, ordered_tree}
-use Rattle.jsonc_tree.specs.Tree.{Node, content_at, IsTree}
+use Rattle.jsonc_tree.specs.Tree.{Node, content_at, children_at, IsTree}
 use Rattle.jsonc_build.specs.Shape.{printed_text}
-use Rattle.jsonc_sound.proofs.LeavesAround.{document_differs}
 use Rattle.jsonc_seams.specs.SoundTrees.{SoundTree}
 use Rattle.jsonc_build.proofs.ShapeValues.{document_printed}
 use Rattle.jsonc_edit.specs.Changes.{top_at}
-use Rattle.jsonc_edit.specs.Reading.{layout_for}
-use Rattle.jsonc_from_input.specs.Laid.{laid}
+use Rattle.jsonc_edit.specs.Writing.{IsWritable}
+use Rattle.jsonc_from_input.specs.Texts.{IsCharacters}
+use Rattle.jsonc_nodes.specs.Properties.{value_at}
 use Rattle.jsonc_edit.proofs.OneValue.{document_once}
-use Rattle.jsonc_edit.proofs.ReplacedValues.{changed, put, replaced_written}
+use Rattle.jsonc_edit.proofs.ReplacedValues.{replaced_written}
 use Rattle.jsonc_edit.proofs.TakingOut.{loses_comment, taken_sound, taken_value}
 use Rattle.jsonc_edit.specs.Paths.{IsElementOf, LeadsTo, itself}
 use Rattle.jsonc_lines.specs.Kinds.{holds_values}
@@ -24,13 +24,26 @@ use Rattle.jsonc_remove.proofs.Entries.{entry_taken}
 use Rattle.jsonc_remove.proofs.Lost.{removes_entry}
 use Rattle.jsonc_remove.proofs.LostValue.{removes_value}
 use Rattle.jsonc_remove.proofs.Roots.{value_taken}
-use Rattle.jsonc_run.specs.Edits.{Operation, replace, remove, remove_comment, AreMade, none_made, first_made, IsEntryAt, the_value, an_entry, IsEntryOf, in_array, in_object, IsMade}
-use Rattle.jsonc_run.specs.Written.{MayBeMade, IsChanged, by_value, by_entry, by_all, by_comment, AreChanged, unchanged, first_changed, EntryLeft, entry_left, value_left, StayAround, AllStayAround, all_stay, first_stay, AreWritten, WriteAll}
+use Rattle.jsonc_set.specs.Giving.{IsPropertyReplaced}
+use Rattle.jsonc_set.proofs.Gaining.{gives_first_value, leaves_bare}
+use Rattle.jsonc_set.proofs.WrittenProperty.{writes_property}
+use Rattle.jsonc_run.specs.Places.{IsEntryAt, the_value, an_entry, IsEntryOf, in_array, in_object, IsPropertyAt, a_property}
+use Rattle.jsonc_run.specs.Edits.{Operation, replace, remove, remove_comment, set_root, clear_root, replace_property, ensure_root, AreMade, none_made, first_made, RootSet, IsMade}
+use Rattle.jsonc_run.specs.Written.{MayBeMade, IsChanged, by_value, by_entry, by_all, by_comment, by_root, by_clearing, by_property, by_ensuring, AreChanged, unchanged, first_changed}
+use Rattle.jsonc_run.specs.declared.edit.Over.{Over}
+use Rattle.jsonc_run.specs.declared.edit.Over.TheVariants as over
+use Rattle.jsonc_run.specs.declared.edit.Shape.{Shape}
+use Rattle.jsonc_run.specs.Shapes.{empty_of}
+use Rattle.jsonc_run.specs.Written.{comes_first, has_it, may_stay, must_give_way}
+use Rattle.jsonc_run.specs.Written.{EntryLeft, entry_left, value_left, StayAround, AllStayAround, all_stay, first_stay, AreWritten, WriteAll}
+use Rattle.jsonc_run.proofs.Ensured.{empty_writable, held, Ensured, created, stayed, other_stayed, replaced, ensured, value_ensured}
+use Rattle.jsonc_run.proofs.PropertyMade.{property_gives_way}
+use Rattle.jsonc_run.proofs.Roots.{value_stands, value_gives_way, root_value_set, whole_changed, emptied, no_leaves}
 
 -- an entry is an element of an array or object
 entry_held : (ns : List Node) (c i n : ℕ) → IsEntryOf ns c i n → IsTrue (holds_values (content_at ns c)) × IsElementOf ns c i n
 entry_held ns c i n (in_array is element) = (ap holds_values is, element)
-entry_held ns c i n (in_object is element property) = (ap holds_values is, element)
+entry_held ns c i n (in_object inside) = (ap holds_values inside.of_object, inside.element)
 
 leads_to_itself : (ns : List Node) (n v : ℕ) → LeadsTo ns n v [] → v ≡ n
 leads_to_itself ns n _ itself = refl
@@ -45,12 +58,13 @@ entry_leaves o old new _ n tree after sound (an_entry front c i at entry) takes 
     entry_left front i (top_at old n) (entry_taken o old new front c i n tree after sound at held.0 held.1 takes)
 
 pub stays_around : (old new : List Node) (e : Operation) → IsTree old → IsTree new → IsMade old e new → StayAround (ordered_tree old 0) e (ordered_tree new 0)
-stays_around old new (replace path v) tree after (n, m, at, r) =
-    let top = laid (layout_for old r.0 n) v in
-    let change = changed old new n m top tree r.2 path at in
-    (top_at old n, layout_for old r.0 n, ordered_tree r.2.spaced 0, put old new n m top tree r.2 path at, change, document_differs change)
+stays_around old new (replace path v) tree after (n, m, at, r) = value_gives_way old new path n m v tree at r
 stays_around old new (remove path) tree after (n, at, takes) = λ o sound. entry_leaves o old new path n tree after sound at takes
 stays_around old new (remove_comment number) tree after (n, at, r) = loses_comment old new n r
+stays_around old new (set_root v) tree after made = λ o sound. root_value_set o old new v tree sound (value_at old 0) refl made
+stays_around old new clear_root tree after made = no_leaves new after (emptied old new made)
+stays_around old new (replace_property path name v) tree after (n, m, at, r) = λ o sound texts may. property_gives_way o old new path n m name v tree sound at texts may r
+stays_around old new (ensure_root shape how) tree after made = λ o sound. value_ensured o old new shape how tree sound (ensured old new shape how made)
 
 -- under all options the leaves around stay
 pub stay_around : (old new : List Node) (es : List Operation) → IsTree old → AreMade old es new → AllStayAround (ordered_tree old 0) es (ordered_tree new 0)
@@ -76,6 +90,55 @@ module _ (o : Options) where
       let w = removes_value o t u top s taken in
       record { before = Some w.before; after = None; old_text = w.old_text; new_text = w.new_text; changed = by_all; sound = w.sound }
 
+  -- the document's value that was set is its value now
+  root_written : (old new : List Node) (v : Plain) → IsTree old → SoundTree o (ordered_tree old 0) → IsWritable o v → (w : Option ℕ) → value_at old 0 ≡ w → RootSet old new v w → IsWritten o (set_root v) (ordered_tree old 0) (ordered_tree new 0)
+  root_written old new v tree s may None e (m, f) =
+      let w = gives_first_value o old new v m tree s e may f in
+      record { before = None; after = Some v; old_text = w.before.text; new_text = w.after.text; changed = by_root; sound = w.after.sound }
+  root_written old new v tree s may (Some n) e (m, r) =
+      let w = replaced_written o old new n m v tree r [] s (value_stands old tree n e) may in
+      let whole : w.after ≡ v = whole_changed w.changed in
+      record { before = Some w.before; after = Some v; old_text = w.old_text; new_text = subst (λ x. IsDocument o (printed_text (ordered_tree new 0)) (Some x)) whole w.new_text; changed = by_root; sound = w.sound }
+
+  -- a document that was cleared has none
+  root_cleared : (old new : List Node) → IsTree new → SoundTree o (ordered_tree old 0) → children_at new 0 ≡ [] → IsWritten o clear_root (ordered_tree old 0) (ordered_tree new 0)
+  root_cleared old new after s empty =
+      let was = document_printed o (ordered_tree old 0) s.shaped s.lines in
+      let now = (leaves_bare o new after empty).means in
+      record { before = was.0; after = None; old_text = was.1; new_text = now.text; changed = by_clearing; sound = now.sound }
+
+  -- and a property that gave way is written
+  property_written : (old new : List Node) (path : List ℕ) (n m : ℕ) (name : List ℕ) (v : Plain) → IsTree old → SoundTree o (ordered_tree old 0) → IsPropertyAt old path n → IsCharacters name → IsWritable o v → IsPropertyReplaced old new n name v m
+      → IsWritten o (replace_property path name v) (ordered_tree old 0) (ordered_tree new 0)
+  property_written old new _ n m name v tree s (a_property front c i at inside) texts may r =
+      let w = writes_property o old new front c i n m name v tree s at inside.of_object inside.element texts may r in
+      record { before = Some w.before; after = Some w.after; old_text = w.old_text; new_text = w.new_text; changed = by_property front i w.replaced; sound = w.sound }
+
+  -- a document that was to have a value of a shape
+  root_ensured : (old new : List Node) (shape : Shape) (how : Over) → IsTree old → SoundTree o (ordered_tree old 0) → Ensured old new shape how → IsWritten o (ensure_root shape how) (ordered_tree old 0) (ordered_tree new 0)
+  root_ensured old new shape how tree s (created m e f) =
+      let w = gives_first_value o old new (empty_of shape) m tree s e (empty_writable o shape) f in
+      record { before = None; after = Some (empty_of shape); old_text = w.before.text; new_text = w.after.text; changed = by_ensuring comes_first; sound = w.after.sound }
+  root_ensured old new shape how tree s (stayed n e is same) =
+      let h = held o old tree s n e in
+      subst (λ (ns : List Node). IsWritten o (ensure_root shape how) (ordered_tree old 0) (ordered_tree ns 0)) (sym same)
+      (record { before = Some h.value; after = Some h.value; old_text = h.text; new_text = h.text; changed = by_ensuring (has_it (sym (h.told shape) ∙ is)); sound = s })
+  root_ensured old new shape _ tree s (other_stayed n e is same) =
+      let h = held o old tree s n e in
+      subst (λ (ns : List Node). IsWritten o (ensure_root shape over.Keep) (ordered_tree old 0) (ordered_tree ns 0)) (sym same)
+      (record { before = Some h.value; after = Some h.value; old_text = h.text; new_text = h.text; changed = by_ensuring (may_stay (sym (h.told shape) ∙ is)); sound = s })
+  root_ensured old new shape _ tree s (replaced n m e is r) =
+      let h = held o old tree s n e in
+      let w = replaced_written o old new n m (empty_of shape) tree r [] s (value_stands old tree n e) (empty_writable o shape) in
+      record {
+        before = Some h.value;
+        after = Some (empty_of shape);
+        old_text = h.text;
+        new_text = subst (λ x. IsDocument o (printed_text (ordered_tree new 0)) (Some x)) (whole_changed w.changed) w.new_text;
+        changed = by_ensuring (must_give_way (sym (h.told shape) ∙ is));
+        sound = w.sound;
+      }
+
   pub is_written : (old new : List Node) (e : Operation) → IsTree old → IsTree new → IsMade old e new → SoundTree o (ordered_tree old 0) → MayBeMade o e → IsWritten o e (ordered_tree old 0) (ordered_tree new 0)
   is_written old new (replace path v) tree after (n, m, at, r) s may =
       let w = replaced_written o old new n m v tree r path s at may in
@@ -88,6 +151,10 @@ module _ (o : Options) where
       let now = document_printed o (ordered_tree new 0) sound.shaped sound.lines in
       let same : now.0 ≡ was.0 = document_once o (ordered_tree new 0) now.0 was.0 now.2 (taken_value old new n r o was.0 was.2) in
       record { before = was.0; after = was.0; old_text = was.1; new_text = subst (IsDocument o (printed_text (ordered_tree new 0))) same now.1; changed = by_comment; sound = sound }
+  is_written old new (set_root v) tree after made s may = root_written old new v tree s may (value_at old 0) refl made
+  is_written old new clear_root tree after made s may = root_cleared old new after s (emptied old new made)
+  is_written old new (replace_property path name v) tree after (n, m, at, r) s may = property_written old new path n m name v tree s at may.0 may.1 r
+  is_written old new (ensure_root shape how) tree after made s may = root_ensured old new shape how tree s (ensured old new shape how made)
 
   all_written : (old new : List Node) (es : List Operation) → IsTree old → AreMade old es new → SoundTree o (ordered_tree old 0) → All (MayBeMade o) es → AreWritten o es (ordered_tree old 0) (ordered_tree new 0)
   all_written old _ [] tree none_made s may =
@@ -111,8 +178,6 @@ pub write_all : (o : Options) (old new : List Node) (es : List Operation) → Is
 write_all o old new es tree made s may = all_written o old new es tree made s may
 
 -- so is one, where the answer says that it was made
-pub answer_written : {T E : Type 0} (o : Options) (old new : List Node) (made asked : Operation) → IsTree old → IsTree new → (r : Result T E) → asked ≡ made
-    → OnOk r (IsMade old made new) → OnOk r (WriteAll o old (asked ∷ []) new)
-answer_written o old new made asked tree after (Ok t) same is =
-    subst (λ (e : Operation). WriteAll o old (e ∷ []) new) (sym same) (write_all o old new (made ∷ []) tree (first_made is after none_made))
-answer_written o old new made asked tree after (Err x) same is = tt
+pub answer_written : {T E : Type 0} (o : Options) (old new : List Node) (e : Operation) → IsTree old → IsTree new → (r : Result T E) → OnOk r (IsMade old e new) → OnOk r (WriteAll o old (e ∷ []) new)
+answer_written o old new e tree after (Ok t) is = write_all o old new (e ∷ []) tree (first_made is after none_made)
+answer_written o old new e tree after (Err x) is = tt

@@ -1,93 +1,75 @@
--- What edits ask for, that they are made in order, and why one is not made.
-use Rattle.std.specs.Prelude.{◌≡◌, ℕ, List, [], ◌∷◌, ◌++◌, Option, Some, map, take, filter}
-use Rattle.std.specs.List.{slice_get}
+-- What edits ask for, and that they are made in order.
+use Rattle.std.specs.Prelude.{◌≡◌, ℕ, List, [], ◌∷◌, length, Option, Some, None, map}
 use Rattle.jsonc_text.specs.Plain.{Plain}
-use Rattle.jsonc_input.specs.Views.{plain}
-use Rattle.jsonc_tree.specs.OrderedTree.{ordered_tree}
-use Rattle.jsonc_tree.specs.Content.{array, object, property}
-use Rattle.jsonc_tree.specs.Tree.{Node, content_at, IsTree}
-use Rattle.jsonc_tree.specs.Order.{in_order}
-use Rattle.jsonc_nodes.specs.Kinds.{is_comment_at}
-use Rattle.jsonc_edit.specs.declared.error.EditError.{EditError}
-use Rattle.jsonc_edit.specs.declared.error.EditError.TheVariants.{OutOfMemory, MissingBrackets, MissingName, NoSuchPlace}
-use Rattle.jsonc_edit.specs.Comments.{CommentTaken, WantsSpace}
-use Rattle.jsonc_edit.specs.Paths.{IsAt, IsElementOf}
+use Rattle.jsonc_input.specs.Views.{chars_of, plain}
+use Rattle.jsonc_tree.specs.Changes.{Splices}
+use Rattle.jsonc_tree.specs.Tree.{Node, children_at, IsTree}
+use Rattle.jsonc_nodes.specs.Properties.{value_at}
+use Rattle.jsonc_edit.specs.Comments.{CommentTaken}
+use Rattle.jsonc_edit.specs.Paths.{IsAt}
 use Rattle.jsonc_edit.specs.Reading.{IsReplaced}
-use Rattle.jsonc_remove.specs.Removed.{IsKeptFor, TakesElement}
+use Rattle.jsonc_remove.specs.Removed.{TakesElement}
+use Rattle.jsonc_set.specs.Giving.{IsPropertyReplaced}
+use Rattle.jsonc_set.specs.Kinds.{FoundOrCreated, FoundOrSet}
+use Rattle.jsonc_set.specs.RootSet.{FirstValue}
 use Rattle.jsonc_run.specs.declared.edit.Edit.{Edit}
-use Rattle.jsonc_run.specs.declared.edit.Edit.TheVariants.{Replace, Remove, RemoveComment}
+use Rattle.jsonc_run.specs.declared.edit.Edit.TheVariants.{Replace, Remove, RemoveComment, SetRoot, ClearRoot, ReplaceProperty, EnsureRoot}
+use Rattle.jsonc_run.specs.declared.edit.Over.{Over}
+use Rattle.jsonc_run.specs.declared.edit.Over.TheVariants as over
+use Rattle.jsonc_run.specs.declared.edit.Shape.{Shape}
+use Rattle.jsonc_run.specs.Places.{comment_at, IsEntryAt, IsPropertyAt}
+use Rattle.jsonc_run.specs.Shapes.{is_of, empty_of}
 
--- what an edit asks for: that the value at the path gives way to this one, that the entry at the path leaves, or that the comment of this number leaves the document
+-- What an edit asks for: that the value at the path gives way to this one, that the entry at the path leaves, or the comment of this number; that the
+-- document's value is this one, or that all leaves the document; that the property at the path gives way to one of this name and value; that the document has
+-- a value of a shape.
 pub data Operation : Type 0 where
   replace : List ℕ → Plain → Operation
   remove : List ℕ → Operation
   remove_comment : ℕ → Operation
+  set_root : Plain → Operation
+  clear_root : Operation
+  replace_property : List ℕ → List ℕ → Plain → Operation
+  ensure_root : Shape → Over → Operation
 
 module _ {A : Type 0} where
   abbrev pub operation_of : Edit A → Operation
   operation_of (Replace path value) = replace path.items (plain value)
   operation_of (Remove path) = remove path.items
   operation_of (RemoveComment number) = remove_comment number
+  operation_of (SetRoot value) = set_root (plain value)
+  operation_of ClearRoot = clear_root
+  operation_of (ReplaceProperty path name value) = replace_property path.items (chars_of name) (plain value)
+  operation_of (EnsureRoot shape how) = ensure_root shape how
 
   abbrev pub operations_of : List (Edit A) → List Operation
   operations_of edits = map operation_of edits
 
--- the comment of this number, counted from 0 in the order of the document
-abbrev pub comment_at : List Node → ℕ → Option ℕ
-comment_at ns number = slice_get (filter (is_comment_at ns) (in_order ns 0)) number
+-- the document's value, if there is one, has given way to this value; where there was none this is its first
+abbrev pub RootSet : List Node → List Node → Plain → Option ℕ → Type 0
+RootSet old new v None = (m : ℕ) × FirstValue old new v m
+RootSet old new v (Some n) = (m : ℕ) × IsReplaced old new n v m
 
--- what stands at this place in an array, or the property at this place in an object
-pub data IsEntryOf (ns : List Node) (c i n : ℕ) : Type 0 where
-  in_array : content_at ns c ≡ array → IsElementOf ns c i n → IsEntryOf ns c i n
-  in_object : content_at ns c ≡ object → IsElementOf ns c i n → content_at ns n ≡ property → IsEntryOf ns c i n
-
--- what leaves with a path: the document's value, or the entry of an array or object that the last step leads to
-pub data IsEntryAt (ns : List Node) : List ℕ → ℕ → Type 0 where
-  the_value : {n : ℕ} → IsAt ns [] n → IsEntryAt ns [] n
-  an_entry : (front : List ℕ) (c i : ℕ) {n : ℕ} → IsAt ns front c → IsEntryOf ns c i n → IsEntryAt ns (front ++ i ∷ []) n
+-- where the document's value is of the shape nothing has changed, and where there was none an empty one has been set; in the place of another too, or that has
+-- stayed
+abbrev pub RootEnsured : Shape → Over → List Node → List Node → Type 0
+RootEnsured shape over.Keep old new = (answer : Option ℕ) × FoundOrCreated (is_of shape) (empty_of shape) old new (value_at old 0) answer
+RootEnsured shape over.Replace old new = (m : ℕ) × FoundOrSet (is_of shape) (empty_of shape) old new (value_at old 0) m
 
 -- The edit was made: the node n, which stood at the path, has given way to m, which is the value, laid out as the old nodes tell; or n, the entry at the path,
--- has been taken out with what leaves with it; or n, the comment of this number, has been taken out of the document.
+-- has been taken out with what leaves with it; or n, the comment of this number, has been taken out of the document; or the document's value has been set; or
+-- all the root's children have been taken out; or n, the property at the path, has given way to m; or the document has a value of
+-- the shape, if it had none of another that was to stay.
 abbrev pub IsMade : List Node → Operation → List Node → Type 0
 IsMade old (replace path v) new = (n m : ℕ) × IsAt old path n × IsReplaced old new n v m
 IsMade old (remove path) new = (n : ℕ) × IsEntryAt old path n × TakesElement old new n
 IsMade old (remove_comment number) new = (n : ℕ) × (comment_at old number ≡ Some n) × CommentTaken old new n
+IsMade old (set_root v) new = RootSet old new v (value_at old 0)
+IsMade old clear_root new = Splices old new 0 0 (length (children_at old 0)) []
+IsMade old (replace_property path name v) new = (n m : ℕ) × IsPropertyAt old path n × IsPropertyReplaced old new n name v m
+IsMade old (ensure_root shape how) new = RootEnsured shape how old new
 
 -- the edits were made in order, each in the tree that the one before it made
 pub data AreMade : List Node → List Operation → List Node → Type 0 where
   none_made : {ns : List Node} → AreMade ns [] ns
   first_made : {old now new : List Node} {e : Operation} {es : List Operation} → IsMade old e now → IsTree now → AreMade now es new → AreMade old (e ∷ es) new
-
--- a node stands where the edit is to be made, an entry, or there is the comment
-abbrev pub HasItsPlace : List Node → Operation → Type 0
-HasItsPlace ns (replace path v) = (n : ℕ) × IsAt ns path n
-HasItsPlace ns (remove path) = (n : ℕ) × IsEntryAt ns path n
-HasItsPlace ns (remove_comment number) = (n : ℕ) × (comment_at ns number ≡ Some n)
-
--- memory may be wanted for a new value, where a node stands at its path, and for the space that is due where an entry or a comment leaves
-abbrev pub MayWantMemory : List Node → Operation → Type 0
-MayWantMemory ns (replace path v) = (n : ℕ) × IsAt ns path n
-MayWantMemory ns (remove path) = (n : ℕ) × IsEntryAt ns path n × IsKeptFor ns n OutOfMemory
-MayWantMemory ns (remove_comment number) = (n : ℕ) × (comment_at ns number ≡ Some n) × WantsSpace ns n
-
--- the array or object of the entry that is to leave lacks a bracket
-abbrev pub LacksBrackets : List Node → Operation → Type 0
-LacksBrackets ns (replace path v) = ⊥
-LacksBrackets ns (remove path) = (n : ℕ) × IsEntryAt ns path n × IsKeptFor ns n MissingBrackets
-LacksBrackets ns (remove_comment number) = ⊥
-
--- why the edit was not made: memory was wanted, it has no place, or a bracket is missing; nothing else is told
-abbrev pub IsToldBy : List Node → Operation → EditError → Type 0
-IsToldBy ns e OutOfMemory = MayWantMemory ns e
-IsToldBy ns e NoSuchPlace = ¬ (HasItsPlace ns e)
-IsToldBy ns e MissingBrackets = LacksBrackets ns e
-IsToldBy ns e MissingName = ⊥
-
--- The first k edits were made, each whole; there is one more, which was not made for this reason; and the document is as those k left it.
-pub record StopsAt (old : List Node) (es : List Operation) (k : ℕ) (stop : EditError) (new : List Node) : Type 0 where
-  pub now : List Node
-  pub made : AreMade old (take k es) now
-  pub next : Operation
-  pub is_next : slice_get es k ≡ Some next
-  pub told : IsToldBy now next stop
-  pub document : ordered_tree new 0 ≡ ordered_tree now 0

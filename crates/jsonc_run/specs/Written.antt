@@ -1,38 +1,63 @@
 -- What edits that were made in order make of a document: of its value, its leaves and its text.
-use Rattle.std.specs.Prelude.{ℕ, List, [], ◌∷◌, ◌++◌, Option, Some, None}
+use Rattle.std.specs.Prelude.{◌≡◌, ℕ, true, false, List, [], ◌∷◌, ◌++◌, Option, Some, None}
 use Rattle.std.specs.List.{All}
 use Rattle.jsonc_text.specs.Options.{Options}
 use Rattle.jsonc_text.specs.Plain.{Plain}
 use Rattle.jsonc_text.specs.Grammar.{IsDocument}
 use Rattle.jsonc_tree.specs.Tree.{Node}
-use Rattle.jsonc_tree.specs.OrderedTree.{OrderedTree, leaves, ordered_tree, Top}
+use Rattle.jsonc_tree.specs.OrderedTree.{OrderedTree, none, leaves, ordered_tree, Top}
 use Rattle.jsonc_build.specs.Shape.{printed_text}
 use Rattle.jsonc_sound.specs.Changes.{Changed}
 use Rattle.jsonc_sound.specs.Laws.{DiffersIn}
-use Rattle.jsonc_sound.specs.TreeChanges.{leaves_of, DocumentChanged}
+use Rattle.jsonc_sound.specs.TreeChanges.{leaves_of, property_of, DocumentChanged}
 use Rattle.jsonc_from_input.specs.Layout.{Layout}
 use Rattle.jsonc_seams.specs.SoundTrees.{SoundTree}
 use Rattle.jsonc_edit.specs.Comments.{LosesComment}
-use Rattle.jsonc_from_input.specs.Laid.{laid}
+use Rattle.jsonc_from_input.specs.Laid.{laid, laid_property}
+use Rattle.jsonc_from_input.specs.Texts.{IsCharacters}
 use Rattle.jsonc_edit.specs.Spaced.{SpacesPut}
 use Rattle.jsonc_edit.specs.Writing.{IsWritable}
-use Rattle.jsonc_rows.specs.Laws.{LosesEntry}
+use Rattle.jsonc_rows.specs.Coming.{ValueComes}
+use Rattle.jsonc_rows.specs.Laws.{LosesEntry, root_with}
+use Rattle.jsonc_rows.specs.Properties.{PropertyChanged, ReplacesMember}
 use Rattle.jsonc_remove.specs.Laws.{EntryTaken, ValueTaken}
-use Rattle.jsonc_run.specs.Edits.{Operation, replace, remove, remove_comment}
+use Rattle.jsonc_run.specs.declared.edit.Over.{Over}
+use Rattle.jsonc_run.specs.declared.edit.Over.TheVariants as over
+use Rattle.jsonc_run.specs.declared.edit.Shape.{Shape}
+use Rattle.jsonc_run.specs.Shapes.{has_shape, empty_of}
+use Rattle.jsonc_run.specs.Edits.{Operation, replace, remove, remove_comment, set_root, clear_root, replace_property, ensure_root}
 
--- documents of these options can hold what the edit writes
+-- documents of these options can hold what the edit writes: its value, and the name of its property
 abbrev pub MayBeMade : Options → Operation → Type 0
 MayBeMade o (replace path v) = IsWritable o v
 MayBeMade o (remove path) = Unit {0}
 MayBeMade o (remove_comment number) = Unit {0}
+MayBeMade o (set_root v) = IsWritable o v
+MayBeMade o clear_root = Unit {0}
+MayBeMade o (replace_property path name v) = IsCharacters name × IsWritable o v
+MayBeMade o (ensure_root shape how) = Unit {0}
+
+-- the second value is the empty one of the shape, where there was none, or one of another shape that was to give way; any other has stayed
+pub data EnsuredValue (shape : Shape) : Over → Option Plain → Option Plain → Type 0 where
+  comes_first : {how : Over} → EnsuredValue shape how None (Some (empty_of shape))
+  has_it : {how : Over} {x : Plain} → has_shape shape x ≡ true → EnsuredValue shape how (Some x) (Some x)
+  may_stay : {x : Plain} → has_shape shape x ≡ false → EnsuredValue shape over.Keep (Some x) (Some x)
+  must_give_way : {x : Plain} → has_shape shape x ≡ false → EnsuredValue shape over.Replace (Some x) (Some (empty_of shape))
 
 -- The edit makes the second value of the first: where another value is written, this is the first, but that at the path the new value stands; where an entry
--- leaves, it is the first without the entry, or none without the document's value; where a comment leaves, it is the first, if there is one.
+-- leaves, it is the first without the entry, or none without the document's value; where a comment leaves, it is the first, if there is one; where the
+-- document's value is set, it is that, and where the root is cleared there is none; where a property gives way, it is the first, but for that entry; where
+-- a value of a shape is to be there, it is the first or an empty one.
 pub data IsChanged : Option Plain → Operation → Option Plain → Type 0 where
   by_value : {given_up v x y : Plain} {path : List ℕ} → Changed given_up v path x y → IsChanged (Some x) (replace path v) (Some y)
   by_entry : (path : List ℕ) (i : ℕ) {x y : Plain} → LosesEntry path i x y → IsChanged (Some x) (remove (path ++ i ∷ [])) (Some y)
   by_all : {x : Plain} → IsChanged (Some x) (remove []) None
   by_comment : {w : Option Plain} {number : ℕ} → IsChanged w (remove_comment number) w
+  by_root : {w : Option Plain} {v : Plain} → IsChanged w (set_root v) (Some v)
+  by_clearing : {w : Option Plain} → IsChanged w clear_root None
+  by_property : (path : List ℕ) (i : ℕ) {name : List ℕ} {v x y : Plain} → ReplacesMember path i name v x y
+      → IsChanged (Some x) (replace_property (path ++ i ∷ []) name v) (Some y)
+  by_ensuring : {shape : Shape} {how : Over} {w x : Option Plain} → EnsuredValue shape how w x → IsChanged w (ensure_root shape how) x
 
 -- the edits, one after another, make the second value of the first
 pub data AreChanged : Option Plain → List Operation → Option Plain → Type 0 where
@@ -44,15 +69,45 @@ pub data EntryLeft (t u : OrderedTree) : List ℕ → Type 0 where
   entry_left : (path : List ℕ) (i : ℕ) (top : Top) → EntryTaken path i top t u → EntryLeft t u (path ++ i ∷ [])
   value_left : (top : Top) → ValueTaken top t u → EntryLeft t u []
 
--- Spaces have come into the document, and then of its leaves those of the value at the path have given way to those of the new value, in some layout, or
--- one comment has left, with blanks before it. All leaves before and after stay, other comments among them. Where an entry leaves a sound document, all stays
--- around what leaves with it.
+-- spaces have come into the document, and then of its leaves those of the value at the path have given way to those of this one, in some layout; all leaves
+-- before and after stay
+pub record ValueGivesWay (path : List ℕ) (v : Plain) (t u : OrderedTree) : Type 0 where
+  pub was : Top
+  pub layout : Layout
+  pub spaced : OrderedTree
+  pub spaces : SpacesPut t spaced
+  pub changed : DocumentChanged was (laid layout v) path spaced u
+  pub around : DiffersIn (leaves_of was) (leaves_of (laid layout v)) (leaves spaced) (leaves u)
+
+-- the document's value has given way to this one; or this one has come into the row of a root that had none, with ends of lines beside it
+pub data RootValueSet (v : Plain) (t u : OrderedTree) : Type 0 where
+  given_way : ValueGivesWay [] v t u → RootValueSet v t u
+  has_come : (layout : Layout) (row next : OrderedTree) → t ≡ root_with row → u ≡ root_with next → ValueComes (laid layout v) row next → RootValueSet v t u
+
+-- all has stayed, or the empty value of a shape has been set
+pub data RootValueEnsured (shape : Shape) (t u : OrderedTree) : Type 0 where
+  all_kept : u ≡ t → RootValueEnsured shape t u
+  empty_set : RootValueSet (empty_of shape) t u → RootValueEnsured shape t u
+
+-- spaces have come into the document, and then in the row of the object at the path, between its front and its rest, a property has given way to one of this
+-- name and value, in some layout; all leaves before and after stay
+pub data PropertyGivenWay (name : List ℕ) (v : Plain) (t u : OrderedTree) : List ℕ → Type 0 where
+  property_given : (path : List ℕ) (i : ℕ) (layout : Layout) (spaced front was back : OrderedTree) → SpacesPut t spaced
+      → PropertyChanged front was (laid_property layout name v).below back path spaced u
+      → DiffersIn (leaves_of (property_of was)) (leaves_of (property_of (laid_property layout name v).below)) (leaves spaced) (leaves u)
+      → PropertyGivenWay name v t u (path ++ i ∷ [])
+
+-- What stays where an edit is made: all leaves around a value that gives way, and around a comment with the blanks before it; in a sound document all around
+-- an entry with what leaves with it, around the document's value, and around a property that gives way to one that may be written. Of a cleared root nothing
+-- stays.
 abbrev pub StayAround : OrderedTree → Operation → OrderedTree → Type 0
-StayAround t (replace path v) u =
-    (was : Top) × (layout : Layout) × (spaced : OrderedTree) × SpacesPut t spaced × DocumentChanged was (laid layout v) path spaced u
-    × DiffersIn (leaves_of was) (leaves_of (laid layout v)) (leaves spaced) (leaves u)
+StayAround t (replace path v) u = ValueGivesWay path v t u
 StayAround t (remove path) u = (o : Options) → SoundTree o t → EntryLeft t u path
 StayAround t (remove_comment number) u = LosesComment t u
+StayAround t (set_root v) u = (o : Options) → SoundTree o t → RootValueSet v t u
+StayAround t clear_root u = u ≡ root_with none
+StayAround t (replace_property path name v) u = (o : Options) → SoundTree o t → IsCharacters name → IsWritable o v → PropertyGivenWay name v t u path
+StayAround t (ensure_root shape how) u = (o : Options) → SoundTree o t → RootValueEnsured shape t u
 
 -- so it is for each of the edits, one after another
 pub data AllStayAround : OrderedTree → List Operation → OrderedTree → Type 0 where

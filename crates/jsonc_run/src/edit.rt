@@ -3,11 +3,29 @@
 use jsonc_input::CstInputValue;
 use std::alloc::Allocator;
 
+/// The kind of an array or object that is to be there.
+#[derive(Clone, Copy, Debug, PartialEq, Eq)]
+pub enum Shape {
+    Object,
+    Array,
+}
+
+/// What becomes of a value of another kind than the one that is to be there.
+#[derive(Clone, Copy, Debug, PartialEq, Eq)]
+pub enum Over {
+    /// It stays.
+    Keep,
+    /// It gives way.
+    Replace,
+}
+
 /// An edit of a document.
+///
+/// Each step of a path is a place among the elements of an array or the properties of an object. What is
+/// written is laid out as the document tells.
 #[derive(Drop)]
 pub enum Edit<A: Allocator> {
-    /// The value at a path gives way to another, laid out as the document tells. Each step of the path
-    /// is a place among the elements of an array or the properties of an object.
+    /// The value at a path gives way to another.
     Replace(Vec<usize, A>, CstInputValue<A>),
     /// The element or property at a path leaves its array or object, with whitespace and comments beside
     /// it and one comma; or at the empty path the document's value leaves. Memory is wanted only where a
@@ -17,4 +35,14 @@ pub enum Edit<A: Allocator> {
     /// takes along the whitespace and the line end before it. Memory is wanted only where a space has to
     /// come between two literals without quotes.
     RemoveComment(usize),
+    /// The document's value gives way to another; where it has none, this one is its first.
+    SetRoot(CstInputValue<A>),
+    /// All leaves the document, comments too. No memory is wanted.
+    ClearRoot,
+    /// The property of an object that the last step of a path leads to gives way to one of this name and
+    /// value.
+    ReplaceProperty(Vec<usize, A>, String<A>, CstInputValue<A>),
+    /// The document has an array or an object: where it has no value, an empty one is set; where it has a
+    /// value of another kind, that stays or gives way to an empty one.
+    EnsureRoot(Shape, Over),
 }

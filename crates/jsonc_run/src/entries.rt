@@ -1,11 +1,11 @@
-//! Entries by their paths.
+//! Entries and properties by their paths.
 
 ghost use Rattle.std.specs.Prelude.{◌≡◌, ◌<◌, Some, length};
 ghost use Rattle.jsonc_tree.specs.Content.{property};
 ghost use Rattle.jsonc_tree.specs.Tree.{content_at};
 ghost use Rattle.jsonc_nodes.specs.Siblings.{IsThere};
 ghost use Rattle.jsonc_edit.specs.Paths.{FindsExactly};
-ghost use Rattle.jsonc_run.specs.Edits.{IsEntryAt, IsEntryOf};
+ghost use Rattle.jsonc_run.specs.Places.{IsEntryAt, IsEntryOf, IsPropertyAt, IsPropertyOf};
 
 use jsonc_edit::find;
 use jsonc_nodes::element_at;
@@ -25,6 +25,18 @@ fn if_property<A: Allocator>(tree: &Tree<A>, found: Option<usize>) -> Option<usi
     }
 }
 
+// The property at a place of an object.
+fn property_of<A: Allocator>(tree: &Tree<A>, container: usize, place: usize) -> Option<usize>
+    requires { container < length tree.now.nodes }
+    ensures found { FindsExactly result (IsPropertyOf tree.now.nodes container place) }
+    ensures there { IsThere tree.now.nodes result }
+{
+    match tree.kind(container) {
+        Kind::Object => if_property(tree, element_at(tree, container, place)),
+        _ => None,
+    }
+}
+
 // The entry at a place of an array or object.
 fn entry_of<A: Allocator>(tree: &Tree<A>, container: usize, place: usize) -> Option<usize>
     requires { container < length tree.now.nodes }
@@ -33,8 +45,7 @@ fn entry_of<A: Allocator>(tree: &Tree<A>, container: usize, place: usize) -> Opt
 {
     match tree.kind(container) {
         Kind::Array => element_at(tree, container, place),
-        Kind::Object => if_property(tree, element_at(tree, container, place)),
-        _ => None,
+        _ => property_of(tree, container, place),
     }
 }
 
@@ -49,4 +60,16 @@ pub fn find_entry<A: Allocator>(tree: &Tree<A>, path: &[usize]) -> Option<usize>
     };
     let container = find(tree, front)?;
     entry_of(tree, container, *last)
+}
+
+/// The property of an object that the last step of a path leads to.
+pub fn find_property<A: Allocator>(tree: &Tree<A>, path: &[usize]) -> Option<usize>
+    ensures found { FindsExactly result (IsPropertyAt tree.now.nodes path.now) }
+    ensures there { IsThere tree.now.nodes result }
+{
+    let Some((last, front)) = path.split_last() else {
+        return None;
+    };
+    let container = find(tree, front)?;
+    property_of(tree, container, *last)
 }

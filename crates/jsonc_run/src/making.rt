@@ -1,20 +1,30 @@
 //! Edits that are made.
 
-ghost use Rattle.std.specs.Prelude.{◌≡◌, ◌∷◌, [], IfErr, OnErr, OnOk, length, take};
+ghost use Rattle.std.specs.Prelude.{◌≡◌, ◌∷◌, [], IfErr, IfOk, None, OnErr, OnOk, chars, length, take};
 ghost use Rattle.jsonc_text.specs.Options.{Options};
 ghost use Rattle.jsonc_tree.specs.Building.{Keeps};
 ghost use Rattle.jsonc_tree.specs.OrderedTree.{ordered_tree};
 ghost use Rattle.jsonc_tree.specs.Tree.{IsTree};
 ghost use Rattle.jsonc_input.specs.Views.{plain};
-ghost use Rattle.jsonc_run.specs.Edits.{operation_of, operations_of, replace as asked, remove as asked_out, remove_comment as asked_without, AreMade, IsMade, IsToldBy, StopsAt};
+ghost use Rattle.jsonc_nodes.specs.Properties.{value_at};
+ghost use Rattle.jsonc_set.specs.Kinds.{FoundOrCreated, FoundOrSet, LacksKind};
+ghost use Rattle.jsonc_run.specs.Edits.{operation_of, operations_of, AreMade, IsMade};
+ghost use Rattle.jsonc_run.specs.Edits.{replace as asked, remove as asked_out, remove_comment as asked_without};
+ghost use Rattle.jsonc_run.specs.Edits.{set_root as asked_of_root, replace_property as asked_of_property, ensure_root as asked_for};
+ghost use Rattle.jsonc_run.specs.Refusals.{IsToldBy, StopsAt};
+ghost use Rattle.jsonc_run.specs.Shapes.{empty_of, is_of};
 ghost use Rattle.jsonc_run.specs.Written.{WriteAll};
 
 use crate::comments::find_comment;
-use crate::edit::Edit;
-use crate::entries::find_entry;
+use crate::edit::{Edit, Over, Shape};
+use crate::entries::{find_entry, find_property};
 use jsonc_edit::{EditError, find, remove_comment, replace};
 use jsonc_input::CstInputValue;
 use jsonc_remove::remove;
+use jsonc_set::{
+    array_value_or_create, array_value_or_set, clear_root, object_value_or_create,
+    object_value_or_set, replace_property, set_root,
+};
 use jsonc_tree::Tree;
 use std::alloc::Allocator;
 
@@ -32,10 +42,35 @@ pub fn make<A: Allocator + Copy>(
     ensures tree { IsTree tree.new.nodes }
 {
     let _ = tree.len();
+    make_by_kind(alloc, tree, edit)
+}
+
+// Makes an edit, by its kind.
+fn make_by_kind<A: Allocator + Copy>(
+    alloc: A,
+    tree: &mut Tree<A>,
+    edit: &Edit<A>,
+) -> Result<(), EditError>
+    ensures made { OnOk result (IsMade tree.old.nodes (operation_of edit.now) tree.new.nodes) }
+    ensures told { IfErr result (IsToldBy tree.old.nodes (operation_of edit.now)) }
+    ensures kept { OnErr result (Keeps (length tree.old.nodes) tree.old.nodes tree.new.nodes) }
+    ensures document { OnErr result (ordered_tree tree.new.nodes 0 ≡ ordered_tree tree.old.nodes 0) }
+    ensures tree { IsTree tree.new.nodes }
+{
+    let _ = tree.len();
     match edit {
         Edit::Replace(path, value) => replace_at(alloc, tree, path, value),
         Edit::Remove(path) => remove_entry(alloc, tree, path),
         Edit::RemoveComment(number) => remove_at(alloc, tree, *number),
+        Edit::SetRoot(value) => set_value(alloc, tree, value),
+        Edit::ClearRoot => {
+            clear_root(tree);
+            Ok(())
+        }
+        Edit::ReplaceProperty(path, name, value) => {
+            replace_property_at(alloc, tree, path, name, value)
+        }
+        Edit::EnsureRoot(shape, over) => ensure_value(alloc, tree, *shape, *over),
     }
 }
 
@@ -100,6 +135,112 @@ fn remove_at<A: Allocator + Copy>(
         return Err(EditError::NoSuchPlace);
     };
     remove_comment(alloc, tree, comment)
+}
+
+// Sets the document's value.
+fn set_value<A: Allocator + Copy>(
+    alloc: A,
+    tree: &mut Tree<A>,
+    value: &CstInputValue<A>,
+) -> Result<(), EditError>
+    ensures made { OnOk result (IsMade tree.old.nodes (asked_of_root (plain value.now)) tree.new.nodes) }
+    ensures told { IfErr result (IsToldBy tree.old.nodes (asked_of_root (plain value.now))) }
+    ensures kept { OnErr result (Keeps (length tree.old.nodes) tree.old.nodes tree.new.nodes) }
+    ensures document { OnErr result (ordered_tree tree.new.nodes 0 ≡ ordered_tree tree.old.nodes 0) }
+    ensures tree { IsTree tree.new.nodes }
+{
+    let _ = tree.len();
+    set_root(alloc, tree, value)?;
+    Ok(())
+}
+
+// Lets the property at a path give way to one of this name and value.
+fn replace_property_at<A: Allocator + Copy>(
+    alloc: A,
+    tree: &mut Tree<A>,
+    path: &[usize],
+    name: &str,
+    value: &CstInputValue<A>,
+) -> Result<(), EditError>
+    ensures made { OnOk result (IsMade tree.old.nodes (asked_of_property path.now (chars name.now) (plain value.now)) tree.new.nodes) }
+    ensures told { IfErr result (IsToldBy tree.old.nodes (asked_of_property path.now (chars name.now) (plain value.now))) }
+    ensures kept { OnErr result (Keeps (length tree.old.nodes) tree.old.nodes tree.new.nodes) }
+    ensures document { OnErr result (ordered_tree tree.new.nodes 0 ≡ ordered_tree tree.old.nodes 0) }
+    ensures tree { IsTree tree.new.nodes }
+{
+    let _ = tree.len();
+    let Some(property) = find_property(tree, path) else {
+        return Err(EditError::NoSuchPlace);
+    };
+    let Some(_) = replace_property(alloc, tree, property, name, value)? else {
+        // A property at a path has a parent.
+        unreachable!()
+    };
+    Ok(())
+}
+
+// Sees that the document has a value of a shape.
+fn ensure_value<A: Allocator + Copy>(
+    alloc: A,
+    tree: &mut Tree<A>,
+    shape: Shape,
+    over: Over,
+) -> Result<(), EditError>
+    ensures made { OnOk result (IsMade tree.old.nodes (asked_for shape over) tree.new.nodes) }
+    ensures told { IfErr result (IsToldBy tree.old.nodes (asked_for shape over)) }
+    ensures kept { OnErr result (Keeps (length tree.old.nodes) tree.old.nodes tree.new.nodes) }
+    ensures document { OnErr result (ordered_tree tree.new.nodes 0 ≡ ordered_tree tree.old.nodes 0) }
+    ensures tree { IsTree tree.new.nodes }
+{
+    let _ = tree.len();
+    match over {
+        Over::Keep => {
+            found_or_created(alloc, tree, shape)?;
+            Ok(())
+        }
+        Over::Replace => {
+            found_or_set(alloc, tree, shape)?;
+            Ok(())
+        }
+    }
+}
+
+// The document's value, if it has a shape; where there is none, an empty one is set.
+fn found_or_created<A: Allocator + Copy>(
+    alloc: A,
+    tree: &mut Tree<A>,
+    shape: Shape,
+) -> Result<Option<usize>, EditError>
+    ensures value { IfOk result (FoundOrCreated (is_of shape) (empty_of shape) tree.old.nodes tree.new.nodes (value_at tree.old.nodes 0)) }
+    ensures memory { IfErr result (λ e. e ≡ EditError.OutOfMemory) }
+    ensures wanted { OnErr result (value_at tree.old.nodes 0 ≡ None) }
+    ensures kept { OnErr result (Keeps (length tree.old.nodes) tree.old.nodes tree.new.nodes) }
+    ensures document { OnErr result (ordered_tree tree.new.nodes 0 ≡ ordered_tree tree.old.nodes 0) }
+    ensures tree { IsTree tree.new.nodes }
+{
+    match shape {
+        Shape::Object => object_value_or_create(alloc, tree),
+        Shape::Array => array_value_or_create(alloc, tree),
+    }
+}
+
+// The document's value, if it has a shape; where it is another, or there is none, an empty one is set.
+fn found_or_set<A: Allocator + Copy>(
+    alloc: A,
+    tree: &mut Tree<A>,
+    shape: Shape,
+) -> Result<usize, EditError>
+    ensures value { IfOk result (FoundOrSet (is_of shape) (empty_of shape) tree.old.nodes tree.new.nodes (value_at tree.old.nodes 0)) }
+    ensures memory { IfErr result (λ e. e ≡ EditError.OutOfMemory) }
+    ensures wanted { OnErr result (LacksKind (is_of shape) tree.old.nodes (value_at tree.old.nodes 0)) }
+    ensures kept { OnErr result (Keeps (length tree.old.nodes) tree.old.nodes tree.new.nodes) }
+    ensures document { OnErr result (ordered_tree tree.new.nodes 0 ≡ ordered_tree tree.old.nodes 0) }
+    ensures tree { IsTree tree.new.nodes }
+{
+    match shape {
+        Shape::Object => object_value_or_set(alloc, tree),
+        Shape::Array => array_value_or_set(alloc, tree),
+    }
 }
 
 /// Makes edits in order, each in the document that the one before it made. Where one is refused, the

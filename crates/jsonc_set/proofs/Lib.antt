@@ -7,3 +7,7 @@ pub mod PropertyGiving
 pub mod PropertyRows
 pub mod WrittenProperty
 pub mod PropertyPlace
+pub mod HexRows
+pub mod BooleanSetting
+pub mod WrittenBoolean
+pub mod PropertyValue

@@ -1,5 +1,5 @@
 -- A first value: what was made ready for it, and what its coming does.
-use Rattle.std.proofs.Common.{◌≡◌, ◌==◌, ℕ, ◌<◌, ◌≤◌, Bool, cond, false, List, [], ◌∷◌, ◌++◌, length, map, slice_range, Option, Some, None, IfSome, Result, IfOk, refl, sym, ap, subst, ◌∙◌, arith}
+use Rattle.std.proofs.Common.{◌≡◌, ◌≢◌, ◌==◌, ℕ, ◌<◌, ◌≤◌, Bool, cond, false, List, [], ◌∷◌, ◌++◌, length, map, slice_range, Option, Some, None, IfSome, Result, IfOk, refl, sym, ap, subst, ◌∙◌, arith}
 use Rattle.std.proofs.lemmas.List.{get_or_default, nil_from_length}
 use Rattle.std.proofs.lemmas.List.Edits.{length-between}
 use Rattle.jsonc_text.specs.Plain.{Plain}
@@ -155,3 +155,7 @@ some_holds P o m e h = subst (λ x. IfSome x P) e h
 
 pub holds_of_found : {E : Type 0} (o : Option ℕ) (n : ℕ) (P : ℕ → ℕ → Type 0) (r : Result ℕ E) → o ≡ Some n → IfOk r (P n) → IfOk r (λ m. IfSome o (λ k. P k m))
 holds_of_found o n P r e h = subst (λ x. IfOk r (λ m. IfSome x (λ k. P k m))) (sym e) h
+
+-- what is somebody's child has a parent
+pub has_parent : (o : Option ℕ) (c : ℕ) → o ≡ Some c → o ≢ None
+has_parent o c e f = let wrong : None ≡ Some c = sym f ∙ e in cc

@@ -2,4 +2,6 @@ pub mod RootSet
 pub mod Kinds
 pub mod Giving
 pub mod Properties
+pub mod Booleans
+pub mod PropertyValues
 pub mod Laws

@@ -17,26 +17,26 @@ use jsonc_nodes::value_of;
 use jsonc_tree::{Kind, Tree};
 use std::alloc::Allocator;
 
-fn is_object<A: Allocator>(kind: &Kind<A>) -> bool
+pub(crate) fn is_object<A: Allocator>(kind: &Kind<A>) -> bool
     ensures { result ≡ is_object (content_of kind.now) }
 {
     matches!(kind, Kind::Object)
 }
 
-fn is_array<A: Allocator>(kind: &Kind<A>) -> bool
+pub(crate) fn is_array<A: Allocator>(kind: &Kind<A>) -> bool
     ensures { result ≡ is_array (content_of kind.now) }
 {
     matches!(kind, Kind::Array)
 }
 
-fn empty_object<A: Allocator>(alloc: A) -> CstInputValue<A>
+pub(crate) fn empty_object<A: Allocator>(alloc: A) -> CstInputValue<A>
     ensures { plain result ≡ object no_members }
 {
     let properties: Vec<(String<A>, CstInputValue<A>), A> = Vec::new(alloc);
     CstInputValue::from(properties)
 }
 
-fn empty_array<A: Allocator>(alloc: A) -> CstInputValue<A>
+pub(crate) fn empty_array<A: Allocator>(alloc: A) -> CstInputValue<A>
     ensures { plain result ≡ array no_items }
 {
     let elements: Vec<CstInputValue<A>, A> = Vec::new(alloc);

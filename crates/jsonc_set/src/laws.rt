@@ -1,9 +1,10 @@
 //! Laws of values that are set: each is the contract of a function that does nothing.
 
-ghost use Rattle.std.specs.Prelude.{List, ℕ};
+ghost use Rattle.std.specs.Prelude.{Bool, List, ℕ};
 ghost use Rattle.jsonc_text.specs.Options.{Options};
 ghost use Rattle.jsonc_text.specs.Plain.{Plain};
 ghost use Rattle.jsonc_tree.specs.Tree.{Node};
+ghost use Rattle.jsonc_set.specs.Booleans.{StaysAtPath, WritesBoolean};
 ghost use Rattle.jsonc_set.specs.Laws.{ComesAmongRows, GivesFirstValue, LeavesBareDocument};
 ghost use Rattle.jsonc_set.specs.Properties.{TakesPropertysPlace, WritesProperty};
 
@@ -30,4 +31,14 @@ pub fn cleared_documents_are_bare()
 pub fn replaced_properties_are_written()
     ensures written { (o : Options) (old new : List Node) (path : List ℕ) (c i n m : ℕ) (name : List ℕ) (v : Plain) → WritesProperty o old new path c i n m name v }
     ensures place { (old new : List Node) (path : List ℕ) (c i n m : ℕ) (name : List ℕ) (v : Plain) → TakesPropertysPlace old new path c i n m name v }
+{}
+
+/// Where a truth value at a path of a sound document was set, the text is a document again, and at the
+/// path of its value this truth value stands. A space has come where `false` would have run on into a
+/// hexadecimal number, and all other leaves stay, in order; of the literals and comments that of the old
+/// truth value has given way; and the document is sound. It is so under all options. The leaf stands
+/// where it stood.
+pub fn set_booleans_are_written()
+    ensures written { (o : Options) (old new : List Node) (path : List ℕ) (n : ℕ) (b : Bool) → WritesBoolean o old new path n b }
+    ensures place { (old new : List Node) (path : List ℕ) (n : ℕ) (b : Bool) → StaysAtPath old new path n b }
 {}

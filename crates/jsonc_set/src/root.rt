@@ -1,6 +1,6 @@
 //! The document's value, set or taken away.
 
-ghost use Rattle.std.specs.Prelude.{◌≡◌, [], IfErr, IfNone, IfOk, IfSome, OnErr, OnOk, Some, length};
+ghost use Rattle.std.specs.Prelude.{◌≡◌, ◌≢◌, [], IfErr, IfNone, IfOk, IfSome, None, OnErr, OnOk, length};
 ghost use Rattle.jsonc_text.specs.Options.{Options};
 ghost use Rattle.jsonc_tree.specs.Building.{Keeps};
 ghost use Rattle.jsonc_tree.specs.Changes.{Splices};
@@ -19,14 +19,14 @@ use jsonc_nodes::value_of;
 use jsonc_tree::Tree;
 use std::alloc::Allocator;
 
-// Lets a child of the root give way to a value.
-fn replace_child<A: Allocator + Copy>(
+// Lets a child of a container give way to a value.
+pub(crate) fn replace_child<A: Allocator + Copy>(
     alloc: A,
     tree: &mut Tree<A>,
     node: usize,
     value: &CstInputValue<A>,
 ) -> Result<usize, EditError>
-    requires { parent_at tree.old.nodes node ≡ Some 0 }
+    requires { parent_at tree.old.nodes node ≢ None }
     ensures replaced { IfOk result (IsReplaced tree.old.nodes tree.new.nodes node (plain value.now)) }
     ensures written { (p : Options) → IfOk result (λ m. Writes p tree.old.nodes tree.new.nodes node m (plain value.now)) }
     ensures memory { IfErr result (λ e. e ≡ EditError.OutOfMemory) }

@@ -1,5 +1,6 @@
 //! A writer that takes no memory.
 
+use std::fmt::Write;
 use std::io::ErrorKind;
 use std::{fmt, io};
 
@@ -35,4 +36,13 @@ impl io::Write for Awaited<'_> {
     fn flush(&mut self) -> io::Result<()> {
         Ok(())
     }
+}
+
+/// Whether this is what something prints, for which no memory is asked.
+pub fn prints<T: fmt::Display>(shown: &T, text: &str) -> bool {
+    let mut printed = Awaited {
+        rest: text.as_bytes(),
+    };
+    let is_printed = write!(printed, "{shown}").is_ok();
+    is_printed && printed.rest.is_empty()
 }

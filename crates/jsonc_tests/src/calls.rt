@@ -6,6 +6,7 @@ use crate::edits::edited;
 use crate::inputs::inputs;
 use crate::lines::laid_out;
 use crate::maps::changed_map;
+use crate::nodes::node_names;
 use crate::outcome::Outcome;
 use crate::tokens::decode_provided;
 use crate::tree_copies::tree_copies;
@@ -17,20 +18,16 @@ use jsonc_engine::engine::{engine, run_on};
 use jsonc_parser::cst::CstRootNode;
 use jsonc_parser::tokens::Token;
 use jsonc_parser::{
-    CollectOptions, CommentCollectionStrategy, CommentMap, JsonValue, ParseOptions, ParseResult,
-    Scanner, ScannerOptions, parse_to_ast, parse_to_value,
+    CollectOptions, CommentCollectionStrategy, CommentMap, JsonObject, JsonValue, ParseOptions,
+    ParseResult, Scanner, ScannerOptions, parse_to_ast, parse_to_value,
 };
 use jsonc_string::provider::parse_string;
-use refusing::Refusing;
-use std::alloc::Global;
+use std::alloc::Allocator;
 use std::borrow::CowStr;
 use std::default::Default;
 
-/// The allocator that each call is given.
-pub type Heap<'a> = &'a Refusing<Global>;
-
 /// A call that may want memory.
-#[derive(Clone, Copy, Debug)]
+#[derive(Clone, Copy)]
 pub enum Call {
     Decode,
     DecodeProvided,
@@ -44,6 +41,7 @@ pub enum Call {
     Document,
     Children,
     Names,
+    NodeNames,
     TokenCopy,
     MapChanges,
     TreeChanges,
@@ -53,27 +51,28 @@ pub enum Call {
     WholeRun,
 }
 
-/// All of them.
-pub const CALLS: [Call; 19] = [
-    Call::Decode,
-    Call::DecodeProvided,
-    Call::Inputs,
-    Call::Scan,
-    Call::SyntaxTree,
-    Call::SyntaxTreeCopies,
-    Call::CommentMap,
-    Call::Value,
-    Call::ValueCopies,
-    Call::Document,
-    Call::Children,
-    Call::Names,
-    Call::TokenCopy,
-    Call::MapChanges,
-    Call::TreeChanges,
-    Call::Layout,
-    Call::Edits,
-    Call::BytesToBytes,
-    Call::WholeRun,
+/// All of them, each with its name.
+pub const CALLS: [(Call, &str); 20] = [
+    (Call::Decode, "decode"),
+    (Call::DecodeProvided, "decode provided"),
+    (Call::Inputs, "inputs"),
+    (Call::Scan, "scan"),
+    (Call::SyntaxTree, "syntax tree"),
+    (Call::SyntaxTreeCopies, "syntax tree copies"),
+    (Call::CommentMap, "comment map"),
+    (Call::Value, "value"),
+    (Call::ValueCopies, "value copies"),
+    (Call::Document, "document"),
+    (Call::Children, "children"),
+    (Call::Names, "names"),
+    (Call::NodeNames, "node names"),
+    (Call::TokenCopy, "token copy"),
+    (Call::MapChanges, "map changes"),
+    (Call::TreeChanges, "tree changes"),
+    (Call::Layout, "layout"),
+    (Call::Edits, "edits"),
+    (Call::BytesToBytes, "bytes to bytes"),
+    (Call::WholeRun, "whole run"),
 ];
 
 /// A text of plain JSON, with more elements and properties than a list has room for at first.
@@ -94,123 +93,163 @@ const ESCAPES: &str = "'one\\ttwo\\u0020three'";
 
 const DECODED: &str = "one\ttwo three";
 
-pub fn outcome_of(call: Call, heap: Heap<'_>) -> Outcome {
-    Outcome::within(match call {
-        Call::Decode => decode(heap),
-        Call::DecodeProvided => decode_provided(heap),
-        Call::Inputs => inputs(heap),
-        Call::Scan => scan(heap),
-        Call::SyntaxTree => syntax_tree(heap),
-        Call::SyntaxTreeCopies => tree_copies(heap),
-        Call::CommentMap => comment_map(heap),
-        Call::Value => value(heap),
-        Call::ValueCopies => copies(heap),
-        Call::Document => document(heap),
-        Call::Children => children(heap),
-        Call::Names => names(heap),
-        Call::TokenCopy => token_copy(heap),
-        Call::MapChanges => changed_map(heap),
-        Call::TreeChanges => changed_tree(heap),
-        Call::Layout => laid_out(heap),
-        Call::Edits => edited(heap),
-        Call::BytesToBytes => bytes_to_bytes(heap),
-        Call::WholeRun => whole_run(heap),
-    })
-}
-
-fn decode(heap: Heap<'_>) -> Result<Outcome, Outcome> {
-    match parse_string(heap, ESCAPES)? {
-        CowStr::Owned(found) => Ok(Outcome::of(found.as_str() == DECODED)),
-        CowStr::Borrowed(_) => Err(Outcome::Other),
+/// What comes of a call under an allocator.
+pub fn outcome_of<A: Allocator + Copy>(call: Call, alloc: A) -> Outcome {
+    match call {
+        Call::Decode => decode(alloc),
+        Call::DecodeProvided => decode_provided(alloc),
+        Call::Inputs => inputs(alloc),
+        Call::Scan => scan(alloc),
+        Call::SyntaxTree => syntax_tree(alloc),
+        Call::SyntaxTreeCopies => tree_copies(alloc),
+        Call::CommentMap => comment_map(alloc),
+        Call::Value => value(alloc),
+        Call::ValueCopies => copies(alloc),
+        Call::Document => document(alloc),
+        Call::Children => children(alloc),
+        Call::Names => names(alloc),
+        Call::NodeNames => node_names(alloc),
+        Call::TokenCopy => token_copy(alloc),
+        Call::MapChanges => changed_map(alloc),
+        Call::TreeChanges => changed_tree(alloc),
+        Call::Layout => laid_out(alloc),
+        Call::Edits => edited(alloc),
+        Call::BytesToBytes => bytes_to_bytes(alloc),
+        Call::WholeRun => whole_run(alloc),
     }
 }
 
-fn scan(heap: Heap<'_>) -> Result<Outcome, Outcome> {
-    let mut scanner = Scanner::new(heap, ESCAPES, &ScannerOptions::default());
-    match scanner.scan()? {
-        Some(Token::String(CowStr::Owned(found))) => Ok(Outcome::of(found.as_str() == DECODED)),
-        _ => Err(Outcome::Other),
+fn is_owned<A: Allocator>(found: &CowStr<'_, A>, text: &str) -> Outcome {
+    match found {
+        CowStr::Owned(found) => Outcome::of(found.as_str() == text),
+        CowStr::Borrowed(_) => Outcome::Other,
     }
 }
 
-fn syntax_tree(heap: Heap<'_>) -> Result<Outcome, Outcome> {
+fn decode<A: Allocator + Copy>(alloc: A) -> Outcome {
+    match parse_string(alloc, ESCAPES) {
+        Ok(found) => is_owned(&found, DECODED),
+        Err(error) => Outcome::from(error),
+    }
+}
+
+fn is_owned_string<A: Allocator>(token: Option<&Token<'_, A>>, text: &str) -> Outcome {
+    match token {
+        Some(Token::String(found)) => is_owned(found, text),
+        _ => Outcome::Other,
+    }
+}
+
+fn scan<A: Allocator + Copy>(alloc: A) -> Outcome {
+    let mut scanner = Scanner::new(alloc, ESCAPES, &ScannerOptions::default());
+    match scanner.scan() {
+        Ok(token) => is_owned_string(token.as_ref(), DECODED),
+        Err(error) => Outcome::from(error),
+    }
+}
+
+fn syntax_tree<A: Allocator + Copy>(alloc: A) -> Outcome {
     let collect = CollectOptions {
         comments: CommentCollectionStrategy::AsTokens,
         tokens: true,
     };
-    let parsed = parse_to_ast(heap, LOOSE, &collect, &ParseOptions::default())?;
-    Ok(Outcome::of(parsed.value.is_some() && token_count(&parsed) == 23))
+    match parse_to_ast(alloc, LOOSE, &collect, &ParseOptions::default()) {
+        Ok(parsed) => Outcome::of(parsed.value.is_some() && token_count(&parsed) == 23),
+        Err(error) => Outcome::from(error),
+    }
 }
 
-fn token_count(parsed: &ParseResult<'_, Heap<'_>>) -> usize {
+fn token_count<A: Allocator>(parsed: &ParseResult<'_, A>) -> usize {
     match &parsed.tokens {
         Some(tokens) => tokens.len(),
         None => 0,
     }
 }
 
-fn comment_map(heap: Heap<'_>) -> Result<Outcome, Outcome> {
+fn comment_map<A: Allocator + Copy>(alloc: A) -> Outcome {
     let collect = CollectOptions {
         comments: CommentCollectionStrategy::Separate,
         tokens: false,
     };
-    let parsed = parse_to_ast(heap, COMMENTED, &collect, &ParseOptions::default())?;
-    let Some(comments) = &parsed.comments else {
-        return Err(Outcome::Other);
-    };
-    let has_first = comment_count(comments, 0) == 2 && comment_count(comments, 17) == 2;
-    Ok(Outcome::of(has_first && comments.len() == 6))
+    match parse_to_ast(alloc, COMMENTED, &collect, &ParseOptions::default()) {
+        Ok(parsed) => are_comments(parsed.comments.as_ref()),
+        Err(error) => Outcome::from(error),
+    }
 }
 
-fn comment_count(comments: &CommentMap<'_, Heap<'_>>, place: usize) -> usize {
+/// Whether both comments of the first gap stand under both of its ends, and there are six places.
+fn are_comments<A: Allocator>(comments: Option<&CommentMap<'_, A>>) -> Outcome {
+    let Some(comments) = comments else {
+        return Outcome::Other;
+    };
+    let has_first = comment_count(comments, 0) == 2 && comment_count(comments, 17) == 2;
+    Outcome::of(has_first && comments.len() == 6)
+}
+
+fn comment_count<A: Allocator>(comments: &CommentMap<'_, A>, place: usize) -> usize {
     match comments.get(&place) {
         Some(shared) => shared.len(),
         None => 0,
     }
 }
 
-fn value(heap: Heap<'_>) -> Result<Outcome, Outcome> {
-    let Some(JsonValue::Array(array)) = parse_to_value(heap, VALUES, &ParseOptions::default())?
-    else {
-        return Err(Outcome::Other);
-    };
-    let (Some(JsonValue::Boolean(true)), Some(JsonValue::Object(object)), None) = (
-        array.get(0),
-        array.get(1),
-        array.get(2),
-    ) else {
-        return Err(Outcome::Other);
-    };
-    let is_read = object.get_number("0x1F") == Some("+.5");
-    Ok(Outcome::of(is_read && object.len() == 3 && array.len() == 2))
+fn value<A: Allocator + Copy>(alloc: A) -> Outcome {
+    match parse_to_value(alloc, VALUES, &ParseOptions::default()) {
+        Ok(Some(JsonValue::Array(array))) => {
+            let are_two = array.len() == 2
+                && matches!(array.get(0), Some(JsonValue::Boolean(true)));
+            Outcome::of(are_two && is_read(array.get(1)))
+        }
+        Ok(_) => Outcome::Other,
+        Err(error) => Outcome::from(error),
+    }
+}
+
+/// Whether an object of three properties has a number under its name.
+fn is_read<A: Allocator>(value: Option<&JsonValue<'_, A>>) -> bool {
+    match value {
+        Some(JsonValue::Object(object)) => is_number_read(object),
+        _ => false,
+    }
+}
+
+fn is_number_read<A: Allocator>(object: &JsonObject<'_, A>) -> bool {
+    object.get_number("0x1F") == Some("+.5") && object.len() == 3
 }
 
 /// The tree is built as the document is read.
-fn document(heap: Heap<'_>) -> Result<Outcome, Outcome> {
-    let document = CstRootNode::parse(heap, LOOSE, &ParseOptions::default())?;
-    let text = document.text()?;
-    Ok(Outcome::of(text.as_str() == LOOSE))
+fn document<A: Allocator + Copy>(alloc: A) -> Outcome {
+    match CstRootNode::parse(alloc, LOOSE, &ParseOptions::default()) {
+        Ok(document) => Outcome::of_text(document.text(), LOOSE),
+        Err(error) => Outcome::from(error),
+    }
 }
 
-fn token_copy(heap: Heap<'_>) -> Result<Outcome, Outcome> {
-    let token = Token::String(CowStr::Owned(String::from_str(heap, "owned")?));
-    let copy = token.try_clone()?;
-    Ok(Outcome::of(copy == token && copy.as_str() == "owned"))
+fn token_copy<A: Allocator + Copy>(alloc: A) -> Outcome {
+    match String::from_str(alloc, "owned") {
+        Ok(text) => {
+            let token = Token::String(CowStr::Owned(text));
+            Outcome::of_answer(token.try_clone(), &token)
+        }
+        Err(error) => Outcome::from(error),
+    }
 }
 
-fn bytes_to_bytes(heap: Heap<'_>) -> Result<Outcome, Outcome> {
-    let Some(written) = run_on(heap, Command::Print, PLAIN.as_bytes())? else {
-        return Err(Outcome::Other);
-    };
-    Ok(Outcome::of(written.as_str() == PLAIN))
+fn bytes_to_bytes<A: Allocator + Copy>(alloc: A) -> Outcome {
+    match run_on(alloc, Command::Print, PLAIN.as_bytes()) {
+        Ok(Some(written)) => Outcome::of(written.as_str() == PLAIN),
+        Ok(None) => Outcome::Other,
+        Err(fault) => Outcome::from(fault),
+    }
 }
 
-fn whole_run(heap: Heap<'_>) -> Result<Outcome, Outcome> {
+fn whole_run<A: Allocator + Copy>(alloc: A) -> Outcome {
     let mut source = FromReader::new(PLAIN.as_bytes());
     let mut sink = ToWriter::new(Awaited {
         rest: PLAIN.as_bytes(),
     });
-    engine(heap, &["print"], &mut source, &mut sink)?;
-    let ToWriter { writer, .. } = sink;
-    Ok(Outcome::of(writer.rest.is_empty()))
+    match engine(alloc, &["print"], &mut source, &mut sink) {
+        Ok(()) => Outcome::of(sink.writer.rest.is_empty()),
+        Err(fault) => Outcome::from(fault),
+    }
 }

@@ -1,67 +1,70 @@
 //! Copies of values, of objects and of arrays.
 
-use crate::calls::Heap;
 use crate::outcome::Outcome;
-use jsonc_parser::{JsonObject, JsonValue, ParseOptions, parse_to_value};
+use jsonc_parser::{JsonArray, JsonObject, JsonValue, ParseOptions, parse_to_value};
+use std::alloc::Allocator;
+use std::borrow::CowStr;
 use std::default::Default;
 
 /// An object in which a name and a string own their texts.
 const OBJECT: &str = "{'l\\x61st': [true, 2.5, {}, null], first: 't\\x65xt'}";
 
-fn some_value<'h>(heap: Heap<'h>) -> Result<JsonValue<'static, Heap<'h>>, Outcome> {
-    match parse_to_value(heap, OBJECT, &ParseOptions::default())? {
-        Some(value) => Ok(value),
-        None => Err(Outcome::Other),
-    }
-}
-
-/// The object that a value is.
-fn object_of<'h>(
-    value: JsonValue<'static, Heap<'h>>,
-) -> Result<JsonObject<'static, Heap<'h>>, Outcome> {
-    match value {
-        JsonValue::Object(object) => Ok(object),
-        _ => Err(Outcome::Other),
+fn is_name<A: Allocator>(name: Option<&CowStr<'static, A>>, wanted: &str) -> bool {
+    match name {
+        Some(name) => name.as_str() == wanted,
+        None => false,
     }
 }
 
 /// Whether the object's names are these two, in this order.
-fn has_names(object: JsonObject<'static, Heap<'_>>, first: &str, second: &str) -> bool {
+fn has_names<A: Allocator>(object: JsonObject<'static, A>, first: &str, second: &str) -> bool {
     let map = object.take_inner();
     let mut names = map.keys();
-    let (Some(one), Some(other)) = (names.next(), names.next()) else {
-        return false;
-    };
-    one.as_str() == first && other.as_str() == second && names.next().is_none()
+    let is_first = is_name(names.next(), first);
+    let is_second = is_name(names.next(), second);
+    is_first && is_second && names.next().is_none()
 }
 
-fn is_value_copied(heap: Heap<'_>) -> Result<bool, Outcome> {
-    let value = some_value(heap)?;
-    let copy = value.try_clone()?;
-    let is_equal = copy == value;
-    Ok(is_equal && has_names(object_of(copy)?, "last", "first"))
+/// Whether a copy has the names of the object that the value is.
+fn are_names_copied<A: Allocator + Copy>(value: &JsonValue<'static, A>) -> Outcome {
+    match value.try_clone() {
+        Ok(JsonValue::Object(copy)) => Outcome::of(has_names(copy, "last", "first")),
+        Ok(_) => Outcome::Other,
+        Err(error) => Outcome::from(error),
+    }
 }
 
-fn is_object_copied(heap: Heap<'_>) -> Result<bool, Outcome> {
-    let object = object_of(some_value(heap)?)?;
-    Ok(object.try_clone()? == object)
+fn is_array_copied<A: Allocator + Copy>(array: &JsonArray<'static, A>) -> Outcome {
+    match array.try_clone() {
+        Ok(copy) => {
+            let is_true = matches!(copy.get(0), Some(JsonValue::Boolean(true)));
+            Outcome::of(is_true && copy == *array && copy.len() == 4)
+        }
+        Err(error) => Outcome::from(error),
+    }
 }
 
-fn is_array_copied(heap: Heap<'_>) -> Result<bool, Outcome> {
-    let object = object_of(some_value(heap)?)?;
-    let Some(array) = object.get_array("last") else {
-        return Ok(false);
-    };
-    let copy = array.try_clone()?;
-    let is_true = matches!(copy.get(0), Some(JsonValue::Boolean(true)));
-    Ok(is_true && copy == *array && copy.len() == 4)
+fn are_parts_copied<A: Allocator + Copy>(object: &JsonObject<'static, A>) -> Outcome {
+    let is_object = Outcome::of_answer(object.try_clone(), object);
+    match object.get_array("last") {
+        Some(array) => is_object.then(is_array_copied(array)),
+        None => Outcome::Other,
+    }
 }
 
-fn are_parts_copied(heap: Heap<'_>) -> Result<bool, Outcome> {
-    Ok(is_object_copied(heap)? && is_array_copied(heap)?)
+fn is_copied<A: Allocator + Copy>(value: &JsonValue<'static, A>) -> Outcome {
+    let is_value = Outcome::of_answer(value.try_clone(), value).then(are_names_copied(value));
+    match value {
+        JsonValue::Object(object) => is_value.then(are_parts_copied(object)),
+        _ => Outcome::Other,
+    }
 }
 
 /// A value, an object and an array are copied, and the copies compared with them.
-pub fn copies(heap: Heap<'_>) -> Result<Outcome, Outcome> {
-    Ok(Outcome::of(is_value_copied(heap)? && are_parts_copied(heap)?))
+pub fn copies<A: Allocator + Copy>(alloc: A) -> Outcome {
+    match parse_to_value(alloc, OBJECT, &ParseOptions::default()) {
+        Ok(Some(value)) => is_copied(&value),
+        Ok(None) => Outcome::Other,
+        Err(error) => Outcome::from(error),
+    }
 }

@@ -1,17 +1,15 @@
 //! Values taken from documents, laid out and put into others.
 
-use crate::awaited::Awaited;
-use crate::calls::Heap;
+use crate::awaited::prints;
 use crate::lines::tree_of;
 use crate::outcome::Outcome;
 use jsonc_edit::find;
 use jsonc_from_input::{Layout, lay_out_property};
 use jsonc_input::CstInputValue;
-use jsonc_parser::cst::EditError;
 use jsonc_run::{Edit, run};
 use jsonc_to_input::to_value;
 use jsonc_tree::{CstNewlineKind, Tree};
-use std::fmt::Write;
+use std::alloc::{AllocError, Allocator};
 
 /// An object with two values of one name, of which the last one counts, at the first one's place.
 const TWICE: &str = "{\"k\": 1, \"m\": [7, [8]], 'k': {c: [2],}} // end";
@@ -27,69 +25,97 @@ const REPLACED: &str =
 const PROPERTY: &str = "\"\\u0001\": {\r\n\t\t\"c\": [2]\r\n\t}";
 
 /// The value at a path, as one for edits.
-fn taken<'h>(
-    heap: Heap<'h>,
-    tree: &Tree<Heap<'h>>,
+fn taken<A: Allocator + Copy>(
+    alloc: A,
+    tree: &Tree<A>,
     path: &[usize],
-) -> Result<CstInputValue<Heap<'h>>, Outcome> {
+) -> Result<CstInputValue<A>, Outcome> {
     let Some(node) = find(tree, path) else {
         return Err(Outcome::Other);
     };
-    let Some(value) = to_value(heap, tree, node)? else {
-        return Err(Outcome::Other);
-    };
-    Ok(value)
+    match to_value(alloc, tree, node) {
+        Ok(Some(value)) => Ok(value),
+        Ok(None) => Err(Outcome::Other),
+        Err(error) => Err(Outcome::from(error)),
+    }
 }
 
 /// Edits that put a value into the place of the first property's, and take the first comment out.
-fn edits<'h>(
-    heap: Heap<'h>,
-    value: CstInputValue<Heap<'h>>,
-) -> Result<Vec<Edit<Heap<'h>>, Heap<'h>>, Outcome> {
-    let mut path = Vec::new(heap);
+fn edits<A: Allocator + Copy>(
+    alloc: A,
+    value: CstInputValue<A>,
+) -> Result<Vec<Edit<A>, A>, AllocError> {
+    let mut path = Vec::new(alloc);
     path.push(0usize)?;
-    let mut edits = Vec::new(heap);
+    let mut edits = Vec::new(alloc);
     edits.push(Edit::Replace(path, value))?;
     edits.push(Edit::RemoveComment(0))?;
     Ok(edits)
 }
 
-fn is_edited(heap: Heap<'_>) -> Result<bool, Outcome> {
-    let value = taken(heap, &tree_of(heap, TWICE)?, &[])?;
-    let mut tree = tree_of(heap, SPACED)?;
-    let edits = edits(heap, value)?;
-    match run(heap, &mut tree, edits.as_slice()) {
-        Ok(()) => {}
-        Err((0, EditError::OutOfMemory)) => return Err(Outcome::Wanted),
-        Err(_) => return Err(Outcome::Other),
+/// Makes the edits, and tells whether the document is as they leave it.
+fn is_changed<A: Allocator + Copy>(alloc: A, tree: Tree<A>, edits: &[Edit<A>]) -> Outcome {
+    let mut tree = tree;
+    match run(alloc, &mut tree, edits) {
+        Ok(()) => Outcome::of_text(tree.to_string(alloc), REPLACED).then(Outcome::of(
+            find(&tree, &[0, 2]) == None,
+        )),
+        Err((0, error)) => Outcome::from(error),
+        Err(_) => Outcome::Other,
     }
-    let text = tree.to_string(heap)?;
-    Ok(text.as_str() == REPLACED && find(&tree, &[0, 2]) == None)
 }
 
-fn is_property_laid_out(heap: Heap<'_>) -> Result<bool, Outcome> {
-    let value = taken(heap, &tree_of(heap, TWICE)?, &[2])?;
+fn are_made<A: Allocator + Copy>(alloc: A, edits: &[Edit<A>]) -> Outcome {
+    match tree_of(alloc, SPACED) {
+        Ok(tree) => is_changed(alloc, tree, edits),
+        Err(outcome) => outcome,
+    }
+}
+
+/// Puts the document's value into the other document.
+fn is_put<A: Allocator + Copy>(alloc: A, tree: &Tree<A>) -> Outcome {
+    match taken(alloc, tree, &[]) {
+        Ok(value) => match edits(alloc, value) {
+            Ok(edits) => are_made(alloc, edits.as_slice()),
+            Err(error) => Outcome::from(error),
+        },
+        Err(outcome) => outcome,
+    }
+}
+
+/// The layout of a document with tabs and Windows line ends, one level deep.
+fn layout<A: Allocator + Copy>(alloc: A) -> Result<Layout<A>, AllocError> {
     let outer = Layout {
-        current: String::new(heap),
-        single: String::from_str(heap, "\t")?,
+        current: String::new(alloc),
+        single: String::from_str(alloc, "\t")?,
         trailing_commas: false,
         newline: CstNewlineKind::CarriageReturnLineFeed,
     };
-    let layout = outer.deeper(heap)?;
-    let mut tree = Tree::new(heap)?;
-    let property = lay_out_property(heap, &mut tree, "\u{1}", &value, &layout)?;
-    if property >= tree.len() {
-        return Err(Outcome::Other);
+    outer.deeper(alloc)
+}
+
+fn is_laid_out<A: Allocator + Copy>(
+    alloc: A,
+    value: &CstInputValue<A>,
+) -> Result<bool, AllocError> {
+    let layout = layout(alloc)?;
+    let mut tree = Tree::new(alloc)?;
+    let property = lay_out_property(alloc, &mut tree, "\u{1}", value, &layout)?;
+    Ok(property < tree.len() && prints(&tree.shown(property), PROPERTY))
+}
+
+/// Lays the last property's value out below another name.
+fn is_property<A: Allocator + Copy>(alloc: A, tree: &Tree<A>) -> Outcome {
+    match taken(alloc, tree, &[2]) {
+        Ok(value) => Outcome::of_answer(is_laid_out(alloc, &value), &true),
+        Err(outcome) => outcome,
     }
-    let mut printed = Awaited {
-        rest: PROPERTY.as_bytes(),
-    };
-    let is_printed = write!(printed, "{}", tree.shown(property)).is_ok();
-    Ok(is_printed && printed.rest.is_empty())
 }
 
 /// A list of edits is made, and a property laid out.
-pub fn edited(heap: Heap<'_>) -> Result<Outcome, Outcome> {
-    let is_edited = is_edited(heap)?;
-    Ok(Outcome::of(is_property_laid_out(heap)? && is_edited))
+pub fn edited<A: Allocator + Copy>(alloc: A) -> Outcome {
+    match tree_of(alloc, TWICE) {
+        Ok(tree) => is_put(alloc, &tree).then(is_property(alloc, &tree)),
+        Err(outcome) => outcome,
+    }
 }

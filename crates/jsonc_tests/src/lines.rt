@@ -1,7 +1,6 @@
 //! How documents are laid out.
-ghost use Rattle.std.specs.Prelude.{◌<◌, IfOk, IfSome, length};
+ghost use Rattle.std.specs.Prelude.{◌<◌, IfSome, length};
 
-use crate::calls::Heap;
 use crate::outcome::Outcome;
 use jsonc_build::build;
 use jsonc_lines::{
@@ -10,6 +9,7 @@ use jsonc_lines::{
 };
 use jsonc_parser::{CollectOptions, ParseOptions, parse_to_ast};
 use jsonc_tree::{CstNewlineKind, Kind, Tree};
+use std::alloc::{AllocError, Allocator};
 use std::default::Default;
 
 /// An object over lines, with a comment at the end of one.
@@ -22,13 +22,16 @@ const GROUPED: &str = "[\r\n\t\"a\",\r\n\r\n\t/* c */ \"b\",\r\n]";
 const NESTED: &str = "{\n \"c\": {\n   \"d\": 3\n }\n}";
 
 /// The tree of a document.
-pub fn tree_of<'h>(heap: Heap<'h>, text: &str) -> Result<Tree<Heap<'h>>, Outcome> {
+pub fn tree_of<A: Allocator + Copy>(alloc: A, text: &str) -> Result<Tree<A>, Outcome> {
     let collect = CollectOptions::default();
-    let parsed = parse_to_ast(heap, text, &collect, &ParseOptions::default())?;
-    Ok(build(heap, text, parsed.value.as_ref())?)
+    let parsed = parse_to_ast(alloc, text, &collect, &ParseOptions::default())?;
+    match build(alloc, text, parsed.value.as_ref()) {
+        Ok(tree) => Ok(tree),
+        Err(error) => Err(Outcome::from(error)),
+    }
 }
 
-fn is_string(kind: &Kind<Heap<'_>>, text: &str) -> bool {
+fn is_string<A: Allocator>(kind: &Kind<A>, text: &str) -> bool {
     match kind {
         Kind::StringPart(part) => part.as_str() == text,
         _ => false,
@@ -36,7 +39,7 @@ fn is_string(kind: &Kind<Heap<'_>>, text: &str) -> bool {
 }
 
 /// The leaf of a string with this text.
-fn string_leaf(tree: &Tree<Heap<'_>>, text: &str) -> Option<usize>
+fn string_leaf<A: Allocator>(tree: &Tree<A>, text: &str) -> Option<usize>
     ensures { IfSome result (λ n. n < length tree.now.nodes) }
 {
     for node in 0..tree.len() {
@@ -48,71 +51,106 @@ fn string_leaf(tree: &Tree<Heap<'_>>, text: &str) -> Option<usize>
 }
 
 /// The node above a leaf.
-fn above(tree: &Tree<Heap<'_>>, text: &str) -> Result<usize, Outcome>
-    ensures { IfOk result (λ n. n < length tree.now.nodes) }
+fn above<A: Allocator>(tree: &Tree<A>, text: &str) -> Option<usize>
+    ensures { IfSome result (λ n. n < length tree.now.nodes) }
 {
-    let Some(leaf) = string_leaf(tree, text) else {
-        return Err(Outcome::Other);
-    };
+    let leaf = string_leaf(tree, text)?;
     match tree.parent(leaf) {
-        Some(parent) if parent < tree.len() => Ok(parent),
-        _ => Err(Outcome::Other),
+        Some(parent) if parent < tree.len() => Some(parent),
+        _ => None,
     }
 }
 
-fn is_text(found: Option<String<Heap<'_>>>, text: &str) -> bool {
+/// Whether an indent that is told is this text, or the memory for it was wanted.
+fn is_indent<A: Allocator>(found: Result<Option<String<A>>, AllocError>, text: &str) -> Outcome {
     match found {
-        Some(found) => found.as_str() == text,
-        None => false,
+        Ok(Some(found)) => Outcome::of(found.as_str() == text),
+        Ok(None) => Outcome::Other,
+        Err(error) => Outcome::from(error),
     }
 }
 
-fn is_spread_told(heap: Heap<'_>) -> Result<bool, Outcome> {
-    let tree = tree_of(heap, SPREAD)?;
-    let first = above(&tree, "\"a\"")?;
-    let second = above(&tree, "\"b\"")?;
-    let has_indents = is_text(indent_text(heap, &tree, second)?, "  ")
-        && is_text(single_indent_text(heap, &tree)?, "  ");
-    let has_commas = trailing_comma(&tree, first).is_some()
-        && trailing_comma(&tree, second).is_none();
-    if tree.len() == 0 || uses_trailing_commas(heap, &tree, 0)? {
-        return Ok(false);
+/// Whether the document uses trailing commas, as it is to.
+fn uses_commas<A: Allocator + Copy>(alloc: A, tree: &Tree<A>, wanted: bool) -> Outcome {
+    if tree.len() == 0 {
+        return Outcome::Other;
     }
-    Ok(has_indents && has_commas && !has_blank_line_before(&tree, second))
+    Outcome::of_answer(uses_trailing_commas(alloc, tree, 0), &wanted)
 }
 
-fn is_grouped_told(heap: Heap<'_>) -> Result<bool, Outcome> {
-    let tree = tree_of(heap, GROUPED)?;
-    let (Some(first), Some(second)) = (string_leaf(&tree, "\"a\""), string_leaf(&tree, "\"b\""))
-    else {
-        return Ok(false);
+fn is_spread_told<A: Allocator + Copy>(alloc: A, tree: &Tree<A>) -> Outcome {
+    let (Some(first), Some(second)) = (above(tree, "\"a\""), above(tree, "\"b\"")) else {
+        return Outcome::Other;
     };
-    let has_indents = is_text(indent_text(heap, &tree, second)?, "\t")
-        && is_text(single_indent_text(heap, &tree)?, "\t");
-    let has_groups = has_blank_line_before(&tree, second) && !has_blank_line_before(&tree, first);
-    let is_windows = newline_kind(heap, &tree)? == CstNewlineKind::CarriageReturnLineFeed;
-    if tree.len() == 0 || !uses_trailing_commas(heap, &tree, 0)? {
-        return Ok(false);
+    let has_commas = trailing_comma(tree, first).is_some()
+        && trailing_comma(tree, second).is_none()
+        && !has_blank_line_before(tree, second);
+    is_indent(indent_text(alloc, tree, second), "  ")
+        .then(is_indent(single_indent_text(alloc, tree), "  "))
+        .then(uses_commas(alloc, tree, false))
+        .then(Outcome::of(has_commas))
+}
+
+fn is_grouped_told<A: Allocator + Copy>(alloc: A, tree: &Tree<A>) -> Outcome {
+    let (Some(first), Some(second)) = (string_leaf(tree, "\"a\""), string_leaf(tree, "\"b\""))
+    else {
+        return Outcome::Other;
+    };
+    let has_groups = has_blank_line_before(tree, second) && !has_blank_line_before(tree, first);
+    let windows = CstNewlineKind::CarriageReturnLineFeed;
+    is_indent(indent_text(alloc, tree, second), "\t")
+        .then(is_indent(single_indent_text(alloc, tree), "\t"))
+        .then(Outcome::of_answer(newline_kind(alloc, tree), &windows))
+        .then(uses_commas(alloc, tree, true))
+        .then(Outcome::of(has_groups))
+}
+
+/// Whether these are the indents at the node above a leaf.
+fn are_indents<A: Allocator + Copy>(
+    alloc: A,
+    tree: &Tree<A>,
+    leaf: &str,
+    current: &str,
+    single: &str,
+) -> Outcome {
+    let Some(node) = above(tree, leaf) else {
+        return Outcome::Other;
+    };
+    match indents_at(alloc, tree, node) {
+        Ok(
+            Indents {
+                current: found,
+                single: level,
+            },
+        ) => { Outcome::of(found.as_str() == current && level.as_str() == single) }
+        Err(error) => Outcome::from(error),
     }
-    Ok(has_indents && has_groups && is_windows)
 }
 
-fn are_indents(found: &Indents<Heap<'_>>, current: &str, single: &str) -> bool {
-    found.current.as_str() == current && found.single.as_str() == single
+fn spread<A: Allocator + Copy>(alloc: A) -> Outcome {
+    match tree_of(alloc, SPREAD) {
+        Ok(tree) => {
+            is_spread_told(alloc, &tree).then(are_indents(alloc, &tree, "\"b\"", "  ", "  "))
+        }
+        Err(outcome) => outcome,
+    }
 }
 
-fn are_levels_told(heap: Heap<'_>) -> Result<bool, Outcome> {
-    let spread = tree_of(heap, SPREAD)?;
-    let flat = indents_at(heap, &spread, above(&spread, "\"b\"")?)?;
-    let nested = tree_of(heap, NESTED)?;
-    let deep = indents_at(heap, &nested, above(&nested, "\"d\"")?)?;
-    Ok(are_indents(&flat, "  ", "  ") && are_indents(&deep, "   ", "  "))
+fn grouped<A: Allocator + Copy>(alloc: A) -> Outcome {
+    match tree_of(alloc, GROUPED) {
+        Ok(tree) => is_grouped_told(alloc, &tree),
+        Err(outcome) => outcome,
+    }
+}
+
+fn nested<A: Allocator + Copy>(alloc: A) -> Outcome {
+    match tree_of(alloc, NESTED) {
+        Ok(tree) => are_indents(alloc, &tree, "\"d\"", "   ", "  "),
+        Err(outcome) => outcome,
+    }
 }
 
 /// Each call on a few documents.
-pub fn laid_out(heap: Heap<'_>) -> Result<Outcome, Outcome> {
-    let is_spread = is_spread_told(heap)?;
-    let is_grouped = is_grouped_told(heap)?;
-    let are_levels = are_levels_told(heap)?;
-    Ok(Outcome::of(is_spread && is_grouped && are_levels))
+pub fn laid_out<A: Allocator + Copy>(alloc: A) -> Outcome {
+    spread(alloc).then(grouped(alloc)).then(nested(alloc))
 }

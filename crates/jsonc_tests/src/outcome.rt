@@ -5,7 +5,7 @@ use jsonc_parser::ParseStringErrorKind;
 use jsonc_parser::cst::EditError;
 use jsonc_parser::errors::{ParseError, ParseErrorKind};
 use jsonc_string::provider::ParseStringError;
-use std::alloc::{AllocError, AllocFailed};
+use std::alloc::{AllocError, AllocFailed, Allocator};
 
 /// What came of a call.
 #[derive(Clone, Copy, Debug, PartialEq, Eq, Drop)]
@@ -27,11 +27,34 @@ impl Outcome {
         Outcome::Other
     }
 
-    /// The one that a `Result` holds.
-    pub fn within(answer: Result<Outcome, Outcome>) -> Outcome {
+    /// What came of this and of what was asked next.
+    pub fn then(self, next: Outcome) -> Outcome {
+        match (self, next) {
+            (Outcome::Other, _) | (_, Outcome::Other) => Outcome::Other,
+            (Outcome::Wanted, _) | (_, Outcome::Wanted) => Outcome::Wanted,
+            _ => Outcome::Answered,
+        }
+    }
+
+    /// Whether this answer was wanted, or the memory for it.
+    pub fn of_answer<T: PartialEq + Drop, E: Into<Outcome>>(
+        answer: Result<T, E>,
+        wanted: &T,
+    ) -> Outcome {
         match answer {
-            Ok(outcome) => outcome,
-            Err(outcome) => outcome,
+            Ok(answer) => Outcome::of(answer == *wanted),
+            Err(error) => error.into(),
+        }
+    }
+
+    /// Whether a text that is owned is this one, or the memory for it was wanted.
+    pub fn of_text<A: Allocator, E: Into<Outcome>>(
+        text: Result<String<A>, E>,
+        wanted: &str,
+    ) -> Outcome {
+        match text {
+            Ok(text) => Outcome::of(text.as_str() == wanted),
+            Err(error) => error.into(),
         }
     }
 }

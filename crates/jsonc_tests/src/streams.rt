@@ -1,9 +1,10 @@
 //! A reader and a writer of a few bytes a call, one of whose calls fails.
 
+use crate::awaited::prints;
 use jsonc_engine::calls::{FromReader, ToWriter};
 use jsonc_engine::engine::engine;
 use jsonc_engine::fault::Fault;
-use std::alloc::AllocError;
+use std::alloc::Global;
 use std::io;
 use std::io::{ErrorKind, Read, Write};
 use std::test::Fail;
@@ -66,64 +67,66 @@ impl Write for Writer {
 const TEXT: &[u8] = b"[1, [2], \"three\", {\"four\": 5}]";
 
 /// A run of `print`, with so many reads and so many writes and flushes that succeed, and what it wrote.
-fn run(rt: &HostRuntime, reads: usize, writes: usize) -> (Result<(), Fault>, Vec<u8>) {
+fn run(alloc: Global, reads: usize, writes: usize) -> (Result<(), Fault>, Vec<u8>) {
     let mut source = FromReader::new(Reader {
         rest: TEXT,
         calls: Calls { left: reads },
     });
     let mut sink = ToWriter::new(Writer {
-        bytes: Vec::new(rt.alloc()),
+        bytes: Vec::new(alloc),
         calls: Calls { left: writes },
     });
-    let result = engine(rt.alloc(), &["print"], &mut source, &mut sink);
+    let ended = engine(alloc, &["print"], &mut source, &mut sink);
     let ToWriter { writer, .. } = sink;
-    (result, writer.bytes)
+    (ended, writer.bytes)
 }
 
-/// The status and the line of a run that fails.
-fn told(rt: &HostRuntime, outcome: Result<(), Fault>) -> Result<String, AllocError> {
-    match outcome {
-        Ok(()) => Ok(String::new(rt.alloc())),
-        Err(fault) => format!(in rt.alloc(); "{} {fault}", fault.status()),
+/// Whether a run failed with the status 1 and this line.
+fn is_told(ended: &Result<(), Fault>, line: &str) -> bool {
+    match ended {
+        Ok(()) => false,
+        Err(fault) => fault.status() == 1 && prints(fault, line),
     }
+}
+
+/// After so many reads the next one fails, and nothing is written.
+fn fails_to_read(alloc: Global, reads: usize) -> bool {
+    let (ended, written) = run(alloc, reads, 100);
+    is_told(&ended, "jsonc: read failed") && written.is_empty()
+}
+
+/// After so many writes the next one fails, and what they took is a beginning of the text.
+fn fails_to_write(alloc: Global, writes: usize) -> bool {
+    let (ended, written) = run(alloc, 100, writes);
+    let count = written.len();
+    let is_beginning = TEXT.starts_with(written.as_slice());
+    is_told(&ended, "jsonc: write failed")
+        && is_beginning
+        && count / STEP == writes
+        && count % STEP == 0
+}
+
+fn writes_all(alloc: Global, reads: usize, writes: usize) -> bool {
+    let (ended, written) = run(alloc, reads, writes);
+    ended.is_ok() && written.as_slice() == TEXT
 }
 
 #[test]
 fn a_failed_read_leaves_nothing_written(rt: HostRuntime) -> Result<(), Fail> {
     // Seven reads bring the text: six of five bytes, and one that finds the end.
-    for reads in 0..7 {
-        let (result, written) = run(&rt, reads, 100);
-        assert_eq!(rt;
-            told(&rt, result)?.as_str(),
-            "1 jsonc: read failed",
-            "after {reads} reads"
-        );
-        assert_eq!(rt; written.len(), 0, "after {reads} reads");
+    for reads in 0..7usize {
+        assert!(rt; fails_to_read(rt.alloc(), reads), "after {reads} reads");
     }
-    let (result, written) = run(&rt, 7, 100);
-    assert!(rt; result.is_ok());
-    assert_eq!(rt; written.as_slice(), TEXT);
+    assert!(rt; writes_all(rt.alloc(), 7, 100));
     Ok(())
 }
 
 #[test]
 fn a_failed_write_leaves_a_beginning(rt: HostRuntime) -> Result<(), Fail> {
     // Six writes take the text, and then it is flushed.
-    for writes in 0..7 {
-        let (result, written) = run(&rt, 100, writes);
-        assert_eq!(rt;
-            told(&rt, result)?.as_str(),
-            "1 jsonc: write failed",
-            "after {writes} writes"
-        );
-        assert_eq!(rt; written.len(), writes * STEP, "after {writes} writes");
-        assert!(rt;
-            TEXT.starts_with(written.as_slice()),
-            "after {writes} writes"
-        );
+    for writes in 0..7usize {
+        assert!(rt; fails_to_write(rt.alloc(), writes), "after {writes} writes");
     }
-    let (result, written) = run(&rt, 100, 7);
-    assert!(rt; result.is_ok());
-    assert_eq!(rt; written.as_slice(), TEXT);
+    assert!(rt; writes_all(rt.alloc(), 100, 7));
     Ok(())
 }

@@ -38,12 +38,13 @@ impl<'a> CharProvider<'a> for TextChars<'a> {
 }
 
 /// Decodes a string from a provider, and tells whether the provider is left after it.
-pub fn decode_provided<A: Allocator>(alloc: A) -> Result<Outcome, Outcome> {
+pub fn decode_provided<A: Allocator>(alloc: A) -> Outcome {
     let mut chars = TextChars {
         text: "'a\\n'x",
         at: 0,
     };
-    let found = parse_string_with_char_provider(alloc, &mut chars, false)?;
-    let is_after = chars.current_char() == Some('x');
-    Ok(Outcome::of(found.as_str() == "a\n" && is_after))
+    match parse_string_with_char_provider(alloc, &mut chars, false) {
+        Ok(found) => Outcome::of(found.as_str() == "a\n" && chars.current_char() == Some('x')),
+        Err(error) => Outcome::from(error),
+    }
 }

@@ -1,73 +1,70 @@
 //! Copies of syntax trees and of their parts.
 
-use crate::calls::Heap;
 use crate::outcome::Outcome;
-use jsonc_parser::ast::{Object, ObjectProp, Value};
+use jsonc_parser::ast::{Object, Value};
 use jsonc_parser::{CollectOptions, ParseOptions, ParseResult, parse_to_ast};
+use std::alloc::Allocator;
 use std::default::Default;
 
 /// An object in which a name and a string own their texts.
 const OBJECT: &str = "{'l\\x61st': [true, 2.5, {}, null], first: 't\\x65xt'}";
 
-fn some_object<'h>(heap: Heap<'h>) -> Result<Object<'static, Heap<'h>>, Outcome> {
-    let ParseResult {
-        comments,
-        value,
-        tokens,
-    } = parse_to_ast(
-        heap,
-        OBJECT,
-        &CollectOptions::default(),
-        &ParseOptions::default(),
-    )?;
-    drop(comments);
-    drop(tokens);
-    match value {
-        Some(Value::Object(object)) => Ok(object),
-        _ => Err(Outcome::Other),
-    }
-}
-
-fn are_parts_copied(object: &Object<'static, Heap<'_>>) -> Result<bool, Outcome> {
+fn are_parts_copied<A: Allocator + Copy>(object: &Object<'static, A>) -> Outcome {
     let (Some(property), Some(array), Some(string)) = (
         object.get("last"),
         object.get_array("last"),
         object.get_string("first"),
     ) else {
-        return Ok(false);
+        return Outcome::Other;
     };
-    let is_property = property.try_clone()? == *property;
-    let is_array = array.try_clone()? == *array;
-    let is_string = string.try_clone()? == *string;
-    Ok(is_property && is_array && is_string)
+    let is_property = Outcome::of_answer(property.try_clone(), property);
+    let is_array = Outcome::of_answer(array.try_clone(), array);
+    let is_string = Outcome::of_answer(string.try_clone(), string);
+    is_property.then(is_array).then(is_string)
 }
 
 /// Takes the property of this name out, and says whether it has the name.
-fn is_taken<'h>(
-    heap: Heap<'h>,
-    object: &mut Object<'static, Heap<'h>>,
-    name: &str,
-) -> Result<bool, Outcome> {
-    let Some(property) = object.take(name) else {
-        return Ok(false);
-    };
-    let ObjectProp {
-        name: taken,
-        value,
-        ..
-    } = property;
-    drop(value);
-    let text = taken.into_string(heap)?;
-    Ok(text.as_str() == name)
+fn is_taken<A: Allocator + Copy>(alloc: A, object: &mut Object<'static, A>, name: &str) -> Outcome {
+    match object.take(name) {
+        Some(property) => Outcome::of_text(property.name.into_string(alloc), name),
+        None => Outcome::Other,
+    }
+}
+
+fn is_copied<A: Allocator + Copy>(alloc: A, object: Object<'static, A>) -> Outcome {
+    let mut object = object;
+    let is_object = Outcome::of_answer(object.try_clone(), &object);
+    let are_parts = are_parts_copied(&object);
+    let is_last = is_taken(alloc, &mut object, "last");
+    let is_first = is_taken(alloc, &mut object, "first");
+    let is_empty = Outcome::of(object.properties.len() == 0);
+    is_object
+        .then(are_parts)
+        .then(is_last)
+        .then(is_first)
+        .then(is_empty)
 }
 
 /// An object and its parts are copied, and the copies compared with them; then its properties are taken out.
-pub fn tree_copies(heap: Heap<'_>) -> Result<Outcome, Outcome> {
-    let mut object = some_object(heap)?;
-    let is_object = object.try_clone()? == object;
-    let are_parts = are_parts_copied(&object)?;
-    let is_last = is_taken(heap, &mut object, "last")?;
-    let is_first = is_taken(heap, &mut object, "first")?;
-    let is_empty = object.properties.len() == 0;
-    Ok(Outcome::of(is_object && are_parts && is_last && is_first && is_empty))
+fn are_copied<A: Allocator + Copy>(alloc: A, parsed: ParseResult<'static, A>) -> Outcome {
+    let ParseResult {
+        comments,
+        value,
+        tokens,
+    } = parsed;
+    drop(comments);
+    drop(tokens);
+    match value {
+        Some(Value::Object(object)) => is_copied(alloc, object),
+        _ => Outcome::Other,
+    }
+}
+
+/// The same of the object of a text.
+pub fn tree_copies<A: Allocator + Copy>(alloc: A) -> Outcome {
+    let collect = CollectOptions::default();
+    match parse_to_ast(alloc, OBJECT, &collect, &ParseOptions::default()) {
+        Ok(parsed) => are_copied(alloc, parsed),
+        Err(error) => Outcome::from(error),
+    }
 }

@@ -1,15 +1,13 @@
 //! Changes of a tree, each through the tests that make it allowed.
-ghost use Rattle.std.specs.Prelude.{◌≡◌, ◌<◌, IsTrue, length};
-ghost use Rattle.jsonc_tree.specs.Content.{has_text};
-ghost use Rattle.jsonc_tree.specs.Stored.{content_of};
+ghost use Rattle.std.specs.Prelude.{◌<◌, IsTrue, length};
 ghost use Rattle.jsonc_tree.specs.Tree.{is_container_at};
 
-use crate::calls::Heap;
 use crate::outcome::Outcome;
 use jsonc_tree::{Kind, Tree};
+use std::alloc::Allocator;
 
 /// Whether a node is there and may have children.
-fn can_hold(tree: &Tree<Heap<'_>>, node: usize) -> bool
+fn can_hold<A: Allocator>(tree: &Tree<A>, node: usize) -> bool
     ensures there { IsTrue result → node < length tree.now.nodes }
     ensures container { IsTrue result → IsTrue (is_container_at tree.now.nodes node) }
 {
@@ -19,24 +17,10 @@ fn can_hold(tree: &Tree<Heap<'_>>, node: usize) -> bool
     tree.kind(node).is_container()
 }
 
-/// Whether a node keeps a text, its own or a part of one.
-fn keeps_text(kind: &Kind<Heap<'_>>) -> bool
-    ensures { result ≡ has_text (content_of kind.now) }
-{
-    match kind {
-        Kind::String(_) | Kind::StringPart(_) => true,
-        Kind::Word(_) | Kind::WordPart(_) => true,
-        Kind::Number(_) | Kind::NumberPart(_) => true,
-        Kind::Whitespace(_) | Kind::WhitespacePart(_) => true,
-        Kind::Comment(_) | Kind::CommentPart(_) => true,
-        _ => false,
-    }
-}
-
-fn push<'a>(
-    tree: &mut Tree<Heap<'a>>,
+fn push<A: Allocator + Copy>(
+    tree: &mut Tree<A>,
     container: usize,
-    kind: Kind<Heap<'a>>,
+    kind: Kind<A>,
 ) -> Result<usize, Outcome> {
     if !can_hold(tree, container) {
         return Err(Outcome::Other);
@@ -45,10 +29,10 @@ fn push<'a>(
 }
 
 /// A new node at the end of a container.
-fn attach<'a>(
-    tree: &mut Tree<Heap<'a>>,
+fn attach<A: Allocator + Copy>(
+    tree: &mut Tree<A>,
     container: usize,
-    kind: Kind<Heap<'a>>,
+    kind: Kind<A>,
 ) -> Result<(), Outcome> {
     if !can_hold(tree, container) {
         return Err(Outcome::Other);
@@ -59,12 +43,12 @@ fn attach<'a>(
 }
 
 /// A new node in the place of a stretch of a container's children.
-fn put<'a>(
-    tree: &mut Tree<Heap<'a>>,
+fn put<A: Allocator + Copy>(
+    tree: &mut Tree<A>,
     container: usize,
     from: usize,
     to: usize,
-    kind: Kind<Heap<'a>>,
+    kind: Kind<A>,
 ) -> Result<(), Outcome> {
     if !can_hold(tree, container) {
         return Err(Outcome::Other);
@@ -78,34 +62,50 @@ fn put<'a>(
     Ok(())
 }
 
-fn rewrite<'a>(
-    tree: &mut Tree<Heap<'a>>,
-    leaf: usize,
-    text: String<Heap<'a>>,
-) -> Result<(), Outcome> {
-    if leaf >= tree.len() || !keeps_text(tree.kind(leaf)) {
+/// Another leaf in the place of one.
+fn set<A: Allocator + Copy>(tree: &mut Tree<A>, leaf: usize, kind: Kind<A>) -> Result<(), Outcome> {
+    if leaf >= tree.len() || tree.kind(leaf).is_container() || kind.is_container() {
         return Err(Outcome::Other);
     }
-    tree.set_text(leaf, text);
+    tree.set_leaf(leaf, kind);
     Ok(())
 }
 
-/// A tree that each change has a part in.
-pub fn changed_tree(heap: Heap<'_>) -> Result<Outcome, Outcome> {
-    let mut tree = Tree::new(heap)?;
-    let array = push(&mut tree, 0, Kind::Array)?;
-    push(&mut tree, array, Kind::Token('['))?;
-    let number = push(&mut tree, array, Kind::Number(String::from_str(heap, "1")?))?;
-    attach(&mut tree, array, Kind::Token(']'))?;
-    put(&mut tree, array, 2, 2, Kind::Token(','))?;
+/// Fills the tree by pushing and attaching, and answers its array and the number in it.
+fn fill<A: Allocator + Copy>(alloc: A, tree: &mut Tree<A>) -> Result<(usize, usize), Outcome> {
+    let array = push(tree, 0, Kind::Array)?;
+    push(tree, array, Kind::Token('['))?;
+    let number = push(tree, array, Kind::Number(String::from_str(alloc, "1")?))?;
+    attach(tree, array, Kind::Token(']'))?;
+    Ok((array, number))
+}
+
+/// Puts a comma behind the number, blanks in the place of the comma, and a word in the number's.
+fn change<A: Allocator + Copy>(alloc: A, tree: &mut Tree<A>) -> Result<(), Outcome> {
+    let (array, number) = fill(alloc, tree)?;
+    put(tree, array, 2, 2, Kind::Token(','))?;
     put(
-        &mut tree,
+        tree,
         array,
         2,
         3,
-        Kind::Whitespace(String::from_str(heap, "  ")?),
+        Kind::Whitespace(String::from_str(alloc, "  ")?),
     )?;
-    rewrite(&mut tree, number, String::from_str(heap, "23")?)?;
-    let printed = tree.to_string(heap)?;
-    Ok(Outcome::of(printed.as_str() == "[23  ]"))
+    set(tree, number, Kind::Word(String::from_str(alloc, "a")?))
+}
+
+/// A tree that each change has a part in.
+pub fn changed_tree<A: Allocator + Copy>(alloc: A) -> Outcome {
+    match Tree::new(alloc) {
+        Ok(tree) => is_changed(alloc, tree),
+        Err(error) => Outcome::from(error),
+    }
+}
+
+fn is_changed<A: Allocator + Copy>(alloc: A, tree: Tree<A>) -> Outcome {
+    let mut tree = tree;
+    match change(alloc, &mut tree) {
+        Ok(()) => Outcome::of_text(tree.to_string(alloc), "[a  ]"),
+        Err(outcome) => outcome,
+    }
 }

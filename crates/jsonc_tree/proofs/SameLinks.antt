@@ -2,10 +2,10 @@
 use Rattle.std.proofs.Common.{◌≡◌, ℕ, false, suc, zero, [], ◌∷◌, inl, inr, cond, eq-eqb, ◌<◌, ◌≤◌, List, length, get_or, set, length-set, Option, None, Some, refl, sym, ap, ◌∙◌, arith}
 use Rattle.std.proofs.lemmas.Bool.{cases_eq, ne_eqb}
 use Rattle.std.proofs.lemmas.List.{get_or-set_same, get_or-set_other}
-use Rattle.jsonc_tree.specs.Content.{Content, root, object, array, property, string, word, number, boolean, null, token, whitespace, newline, comment, is_container, with_text}
+use Rattle.jsonc_tree.specs.Content.{Content, root}
 use Rattle.jsonc_tree.specs.Tree as tree
 use Rattle.jsonc_tree.specs.Tree.{room_at, node_at, nowhere, children_at, parent_at, content_at, is_container_at, IsTreeBy, Rooted, top, under, place_among, place_under, place_at, IsTree}
-use Rattle.jsonc_tree.specs.Changes.{Rewrites}
+use Rattle.jsonc_tree.specs.Changes.{LeafBecomes}
 
 module _ (ns ms : List tree.Node) (place other : ℕ → ℕ) (more : length ns ≤ length ms) (kids : (k : ℕ) → children_at ms k ≡ children_at ns k) (parents : (k : ℕ) → parent_at ms k ≡ parent_at ns k) (places : (k : ℕ) → other k ≡ place k) where
   rooted_same : (n : ℕ) → Rooted ns n → Rooted ms n
@@ -35,22 +35,6 @@ kept_kids f ns n k x h e =
       | inr ne ↦ ap f (get_or-set_other ns n k x nowhere ne)
     ]
 
--- another text keeps a leaf a leaf
-pub is_container-with_text : (content : Content) (s : List ℕ) → is_container (with_text content s) ≡ is_container content
-is_container-with_text root s = refl
-is_container-with_text object s = refl
-is_container-with_text array s = refl
-is_container-with_text property s = refl
-is_container-with_text (string t) s = refl
-is_container-with_text (word t) s = refl
-is_container-with_text (number t) s = refl
-is_container-with_text (boolean b) s = refl
-is_container-with_text null s = refl
-is_container-with_text (token c) s = refl
-is_container-with_text (whitespace t) s = refl
-is_container-with_text (newline k) s = refl
-is_container-with_text (comment t) s = refl
-
 place_among_found : (n k : ℕ) (cs : List ℕ) → k < length cs → get_or cs k 0 ≡ n → ((j : ℕ) → j < length cs → get_or cs j 0 ≡ n → j ≡ k) → place_among n cs ≡ k
 place_among_found n k [] h e once = absurd (omega arith)
 place_among_found n zero (m ∷ ms) h e once = ap (λ b. cond b 0 (suc (place_among n ms))) (eq-eqb n m (sym e))
@@ -70,14 +54,14 @@ module _ (ns : List tree.Node) (place : ℕ → ℕ) (t : IsTreeBy ns place) whe
   pub IsTree-from : IsTree ns
   IsTree-from = IsTreeBy-same ns ns place (place_at ns) (omega arith) (λ k. refl) (λ k. refl) (λ k. sym (place_is k)) t.root_first t.leaf t
 
--- the nodes, but for the text of one
-abbrev pub text_set : List tree.Node → ℕ → List ℕ → List tree.Node
-text_set ns n s = set ns n (record (tree.node_at ns n) { content = with_text (tree.content_at ns n) s })
+-- the nodes, but for what one is
+abbrev pub content_set : List tree.Node → ℕ → Content → List tree.Node
+content_set ns n content = set ns n (record (tree.node_at ns n) { content = content })
 
--- what a write of a leaf's text leaves at each node
-pub Rewrites-set : (old new : List tree.Node) (n : ℕ) (s : List ℕ) → n < length old → new ≡ text_set old n s → Rewrites old new n s
-Rewrites-set old new n s h e =
-    let x : tree.Node = record (node_at old n) { content = with_text (content_at old n) s } in
+-- what a write of what a leaf is leaves at each node
+pub LeafBecomes-set : (old new : List tree.Node) (n : ℕ) (content : Content) → n < length old → new ≡ content_set old n content → LeafBecomes old new n content
+LeafBecomes-set old new n content h e =
+    let x : tree.Node = record (node_at old n) { content = content } in
     record {
       len = ap length e ∙ length-set old n x;
       content = ap (λ l. content_at l n) e ∙ ap (λ (m : tree.Node). m.content) (get_or-set_same old n x nowhere h);

@@ -1,16 +1,15 @@
--- Changes that leave every row as it is: a new node, another text.
+-- Changes that leave every row as it is: a new node, a leaf that becomes another.
 use Rattle.std.proofs.Common.{◌≡◌, ◌^◌, ℕ, true, false, zero, suc, ◌<◌, ◌≤◌, List, [], ◌∷◌, ◌++◌, length, get_or, set, Option, None, Some, inl, inr, slice_get, refl, sym, ap, subst, ◌∙◌, arith, length-set}
 use Rattle.std.proofs.lemmas.Bool.{cases_lt, cases_eq, false≢true}
 use Rattle.std.proofs.lemmas.List.{get_or_append_left, get_or_past, get_or_push, length_push, get_or-set_same, get_or-set_other}
 use Rattle.std.proofs.lemmas.Option.{slice_get_past}
-use Rattle.jsonc_tree.specs.Content.{Content, root, is_container, has_text, with_text}
+use Rattle.jsonc_tree.specs.Content.{Content, root, is_container}
 use Rattle.jsonc_tree.specs.declared.node.Kind.{Kind}
 use Rattle.jsonc_tree.specs.Tree as tree
 use Rattle.jsonc_tree.specs.Tree.{children_at, parent_at, content_at, node_at, room_at, place_at, is_container_at, IsTree, IsTreeBy, top}
-use Rattle.jsonc_tree.specs.Changes.{Adds, Rewrites}
+use Rattle.jsonc_tree.specs.Changes.{Adds, LeafBecomes}
 use Rattle.jsonc_tree.specs.Stored.{content_of}
-use Rattle.jsonc_tree.proofs.SameLinks.{text_set}
-use Rattle.jsonc_tree.proofs.SameLinks.{IsTreeBy-same, IsTree-from, Rewrites-set, is_container-with_text}
+use Rattle.jsonc_tree.proofs.SameLinks.{content_set, IsTreeBy-same, IsTree-from, LeafBecomes-set}
 use Rattle.jsonc_tree.specs.declared.node.Node as stored
 use Rattle.jsonc_tree.specs.Stored.{bare, nowhere, link_at, nodes_of, room_over, ahead_at, back_at, IsStored}
 use Rattle.jsonc_tree.specs.Siblings.{IsGap}
@@ -160,77 +159,80 @@ module _ {A : Type 0} (kind : Kind A) (said : content_of kind ≡ root) where
     };
   }
 
--- another text
-module _ {A : Type 0} (ls : List (stored.Node A)) (ok : IsStored ls) (n : ℕ) (e : stored.Node A) (kind : Kind A) (s : List ℕ) (there : n < length ls) (read : e ≡ link_at ls n) (keeps : has_text (content_at (nodes_of ls) n) ≡ true) (said : content_of kind ≡ with_text (content_at (nodes_of ls) n) s) where
-  abbrev rewritten : List (stored.Node A)
-  rewritten = set ls n (record e { kind = kind })
+-- a leaf that becomes another
+module _ {A : Type 0} (ls : List (stored.Node A)) (ok : IsStored ls) (n : ℕ) (e : stored.Node A) (kind : Kind A) (there : n < length ls) (read : e ≡ link_at ls n) (leaf : is_container_at (nodes_of ls) n ≡ false) where
+  abbrev other_leaf : List (stored.Node A)
+  other_leaf = set ls n (record e { kind = kind })
 
-  rewrites : Rewrites (nodes_of ls) (text_set (nodes_of ls) n s) n s
-  rewrites = Rewrites-set (nodes_of ls) (text_set (nodes_of ls) n s) n s (omega (arith, length_shown ls)) refl
+  abbrev leaf_set : List tree.Node
+  leaf_set = content_set (nodes_of ls) n (content_of kind)
 
-  room_same : (k : ℕ) → room_at (text_set (nodes_of ls) n s) k ≡ room_at (nodes_of ls) k
+  becomes : LeafBecomes (nodes_of ls) leaf_set n (content_of kind)
+  becomes = LeafBecomes-set (nodes_of ls) leaf_set n (content_of kind) (omega (arith, length_shown ls)) refl
+
+  room_same : (k : ℕ) → room_at leaf_set k ≡ room_at (nodes_of ls) k
   room_same k =
       elim (cases_eq k n) [
-        | inl is ↦ ap (room_at (text_set (nodes_of ls) n s)) is ∙ ap (λ (x : tree.Node). x.room) (get_or-set_same (nodes_of ls) n _ tree.nowhere (omega (arith, length_shown ls))) ∙ ap (room_at (nodes_of ls)) (sym is)
+        | inl is ↦ ap (room_at leaf_set) is ∙ ap (λ (x : tree.Node). x.room) (get_or-set_same (nodes_of ls) n _ tree.nowhere (omega (arith, length_shown ls))) ∙ ap (room_at (nodes_of ls)) (sym is)
         | inr ne ↦ ap (λ (x : tree.Node). x.room) (get_or-set_other (nodes_of ls) n k _ tree.nowhere ne)
       ]
 
-  rewritten_tree : IsTree (text_set (nodes_of ls) n s)
-  rewritten_tree =
-      IsTree-from (text_set (nodes_of ls) n s) (place_at (nodes_of ls))
-      (IsTreeBy-same (nodes_of ls) (text_set (nodes_of ls) n s) (place_at (nodes_of ls)) (place_at (nodes_of ls))
-      (omega (arith, rewrites.len)) rewrites.children rewrites.parent (λ k. refl)
+  leaf_set_tree : IsTree leaf_set
+  leaf_set_tree =
+      IsTree-from leaf_set (place_at (nodes_of ls))
+      (IsTreeBy-same (nodes_of ls) leaf_set (place_at (nodes_of ls)) (place_at (nodes_of ls))
+      (omega (arith, becomes.len)) becomes.children becomes.parent (λ k. refl)
       (elim (cases_eq 0 n) [
-        | inl is ↦ let wrong : true ≡ false = sym keeps ∙ ap (λ k. has_text (content_at (nodes_of ls) k)) (sym is) ∙ ap has_text ok.tree.root_first in absurd (false≢true (sym wrong))
-        | inr ne ↦ rewrites.others 0 ne ∙ ok.tree.root_first
+        | inl is ↦ let wrong : false ≡ true = sym leaf ∙ ap (is_container_at (nodes_of ls)) (sym is) ∙ ap is_container ok.tree.root_first in absurd (false≢true wrong)
+        | inr ne ↦ becomes.others 0 ne ∙ ok.tree.root_first
       ])
       (λ k h. ok.tree.leaf k (elim (cases_eq k n) [
-        | inl is ↦ ap (is_container_at (nodes_of ls)) is ∙ sym (is_container-with_text (content_at (nodes_of ls) n) s) ∙ ap is_container (sym rewrites.content) ∙ ap (is_container_at (text_set (nodes_of ls) n s)) (sym is) ∙ h
-        | inr ne ↦ ap is_container (sym (rewrites.others k ne)) ∙ h
+        | inl is ↦ ap (is_container_at (nodes_of ls)) is ∙ leaf
+        | inr ne ↦ ap is_container (sym (becomes.others k ne)) ∙ h
       ]))
       ok.tree)
 
-  field_kept : {X : Type 0} (f : stored.Node A → X) (k : ℕ) → f (record e { kind = kind }) ≡ f e → f (link_at rewritten k) ≡ f (link_at ls k)
+  field_kept : {X : Type 0} (f : stored.Node A → X) (k : ℕ) → f (record e { kind = kind }) ≡ f e → f (link_at other_leaf k) ≡ f (link_at ls k)
   field_kept f k same = kept f ls n k (record e { kind = kind }) (same ∙ ap f read)
 
-  ahead_kept : (c : ℕ) (o : Option ℕ) → ahead_at rewritten c o ≡ ahead_at ls c o
+  ahead_kept : (c : ℕ) (o : Option ℕ) → ahead_at other_leaf c o ≡ ahead_at ls c o
   ahead_kept c None = field_kept (λ x. x.first) c refl
   ahead_kept c (Some m) = field_kept (λ x. x.next) m refl
 
-  back_kept : (c : ℕ) (o : Option ℕ) → back_at rewritten c o ≡ back_at ls c o
+  back_kept : (c : ℕ) (o : Option ℕ) → back_at other_leaf c o ≡ back_at ls c o
   back_kept c None = field_kept (λ x. x.last) c refl
   back_kept c (Some m) = field_kept (λ x. x.previous) m refl
 
-  rewritten_agrees : Agrees rewritten (text_set (nodes_of ls) n s)
-  rewritten_agrees =
+  other_agrees : Agrees other_leaf leaf_set
+  other_agrees =
       let same = agrees ls ok in
       record {
-        len = length-set ls n _ ∙ same.len ∙ sym rewrites.len;
+        len = length-set ls n _ ∙ same.len ∙ sym becomes.len;
         content = λ k h. elim (cases_eq k n) [
           | inl is ↦
-              ap (λ m. content_of (link_at rewritten m).kind) is
+              ap (λ m. content_of (link_at other_leaf m).kind) is
               ∙ ap (λ (x : stored.Node A). content_of x.kind) (get_or-set_same ls n (record e { kind = kind }) nowhere there)
-              ∙ said ∙ sym rewrites.content ∙ ap (content_at (text_set (nodes_of ls) n s)) (sym is)
+              ∙ sym becomes.content ∙ ap (content_at leaf_set) (sym is)
           | inr ne ↦
               ap (λ (x : stored.Node A). content_of x.kind) (get_or-set_other ls n k (record e { kind = kind }) nowhere ne)
-              ∙ same.content k (omega (arith, rewrites.len)) ∙ sym (rewrites.others k ne)
+              ∙ same.content k (omega (arith, becomes.len)) ∙ sym (becomes.others k ne)
         ];
-        parent = λ k. field_kept (λ x. x.parent) k refl ∙ same.parent k ∙ sym (rewrites.parent k);
-        room = λ k h. room_same k ∙ same.room k (omega (arith, rewrites.len)) ∙ ap room_over (sym (rewrites.children k));
+        parent = λ k. field_kept (λ x. x.parent) k refl ∙ same.parent k ∙ sym (becomes.parent k);
+        room = λ k h. room_same k ∙ same.room k (omega (arith, becomes.len)) ∙ ap room_over (sym (becomes.children k));
         linked = record {
-          ahead = λ c k h. let r = rewrites.children c in rw r (ahead_kept c _ ∙ same.linked.ahead c k (omega (arith, h, ap length r)));
-          back = λ c k h. let r = rewrites.children c in rw r (back_kept c _ ∙ same.linked.back c k (omega (arith, h, ap length r)));
+          ahead = λ c k h. let r = becomes.children c in rw r (ahead_kept c _ ∙ same.linked.ahead c k (omega (arith, h, ap length r)));
+          back = λ c k h. let r = becomes.children c in rw r (back_kept c _ ∙ same.linked.back c k (omega (arith, h, ap length r)));
           alone = λ k e.
-              let was : parent_at (nodes_of ls) k ≡ None = sym (rewrites.parent k) ∙ e in
+              let was : parent_at (nodes_of ls) k ≡ None = sym (becomes.parent k) ∙ e in
               (field_kept (λ x. x.next) k refl ∙ (same.linked.alone k was).0, field_kept (λ x. x.previous) k refl ∙ (same.linked.alone k was).1);
         };
       }
 
-  pub rewritten_stored : IsStored rewritten
-  rewritten_stored = stored_by _ _ rewritten_tree rewritten_agrees
+  pub other_leaf_stored : IsStored other_leaf
+  other_leaf_stored = stored_by _ _ leaf_set_tree other_agrees
 
-  pub rewritten_says : Rewrites (nodes_of ls) (nodes_of rewritten) n s
-  rewritten_says = subst (λ (l : List tree.Node). Rewrites (nodes_of ls) l n s) (sym (shown_is _ _ rewritten_tree rewritten_agrees)) rewrites
+  pub other_leaf_says : LeafBecomes (nodes_of ls) (nodes_of other_leaf) n (content_of kind)
+  other_leaf_says = subst (λ (l : List tree.Node). LeafBecomes (nodes_of ls) l n (content_of kind)) (sym (shown_is _ _ leaf_set_tree other_agrees)) becomes
 
 -- the gap at the end of a row
 module _ {A : Type 0} (ls : List (stored.Node A)) (ok : IsStored ls) where

@@ -1,7 +1,7 @@
 -- What the changes of a tree do to its nodes.
 use Rattle.std.specs.Prelude.{◌≡◌, ◌≢◌, ℕ, ◌+◌, ◌-◌, ◌≤◌, ◌<◌, ◌⊎◌, true, List, [], ◌∷◌, ◌++◌, length, Option, Some, None, slice_index, slice_range, if◌then◌else◌}
 use Rattle.std.specs.List.{splice}
-use Rattle.jsonc_tree.specs.Content.{Content, with_text}
+use Rattle.jsonc_tree.specs.Content.{Content}
 use Rattle.jsonc_tree.specs.Tree.{Node, node_at, content_at, parent_at, children_at, room_at, is_container_at, is_in, IsOver}
 
 -- no number stands twice in the list
@@ -62,10 +62,10 @@ pub record Adds (old new : List Node) (content : Content) : Type 0 where
   pub bare : (parent_at new (length old) ≡ None) × (children_at new (length old) ≡ [])
   pub rest : (n : ℕ) → n < length old → node_at new n ≡ node_at old n
 
--- the nodes are as they were, but that one leaf has this text
-pub record Rewrites (old new : List Node) (leaf : ℕ) (text : List ℕ) : Type 0 where
+-- the nodes are as they were, but that one leaf is now this
+pub record LeafBecomes (old new : List Node) (leaf : ℕ) (now : Content) : Type 0 where
   pub len : length new ≡ length old
-  pub content : content_at new leaf ≡ with_text (content_at old leaf) text
+  pub content : content_at new leaf ≡ now
   pub others : (n : ℕ) → n ≢ leaf → content_at new n ≡ content_at old n
   pub parent : (n : ℕ) → parent_at new n ≡ parent_at old n
   pub children : (n : ℕ) → children_at new n ≡ children_at old n

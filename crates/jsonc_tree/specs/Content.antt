@@ -50,16 +50,7 @@ text_of (whitespace s) = s
 text_of (newline k) = newline_text k
 text_of (comment s) = s
 
--- the leaf keeps a text of its own, which can be set
-abbrev pub has_text : Content → Bool
-has_text (string s) = true
-has_text (word s) = true
-has_text (number s) = true
-has_text (whitespace s) = true
-has_text (comment s) = true
-has_text _ = false
-
--- that text, if the leaf keeps one
+-- the text that a leaf keeps of its own, if it keeps one
 abbrev pub kept_text : Content → Option (List ℕ)
 kept_text (string s) = Some s
 kept_text (word s) = Some s
@@ -67,12 +58,3 @@ kept_text (number s) = Some s
 kept_text (whitespace s) = Some s
 kept_text (comment s) = Some s
 kept_text _ = None
-
--- the same kind of leaf with another text
-abbrev pub with_text : Content → List ℕ → Content
-with_text (string _) s = string s
-with_text (word _) s = word s
-with_text (number _) s = number s
-with_text (whitespace _) s = whitespace s
-with_text (comment _) s = comment s
-with_text content s = content

@@ -1,7 +1,7 @@
 //! What a node is.
 
-ghost use Rattle.std.specs.Prelude.{◌≡◌, IsTrue, option_map, string_bytes};
-ghost use Rattle.jsonc_tree.specs.Content.{has_text, is_container, kept_text, with_text};
+ghost use Rattle.std.specs.Prelude.{◌≡◌, option_map};
+ghost use Rattle.jsonc_tree.specs.Content.{is_container, kept_text};
 ghost use Rattle.jsonc_tree.specs.Stored.{bare, content_of};
 
 use crate::link::Link;
@@ -77,26 +77,6 @@ impl<A: Allocator> Kind<A> {
             | Kind::WhitespacePart(s)
             | Kind::CommentPart(s) => Some(s.as_str()),
             _ => None,
-        }
-    }
-
-    /// Gives a leaf that keeps a text another one.
-    pub(crate) fn set_text(&mut self, text: String<A>)
-        requires { IsTrue (has_text (content_of self.old)) }
-        ensures { content_of self.new ≡ with_text (content_of self.old) (string_bytes text) }
-    {
-        match self {
-            Kind::String(s) => *s = text,
-            Kind::Word(s) => *s = text,
-            Kind::Number(s) => *s = text,
-            Kind::Whitespace(s) => *s = text,
-            Kind::Comment(s) => *s = text,
-            Kind::StringPart(_) => *self = Kind::String(text),
-            Kind::WordPart(_) => *self = Kind::Word(text),
-            Kind::NumberPart(_) => *self = Kind::Number(text),
-            Kind::WhitespacePart(_) => *self = Kind::Whitespace(text),
-            Kind::CommentPart(_) => *self = Kind::Comment(text),
-            _ => unreachable!(),
         }
     }
 }

@@ -1,11 +1,11 @@
 //! The nodes of a document, and their changes.
 
-ghost use Rattle.std.specs.Prelude.{◌≡◌, ℕ, string_bytes, IsTrue, ◌+◌, ◌-◌, ◌^◌, ◌<◌, ◌≤◌, [], ◌∷◌};
+ghost use Rattle.std.specs.Prelude.{◌≡◌, ℕ, false, IsTrue, ◌+◌, ◌-◌, ◌^◌, ◌<◌, ◌≤◌, [], ◌∷◌};
 ghost use Rattle.std.specs.Prelude.{length, vec_capacity, vec_len, IfOk, OnErr, OnOk};
-ghost use Rattle.jsonc_tree.specs.Content.{has_text};
-ghost use Rattle.jsonc_tree.specs.Tree.{children_at, content_at, is_container_at, room_at, IsTree};
+ghost use Rattle.jsonc_tree.specs.Content.{is_container};
+ghost use Rattle.jsonc_tree.specs.Tree.{children_at, is_container_at, room_at, IsTree};
 ghost use Rattle.jsonc_tree.specs.Changes.{Adds, Appends, CanAppend, CanJoin};
-ghost use Rattle.jsonc_tree.specs.Changes.{MakesRoom, Pushes, Rewrites, Splices};
+ghost use Rattle.jsonc_tree.specs.Changes.{LeafBecomes, MakesRoom, Pushes, Splices};
 ghost use Rattle.jsonc_tree.specs.Siblings.{Fills, HasGap};
 ghost use Rattle.jsonc_tree.specs.Stored.{content_of, nodes_in, IsStored};
 
@@ -39,17 +39,18 @@ impl<A: Allocator> Model for Tree<A> {
     ghost invariant = { λ t. IsStored t.nodes.items };
 }
 
-// Gives a leaf another text.
-fn set_text_at<A: Allocator>(nodes: &mut Vec<Node<A>, A>, n: usize, text: String<A>)
+// Lets a leaf become another.
+fn set_leaf_at<A: Allocator>(nodes: &mut Vec<Node<A>, A>, leaf: usize, kind: Kind<A>)
     requires stored { IsStored nodes.old.items }
-    requires there { n < vec_len nodes.old }
-    requires leaf { IsTrue (has_text (content_at (nodes_in nodes.old) n)) }
-    ensures rewrites { Rewrites (nodes_in nodes.old) (nodes_in nodes.new) n (string_bytes text) }
+    requires there { leaf < vec_len nodes.old }
+    requires leaf { is_container_at (nodes_in nodes.old) leaf ≡ false }
+    requires stays { is_container (content_of kind) ≡ false }
+    ensures becomes { LeafBecomes (nodes_in nodes.old) (nodes_in nodes.new) leaf (content_of kind) }
     ensures stored { IsStored nodes.new.items }
     ensures len { vec_len nodes.new ≡ vec_len nodes.old }
     ensures capacity { vec_capacity nodes.new ≡ vec_capacity nodes.old }
 {
-    nodes[n].kind.set_text(text);
+    nodes[leaf].kind = kind;
 }
 
 // There is room for any number of children.
@@ -171,15 +172,16 @@ impl<A: Allocator> Tree<A> {
         Ok(())
     }
 
-    /// Gives a leaf that keeps a text another one: a string, word, number, whitespace or comment.
-    pub fn set_text(&mut self, leaf: usize, text: String<A>)
+    /// Lets a leaf become another one, which may be of another kind, in its place.
+    pub fn set_leaf(&mut self, leaf: usize, kind: Kind<A>)
         requires there { leaf < length self.old.nodes }
-        requires leaf { IsTrue (has_text (content_at self.old.nodes leaf)) }
-        ensures rewrites { Rewrites self.old.nodes self.new.nodes leaf (string_bytes text) }
+        requires leaf { is_container_at self.old.nodes leaf ≡ false }
+        requires stays { is_container (content_of kind) ≡ false }
+        ensures becomes { LeafBecomes self.old.nodes self.new.nodes leaf (content_of kind) }
         ensures spare { self.old.room ≤ self.new.room }
         ensures tree { IsTree self.new.nodes }
     {
-        set_text_at(&mut self.nodes, leaf, text);
+        set_leaf_at(&mut self.nodes, leaf, kind);
     }
 }
 

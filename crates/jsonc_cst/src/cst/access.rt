@@ -21,8 +21,8 @@ use jsonc_tree::{Ancestors, Kind, Tree};
 use std::alloc::{AllocError, Allocator};
 use std::marker::Model;
 
-// The node that stands under a number.
-pub(super) fn node_at<A: Allocator>(tree: &Tree<A>, number: usize) -> CstNode
+/// The node that stands under a number.
+pub fn node_at<A: Allocator>(tree: &Tree<A>, number: usize) -> CstNode
     requires { number < length tree.now.nodes }
     ensures node { result ≡ typed_at tree.now.nodes number }
     ensures held { IsNodeOf tree.now.nodes result }
@@ -107,7 +107,8 @@ pub(super) fn children_of<A: Allocator>(
 
 impl<A: Allocator> CstRootNode<A> {
     // Its nodes are stored as a tree, and so they are one in the words of the calls.
-    pub(super) fn nodes_are_tree(&self)
+    #[doc(hidden)]
+    pub fn nodes_are_tree(&self)
         ensures stored { IsTree (nodes_of self.now) }
         ensures tree { NodesAreTree self.now }
     {

@@ -225,8 +225,8 @@ impl CstLeafNode {
 }
 
 impl CstNode {
-    // Its number in the document.
-    pub(super) fn number(self) -> usize
+    /// Its number in the document.
+    pub fn number(self) -> usize
         ensures { result ≡ number_of self }
     {
         match self {

@@ -1,6 +1,6 @@
 use Rattle.std.proofs.Common.{sym, subst}
 use Rattle.jsonc_edit.specs.Paths.{FindsExactly}
-use Rattle.jsonc_run.specs.Edits.{IsEntryAt}
+use Rattle.jsonc_run.specs.Places.{IsEntryAt}
 use Rattle.jsonc_run.proofs.EntryPaths.{value_found, entry_found, nothing_found}
 use Rattle.jsonc_run.proofs.entries.find_entry.Goals as goal
 

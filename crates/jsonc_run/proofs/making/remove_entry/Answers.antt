@@ -1,4 +1,4 @@
-use Rattle.jsonc_run.specs.Edits.{IsEntryAt}
+use Rattle.jsonc_run.specs.Places.{IsEntryAt}
 use Rattle.jsonc_run.proofs.Made.{entry_made, entry_told, no_place}
 use Rattle.jsonc_run.proofs.making.remove_entry.Goals as goal
 

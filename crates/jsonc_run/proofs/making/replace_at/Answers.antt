@@ -3,7 +3,8 @@ use Rattle.jsonc_input.specs.Views.{plain}
 use Rattle.jsonc_tree.specs.Tree.{parent_at}
 use Rattle.jsonc_edit.specs.Paths.{IsAt}
 use Rattle.jsonc_edit.specs.Reading.{IsReplaced}
-use Rattle.jsonc_run.specs.Edits.{replace, IsToldBy}
+use Rattle.jsonc_run.specs.Edits.{replace}
+use Rattle.jsonc_run.specs.Refusals.{IsToldBy}
 use Rattle.jsonc_run.proofs.Made.{no_place, not_alone, none_is, some_is}
 use Rattle.jsonc_run.proofs.making.replace_at.Goals as goal
 

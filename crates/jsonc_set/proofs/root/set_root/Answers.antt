@@ -1,12 +1,14 @@
 use Rattle.std.proofs.Common.{sym, ◌∙◌}
 use Rattle.jsonc_input.specs.Views.{plain}
+use Rattle.jsonc_tree.specs.Tree.{parent_at}
 use Rattle.jsonc_nodes.specs.Properties.{value_at}
 use Rattle.jsonc_edit.specs.Written.{Writes}
-use Rattle.jsonc_set.proofs.Making.{root_child, holds_of_found}
+use Rattle.jsonc_set.proofs.Making.{has_parent, root_child, holds_of_found}
 use Rattle.jsonc_set.proofs.root.set_root.Goals as goal
 
 pub replace_child-requires : goal.replace_child-requires
-replace_child-requires g c = root_child c.args.tree.now.nodes c.len.ensures.tree c.in-Some.node (sym c.value_of.ensures.value ∙ c.in-Some.is)
+replace_child-requires g c =
+    has_parent (parent_at c.args.tree.now.nodes c.in-Some.node) 0 (root_child c.args.tree.now.nodes c.len.ensures.tree c.in-Some.node (sym c.value_of.ensures.value ∙ c.in-Some.is))
 
 pub returns-in-Some-clause-written : goal.returns-in-Some-clause-written
 returns-in-Some-clause-written g c = λ p.

@@ -5,7 +5,7 @@ use Rattle.jsonc_tree.proofs.Appending.{CanAppend-adds, CanAppend-room, CanJoin-
 use Rattle.jsonc_tests.proofs.trees.put.Goals as goal
 
 pub splice-requires-clause-join : goal.splice-requires-clause-join
-splice-requires-clause-join c =
+splice-requires-clause-join g c =
     let old = c.args.tree.now.nodes in
     let new = c.reserve.new.self.nodes in
     let added = CanAppend-adds old c.add.new.self.nodes (content_of c.args.kind) c.args.container c.add.ensures.tree (c.if-not-can_hold.ensures.there refl) (c.if-not-can_hold.ensures.container refl) c.in_ok-node.ensures.added in

@@ -1,0 +1,25 @@
+//! The document: the tree of a text, in which every byte of it stands, and its edits.
+//!
+//! A [`CstRootNode`] owns its nodes and names each by a number. A caller holds a [`CstNode`], or a
+//! node of one kind as [`CstObject`]: a number that says what it is the number of, and can be copied.
+//! It is asked together with its document, and [`CstRootNode::holds`] tells whether that has it; all
+//! nodes that a call answers are nodes of the document that was asked. [`ReplaceWith`],
+//! [`ReplaceProperty`], [`Remove`] and [`RemoveLeaf`] are the edits of nodes, [`SetRoot`] has those of
+//! the document's value, and [`SetRawValue`], [`SetToken`], [`SetWhitespace`] and [`SetNewline`] write a
+//! leaf anew as it stands. [`run`] makes a list of edits, each at its path.
+
+mod lists;
+
+pub use jsonc_cst::cst::{
+    AncestorIterator, CstArray, CstBooleanLit, CstComment, CstContainerNode, CstInputValue,
+    CstLeafNode, CstNewline, CstNewlineKind, CstNode, CstNullKeyword, CstNumberLit, CstObject,
+    CstObjectProp, CstRoot, CstRootNode, CstStringLit, CstToken, CstWhitespace, CstWordLit,
+    EditError, HasChildren, IsNode, NextSiblingIterator, ObjectPropName, PreviousSiblingIterator,
+    Readings, Shown, TrailingCommaMode, input,
+};
+pub use jsonc_run::{Edit, Over, Shape};
+pub use jsonc_typed::{
+    IsDocument, Remove, RemoveLeaf, ReplaceProperty, ReplaceWith, SetNewline, SetRawValue, SetRoot,
+    SetToken, SetWhitespace,
+};
+pub use lists::run;

@@ -1,0 +1,77 @@
+-- What edits of the root make of a document: its value is set, or all leaves it.
+use Rattle.std.proofs.Common.{◌≡◌, ℕ, Bool, List, [], ◌∷◌, length, filter, slice_get, Option, Some, None, inl, inr, refl, sym, ap, subst, ◌∙◌, arith}
+use Rattle.std.proofs.lemmas.Bool.{cases_Bool}
+use Rattle.std.proofs.lemmas.List.{drop_all}
+use Rattle.std.specs.List.{find}
+use Rattle.jsonc_text.specs.Options.{Options}
+use Rattle.jsonc_text.specs.Plain.{Plain}
+use Rattle.jsonc_tree.specs.Changes.{Splices}
+use Rattle.jsonc_tree.specs.OrderedTree.{none, Shows, shows_none, ordered_tree}
+use Rattle.jsonc_tree.specs.Tree.{Node, children_at, IsTree}
+use Rattle.jsonc_nodes.specs.Kinds.{is_element_at}
+use Rattle.jsonc_nodes.specs.Properties.{value_at, value_by}
+use Rattle.jsonc_sound.proofs.LeavesAround.{document_differs}
+use Rattle.jsonc_sound.specs.Changes as changes
+use Rattle.jsonc_sound.specs.Changes.{Changed}
+use Rattle.jsonc_seams.specs.SoundTrees.{SoundTree}
+use Rattle.jsonc_from_input.specs.Laid.{laid}
+use Rattle.jsonc_rows.specs.Laws.{root_with}
+use Rattle.jsonc_edit.specs.Changes.{row_below, top_at}
+use Rattle.jsonc_edit.specs.Paths.{IsAt, itself}
+use Rattle.jsonc_edit.specs.Reading.{layout_for, IsReplaced}
+use Rattle.jsonc_edit.proofs.Elements.{taken, left}
+use Rattle.jsonc_edit.proofs.FittingFinds.{passes, fails, none_is_some}
+use Rattle.jsonc_edit.proofs.ReplacedValues.{changed, put}
+use Rattle.jsonc_edit.proofs.Walk.{Shows-row_below, document_is}
+use Rattle.jsonc_set.proofs.Coming.{comes_among_rows}
+use Rattle.jsonc_run.specs.Edits.{RootSet}
+use Rattle.jsonc_run.specs.Written.{ValueGivesWay, RootValueSet, given_way, has_come}
+
+-- what is found is the first that passes
+module _ (test : ℕ → Bool) where
+  first_found : (xs : List ℕ) (n : ℕ) → find test xs ≡ Some n → slice_get (filter test xs) 0 ≡ Some n
+  first_found [] n e = none_is_some n e
+  first_found (x ∷ xs) n e =
+      elim (cases_Bool (test x)) [
+        | inl h ↦ ap (λ l. slice_get l 0) (taken test x xs h) ∙ sym (passes test x xs h) ∙ e
+        | inr h ↦ ap (λ l. slice_get l 0) (left test x xs h) ∙ first_found xs n (sym (fails test x xs h) ∙ e)
+      ]
+
+-- the root's value is what stands at the empty path
+pub value_stands : (ns : List Node) → IsTree ns → (n : ℕ) → value_at ns 0 ≡ Some n → IsAt ns [] n
+value_stands ns tree n e = (n, first_found (is_element_at ns) (children_at ns 0) n (sym (ap (λ w. value_by w ns 0) tree.root_first) ∙ e), itself)
+
+-- a value that was replaced has given way
+pub value_gives_way : (old new : List Node) (path : List ℕ) (n m : ℕ) (v : Plain) → IsTree old → IsAt old path n → IsReplaced old new n v m → ValueGivesWay path v (ordered_tree old 0) (ordered_tree new 0)
+value_gives_way old new path n m v tree at r =
+    let top = laid (layout_for old r.0 n) v in
+    let change = changed old new n m top tree r.2 path at in
+    record {
+      was = top_at old n;
+      layout = layout_for old r.0 n;
+      spaced = ordered_tree r.2.spaced 0;
+      spaces = put old new n m top tree r.2 path at;
+      changed = change;
+      around = document_differs change;
+    }
+
+pub root_is : (ns : List Node) → IsTree ns → ordered_tree ns 0 ≡ root_with (row_below ns 0)
+root_is ns tree = sym (document_is ns tree (row_below ns 0) (Shows-row_below ns tree 0 tree.first))
+
+-- so the value of a sound document is set
+pub root_value_set : (o : Options) (old new : List Node) (v : Plain) → IsTree old → SoundTree o (ordered_tree old 0) → (w : Option ℕ) → value_at old 0 ≡ w → RootSet old new v w → RootValueSet v (ordered_tree old 0) (ordered_tree new 0)
+root_value_set o old new v tree s None e (m, f) =
+    has_come (layout_for old 0 0) (row_below old 0) (row_below new 0) (root_is old tree) (root_is new f.tree) (comes_among_rows o old new v m tree s e f)
+root_value_set o old new v tree s (Some n) e (m, r) = given_way (value_gives_way old new [] n m v tree (value_stands old tree n e) r)
+
+-- what takes the place of the whole value is the value
+pub whole_changed : {given_up v x y : Plain} → Changed given_up v [] x y → y ≡ v
+whole_changed changes.itself = refl
+
+-- a root that was cleared has no children
+pub emptied : (old new : List Node) → Splices old new 0 0 (length (children_at old 0)) [] → children_at new 0 ≡ []
+emptied old new s = s.children ∙ drop_all (length (children_at old 0)) (children_at old 0) (omega arith)
+
+-- so nothing is left of the document
+pub no_leaves : (ns : List Node) → IsTree ns → children_at ns 0 ≡ [] → ordered_tree ns 0 ≡ root_with none
+no_leaves ns tree e = sym (document_is ns tree none (subst (λ (l : List ℕ). Shows ns l none) (sym e) shows_none))

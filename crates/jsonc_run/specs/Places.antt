@@ -1,0 +1,32 @@
+-- What the path or the number of an edit leads to.
+use Rattle.std.specs.Prelude.{◌≡◌, ℕ, List, [], ◌∷◌, ◌++◌, Option, filter}
+use Rattle.std.specs.List.{slice_get}
+use Rattle.jsonc_tree.specs.Content.{array, object, property}
+use Rattle.jsonc_tree.specs.Tree.{Node, content_at}
+use Rattle.jsonc_tree.specs.Order.{in_order}
+use Rattle.jsonc_nodes.specs.Kinds.{is_comment_at}
+use Rattle.jsonc_edit.specs.Paths.{IsAt, IsElementOf}
+
+-- the comment of this number, counted from 0 in the order of the document
+abbrev pub comment_at : List Node → ℕ → Option ℕ
+comment_at ns number = slice_get (filter (is_comment_at ns) (in_order ns 0)) number
+
+-- the property at this place in an object; what it holds may be missing
+pub record IsPropertyOf (ns : List Node) (c i r : ℕ) : Type 0 where
+  pub of_object : content_at ns c ≡ object
+  pub element : IsElementOf ns c i r
+  pub is : content_at ns r ≡ property
+
+-- what stands at this place in an array, or the property at this place in an object
+pub data IsEntryOf (ns : List Node) (c i n : ℕ) : Type 0 where
+  in_array : content_at ns c ≡ array → IsElementOf ns c i n → IsEntryOf ns c i n
+  in_object : IsPropertyOf ns c i n → IsEntryOf ns c i n
+
+-- the property that a path leads to: its front leads to an object, and its last step to a property of that
+pub data IsPropertyAt (ns : List Node) : List ℕ → ℕ → Type 0 where
+  a_property : (front : List ℕ) (c i : ℕ) {r : ℕ} → IsAt ns front c → IsPropertyOf ns c i r → IsPropertyAt ns (front ++ i ∷ []) r
+
+-- what leaves with a path: the document's value, or the entry of an array or object that the last step leads to
+pub data IsEntryAt (ns : List Node) : List ℕ → ℕ → Type 0 where
+  the_value : {n : ℕ} → IsAt ns [] n → IsEntryAt ns [] n
+  an_entry : (front : List ℕ) (c i : ℕ) {n : ℕ} → IsAt ns front c → IsEntryOf ns c i n → IsEntryAt ns (front ++ i ∷ []) n

@@ -1,0 +1,31 @@
+-- The shapes that a document's value may have: those of nodes and of values, and their empty values.
+use Rattle.std.specs.Prelude.{Bool, true, false}
+use Rattle.jsonc_text.specs.Plain.{Plain, array, object, no_items, no_members}
+use Rattle.jsonc_tree.specs.Content.{Content}
+use Rattle.jsonc_set.specs.Kinds as kinds
+use Rattle.jsonc_run.specs.declared.edit.Shape.{Shape}
+use Rattle.jsonc_run.specs.declared.edit.Shape.TheVariants.{Object, Array}
+
+-- a value is an object, or an array
+abbrev pub is_object : Plain → Bool
+is_object (object ms) = true
+is_object v = false
+
+abbrev pub is_array : Plain → Bool
+is_array (array vs) = true
+is_array v = false
+
+-- a value of this shape
+abbrev pub has_shape : Shape → Plain → Bool
+has_shape Object = is_object
+has_shape Array = is_array
+
+-- a node of this shape
+abbrev pub is_of : Shape → Content → Bool
+is_of Object = kinds.is_object
+is_of Array = kinds.is_array
+
+-- the empty value of a shape
+abbrev pub empty_of : Shape → Plain
+empty_of Object = object no_members
+empty_of Array = array no_items

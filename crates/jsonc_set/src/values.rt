@@ -1,0 +1,185 @@
+//! Values of properties, set.
+
+ghost use Rattle.std.specs.Prelude.{◌≡◌, ◌+◌, ◌<◌, [], IfErr, IfNone, IfOk, IfSome, OnErr, OnOk, Some, false, length};
+ghost use Rattle.jsonc_text.specs.Options.{Options};
+ghost use Rattle.jsonc_text.specs.Plain.{array, object, no_items, no_members};
+ghost use Rattle.jsonc_tree.specs.Building.{Keeps};
+ghost use Rattle.jsonc_tree.specs.Changes.{Splices};
+ghost use Rattle.jsonc_tree.specs.Content.{Content};
+ghost use Rattle.jsonc_tree.specs.OrderedTree.{ordered_tree};
+ghost use Rattle.jsonc_tree.specs.Tree.{content_at, parent_at, place_at, IsTree};
+ghost use Rattle.jsonc_input.specs.Views.{plain};
+ghost use Rattle.jsonc_nodes.specs.Kinds.{is_colon_at};
+ghost use Rattle.jsonc_nodes.specs.Properties.{value_at};
+ghost use Rattle.jsonc_edit.specs.Reading.{IsReplaced};
+ghost use Rattle.jsonc_edit.specs.Written.{Writes};
+ghost use Rattle.jsonc_set.specs.Kinds.{is_array, is_object};
+ghost use Rattle.jsonc_set.specs.PropertyValues.{lacks_colon, lacks_name, HeldOrSet, IsUnset, LastValue};
+
+use crate::kinds::{empty_array, empty_object, is_array, is_object};
+use crate::root::replace_child;
+use jsonc_edit::{EditError, layout_for, replace_with};
+use jsonc_input::CstInputValue;
+use jsonc_nodes::{children_from, name_of, value_of};
+use jsonc_tree::{Kind, Tree};
+use std::alloc::Allocator;
+
+// Takes a child out of its container.
+fn take_child<A: Allocator>(tree: &mut Tree<A>, container: usize, child: usize)
+    requires { parent_at tree.old.nodes child ≡ Some container }
+    ensures taken { Splices tree.old.nodes tree.new.nodes container (place_at tree.old.nodes child) (place_at tree.old.nodes child + 1) [] }
+    ensures tree { IsTree tree.new.nodes }
+{
+    let _ = tree.len();
+    // A place is below the count of the children, so one more than it is a number too.
+    let _ = tree.child_count(container);
+    let place = tree.child_index(child);
+    tree.splice(container, place, place + 1, &[]);
+}
+
+// Lets a value come as the last child of a property.
+fn put_last<A: Allocator + Copy>(
+    alloc: A,
+    tree: &mut Tree<A>,
+    property: usize,
+    value: &CstInputValue<A>,
+) -> Result<usize, EditError>
+    requires there { property < length tree.old.nodes }
+    requires property { content_at tree.old.nodes property ≡ Content.property }
+    ensures last { IfOk result (LastValue tree.old.nodes tree.new.nodes property (plain value.now)) }
+    ensures memory { IfErr result (λ e. e ≡ EditError.OutOfMemory) }
+    ensures kept { OnErr result (Keeps (length tree.old.nodes) tree.old.nodes tree.new.nodes) }
+    ensures document { OnErr result (ordered_tree tree.new.nodes 0 ≡ ordered_tree tree.old.nodes 0) }
+    ensures tree { IsTree tree.new.nodes }
+{
+    let _ = tree.len();
+    let layout = layout_for(alloc, tree, property, property)?;
+    let leaf = tree.push_child(property, Kind::Null)?;
+    match replace_with(alloc, tree, leaf, value, &layout) {
+        Ok(Some(new)) => Ok(new),
+        Ok(None) => unreachable!(),
+        Err(error) => {
+            take_child(tree, property, leaf);
+            Err(error)
+        }
+    }
+}
+
+/// Sets the value of a property, and answers the number of its node.
+///
+/// Where a value stands, it gives way to the new one, as by [`jsonc_edit::replace`]. Where none does,
+/// which is so only after edits of single leaves, the new value is laid out as the document tells and
+/// comes behind all that the property holds, with a space where two literals without quotes would meet.
+///
+/// A refusal leaves the document, and every node that was there, as it was.
+pub fn set_property_value<A: Allocator + Copy>(
+    alloc: A,
+    tree: &mut Tree<A>,
+    property: usize,
+    value: &CstInputValue<A>,
+) -> Result<usize, EditError>
+    requires there { property < length tree.old.nodes }
+    requires property { content_at tree.old.nodes property ≡ Content.property }
+    ensures replaced { IfOk result (λ m. IfSome (value_at tree.old.nodes property) (λ n. IsReplaced tree.old.nodes tree.new.nodes n (plain value.now) m)) }
+    ensures written { (p : Options) → IfOk result (λ m. IfSome (value_at tree.old.nodes property) (λ n. Writes p tree.old.nodes tree.new.nodes n m (plain value.now))) }
+    ensures last { IfOk result (λ m. IfNone (value_at tree.old.nodes property) (LastValue tree.old.nodes tree.new.nodes property (plain value.now) m)) }
+    ensures memory { IfErr result (λ e. e ≡ EditError.OutOfMemory) }
+    ensures kept { OnErr result (Keeps (length tree.old.nodes) tree.old.nodes tree.new.nodes) }
+    ensures document { OnErr result (ordered_tree tree.new.nodes 0 ≡ ordered_tree tree.old.nodes 0) }
+    ensures tree { IsTree tree.new.nodes }
+{
+    let _ = tree.len();
+    match value_of(tree, property) {
+        Some(node) => replace_child(alloc, tree, node, value),
+        None => put_last(alloc, tree, property, value),
+    }
+}
+
+// Whether a node is a colon.
+fn is_colon<A: Allocator>(tree: &Tree<A>, node: usize) -> bool
+    requires { node < length tree.now.nodes }
+    ensures { result ≡ is_colon_at tree.now.nodes node }
+{
+    matches!(tree.kind(node), Kind::Token(':'))
+}
+
+// Whether a property has no colon.
+fn lacks_colon<A: Allocator>(tree: &Tree<A>, property: usize) -> bool
+    requires { property < length tree.now.nodes }
+    ensures { result ≡ lacks_colon tree.now.nodes property }
+{
+    children_from(tree, property, 0)
+        .find(|child| is_colon(tree, *child))
+        .is_none()
+}
+
+// Whether it has no name, or no colon.
+fn lacks_name<A: Allocator>(tree: &Tree<A>, property: usize) -> bool
+    requires { property < length tree.now.nodes }
+    ensures { result ≡ lacks_name tree.now.nodes property }
+{
+    if name_of(tree, property).is_none() {
+        return true;
+    }
+    lacks_colon(tree, property)
+}
+
+/// The value of a property, if it is an object. Where it is another, or there is none, an empty object
+/// is set, as by [`set_property_value`]; where the property has no name or no colon the answer is
+/// `MissingName`, and nothing changes.
+pub fn property_object_or_set<A: Allocator + Copy>(
+    alloc: A,
+    tree: &mut Tree<A>,
+    property: usize,
+) -> Result<usize, EditError>
+    requires there { property < length tree.old.nodes }
+    requires property { content_at tree.old.nodes property ≡ Content.property }
+    ensures value { IfOk result (HeldOrSet is_object (object no_members) tree.old.nodes tree.new.nodes property (value_at tree.old.nodes property)) }
+    ensures named { OnOk result (lacks_name tree.old.nodes property ≡ false) }
+    ensures told { IfErr result (IsUnset is_object tree.old.nodes property) }
+    ensures kept { OnErr result (Keeps (length tree.old.nodes) tree.old.nodes tree.new.nodes) }
+    ensures document { OnErr result (ordered_tree tree.new.nodes 0 ≡ ordered_tree tree.old.nodes 0) }
+    ensures tree { IsTree tree.new.nodes }
+{
+    let _ = tree.len();
+    if lacks_name(tree, property) {
+        return Err(EditError::MissingName);
+    }
+    let Some(node) = value_of(tree, property) else {
+        return set_property_value(alloc, tree, property, &empty_object(alloc));
+    };
+    if is_object(tree.kind(node)) {
+        return Ok(node);
+    }
+    set_property_value(alloc, tree, property, &empty_object(alloc))
+}
+
+/// The value of a property, if it is an array. Where it is another, or there is none, an empty array
+/// is set, as by [`set_property_value`]; where the property has no name or no colon the answer is
+/// `MissingName`, and nothing changes.
+pub fn property_array_or_set<A: Allocator + Copy>(
+    alloc: A,
+    tree: &mut Tree<A>,
+    property: usize,
+) -> Result<usize, EditError>
+    requires there { property < length tree.old.nodes }
+    requires property { content_at tree.old.nodes property ≡ Content.property }
+    ensures value { IfOk result (HeldOrSet is_array (array no_items) tree.old.nodes tree.new.nodes property (value_at tree.old.nodes property)) }
+    ensures named { OnOk result (lacks_name tree.old.nodes property ≡ false) }
+    ensures told { IfErr result (IsUnset is_array tree.old.nodes property) }
+    ensures kept { OnErr result (Keeps (length tree.old.nodes) tree.old.nodes tree.new.nodes) }
+    ensures document { OnErr result (ordered_tree tree.new.nodes 0 ≡ ordered_tree tree.old.nodes 0) }
+    ensures tree { IsTree tree.new.nodes }
+{
+    let _ = tree.len();
+    if lacks_name(tree, property) {
+        return Err(EditError::MissingName);
+    }
+    let Some(node) = value_of(tree, property) else {
+        return set_property_value(alloc, tree, property, &empty_array(alloc));
+    };
+    if is_array(tree.kind(node)) {
+        return Ok(node);
+    }
+    set_property_value(alloc, tree, property, &empty_array(alloc))
+}

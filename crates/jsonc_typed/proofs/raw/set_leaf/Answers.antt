@@ -1,0 +1,12 @@
+use Rattle.std.proofs.Common.{subst}
+use Rattle.jsonc_tree.specs.Changes.{LeafBecomes}
+use Rattle.jsonc_tree.specs.Stored.{content_of}
+use Rattle.jsonc_typed.proofs.Leaves.{leaf_stays}
+use Rattle.jsonc_typed.proofs.raw.set_leaf.Goals as goal
+
+pub returns-clause-stays : goal.returns-clause-stays
+returns-clause-stays g c =
+    let old = c.args.doc.now.tree.nodes in
+    let new = c.set_leaf.new.self.nodes in
+    leaf_stays old new c.args.node (content_of c.args.kind) c.requires.held c.requires.same
+    (subst (λ n. LeafBecomes old new n (content_of c.args.kind)) c.number.ensures c.set_leaf.ensures.becomes)

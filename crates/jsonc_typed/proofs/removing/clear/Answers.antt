@@ -1,0 +1,8 @@
+use Rattle.jsonc_typed.proofs.Kept.{nodes_stay, stay_spliced}
+use Rattle.jsonc_typed.proofs.removing.clear.Goals as goal
+
+pub returns-clause-stays : goal.returns-clause-stays
+returns-clause-stays g c =
+    let old = c.args.tree.now.nodes in
+    let new = c.clear_root.new.tree.nodes in
+    nodes_stay old new (stay_spliced old new _ _ _ _ c.clear_root.ensures.taken)

@@ -1,0 +1,20 @@
+use Rattle.std.proofs.Common.{◌≡◌, false, IfOk, IfSome, ap, subst, ◌∙◌}
+use Rattle.jsonc_input.specs.Views.{plain}
+use Rattle.jsonc_edit.specs.Written.{Writes}
+use Rattle.jsonc_typed.specs.Edits.{is_name_in, IsReplacedAs}
+use Rattle.jsonc_cst.specs.Nodes.{number_of}
+use Rattle.jsonc_typed.proofs.replacing.ReplaceWith.replace_with.Goals as goal
+
+pub returns-clause-replaced : goal.returns-clause-replaced
+returns-clause-replaced g c =
+    let old = c.args.doc.now.tree.nodes in
+    let new = c.replace_node-replaced.new.tree.nodes in
+    let same : c.number.result ≡ number_of (g.Self.IsNode.node_of c.args.self) = c.number.ensures ∙ ap number_of c.node.ensures in
+    subst (λ k. IfOk c.replace_node-replaced.result (λ o. IfSome o (λ m. IsReplacedAs (is_name_in old k) old new k (plain c.args.value) (number_of m)))) same c.replace_node-replaced.ensures.replaced
+
+pub returns-clause-written : goal.returns-clause-written
+returns-clause-written g c = λ p.
+    let old = c.args.doc.now.tree.nodes in
+    let new = c.replace_node-replaced.new.tree.nodes in
+    let same : c.number.result ≡ number_of (g.Self.IsNode.node_of c.args.self) = c.number.ensures ∙ ap number_of c.node.ensures in
+    subst (λ k. IfOk c.replace_node-replaced.result (λ o. IfSome o (λ m. is_name_in old k ≡ false → Writes p old new k (number_of m) (plain c.args.value)))) same (c.replace_node-replaced.ensures.written p)

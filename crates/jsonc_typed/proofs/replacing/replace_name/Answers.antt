@@ -1,0 +1,25 @@
+use Rattle.jsonc_input.specs.Views.{plain}
+use Rattle.jsonc_edit.specs.Reading.{IsReplacedRaw}
+use Rattle.jsonc_typed.proofs.Kept.{as_typed, nodes_stay, of_some, raw_there, stay_raw}
+use Rattle.jsonc_typed.proofs.replacing.replace_name.Goals as goal
+
+pub node_at-requires : goal.node_at-requires
+node_at-requires g c =
+    let old = c.args.tree.now.nodes in
+    let new = c.replace_name.new.tree.nodes in
+    raw_there old new c.args.number (plain c.args.value.now) c.in-Some.raw
+    (of_some (IsReplacedRaw old new c.args.number (plain c.args.value.now)) c.in_ok-raw.field-0 c.in-Some.raw c.in-Some.is c.in_ok-raw.ensures.replaced)
+
+pub returns-clause-replaced : goal.returns-clause-replaced
+returns-clause-replaced g c =
+    let old = c.args.tree.now.nodes in
+    let new = c.replace_name.new.tree.nodes in
+    as_typed (IsReplacedRaw old new c.args.number (plain c.args.value.now)) new c.in-Some.raw c.node_at.result c.node_at.ensures.node
+    (of_some (IsReplacedRaw old new c.args.number (plain c.args.value.now)) c.in_ok-raw.field-0 c.in-Some.raw c.in-Some.is c.in_ok-raw.ensures.replaced)
+
+pub returns-clause-stays : goal.returns-clause-stays
+returns-clause-stays g c =
+    let old = c.args.tree.now.nodes in
+    let new = c.replace_name.new.tree.nodes in
+    nodes_stay old new (stay_raw old new c.args.number (plain c.args.value.now) c.in-Some.raw
+    (of_some (IsReplacedRaw old new c.args.number (plain c.args.value.now)) c.in_ok-raw.field-0 c.in-Some.raw c.in-Some.is c.in_ok-raw.ensures.replaced))

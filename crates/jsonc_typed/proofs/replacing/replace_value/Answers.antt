@@ -1,0 +1,33 @@
+use Rattle.jsonc_input.specs.Views.{plain}
+use Rattle.jsonc_edit.specs.Reading.{IsReplaced}
+use Rattle.jsonc_edit.specs.Written.{Writes}
+use Rattle.jsonc_typed.proofs.Kept.{as_typed, nodes_stay, of_some, replaced_there, stay_replaced}
+use Rattle.jsonc_typed.proofs.replacing.replace_value.Goals as goal
+
+pub node_at-requires : goal.node_at-requires
+node_at-requires g c =
+    let old = c.args.tree.now.nodes in
+    let new = c.replace.new.tree.nodes in
+    replaced_there old new c.args.number (plain c.args.value.now) c.in-Some.new
+    (of_some (IsReplaced old new c.args.number (plain c.args.value.now)) c.in_ok-new.field-0 c.in-Some.new c.in-Some.is c.in_ok-new.ensures.replaced)
+
+pub returns-clause-replaced : goal.returns-clause-replaced
+returns-clause-replaced g c =
+    let old = c.args.tree.now.nodes in
+    let new = c.replace.new.tree.nodes in
+    as_typed (IsReplaced old new c.args.number (plain c.args.value.now)) new c.in-Some.new c.node_at.result c.node_at.ensures.node
+    (of_some (IsReplaced old new c.args.number (plain c.args.value.now)) c.in_ok-new.field-0 c.in-Some.new c.in-Some.is c.in_ok-new.ensures.replaced)
+
+pub returns-clause-written : goal.returns-clause-written
+returns-clause-written g c = λ p.
+    let old = c.args.tree.now.nodes in
+    let new = c.replace.new.tree.nodes in
+    as_typed (λ m. Writes p old new c.args.number m (plain c.args.value.now)) new c.in-Some.new c.node_at.result c.node_at.ensures.node
+    (of_some (λ m. Writes p old new c.args.number m (plain c.args.value.now)) c.in_ok-new.field-0 c.in-Some.new c.in-Some.is (c.in_ok-new.ensures.written p))
+
+pub returns-clause-stays : goal.returns-clause-stays
+returns-clause-stays g c =
+    let old = c.args.tree.now.nodes in
+    let new = c.replace.new.tree.nodes in
+    nodes_stay old new (stay_replaced old new c.args.number (plain c.args.value.now) c.in-Some.new
+    (of_some (IsReplaced old new c.args.number (plain c.args.value.now)) c.in_ok-new.field-0 c.in-Some.new c.in-Some.is c.in_ok-new.ensures.replaced))

@@ -1,0 +1,30 @@
+use Rattle.std.proofs.Common.{refl}
+use Rattle.jsonc_text.specs.Plain.{array, no_items}
+use Rattle.jsonc_tree.specs.Content.{Content}
+use Rattle.jsonc_nodes.specs.Properties.{value_at}
+use Rattle.jsonc_set.specs.Kinds.{is_array}
+use Rattle.jsonc_cst.specs.Nodes.{array_node}
+use Rattle.jsonc_typed.proofs.Found.{set_found, stands_as}
+use Rattle.jsonc_typed.proofs.Kept.{nodes_stay}
+use Rattle.jsonc_typed.proofs.Roots.{set_is, set_or_kept, array_is}
+use Rattle.jsonc_typed.proofs.setting.array_or_set.Goals as goal
+
+pub array_at-requires : goal.array_at-requires
+array_at-requires g c =
+    let old = c.args.tree.now.nodes in
+    let new = c.array_value_or_set.new.tree.nodes in
+    set_is is_array (array no_items) Content.array (λ l. refl) array_is old new (value_at old 0) c.in_ok-number.number c.in_ok-number.ensures.value
+
+pub returns-clause-stays : goal.returns-clause-stays
+returns-clause-stays g c =
+    let old = c.args.tree.now.nodes in
+    let new = c.array_value_or_set.new.tree.nodes in
+    nodes_stay old new (set_or_kept is_array (array no_items) old new (value_at old 0) c.array_value_or_set.result c.array_value_or_set.ensures.value c.array_value_or_set.ensures.kept)
+
+pub returns-clause-stands : goal.returns-clause-stands
+returns-clause-stands g c =
+    let old = c.args.tree.now.nodes in
+    let new = c.array_value_or_set.new.tree.nodes in
+    stands_as new c.in_ok-number.number (array_node c.array_at.result)
+    (set_found is_array (array no_items) old new c.len.ensures.tree c.array_value_or_set.ensures.tree (value_at old 0) c.in_ok-number.number refl c.in_ok-number.ensures.value)
+    c.array_at.ensures.number c.array_at.ensures.held

@@ -1,0 +1,38 @@
+use Rattle.std.proofs.Common.{refl, subst}
+use Rattle.jsonc_text.specs.Plain.{object, no_members}
+use Rattle.jsonc_tree.specs.Content.{Content}
+use Rattle.jsonc_nodes.specs.Properties.{value_at}
+use Rattle.jsonc_set.specs.Kinds.{is_object, FoundOrCreated}
+use Rattle.jsonc_cst.specs.Nodes.{object_node}
+use Rattle.jsonc_typed.proofs.Found.{created_found, stands_as}
+use Rattle.jsonc_typed.proofs.Kept.{nodes_stay}
+use Rattle.jsonc_typed.proofs.Roots.{created_is, created_or_kept, object_is}
+use Rattle.jsonc_typed.proofs.setting.object_or_create.Goals as goal
+
+pub object_at-requires : goal.object_at-requires
+object_at-requires g c =
+    let old = c.args.tree.now.nodes in
+    let new = c.object_value_or_create.new.tree.nodes in
+    created_is is_object (object no_members) Content.object (λ l. refl) object_is old new (value_at old 0) c.in-Some.number
+    (subst (λ o. FoundOrCreated is_object (object no_members) old new (value_at old 0) o) c.in-Some.is c.in_ok-number.ensures.value)
+
+pub returns-clause-stays : goal.returns-clause-stays
+returns-clause-stays g c =
+    let old = c.args.tree.now.nodes in
+    let new = c.object_value_or_create.new.tree.nodes in
+    nodes_stay old new (created_or_kept is_object (object no_members) old new (value_at old 0) c.object_value_or_create.result c.object_value_or_create.ensures.value c.object_value_or_create.ensures.kept)
+
+pub returns-in_default-clause-stays : goal.returns-in_default-clause-stays
+returns-in_default-clause-stays g c =
+    let old = c.args.tree.now.nodes in
+    let new = c.object_value_or_create.new.tree.nodes in
+    nodes_stay old new (created_or_kept is_object (object no_members) old new (value_at old 0) c.object_value_or_create.result c.object_value_or_create.ensures.value c.object_value_or_create.ensures.kept)
+
+pub returns-clause-stands : goal.returns-clause-stands
+returns-clause-stands g c =
+    let old = c.args.tree.now.nodes in
+    let new = c.object_value_or_create.new.tree.nodes in
+    stands_as new c.in-Some.number (object_node c.object_at.result)
+    (created_found is_object (object no_members) old new c.len.ensures.tree c.object_value_or_create.ensures.tree (value_at old 0) c.in-Some.number refl
+    (subst (λ o. FoundOrCreated is_object (object no_members) old new (value_at old 0) o) c.in-Some.is c.in_ok-number.ensures.value))
+    c.object_at.ensures.number c.object_at.ensures.held

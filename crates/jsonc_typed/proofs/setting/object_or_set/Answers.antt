@@ -1,0 +1,30 @@
+use Rattle.std.proofs.Common.{refl}
+use Rattle.jsonc_text.specs.Plain.{object, no_members}
+use Rattle.jsonc_tree.specs.Content.{Content}
+use Rattle.jsonc_nodes.specs.Properties.{value_at}
+use Rattle.jsonc_set.specs.Kinds.{is_object}
+use Rattle.jsonc_cst.specs.Nodes.{object_node}
+use Rattle.jsonc_typed.proofs.Found.{set_found, stands_as}
+use Rattle.jsonc_typed.proofs.Kept.{nodes_stay}
+use Rattle.jsonc_typed.proofs.Roots.{set_is, set_or_kept, object_is}
+use Rattle.jsonc_typed.proofs.setting.object_or_set.Goals as goal
+
+pub object_at-requires : goal.object_at-requires
+object_at-requires g c =
+    let old = c.args.tree.now.nodes in
+    let new = c.object_value_or_set.new.tree.nodes in
+    set_is is_object (object no_members) Content.object (λ l. refl) object_is old new (value_at old 0) c.in_ok-number.number c.in_ok-number.ensures.value
+
+pub returns-clause-stays : goal.returns-clause-stays
+returns-clause-stays g c =
+    let old = c.args.tree.now.nodes in
+    let new = c.object_value_or_set.new.tree.nodes in
+    nodes_stay old new (set_or_kept is_object (object no_members) old new (value_at old 0) c.object_value_or_set.result c.object_value_or_set.ensures.value c.object_value_or_set.ensures.kept)
+
+pub returns-clause-stands : goal.returns-clause-stands
+returns-clause-stands g c =
+    let old = c.args.tree.now.nodes in
+    let new = c.object_value_or_set.new.tree.nodes in
+    stands_as new c.in_ok-number.number (object_node c.object_at.result)
+    (set_found is_object (object no_members) old new c.len.ensures.tree c.object_value_or_set.ensures.tree (value_at old 0) c.in_ok-number.number refl c.in_ok-number.ensures.value)
+    c.object_at.ensures.number c.object_at.ensures.held

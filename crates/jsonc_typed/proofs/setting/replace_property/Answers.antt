@@ -1,0 +1,35 @@
+use Rattle.std.proofs.Common.{chars}
+use Rattle.jsonc_input.specs.Views.{plain}
+use Rattle.jsonc_set.specs.Giving.{IsPropertyReplaced}
+use Rattle.jsonc_typed.proofs.Kept.{as_typed, nodes_stay, of_some}
+use Rattle.jsonc_typed.proofs.Roots.{property_is_written, property_there, stay_property}
+use Rattle.jsonc_typed.proofs.setting.replace_property.Goals as goal
+
+pub node_at-requires : goal.node_at-requires
+node_at-requires g c =
+    let old = c.args.tree.now.nodes in
+    let new = c.replace_property.new.tree.nodes in
+    property_there old new c.args.number (chars c.args.name.now) (plain c.args.value.now) c.in-Some.new
+    (of_some (IsPropertyReplaced old new c.args.number (chars c.args.name.now) (plain c.args.value.now)) c.in_ok-new.field-0 c.in-Some.new c.in-Some.is c.in_ok-new.ensures.replaced)
+
+pub returns-clause-replaced : goal.returns-clause-replaced
+returns-clause-replaced g c =
+    let old = c.args.tree.now.nodes in
+    let new = c.replace_property.new.tree.nodes in
+    as_typed (IsPropertyReplaced old new c.args.number (chars c.args.name.now) (plain c.args.value.now)) new c.in-Some.new c.node_at.result c.node_at.ensures.node
+    (of_some (IsPropertyReplaced old new c.args.number (chars c.args.name.now) (plain c.args.value.now)) c.in_ok-new.field-0 c.in-Some.new c.in-Some.is c.in_ok-new.ensures.replaced)
+
+pub returns-clause-written : goal.returns-clause-written
+returns-clause-written g c = λ p.
+    let old = c.args.tree.now.nodes in
+    let new = c.replace_property.new.tree.nodes in
+    property_is_written p old new c.args.number (chars c.args.name.now) (plain c.args.value.now) c.node_at.result c.len.ensures.tree
+    (as_typed (IsPropertyReplaced old new c.args.number (chars c.args.name.now) (plain c.args.value.now)) new c.in-Some.new c.node_at.result c.node_at.ensures.node
+    (of_some (IsPropertyReplaced old new c.args.number (chars c.args.name.now) (plain c.args.value.now)) c.in_ok-new.field-0 c.in-Some.new c.in-Some.is c.in_ok-new.ensures.replaced))
+
+pub returns-clause-stays : goal.returns-clause-stays
+returns-clause-stays g c =
+    let old = c.args.tree.now.nodes in
+    let new = c.replace_property.new.tree.nodes in
+    nodes_stay old new (stay_property old new c.args.number (chars c.args.name.now) (plain c.args.value.now) c.in-Some.new
+    (of_some (IsPropertyReplaced old new c.args.number (chars c.args.name.now) (plain c.args.value.now)) c.in_ok-new.field-0 c.in-Some.new c.in-Some.is c.in_ok-new.ensures.replaced))

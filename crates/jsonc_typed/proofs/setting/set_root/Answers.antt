@@ -1,0 +1,51 @@
+use Rattle.std.proofs.Common.{refl, ap, ◌∙◌}
+use Rattle.jsonc_input.specs.Views.{plain}
+use Rattle.jsonc_tree.specs.Tree.{content_at}
+use Rattle.jsonc_nodes.specs.Properties.{value_at}
+use Rattle.jsonc_cst.specs.Nodes.{number_of}
+use Rattle.jsonc_cst.proofs.Family.{number_of-typed}
+use Rattle.jsonc_typed.specs.Setting.{ValueBecomes, ValueIsWritten}
+use Rattle.jsonc_typed.proofs.Found.{stands_as, value_found}
+use Rattle.jsonc_typed.proofs.Kept.{as_typed, nodes_stay}
+use Rattle.jsonc_typed.proofs.Roots.{becomes, is_written, set_there, stay_set}
+use Rattle.jsonc_typed.proofs.setting.set_root.Goals as goal
+
+pub node_at-requires : goal.node_at-requires
+node_at-requires g c =
+    let old = c.args.tree.now.nodes in
+    let new = c.set_root.new.tree.nodes in
+    let v = plain c.args.value.now in
+    set_there old new v (value_at old 0) c.in_ok-number.number (becomes old new v (value_at old 0) c.in_ok-number.number c.in_ok-number.ensures.replaced c.in_ok-number.ensures.first)
+
+pub returns-clause-set : goal.returns-clause-set
+returns-clause-set g c =
+    let old = c.args.tree.now.nodes in
+    let new = c.set_root.new.tree.nodes in
+    let v = plain c.args.value.now in
+    as_typed (ValueBecomes old new v (value_at old 0)) new c.in_ok-number.number c.node_at.result c.node_at.ensures.node
+    (becomes old new v (value_at old 0) c.in_ok-number.number c.in_ok-number.ensures.replaced c.in_ok-number.ensures.first)
+
+pub returns-clause-written : goal.returns-clause-written
+returns-clause-written g c = λ p.
+    let old = c.args.tree.now.nodes in
+    let new = c.set_root.new.tree.nodes in
+    let v = plain c.args.value.now in
+    as_typed (ValueIsWritten p old new v (value_at old 0)) new c.in_ok-number.number c.node_at.result c.node_at.ensures.node
+    (is_written p old new v (value_at old 0) c.in_ok-number.number c.len.ensures.tree refl (c.in_ok-number.ensures.written p) c.in_ok-number.ensures.first)
+
+pub returns-clause-stays : goal.returns-clause-stays
+returns-clause-stays g c =
+    let old = c.args.tree.now.nodes in
+    let new = c.set_root.new.tree.nodes in
+    let v = plain c.args.value.now in
+    nodes_stay old new (stay_set old new v (value_at old 0) c.in_ok-number.number (becomes old new v (value_at old 0) c.in_ok-number.number c.in_ok-number.ensures.replaced c.in_ok-number.ensures.first))
+
+pub returns-clause-stands : goal.returns-clause-stands
+returns-clause-stands g c =
+    let old = c.args.tree.now.nodes in
+    let new = c.set_root.new.tree.nodes in
+    let v = plain c.args.value.now in
+    stands_as new c.in_ok-number.number c.node_at.result
+    (value_found old new v (value_at old 0) c.in_ok-number.number c.len.ensures.tree c.set_root.ensures.tree refl
+    (becomes old new v (value_at old 0) c.in_ok-number.number c.in_ok-number.ensures.replaced c.in_ok-number.ensures.first))
+    (ap number_of c.node_at.ensures.node ∙ number_of-typed (content_at new c.in_ok-number.number) c.in_ok-number.number) c.node_at.ensures.held

@@ -1,0 +1,4 @@
+pub mod Edits
+pub mod Raw
+pub mod Removing
+pub mod Setting

@@ -1,0 +1,79 @@
+-- What is taken out with a node, by its kind, and why it is not.
+use Rattle.std.specs.Prelude.{◌≡◌, ℕ, ◌+◌, List, [], length, Some, None}
+use Rattle.jsonc_tree.specs.Changes.{Splices}
+use Rattle.jsonc_tree.specs.Tree.{Node, parent_at, children_at, place_at}
+use Rattle.jsonc_edit.specs.declared.error.EditError.{EditError}
+use Rattle.jsonc_edit.specs.declared.error.EditError.TheVariants.{OutOfMemory}
+use Rattle.jsonc_edit.specs.Comments.{TakesOut, WantsSpace}
+use Rattle.jsonc_remove.specs.Removed.{IsKeptFor, TakesElement}
+use Rattle.jsonc_cst.specs.declared.cst.CstRootNode.{CstRootNode}
+use Rattle.jsonc_cst.specs.declared.cst.node.CstNode.{CstNode}
+use Rattle.jsonc_cst.specs.declared.cst.node.CstContainerNode.TheVariants.{Root, Array, Object, ObjectProp}
+use Rattle.jsonc_cst.specs.declared.cst.node.CstLeafNode.TheVariants.{BooleanLit, NullKeyword, NumberLit, StringLit, WordLit, Token, Whitespace, Newline, Comment}
+use Rattle.jsonc_cst.specs.declared.cst.node.CstNode.TheVariants.{Container, Leaf}
+use Rattle.jsonc_cst.specs.Document.{nodes_of}
+use Rattle.jsonc_cst.specs.Nodes.{number_of}
+use Rattle.jsonc_typed.specs.declared.removing.Removal.{Removal}
+use Rattle.jsonc_typed.specs.declared.removing.Removal.TheVariants.{Clearing, OfComment, OfElement, OfLeaf}
+
+-- how a node is taken out: of the root all that stands in it, a comment and an element with what leaves with it, and any other leaf alone
+abbrev pub removal_of : CstNode → Removal
+removal_of (Container (Root x)) = Clearing
+removal_of (Container (Array x)) = OfElement
+removal_of (Container (Object x)) = OfElement
+removal_of (Container (ObjectProp x)) = OfElement
+removal_of (Leaf (BooleanLit x)) = OfElement
+removal_of (Leaf (NullKeyword x)) = OfElement
+removal_of (Leaf (NumberLit x)) = OfElement
+removal_of (Leaf (StringLit x)) = OfElement
+removal_of (Leaf (WordLit x)) = OfElement
+removal_of (Leaf (Token x)) = OfLeaf
+removal_of (Leaf (Whitespace x)) = OfLeaf
+removal_of (Leaf (Newline x)) = OfLeaf
+removal_of (Leaf (Comment x)) = OfComment
+
+-- wherever the node has a parent it alone has left that
+abbrev pub LeavesAlone : List Node → List Node → ℕ → Type 0
+LeavesAlone old new n = (c : ℕ) → parent_at old n ≡ Some c → Splices old new c (place_at old n) (place_at old n + 1) []
+
+-- the root's children have all left it
+abbrev pub IsCleared : List Node → List Node → Type 0
+IsCleared old new = Splices old new 0 0 (length (children_at old 0)) []
+
+-- so the node n has been taken out
+abbrev pub IsTakenBy : Removal → List Node → List Node → ℕ → Type 0
+IsTakenBy Clearing old new n = IsCleared old new
+IsTakenBy OfComment old new n = TakesOut old new n
+IsTakenBy OfElement old new n = TakesElement old new n
+IsTakenBy OfLeaf old new n = LeavesAlone old new n
+
+-- so it stays as it is: it is nobody's child
+abbrev pub IsLooseFor : Removal → List Node → ℕ → Type 0
+IsLooseFor Clearing ns n = ⊥
+IsLooseFor OfComment ns n = parent_at ns n ≡ None
+IsLooseFor OfElement ns n = parent_at ns n ≡ None
+IsLooseFor OfLeaf ns n = parent_at ns n ≡ None
+
+-- why it has not been taken out: the memory of a space that is due was wanted, or the array or object of an element lacks brackets
+abbrev pub IsKeptBy : Removal → List Node → ℕ → EditError → Type 0
+IsKeptBy Clearing ns n e = ⊥
+IsKeptBy OfComment ns n e = (e ≡ OutOfMemory) × WantsSpace ns n
+IsKeptBy OfElement ns n e = IsKeptFor ns n e
+IsKeptBy OfLeaf ns n e = ⊥
+
+module _ {A : Type 0} where
+  -- the node has been taken out of the document, with what leaves with it
+  abbrev pub HasLeft : CstRootNode A → CstRootNode A → CstNode → Type 0
+  HasLeft old new node = IsTakenBy (removal_of node) (nodes_of old) (nodes_of new) (number_of node)
+
+  -- the node alone has left its parent
+  abbrev pub HasLeftAlone : CstRootNode A → CstRootNode A → CstNode → Type 0
+  HasLeftAlone old new node = LeavesAlone (nodes_of old) (nodes_of new) (number_of node)
+
+  -- it is no root, and nobody's child
+  abbrev pub IsLoose : CstRootNode A → CstNode → Type 0
+  IsLoose d node = IsLooseFor (removal_of node) (nodes_of d) (number_of node)
+
+  -- why it has not been taken out
+  abbrev pub IsKeptIn : CstRootNode A → CstNode → EditError → Type 0
+  IsKeptIn d node e = IsKeptBy (removal_of node) (nodes_of d) (number_of node) e

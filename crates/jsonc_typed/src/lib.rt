@@ -1,0 +1,24 @@
+//! Edits of documents, on typed nodes.
+//!
+//! A call is a short body over an edit by the numbers of nodes, and says with the words of that edit
+//! what it makes of the document. Every node that the document held it holds after an edit too, also
+//! after a refusal (`specs/Edits.antt`): a node that has given way or left is nobody's child.
+//!
+//! [`ReplaceWith`] and [`ReplaceProperty`] let a node give way to another, [`Remove`] and [`RemoveLeaf`]
+//! take one out, and [`SetRoot`] has what sets the document's value. [`SetRawValue`], [`SetToken`],
+//! [`SetWhitespace`] and [`SetNewline`] write one leaf anew as it stands, without memory, whatever the
+//! document makes of that (`specs/Raw.antt`). A closure that reads the document is lent one by
+//! [`IsDocument`].
+#![tactic(auto)]
+
+mod document;
+mod raw;
+mod removing;
+mod replacing;
+mod setting;
+
+pub use document::IsDocument;
+pub use raw::{SetNewline, SetRawValue, SetToken, SetWhitespace};
+pub use removing::{Remove, RemoveLeaf};
+pub use replacing::ReplaceWith;
+pub use setting::{ReplaceProperty, SetRoot};
