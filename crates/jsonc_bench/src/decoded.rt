@@ -1,25 +1,30 @@
 //! A string by itself.
 
+use crate::line::Line;
 use crate::show::push_string_kind;
-use jsonc_cases::escape::Escaped;
-use jsonc_string::provider::parse_string;
-use std::alloc::{AllocError, Global};
+use jsonc_string::provider::{ParseStringError, parse_string};
 use std::borrow::CowStr;
 
 /// The string at the front of a text and whether the text lends it, or why none stands there.
-pub fn decoded(alloc: Global, text: &str) -> Result<String, AllocError> {
-    match parse_string(alloc, text) {
+pub fn push_decoded(out: &mut Line, text: &str) {
+    match parse_string(out.alloc(), text) {
         Ok(CowStr::Borrowed(string)) => {
-            format!(in alloc; "borrowed\t{}", Escaped::field(string.as_bytes()))
+            out.push("borrowed\t");
+            out.push_field(string.as_bytes());
         }
         Ok(CowStr::Owned(string)) => {
-            format!(in alloc; "owned\t{}", Escaped::field(string.as_bytes()))
+            out.push("owned\t");
+            out.push_field(string.as_bytes());
         }
-        Err(error) => {
-            let mut out = String::from_str(alloc, "fault ")?;
-            push_string_kind(&mut out, &error.kind)?;
-            write!(out, " {} {}", error.byte_index, error.kind)?;
-            Ok(out)
-        }
+        Err(error) => push_fault(out, &error),
     }
+}
+
+fn push_fault(out: &mut Line, error: &ParseStringError) {
+    out.push("fault ");
+    push_string_kind(out, &error.kind);
+    out.push(" ");
+    out.push_number(error.byte_index);
+    out.push(" ");
+    out.push_shown(&error.kind);
 }

@@ -9,6 +9,7 @@ mod decoded;
 mod document;
 mod edited;
 mod input;
+mod line;
 mod lookup;
 mod member;
 mod program;
@@ -18,6 +19,8 @@ mod show;
 mod syntax;
 mod value;
 
+use crate::answer::push_answer;
+use crate::line::Line;
 use jsonc_cases::case::Case;
 use jsonc_cases::error::CaseError;
 use std::alloc::{AllocError, Global};
@@ -31,12 +34,20 @@ fn answer_line(alloc: Global, line: &[u8]) -> Result<String, CaseError> {
         return Err(CaseError::NotUtf8);
     };
     let case = Case::from_line(alloc, line)?;
-    let id = case.id;
-    let written = match answer::answer(alloc, &case.question)? {
-        Some(answer) => format!(in alloc; "{id}\t{answer}")?,
-        None => format!(in alloc; "{id}\tnot yet")?,
-    };
-    Ok(written)
+    match answered(alloc, &case) {
+        Ok(answer) => Ok(answer),
+        Err(error) => Err(CaseError::from(error)),
+    }
+}
+
+fn answered(alloc: Global, case: &Case<'_>) -> Result<String, AllocError> {
+    let mut out = Line::new(alloc);
+    out.push(case.id);
+    out.push("\t");
+    if !push_answer(&mut out, &case.question) {
+        out.push("not yet");
+    }
+    out.finish()
 }
 
 /// What stands in the place of an answer where the line with this number, counted from 1, is no case.

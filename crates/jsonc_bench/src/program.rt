@@ -1,6 +1,6 @@
 //! A run of the program.
 
-use jsonc_cases::escape::Escaped;
+use crate::line::Line;
 use jsonc_engine::calls::{FromReader, ToWriter};
 use jsonc_engine::command::Command;
 use jsonc_engine::engine::{engine, run_with};
@@ -24,44 +24,55 @@ fn lent(alloc: Global, words: &[String]) -> Result<Vec<&str>, AllocError> {
     Ok(lent)
 }
 
-/// The status of a run, what it writes and the line that it prints; or none where the command is not built.
-pub fn outcome(
-    alloc: Global,
-    words: &[String],
-    input: &[u8],
-) -> Result<Option<String>, AllocError> {
-    let words = lent(alloc, words)?;
-    if is_command_to_come(words.as_slice()) {
-        return Ok(None);
+/// The status of a run, what it writes and the line that it prints; or false where the command is not built.
+pub fn push_outcome(out: &mut Line, words: &[String], input: &[u8]) -> bool {
+    match lent(out.alloc(), words) {
+        Ok(words) => push_run(out, words.as_slice(), input),
+        Err(_) => {
+            out.refuse();
+            true
+        }
+    }
+}
+
+fn push_run(out: &mut Line, words: &[&str], input: &[u8]) -> bool {
+    if is_command_to_come(words) {
+        return false;
     }
     let mut source = FromReader::new(input);
-    let mut sink = ToWriter::new(Vec::new(alloc));
-    let result = engine(alloc, words.as_slice(), &mut source, &mut sink);
-    let ToWriter { writer, .. } = sink;
-    let written = Escaped::field(writer.as_slice());
-    let shown = match result {
-        Ok(()) => format!(in alloc; "0\t{written}\t")?,
-        Err(fault) => told(alloc, &written, &fault)?,
-    };
-    Ok(Some(shown))
+    let mut sink = ToWriter::new(Vec::new(out.alloc()));
+    let ended = engine(out.alloc(), words, &mut source, &mut sink);
+    push_ended(out, ended, sink.writer.as_slice());
+    true
+}
+
+/// How a run ended that wrote these bytes.
+fn push_ended(out: &mut Line, ended: Result<(), Fault>, written: &[u8]) {
+    match ended {
+        Ok(()) => {
+            out.push("0\t");
+            out.push_field(written);
+            out.push("\t");
+        }
+        Err(fault) => push_fault(out, written, &fault),
+    }
 }
 
 /// What printing the input under some options does, as a run of the program that prints it.
-pub fn printed(alloc: Global, options: &ParseOptions, input: &[u8]) -> Result<String, AllocError> {
-    match run_with(alloc, options, Command::Print, input) {
-        Ok(Some(text)) => {
-            let written = Escaped::field(text.as_bytes());
-            format!(in alloc; "0\t{written}\t")
-        }
-        Ok(None) => String::from_str(alloc, "nothing is printed"),
-        Err(fault) => told(alloc, &Escaped::field(b""), &fault),
+pub fn push_print(out: &mut Line, options: &ParseOptions, input: &[u8]) {
+    match run_with(out.alloc(), options, Command::Print, input) {
+        Ok(Some(text)) => push_ended(out, Ok(()), text.as_bytes()),
+        Ok(None) => out.push("nothing is printed"),
+        Err(fault) => push_fault(out, b"", &fault),
     }
 }
 
 /// The status of a run that fails, what it wrote and the line that it prints.
-fn told(alloc: Global, written: &Escaped<'_>, fault: &Fault) -> Result<String, AllocError> {
-    let status = fault.status();
-    let line = format!(in alloc; "{fault}\n")?;
-    let line = Escaped::field(line.as_bytes());
-    format!(in alloc; "{status}\t{written}\t{line}")
+fn push_fault(out: &mut Line, written: &[u8], fault: &Fault) {
+    out.push_shown(&fault.status());
+    out.push("\t");
+    out.push_field(written);
+    out.push("\t");
+    out.push_printed(fault);
+    out.push_field(b"\n");
 }

@@ -6,106 +6,122 @@ ghost use Rattle.jsonc_cst.specs.Nodes.{object_prop_node, string_lit_node};
 
 use crate::edited::tree_of;
 use crate::input::push_input;
+use crate::line::Line;
 use crate::show::{push_fault, push_string_kind};
-use jsonc_cases::escape::Escaped;
 use jsonc_lines::indents_at;
 use jsonc_parser::ParseOptions;
 use jsonc_parser::cst::{
     CstComment, CstContainerNode, CstLeafNode, CstNewlineKind, CstNode, CstObjectProp, CstRootNode,
-    CstStringLit, HasChildren, IsNode, Readings,
+    CstStringLit, EditError, HasChildren, IsNode, Readings,
 };
 use jsonc_tree::Tree;
-use std::alloc::{AllocError, Global};
+use std::alloc::{AllocFailed, Global};
 
 /// The readings of a text's document and of its nodes in printed order, or the text's fault.
-pub fn readings(alloc: Global, text: &str, options: &ParseOptions) -> Result<String, AllocError> {
-    let mut out = String::new(alloc);
-    let doc = match CstRootNode::parse(alloc, text, options) {
-        Ok(doc) => doc,
-        Err(error) => {
-            push_fault(alloc, &mut out, &error)?;
-            return Ok(out);
-        }
-    };
-    let Ok(tree) = tree_of(alloc, text, options) else {
-        return Err(AllocError);
-    };
-    out.push_str("ok\t")?;
-    push_document(&mut out, &doc)?;
-    push_value(alloc, &mut out, &doc)?;
-    push_nodes(alloc, &mut out, &doc, &tree)?;
-    Ok(out)
+pub fn push_readings(out: &mut Line, text: &str, options: &ParseOptions) {
+    match CstRootNode::parse(out.alloc(), text, options) {
+        Ok(doc) => match tree_of(out.alloc(), text, options) {
+            Ok(tree) => push_whole(out, &doc, &tree),
+            Err(_) => out.refuse(),
+        },
+        Err(error) => push_fault(out, &error),
+    }
 }
 
-/// How lines end, what one level of indent adds, and where the value stands.
-fn push_document(out: &mut String, doc: &CstRootNode<Global>) -> Result<(), AllocError> {
-    let (Ok(kind), Ok(single)) = (doc.newline_kind(), doc.single_indent_text()) else {
-        return Err(AllocError);
-    };
-    let name = match kind {
+fn push_whole(out: &mut Line, doc: &CstRootNode<Global>, tree: &Tree<Global>) {
+    out.push("ok\t");
+    push_document(out, doc);
+    push_value(out, doc);
+    if push_nodes(out, doc, tree).is_err() {
+        out.refuse();
+    }
+}
+
+fn name_of(kind: CstNewlineKind) -> &'static str {
+    match kind {
         CstNewlineKind::LineFeed => "LF",
         CstNewlineKind::CarriageReturnLineFeed => "CRLF",
         CstNewlineKind::CarriageReturn => "CR",
-    };
-    write!(out, "nk={name} si=")?;
-    push_text(out, &single)?;
-    out.push_str(" value=")?;
-    push_place(out, doc, doc.value())
+    }
 }
 
-fn push_value(
-    alloc: Global,
-    out: &mut String,
-    doc: &CstRootNode<Global>,
-) -> Result<(), AllocError> {
-    out.push('\t')?;
+/// How lines end, what one level of indent adds, and where the value stands.
+fn push_document(out: &mut Line, doc: &CstRootNode<Global>) {
+    out.push("nk=");
+    match doc.newline_kind() {
+        Ok(kind) => out.push(name_of(kind)),
+        Err(_) => out.refuse(),
+    }
+    out.push(" si=");
+    push_text(out, doc.single_indent_text());
+    out.push(" value=");
+    push_place(out, doc, doc.value());
+}
+
+fn push_value(out: &mut Line, doc: &CstRootNode<Global>) {
+    out.push("\t");
     match doc.to_value() {
-        Ok(Some(value)) => push_input(alloc, out, value),
-        Ok(None) => out.push('-'),
-        Err(_) => Err(AllocError),
+        Ok(Some(value)) => push_input(out, value),
+        Ok(None) => out.push("-"),
+        Err(_) => out.refuse(),
     }
 }
 
 /// Each node in printed order. The second number is the node's in a tree of the same text, which
 /// alone is asked for indents.
 fn push_nodes(
-    alloc: Global,
-    out: &mut String,
+    out: &mut Line,
     doc: &CstRootNode<Global>,
     tree: &Tree<Global>,
-) -> Result<(), AllocError> {
+) -> Result<(), AllocFailed<(CstNode, usize)>> {
     // The next node is the last.
-    let mut left = Vec::new(alloc);
+    let mut left = Vec::new(out.alloc());
     left.push((CstNode::from(doc.root()), 0))?;
     for _ in 0..u64::MAX {
         let Some((node, number)) = left.pop() else {
             break;
         };
         if !doc.holds(node) || number >= tree.len() {
-            return Err(AllocError);
+            out.refuse();
+            break;
         }
-        push_node(out, doc, node)?;
-        push_indents(alloc, out, node, tree, number)?;
-        push_content(out, doc, node)?;
-        push_children(&mut left, doc, node, tree, number)?;
+        push_node(out, doc, node);
+        push_indents(out, node, tree, number);
+        push_content(out, doc, node);
+        push_children(out, &mut left, doc, node, tree, number)?;
     }
     Ok(())
 }
 
 /// Puts a node's children off, the first one last.
 fn push_children(
+    out: &mut Line,
     left: &mut Vec<(CstNode, usize)>,
     doc: &CstRootNode<Global>,
     node: CstNode,
     tree: &Tree<Global>,
     number: usize,
-) -> Result<(), AllocError>
+) -> Result<(), AllocFailed<(CstNode, usize)>>
     requires node { Holds doc.now node }
     requires number { number < length tree.now.nodes }
 {
-    let Ok(children) = node.children(doc) else {
-        return Err(AllocError);
-    };
+    match node.children(doc) {
+        Ok(children) => put_off(left, children.as_slice(), tree, number),
+        Err(_) => {
+            out.refuse();
+            Ok(())
+        }
+    }
+}
+
+fn put_off(
+    left: &mut Vec<(CstNode, usize)>,
+    children: &[CstNode],
+    tree: &Tree<Global>,
+    number: usize,
+) -> Result<(), AllocFailed<(CstNode, usize)>>
+    requires { number < length tree.now.nodes }
+{
     for (place, child) in children.iter().enumerate().rev() {
         if place < tree.child_count(number) {
             left.push((*child, tree.child_at(number, place)))?;
@@ -115,23 +131,26 @@ fn push_children(
 }
 
 /// A node's kind, its depth, its places, and how it is laid out.
-fn push_node(out: &mut String, doc: &CstRootNode<Global>, node: CstNode) -> Result<(), AllocError>
+fn push_node(out: &mut Line, doc: &CstRootNode<Global>, node: CstNode)
     requires { Holds doc.now node }
 {
-    let kind = kind_of(node);
-    let depth = depth_of(doc, node);
-    write!(out, "\t{kind} d={depth} ci={} it=", node.child_index(doc))?;
-    push_layout(out, doc, node)?;
-    out.push_str(" ei=")?;
-    push_number(out, node.element_index(doc))?;
-    out.push_str(" pi=")?;
+    out.push("\t");
+    out.push(kind_of(node));
+    out.push(" d=");
+    out.push_number(depth_of(doc, node));
+    out.push(" ci=");
+    out.push_number(node.child_index(doc));
+    push_layout(out, doc, node);
+    out.push(" ei=");
+    push_number(out, node.element_index(doc));
+    out.push(" pi=");
     match node {
         CstNode::Container(CstContainerNode::ObjectProp(property)) => {
-            write!(out, "{}", property.property_index(doc))?;
+            out.push_number(property.property_index(doc));
         }
-        _ => out.push('-')?,
+        _ => out.push("-"),
     }
-    push_comments(out, doc, node)
+    push_comments(out, doc, node);
 }
 
 /// How many containers are above a node.
@@ -145,171 +164,175 @@ fn depth_of(doc: &CstRootNode<Global>, node: CstNode) -> usize
     depth
 }
 
-fn push_layout(out: &mut String, doc: &CstRootNode<Global>, node: CstNode) -> Result<(), AllocError>
+fn push_layout(out: &mut Line, doc: &CstRootNode<Global>, node: CstNode)
     requires { Holds doc.now node }
 {
-    let (Ok(indent), Ok(uses)) = (node.indent_text(doc), node.uses_trailing_commas(doc)) else {
-        return Err(AllocError);
-    };
-    push_text(out, &indent)?;
-    write!(out, " bl={} tc=", digit(node.has_blank_line_before(doc)))?;
-    match node.trailing_comma(doc) {
-        Some(comma) => write!(out, "{}", CstNode::from(comma).child_index(doc))?,
-        None => out.push('-')?,
+    out.push(" it=");
+    push_text(out, node.indent_text(doc));
+    out.push(" bl=");
+    out.push(digit(node.has_blank_line_before(doc)));
+    out.push(" tc=");
+    push_place(out, doc, node.trailing_comma(doc).map(CstNode::from));
+    out.push(" ut=");
+    match node.uses_trailing_commas(doc) {
+        Ok(uses) => out.push(digit(uses)),
+        Err(_) => out.refuse(),
     }
-    write!(out, " ut={}", digit(uses))
 }
 
-fn push_comments(
-    out: &mut String,
-    doc: &CstRootNode<Global>,
-    node: CstNode,
-) -> Result<(), AllocError>
+fn push_comments(out: &mut Line, doc: &CstRootNode<Global>, node: CstNode)
     requires { Holds doc.now node }
 {
-    let (Ok(leading), Ok(trailing)) = (
-        node.leading_comments_same_line(doc),
-        node.trailing_comments_same_line(doc),
-    ) else {
-        return Err(AllocError);
-    };
-    out.push_str(" lc=")?;
-    push_places(out, doc, leading.as_slice())?;
-    out.push_str(" tr=")?;
-    push_places(out, doc, trailing.as_slice())
+    out.push(" lc=");
+    push_places(out, doc, node.leading_comments_same_line(doc));
+    out.push(" tr=");
+    push_places(out, doc, node.trailing_comments_same_line(doc));
 }
 
 /// The indents that a node's line tells; the root stands on none.
-fn push_indents(
-    alloc: Global,
-    out: &mut String,
-    node: CstNode,
-    tree: &Tree<Global>,
-    number: usize,
-) -> Result<(), AllocError>
+fn push_indents(out: &mut Line, node: CstNode, tree: &Tree<Global>, number: usize)
     requires { number < length tree.now.nodes }
 {
     if node.as_root_node().is_some() {
-        return out.push_str(" in=, ");
+        return out.push(" in=, ");
     }
-    let indents = indents_at(alloc, tree, number)?;
-    let current = Escaped::word(indents.current.as_str());
-    let single = Escaped::word(indents.single.as_str());
-    write!(out, " in={current},{single} ")
+    match indents_at(out.alloc(), tree, number) {
+        Ok(indents) => {
+            out.push(" in=");
+            out.push_word(indents.current.as_str());
+            out.push(",");
+            out.push_word(indents.single.as_str());
+            out.push(" ");
+        }
+        Err(_) => out.refuse(),
+    }
 }
 
 /// What a leaf prints, or how many children a container has; and what a property or a string tells.
-fn push_content(
-    out: &mut String,
-    doc: &CstRootNode<Global>,
-    node: CstNode,
-) -> Result<(), AllocError>
+fn push_content(out: &mut Line, doc: &CstRootNode<Global>, node: CstNode)
     requires { Holds doc.now node }
 {
-    let Ok(children) = node.children(doc) else {
-        return Err(AllocError);
-    };
     match node {
         CstNode::Container(CstContainerNode::ObjectProp(property)) => {
-            write!(out, "n={}", children.len())?;
-            push_property(out, doc, property)
+            push_count(out, doc, node);
+            push_property(out, doc, property);
         }
-        CstNode::Container(_) => write!(out, "n={}", children.len()),
+        CstNode::Container(_) => push_count(out, doc, node),
         CstNode::Leaf(CstLeafNode::StringLit(string)) => {
-            push_shown(out, doc, node)?;
-            push_decoded(out, doc, string)
+            push_shown(out, doc, node);
+            push_decoded(out, doc, string);
         }
         CstNode::Leaf(_) => push_shown(out, doc, node),
     }
 }
 
-fn push_shown(out: &mut String, doc: &CstRootNode<Global>, node: CstNode) -> Result<(), AllocError>
+/// How many children a container has.
+fn push_count(out: &mut Line, doc: &CstRootNode<Global>, node: CstNode)
     requires { Holds doc.now node }
 {
-    let text = node.shown(doc).to_string(*out.allocator())?;
-    write!(out, "t={}", Escaped::word(text.as_str()))
+    out.push("n=");
+    match node.children(doc) {
+        Ok(children) => out.push_number(children.len()),
+        Err(_) => out.refuse(),
+    }
 }
 
-fn push_property(
-    out: &mut String,
-    doc: &CstRootNode<Global>,
-    property: CstObjectProp,
-) -> Result<(), AllocError>
+fn push_shown(out: &mut Line, doc: &CstRootNode<Global>, node: CstNode)
+    requires { Holds doc.now node }
+{
+    out.push("t=");
+    match node.shown(doc).to_string(out.alloc()) {
+        Ok(text) => out.push_word(text.as_str()),
+        Err(_) => out.refuse(),
+    }
+}
+
+fn push_property(out: &mut Line, doc: &CstRootNode<Global>, property: CstObjectProp)
     requires { Holds doc.now (object_prop_node property) }
 {
-    let Ok(name) = property.decoded_name(doc) else {
-        return Err(AllocError);
-    };
-    out.push_str(" name=")?;
-    push_text(out, &name)?;
-    out.push_str(" v=")?;
-    push_place(out, doc, property.value(doc))?;
-    out.push_str(" pp=")?;
-    push_place(out, doc, property.previous_property(doc).map(CstNode::from))?;
-    out.push_str(" np=")?;
-    push_place(out, doc, property.next_property(doc).map(CstNode::from))
+    out.push(" name=");
+    match property.decoded_name(doc) {
+        Ok(name) => push_optional(out, &name),
+        Err(_) => out.refuse(),
+    }
+    out.push(" v=");
+    push_place(out, doc, property.value(doc));
+    out.push(" pp=");
+    push_place(out, doc, property.previous_property(doc).map(CstNode::from));
+    out.push(" np=");
+    push_place(out, doc, property.next_property(doc).map(CstNode::from));
 }
 
-fn push_decoded(
-    out: &mut String,
-    doc: &CstRootNode<Global>,
-    string: CstStringLit,
-) -> Result<(), AllocError>
+fn push_decoded(out: &mut Line, doc: &CstRootNode<Global>, string: CstStringLit)
     requires { Holds doc.now (string_lit_node string) }
 {
-    out.push_str(" dec=")?;
+    out.push(" dec=");
     match string.decoded_value(doc) {
-        Ok(text) => write!(out, "={}", Escaped::word(text.as_str())),
+        Ok(text) => {
+            out.push("=");
+            out.push_word(text.as_str());
+        }
         Err(kind) => push_string_kind(out, &kind),
     }
 }
 
 /// Places among children, with commas between.
 fn push_places(
-    out: &mut String,
+    out: &mut Line,
     doc: &CstRootNode<Global>,
-    comments: &[CstComment],
-) -> Result<(), AllocError> {
-    if comments.is_empty() {
-        return out.push('-');
+    comments: Result<Vec<CstComment>, EditError>,
+) {
+    match comments {
+        Ok(comments) if comments.is_empty() => out.push("-"),
+        Ok(comments) => push_each(out, doc, comments.as_slice()),
+        Err(_) => out.refuse(),
     }
+}
+
+fn push_each(out: &mut Line, doc: &CstRootNode<Global>, comments: &[CstComment]) {
     for (number, comment) in comments.iter().enumerate() {
         if number > 0 {
-            out.push(',')?;
+            out.push(",");
         }
-        push_place(out, doc, Some(CstNode::from(*comment)))?;
+        push_place(out, doc, Some(CstNode::from(*comment)));
     }
-    Ok(())
 }
 
 /// A node's place among its parent's children.
-fn push_place(
-    out: &mut String,
-    doc: &CstRootNode<Global>,
-    node: Option<CstNode>,
-) -> Result<(), AllocError> {
+fn push_place(out: &mut Line, doc: &CstRootNode<Global>, node: Option<CstNode>) {
     match node {
-        Some(node) if doc.holds(node) => write!(out, "{}", node.child_index(doc)),
-        _ => out.push('-'),
+        Some(node) if doc.holds(node) => out.push_number(node.child_index(doc)),
+        _ => out.push("-"),
     }
 }
 
-fn push_number(out: &mut String, number: Option<usize>) -> Result<(), AllocError> {
+fn push_number(out: &mut Line, number: Option<usize>) {
     match number {
-        Some(number) => write!(out, "{number}"),
-        None => out.push('-'),
+        Some(number) => out.push_number(number),
+        None => out.push("-"),
     }
 }
 
-fn push_text(out: &mut String, text: &Option<String>) -> Result<(), AllocError> {
+/// A text that was asked for.
+fn push_text(out: &mut Line, text: Result<Option<String>, EditError>) {
     match text {
-        Some(text) => write!(out, "={}", Escaped::word(text.as_str())),
-        None => out.push('-'),
+        Ok(text) => push_optional(out, &text),
+        Err(_) => out.refuse(),
     }
 }
 
-fn digit(holds: bool) -> char {
-    if holds { '1' } else { '0' }
+fn push_optional(out: &mut Line, text: &Option<String>) {
+    match text {
+        Some(text) => {
+            out.push("=");
+            out.push_word(text.as_str());
+        }
+        None => out.push("-"),
+    }
+}
+
+fn digit(holds: bool) -> &'static str {
+    if holds { "1" } else { "0" }
 }
 
 fn kind_of(node: CstNode) -> &'static str {

@@ -1,8 +1,10 @@
 //! The tokens of a text.
 
+use crate::line::Line;
 use crate::show::{push_fault, push_token};
+use jsonc_parser::errors::ParseError;
 use jsonc_parser::{ParseOptions, Scanner, ScannerOptions};
-use std::alloc::{AllocError, Global};
+use std::alloc::Global;
 
 fn scanner_options(options: &ParseOptions) -> ScannerOptions {
     ScannerOptions {
@@ -16,32 +18,36 @@ fn scanner_options(options: &ParseOptions) -> ScannerOptions {
 }
 
 /// How the scan of a text ends, and each token before that.
-pub fn tokens(alloc: Global, text: &str, options: &ParseOptions) -> Result<String, AllocError> {
-    let mut scanner = Scanner::new(alloc, text, &scanner_options(options));
-    let mut found = String::new(alloc);
-    // Each token has a byte at least.
-    for _ in 0..=text.len() {
-        match scanner.scan() {
-            Ok(Some(token)) => {
-                found.push('\t')?;
-                push_token(
-                    &mut found,
-                    &token,
-                    scanner.token_start(),
-                    scanner.token_end(),
-                )?;
-            }
-            Ok(None) => {
-                let end = scanner.token_start();
-                return format!(in alloc; "ok {end}{found}");
-            }
-            Err(error) => {
-                let mut end = String::new(alloc);
-                push_fault(alloc, &mut end, &error)?;
-                let start = scanner.token_start();
-                return format!(in alloc; "{end}\tat {start}{found}");
-            }
+pub fn push_tokens(out: &mut Line, text: &str, options: &ParseOptions) {
+    let mut scanner = Scanner::new(out.alloc(), text, &scanner_options(options));
+    let mut found = Line::new(out.alloc());
+    match push_all(&mut found, &mut scanner, text.len()) {
+        Ok(()) => {
+            out.push("ok ");
+            out.push_number(scanner.token_start());
+        }
+        Err(error) => {
+            push_fault(out, &error);
+            out.push("\tat ");
+            out.push_number(scanner.token_start());
         }
     }
-    String::from_str(alloc, "more tokens than bytes")
+    out.push_line(found);
+}
+
+/// Each token up to the end or to a fault. Each has a byte at least.
+fn push_all(
+    out: &mut Line,
+    scanner: &mut Scanner<'_, Global>,
+    count: usize,
+) -> Result<(), ParseError> {
+    for _ in 0..=count {
+        let Some(token) = scanner.scan()? else {
+            return Ok(());
+        };
+        out.push("\t");
+        push_token(out, &token, scanner.token_start(), scanner.token_end());
+    }
+    out.push("\tmore tokens than bytes");
+    Ok(())
 }

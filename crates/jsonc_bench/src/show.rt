@@ -1,42 +1,49 @@
 //! How faults and tokens are shown.
 
-use jsonc_cases::escape::Escaped;
+use crate::line::Line;
 use jsonc_parser::ParseStringErrorKind;
 use jsonc_parser::errors::{ParseError, ParseErrorKind};
 use jsonc_parser::tokens::Token;
-use std::alloc::{AllocError, Global};
+use std::alloc::Global;
 use std::borrow::CowStr;
 
 /// The name of a string's fault.
-pub fn push_string_kind(out: &mut String, kind: &ParseStringErrorKind) -> Result<(), AllocError> {
+pub fn push_string_kind(out: &mut Line, kind: &ParseStringErrorKind) {
     match kind {
         ParseStringErrorKind::InvalidUnicodeEscapeSequence(_, _) => {
-            out.push_str("InvalidUnicodeEscapeSequence")
+            out.push("InvalidUnicodeEscapeSequence");
         }
-        kind => write!(out, "{kind:?}"),
+        kind => out.push_variant(kind),
     }
 }
 
-fn push_kind(out: &mut String, kind: &ParseErrorKind) -> Result<(), AllocError> {
+fn push_kind(out: &mut Line, kind: &ParseErrorKind) {
     match kind {
         ParseErrorKind::String(kind) => {
-            out.push_str("String/")?;
-            push_string_kind(out, kind)
+            out.push("String/");
+            push_string_kind(out, kind);
         }
-        kind => write!(out, "{kind:?}"),
+        kind => out.push_variant(kind),
     }
+}
+
+/// A number behind a blank.
+fn push_spaced(out: &mut Line, number: usize) {
+    out.push(" ");
+    out.push_number(number);
 }
 
 /// A fault: its kind, its range, its line and column, and how it prints.
-pub fn push_fault(alloc: Global, out: &mut String, error: &ParseError) -> Result<(), AllocError> {
+pub fn push_fault(out: &mut Line, error: &ParseError) {
     let range = error.range();
-    let line = error.line_display();
-    let column = error.column_display();
-    let printed = error.to_string(alloc)?;
-    out.push_str("fault ")?;
-    push_kind(out, error.kind())?;
-    write!(out, " {} {} {line} {column} ", range.start, range.end)?;
-    write!(out, "{}", Escaped::field(printed.as_bytes()))
+    out.push("fault ");
+    push_kind(out, error.kind());
+    push_spaced(out, range.start);
+    push_spaced(out, range.end);
+    push_spaced(out, error.line_display());
+    push_spaced(out, error.column_display());
+    out.push(" ");
+    out.push_printed(error);
 }
 
 fn kind_of(token: &Token<'_, Global>) -> &'static str {
@@ -59,13 +66,10 @@ fn kind_of(token: &Token<'_, Global>) -> &'static str {
 }
 
 /// A token: its kind, its range and its text.
-pub fn push_token(
-    out: &mut String,
-    token: &Token<'_, Global>,
-    start: usize,
-    end: usize,
-) -> Result<(), AllocError> {
-    let kind = kind_of(token);
-    let text = Escaped::field(token.as_str().as_bytes());
-    write!(out, "{kind} {start} {end} {text}")
+pub fn push_token(out: &mut Line, token: &Token<'_, Global>, start: usize, end: usize) {
+    out.push(kind_of(token));
+    push_spaced(out, start);
+    push_spaced(out, end);
+    out.push(" ");
+    out.push_field(token.as_str().as_bytes());
 }
