@@ -8,7 +8,7 @@ use Rattle.jsonc_tree.proofs.Over.{over_up}
 use Rattle.jsonc_nodes.specs.Kinds.{is_element, is_element_at}
 use Rattle.jsonc_nodes.specs.Siblings.{elements_at}
 use Rattle.jsonc_tree.specs.OrderedTree.{Top}
-use Rattle.jsonc_sound.specs.TreeChanges.{IsElement}
+use Rattle.jsonc_laws.specs.TreeChanges.{IsElement}
 use Rattle.jsonc_edit.specs.Paths.{IsElementOf, StepsTo, LeadsTo, itself, step, IsAt}
 use Rattle.jsonc_edit.proofs.Elements.{taken, left, StandsAt, stands_at}
 use Rattle.jsonc_edit.proofs.GivingWay.{InPlace}

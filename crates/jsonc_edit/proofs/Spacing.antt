@@ -11,11 +11,11 @@ use Rattle.jsonc_tree.specs.Tree.{Node, content_at, parent_at, children_at, plac
 use Rattle.jsonc_tree.specs.Values.{DocumentValueOf}
 use Rattle.jsonc_tree.proofs.OrderedTrees.{Shows-unique}
 use Rattle.jsonc_tree.proofs.Over.{either_over}
-use Rattle.jsonc_sound.specs.TreeChanges.{IsElement}
-use Rattle.jsonc_sound.proofs.TriviaValues.{document_kept}
-use Rattle.jsonc_seams.specs.InRows.{SpacePut}
-use Rattle.jsonc_seams.specs.SoundTrees.{SoundTree}
-use Rattle.jsonc_seams.proofs.SpacePut.{document_put, kept_with_space}
+use Rattle.jsonc_laws.specs.TreeChanges.{IsElement}
+use Rattle.jsonc_laws.proofs.TriviaValues.{document_kept}
+use Rattle.jsonc_laws.specs.InRows.{SpacePut}
+use Rattle.jsonc_laws.specs.SoundTrees.{SoundTree}
+use Rattle.jsonc_laws.proofs.SpacePut.{document_put, kept_with_space}
 use Rattle.jsonc_spaces.specs.Put.{a_space, StandsBefore, AreSpaced}
 use Rattle.jsonc_spaces.proofs.Putting.{contents_kept, parent_kept, row_kept, elements_kept, over_kept, over_before, no_parent_space, placed_ahead, placed_behind, placed_elsewhere, puts_space}
 use Rattle.jsonc_edit.specs.Changes.{row_below, top_at}

@@ -7,19 +7,19 @@ use Rattle.jsonc_tree.specs.OrderedTree.{OrderedTree, none, leaves, ordered_tree
 use Rattle.jsonc_tree.specs.Tree.{Node, IsTree}
 use Rattle.jsonc_from_input.specs.Laid.{laid, laid_property}
 use Rattle.jsonc_from_input.specs.Texts.{IsCharacters}
-use Rattle.jsonc_sound.specs.Laws.{DiffersIn}
-use Rattle.jsonc_sound.specs.TreeChanges.{leaves_of, property_of}
-use Rattle.jsonc_seams.specs.SoundTrees.{SoundTree}
-use Rattle.jsonc_marks.specs.Changes.{MarksDifferIn, marks_under}
-use Rattle.jsonc_marks.specs.Marks.{Mark, marks, trimmed}
-use Rattle.jsonc_marks.specs.Written.{written}
-use Rattle.jsonc_marks.proofs.GivingWay.{marks_follow, one_mark_leaves}
-use Rattle.jsonc_marks.proofs.Laid.{laid_as_written, laid_as_written_named}
-use Rattle.jsonc_marks.proofs.OneList.{marks_unique}
-use Rattle.jsonc_marks.proofs.Printed.{prints_its_marks}
-use Rattle.jsonc_rows.specs.Laws.{root_with}
-use Rattle.jsonc_rows.proofs.FirstValue.{marks_with_first}
-use Rattle.jsonc_rows.proofs.RootRows.{root_marks}
+use Rattle.jsonc_laws.specs.ChangeLaws.{DiffersIn}
+use Rattle.jsonc_laws.specs.TreeChanges.{leaves_of, property_of}
+use Rattle.jsonc_laws.specs.SoundTrees.{SoundTree}
+use Rattle.jsonc_laws.specs.MarkChanges.{MarksDifferIn, marks_under}
+use Rattle.jsonc_laws.specs.Marks.{Mark, marks, trimmed}
+use Rattle.jsonc_laws.specs.Written.{written}
+use Rattle.jsonc_laws.proofs.GivingWay.{marks_follow, one_mark_leaves}
+use Rattle.jsonc_laws.proofs.Laid.{laid_as_written, laid_as_written_named}
+use Rattle.jsonc_laws.proofs.OneList.{marks_unique}
+use Rattle.jsonc_laws.proofs.Printed.{prints_its_marks}
+use Rattle.jsonc_laws.specs.EntryLaws.{root_with}
+use Rattle.jsonc_laws.proofs.FirstValue.{marks_with_first}
+use Rattle.jsonc_laws.proofs.RootRows.{root_marks}
 use Rattle.jsonc_edit.specs.Spaced.{SpacesPut}
 use Rattle.jsonc_edit.specs.Writing.{IsWritable}
 use Rattle.jsonc_remove.proofs.Lost.{removes_entry}

@@ -8,7 +8,7 @@ use Rattle.jsonc_text.proofs.UniqueValues.{document_unique}
 use Rattle.jsonc_tree.specs.OrderedTree.{OrderedTree, ordered_tree}
 use Rattle.jsonc_tree.specs.Tree.{Node, content_at, children_at, IsTree}
 use Rattle.jsonc_build.specs.Shape.{printed_text}
-use Rattle.jsonc_seams.specs.SoundTrees.{SoundTree}
+use Rattle.jsonc_laws.specs.SoundTrees.{SoundTree}
 use Rattle.jsonc_build.proofs.ShapeValues.{document_printed}
 use Rattle.jsonc_edit.specs.Changes.{top_at}
 use Rattle.jsonc_edit.specs.Writing.{IsWritable}

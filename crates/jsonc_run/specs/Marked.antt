@@ -6,12 +6,12 @@ use Rattle.jsonc_tree.specs.Tree.{Node}
 use Rattle.jsonc_tree.specs.OrderedTree.{ordered_tree}
 use Rattle.jsonc_build.specs.Shape.{printed_text}
 use Rattle.jsonc_tree.specs.OrderedTree.{Top}
-use Rattle.jsonc_seams.specs.SoundTrees.{SoundTree}
-use Rattle.jsonc_marks.specs.Changes.{MarksDifferIn}
-use Rattle.jsonc_marks.specs.Marks as marks
-use Rattle.jsonc_marks.specs.Marks.{Mark, AreMarks}
-use Rattle.jsonc_marks.specs.Written.{property_written, written}
-use Rattle.jsonc_rows.specs.Laws.{LosesMarks}
+use Rattle.jsonc_laws.specs.SoundTrees.{SoundTree}
+use Rattle.jsonc_laws.specs.MarkChanges.{MarksDifferIn}
+use Rattle.jsonc_laws.specs.Marks as marks
+use Rattle.jsonc_laws.specs.Marks.{Mark, AreMarks}
+use Rattle.jsonc_laws.specs.Written.{property_written, written}
+use Rattle.jsonc_laws.specs.EntryLaws.{LosesMarks}
 use Rattle.jsonc_run.specs.Edits.{Operation, replace, remove, remove_comment, set_root, clear_root, replace_property, ensure_root}
 use Rattle.jsonc_run.specs.Written.{MayBeMade}
 

@@ -7,19 +7,19 @@ use Rattle.jsonc_text.specs.Grammar.{IsDocument}
 use Rattle.jsonc_tree.specs.Tree.{Node}
 use Rattle.jsonc_tree.specs.OrderedTree.{OrderedTree, none, leaves, ordered_tree, Top}
 use Rattle.jsonc_build.specs.Shape.{printed_text}
-use Rattle.jsonc_sound.specs.Changes.{Changed}
-use Rattle.jsonc_sound.specs.Laws.{DiffersIn}
-use Rattle.jsonc_sound.specs.TreeChanges.{leaves_of, property_of, DocumentChanged}
+use Rattle.jsonc_laws.specs.Changes.{Changed}
+use Rattle.jsonc_laws.specs.ChangeLaws.{DiffersIn}
+use Rattle.jsonc_laws.specs.TreeChanges.{leaves_of, property_of, DocumentChanged}
 use Rattle.jsonc_from_input.specs.Layout.{Layout}
-use Rattle.jsonc_seams.specs.SoundTrees.{SoundTree}
+use Rattle.jsonc_laws.specs.SoundTrees.{SoundTree}
 use Rattle.jsonc_edit.specs.Comments.{LosesComment}
 use Rattle.jsonc_from_input.specs.Laid.{laid, laid_property}
 use Rattle.jsonc_from_input.specs.Texts.{IsCharacters}
 use Rattle.jsonc_edit.specs.Spaced.{SpacesPut}
 use Rattle.jsonc_edit.specs.Writing.{IsWritable}
-use Rattle.jsonc_rows.specs.Coming.{ValueComes}
-use Rattle.jsonc_rows.specs.Laws.{LosesEntry, root_with}
-use Rattle.jsonc_rows.specs.Properties.{PropertyChanged, ReplacesMember}
+use Rattle.jsonc_laws.specs.Coming.{ValueComes}
+use Rattle.jsonc_laws.specs.EntryLaws.{LosesEntry, root_with}
+use Rattle.jsonc_laws.specs.Properties.{PropertyChanged, ReplacesMember}
 use Rattle.jsonc_remove.specs.Laws.{EntryTaken, ValueTaken}
 use Rattle.jsonc_run.specs.declared.edit.Over.{Over}
 use Rattle.jsonc_run.specs.declared.edit.Over.TheVariants as over

@@ -22,31 +22,31 @@ use Rattle.jsonc_nodes.specs.Siblings.{AreThere, IsThere, elements_at}
 use Rattle.jsonc_nodes.proofs.There.{before_there, find_there}
 use Rattle.jsonc_build.specs.Shape.{IsLiteralBefore, IsTrivia, token_then}
 use Rattle.jsonc_build.proofs.ShapeValues.{document_printed}
-use Rattle.jsonc_sound.specs.Laws.{DiffersIn}
-use Rattle.jsonc_sound.specs.Rows as rows
-use Rattle.jsonc_sound.specs.Rows.{Last}
-use Rattle.jsonc_sound.specs.TreeChanges.{IsElement, leaves_of, DocumentChanged}
-use Rattle.jsonc_sound.proofs.HeldValues.{document_held}
-use Rattle.jsonc_sound.proofs.LeavesAround.{document_differs, within}
-use Rattle.jsonc_sound.proofs.Values.{document_change}
-use Rattle.jsonc_seams.specs.Adjacent.{last_printed}
-use Rattle.jsonc_seams.specs.Alone as alone
-use Rattle.jsonc_seams.specs.Alone.{ValueAlone, RowAlone, PropertyAlone}
-use Rattle.jsonc_seams.specs.Booleans.{boolean_leaf, is_hex_leaf}
-use Rattle.jsonc_seams.specs.InRows.{row_around}
-use Rattle.jsonc_seams.specs.SoundTrees.{SoundTree}
-use Rattle.jsonc_seams.proofs.Apart.{document_alone, value_alone}
-use Rattle.jsonc_seams.proofs.Booleans.{shaped_with_boolean}
-use Rattle.jsonc_seams.proofs.LooseChanges.{document_loose}
-use Rattle.jsonc_seams.proofs.RowsWithin.{LeafPrints, last_some, name_prints, opening_print, same_if_some}
-use Rattle.jsonc_seams.proofs.Spaces.{last_append}
-use Rattle.jsonc_seams.proofs.Stretches.{parted_row}
-use Rattle.jsonc_seams.proofs.Texts.{name_leaf}
-use Rattle.jsonc_marks.specs.Changes.{MarksDifferIn, marks_under}
-use Rattle.jsonc_marks.specs.Marks.{marks}
-use Rattle.jsonc_marks.specs.Written as written_marks
-use Rattle.jsonc_marks.proofs.GivingWay.{values_marks}
-use Rattle.jsonc_rows.specs.Leaving.{element_count}
+use Rattle.jsonc_laws.specs.ChangeLaws.{DiffersIn}
+use Rattle.jsonc_laws.specs.Rows as rows
+use Rattle.jsonc_laws.specs.Rows.{Last}
+use Rattle.jsonc_laws.specs.TreeChanges.{IsElement, leaves_of, DocumentChanged}
+use Rattle.jsonc_laws.proofs.HeldValues.{document_held}
+use Rattle.jsonc_laws.proofs.LeavesAround.{document_differs, within}
+use Rattle.jsonc_laws.proofs.Values.{document_change}
+use Rattle.jsonc_laws.specs.Adjacent.{last_printed}
+use Rattle.jsonc_laws.specs.Alone as alone
+use Rattle.jsonc_laws.specs.Alone.{ValueAlone, RowAlone, PropertyAlone}
+use Rattle.jsonc_laws.specs.Booleans.{boolean_leaf, is_hex_leaf}
+use Rattle.jsonc_laws.specs.InRows.{row_around}
+use Rattle.jsonc_laws.specs.SoundTrees.{SoundTree}
+use Rattle.jsonc_laws.proofs.Apart.{document_alone, value_alone}
+use Rattle.jsonc_laws.proofs.Booleans.{shaped_with_boolean}
+use Rattle.jsonc_laws.proofs.LooseChanges.{document_loose}
+use Rattle.jsonc_laws.proofs.RowsWithin.{LeafPrints, last_some, name_prints, opening_print, same_if_some}
+use Rattle.jsonc_laws.proofs.Spaces.{last_append}
+use Rattle.jsonc_laws.proofs.SeamStretches.{parted_row}
+use Rattle.jsonc_laws.proofs.Texts.{name_leaf}
+use Rattle.jsonc_laws.specs.MarkChanges.{MarksDifferIn, marks_under}
+use Rattle.jsonc_laws.specs.Marks.{marks}
+use Rattle.jsonc_laws.specs.Written as written_marks
+use Rattle.jsonc_laws.proofs.GivingWay.{values_marks}
+use Rattle.jsonc_laws.specs.Leaving.{element_count}
 use Rattle.jsonc_spaces.specs.Due.{prints, prints_at, nearest, listed, seen_before}
 use Rattle.jsonc_spaces.specs.Put.{AreSpaced}
 use Rattle.jsonc_spaces.proofs.Putting.{contents_kept}
