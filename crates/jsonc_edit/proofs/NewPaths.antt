@@ -11,7 +11,8 @@ use Rattle.jsonc_tree.proofs.Over.{over_up}
 use Rattle.jsonc_nodes.specs.Kinds.{is_element, is_element_at}
 use Rattle.jsonc_nodes.specs.Properties.{value_at}
 use Rattle.jsonc_nodes.specs.Siblings.{elements_at}
-use Rattle.jsonc_nodes.proofs.Held.{IsAlike, held_alike, held_in, held_replaced, same_kind, value_is_held}
+use Rattle.jsonc_nodes.proofs.Held.{IsAlike, held_alike, held_in, held_replaced, value_is_held}
+use Rattle.jsonc_nodes.proofs.Held as kinds
 use Rattle.jsonc_tree.specs.OrderedTree.{Top}
 use Rattle.jsonc_laws.specs.TreeChanges.{IsElement}
 use Rattle.jsonc_edit.specs.Paths.{IsElementOf, IsHeldBy, StepsTo, LeadsTo, itself, step, IsAt}
@@ -44,7 +45,7 @@ module _ (old new : List Node) (tree : IsTree old) (n m : ℕ) (now : Top) (g : 
 
   -- nodes are of the kinds that they were
   alike : (row : List ℕ) → All (IsAlike old new) row
-  alike row = All-from_get_or (IsAlike old new) row 0 (λ k h. let j = slice_index row k in same_kind (content_at new j) (content_at old j) (g.contents j))
+  alike row = All-from_get_or (IsAlike old new) row 0 (λ k h. let j = slice_index row k in kinds.same_kind (content_at new j) (content_at old j) (g.contents j))
 
   -- so another property has the value that it had
   pub other_held : (r q : ℕ) → content_at old r ≡ property → parent_at old n ≢ Some r → value_at old r ≡ Some q → value_at new r ≡ Some q
@@ -74,12 +75,12 @@ module _ (old new : List Node) (tree : IsTree old) (n m : ℕ) (now : Top) (g : 
     before : All (λ k. k ≢ n) front
     before =
         All-from_get_or (λ k. k ≢ n) front 0 (λ k h e.
-        let low : k < place = omega (arith, h, length-take row place) in
-        apart k (omega (arith, low, tree.within n r said)) (λ same. omega (arith, same, low)) (sym (get_or-take row place k 0 low) ∙ e))
+        let low : k < place = omega (arith, h, length-take place row) in
+        apart k (omega (arith, low, tree.within n r said)) (λ same. omega (arith, same, low)) (sym (get_or-take place row k 0 low) ∙ e))
 
     behind : All (λ k. k ≢ n) back
     behind =
-        All-from_get_or (λ k. k ≢ n) back 0 (λ k h e. apart (place + 1 + k) (omega (arith, h, length-drop row (place + 1))) (λ same. omega (arith, same)) (sym (get_or-drop row (place + 1) k 0) ∙ e))
+        All-from_get_or (λ k. k ≢ n) back 0 (λ k h e. apart (place + 1 + k) (omega (arith, h, length-drop (place + 1) row)) (λ same. omega (arith, same)) (sym (get_or-drop (place + 1) row k 0) ∙ e))
 
     pub put_held : value_at new r ≡ Some m
     put_held =

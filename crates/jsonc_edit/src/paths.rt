@@ -1,6 +1,6 @@
 //! Nodes by their paths.
 
-ghost use Rattle.std.specs.Prelude.{◌<◌, length};
+ghost use Rattle.std.specs.Prelude.{◌≡◌, ◌<◌, IfSome, Some, length};
 ghost use Rattle.jsonc_nodes.specs.Siblings.{IsThere};
 ghost use Rattle.jsonc_edit.specs.Paths.{FindsExactly, IsAt, IsHeldBy, StepsTo};
 
