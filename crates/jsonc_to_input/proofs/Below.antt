@@ -1,5 +1,5 @@
 -- A node stands over more nodes than a child of it.
-use Rattle.std.proofs.Common.{◌≡◌, Bool, true, false, cond, Option, None, Some, drop, sym, subst, ℕ, zero, suc, ◌<◌, ◌≤◌, List, [], ◌∷◌, length, get_or, ap, arith, length-append}
+use Rattle.std.proofs.Common.{◌≡◌, Bool, true, false, cond, None, Some, sym, subst, ℕ, zero, suc, ◌<◌, ◌≤◌, List, [], ◌∷◌, length, get_or, ap, arith, length-append}
 use Rattle.std.specs.List.{flat_map, find}
 use Rattle.jsonc_tree.specs.Content.{Content, root, object, array, property, string, word, number, boolean, null, token, whitespace, newline, comment}
 use Rattle.jsonc_tree.specs.Tree.{Node, IsTree, children_at, content_at}

@@ -6,7 +6,7 @@ use Rattle.jsonc_text.specs.Strings.{IsQuote, Piece, Pieces}
 use Rattle.jsonc_text.specs.Plain.{Plain, Items, Members}
 use Rattle.jsonc_tree.specs.Content.{Content}
 use Rattle.jsonc_tree.specs.OrderedTree.{OrderedTree, none, more}
-use Rattle.jsonc_tree.specs.Values.{is_passed_over, is_loose_name, IsStringText, IsNameLeaf, HasNoValue, ValueOf, ItemsOf, MembersOf, PropertyOf, HoldsValue, DocumentValueOf}
+use Rattle.jsonc_tree.specs.Values.{is_passed_over, IsStringText, IsNameLeaf, HasNoValue, ValueOf, ItemsOf, MembersOf, PropertyOf, HoldsValue, DocumentValueOf}
 use Rattle.jsonc_tree.specs.Values as values
 use Rattle.jsonc_nodes.specs.Kinds.{is_element, is_colon, is_property}
 use Rattle.jsonc_nodes.specs.Properties.{is_name}
