@@ -88,17 +88,18 @@ module _ (ns : List Node) where
       ∙ sym (ap (λ b. find (is_element_at ns) (cond b parts.1 (behind_first (is_colon_at ns) parts.1))) (ap is_colon parts.3 ∙ kind.colon))
       )
 
-  -- so the second element is the value
-  second_is_held : (o : Options) (xs : List ℕ) (row : OrderedTree) (r : List ℕ) → Shows ns xs row → PropertyShaped o row r → held_in ns xs ≡ slice_get (filter (is_element_at ns) xs) 1
-  second_is_held o xs _ r shows (PropertyShaped.named {name = name} {after = after} {u = u} is before between value) =
+  -- so behind a name the second element is the value
+  pub second_is_held : (o : Options) (xs : List ℕ) (name : Content) (after u : OrderedTree) (r : List ℕ) → Shows ns xs (more name none after) → IsNameBefore o name r → Trivia o after (token_then 0x3A u) → held_in ns xs ≡ slice_get (filter (is_element_at ns) xs) 1
+  second_is_held o xs name after u r shows is before =
       let parts = parted xs (more name none after) name none after shows refl in
-      let kind = name_kind o name (printed_text after) is in
+      let kind = name_kind o name r is in
       let behind : IsBehindColon parts.1 = before_colon o before (λ ys g. at_colon ys u g) parts.1 parts.4 in
       subst (λ (l : List ℕ). held_in ns l ≡ slice_get (filter (is_element_at ns) l) 1) (sym parts.2) (
-      ap (λ b. find (is_element_at ns) (behind_first (is_colon_at ns) (cond b parts.1 (behind_first (is_name_at ns) parts.1)))) (ap is_name parts.3 ∙ kind.name)
-      ∙ sym behind
-      ∙ sym (ap (λ l. slice_get l 1) (taken (is_element_at ns) parts.0 parts.1 (ap is_element parts.3 ∙ kind.element)))
+          ap (λ b. find (is_element_at ns) (behind_first (is_colon_at ns) (cond b parts.1 (behind_first (is_name_at ns) parts.1)))) (ap is_name parts.3 ∙ kind.name)
+          ∙ sym behind
+          ∙ sym (ap (λ l. slice_get l 1) (taken (is_element_at ns) parts.0 parts.1 (ap is_element parts.3 ∙ kind.element)))
       )
 
   pub shaped_value : (o : Options) (r n : ℕ) (row : OrderedTree) (rest : List ℕ) → Shows ns (children_at ns r) row → PropertyShaped o row rest → content_at ns r ≡ property → IsElementOf ns r 1 n → value_at ns r ≡ Some n
-  shaped_value o r n row rest shows shape is second = value_is_held ns r is ∙ second_is_held o (children_at ns r) row rest shows shape ∙ second
+  shaped_value o r n _ rest shows (PropertyShaped.named {name = name} {after = after} {u = u} named before between value) is second =
+      value_is_held ns r is ∙ second_is_held o (children_at ns r) name after u (printed_text after) shows named before ∙ second

@@ -1,6 +1,6 @@
 //! Values of properties, set.
 
-ghost use Rattle.std.specs.Prelude.{◌≡◌, ◌+◌, ◌<◌, [], IfErr, IfNone, IfOk, IfSome, OnErr, OnOk, Some, false, length};
+ghost use Rattle.std.specs.Prelude.{◌≡◌, ◌+◌, ◌<◌, [], IfErr, IfNone, IfOk, IfSome, OnErr, OnOk, Some, false, length, true};
 ghost use Rattle.jsonc_text.specs.Options.{Options};
 ghost use Rattle.jsonc_text.specs.Plain.{array, object, no_items, no_members};
 ghost use Rattle.jsonc_tree.specs.Building.{Keeps};
@@ -107,6 +107,7 @@ pub fn property_object_or_set<A: Allocator + Copy>(
     ensures value { IfOk result (HeldOrSet is_object (object no_members) tree.old.nodes tree.new.nodes property (value_at tree.old.nodes property)) }
     ensures named { OnOk result (lacks_name_at tree.old.nodes property ≡ false) }
     ensures told { IfErr result (IsUnset is_object tree.old.nodes property) }
+    ensures missing { IfErr result (λ e. lacks_name_at tree.old.nodes property ≡ true → e ≡ EditError.MissingName) }
     ensures kept { OnErr result (Keeps (length tree.old.nodes) tree.old.nodes tree.new.nodes) }
     ensures document { OnErr result (ordered_tree tree.new.nodes 0 ≡ ordered_tree tree.old.nodes 0) }
     ensures tree { IsTree tree.new.nodes }
@@ -137,6 +138,7 @@ pub fn property_array_or_set<A: Allocator + Copy>(
     ensures value { IfOk result (HeldOrSet is_array (array no_items) tree.old.nodes tree.new.nodes property (value_at tree.old.nodes property)) }
     ensures named { OnOk result (lacks_name_at tree.old.nodes property ≡ false) }
     ensures told { IfErr result (IsUnset is_array tree.old.nodes property) }
+    ensures missing { IfErr result (λ e. lacks_name_at tree.old.nodes property ≡ true → e ≡ EditError.MissingName) }
     ensures kept { OnErr result (Keeps (length tree.old.nodes) tree.old.nodes tree.new.nodes) }
     ensures document { OnErr result (ordered_tree tree.new.nodes 0 ≡ ordered_tree tree.old.nodes 0) }
     ensures tree { IsTree tree.new.nodes }
