@@ -1,48 +1,34 @@
 //! What edits make of a document.
 use crate::show::push_fault;
-use jsonc_build::build;
 use jsonc_cases::escape::Escaped;
-use jsonc_parser::cst::EditError;
-use jsonc_parser::errors::ParseError;
-use jsonc_parser::{CollectOptions, ParseOptions, parse_to_ast};
-use jsonc_run::{Edit, run};
-use jsonc_tree::Tree;
+use jsonc_parser::ParseOptions;
+use jsonc_parser::cst::{CstNode, CstRootNode, Edit, EditError, run};
 use std::alloc::{AllocError, Global};
+use std::cmp::Ordering;
 
 /// How the edits end, and how the document prints after those that were made; or the text's fault.
 pub fn edited(
     alloc: Global,
     text: &str,
     options: &ParseOptions,
-    edits: &[Edit<Global>],
+    edits: Vec<Edit<Global>>,
 ) -> Result<String, AllocError> {
     let mut out = String::new(alloc);
-    let mut tree = match tree_of(alloc, text, options) {
-        Ok(tree) => tree,
+    let mut doc = match CstRootNode::parse(alloc, text, options) {
+        Ok(doc) => doc,
         Err(error) => {
             push_fault(alloc, &mut out, &error)?;
             return Ok(out);
         }
     };
-    match run(alloc, &mut tree, edits) {
+    // No edit sorts, so the comparison is not asked.
+    let compare = |_doc: &CstRootNode<_>, _one: CstNode, _other: CstNode| Ordering::Equal;
+    match run(&mut doc, edits, &compare) {
         Ok(()) => out.push_str("ok")?,
         Err((made, EditError::NoSuchPlace)) => write!(out, "stop {made} NoSuchPlace")?,
         Err(_) => return Err(AllocError),
     }
-    let printed = tree.to_string(alloc)?;
+    let printed = doc.to_string(alloc)?;
     write!(out, "\t{}", Escaped::field(printed.as_bytes()))?;
     Ok(out)
-}
-
-/// The tree of a text, or the text's fault.
-pub fn tree_of(
-    alloc: Global,
-    text: &str,
-    options: &ParseOptions,
-) -> Result<Tree<Global>, ParseError> {
-    let parsed = parse_to_ast(alloc, text, &CollectOptions::default(), options)?;
-    match build(alloc, text, parsed.value.as_ref()) {
-        Ok(tree) => Ok(tree),
-        Err(_) => Err(ParseError::out_of_memory()),
-    }
 }

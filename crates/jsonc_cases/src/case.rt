@@ -4,8 +4,8 @@ use crate::edits::read_edits;
 use crate::error::CaseError;
 use crate::escape::{unescaped, unescaped_text};
 use crate::lookups::{Lookup, read_lookups};
+use jsonc_parser::cst::Edit;
 use jsonc_parser::{CollectOptions, CommentCollectionStrategy, ParseOptions};
-use jsonc_run::Edit;
 use std::alloc::Global;
 
 /// What a case asks.

@@ -2,8 +2,7 @@
 
 use crate::error::CaseError;
 use crate::escape::unescaped_text;
-use jsonc_input::CstInputValue;
-use jsonc_run::{Edit, Over, Shape};
+use jsonc_parser::cst::{CstInputValue, Edit, Over, Shape};
 use std::alloc::Global;
 
 /// The edits that a field lists, as `Replace /0 [1 #2 ; RemoveComment 0`, or none where one is of a
