@@ -1,0 +1,19 @@
+//! Tests of documents: what no clause says of typed nodes and of edits, and of memory that is refused.
+//!
+//! `docs/BENCH.md` says what each test is of.
+#![tactic(auto)]
+
+#[cfg(test)]
+mod calls;
+#[cfg(test)]
+mod edits;
+#[cfg(test)]
+mod inputs;
+#[cfg(test)]
+mod reading;
+#[cfg(test)]
+mod refusals;
+#[cfg(test)]
+mod trees;
+#[cfg(test)]
+mod typed;
