@@ -10,10 +10,20 @@ mod edits;
 #[cfg(test)]
 mod inputs;
 #[cfg(test)]
+mod lists;
+#[cfg(test)]
+mod node_edits;
+#[cfg(test)]
+mod raw_edits;
+#[cfg(test)]
 mod reading;
 #[cfg(test)]
 mod refusals;
 #[cfg(test)]
+mod root_edits;
+#[cfg(test)]
 mod trees;
 #[cfg(test)]
 mod typed;
+#[cfg(test)]
+mod typed_edits;

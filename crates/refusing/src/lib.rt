@@ -53,6 +53,14 @@ impl<A: Allocator> Refusing<A> {
         }
     }
 
+    /// Refuses every request but so many first ones.
+    pub fn after(heap: A, count: u64) -> Refusing<A> {
+        Refusing {
+            heap,
+            turns: Turns::new(count, u64::MAX),
+        }
+    }
+
     /// Refuses every request.
     pub fn always(heap: A) -> Refusing<A> {
         Refusing {
