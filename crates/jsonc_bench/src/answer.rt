@@ -40,7 +40,11 @@ pub fn answer(alloc: Global, question: Question) -> Result<Option<String>, Alloc
             text,
             edits,
         } => Ok(Some(edited(alloc, text.as_str(), &options, edits)?)),
-        Question::Read { options, text } => Ok(Some(readings(alloc, text.as_str(), &options)?)),
+        Question::Read {
+            options,
+            text,
+            edits,
+        } => Ok(Some(readings(alloc, text.as_str(), &options, edits)?)),
         Question::Decode { text } => Ok(Some(decoded(alloc, text.as_str())?)),
         Question::Ast {
             options,

@@ -3,8 +3,10 @@
 ghost use Rattle.jsonc_cst.specs.Document.{Holds};
 ghost use Rattle.jsonc_cst.specs.Nodes.{object_prop_node, string_lit_node};
 
+use crate::edited::push_end;
 use crate::input::push_input;
 use crate::show::{push_fault, push_string_kind};
+use jsonc_cases::edits::Step;
 use jsonc_cases::escape::Escaped;
 use jsonc_lines::indents_at;
 use jsonc_parser::ParseOptions;
@@ -14,17 +16,24 @@ use jsonc_parser::cst::{
 };
 use std::alloc::{AllocError, Global};
 
-/// The readings of a text's document and of its nodes in printed order, or the text's fault.
-pub fn readings(alloc: Global, text: &str, options: &ParseOptions) -> Result<String, AllocError> {
+/// How the edits end, and the readings of the text's document after them and of its nodes in printed
+/// order; or the text's fault.
+pub fn readings(
+    alloc: Global,
+    text: &str,
+    options: &ParseOptions,
+    edits: Vec<Step>,
+) -> Result<String, AllocError> {
     let mut out = String::new(alloc);
-    let doc = match CstRootNode::parse(alloc, text, options) {
+    let mut doc = match CstRootNode::parse(alloc, text, options) {
         Ok(doc) => doc,
         Err(error) => {
             push_fault(alloc, &mut out, &error)?;
             return Ok(out);
         }
     };
-    out.push_str("ok\t")?;
+    push_end(alloc, &mut out, &mut doc, edits)?;
+    out.push('\t')?;
     push_document(&mut out, &doc)?;
     push_value(alloc, &mut out, &doc)?;
     push_nodes(alloc, &mut out, &doc)?;
@@ -85,7 +94,7 @@ fn push_nodes(
 }
 
 /// Puts a node's children off, the first one last.
-fn push_children(
+pub fn push_children(
     left: &mut Vec<CstNode>,
     doc: &CstRootNode<Global>,
     node: CstNode,
