@@ -3,16 +3,14 @@ ghost use Rattle.std.specs.Prelude.{IfOk};
 ghost use Rattle.jsonc_cst.specs.Document.{Holds};
 ghost use Rattle.jsonc_cst.specs.Nodes.{array_node, object_prop_node};
 
-use crate::awaited::prints;
-use crate::lines::SPREAD;
-use crate::outcome::Outcome;
-use jsonc_parser::ParseOptions;
+use crate::reading::read;
 use jsonc_parser::cst::{
     CstArray, CstLeafNode, CstNode, CstObjectProp, CstRootNode, EditError, HasChildren, IsNode,
     ObjectPropName,
 };
+use refusing::awaited::prints;
+use refusing::outcome::Outcome;
 use std::alloc::{Allocator, Global};
-use std::default::Default;
 
 /// A comment, an array of nine parts and another comment, with blanks between.
 const TEXT: &str = "/* c */ [1, 2,\n'\\x61'] // end";
@@ -20,16 +18,11 @@ const TEXT: &str = "/* c */ [1, 2,\n'\\x61'] // end";
 /// What the array prints.
 const ARRAY: &str = "[1, 2,\n'\\x61']";
 
+/// An object over lines, with a comment at the end of one.
+const SPREAD: &str = "{\n  \"a\": 1, // x\n  \"b\": [2]\n}";
+
 /// A name in quotes with an escape, and one without quotes.
 const NAMES: &str = "{\"\\u0061\": 'x\\ty', b: [2]} // end";
-
-/// A text, read with all options on.
-fn read<A: Allocator + Copy>(alloc: A, text: &str) -> Result<CstRootNode<A>, Outcome> {
-    match CstRootNode::parse(alloc, text, &ParseOptions::default()) {
-        Ok(doc) => Ok(doc),
-        Err(error) => Err(Outcome::from(error)),
-    }
-}
 
 /// Whether a list has so many nodes, or the memory for it was wanted.
 fn is_count<A: Allocator>(found: Result<Vec<CstNode, A>, EditError>, count: usize) -> Outcome {

@@ -2,7 +2,7 @@ use Rattle.std.proofs.Common.{refl, subst, sym}
 use Rattle.jsonc_tree.specs.Stored.{content_of}
 use Rattle.jsonc_tree.specs.Changes.{CanAppend}
 use Rattle.jsonc_tree.proofs.Appending.{CanAppend-adds}
-use Rattle.jsonc_tests.proofs.trees.attach.Goals as goal
+use Rattle.jsonc_document_tests.proofs.trees.attach.Goals as goal
 
 pub attach-requires : goal.attach-requires
 attach-requires g c =

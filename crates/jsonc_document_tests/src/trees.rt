@@ -2,8 +2,8 @@
 ghost use Rattle.std.specs.Prelude.{◌<◌, IsTrue, length};
 ghost use Rattle.jsonc_tree.specs.Tree.{is_container_at};
 
-use crate::outcome::Outcome;
 use jsonc_tree::{Kind, Tree};
+use refusing::outcome::Outcome;
 use std::alloc::Allocator;
 
 /// Whether a node is there and may have children.

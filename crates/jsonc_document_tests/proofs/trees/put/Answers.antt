@@ -2,7 +2,7 @@ use Rattle.std.proofs.Common.{length, [], ◌∷◌, refl, subst, sym}
 use Rattle.jsonc_tree.specs.Stored.{content_of}
 use Rattle.jsonc_tree.specs.Changes.{CanJoin}
 use Rattle.jsonc_tree.proofs.Appending.{CanAppend-adds, CanAppend-room, CanJoin-one}
-use Rattle.jsonc_tests.proofs.trees.put.Goals as goal
+use Rattle.jsonc_document_tests.proofs.trees.put.Goals as goal
 
 pub splice-requires-clause-join : goal.splice-requires-clause-join
 splice-requires-clause-join g c =

@@ -1,15 +1,15 @@
 //! Values taken from documents, laid out and put into others.
 
-use crate::awaited::prints;
-use crate::lines::tree_of;
-use crate::outcome::Outcome;
+use crate::reading::read;
 use jsonc_edit::find;
 use jsonc_from_input::{Layout, lay_out_property};
-use jsonc_input::CstInputValue;
-use jsonc_run::{Edit, run};
+use jsonc_parser::cst::{CstInputValue, CstNode, CstRootNode, Edit, run};
 use jsonc_to_input::to_value;
 use jsonc_tree::{CstNewlineKind, Tree};
+use refusing::awaited::prints;
+use refusing::outcome::Outcome;
 use std::alloc::{AllocError, Allocator};
+use std::cmp::Ordering;
 
 /// An object with two values of one name, of which the last one counts, at the first one's place.
 const TWICE: &str = "{\"k\": 1, \"m\": [7, [8]], 'k': {c: [2],}} // end";
@@ -27,13 +27,13 @@ const PROPERTY: &str = "\"\\u0001\": {\r\n\t\t\"c\": [2]\r\n\t}";
 /// The value at a path, as one for edits.
 fn taken<A: Allocator + Copy>(
     alloc: A,
-    tree: &Tree<A>,
+    doc: &CstRootNode<A>,
     path: &[usize],
 ) -> Result<CstInputValue<A>, Outcome> {
-    let Some(node) = find(tree, path) else {
+    let Some(node) = find(&doc.tree, path) else {
         return Err(Outcome::Other);
     };
-    match to_value(alloc, tree, node) {
+    match to_value(alloc, &doc.tree, node) {
         Ok(Some(value)) => Ok(value),
         Ok(None) => Err(Outcome::Other),
         Err(error) => Err(Outcome::from(error)),
@@ -54,29 +54,30 @@ fn edits<A: Allocator + Copy>(
 }
 
 /// Makes the edits, and tells whether the document is as they leave it.
-fn is_changed<A: Allocator + Copy>(alloc: A, tree: Tree<A>, edits: &[Edit<A>]) -> Outcome {
-    let mut tree = tree;
-    match run(alloc, &mut tree, edits) {
-        Ok(()) => Outcome::of_text(tree.to_string(alloc), REPLACED).then(Outcome::of(
-            find(&tree, &[0, 2]) == None,
+fn is_changed<A: Allocator + Copy>(doc: CstRootNode<A>, edits: Vec<Edit<A>, A>) -> Outcome {
+    let mut doc = doc;
+    let compare = |_doc: &CstRootNode<_>, _one: CstNode, _other: CstNode| Ordering::Equal;
+    match run(&mut doc, edits, &compare) {
+        Ok(()) => Outcome::of_text(doc.text(), REPLACED).then(Outcome::of(
+            find(&doc.tree, &[0, 2]) == None,
         )),
         Err((0, error)) => Outcome::from(error),
         Err(_) => Outcome::Other,
     }
 }
 
-fn are_made<A: Allocator + Copy>(alloc: A, edits: &[Edit<A>]) -> Outcome {
-    match tree_of(alloc, SPACED) {
-        Ok(tree) => is_changed(alloc, tree, edits),
+fn are_made<A: Allocator + Copy>(alloc: A, edits: Vec<Edit<A>, A>) -> Outcome {
+    match read(alloc, SPACED) {
+        Ok(doc) => is_changed(doc, edits),
         Err(outcome) => outcome,
     }
 }
 
 /// Puts the document's value into the other document.
-fn is_put<A: Allocator + Copy>(alloc: A, tree: &Tree<A>) -> Outcome {
-    match taken(alloc, tree, &[]) {
+fn is_put<A: Allocator + Copy>(alloc: A, doc: &CstRootNode<A>) -> Outcome {
+    match taken(alloc, doc, &[]) {
         Ok(value) => match edits(alloc, value) {
-            Ok(edits) => are_made(alloc, edits.as_slice()),
+            Ok(edits) => are_made(alloc, edits),
             Err(error) => Outcome::from(error),
         },
         Err(outcome) => outcome,
@@ -105,8 +106,8 @@ fn is_laid_out<A: Allocator + Copy>(
 }
 
 /// Lays the last property's value out below another name.
-fn is_property<A: Allocator + Copy>(alloc: A, tree: &Tree<A>) -> Outcome {
-    match taken(alloc, tree, &[2]) {
+fn is_property<A: Allocator + Copy>(alloc: A, doc: &CstRootNode<A>) -> Outcome {
+    match taken(alloc, doc, &[2]) {
         Ok(value) => Outcome::of_answer(is_laid_out(alloc, &value), &true),
         Err(outcome) => outcome,
     }
@@ -114,8 +115,8 @@ fn is_property<A: Allocator + Copy>(alloc: A, tree: &Tree<A>) -> Outcome {
 
 /// A list of edits is made, and a property laid out.
 pub fn edited<A: Allocator + Copy>(alloc: A) -> Outcome {
-    match tree_of(alloc, TWICE) {
-        Ok(tree) => is_put(alloc, &tree).then(is_property(alloc, &tree)),
+    match read(alloc, TWICE) {
+        Ok(doc) => is_put(alloc, &doc).then(is_property(alloc, &doc)),
         Err(outcome) => outcome,
     }
 }

@@ -1,11 +1,11 @@
 //! Values handed to edits, and the spelling of strings.
 
-use crate::awaited::prints;
-use crate::outcome::Outcome;
 use jsonc_from_input::{Layout, lay_out};
 use jsonc_input::CstInputValue;
 use jsonc_input::spelling::spell;
 use jsonc_tree::{CstNewlineKind, Tree};
+use refusing::awaited::prints;
+use refusing::outcome::Outcome;
 use std::alloc::{AllocError, Allocator, Global};
 
 /// Texts with the literals that stand for them: each short escape, in the order of their characters; characters of

@@ -1,10 +1,8 @@
 //! What came of a call that may want memory.
 
-use jsonc_engine::fault::Fault;
-use jsonc_parser::ParseStringErrorKind;
-use jsonc_parser::cst::EditError;
-use jsonc_parser::errors::{ParseError, ParseErrorKind};
+use jsonc_edit::EditError;
 use jsonc_string::provider::ParseStringError;
+use jsonc_text::errors::{ParseError, ParseErrorKind, ParseStringErrorKind};
 use std::alloc::{AllocError, AllocFailed, Allocator};
 
 /// What came of a call.
@@ -113,16 +111,6 @@ impl From<EditError> for Outcome {
     fn from(error: EditError) -> Outcome {
         match error {
             EditError::OutOfMemory => Outcome::Wanted,
-            _ => Outcome::Other,
-        }
-    }
-}
-
-impl From<Fault> for Outcome {
-    fn from(fault: Fault) -> Outcome {
-        match fault {
-            Fault::Input(error) => Outcome::from(error),
-            Fault::Edit(error) => Outcome::from(error),
             _ => Outcome::Other,
         }
     }
