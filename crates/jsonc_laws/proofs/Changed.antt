@@ -13,7 +13,7 @@ use Rattle.jsonc_laws.specs.Sound.{Sound}
 use Rattle.jsonc_laws.specs.TreeChanges.{IsElement, leaves_of, ElementChanged, HeldChanged, property_of, ValueChanged, itself, in_array, in_object, DocumentChanged, in_root}
 use Rattle.jsonc_laws.proofs.FirstNodes.{here, over, beyond, meets_first, none_changed, no_element, trivia_over, value_element, name_element}
 use Rattle.jsonc_laws.proofs.Lines.{document_lines}
-use Rattle.jsonc_laws.proofs.Rows.{trivia_changed, token_changed, only_changed}
+use Rattle.jsonc_laws.proofs.ReadRows.{trivia_changed, token_changed, only_changed}
 use Rattle.jsonc_laws.specs.Adjacent.{follower, LeavesEnd, LastEnds}
 use Rattle.jsonc_laws.specs.Alone as alone
 use Rattle.jsonc_laws.specs.Alone.{ValueAlone, PartAlone, RowAlone, PropertyAlone, RootAlone, DocumentAlone}

@@ -10,7 +10,7 @@ use Rattle.jsonc_laws.specs.Sound.{Sound, IsValueBefore}
 use Rattle.jsonc_laws.specs.ChangeLaws.{IsSoundValue}
 use Rattle.jsonc_laws.specs.TreeChanges.{property_of, ElementChanged, this_element, passed, later_element, HeldChanged, ValueChanged, itself, in_array, in_object, DocumentChanged, in_root}
 use Rattle.jsonc_laws.proofs.FirstNodes.{here, over, beyond, meets_first, none_changed, no_element, value_element, name_element}
-use Rattle.jsonc_laws.proofs.Rows.{trivia_changed, token_changed, only_changed, separated_changed, closed_changed}
+use Rattle.jsonc_laws.proofs.ReadRows.{trivia_changed, token_changed, only_changed, separated_changed, closed_changed}
 
 -- line comments of what gives way
 row_lines_held : {x y : Top} {i : ℕ} {row new : OrderedTree} (at_end : Bool) → ElementChanged x y i row new → LinesEnd at_end row → LinesEnd false x.below

@@ -4,7 +4,7 @@ pub mod Stretches
 pub mod Characters
 pub mod NumberEnds
 pub mod Followers
-pub mod Rows
+pub mod ReadRows
 pub mod Lines
 pub mod Values
 pub mod TriviaLines

@@ -1,4 +1,4 @@
-//! Laws of the definitions: each is the contract of a function that does nothing.
+//! Laws of soundness, under all options. Each is the contract of a function that does nothing.
 ghost use Rattle.std.specs.Prelude.{◌≡◌, Bool, false, List, Option, ℕ};
 ghost use Rattle.jsonc_text.specs.Options.{Options};
 ghost use Rattle.jsonc_tree.specs.Content.{Content};

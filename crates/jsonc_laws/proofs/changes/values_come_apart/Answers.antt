@@ -1,5 +1,5 @@
 use Rattle.jsonc_laws.proofs.JoinedRows.{parted_items, parted_members, items_of_joined, members_of_joined}
-use Rattle.jsonc_laws.proofs.laws.values_come_apart.Goals as goal
+use Rattle.jsonc_laws.proofs.changes.values_come_apart.Goals as goal
 
 pub returns-clause-items : goal.returns-clause-items
 returns-clause-items c = λ o first second us. (parted_items o first second, items_of_joined o first second)

@@ -1,6 +1,6 @@
 use Rattle.std.proofs.Common.{refl}
 use Rattle.jsonc_laws.specs.TreeChanges.{this_element, passed, later_element, itself, in_array, in_object, in_root}
-use Rattle.jsonc_laws.proofs.laws.worked_changes.Goals as goal
+use Rattle.jsonc_laws.proofs.changes.worked_changes.Goals as goal
 
 pub returns : goal.returns
 returns c = λ was now e.

@@ -1,5 +1,5 @@
 use Rattle.jsonc_laws.proofs.GivingWay.{one_mark_leaves, blanks_keep_marks, space_keeps_marks}
-use Rattle.jsonc_laws.proofs.laws.blanks_have_no_marks.Goals as goal
+use Rattle.jsonc_laws.proofs.marks.blanks_have_no_marks.Goals as goal
 
 pub returns-clause-comment : goal.returns-clause-comment
 returns-clause-comment c = one_mark_leaves

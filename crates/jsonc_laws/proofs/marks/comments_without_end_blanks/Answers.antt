@@ -1,5 +1,5 @@
 use Rattle.jsonc_laws.proofs.Trimmed.{blanks_left_out, block_whole}
-use Rattle.jsonc_laws.proofs.laws.comments_without_end_blanks.Goals as goal
+use Rattle.jsonc_laws.proofs.marks.comments_without_end_blanks.Goals as goal
 
 pub returns-clause-block : goal.returns-clause-block
 returns-clause-block c = block_whole

@@ -1,5 +1,5 @@
 use Rattle.jsonc_laws.proofs.Laid.{laid_as_written, laid_as_written_named, writes_no_comments}
-use Rattle.jsonc_laws.proofs.laws.laid_values_are_written.Goals as goal
+use Rattle.jsonc_laws.proofs.marks.laid_values_are_written.Goals as goal
 
 pub returns-clause-value : goal.returns-clause-value
 returns-clause-value c = laid_as_written

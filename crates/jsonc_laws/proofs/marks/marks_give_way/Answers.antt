@@ -1,6 +1,6 @@
 use Rattle.jsonc_laws.proofs.GivingWay.{marks_join, marks_follow}
 use Rattle.jsonc_laws.proofs.Printed.{printed_give_way}
-use Rattle.jsonc_laws.proofs.laws.marks_give_way.Goals as goal
+use Rattle.jsonc_laws.proofs.marks.marks_give_way.Goals as goal
 
 pub returns-clause-join : goal.returns-clause-join
 returns-clause-join c = marks_join

@@ -1,5 +1,5 @@
 use Rattle.jsonc_laws.proofs.OneList.{marks_unique, tokens_marked}
-use Rattle.jsonc_laws.proofs.laws.one_list_of_marks.Goals as goal
+use Rattle.jsonc_laws.proofs.marks.one_list_of_marks.Goals as goal
 
 pub returns-clause-one : goal.returns-clause-one
 returns-clause-one c = λ o t ms ns g h. marks_unique g h

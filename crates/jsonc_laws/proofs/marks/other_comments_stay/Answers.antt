@@ -1,5 +1,5 @@
 use Rattle.jsonc_laws.proofs.GivingWay.{other_comments, others_alone}
-use Rattle.jsonc_laws.proofs.laws.other_comments_stay.Goals as goal
+use Rattle.jsonc_laws.proofs.marks.other_comments_stay.Goals as goal
 
 pub returns-clause-kept : goal.returns-clause-kept
 returns-clause-kept c = other_comments

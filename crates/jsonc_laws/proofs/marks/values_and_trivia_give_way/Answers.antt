@@ -1,5 +1,5 @@
 use Rattle.jsonc_laws.proofs.GivingWay.{values_marks, trivias_marks, trivia_has_comments, last_is_comment}
-use Rattle.jsonc_laws.proofs.laws.values_and_trivia_give_way.Goals as goal
+use Rattle.jsonc_laws.proofs.marks.values_and_trivia_give_way.Goals as goal
 
 pub returns-clause-value : goal.returns-clause-value
 returns-clause-value c = values_marks

@@ -1,5 +1,5 @@
 use Rattle.jsonc_laws.proofs.FirstValue.{sound_with_first, has_first, marks_with_first}
-use Rattle.jsonc_laws.proofs.laws.documents_with_a_first_value.Goals as goal
+use Rattle.jsonc_laws.proofs.rows.documents_with_a_first_value.Goals as goal
 
 pub returns-clause-sound : goal.returns-clause-sound
 returns-clause-sound c = sound_with_first

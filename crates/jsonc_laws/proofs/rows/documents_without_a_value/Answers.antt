@@ -1,5 +1,5 @@
 use Rattle.jsonc_laws.proofs.WithoutValue.{sound_without, none_without, marks_without}
-use Rattle.jsonc_laws.proofs.laws.documents_without_a_value.Goals as goal
+use Rattle.jsonc_laws.proofs.rows.documents_without_a_value.Goals as goal
 
 pub returns-clause-sound : goal.returns-clause-sound
 returns-clause-sound c = sound_without

@@ -1,5 +1,5 @@
 use Rattle.jsonc_laws.proofs.GivenProperties.{sound_with_property, members_with_property, value_with_property, marks_with_property}
-use Rattle.jsonc_laws.proofs.laws.properties_give_way.Goals as goal
+use Rattle.jsonc_laws.proofs.rows.properties_give_way.Goals as goal
 
 pub returns-clause-sound : goal.returns-clause-sound
 returns-clause-sound c = sound_with_property

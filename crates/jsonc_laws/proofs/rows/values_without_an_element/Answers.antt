@@ -1,6 +1,6 @@
 use Rattle.jsonc_laws.proofs.LostEntries.{items_lose, members_lose}
 use Rattle.jsonc_laws.proofs.LostValues.{document_loses}
-use Rattle.jsonc_laws.proofs.laws.values_without_an_element.Goals as goal
+use Rattle.jsonc_laws.proofs.rows.values_without_an_element.Goals as goal
 
 pub returns-clause-items : goal.returns-clause-items
 returns-clause-items c = λ o top row left new h i e k. items_lose o top i row left new h e k

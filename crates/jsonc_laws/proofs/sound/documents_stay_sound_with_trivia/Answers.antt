@@ -1,6 +1,6 @@
 use Rattle.jsonc_laws.proofs.Comments.{sound_without_comment, sound_with_space_for_comment}
 use Rattle.jsonc_laws.proofs.Trivia.{nodes_kept, sound_with_trivia}
-use Rattle.jsonc_laws.proofs.laws.documents_stay_sound_with_trivia.Goals as goal
+use Rattle.jsonc_laws.proofs.sound.documents_stay_sound_with_trivia.Goals as goal
 
 pub returns-clause-nodes : goal.returns-clause-nodes
 returns-clause-nodes c = λ o t h was now u k old allowed. nodes_kept o was now old allowed h k

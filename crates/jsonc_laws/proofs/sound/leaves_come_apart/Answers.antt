@@ -1,5 +1,5 @@
 use Rattle.jsonc_laws.proofs.Leaves.{parted_leaves, joined_leaves, last_serves, seams_serve}
-use Rattle.jsonc_laws.proofs.laws.leaves_come_apart.Goals as goal
+use Rattle.jsonc_laws.proofs.sound.leaves_come_apart.Goals as goal
 
 pub returns-clause-apart : goal.returns-clause-apart
 returns-clause-apart c = λ o first second n. (parted_leaves o first second n, λ h. joined_leaves o first second n h.0 h.1)

@@ -1,7 +1,7 @@
 use Rattle.jsonc_laws.proofs.Spaces.{space_serves, stretch_ends, sound_where_none_meet}
 use Rattle.jsonc_laws.proofs.Flat.{sound_value_where_none_meet}
 use Rattle.jsonc_laws.proofs.Spaced.{sound_with_spaces}
-use Rattle.jsonc_laws.proofs.laws.literals_meet_across_spaces.Goals as goal
+use Rattle.jsonc_laws.proofs.sound.literals_meet_across_spaces.Goals as goal
 
 pub returns-clause-space : goal.returns-clause-space
 returns-clause-space c = λ o ls n. space_serves o ls n

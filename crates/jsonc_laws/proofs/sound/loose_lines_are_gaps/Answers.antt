@@ -4,7 +4,7 @@ use Rattle.jsonc_tree.specs.OrderedTree.{OrderedTree, none, more}
 use Rattle.jsonc_build.proofs.LooseLines.{Stops, loose_gap}
 use Rattle.jsonc_laws.specs.LooseLines.{StartsNoTrivia}
 use Rattle.jsonc_laws.proofs.LooseChanges.{document_loose, parted_loosely, joined_loosely}
-use Rattle.jsonc_laws.proofs.laws.loose_lines_are_gaps.Goals as goal
+use Rattle.jsonc_laws.proofs.sound.loose_lines_are_gaps.Goals as goal
 
 stops : (r : OrderedTree) → StartsNoTrivia r → Stops r
 stops none s = tt

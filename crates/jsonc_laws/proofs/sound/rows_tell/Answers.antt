@@ -1,5 +1,5 @@
 use Rattle.jsonc_laws.proofs.RowsTell.{kept_without_comment_in_row, kept_by_value_in_row, kept_by_value_in_root, kept_by_value_in_property}
-use Rattle.jsonc_laws.proofs.laws.rows_tell.Goals as goal
+use Rattle.jsonc_laws.proofs.sound.rows_tell.Goals as goal
 
 pub returns-clause-comment : goal.returns-clause-comment
 returns-clause-comment c = kept_without_comment_in_row

@@ -1,6 +1,6 @@
 use Rattle.jsonc_laws.proofs.Apart.{value_alone, value_leaves, property_alone, property_leaves}
 use Rattle.jsonc_laws.proofs.Commas.{none_meet, stretches_join}
-use Rattle.jsonc_laws.proofs.laws.rows_with_commas.Goals as goal
+use Rattle.jsonc_laws.proofs.sound.rows_with_commas.Goals as goal
 
 pub returns-clause-none : goal.returns-clause-none
 returns-clause-none c = λ o kind stretch rest commas last mid s g. none_meet o kind commas mid stretch rest s g

@@ -1,7 +1,7 @@
 use Rattle.jsonc_build.proofs.LooseLines.{document_loosens}
 use Rattle.jsonc_build.proofs.ShapeValues.{document_printed}
 use Rattle.jsonc_laws.proofs.Apart.{document_alone, document_leaves, document_shaped}
-use Rattle.jsonc_laws.proofs.laws.shapes_come_apart.Goals as goal
+use Rattle.jsonc_laws.proofs.sound.shapes_come_apart.Goals as goal
 
 pub returns-clause-apart : goal.returns-clause-apart
 returns-clause-apart c = λ o t. (λ h. (document_alone o h, document_leaves o h), λ h. document_shaped o h.0 h.1)

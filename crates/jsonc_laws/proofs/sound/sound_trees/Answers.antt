@@ -5,7 +5,7 @@ use Rattle.jsonc_laws.proofs.SoundTrees.{kept_by_stretches, kept_where_none_meet
 use Rattle.jsonc_laws.proofs.LooseComments.{kept_without_comment}
 use Rattle.jsonc_laws.proofs.Booleans.{shaped_with_boolean}
 use Rattle.jsonc_laws.proofs.LooseChanges.{document_loose}
-use Rattle.jsonc_laws.proofs.laws.sound_trees.Goals as goal
+use Rattle.jsonc_laws.proofs.sound.sound_trees.Goals as goal
 
 pub returns-clause-apart : goal.returns-clause-apart
 returns-clause-apart c = λ o t. (λ s. (document_alone o s.shaped, document_leaves o s.shaped, s.lines), λ h. record { shaped = document_shaped o h.0 h.1; lines = h.2 })
