@@ -24,7 +24,7 @@ use Rattle.jsonc_cst.specs.declared.cst.node.CstNode.TheVariants.{Container, Lea
 use Rattle.jsonc_cst.specs.declared.cst.node.CstContainerNode.TheVariants.{ObjectProp}
 use Rattle.jsonc_cst.specs.declared.cst.node.CstLeafNode.TheVariants.{BooleanLit}
 use Rattle.jsonc_cst.specs.declared.cst.node.CstObjectProp.{CstObjectProp}
-use Rattle.jsonc_cst.specs.Nodes.{boolean_lit_node, number_of, object_prop_node, typed, typed_at, IsNodeOf}
+use Rattle.jsonc_cst.specs.Nodes.{boolean_lit_node, object_prop_node, typed, typed_at, IsNodeOf}
 use Rattle.jsonc_typed.specs.Edits.{StillNodes}
 use Rattle.jsonc_typed.specs.Values.{BooleanIsWritten, HeldBecomes}
 use Rattle.jsonc_typed.proofs.Kept.{Stays, given_there, nodes_stay, of_some, replaced_there, stay_both, stay_given, stay_kept, stay_replaced, stay_spaced}

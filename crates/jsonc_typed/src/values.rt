@@ -118,20 +118,20 @@ fn property_array_or_set<A: Allocator + Copy>(
 fn set_boolean<A: Allocator + Copy>(
     alloc: A,
     tree: &mut Tree<A>,
-    number: usize,
+    boolean: CstBooleanLit,
     value: bool,
 ) -> Result<(), EditError>
-    requires there { number < length tree.old.nodes }
-    requires boolean { is_boolean (content_at tree.old.nodes number) ≡ true }
-    ensures set { OnOk result (BooleanSet tree.old.nodes tree.new.nodes number value) }
-    ensures written { (p : Options) → OnOk result (BooleanIsWritten tree.old.nodes tree.new.nodes p number value) }
+    requires { IsNodeOf tree.old.nodes (boolean_lit_node boolean) }
+    ensures set { OnOk result (BooleanSet tree.old.nodes tree.new.nodes boolean.number value) }
+    ensures written { (p : Options) → OnOk result (BooleanIsWritten tree.old.nodes tree.new.nodes p boolean.number value) }
     ensures stays { StillNodes tree.old.nodes tree.new.nodes }
     ensures memory { IfErr result (λ e. e ≡ EditError.OutOfMemory) }
-    ensures wanted { OnErr result (WantsSpaceFor tree.old.nodes number value) }
+    ensures wanted { OnErr result (WantsSpaceFor tree.old.nodes boolean.number value) }
     ensures document { OnErr result (ordered_tree tree.new.nodes 0 ≡ ordered_tree tree.old.nodes 0) }
     ensures tree { IsTree tree.new.nodes }
 {
     let _ = tree.len();
+    let number = boolean_number(tree, boolean);
     jsonc_set::set_boolean(alloc, tree, number, value)
 }
 
@@ -260,8 +260,7 @@ impl SetBoolean for CstBooleanLit {
         doc: &mut CstRootNode<A>,
         value: bool,
     ) -> Result<(), EditError> {
-        let number = boolean_number(&doc.tree, self);
-        let set = set_boolean(doc.alloc, &mut doc.tree, number, value);
+        let set = set_boolean(doc.alloc, &mut doc.tree, self, value);
         doc.nodes_are_tree();
         set
     }
