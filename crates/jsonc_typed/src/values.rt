@@ -137,7 +137,7 @@ fn set_boolean<A: Allocator + Copy>(
 
 /// A property, whose value may be set.
 pub trait SetProperty: IsNode {
-    /// Sets its value, and answers the node that the value is now.
+    /// Sets its value, and answers the new value's node.
     ///
     /// The old value gives way to the new one, as by [`crate::ReplaceWith`], and is nobody's child then. If
     /// the document is sound, it is sound again, and its value is the old one but for that entry. Where
