@@ -39,7 +39,7 @@ empty_writable o Object = record { texts = tt; numbers = tt }
 empty_writable o Array = record { texts = tt; numbers = tt }
 
 -- a node has the shape of its value
-same_shape : {o : Options} {content : Content} {below : OrderedTree} {x : Plain} (shape : Shape) → ValueOf o content below x → is_of shape content ≡ has_shape shape x
+pub same_shape : {o : Options} {content : Content} {below : OrderedTree} {x : Plain} (shape : Shape) → ValueOf o content below x → is_of shape content ≡ has_shape shape x
 same_shape Object (values.string h) = refl
 same_shape Object values.number = refl
 same_shape Object values.boolean = refl

@@ -487,6 +487,11 @@ module _ (old new : List Node) (path : List ℕ) (n : ℕ) (b : Bool) (tree : Is
               (values_marks (ordered_tree spaced 0) (boolean_leaf a) (boolean_leaf b) path (ordered_tree new 0) changed));
         }
 
+-- spaces have come, and then the one truth value has given way to the other at the path
+pub boolean_gives_way : (old new : List Node) (path : List ℕ) (n : ℕ) (b : Bool) → IsTree old → IsAt old path n → is_boolean (content_at old n) ≡ true → BooleanSet old new n b
+    → (was : Bool) × (held : OrderedTree) × SpacesPut (ordered_tree old 0) held × DocumentChanged (boolean_leaf was) (boolean_leaf b) path held (ordered_tree new 0)
+boolean_gives_way old new path n b tree at h g = (a old new path n b tree at h g, ordered_tree g.spaced 0, spaces old new path n b tree at h g, changed old new path n b tree at h g)
+
 pub writes_boolean : (o : Options) (old new : List Node) (path : List ℕ) (n : ℕ) (b : Bool) → WritesBoolean o old new path n b
 writes_boolean o old new path n b tree sound at h g = boolean_written old new path n b tree at h g o sound
 
