@@ -88,6 +88,18 @@ fn read_edit(alloc: Global, words: &[&str]) -> Result<Option<Edit<Global>>, Case
             read_shape(shape)?,
             read_over(over)?,
         ))),
+        ["SetValue", path, value @ ..] => {
+            let path = read_path(alloc, path)?;
+            Ok(Some(Edit::SetValue(path, read_value(alloc, value)?)))
+        }
+        ["EnsureValue", path, shape] => Ok(Some(Edit::EnsureValue(
+            read_path(alloc, path)?,
+            read_shape(shape)?,
+        ))),
+        ["SetBoolean", path, value] => Ok(Some(Edit::SetBoolean(
+            read_path(alloc, path)?,
+            read_boolean(value)?,
+        ))),
         _ => Ok(None),
     }
 }
@@ -109,6 +121,15 @@ fn read_shape(word: &str) -> Result<Shape, CaseError> {
     match word {
         "obj" => Ok(Shape::Object),
         "arr" => Ok(Shape::Array),
+        _ => Err(CaseError::Edit),
+    }
+}
+
+/// A truth value.
+fn read_boolean(word: &str) -> Result<bool, CaseError> {
+    match word {
+        "T" => Ok(true),
+        "F" => Ok(false),
         _ => Err(CaseError::Edit),
     }
 }

@@ -3,7 +3,7 @@ use Rattle.std.proofs.Common.{ℕ, ◌≡◌, List, [], ◌∷◌, ◌++◌, sym
 use Rattle.std.proofs.lemmas.List.{append-nil}
 use Rattle.std.specs.List.{All}
 use Rattle.jsonc_text.specs.Options.{Options}
-use Rattle.jsonc_text.specs.Grammar.{IsDocument}
+use Rattle.jsonc_text.specs.Plain.{boolean}
 use Rattle.jsonc_tree.specs.OrderedTree.{OrderedTree, ordered_tree, printed}
 use Rattle.jsonc_tree.specs.Tree.{Node}
 use Rattle.jsonc_build.specs.Lines.{DocumentLinesEnd}
@@ -17,7 +17,7 @@ use Rattle.jsonc_laws.specs.Written.{property_written, written}
 use Rattle.jsonc_laws.proofs.GivingWay.{other_comments, others_alone}
 use Rattle.jsonc_laws.proofs.Laid.{writes_no_comments}
 use Rattle.jsonc_laws.proofs.Printed.{prints_its_marks}
-use Rattle.jsonc_run.specs.Edits.{Operation, replace, remove, remove_comment, set_root, clear_root, replace_property, ensure_root}
+use Rattle.jsonc_run.specs.Edits.{Operation, replace, remove, remove_comment, set_root, clear_root, replace_property, ensure_root, set_value, ensure_value, set_boolean}
 use Rattle.jsonc_run.specs.Marked.{IsMarked, AreMarked, none_marked, first_marked, MarkAll}
 use Rattle.jsonc_run.specs.Written.{MayBeMade, WriteAll}
 use Rattle.jsonc_parser.specs.Promise.{CommentsStay, all_stay, others_stay, IsEditedText}
@@ -45,6 +45,9 @@ edit_takes x y (set_root v) (was, d) = one_stretch was (written v) x y d (writes
 edit_takes x y clear_root none = subst (λ z. LosesStretch (comments_of x) (comments_of z)) (sym none) (all_leave x)
 edit_takes x y (replace_property path name v) (was, d) = one_stretch was (property_written name v) x y d (writes_no_comments v)
 edit_takes x y (ensure_root shape how) (was, d) = one_stretch was [] x y d refl
+edit_takes x y (set_value path v) (was, d) = one_stretch was (written v) x y d (writes_no_comments v)
+edit_takes x y (ensure_value path shape) (was, d) = one_stretch was [] x y d refl
+edit_takes x y (set_boolean path b) (was, d) = one_stretch (written (boolean was)) (written (boolean b)) x y d refl
 
 comments_stay : {x y : List Mark} {es : List Operation} → AreMarked x es y → CommentsStay (comments_of x) es (comments_of y)
 comments_stay none_marked = all_stay
