@@ -1,16 +1,14 @@
 -- The value of a property of a sound document stands at the property's path.
-use Rattle.std.proofs.Common.{◌≡◌, ℕ, suc, ◌+◌, Bool, true, false, not, cond, List, [], ◌∷◌, drop, filter, slice_get, Some, refl, sym, ap, subst, ◌∙◌, arith}
-use Rattle.std.specs.List.{find, position, position_from}
-use Rattle.std.specs.Option.{option_and_then}
-use Rattle.std.proofs.lemmas.Iterator.Adapters.{position_from-zero}
+use Rattle.std.proofs.Common.{◌≡◌, ℕ, Bool, false, not, List, [], ◌∷◌, filter, slice_get, Some, refl, sym, ap, subst, ◌∙◌}
 use Rattle.jsonc_text.specs.Options.{Options}
 use Rattle.jsonc_tree.specs.Content.{Content, property, token}
 use Rattle.jsonc_tree.specs.OrderedTree.{OrderedTree, none, more, Shows, shows_none, shows_more, ordered_tree}
 use Rattle.jsonc_tree.specs.Tree.{Node, content_at, children_at, IsTree}
 use Rattle.jsonc_build.specs.Shape as shape
 use Rattle.jsonc_build.specs.Shape.{IsTrivia, Trivia, nothing, trivia, token_then}
-use Rattle.jsonc_nodes.specs.Kinds.{is_colon, is_colon_at, is_element, is_element_at}
-use Rattle.jsonc_nodes.specs.Properties.{element_from, value_at, value_by}
+use Rattle.jsonc_nodes.specs.Kinds.{is_element, is_element_at}
+use Rattle.jsonc_nodes.specs.Properties.{value_at}
+use Rattle.jsonc_nodes.proofs.Held.{held_in, value_is_held}
 use Rattle.jsonc_laws.specs.Alone as alone
 use Rattle.jsonc_laws.specs.Alone.{ValueAlone, RowAlone, PropertyAlone}
 use Rattle.jsonc_laws.specs.Rows as rows
@@ -24,7 +22,7 @@ use Rattle.jsonc_laws.proofs.SeamStretches.{parted_row}
 use Rattle.jsonc_edit.specs.Changes.{row_below, top_at}
 use Rattle.jsonc_edit.specs.Paths.{IsAt, StepsTo}
 use Rattle.jsonc_edit.proofs.Elements.{taken, left}
-use Rattle.jsonc_edit.proofs.FittingFinds.{passes, fails}
+use Rattle.jsonc_edit.proofs.ShapedProperties.{second_is_held}
 use Rattle.jsonc_edit.proofs.Standing.{at_further}
 use Rattle.jsonc_edit.proofs.Uniqueness.{element_parent}
 use Rattle.jsonc_edit.proofs.Walk.{Shows-row_below}
@@ -32,15 +30,6 @@ use Rattle.jsonc_tree.proofs.Order.{parent_there}
 use Rattle.jsonc_set.proofs.PropertyRows.{parted, object_row, inside_of}
 use Rattle.jsonc_run.specs.Places.{IsPropertyOf, IsPropertyAt, a_property}
 use Rattle.jsonc_run.proofs.PathValues.{gives_way_to_itself}
-
--- neither an element nor trivia is a colon
-element_no_colon : (content : Content) → IsElement content → is_colon content ≡ false
-element_no_colon (token c) h = cc
-element_no_colon content h = refl
-
-trivia_no_colon : (o : Options) (content : Content) → IsTrivia o content → is_colon content ≡ false
-trivia_no_colon o (token c) h = absurd h
-trivia_no_colon o content h = refl
 
 -- a value is an element
 alone_element : {o : Options} {content : Content} {below : OrderedTree} → ValueAlone o content below → IsElement content
@@ -56,26 +45,6 @@ property_part e (alone.element m (alone.a_property p) g) = p
 property_part e (alone.comma g) = cc
 
 module _ (o : Options) (ns : List Node) where
-  -- the first colon of a list is where the second begins
-  record ColonAt (xs ys : List ℕ) : Type 0 where
-    place : ℕ
-    found : (i : ℕ) → position_from (is_colon_at ns) i xs ≡ Some (i + place)
-    from : drop place xs ≡ ys
-
-  colon_here : (m : ℕ) (rest : List ℕ) → is_colon_at ns m ≡ true → ColonAt (m ∷ rest) (m ∷ rest)
-  colon_here m rest is = record {
-    place = 0;
-    found = λ i. ap (λ b. cond b (Some i) (position_from (is_colon_at ns) (i + 1) rest)) is ∙ ap Some (let same : i ≡ i + 0 = omega arith in same);
-    from = refl;
-  }
-
-  colon_later : (x : ℕ) (xs ys : List ℕ) → is_colon_at ns x ≡ false → ColonAt xs ys → ColonAt (x ∷ xs) ys
-  colon_later x xs ys other c = record {
-    place = suc c.place;
-    found = λ i. ap (λ b. cond b (Some i) (position_from (is_colon_at ns) (i + 1) xs)) other ∙ c.found (i + 1) ∙ ap Some (let same : i + 1 + c.place ≡ i + suc c.place = omega arith in same);
-    from = c.from;
-  }
-
   -- the first node of a row
   record First (xs : List ℕ) (content : Content) (after : OrderedTree) : Type 0 where
     node : ℕ
@@ -91,13 +60,11 @@ module _ (o : Options) (ns : List Node) where
       let same : a ≡ after = cc in
       record { node = n; rest = rest; is = refl; kind = kind; shown = subst (λ t. Shows ns rest t) same q }
 
-  -- past trivia stand the same elements, and the same colon
+  -- past trivia stand the same elements
   record Past (xs : List ℕ) (r : OrderedTree) : Type 0 where
     rest : List ℕ
     shown : Shows ns rest r
     kept : filter (is_element_at ns) xs ≡ filter (is_element_at ns) rest
-    finds : find (is_element_at ns) xs ≡ find (is_element_at ns) rest
-    colon : (ys : List ℕ) → ColonAt rest ys → ColonAt xs ys
 
   past_one : (n : ℕ) (xs : List ℕ) (r : OrderedTree) → IsTrivia o (content_at ns n) → Past xs r → Past (n ∷ xs) r
   past_one n xs r is p =
@@ -106,41 +73,28 @@ module _ (o : Options) (ns : List Node) where
         rest = p.rest;
         shown = p.shown;
         kept = left (is_element_at ns) n xs passed ∙ p.kept;
-        finds = fails (is_element_at ns) n xs passed ∙ p.finds;
-        colon = λ ys c. colon_later n xs ys (trivia_no_colon o (content_at ns n) is) (p.colon ys c);
       }
 
   past_trivia : (xs : List ℕ) (t r : OrderedTree) → Shows ns xs t → Trivia o t r → Past xs r
-  past_trivia xs _ _ p nothing = record { rest = xs; shown = p; kept = refl; finds = refl; colon = λ ys c. c }
+  past_trivia xs _ _ p nothing = record { rest = xs; shown = p; kept = refl }
   past_trivia xs _ r p (trivia {content = content} {t = t} is g) =
       let one = first_shown xs (more content none t) p content none t refl in
       subst (λ l. Past l r) (sym one.is) (past_one one.node one.rest r (subst (IsTrivia o) (sym one.kind) is) (past_trivia one.rest t r one.shown g))
 
-  -- a property's value is the first element from its first colon on, and its second element
+  -- a property's value is the element behind its name
   record HoldsOne (xs : List ℕ) : Type 0 where
     value : ℕ
-    place : ℕ
-    colon : position (is_colon_at ns) xs ≡ Some place
-    found : find (is_element_at ns) (drop place xs) ≡ Some value
+    held : held_in ns xs ≡ Some value
     second : slice_get (filter (is_element_at ns) xs) 1 ≡ Some value
 
-  holds_in : {name content : Content} {below after u : OrderedTree} (xs : List ℕ) (first : First xs name after) (before : Past first.rest (token_then 0x3A u)) (colon : First before.rest (token 0x3A) u)
-      (behind : Past colon.rest (more content below none)) (last : First behind.rest content none) → IsElement name → IsElement content → HoldsOne xs
-  holds_in {name = name} xs first before colon behind last named valued =
+  second_one : {name content : Content} {below after u : OrderedTree} (xs : List ℕ) (first : First xs name after) (before : Past first.rest (token_then 0x3A u)) (colon : First before.rest (token 0x3A) u)
+      (behind : Past colon.rest (more content below none)) (last : First behind.rest content none) → IsElement name → IsElement content → slice_get (filter (is_element_at ns) xs) 1 ≡ Some last.node
+  second_one xs first before colon behind last named valued =
       let test : ℕ → Bool = is_element_at ns in
       let passed : test colon.node ≡ false = ap is_element colon.kind in
-      let here : ColonAt before.rest before.rest = subst (λ l. ColonAt l l) (sym colon.is) (colon_here colon.node colon.rest (ap is_colon colon.kind)) in
-      let later : ColonAt (first.node ∷ first.rest) before.rest = colon_later first.node first.rest before.rest (ap is_colon first.kind ∙ element_no_colon name named) (before.colon before.rest here) in
-      let at : ColonAt xs before.rest = subst (λ l. ColonAt l before.rest) (sym first.is) later in
       let others : filter test first.rest ≡ last.node ∷ filter test last.rest =
       before.kept ∙ ap (filter test) colon.is ∙ left test colon.node colon.rest passed ∙ behind.kept ∙ ap (filter test) last.is ∙ taken test last.node last.rest (ap is_element last.kind ∙ valued) in
-      record {
-        value = last.node;
-        place = at.place;
-        colon = position_from-zero (is_colon_at ns) xs ∙ at.found 0 ∙ ap Some (let same : 0 + at.place ≡ at.place = omega arith in same);
-        found = ap (find test) at.from ∙ ap (find test) colon.is ∙ fails test colon.node colon.rest passed ∙ behind.finds ∙ ap (find test) last.is ∙ passes test last.node last.rest (ap is_element last.kind ∙ valued);
-        second = ap (λ l. slice_get (filter test l) 1) first.is ∙ ap (λ l. slice_get l 1) (taken test first.node first.rest (ap is_element first.kind ∙ named)) ∙ ap (λ l. slice_get l 0) others;
-      }
+      ap (λ l. slice_get (filter test l) 1) first.is ∙ ap (λ l. slice_get l 1) (taken test first.node first.rest (ap is_element first.kind ∙ named)) ∙ ap (λ l. slice_get l 0) others
 
   holds_one : (xs : List ℕ) (row : OrderedTree) → Shows ns xs row → PropertyAlone o row → HoldsOne xs
   holds_one xs _ p (alone.named {name = name} {content = content} {below = below} {after = after} {u = u} k g h v) =
@@ -149,7 +103,8 @@ module _ (o : Options) (ns : List Node) where
       let colon = first_shown before.rest (token_then 0x3A u) before.shown (token 0x3A) none u refl in
       let behind = past_trivia colon.rest u (more content below none) colon.shown h in
       let last = first_shown behind.rest (more content below none) behind.shown content below none refl in
-      holds_in xs first before colon behind last (name_element o name [] k) (alone_element v)
+      let second = second_one xs first before colon behind last (name_element o name [] k) (alone_element v) in
+      record { value = last.node; held = second_is_held ns o xs name after u [] p k g ∙ second; second = second }
 
   -- the property at a path holds a value, which stands at the path
   pub record ValueHeld (path : List ℕ) (r : ℕ) : Type 0 where
@@ -170,8 +125,5 @@ module _ (o : Options) (ns : List Node) where
     value_held _ r (a_property front c i at inside) =
         let there = (parent_there ns tree r c (element_parent ns tree c i r inside.element)).0 in
         let one = holds_one (children_at ns r) (row_below ns r) (Shows-row_below ns tree r there) (property_row front c i r at inside) in
-        record {
-          value = one.value;
-          holds = ap (λ w. value_by w ns r) inside.is ∙ ap (option_and_then (element_from ns r)) one.colon ∙ one.found;
-          at = at_further ns c i one.value front at (StepsTo.in_object {r = r} inside.of_object inside.element (inside.is, one.second));
-        }
+        let holds = value_is_held ns r inside.is ∙ one.held in
+        record { value = one.value; holds = holds; at = at_further ns c i one.value front at (StepsTo.in_object {r = r} inside.of_object inside.element (inside.is, one.second, holds)) }

@@ -4,7 +4,7 @@ use Rattle.jsonc_text.specs.Plain.{Plain}
 use Rattle.jsonc_input.specs.Views.{chars_of, plain}
 use Rattle.jsonc_tree.specs.Changes.{Splices}
 use Rattle.jsonc_tree.specs.Tree.{Node, children_at, IsTree}
-use Rattle.jsonc_nodes.specs.Properties.{value_at}
+use Rattle.jsonc_nodes.specs.Properties.{lacks_name_at, value_at}
 use Rattle.jsonc_edit.specs.Comments.{CommentTaken}
 use Rattle.jsonc_edit.specs.Paths.{IsAt}
 use Rattle.jsonc_edit.specs.Reading.{IsReplaced}
@@ -12,7 +12,7 @@ use Rattle.jsonc_remove.specs.Removed.{TakesElement}
 use Rattle.jsonc_set.specs.Booleans.{BooleanSet}
 use Rattle.jsonc_set.specs.Giving.{IsPropertyReplaced}
 use Rattle.jsonc_set.specs.Kinds.{FoundOrCreated, FoundOrSet}
-use Rattle.jsonc_set.specs.PropertyValues.{lacks_name, HeldOrSet, LastValue}
+use Rattle.jsonc_set.specs.PropertyValues.{HeldOrSet, LastValue}
 use Rattle.jsonc_set.specs.RootSet.{FirstValue}
 use Rattle.jsonc_run.specs.declared.edit.Edit.{Edit}
 use Rattle.jsonc_run.specs.declared.edit.Edit.TheVariants.{Replace, Remove, RemoveComment, SetRoot, ClearRoot, ReplaceProperty, EnsureRoot, SetValue, EnsureValue, SetBoolean}
@@ -72,7 +72,7 @@ PropertyValueSet old new r v (Some n) = (m : ℕ) × IsReplaced old new n v m
 -- the property r has a name and a colon; where its value is of the shape nothing has changed, and in the place of another, or where there was none, an empty one has
 -- been set
 abbrev pub PropertyValueEnsured : Shape → List Node → List Node → ℕ → Type 0
-PropertyValueEnsured shape old new r = (lacks_name old r ≡ false) × (m : ℕ) × HeldOrSet (is_of shape) (empty_of shape) old new r (value_at old r) m
+PropertyValueEnsured shape old new r = (lacks_name_at old r ≡ false) × (m : ℕ) × HeldOrSet (is_of shape) (empty_of shape) old new r (value_at old r) m
 
 -- The edit was made: the node n, which stood at the path, has given way to m, which is the value, laid out as the old nodes tell; or n, the entry at the path,
 -- has been taken out with what leaves with it; or n, the comment of this number, has been taken out of the document; or the document's value has been set; or

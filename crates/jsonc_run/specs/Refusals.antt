@@ -3,7 +3,7 @@ use Rattle.std.specs.Prelude.{◌≡◌, ℕ, true, List, Some, None, take}
 use Rattle.std.specs.List.{slice_get}
 use Rattle.jsonc_tree.specs.OrderedTree.{ordered_tree}
 use Rattle.jsonc_tree.specs.Tree.{Node}
-use Rattle.jsonc_nodes.specs.Properties.{value_at}
+use Rattle.jsonc_nodes.specs.Properties.{lacks_name_at, value_at}
 use Rattle.jsonc_edit.specs.declared.error.EditError.{EditError}
 use Rattle.jsonc_edit.specs.declared.error.EditError.TheVariants.{OutOfMemory, MissingBrackets, MissingName, NoSuchPlace}
 use Rattle.jsonc_edit.specs.Comments.{WantsSpace}
@@ -11,7 +11,6 @@ use Rattle.jsonc_edit.specs.Paths.{IsAt}
 use Rattle.jsonc_remove.specs.Removed.{IsKeptFor}
 use Rattle.jsonc_set.specs.Booleans.{WantsSpaceFor}
 use Rattle.jsonc_set.specs.Kinds.{LacksKind}
-use Rattle.jsonc_set.specs.PropertyValues.{lacks_name}
 use Rattle.jsonc_run.specs.declared.edit.Over.{Over}
 use Rattle.jsonc_run.specs.declared.edit.Over.TheVariants as over
 use Rattle.jsonc_run.specs.declared.edit.Shape.{Shape}
@@ -57,7 +56,7 @@ LacksBrackets ns e = ⊥
 
 -- the property whose value is to be of a shape lacks its name, or its colon
 abbrev pub LacksName : List Node → Operation → Type 0
-LacksName ns (ensure_value path shape) = (n : ℕ) × IsPropertyAt ns path n × (lacks_name ns n ≡ true)
+LacksName ns (ensure_value path shape) = (n : ℕ) × IsPropertyAt ns path n × (lacks_name_at ns n ≡ true)
 LacksName ns e = ⊥
 
 -- why the edit was not made: memory was wanted, it has no place, or a bracket or a name is missing; nothing else is told

@@ -7,11 +7,11 @@ ghost use Rattle.jsonc_tree.specs.OrderedTree.{ordered_tree};
 ghost use Rattle.jsonc_tree.specs.Stored.{content_of};
 ghost use Rattle.jsonc_tree.specs.Tree.{content_at, IsTree};
 ghost use Rattle.jsonc_input.specs.Views.{plain};
-ghost use Rattle.jsonc_nodes.specs.Properties.{value_at};
+ghost use Rattle.jsonc_nodes.specs.Properties.{lacks_name_at, value_at};
 ghost use Rattle.jsonc_nodes.specs.Siblings.{IsThere};
 ghost use Rattle.jsonc_edit.specs.Paths.{FindsExactly};
 ghost use Rattle.jsonc_set.specs.Booleans.{is_boolean};
-ghost use Rattle.jsonc_set.specs.PropertyValues.{lacks_name, HeldOrSet, IsUnset};
+ghost use Rattle.jsonc_set.specs.PropertyValues.{HeldOrSet, IsUnset};
 ghost use Rattle.jsonc_run.specs.Edits.{set_value as asked_value, ensure_value as asked_shape, set_boolean as asked_boolean, IsMade};
 ghost use Rattle.jsonc_run.specs.Places.{IsBooleanAt};
 ghost use Rattle.jsonc_run.specs.Refusals.{IsToldBy};
@@ -77,7 +77,7 @@ fn held_or_set<A: Allocator + Copy>(
     requires there { property < length tree.old.nodes }
     requires property { content_at tree.old.nodes property ≡ Content.property }
     ensures value { IfOk result (HeldOrSet (is_of shape) (empty_of shape) tree.old.nodes tree.new.nodes property (value_at tree.old.nodes property)) }
-    ensures named { OnOk result (lacks_name tree.old.nodes property ≡ false) }
+    ensures named { OnOk result (lacks_name_at tree.old.nodes property ≡ false) }
     ensures told { IfErr result (IsUnset (is_of shape) tree.old.nodes property) }
     ensures kept { OnErr result (Keeps (length tree.old.nodes) tree.old.nodes tree.new.nodes) }
     ensures document { OnErr result (ordered_tree tree.new.nodes 0 ≡ ordered_tree tree.old.nodes 0) }

@@ -8,7 +8,8 @@ ghost use Rattle.jsonc_tree.specs.OrderedTree.{ordered_tree};
 ghost use Rattle.jsonc_tree.specs.Tree.{content_at, IsTree};
 ghost use Rattle.jsonc_set.specs.Booleans.{is_boolean, BooleanSet, WantsSpaceFor};
 ghost use Rattle.jsonc_set.specs.Kinds.{is_array, is_object};
-ghost use Rattle.jsonc_set.specs.PropertyValues.{lacks_name, IsUnset};
+ghost use Rattle.jsonc_nodes.specs.Properties.{lacks_name_at};
+ghost use Rattle.jsonc_set.specs.PropertyValues.{IsUnset};
 ghost use Rattle.jsonc_cst.specs.Document.{nodes_of, tree_of, Holds};
 ghost use Rattle.jsonc_cst.specs.Nodes.{array_node, boolean_lit_node, number_of, object_node};
 ghost use Rattle.jsonc_cst.specs.Nodes.{object_prop_node, IsNodeOf};
@@ -80,7 +81,7 @@ fn property_object_or_set<A: Allocator + Copy>(
     requires property { content_at tree.old.nodes property ≡ Content.property }
     ensures value { IfOk result (FindsOrSetsHeldObject tree.old.nodes tree.new.nodes property) }
     ensures written { (p : Options) → IfOk result (HeldObjectIsWritten tree.old.nodes tree.new.nodes p property) }
-    ensures named { OnOk result (lacks_name tree.old.nodes property ≡ false) }
+    ensures named { OnOk result (lacks_name_at tree.old.nodes property ≡ false) }
     ensures held { IfOk result (λ x. IsNodeOf tree.new.nodes (object_node x)) }
     ensures stays { StillNodes tree.old.nodes tree.new.nodes }
     ensures told { IfErr result (IsUnset is_object tree.old.nodes property) }
@@ -102,7 +103,7 @@ fn property_array_or_set<A: Allocator + Copy>(
     requires property { content_at tree.old.nodes property ≡ Content.property }
     ensures value { IfOk result (FindsOrSetsHeldArray tree.old.nodes tree.new.nodes property) }
     ensures written { (p : Options) → IfOk result (HeldArrayIsWritten tree.old.nodes tree.new.nodes p property) }
-    ensures named { OnOk result (lacks_name tree.old.nodes property ≡ false) }
+    ensures named { OnOk result (lacks_name_at tree.old.nodes property ≡ false) }
     ensures held { IfOk result (λ x. IsNodeOf tree.new.nodes (array_node x)) }
     ensures stays { StillNodes tree.old.nodes tree.new.nodes }
     ensures told { IfErr result (IsUnset is_array tree.old.nodes property) }
@@ -170,7 +171,7 @@ pub trait SetProperty: IsNode {
         requires { Holds doc.old (Self.node_of self) }
         ensures value { IfOk result (NowHoldsObject doc.old doc.new (Self.node_of self)) }
         ensures written { (p : Options) → IfOk result (HasWrittenObject doc.old doc.new p (Self.node_of self)) }
-        ensures named { OnOk result (lacks_name (nodes_of doc.old) (number_of (Self.node_of self)) ≡ false) }
+        ensures named { OnOk result (lacks_name_at (nodes_of doc.old) (number_of (Self.node_of self)) ≡ false) }
         ensures held { IfOk result (λ x. Holds doc.new (object_node x)) }
         ensures stays { StillHolds doc.old doc.new }
         ensures told { IfErr result (IsUnset is_object (nodes_of doc.old) (number_of (Self.node_of self))) }
@@ -189,7 +190,7 @@ pub trait SetProperty: IsNode {
         requires { Holds doc.old (Self.node_of self) }
         ensures value { IfOk result (NowHoldsArray doc.old doc.new (Self.node_of self)) }
         ensures written { (p : Options) → IfOk result (HasWrittenArray doc.old doc.new p (Self.node_of self)) }
-        ensures named { OnOk result (lacks_name (nodes_of doc.old) (number_of (Self.node_of self)) ≡ false) }
+        ensures named { OnOk result (lacks_name_at (nodes_of doc.old) (number_of (Self.node_of self)) ≡ false) }
         ensures held { IfOk result (λ x. Holds doc.new (array_node x)) }
         ensures stays { StillHolds doc.old doc.new }
         ensures told { IfErr result (IsUnset is_array (nodes_of doc.old) (number_of (Self.node_of self))) }
