@@ -7,16 +7,22 @@ use Rattle.jsonc_tree.specs.Building.{Keeps}
 use Rattle.jsonc_tree.specs.Changes.{Pushes}
 use Rattle.jsonc_tree.specs.Content as content
 use Rattle.jsonc_tree.specs.OrderedTree.{Top}
-use Rattle.jsonc_tree.specs.Tree.{Node, content_at, IsTree}
+use Rattle.jsonc_tree.specs.Tree.{Node, content_at, parent_at, IsTree}
+use Rattle.jsonc_tree.proofs.Order.{parent_there}
+use Rattle.jsonc_nodes.specs.Properties.{value_at}
 use Rattle.jsonc_from_input.specs.Laid.{laid}
 use Rattle.jsonc_from_input.specs.Layout.{Layout}
 use Rattle.jsonc_edit.specs.Reading.{layout_for, IsReplaced}
+use Rattle.jsonc_edit.specs.Replacing.{GivesWay}
 use Rattle.jsonc_edit.specs.Written.{Writes}
+use Rattle.jsonc_edit.proofs.GivingWay.{put_parent}
 use Rattle.jsonc_edit.proofs.ReplacedValues.{replaced_written}
+use Rattle.jsonc_edit.proofs.TakingOut.{parents_spaced}
 use Rattle.jsonc_set.specs.Booleans.{is_boolean, BooleanSet}
 use Rattle.jsonc_set.specs.Kinds.{KeptOrReplaced}
 use Rattle.jsonc_set.specs.PropertyValues.{HeldOrSet, LastValue}
 use Rattle.jsonc_set.proofs.BooleanSetting.{boolean_of}
+use Rattle.jsonc_set.proofs.PropertyValue.{held_child}
 use Rattle.jsonc_set.proofs.WrittenBoolean.{writes_boolean}
 use Rattle.jsonc_cst.specs.declared.cst.node.CstBooleanLit.{CstBooleanLit}
 use Rattle.jsonc_cst.specs.declared.cst.node.CstNode.{CstNode}
@@ -103,6 +109,34 @@ module _ (old new : List Node) (p : ℕ) (v : Plain) (m : ℕ) (l : LastValue ol
 
   last_content : content_at new m ≡ (laid (layout_for old p p) v).content
   last_content = l.given.place.replaces.spliced.content m ∙ ap (λ (t : Top). t.content) l.given.place.is
+
+-- a node that has taken the place of another is its container's child
+given_child : (old new : List Node) (n m : ℕ) (now : Top) (c : ℕ) → IsTree old → parent_at old n ≡ Some c → GivesWay old new n m now → parent_at new m ≡ Some c
+given_child old new n m now c tree said g =
+    let ready : parent_at g.ready n ≡ Some c = g.prepared.keeps.parent n (parent_there old tree n c said).0 ∙ said in
+    let spaced : parent_at g.spaced n ≡ Some c = parents_spaced _ g.ready g.spaced g.prepared.tree g.spaces n c ready in
+    let r = g.place.replaces in
+    put_parent g.spaced r.tree n r.container r.parent new m r.spliced ∙ sym r.parent ∙ spaced
+
+-- and so the property's value is its child
+module _ (old new : List Node) (p : ℕ) (v : Plain) (tree : IsTree old) (is : content_at old p ≡ content.property) where
+  last_child : (m : ℕ) → LastValue old new p v m → parent_at new m ≡ Some p
+  last_child m l = given_child l.held new (length old) m _ p l.tree l.pushed.parent l.given
+
+  replaced_child : (n m : ℕ) → value_at old p ≡ Some n → IsReplaced old new n v m → parent_at new m ≡ Some p
+  replaced_child n m e r = given_child old new n m _ p tree (held_child old tree p n is e) r.2
+
+  pub held_is_child : (o : Option ℕ) (m : ℕ) → value_at old p ≡ o → HeldBecomes old new p v o m → parent_at new m ≡ Some p
+  held_is_child None m e l = last_child m l
+  held_is_child (Some n) m e r = replaced_child n m e r
+
+  kept_child : (n m : ℕ) (b : Bool) → value_at old p ≡ Some n → KeptOrReplaced b v old new n m → parent_at new m ≡ Some p
+  kept_child n m true e (here, same) = ap (parent_at new) here ∙ ap (λ ns. parent_at ns n) same ∙ held_child old tree p n is e
+  kept_child n m false e r = replaced_child n m e r
+
+  pub found_is_child : (kind : content.Content → Bool) (o : Option ℕ) (m : ℕ) → value_at old p ≡ o → HeldOrSet kind v old new p o m → parent_at new m ≡ Some p
+  found_is_child kind None m e l = last_child m l
+  found_is_child kind (Some n) m e r = kept_child n m (kind (content_at old n)) e r
 
 -- where the value of a property was set
 pub held_there : (old new : List Node) (p : ℕ) (v : Plain) (o : Option ℕ) (m : ℕ) → HeldBecomes old new p v o m → m < length new

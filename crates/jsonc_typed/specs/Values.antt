@@ -3,7 +3,7 @@ use Rattle.std.specs.Prelude.{◌≡◌, ℕ, Bool, false, List, Option, Some, N
 use Rattle.jsonc_text.specs.Options.{Options}
 use Rattle.jsonc_text.specs.Plain.{Plain, array, object, no_items, no_members}
 use Rattle.jsonc_tree.specs.OrderedTree.{ordered_tree}
-use Rattle.jsonc_tree.specs.Tree.{Node, content_at}
+use Rattle.jsonc_tree.specs.Tree.{Node, content_at, parent_at}
 use Rattle.jsonc_nodes.specs.Properties.{value_at}
 use Rattle.jsonc_laws.specs.SoundTrees.{SoundTree}
 use Rattle.jsonc_edit.specs.Changes.{top_at}
@@ -24,6 +24,10 @@ use Rattle.jsonc_cst.specs.Nodes.{number_of}
 abbrev pub HeldBecomes : List Node → List Node → ℕ → Plain → Option ℕ → ℕ → Type 0
 HeldBecomes old new p v None m = LastValue old new p v m
 HeldBecomes old new p v (Some n) m = IsReplaced old new n v m
+
+-- the node is a child of the container p
+abbrev pub IsUnder : List Node → ℕ → CstNode → Type 0
+IsUnder ns p node = parent_at ns (number_of node) ≡ Some p
 
 module _ (old new : List Node) where
   -- v has become the value of the property p, which is this node
@@ -55,6 +59,9 @@ module _ (old new : List Node) where
       (path : List ℕ) → SoundTree o (ordered_tree old 0) → IsAt old path n → IsBooleanWritten o path b (top_at old n) (ordered_tree old 0) (ordered_tree new 0)
 
 -- the same of a document
+abbrev pub IsChildOf : {A : Type 0} → CstRootNode A → CstNode → CstNode → Type 0
+IsChildOf d container node = IsUnder (nodes_of d) (number_of container) node
+
 module _ {A : Type 0} (old new : CstRootNode A) where
   abbrev pub NowHolds : CstNode → Plain → CstNode → Type 0
   NowHolds node v now = PropertyHolds (nodes_of old) (nodes_of new) (number_of node) v now

@@ -18,7 +18,7 @@ ghost use Rattle.jsonc_typed.specs.Edits.{StillHolds, StillNodes};
 ghost use Rattle.jsonc_typed.specs.Values.{BooleanIsWritten, FindsOrSetsHeldArray, FindsOrSetsHeldObject};
 ghost use Rattle.jsonc_typed.specs.Values.{HasSetBoolean, HasWrittenArray, HasWrittenBoolean, HasWrittenObject};
 ghost use Rattle.jsonc_typed.specs.Values.{HasWrittenValue, HeldArrayIsWritten, HeldIsWritten, HeldObjectIsWritten};
-ghost use Rattle.jsonc_typed.specs.Values.{NowHolds, NowHoldsArray, NowHoldsObject, PropertyHolds};
+ghost use Rattle.jsonc_typed.specs.Values.{IsChildOf, IsUnder, NowHolds, NowHoldsArray, NowHoldsObject, PropertyHolds};
 
 use crate::setting::{array_at, object_at};
 use jsonc_cst::cst::{
@@ -60,6 +60,7 @@ fn set_property_value<A: Allocator + Copy>(
     requires property { content_at tree.old.nodes property ≡ Content.property }
     ensures set { IfOk result (PropertyHolds tree.old.nodes tree.new.nodes property (plain value.now)) }
     ensures written { (p : Options) → IfOk result (HeldIsWritten tree.old.nodes tree.new.nodes p property (plain value.now)) }
+    ensures child { IfOk result (IsUnder tree.new.nodes property) }
     ensures held { IfOk result (IsNodeOf tree.new.nodes) }
     ensures stays { StillNodes tree.old.nodes tree.new.nodes }
     ensures memory { IfErr result (λ e. e ≡ EditError.OutOfMemory) }
@@ -82,6 +83,7 @@ fn property_object_or_set<A: Allocator + Copy>(
     ensures value { IfOk result (FindsOrSetsHeldObject tree.old.nodes tree.new.nodes property) }
     ensures written { (p : Options) → IfOk result (HeldObjectIsWritten tree.old.nodes tree.new.nodes p property) }
     ensures named { OnOk result (lacks_name_at tree.old.nodes property ≡ false) }
+    ensures child { IfOk result (λ x. IsUnder tree.new.nodes property (object_node x)) }
     ensures held { IfOk result (λ x. IsNodeOf tree.new.nodes (object_node x)) }
     ensures stays { StillNodes tree.old.nodes tree.new.nodes }
     ensures told { IfErr result (IsUnset is_object tree.old.nodes property) }
@@ -104,6 +106,7 @@ fn property_array_or_set<A: Allocator + Copy>(
     ensures value { IfOk result (FindsOrSetsHeldArray tree.old.nodes tree.new.nodes property) }
     ensures written { (p : Options) → IfOk result (HeldArrayIsWritten tree.old.nodes tree.new.nodes p property) }
     ensures named { OnOk result (lacks_name_at tree.old.nodes property ≡ false) }
+    ensures child { IfOk result (λ x. IsUnder tree.new.nodes property (array_node x)) }
     ensures held { IfOk result (λ x. IsNodeOf tree.new.nodes (array_node x)) }
     ensures stays { StillNodes tree.old.nodes tree.new.nodes }
     ensures told { IfErr result (IsUnset is_array tree.old.nodes property) }
@@ -153,6 +156,7 @@ pub trait SetProperty: IsNode {
         requires { Holds doc.old (Self.node_of self) }
         ensures set { IfOk result (NowHolds doc.old doc.new (Self.node_of self) (plain value)) }
         ensures written { (p : Options) → IfOk result (HasWrittenValue doc.old doc.new p (Self.node_of self) (plain value)) }
+        ensures child { IfOk result (IsChildOf doc.new (Self.node_of self)) }
         ensures held { IfOk result (Holds doc.new) }
         ensures stays { StillHolds doc.old doc.new }
         ensures memory { IfErr result (λ e. e ≡ EditError.OutOfMemory) }
@@ -172,6 +176,7 @@ pub trait SetProperty: IsNode {
         ensures value { IfOk result (NowHoldsObject doc.old doc.new (Self.node_of self)) }
         ensures written { (p : Options) → IfOk result (HasWrittenObject doc.old doc.new p (Self.node_of self)) }
         ensures named { OnOk result (lacks_name_at (nodes_of doc.old) (number_of (Self.node_of self)) ≡ false) }
+        ensures child { IfOk result (λ x. IsChildOf doc.new (Self.node_of self) (object_node x)) }
         ensures held { IfOk result (λ x. Holds doc.new (object_node x)) }
         ensures stays { StillHolds doc.old doc.new }
         ensures told { IfErr result (IsUnset is_object (nodes_of doc.old) (number_of (Self.node_of self))) }
@@ -191,6 +196,7 @@ pub trait SetProperty: IsNode {
         ensures value { IfOk result (NowHoldsArray doc.old doc.new (Self.node_of self)) }
         ensures written { (p : Options) → IfOk result (HasWrittenArray doc.old doc.new p (Self.node_of self)) }
         ensures named { OnOk result (lacks_name_at (nodes_of doc.old) (number_of (Self.node_of self)) ≡ false) }
+        ensures child { IfOk result (λ x. IsChildOf doc.new (Self.node_of self) (array_node x)) }
         ensures held { IfOk result (λ x. Holds doc.new (array_node x)) }
         ensures stays { StillHolds doc.old doc.new }
         ensures told { IfErr result (IsUnset is_array (nodes_of doc.old) (number_of (Self.node_of self))) }
