@@ -95,9 +95,9 @@ module _ (ns : List Node) where
       let kind = name_kind o name r is in
       let behind : IsBehindColon parts.1 = before_colon o before (λ ys g. at_colon ys u g) parts.1 parts.4 in
       subst (λ (l : List ℕ). held_in ns l ≡ slice_get (filter (is_element_at ns) l) 1) (sym parts.2) (
-          ap (λ b. find (is_element_at ns) (behind_first (is_colon_at ns) (cond b parts.1 (behind_first (is_name_at ns) parts.1)))) (ap is_name parts.3 ∙ kind.name)
-          ∙ sym behind
-          ∙ sym (ap (λ l. slice_get l 1) (taken (is_element_at ns) parts.0 parts.1 (ap is_element parts.3 ∙ kind.element)))
+      ap (λ b. find (is_element_at ns) (behind_first (is_colon_at ns) (cond b parts.1 (behind_first (is_name_at ns) parts.1)))) (ap is_name parts.3 ∙ kind.name)
+      ∙ sym behind
+      ∙ sym (ap (λ l. slice_get l 1) (taken (is_element_at ns) parts.0 parts.1 (ap is_element parts.3 ∙ kind.element)))
       )
 
   pub shaped_value : (o : Options) (r n : ℕ) (row : OrderedTree) (rest : List ℕ) → Shows ns (children_at ns r) row → PropertyShaped o row rest → content_at ns r ≡ property → IsElementOf ns r 1 n → value_at ns r ≡ Some n
