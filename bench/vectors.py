@@ -3,7 +3,7 @@ import glob
 import os
 import re
 
-EDITS = {'Replace', 'Remove', 'RemoveComment', 'SetRoot', 'ClearRoot', 'ReplaceProperty', 'EnsureRoot'}
+EDITS = {'Replace', 'Remove', 'RemoveComment', 'SetRoot', 'ClearRoot', 'ReplaceProperty', 'EnsureRoot', 'SetValue', 'EnsureValue', 'SetBoolean'}
 COMMANDS_TO_COME = {b'set': 3, b'append': 2, b'remove': 2, b'sort': 1}
 
 

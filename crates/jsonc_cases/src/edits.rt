@@ -40,6 +40,18 @@ fn read_edit(alloc: Global, edit: &str) -> Result<Option<Edit<Global>>, CaseErro
             read_shape(shape)?,
             read_over(over)?,
         ))),
+        ["SetValue", path, value @ ..] => {
+            let path = read_path(alloc, path)?;
+            Ok(Some(Edit::SetValue(path, read_value(alloc, value)?)))
+        }
+        ["EnsureValue", path, shape] => Ok(Some(Edit::EnsureValue(
+            read_path(alloc, path)?,
+            read_shape(shape)?,
+        ))),
+        ["SetBoolean", path, value] => Ok(Some(Edit::SetBoolean(
+            read_path(alloc, path)?,
+            read_boolean(value)?,
+        ))),
         _ => Ok(None),
     }
 }
@@ -70,6 +82,15 @@ fn read_over(word: &str) -> Result<Over, CaseError> {
     match word {
         "keep" => Ok(Over::Keep),
         "replace" => Ok(Over::Replace),
+        _ => Err(CaseError::Edit),
+    }
+}
+
+/// A truth value.
+fn read_boolean(word: &str) -> Result<bool, CaseError> {
+    match word {
+        "T" => Ok(true),
+        "F" => Ok(false),
         _ => Err(CaseError::Edit),
     }
 }
