@@ -69,8 +69,8 @@ abbrev pub PropertyValueSet : List Node → List Node → ℕ → Plain → Opti
 PropertyValueSet old new r v None = (m : ℕ) × LastValue old new r v m
 PropertyValueSet old new r v (Some n) = (m : ℕ) × IsReplaced old new n v m
 
--- the property r has a name and a colon; where its value is of the shape nothing has changed, and in the place of another, or where there was none, an empty one has
--- been set
+-- the property r has a name and a colon; where its value is of the shape nothing has changed, and in the place of another, or where there was none, an empty
+-- one has been set
 abbrev pub PropertyValueEnsured : Shape → List Node → List Node → ℕ → Type 0
 PropertyValueEnsured shape old new r = (lacks_name_at old r ≡ false) × (m : ℕ) × HeldOrSet (is_of shape) (empty_of shape) old new r (value_at old r) m
 

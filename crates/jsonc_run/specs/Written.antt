@@ -59,8 +59,8 @@ pub record ReplacesHeld (path : List ℕ) (i : ℕ) (was now x y : Plain) : Type
 -- leaves, it is the first without the entry, or none without the document's value; where a comment leaves, it is the first, if there is one; where the
 -- document's value is set, it is that, and where the root is cleared there is none; where a property gives way, it is the first, but for that entry; where
 -- a value of a shape is to be there, it is the first or an empty one; where the value of a property is set, or is to be of a shape, it is the first, but that
--- the property has this value, or, if it had none of the shape, an empty one; where a truth value is set, it is the first, but that at the path, where one stood, this
--- one stands.
+-- the property has this value, or, if it had none of the shape, an empty one; where a truth value is set, it is the first, but that at the path, where one
+-- stood, this one stands.
 pub data IsChanged : Option Plain → Operation → Option Plain → Type 0 where
   by_value : {given_up v x y : Plain} {path : List ℕ} → Changed given_up v path x y → IsChanged (Some x) (replace path v) (Some y)
   by_entry : (path : List ℕ) (i : ℕ) {x y : Plain} → LosesEntry path i x y → IsChanged (Some x) (remove (path ++ i ∷ [])) (Some y)
@@ -119,9 +119,9 @@ pub data PropertyGivenWay (name : List ℕ) (v : Plain) (t u : OrderedTree) : Li
       → DiffersIn (leaves_of (property_of was)) (leaves_of (property_of (laid_property layout name v).below)) (leaves spaced) (leaves u)
       → PropertyGivenWay name v t u (path ++ i ∷ [])
 
--- What stays where an edit is made: all leaves around a value that gives way, or a truth value that becomes another, and around a comment with the blanks before it; in a sound document all around
--- an entry with what leaves with it, around the document's value, around a property that gives way to one that may be written, and around a property's value. Of a cleared root nothing
--- stays.
+-- What stays where an edit is made: all leaves around a value that gives way, or a truth value that becomes another, and around a comment with the blanks
+-- before it; in a sound document all around an entry with what leaves with it, around the document's value, around a property that gives way to one that may
+-- be written, and around a property's value. Of a cleared root nothing stays.
 abbrev pub StayAround : OrderedTree → Operation → OrderedTree → Type 0
 StayAround t (replace path v) u = ValueGivesWay path v t u
 StayAround t (remove path) u = (o : Options) → SoundTree o t → EntryLeft t u path
