@@ -198,8 +198,8 @@ fn value_below(
     requires { Holds doc.now node }
 {
     match node {
-        CstNode::Container(CstContainerNode::Array(array)) => {
-            Ok(array.elements(doc)?.get(place).copied())
+        CstNode::Container(CstContainerNode::Array(row)) => {
+            Ok(row.elements(doc)?.get(place).copied())
         }
         CstNode::Container(CstContainerNode::Object(_)) => {
             let property = property_below(doc, node, place)?;

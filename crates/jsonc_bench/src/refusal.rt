@@ -1,7 +1,7 @@
 //! Why an edit of a case was not made.
 
 use jsonc_parser::cst::EditError;
-use std::alloc::AllocError;
+use std::alloc::{AllocError, AllocFailed};
 
 /// Why an edit was not made.
 #[derive(Clone, Copy)]
@@ -33,6 +33,12 @@ impl From<EditError> for Refusal {
 
 impl From<AllocError> for Refusal {
     fn from(_: AllocError) -> Refusal {
+        Refusal::Error(EditError::OutOfMemory)
+    }
+}
+
+impl<T: Drop> From<AllocFailed<T>> for Refusal {
+    fn from(_: AllocFailed<T>) -> Refusal {
         Refusal::Error(EditError::OutOfMemory)
     }
 }

@@ -19,6 +19,9 @@ enum Step {
     ClearRoot,
     ReplaceProperty(&'static [usize]),
     EnsureRoot(Shape, Over),
+    SetValue(&'static [usize]),
+    EnsureValue(&'static [usize], Shape),
+    SetBoolean(&'static [usize], bool),
 }
 
 /// Edits, and the texts before, between and after them.
@@ -28,7 +31,7 @@ struct Row {
     texts: &'static [&'static str],
 }
 
-const ROWS: [Row; 7] = [
+const ROWS: [Row; 11] = [
     Row {
         steps: &[Step::RemoveComment(0)],
         texts: &["[1/*c*/2]", "[1 2]"],
@@ -52,6 +55,25 @@ const ROWS: [Row; 7] = [
     Row {
         steps: &[Step::Remove(&[1])],
         texts: &["{a:1\"x\":2b:3}", "{a:1 b:3}"],
+    },
+    Row {
+        steps: &[Step::SetValue(&[0])],
+        texts: &["{a:[2]b:2}", "{a:1 b:2}"],
+    },
+    Row {
+        steps: &[
+            Step::EnsureValue(&[0, 0], Shape::Object),
+            Step::EnsureValue(&[0, 0], Shape::Array),
+        ],
+        texts: &["[{\"a\": 1}]", "[{\"a\": {}}]", "[{\"a\": []}]"],
+    },
+    Row {
+        steps: &[Step::SetBoolean(&[0], false)],
+        texts: &["[true-1]", "[false-1]"],
+    },
+    Row {
+        steps: &[Step::SetBoolean(&[1], false)],
+        texts: &["[0x1true]", "[0x1 false]"],
     },
     Row {
         steps: &[
@@ -113,6 +135,9 @@ fn edit_of<A: Allocator + Copy>(alloc: A, step: Step) -> Result<Edit<A>, AllocEr
             Ok(Edit::ReplaceProperty(path, name, number(alloc)?))
         }
         Step::EnsureRoot(shape, over) => Ok(Edit::EnsureRoot(shape, over)),
+        Step::SetValue(path) => Ok(Edit::SetValue(path_of(alloc, path)?, number(alloc)?)),
+        Step::EnsureValue(path, shape) => Ok(Edit::EnsureValue(path_of(alloc, path)?, shape)),
+        Step::SetBoolean(path, value) => Ok(Edit::SetBoolean(path_of(alloc, path)?, value)),
     }
 }
 

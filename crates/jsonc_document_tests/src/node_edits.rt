@@ -1,17 +1,12 @@
 //! Edits of one node.
-ghost use Rattle.std.specs.Prelude.{◌≡◌, ◌<◌, IsTrue, length, true};
-ghost use Rattle.jsonc_tree.specs.Tree.{content_at};
-ghost use Rattle.jsonc_set.specs.Booleans.{is_boolean};
 ghost use Rattle.jsonc_cst.specs.Document.{Holds};
 ghost use Rattle.jsonc_cst.specs.Nodes.{object_prop_node};
 
 use jsonc_parser::cst::{
     CstContainerNode, CstInputValue, CstLeafNode, CstNewlineKind, CstNode, CstObjectProp,
     CstRootNode, EditError, ObjectPropName, Remove, RemoveLeaf, ReplaceProperty, ReplaceWith,
-    SetNewline, SetRawValue, SetToken, SetWhitespace,
+    SetBoolean, SetNewline, SetProperty, SetRawValue, SetToken, SetWhitespace,
 };
-use jsonc_set::set_boolean;
-use jsonc_tree::{Kind, Tree};
 use refusing::outcome::Outcome;
 use std::alloc::Allocator;
 
@@ -24,6 +19,12 @@ pub enum NodeEdit {
     ReplaceName,
     /// A property gives way to one of the name `c`, whose value is a number.
     ReplaceProperty,
+    /// The value of a property is set to a number.
+    SetValue,
+    /// The value of a property is an object, an empty one where it was none.
+    ObjectOrSet,
+    /// The value of a property is an array, an empty one where it was none.
+    ArrayOrSet,
     /// A truth value becomes `false`.
     SetFalse,
     Remove,
@@ -34,6 +35,14 @@ pub enum NodeEdit {
     SetRawName,
     /// A token becomes `;`, whitespace the word, or a newline CR LF.
     SetLeaf,
+}
+
+/// Whether an edit was made, or the memory for it was wanted.
+fn of_answered<T: Drop>(made: Result<T, EditError>) -> Outcome {
+    match made {
+        Ok(_) => Outcome::Answered,
+        Err(error) => error.into(),
+    }
 }
 
 /// Whether something has given way to a new node, or the memory for that was wanted.
@@ -51,9 +60,7 @@ fn replace<A: Allocator + Copy>(doc: &mut CstRootNode<A>, node: CstNode, word: S
     let value = CstInputValue::Number(word);
     match node {
         CstNode::Leaf(CstLeafNode::NumberLit(number)) => of_new(number.replace_with(doc, value)),
-        CstNode::Container(CstContainerNode::Array(array)) => {
-            of_new(array.replace_with(doc, value))
-        }
+        CstNode::Container(CstContainerNode::Array(row)) => of_new(row.replace_with(doc, value)),
         _ => Outcome::Other,
     }
 }
@@ -100,6 +107,9 @@ fn edit_property<A: Allocator + Copy>(
     match edit {
         NodeEdit::ReplaceName => replace_name(doc, property, word),
         NodeEdit::SetRawName => set_raw_name(doc, property, word),
+        NodeEdit::SetValue => of_answered(property.set_value(doc, CstInputValue::Number(word))),
+        NodeEdit::ObjectOrSet => of_answered(property.object_value_or_set(doc)),
+        NodeEdit::ArrayOrSet => of_answered(property.array_value_or_set(doc)),
         NodeEdit::ReplaceProperty => {
             of_new(property.replace_with(doc, "c", CstInputValue::Number(word)))
         }
@@ -107,24 +117,13 @@ fn edit_property<A: Allocator + Copy>(
     }
 }
 
-/// Whether a truth value has this number.
-fn is_truth_value<A: Allocator>(tree: &Tree<A>, number: usize) -> bool
-    ensures there { IsTrue result → number < length tree.now.nodes }
-    ensures truth { IsTrue result → is_boolean (content_at tree.now.nodes number) ≡ true }
+fn set_false<A: Allocator + Copy>(doc: &mut CstRootNode<A>, node: CstNode) -> Outcome
+    requires { Holds doc.old node }
 {
-    if number >= tree.len() {
-        return false;
+    match node {
+        CstNode::Leaf(CstLeafNode::BooleanLit(value)) => of_answered(value.set_value(doc, false)),
+        _ => Outcome::Other,
     }
-    matches!(tree.kind(number), Kind::Boolean(_))
-}
-
-fn set_false<A: Allocator + Copy>(doc: &mut CstRootNode<A>, node: CstNode) -> Outcome {
-    let number = node.number();
-    if !is_truth_value(&doc.tree, number) {
-        return Outcome::Other;
-    }
-    let set = set_boolean(doc.alloc, &mut doc.tree, number, false);
-    Outcome::of_answer(set, &())
 }
 
 fn remove_leaf<A: Allocator>(doc: &mut CstRootNode<A>, node: CstNode) -> Outcome

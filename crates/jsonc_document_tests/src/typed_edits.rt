@@ -26,7 +26,7 @@ type Row = (&'static str, TypedEdit, &'static str, &'static str);
 const TWO: &str = "{ \"a\": 1, \"b\": 2 }";
 
 /// The edits that want memory.
-const WANTING: [Row; 14] = [
+const WANTING: [Row; 18] = [
     ("// c", Root(RootEdit::Set), "1", "// c\n1\n"),
     ("// c\n", Root(RootEdit::Set), "1", "// c\n1\n"),
     ("", Root(RootEdit::ObjectOrCreate), "", "{}\n"),
@@ -52,6 +52,25 @@ const WANTING: [Row; 14] = [
         "3",
         "{ \"a\": 1, \"c\": 3 }",
     ),
+    ("{a:[1]b:2}", At(1, NodeEdit::SetValue), "7", "{a:7 b:2}"),
+    (
+        TWO,
+        At(2, NodeEdit::SetValue),
+        "3",
+        "{ \"a\": 3, \"b\": 2 }",
+    ),
+    (
+        TWO,
+        At(2, NodeEdit::ObjectOrSet),
+        "",
+        "{ \"a\": {}, \"b\": 2 }",
+    ),
+    (
+        TWO,
+        At(5, NodeEdit::ArrayOrSet),
+        "",
+        "{ \"a\": 1, \"b\": [] }",
+    ),
     ("[0x1true]", At(2, NodeEdit::SetFalse), "", "[0x1 false]"),
     ("[1/*c*/2]", At(2, NodeEdit::Remove), "", "[1 2]"),
     ("[1[2]3]", At(2, NodeEdit::Remove), "", "[1 3]"),
@@ -59,7 +78,7 @@ const WANTING: [Row; 14] = [
 ];
 
 /// The edits that want none, though all further requests are refused.
-const UNASKED: [Row; 22] = [
+const UNASKED: [Row; 24] = [
     ("// c\n[1]", Root(RootEdit::Clear), "", ""),
     ("{ } // c", Root(RootEdit::ObjectOrCreate), "", "{ } // c"),
     ("[ ]", Root(RootEdit::ObjectOrCreate), "", "[ ]"),
@@ -68,6 +87,8 @@ const UNASKED: [Row; 22] = [
     ("{ }", Root(RootEdit::ArrayOrCreate), "", "{ }"),
     ("[ ] // c", Root(RootEdit::ArrayOrSet), "", "[ ] // c"),
     ("// a\n1", Root(RootEdit::Remove), "", "// a\n"),
+    ("{a:{ }}", At(1, NodeEdit::ObjectOrSet), "", "{a:{ }}"),
+    ("{a:[ ]}", At(1, NodeEdit::ArrayOrSet), "", "{a:[ ]}"),
     ("[true-1]", At(1, NodeEdit::SetFalse), "", "[false-1]"),
     (TWO, At(5, NodeEdit::Remove), "", "{ \"a\": 1 }"),
     ("[ 1 ]", At(2, NodeEdit::Remove), "", "[]"),
