@@ -11,6 +11,7 @@ mod edited;
 mod input;
 mod lookup;
 mod member;
+mod paths;
 mod program;
 mod raw;
 mod reading;

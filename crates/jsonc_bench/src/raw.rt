@@ -1,14 +1,13 @@
 //! Edits of one leaf, or of a property's name or value.
 
-ghost use Rattle.jsonc_cst.specs.Document.{Holds};
-
+use crate::paths::property_at;
 use crate::reading::push_children;
 use crate::refusal::Refusal;
 use jsonc_cases::edits::RawEdit;
 use jsonc_parser::cst::{
-    CstContainerNode, CstInputValue, CstLeafNode, CstNewlineKind, CstNode, CstObjectProp,
-    CstRootNode, EditError, IsNode, ObjectPropName, Remove, RemoveLeaf, ReplaceWith, SetNewline,
-    SetRawValue, SetToken, SetWhitespace,
+    CstContainerNode, CstInputValue, CstLeafNode, CstNewlineKind, CstNode, CstRootNode, EditError,
+    IsNode, ObjectPropName, Remove, RemoveLeaf, ReplaceWith, SetNewline, SetRawValue, SetToken,
+    SetWhitespace,
 };
 use std::alloc::Global;
 
@@ -167,64 +166,6 @@ fn value_in(doc: &CstRootNode<Global>, path: &[usize]) -> Result<CstNode, Refusa
     }
     match property.value(doc) {
         Some(value) => Ok(value),
-        None => Err(Refusal::Error(EditError::NoSuchPlace)),
-    }
-}
-
-/// The property that a path leads to.
-fn property_at(doc: &CstRootNode<Global>, path: &[usize]) -> Result<CstObjectProp, Refusal> {
-    let [front @ .., place] = path else {
-        return Err(Refusal::Error(EditError::NoSuchPlace));
-    };
-    let mut found = doc.value();
-    for step in front {
-        found = match found {
-            Some(node) if doc.holds(node) => value_below(doc, node, *step)?,
-            _ => None,
-        };
-    }
-    match found {
-        Some(node) if doc.holds(node) => property_below(doc, node, *place),
-        _ => Err(Refusal::Error(EditError::NoSuchPlace)),
-    }
-}
-
-/// The element at a place of an array, or the value of the property at a place of an object.
-fn value_below(
-    doc: &CstRootNode<Global>,
-    node: CstNode,
-    place: usize,
-) -> Result<Option<CstNode>, Refusal>
-    requires { Holds doc.now node }
-{
-    match node {
-        CstNode::Container(CstContainerNode::Array(row)) => {
-            Ok(row.elements(doc)?.get(place).copied())
-        }
-        CstNode::Container(CstContainerNode::Object(_)) => {
-            let property = property_below(doc, node, place)?;
-            if !doc.holds(property.into()) {
-                return Ok(None);
-            }
-            Ok(property.value(doc))
-        }
-        _ => Ok(None),
-    }
-}
-
-/// The property at a place of an object.
-fn property_below(
-    doc: &CstRootNode<Global>,
-    node: CstNode,
-    place: usize,
-) -> Result<CstObjectProp, Refusal>
-    requires { Holds doc.now node }
-{
-    let CstNode::Container(CstContainerNode::Object(object)) = node else {
-        return Err(Refusal::Error(EditError::NoSuchPlace));
-    };
-    match object.properties(doc)?.get(place) {
-        Some(property) => Ok(*property),
         None => Err(Refusal::Error(EditError::NoSuchPlace)),
     }
 }
