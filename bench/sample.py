@@ -44,6 +44,9 @@ NO_CASES = [
     ('bad-kind-of-value\tedit\t1111111111\t1\tEnsureRoot one keep', EDIT),
     ('bad-way\tedit\t1111111111\t1\tEnsureRoot obj away', EDIT),
     ('bad-new-name\tedit\t1111111111\t{}\tReplaceProperty /0 a N', EDIT),
+    ('bad-truth-value\tedit\t1111111111\t[true]\tSetBoolean /0 N', EDIT),
+    ('bad-leaf\tedit\t1111111111\t1\tRawRemove x', EDIT),
+    ('bad-text\tedit\t1111111111\t1\tRawSet 0 1', EDIT),
     ("bad-call\tjobj\t1111111111\t{}\thas 'a", LOOKUP),
 ]
 # What the Rust crate's test of deep objects states; bench/crate has it with 600 of them, and here they are all.

@@ -1,48 +1,71 @@
 //! What edits make of a document.
+use crate::raw::make_raw;
+use crate::refusal::Refusal;
 use crate::show::push_fault;
-use jsonc_build::build;
+use jsonc_cases::edits::Step;
 use jsonc_cases::escape::Escaped;
-use jsonc_parser::cst::EditError;
-use jsonc_parser::errors::ParseError;
-use jsonc_parser::{CollectOptions, ParseOptions, parse_to_ast};
-use jsonc_run::{Edit, run};
-use jsonc_tree::Tree;
+use jsonc_parser::ParseOptions;
+use jsonc_parser::cst::{CstNode, CstRootNode, Edit, run};
 use std::alloc::{AllocError, Global};
+use std::cmp::Ordering;
 
 /// How the edits end, and how the document prints after those that were made; or the text's fault.
 pub fn edited(
     alloc: Global,
     text: &str,
     options: &ParseOptions,
-    edits: &[Edit<Global>],
+    edits: Vec<Step>,
 ) -> Result<String, AllocError> {
     let mut out = String::new(alloc);
-    let mut tree = match tree_of(alloc, text, options) {
-        Ok(tree) => tree,
+    let mut doc = match CstRootNode::parse(alloc, text, options) {
+        Ok(doc) => doc,
         Err(error) => {
             push_fault(alloc, &mut out, &error)?;
             return Ok(out);
         }
     };
-    match run(alloc, &mut tree, edits) {
-        Ok(()) => out.push_str("ok")?,
-        Err((made, EditError::NoSuchPlace)) => write!(out, "stop {made} NoSuchPlace")?,
-        Err(_) => return Err(AllocError),
-    }
-    let printed = tree.to_string(alloc)?;
+    push_end(alloc, &mut out, &mut doc, edits)?;
+    let printed = doc.to_string(alloc)?;
     write!(out, "\t{}", Escaped::field(printed.as_bytes()))?;
     Ok(out)
 }
 
-/// The tree of a text, or the text's fault.
-pub fn tree_of(
+/// Makes the edits in turn, up to one that is refused, and writes how that ended.
+pub fn push_end(
     alloc: Global,
-    text: &str,
-    options: &ParseOptions,
-) -> Result<Tree<Global>, ParseError> {
-    let parsed = parse_to_ast(alloc, text, &CollectOptions::default(), options)?;
-    match build(alloc, text, parsed.value.as_ref()) {
-        Ok(tree) => Ok(tree),
-        Err(_) => Err(ParseError::out_of_memory()),
+    out: &mut String,
+    doc: &mut CstRootNode<Global>,
+    edits: Vec<Step>,
+) -> Result<(), AllocError> {
+    let mut made = 0usize;
+    for step in edits {
+        if let Err(refusal) = make_step(alloc, doc, step) {
+            return write!(out, "stop {made} {}", refusal.word()?);
+        }
+        made = made.saturating_add(1);
+    }
+    out.push_str("ok")
+}
+
+fn make_step(alloc: Global, doc: &mut CstRootNode<Global>, step: Step) -> Result<(), Refusal> {
+    match step {
+        Step::Listed(edit) => make_listed(alloc, doc, edit),
+        Step::Raw(edit) => make_raw(alloc, doc, edit),
+    }
+}
+
+/// Makes a list of this edit.
+fn make_listed(
+    alloc: Global,
+    doc: &mut CstRootNode<Global>,
+    edit: Edit<Global>,
+) -> Result<(), Refusal> {
+    let mut edits = Vec::new(alloc);
+    edits.push(edit)?;
+    // No edit sorts, so the comparison is not asked.
+    let compare = |_doc: &CstRootNode<_>, _one: CstNode, _other: CstNode| Ordering::Equal;
+    match run(doc, edits, &compare) {
+        Ok(()) => Ok(()),
+        Err((_, error)) => Err(error.into()),
     }
 }

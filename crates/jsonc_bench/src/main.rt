@@ -11,8 +11,11 @@ mod edited;
 mod input;
 mod lookup;
 mod member;
+mod paths;
 mod program;
+mod raw;
 mod reading;
+mod refusal;
 mod scanned;
 mod show;
 mod syntax;
@@ -31,8 +34,8 @@ fn answer_line(alloc: Global, line: &[u8]) -> Result<String, CaseError> {
         return Err(CaseError::NotUtf8);
     };
     let case = Case::from_line(alloc, line)?;
-    let id = case.id;
-    let written = match answer::answer(alloc, &case.question)? {
+    let Case { id, question } = case;
+    let written = match answer::answer(alloc, question)? {
         Some(answer) => format!(in alloc; "{id}\t{answer}")?,
         None => format!(in alloc; "{id}\tnot yet")?,
     };

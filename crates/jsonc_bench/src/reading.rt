@@ -1,12 +1,12 @@
 //! What a document tells of itself and of each of its nodes.
 
-ghost use Rattle.std.specs.Prelude.{◌<◌, length};
 ghost use Rattle.jsonc_cst.specs.Document.{Holds};
 ghost use Rattle.jsonc_cst.specs.Nodes.{object_prop_node, string_lit_node};
 
-use crate::edited::tree_of;
+use crate::edited::push_end;
 use crate::input::push_input;
 use crate::show::{push_fault, push_string_kind};
+use jsonc_cases::edits::Step;
 use jsonc_cases::escape::Escaped;
 use jsonc_lines::indents_at;
 use jsonc_parser::ParseOptions;
@@ -14,26 +14,29 @@ use jsonc_parser::cst::{
     CstComment, CstContainerNode, CstLeafNode, CstNewlineKind, CstNode, CstObjectProp, CstRootNode,
     CstStringLit, HasChildren, IsNode, Readings,
 };
-use jsonc_tree::Tree;
 use std::alloc::{AllocError, Global};
 
-/// The readings of a text's document and of its nodes in printed order, or the text's fault.
-pub fn readings(alloc: Global, text: &str, options: &ParseOptions) -> Result<String, AllocError> {
+/// How the edits end, and the readings of the text's document after them and of its nodes in printed
+/// order; or the text's fault.
+pub fn readings(
+    alloc: Global,
+    text: &str,
+    options: &ParseOptions,
+    edits: Vec<Step>,
+) -> Result<String, AllocError> {
     let mut out = String::new(alloc);
-    let doc = match CstRootNode::parse(alloc, text, options) {
+    let mut doc = match CstRootNode::parse(alloc, text, options) {
         Ok(doc) => doc,
         Err(error) => {
             push_fault(alloc, &mut out, &error)?;
             return Ok(out);
         }
     };
-    let Ok(tree) = tree_of(alloc, text, options) else {
-        return Err(AllocError);
-    };
-    out.push_str("ok\t")?;
+    push_end(alloc, &mut out, &mut doc, edits)?;
+    out.push('\t')?;
     push_document(&mut out, &doc)?;
     push_value(alloc, &mut out, &doc)?;
-    push_nodes(alloc, &mut out, &doc, &tree)?;
+    push_nodes(alloc, &mut out, &doc)?;
     Ok(out)
 }
 
@@ -66,50 +69,43 @@ fn push_value(
     }
 }
 
-/// Each node in printed order. The second number is the node's in a tree of the same text, which
-/// alone is asked for indents.
+/// Each node in printed order.
 fn push_nodes(
     alloc: Global,
     out: &mut String,
     doc: &CstRootNode<Global>,
-    tree: &Tree<Global>,
 ) -> Result<(), AllocError> {
     // The next node is the last.
     let mut left = Vec::new(alloc);
-    left.push((CstNode::from(doc.root()), 0))?;
+    left.push(CstNode::from(doc.root()))?;
     for _ in 0..u64::MAX {
-        let Some((node, number)) = left.pop() else {
+        let Some(node) = left.pop() else {
             break;
         };
-        if !doc.holds(node) || number >= tree.len() {
+        if !doc.holds(node) {
             return Err(AllocError);
         }
         push_node(out, doc, node)?;
-        push_indents(alloc, out, node, tree, number)?;
+        push_indents(alloc, out, doc, node)?;
         push_content(out, doc, node)?;
-        push_children(&mut left, doc, node, tree, number)?;
+        push_children(&mut left, doc, node)?;
     }
     Ok(())
 }
 
 /// Puts a node's children off, the first one last.
-fn push_children(
-    left: &mut Vec<(CstNode, usize)>,
+pub fn push_children(
+    left: &mut Vec<CstNode>,
     doc: &CstRootNode<Global>,
     node: CstNode,
-    tree: &Tree<Global>,
-    number: usize,
 ) -> Result<(), AllocError>
-    requires node { Holds doc.now node }
-    requires number { number < length tree.now.nodes }
+    requires { Holds doc.now node }
 {
     let Ok(children) = node.children(doc) else {
         return Err(AllocError);
     };
-    for (place, child) in children.iter().enumerate().rev() {
-        if place < tree.child_count(number) {
-            left.push((*child, tree.child_at(number, place)))?;
-        }
+    for child in children.iter().rev() {
+        left.push(*child)?;
     }
     Ok(())
 }
@@ -183,16 +179,15 @@ fn push_comments(
 fn push_indents(
     alloc: Global,
     out: &mut String,
+    doc: &CstRootNode<Global>,
     node: CstNode,
-    tree: &Tree<Global>,
-    number: usize,
 ) -> Result<(), AllocError>
-    requires { number < length tree.now.nodes }
+    requires { Holds doc.now node }
 {
     if node.as_root_node().is_some() {
         return out.push_str(" in=, ");
     }
-    let indents = indents_at(alloc, tree, number)?;
+    let indents = indents_at(alloc, &doc.tree, node.number())?;
     let current = Escaped::word(indents.current.as_str());
     let single = Escaped::word(indents.single.as_str());
     write!(out, " in={current},{single} ")

@@ -1,11 +1,10 @@
 //! Cases, read from their lines.
 
-use crate::edits::read_edits;
+use crate::edits::{Step, read_edits};
 use crate::error::CaseError;
 use crate::escape::{unescaped, unescaped_text};
 use crate::lookups::{Lookup, read_lookups};
 use jsonc_parser::{CollectOptions, CommentCollectionStrategy, ParseOptions};
-use jsonc_run::Edit;
 use std::alloc::Global;
 
 /// What a case asks.
@@ -49,12 +48,13 @@ pub enum Question {
     Edit {
         options: ParseOptions,
         text: String,
-        edits: Vec<Edit<Global>>,
+        edits: Vec<Step>,
     },
-    /// What the document of a text tells of itself and of its nodes.
+    /// What the document of a text tells of itself and of its nodes, after these edits.
     Read {
         options: ParseOptions,
         text: String,
+        edits: Vec<Step>,
     },
     /// The string at the front of a text.
     Decode {
@@ -110,8 +110,7 @@ impl Question {
             ("jobj", [options, text, lookups]) => object(alloc, options, text, lookups),
             ("aobj", [options, text, lookups]) => tree_object(alloc, options, text, lookups),
             ("edit", [options, text, edits]) => edit(alloc, options, text, edits),
-            ("read", [options, text, ""]) => read(alloc, options, text),
-            ("read", [_, _, _]) => Ok(Question::NotBuilt),
+            ("read", [options, text, edits]) => read(alloc, options, text, edits),
             ("decode", [text]) => Ok(Question::Decode {
                 text: unescaped_text(alloc, text)?,
             }),
@@ -196,10 +195,14 @@ fn edit(alloc: Global, options: &str, text: &str, edits: &str) -> Result<Questio
     })
 }
 
-fn read(alloc: Global, options: &str, text: &str) -> Result<Question, CaseError> {
+fn read(alloc: Global, options: &str, text: &str, edits: &str) -> Result<Question, CaseError> {
+    let Some(edits) = read_edits(alloc, edits)? else {
+        return Ok(Question::NotBuilt);
+    };
     Ok(Question::Read {
         options: read_options(options)?,
         text: unescaped_text(alloc, text)?,
+        edits,
     })
 }
 

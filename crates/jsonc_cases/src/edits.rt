@@ -2,19 +2,43 @@
 
 use crate::error::CaseError;
 use crate::escape::unescaped_text;
-use jsonc_input::CstInputValue;
-use jsonc_run::{Edit, Over, Shape};
+use jsonc_parser::cst::{CstInputValue, Edit, Over, Shape};
 use std::alloc::Global;
+
+/// An edit of a case.
+#[derive(Drop)]
+pub enum Step {
+    /// One that a list of edits may hold.
+    Listed(Edit<Global>),
+    /// One that is made on a node.
+    Raw(RawEdit),
+}
+
+/// An edit of one leaf, of a property's name, or of its value by the node that this is. Leaves are
+/// counted from 0 as they are printed; a path leads to a property.
+#[derive(Drop)]
+pub enum RawEdit {
+    /// The leaf gets this text.
+    Set(usize, String),
+    /// The leaf is taken out.
+    Remove(usize),
+    /// The name is taken out.
+    RemoveName(Vec<usize>),
+    /// The name gives way to a value.
+    ReplaceName(Vec<usize>, CstInputValue<Global>),
+    /// The value is taken out.
+    RemoveValue(Vec<usize>),
+}
 
 /// The edits that a field lists, as `Replace /0 [1 #2 ; RemoveComment 0`, or none where one is of a
 /// kind that is not built.
-pub fn read_edits(alloc: Global, field: &str) -> Result<Option<Vec<Edit<Global>>>, CaseError> {
+pub fn read_edits(alloc: Global, field: &str) -> Result<Option<Vec<Step>>, CaseError> {
     let mut edits = Vec::new(alloc);
     if field.is_empty() {
         return Ok(Some(edits));
     }
     for edit in field.split(" ; ") {
-        match read_edit(alloc, edit)? {
+        match read_step(alloc, edit)? {
             Some(edit) => edits.push(edit)?,
             None => return Ok(None),
         }
@@ -22,9 +46,33 @@ pub fn read_edits(alloc: Global, field: &str) -> Result<Option<Vec<Edit<Global>>
     Ok(Some(edits))
 }
 
-fn read_edit(alloc: Global, edit: &str) -> Result<Option<Edit<Global>>, CaseError> {
+fn read_step(alloc: Global, edit: &str) -> Result<Option<Step>, CaseError> {
     let words: Vec<&str> = edit.split(' ').collect(alloc)?;
-    match words.as_slice() {
+    if let Some(raw) = read_raw(alloc, words.as_slice())? {
+        return Ok(Some(Step::Raw(raw)));
+    }
+    Ok(read_edit(alloc, words.as_slice())?.map(Step::Listed))
+}
+
+fn read_raw(alloc: Global, words: &[&str]) -> Result<Option<RawEdit>, CaseError> {
+    match words {
+        ["RawSet", leaf, text] => {
+            let leaf = read_number(leaf)?;
+            Ok(Some(RawEdit::Set(leaf, read_name(alloc, text)?)))
+        }
+        ["RawRemove", leaf] => Ok(Some(RawEdit::Remove(read_number(leaf)?))),
+        ["RawRemoveName", path] => Ok(Some(RawEdit::RemoveName(read_path(alloc, path)?))),
+        ["RawReplaceName", path, value @ ..] => {
+            let path = read_path(alloc, path)?;
+            Ok(Some(RawEdit::ReplaceName(path, read_value(alloc, value)?)))
+        }
+        ["RawRemoveValue", path] => Ok(Some(RawEdit::RemoveValue(read_path(alloc, path)?))),
+        _ => Ok(None),
+    }
+}
+
+fn read_edit(alloc: Global, words: &[&str]) -> Result<Option<Edit<Global>>, CaseError> {
+    match words {
         ["Replace", path, value @ ..] => {
             let path = read_path(alloc, path)?;
             Ok(Some(Edit::Replace(path, read_value(alloc, value)?)))
@@ -39,6 +87,18 @@ fn read_edit(alloc: Global, edit: &str) -> Result<Option<Edit<Global>>, CaseErro
         ["EnsureRoot", shape, over] => Ok(Some(Edit::EnsureRoot(
             read_shape(shape)?,
             read_over(over)?,
+        ))),
+        ["SetValue", path, value @ ..] => {
+            let path = read_path(alloc, path)?;
+            Ok(Some(Edit::SetValue(path, read_value(alloc, value)?)))
+        }
+        ["EnsureValue", path, shape] => Ok(Some(Edit::EnsureValue(
+            read_path(alloc, path)?,
+            read_shape(shape)?,
+        ))),
+        ["SetBoolean", path, value] => Ok(Some(Edit::SetBoolean(
+            read_path(alloc, path)?,
+            read_boolean(value)?,
         ))),
         _ => Ok(None),
     }
@@ -65,6 +125,15 @@ fn read_shape(word: &str) -> Result<Shape, CaseError> {
     }
 }
 
+/// A truth value.
+fn read_boolean(word: &str) -> Result<bool, CaseError> {
+    match word {
+        "T" => Ok(true),
+        "F" => Ok(false),
+        _ => Err(CaseError::Edit),
+    }
+}
+
 /// What becomes of a value of another kind.
 fn read_over(word: &str) -> Result<Over, CaseError> {
     match word {
@@ -74,7 +143,7 @@ fn read_over(word: &str) -> Result<Over, CaseError> {
     }
 }
 
-/// The name of a property, which stands after a `'`.
+/// The name of a property or the text of a leaf, which stands after a `'`.
 fn read_name(alloc: Global, word: &str) -> Result<String, CaseError> {
     match word.strip_prefix("'") {
         Some(name) => unescaped_text(alloc, name),

@@ -2,7 +2,7 @@
 #![tactic(auto)]
 
 pub mod case;
-mod edits;
+pub mod edits;
 pub mod error;
 pub mod escape;
 pub mod lookups;

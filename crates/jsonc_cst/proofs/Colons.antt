@@ -1,5 +1,5 @@
 -- In a document of the grammar's shape each property has its colon between name and value; so what is taken of it is its value.
-use Rattle.std.proofs.Common.{◌≡◌, ◌+◌, Option, None, Some, option_map, List, ℕ, refl, ap, sym, subst, ◌∙◌}
+use Rattle.std.proofs.Common.{◌≡◌, Option, None, Some, option_map, List, ℕ, IsTrue, refl, ap, sym, subst, ◌∙◌}
 use Rattle.jsonc_text.specs.Options.{Options}
 use Rattle.jsonc_text.specs.Plain.{Plain, collapse}
 use Rattle.jsonc_tree.specs.Content.{Content}
@@ -8,7 +8,7 @@ use Rattle.jsonc_tree.specs.Values.{DocumentValueOf}
 use Rattle.jsonc_build.specs.Shape.{IsTrivia, IsLiteralBefore, IsNameBefore, Trivia, Separated, Closed, ValueShaped, ElementsShaped, PropertiesShaped, PropertyShaped, DocumentShaped}
 use Rattle.jsonc_input.specs.Views.{plain}
 use Rattle.jsonc_input.specs.declared.value.CstInputValue.{CstInputValue}
-use Rattle.jsonc_to_input.specs.Given.{Gives, HasColon, HaveColons, elements_before_colon}
+use Rattle.jsonc_to_input.specs.Given.{Gives, HasColon, HaveColons, colon_first, name_first}
 use Rattle.jsonc_to_input.specs.Taken.{IsTaken}
 use Rattle.jsonc_to_input.proofs.Given.{document_gives}
 use Rattle.jsonc_to_input.proofs.Once.{gives_once}
@@ -31,7 +31,7 @@ no_property_colon (Content.comment s) below other = tt
 
 module _ (o : Options) where
   -- trivia are no elements, and no colon
-  trivia_passed : (content : Content) (after : OrderedTree) → IsTrivia o content → elements_before_colon (more content none after) ≡ elements_before_colon after
+  trivia_passed : (content : Content) (after : OrderedTree) → IsTrivia o content → colon_first (more content none after) ≡ colon_first after
   trivia_passed (Content.whitespace s) after h = refl
   trivia_passed (Content.newline k) after h = refl
   trivia_passed (Content.comment s) after h = refl
@@ -46,25 +46,25 @@ module _ (o : Options) where
   trivia_passed Content.null after h = absurd h
   trivia_passed (Content.token c) after h = absurd h
 
-  -- a name is an element
-  name_counted : (content : Content) (after : OrderedTree) (r : List ℕ) → IsNameBefore o content r → elements_before_colon (more content none after) ≡ elements_before_colon after + 1
-  name_counted (Content.string s) after r h = refl
-  name_counted (Content.word s) after r h = refl
-  name_counted (Content.whitespace s) after r h = absurd h
-  name_counted (Content.newline k) after r h = absurd h
-  name_counted (Content.comment s) after r h = absurd h
-  name_counted Content.property after r h = absurd h
-  name_counted Content.root after r h = absurd h
-  name_counted Content.object after r h = absurd h
-  name_counted Content.array after r h = absurd h
-  name_counted (Content.number s) after r h = absurd h
-  name_counted (Content.boolean b) after r h = absurd h
-  name_counted Content.null after r h = absurd h
-  name_counted (Content.token c) after r h = absurd h
+  -- a name is the first element
+  name_comes : (content : Content) (after : OrderedTree) (r : List ℕ) → IsNameBefore o content r → name_first (more content none after) ≡ colon_first after
+  name_comes (Content.string s) after r h = refl
+  name_comes (Content.word s) after r h = refl
+  name_comes (Content.whitespace s) after r h = absurd h
+  name_comes (Content.newline k) after r h = absurd h
+  name_comes (Content.comment s) after r h = absurd h
+  name_comes Content.property after r h = absurd h
+  name_comes Content.root after r h = absurd h
+  name_comes Content.object after r h = absurd h
+  name_comes Content.array after r h = absurd h
+  name_comes (Content.number s) after r h = absurd h
+  name_comes (Content.boolean b) after r h = absurd h
+  name_comes Content.null after r h = absurd h
+  name_comes (Content.token c) after r h = absurd h
 
-  none_before : {t r : OrderedTree} → Trivia o t r → elements_before_colon r ≡ 0 → elements_before_colon t ≡ 0
-  none_before Trivia.nothing h = h
-  none_before (Trivia.trivia {content = content} {t = t} is rest) h = trivia_passed content t is ∙ none_before rest h
+  colon_comes : {t r : OrderedTree} → Trivia o t r → IsTrue (colon_first r) → IsTrue (colon_first t)
+  colon_comes Trivia.nothing h = h
+  colon_comes (Trivia.trivia {content = content} {t = t} is rest) h = trivia_passed content t is ∙ colon_comes rest h
 
   trivia_colons : {t r : OrderedTree} → Trivia o t r → HaveColons r → HaveColons t
   trivia_colons Trivia.nothing h = h
@@ -85,8 +85,8 @@ module _ (o : Options) where
   value_colon (ValueShaped.empty_object h) = tt
   value_colon (ValueShaped.object h properties) = tt
 
-  property_colon : {row : OrderedTree} {r : List ℕ} → PropertyShaped o row r → elements_before_colon row ≡ 1
-  property_colon (PropertyShaped.named {name = name} {after = after} is before between value) = name_counted name after _ is ∙ ap (λ n. n + 1) (none_before before refl)
+  property_colon : {row : OrderedTree} {r : List ℕ} → PropertyShaped o row r → IsTrue (name_first row)
+  property_colon (PropertyShaped.named {name = name} {after = after} is before between value) = name_comes name after _ is ∙ colon_comes before refl
 
   name_colon : (content : Content) (r : List ℕ) → IsNameBefore o content r → HasColon content none
   name_colon content r is = no_property_colon content none (λ e. subst (λ (what : Content). IsNameBefore o what r) e is)

@@ -126,7 +126,7 @@ module _ {A : Type 0} where
   value_if d None = None
   value_if d (Some property) = value_under d property.number
 
-  -- the name of a property: a string or a word before its colon
+  -- the name of a property: its first string or word
   abbrev pub name_of : CstRootNode A → CstObjectProp → Option ObjectPropName
   name_of d property = name_if (typed_if (nodes_of d) (name_at (nodes_of d) property.number))
 

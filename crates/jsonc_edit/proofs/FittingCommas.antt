@@ -11,7 +11,7 @@ use Rattle.jsonc_tree.specs.OrderedTree.{OrderedTree, none, more, Shows, shows_n
 use Rattle.jsonc_build.specs.Shape.{IsTrivia, Trivia, nothing, trivia, Separated, comma, no_comma, Closed, plain, trailing_comma, token_then, printed_text, ValueShaped, ElementsShaped, PropertiesShaped, DocumentShaped}
 use Rattle.jsonc_nodes.specs.Kinds.{is_element_at, is_trivia}
 use Rattle.jsonc_nodes.specs.Siblings.{siblings_after}
-use Rattle.jsonc_sound.specs.TreeChanges.{IsElement}
+use Rattle.jsonc_laws.specs.TreeChanges.{IsElement}
 use Rattle.jsonc_lines.specs.Kinds.{is_comma, holds_values}
 use Rattle.jsonc_lines.specs.Siblings.{is_no_trivia_at, after_trivia_at, if_comma, trailing_comma_at}
 use Rattle.jsonc_lines.specs.Breadth.{levels, breadth_first, last_element, is_spaced, ends_with_comma, uses_trailing_commas_at}

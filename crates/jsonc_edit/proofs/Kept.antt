@@ -1,6 +1,7 @@
 -- Nodes that stay what they were while others are built: their paths and rows stay too.
 use Rattle.std.proofs.Common.{◌≡◌, ℕ, suc, ◌<◌, ◌≤◌, Bool, cond, List, [], ◌∷◌, length, slice_index, slice_get, filter, Some, refl, sym, ap, subst, ◌∙◌, arith}
-use Rattle.jsonc_tree.specs.Content.{Content}
+use Rattle.std.proofs.lemmas.List.Elements.{All-from_get_or}
+use Rattle.jsonc_tree.specs.Content.{Content, property}
 use Rattle.jsonc_tree.specs.Tree.{Node, content_at, parent_at, children_at, place_at, place_among, place_under, IsTree, IsOver}
 use Rattle.jsonc_tree.specs.OrderedTree.{OrderedTree, none, more, Shows, ordered_tree}
 use Rattle.jsonc_tree.specs.Building.{Keeps, Builds}
@@ -8,7 +9,9 @@ use Rattle.jsonc_tree.proofs.Order.{parent_there}
 use Rattle.jsonc_tree.proofs.OrderedTrees.{Shows-unique}
 use Rattle.jsonc_tree.proofs.Builder.{Shows-keeps}
 use Rattle.jsonc_nodes.specs.Kinds.{is_element, is_element_at}
+use Rattle.jsonc_nodes.specs.Properties.{value_at}
 use Rattle.jsonc_nodes.specs.Siblings.{elements_at}
+use Rattle.jsonc_nodes.proofs.Held.{IsAlike, held_alike, held_in, same_kind, value_is_held}
 use Rattle.jsonc_edit.specs.Paths.{IsElementOf, StepsTo, LeadsTo, itself, step, IsAt}
 use Rattle.jsonc_edit.specs.Changes.{row_below, top_at}
 use Rattle.jsonc_edit.proofs.Uniqueness.{element_there}
@@ -29,13 +32,20 @@ module _ (old new : List Node) (tree : IsTree old) (keeps : Keeps (length old) o
   element_kept : (p i q : ℕ) → p < length old → IsElementOf old p i q → IsElementOf new p i q
   element_kept p i q there e = ap (λ l. slice_get l i) (elements_kept p there) ∙ e
 
+  -- so does the value of a property
+  held_kept : (r q : ℕ) → r < length old → content_at old r ≡ property → value_at old r ≡ Some q → value_at new r ≡ Some q
+  held_kept r q there is e =
+      value_is_held new r (keeps.content r there ∙ is) ∙ ap (held_in new) (keeps.children r there)
+      ∙ held_alike old new (children_at old r) (All-from_get_or (IsAlike old new) (children_at old r) 0 (λ k h. let m = slice_index (children_at old r) k in same_kind (content_at new m) (content_at old m) (keeps.content m (tree.there r k h))))
+      ∙ sym (value_is_held old r is) ∙ e
+
   leads_kept : (n v : ℕ) (path : List ℕ) → v < length old → LeadsTo old n v path → LeadsTo new n v path
   leads_kept n _ _ there itself = itself
   leads_kept n v _ there (step {i = i} {q = q} {path = path} (StepsTo.in_array a e) rest) =
       step (StepsTo.in_array (keeps.content v there ∙ a) (element_kept v i q there e)) (leads_kept n q path (element_there old tree v i q e) rest)
   leads_kept n v _ there (step {i = i} {q = q} {path = path} (StepsTo.in_object {r = r} o e h) rest) =
       let held : r < length old = element_there old tree v i r e in
-      step (StepsTo.in_object (keeps.content v there ∙ o) (element_kept v i r there e) (keeps.content r held ∙ h.0, element_kept r 1 q held h.1)) (leads_kept n q path (element_there old tree r 1 q h.1) rest)
+      step (StepsTo.in_object (keeps.content v there ∙ o) (element_kept v i r there e) (keeps.content r held ∙ h.0, element_kept r 1 q held h.1, held_kept r q held h.0 h.2)) (leads_kept n q path (element_there old tree r 1 q h.1) rest)
 
   -- a path leads where it led
   pub at_kept : (path : List ℕ) (n : ℕ) → IsAt old path n → IsAt new path n

@@ -4,6 +4,7 @@ pub mod Walk
 pub mod Splices
 pub mod Finding
 pub mod Entries
+pub mod ShapedProperties
 pub mod Standing
 pub mod Kept
 pub mod GivingWay

@@ -12,17 +12,17 @@ use Rattle.jsonc_tree.proofs.Order.{over_step, parent_there}
 use Rattle.jsonc_tree.proofs.Rows.{Shows-part}
 use Rattle.jsonc_nodes.specs.Kinds.{is_whitespace, is_newline, is_comment, is_trivia, is_whitespace_at, is_newline_at, is_comment_at, is_trivia_at}
 use Rattle.jsonc_build.specs.Lines.{is_line_comment}
-use Rattle.jsonc_sound.specs.TriviaChanges.{AreTrivia, leaves_then, LeavesChanged, StretchChanged, in_root, inside, EndsInComment, one_comment, line_comment}
+use Rattle.jsonc_laws.specs.TriviaChanges.{AreTrivia, leaves_then, LeavesChanged, StretchChanged, in_root, inside, EndsInComment, one_comment, line_comment}
 use Rattle.jsonc_text.specs.Options.{Options}
 use Rattle.jsonc_tree.specs.Order.{with_parent}
 use Rattle.jsonc_tree.specs.Siblings.{row_of, siblings_after}
-use Rattle.jsonc_seams.specs.Adjacent.{or_else}
-use Rattle.jsonc_seams.specs.SoundTrees.{SoundTree}
-use Rattle.jsonc_seams.specs.Spaces.{meet}
-use Rattle.jsonc_seams.proofs.Apart.{document_alone}
-use Rattle.jsonc_seams.proofs.RowsTell.{kept_without_comment_in_row}
-use Rattle.jsonc_seams.proofs.RowsWithin.{both_within}
-use Rattle.jsonc_marks.specs.Changes.{AreBlanks}
+use Rattle.jsonc_laws.specs.Adjacent.{or_else}
+use Rattle.jsonc_laws.specs.SoundTrees.{SoundTree}
+use Rattle.jsonc_laws.specs.Spaces.{meet}
+use Rattle.jsonc_laws.proofs.Apart.{document_alone}
+use Rattle.jsonc_laws.proofs.RowsTell.{kept_without_comment_in_row}
+use Rattle.jsonc_laws.proofs.RowsWithin.{both_within}
+use Rattle.jsonc_laws.specs.MarkChanges.{AreBlanks}
 use Rattle.jsonc_spaces.specs.Due.{nearest, begins_bare, ends_bare, seen_before, seen_behind, behind_holder}
 use Rattle.jsonc_spaces.proofs.Whole.{Whole, whole_before, whole_behind, whole_within}
 use Rattle.jsonc_spaces.proofs.Meeting.{meet_bare}

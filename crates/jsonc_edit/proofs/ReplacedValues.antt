@@ -14,14 +14,14 @@ use Rattle.jsonc_build.specs.Lines.{LinesEnd}
 use Rattle.jsonc_nodes.specs.Kinds.{is_element_at}
 use Rattle.jsonc_from_input.specs.Layout.{Layout}
 use Rattle.jsonc_from_input.proofs.Meanings.{laid_value}
-use Rattle.jsonc_sound.specs.Sound.{IsValueBefore}
-use Rattle.jsonc_sound.specs.TreeChanges.{IsElement, ElementChanged, DocumentChanged, in_root, leaves_of}
-use Rattle.jsonc_sound.specs.Laws.{DiffersIn}
-use Rattle.jsonc_sound.proofs.FirstNodes.{here, over, beyond, meets_first, none_changed, no_element}
-use Rattle.jsonc_sound.proofs.LeavesAround.{document_differs}
-use Rattle.jsonc_sound.proofs.Values.{document_change}
-use Rattle.jsonc_seams.specs.SoundTrees.{SoundTree}
-use Rattle.jsonc_seams.specs.Spaces.{is_bare}
+use Rattle.jsonc_laws.specs.Sound.{IsValueBefore}
+use Rattle.jsonc_laws.specs.TreeChanges.{IsElement, ElementChanged, DocumentChanged, in_root, leaves_of}
+use Rattle.jsonc_laws.specs.ChangeLaws.{DiffersIn}
+use Rattle.jsonc_laws.proofs.FirstNodes.{here, over, beyond, meets_first, none_changed, no_element}
+use Rattle.jsonc_laws.proofs.LeavesAround.{document_differs}
+use Rattle.jsonc_laws.proofs.Values.{document_change}
+use Rattle.jsonc_laws.specs.SoundTrees.{SoundTree}
+use Rattle.jsonc_laws.specs.Spaces.{is_bare}
 use Rattle.jsonc_build.proofs.ShapeValues.{document_printed}
 use Rattle.jsonc_spaces.specs.Due.{due_around}
 use Rattle.jsonc_spaces.proofs.Quiet.{none_due}

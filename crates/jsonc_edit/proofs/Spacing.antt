@@ -1,23 +1,27 @@
 -- What a document is once spaces have come before nodes of it.
-use Rattle.std.proofs.Common.{◌≡◌, ◌≢◌, ℕ, ◌+◌, ◌<◌, List, [], ◌∷◌, length, slice_index, slice_get, Option, Some, None, inl, inr, refl, sym, ap, subst, ◌∙◌, arith}
+use Rattle.std.proofs.Common.{◌≡◌, ◌≢◌, ℕ, ◌+◌, ◌<◌, List, [], ◌∷◌, length, take, drop, slice_index, slice_get, Option, Some, None, inl, inr, refl, sym, ap, subst, ◌∙◌, arith}
 use Rattle.std.proofs.lemmas.Bool.{cases_eq, cases_lt}
-use Rattle.std.proofs.lemmas.List.Elements.{All-nil, All-cons, All-head, All-tail}
+use Rattle.std.proofs.lemmas.List.{take-append-drop}
+use Rattle.std.proofs.lemmas.List.Elements.{All-nil, All-cons, All-head, All-tail, All-from_get_or}
 use Rattle.std.specs.List.{All}
 use Rattle.jsonc_text.specs.Options.{Options}
 use Rattle.jsonc_text.specs.Plain.{Plain}
-use Rattle.jsonc_tree.specs.Content.{Content, whitespace}
+use Rattle.jsonc_tree.specs.Content.{Content, property, whitespace}
 use Rattle.jsonc_tree.specs.OrderedTree.{OrderedTree, Shows, ordered_tree}
 use Rattle.jsonc_tree.specs.Tree.{Node, content_at, parent_at, children_at, place_at, IsTree, IsOver}
 use Rattle.jsonc_tree.specs.Values.{DocumentValueOf}
 use Rattle.jsonc_tree.proofs.OrderedTrees.{Shows-unique}
 use Rattle.jsonc_tree.proofs.Over.{either_over}
-use Rattle.jsonc_sound.specs.TreeChanges.{IsElement}
-use Rattle.jsonc_sound.proofs.TriviaValues.{document_kept}
-use Rattle.jsonc_seams.specs.InRows.{SpacePut}
-use Rattle.jsonc_seams.specs.SoundTrees.{SoundTree}
-use Rattle.jsonc_seams.proofs.SpacePut.{document_put, kept_with_space}
+use Rattle.jsonc_nodes.specs.Kinds.{is_trivia}
+use Rattle.jsonc_nodes.specs.Properties.{value_at}
+use Rattle.jsonc_nodes.proofs.Held.{IsAlike, held_alike, held_beside, held_in, same_kind, value_is_held}
+use Rattle.jsonc_laws.specs.TreeChanges.{IsElement}
+use Rattle.jsonc_laws.proofs.TriviaValues.{document_kept}
+use Rattle.jsonc_laws.specs.InRows.{SpacePut}
+use Rattle.jsonc_laws.specs.SoundTrees.{SoundTree}
+use Rattle.jsonc_laws.proofs.SpacePut.{document_put, kept_with_space}
 use Rattle.jsonc_spaces.specs.Put.{a_space, StandsBefore, AreSpaced}
-use Rattle.jsonc_spaces.proofs.Putting.{contents_kept, parent_kept, row_kept, elements_kept, over_kept, over_before, no_parent_space, placed_ahead, placed_behind, placed_elsewhere, puts_space}
+use Rattle.jsonc_spaces.proofs.Putting.{contents_kept, parent_kept, children_kept, container_row, row_kept, elements_kept, over_kept, over_before, no_parent_space, placed_ahead, placed_behind, placed_elsewhere, puts_space}
 use Rattle.jsonc_edit.specs.Changes.{row_below, top_at}
 use Rattle.jsonc_edit.specs.Paths.{IsElementOf, StepsTo, LeadsTo, itself, step, IsAt}
 use Rattle.jsonc_edit.specs.Spaced.{SpacesPut, none_put, one_put}
@@ -51,12 +55,32 @@ module _ (old new : List Node) (x leaf : ℕ) (tree : IsTree old) (r : StandsBef
   element_stays : (p i q : ℕ) → IsElementOf old p i q → IsElementOf new p i q
   element_stays p i q e = ap (λ l. slice_get l i) (elements_kept old new x leaf tree r p) ∙ e
 
+  -- so does the value of a property, whose row has at most a space more
+  row_stays : (h : ℕ) → held_in old (children_at new h) ≡ held_in old (children_at old h)
+  row_stays h =
+      elim (cases_eq h r.container) [
+        | inr ne ↦ ap (held_in old) (children_kept old new x leaf tree r h ne)
+        | inl e ↦
+            let row : List ℕ = children_at old r.container in
+            let place : ℕ = place_at old x in
+            ap (λ k. held_in old (children_at new k)) e ∙ ap (held_in old) (container_row old new x leaf tree r)
+            ∙ held_beside old (take place row) (drop place row) leaf (ap is_trivia r.was.is)
+            ∙ ap (held_in old) (take-append-drop place row) ∙ ap (λ k. held_in old (children_at old k)) (sym e)
+      ]
+
+  held_stays : (h q : ℕ) → content_at old h ≡ property → value_at old h ≡ Some q → value_at new h ≡ Some q
+  held_stays h q is e =
+      let same = contents_kept old new x leaf tree r in
+      value_is_held new h (same h ∙ is)
+      ∙ held_alike old new (children_at new h) (All-from_get_or (IsAlike old new) (children_at new h) 0 (λ k l. let m = slice_index (children_at new h) k in same_kind (content_at new m) (content_at old m) (same m)))
+      ∙ row_stays h ∙ sym (value_is_held old h is) ∙ e
+
   leads_stay : (n v : ℕ) (path : List ℕ) → LeadsTo old n v path → LeadsTo new n v path
   leads_stay n _ _ itself = itself
   leads_stay n v _ (step {i = i} {q = q} {path = path} (StepsTo.in_array a e) rest) =
       step (StepsTo.in_array (contents_kept old new x leaf tree r v ∙ a) (element_stays v i q e)) (leads_stay n q path rest)
   leads_stay n v _ (step {i = i} {q = q} {path = path} (StepsTo.in_object {r = h} o e held) rest) =
-      step (StepsTo.in_object (contents_kept old new x leaf tree r v ∙ o) (element_stays v i h e) (contents_kept old new x leaf tree r h ∙ held.0, element_stays h 1 q held.1)) (leads_stay n q path rest)
+      step (StepsTo.in_object (contents_kept old new x leaf tree r v ∙ o) (element_stays v i h e) (contents_kept old new x leaf tree r h ∙ held.0, element_stays h 1 q held.1, held_stays h q held.0 held.2)) (leads_stay n q path rest)
 
   pub at_stays : (path : List ℕ) (n : ℕ) → IsAt old path n → IsAt new path n
   at_stays path n (v, e, leads) = (v, element_stays 0 0 v e, leads_stay n v path leads)

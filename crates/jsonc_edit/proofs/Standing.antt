@@ -10,11 +10,12 @@ use Rattle.jsonc_tree.proofs.Order.{parent_there}
 use Rattle.jsonc_tree.proofs.OrderedTrees.{Shows-unique}
 use Rattle.jsonc_build.specs.Shape.{DocumentShaped}
 use Rattle.jsonc_nodes.specs.Kinds.{is_element_at}
-use Rattle.jsonc_sound.specs.TreeChanges.{IsElement}
+use Rattle.jsonc_laws.specs.TreeChanges.{IsElement}
 use Rattle.jsonc_edit.specs.Paths.{IsElementOf, StepsTo, in_array, in_object, LeadsTo, itself, step, IsAt, Stands, as_root, as_value, as_property, as_name, between}
 use Rattle.jsonc_edit.specs.Changes.{row_below}
 use Rattle.jsonc_edit.proofs.Elements.{taken, left, found_among}
 use Rattle.jsonc_edit.proofs.Entries.{Entry, this, behind_passed, behind_element, Passed, IsAnyValue, IsAnyProperty, passed_leaf, value_element, no_entry, entry_property, entry_value, entry_document}
+use Rattle.jsonc_edit.proofs.ShapedProperties.{shaped_value}
 use Rattle.jsonc_edit.proofs.Walk.{Shows-row_below, document_is}
 
 -- a path goes on by a step
@@ -111,7 +112,8 @@ module _ (o : Options) (ns : List Node) (tree : IsTree ns) (shaped : DocumentSha
           | inr v ↦
               let kind = value_element o (content_at ns n) (row_below ns n) v.1.0 v.1.1 in
               let second : IsElementOf ns r 1 n = subst (λ j. IsElementOf ns r j n) v.0 (element_of ns tree n r said kind) in
-              value_stands {path = path ++ i ∷ []} (at_further ns p i n path at (in_object {r = r} outer element (is, second))) v.1
+              let held = shaped_value ns o r n (row_below ns r) shape.0 (Shows-row_below ns tree r (parent_there ns tree n r said).1) shape.1 is second in
+              value_stands {path = path ++ i ∷ []} (at_further ns p i n path at (in_object {r = r} outer element (is, second, held))) v.1
         ]
       ]
 

@@ -12,10 +12,10 @@ use Rattle.jsonc_tree.specs.Values.{DocumentValueOf}
 use Rattle.jsonc_tree.proofs.Order.{parent_there}
 use Rattle.jsonc_nodes.specs.Kinds.{is_comment, is_newline, is_whitespace, is_whitespace_at}
 use Rattle.jsonc_build.specs.Lines.{is_line_comment}
-use Rattle.jsonc_sound.specs.Laws.{DiffersIn}
-use Rattle.jsonc_sound.proofs.TriviaLeaves.{document_differs}
-use Rattle.jsonc_sound.proofs.TriviaValues.{document_kept}
-use Rattle.jsonc_seams.specs.SoundTrees.{SoundTree}
+use Rattle.jsonc_laws.specs.ChangeLaws.{DiffersIn}
+use Rattle.jsonc_laws.proofs.TriviaLeaves.{document_differs}
+use Rattle.jsonc_laws.proofs.TriviaValues.{document_kept}
+use Rattle.jsonc_laws.specs.SoundTrees.{SoundTree}
 use Rattle.jsonc_spaces.specs.Due.{begins_bare, ends_bare, seen_before, seen_behind, due_between, listed}
 use Rattle.jsonc_spaces.specs.Put.{AreChildren, AreSpaced, Prepared, nodes_of}
 use Rattle.jsonc_spaces.specs.declared.put.Spaces.{Spaces}

@@ -19,9 +19,9 @@ use Rattle.jsonc_from_input.specs.Laid.{laid, laid_items, laid_members, laid_pro
 use Rattle.jsonc_from_input.specs.Texts.{IsCharacters, IsOfTexts, AreOfTexts, AreNamedOfTexts}
 use Rattle.jsonc_from_input.proofs.Meanings.{laid_value, laid_pair}
 use Rattle.jsonc_from_input.proofs.SpelledTexts.{spelled_characters}
-use Rattle.jsonc_sound.specs.Sound.{IsNewValue}
-use Rattle.jsonc_sound.proofs.Followers.{value_ends}
-use Rattle.jsonc_rows.specs.Properties.{IsNewProperty}
+use Rattle.jsonc_laws.specs.Sound.{IsNewValue}
+use Rattle.jsonc_laws.proofs.Followers.{value_ends}
+use Rattle.jsonc_laws.specs.Properties.{IsNewProperty}
 use Rattle.jsonc_edit.specs.Writing.{FitsLayout, IsOfNumbers, AreOfNumbers, AreNamedOfNumbers, IsWritable}
 use Rattle.jsonc_edit.proofs.WrittenRows.{EachNode, one_of_rows, IsValueNode, IsPropertyNode, deeper_fits, space_is_trivia, line_is_trivia, array_of_lines, object_of_lines, elements_on_line}
 use Rattle.jsonc_edit.proofs.WrittenLines.{pair_ends}

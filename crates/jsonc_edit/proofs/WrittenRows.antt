@@ -14,8 +14,8 @@ use Rattle.jsonc_build.specs.Shape.{IsTrivia, Trivia, Separated, Closed, ValueSh
 use Rattle.jsonc_build.proofs.ShapeValues.{Mark, comma_mark, close_bracket_mark, close_brace_mark}
 use Rattle.jsonc_from_input.specs.Layout.{Layout, deeper}
 use Rattle.jsonc_from_input.specs.Laid.{on_one_line, on_lines, node_then, space_then, line_then, comma_if, closed, is_some_node}
-use Rattle.jsonc_sound.specs.Followers.{ends_literals, EndsLiterals}
-use Rattle.jsonc_sound.proofs.Followers.{mark_next, closed_ends}
+use Rattle.jsonc_laws.specs.Followers.{ends_literals, EndsLiterals}
+use Rattle.jsonc_laws.proofs.Followers.{mark_next, closed_ends}
 use Rattle.jsonc_edit.specs.Writing.{IsIndent, FitsLayout}
 
 -- each node of a list

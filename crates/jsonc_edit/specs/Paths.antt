@@ -4,17 +4,18 @@ use Rattle.std.specs.List.{slice_get}
 use Rattle.jsonc_tree.specs.Content.{array, object, property}
 use Rattle.jsonc_tree.specs.Tree.{Node, content_at}
 use Rattle.jsonc_tree.specs.Values.{is_passed_over}
+use Rattle.jsonc_nodes.specs.Properties.{value_at}
 use Rattle.jsonc_nodes.specs.Siblings.{elements_at}
 
 -- q is the element of p at this place among its elements
 abbrev pub IsElementOf : List Node → ℕ → ℕ → ℕ → Type 0
 IsElementOf ns p i q = slice_get (elements_at ns p) i ≡ Some q
 
--- q stands beside the name in the property r: it is its second element
+-- q is the value of the property r, and the element beside its name: its second
 abbrev pub IsHeldBy : List Node → ℕ → ℕ → Type 0
-IsHeldBy ns r q = (content_at ns r ≡ property) × IsElementOf ns r 1 q
+IsHeldBy ns r q = (content_at ns r ≡ property) × IsElementOf ns r 1 q × (value_at ns r ≡ Some q)
 
--- a step leads from an array to the element at its place, and from an object to what the property at its place holds
+-- a step leads from an array to the element at its place, and from an object to the value of the property at its place
 pub data StepsTo (ns : List Node) (p i q : ℕ) : Type 0 where
   in_array : content_at ns p ≡ array → IsElementOf ns p i q → StepsTo ns p i q
   in_object : {r : ℕ} → content_at ns p ≡ object → IsElementOf ns p i r → IsHeldBy ns r q → StepsTo ns p i q

@@ -6,10 +6,10 @@ use Rattle.jsonc_text.specs.Grammar.{IsDocument}
 use Rattle.jsonc_tree.specs.Tree.{Node}
 use Rattle.jsonc_tree.specs.OrderedTree.{OrderedTree, leaves, ordered_tree, Top}
 use Rattle.jsonc_build.specs.Shape.{printed_text}
-use Rattle.jsonc_sound.specs.Changes.{Changed}
-use Rattle.jsonc_sound.specs.Laws.{DiffersIn}
-use Rattle.jsonc_sound.specs.TreeChanges.{leaves_of}
-use Rattle.jsonc_seams.specs.SoundTrees.{SoundTree}
+use Rattle.jsonc_laws.specs.Changes.{Changed}
+use Rattle.jsonc_laws.specs.ChangeLaws.{DiffersIn}
+use Rattle.jsonc_laws.specs.TreeChanges.{leaves_of}
+use Rattle.jsonc_laws.specs.SoundTrees.{SoundTree}
 use Rattle.jsonc_edit.specs.Changes.{top_at}
 use Rattle.jsonc_edit.specs.Paths.{IsAt}
 use Rattle.jsonc_edit.specs.Spaced.{SpacesPut}

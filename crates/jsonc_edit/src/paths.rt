@@ -1,21 +1,32 @@
 //! Nodes by their paths.
 
-ghost use Rattle.std.specs.Prelude.{◌<◌, length};
+ghost use Rattle.std.specs.Prelude.{◌≡◌, ◌<◌, IfSome, Some, length};
 ghost use Rattle.jsonc_nodes.specs.Siblings.{IsThere};
 ghost use Rattle.jsonc_edit.specs.Paths.{FindsExactly, IsAt, IsHeldBy, StepsTo};
 
-use jsonc_nodes::element_at;
+use jsonc_nodes::{element_at, value_of};
 use jsonc_tree::{Kind, Tree};
 use std::alloc::Allocator;
 
-// What stands beside the name in a property.
+// The node that both are, if they are the same.
+fn if_same(left: Option<usize>, right: Option<usize>) -> Option<usize>
+    ensures same { FindsExactly result (λ n. (left ≡ Some n) × (right ≡ Some n)) }
+    ensures left { IfSome result (λ n. left ≡ Some n) }
+{
+    match (left, right) {
+        (Some(n), Some(m)) if n == m => Some(n),
+        _ => None,
+    }
+}
+
+// The value of a property, where it is the element beside the name.
 fn held_by<A: Allocator>(tree: &Tree<A>, property: usize) -> Option<usize>
     requires { property < length tree.now.nodes }
     ensures held { FindsExactly result (IsHeldBy tree.now.nodes property) }
     ensures there { IsThere tree.now.nodes result }
 {
     match tree.kind(property) {
-        Kind::Property => element_at(tree, property, 1),
+        Kind::Property => if_same(element_at(tree, property, 1), value_of(tree, property)),
         _ => None,
     }
 }

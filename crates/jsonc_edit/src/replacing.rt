@@ -8,7 +8,7 @@ ghost use Rattle.jsonc_tree.specs.OrderedTree.{ordered_tree};
 ghost use Rattle.jsonc_tree.specs.Tree.{content_at, parent_at, place_at, IsTree};
 ghost use Rattle.jsonc_input.specs.Views.{plain};
 ghost use Rattle.jsonc_from_input.specs.Layout.{layout_of};
-ghost use Rattle.jsonc_seams.specs.Spaces.{is_bare};
+ghost use Rattle.jsonc_laws.specs.Spaces.{is_bare};
 ghost use Rattle.jsonc_spaces.specs.Due.{listed};
 ghost use Rattle.jsonc_spaces.specs.Put.{AreAtHand, Prepared};
 ghost use Rattle.jsonc_edit.specs.Reading.{IsReplaced, IsReplacedRaw};

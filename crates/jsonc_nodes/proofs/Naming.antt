@@ -1,5 +1,5 @@
 -- Names of leaves and of properties.
-use Rattle.std.proofs.Common.{◌≡◌, [], ◌∷◌, ℕ, Bool, false, List, Option, None, Some, sym, ap, subst, ◌∙◌, IsTrue, chars}
+use Rattle.std.proofs.Common.{◌≡◌, [], ◌∷◌, ℕ, Bool, false, List, Option, None, Some, sym, ap, subst, ◌∙◌, chars}
 use Rattle.std.specs.Bool.{Decides}
 use Rattle.std.proofs.lemmas.Bool.{false≢true}
 use Rattle.std.proofs.lemmas.Slice.Eq.{bytes_eq-Decides}
@@ -8,9 +8,8 @@ use Rattle.std.specs.Str.{IsUtf8, bytes_eq}
 use lib.Utf8.{encodes}
 use Rattle.jsonc_text.proofs.UniqueStrings.{string_unique}
 use Rattle.jsonc_tree.specs.Tree.{Node, content_at}
-use Rattle.jsonc_tree.specs.Values.{is_loose_name}
-use Rattle.jsonc_tree.specs.Content.{Content, root, object, array, property, string, word, number, boolean, null, token, whitespace, newline, comment, text_of}
-use Rattle.jsonc_nodes.specs.Names.{FirstNamed, none, here, later, HasName, IsNamed, Names, string_text}
+use Rattle.jsonc_tree.specs.Content.{Content, root, object, array, property, string, word, number, boolean, null, token, whitespace, newline, comment}
+use Rattle.jsonc_nodes.specs.Names.{FirstNamed, none, here, later, HasName, IsNamed, Names, string_text, word_text}
 
 Some_same : (s t : List ℕ) → Some s ≡ Some t → s ≡ t
 Some_same s t e = cc
@@ -34,24 +33,56 @@ string_from_text (whitespace t) s e = not_Some s e
 string_from_text (newline k) s e = not_Some s e
 string_from_text (comment t) s e = not_Some s e
 
-loose_once : (content : Content) (v w : List ℕ) → (IsTrue (is_loose_name content) × (v ≡ chars (text_of content))) → (IsTrue (is_loose_name content) × (w ≡ chars (text_of content))) → v ≡ w
-loose_once content v w h k = h.1 ∙ sym k.1
+-- only a word has the text of one
+pub word_from_text : (content : Content) (s : List ℕ) → word_text content ≡ Some s → content ≡ word s
+word_from_text root s e = not_Some s e
+word_from_text object s e = not_Some s e
+word_from_text array s e = not_Some s e
+word_from_text property s e = not_Some s e
+word_from_text (string t) s e = not_Some s e
+word_from_text (word t) s e = ap word (Some_same t s e)
+word_from_text (number t) s e = not_Some s e
+word_from_text (boolean b) s e = not_Some s e
+word_from_text null s e = not_Some s e
+word_from_text (token c) s e = not_Some s e
+word_from_text (whitespace t) s e = not_Some s e
+word_from_text (newline k) s e = not_Some s e
+word_from_text (comment t) s e = not_Some s e
+
+not_None : (s : List ℕ) → Some s ≡ None → ⊥
+not_None s e = cc
+
+-- what is neither is no name
+pub no_name : (content : Content) → string_text content ≡ None → word_text content ≡ None → (v : List ℕ) → Names content v → ⊥
+no_name (string s) e f v h = not_None s e
+no_name (word s) e f v h = not_None s f
+no_name root e f v h = h
+no_name object e f v h = h
+no_name array e f v h = h
+no_name property e f v h = h
+no_name (number s) e f v h = h
+no_name (boolean b) e f v h = h
+no_name null e f v h = h
+no_name (token c) e f v h = h
+no_name (whitespace s) e f v h = h
+no_name (newline k) e f v h = h
+no_name (comment s) e f v h = h
 
 -- a leaf is at most one name
 pub names_once : (content : Content) (v w : List ℕ) → Names content v → Names content w → v ≡ w
 names_once (string s) v w h k = (string_unique h.1 k.1).0
-names_once root v w h k = loose_once root v w h k
-names_once object v w h k = loose_once object v w h k
-names_once array v w h k = loose_once array v w h k
-names_once property v w h k = loose_once property v w h k
-names_once (word s) v w h k = loose_once (word s) v w h k
-names_once (number s) v w h k = loose_once (number s) v w h k
-names_once (boolean b) v w h k = loose_once (boolean b) v w h k
-names_once null v w h k = loose_once null v w h k
-names_once (token c) v w h k = loose_once (token c) v w h k
-names_once (whitespace s) v w h k = loose_once (whitespace s) v w h k
-names_once (newline e) v w h k = loose_once (newline e) v w h k
-names_once (comment s) v w h k = loose_once (comment s) v w h k
+names_once (word s) v w h k = h ∙ sym k
+names_once root v w h k = absurd h
+names_once object v w h k = absurd h
+names_once array v w h k = absurd h
+names_once property v w h k = absurd h
+names_once (number s) v w h k = absurd h
+names_once (boolean b) v w h k = absurd h
+names_once null v w h k = absurd h
+names_once (token c) v w h k = absurd h
+names_once (whitespace s) v w h k = absurd h
+names_once (newline e) v w h k = absurd h
+names_once (comment s) v w h k = absurd h
 
 Some_number : (m n : ℕ) → Some m ≡ Some n → m ≡ n
 Some_number m n e = cc

@@ -1,14 +1,15 @@
 -- What a chain over a row of nodes answers.
-use Rattle.std.proofs.Common.{◌≡◌, ◌≤◌, ◌+◌, ◌∙◌, sym, ap, refl, ℕ, Bool, List, [], ◌∷◌, drop, length, slice_get, Option, None, Some, arith, length-drop, ◌<◌, get_or, take, get_or-drop}
+use Rattle.std.proofs.Common.{◌≡◌, ◌≤◌, ◌+◌, ◌∙◌, sym, ap, refl, ℕ, Bool, false, true, cond, List, [], ◌∷◌, drop, length, slice_get, Option, None, Some, IfSome, subst, arith, length-drop, ◌<◌, get_or, take, get_or-drop}
 use Rattle.std.proofs.lemmas.List.{drop_all, drop-drop, take_all}
-use Rattle.std.specs.List.{find, position}
+use Rattle.std.specs.List.{FoldsTo, find, list_any}
 use Rattle.std.specs.Option.{option_map}
-use Rattle.std.specs.Iterator.{YieldsFirst, FindsItem, FindsPosition}
+use Rattle.std.specs.Iterator.{Yields, YieldsFirst, FindsItem, ChecksAny}
 use Rattle.std.specs.Fn.{Called, CalledAt}
 use Rattle.std.proofs.lemmas.Iterator.{YieldsList}
 use Rattle.std.proofs.lemmas.Iterator.Consumers.{YieldsList-from_first}
-use Rattle.std.proofs.lemmas.Iterator.Search.{find_from_yields_List, position_from_yields_List}
+use Rattle.std.proofs.lemmas.Iterator.Search.{any_from_yields_List, find_from_yields_List}
 use Rattle.jsonc_tree.specs.Siblings.{first}
+use Rattle.jsonc_nodes.specs.Properties.{behind_first}
 use Rattle.jsonc_tree.proofs.Sideways.{first_drop}
 use denote.Param.Members.{Mut}
 use denote.Ref.{Bor}
@@ -24,8 +25,22 @@ row_yields row e = YieldsList-from_first (λ x. x) (λ rest. rest) row e
 pub find_in : {F : Type 0} {g : Mut F (Bor ℕ × Unit {0}) Bool} {s : List ℕ} (test : ℕ → Bool) (row u : List ℕ) (f : F) (r : Option ℕ) → FindsItem (YieldsFirst (λ rest. rest)) g s f r u → s ≡ row → ((x : ℕ) (b : Bool) (q : F) → CalledAt g f x b q → (q ≡ f) × (b ≡ test x)) → r ≡ find test row
 find_in test row u f r ran e k = sym (option_map_same r) ∙ find_from_yields_List test u f r ran (row_yields row e) k
 
-pub position_in : {F : Type 0} {g : Mut F (ℕ × Unit {0}) Bool} {s : List ℕ} (test : ℕ → Bool) (row u : List ℕ) (f : F) (r : Option ℕ) → FindsPosition (YieldsFirst (λ rest. rest)) g s f r u → s ≡ row → ((x : ℕ) (b : Bool) (q : F) → Called g f (x, tt) b q → (q ≡ f) × (b ≡ test x)) → r ≡ position test row
-position_in test row u f r ran e k = position_from_yields_List test u f r ran (row_yields row e) k
+pub any_in : {F : Type 0} {g : Mut F (ℕ × Unit {0}) Bool} {s : List ℕ} (test : ℕ → Bool) (row u : List ℕ) (f : F) (r : Bool) → ChecksAny (YieldsFirst (λ rest. rest)) g s f r u → s ≡ row → ((x : ℕ) (b : Bool) (q : F) → Called g f (x, tt) b q → (q ≡ f) × (b ≡ test x)) → r ≡ list_any test row
+any_in test row u f r ran e k = any_from_yields_List test u f r ran (row_yields row e) k
+
+-- what a search for the first that passes a test leaves is what stands behind that
+module _ {F : Type 0} {g : Mut F (Bor ℕ × Unit {0}) Bool} (test : ℕ → Bool) (f : F) (k : (x : ℕ) (b : Bool) (q : F) → CalledAt g f x b q → (q ≡ f) × (b ≡ test x)) where
+  left_over : (xs s t u : List ℕ) (p h : F) (r : Option ℕ) → p ≡ f → Yields (YieldsFirst (λ rest. rest)) s xs t → YieldsFirst (λ rest. rest) t r u → FoldsTo (λ i x j. CalledAt g i x false j) p xs h → IfSome r (λ x. (q : F) × CalledAt g h x true q) → u ≡ behind_first test s
+  left_over [] s t u p h None is same given folds last = given.1 ∙ ap (behind_first test) (sym (same ∙ given.0))
+  left_over [] s t u p h (Some x) is same given folds last =
+      let called = subst (λ i. CalledAt g i x true last.0) (sym folds ∙ is) last.1 in
+      ap (λ b. cond b u (behind_first test u)) (k x true last.0 called).1 ∙ ap (behind_first test) (sym (same ∙ given))
+  left_over (y ∷ ys) s t u p h r is (j, first_step, rest) given (q, called, folds) last =
+      let told = k y false q (subst (λ i. CalledAt g i y false q) is called) in
+      left_over ys j t u q h r told.0 rest given folds last ∙ ap (λ b. cond b j (behind_first test j)) told.1 ∙ ap (behind_first test) (sym first_step)
+
+  pub left_behind : (s row u : List ℕ) (r : Option ℕ) → FindsItem (YieldsFirst (λ rest. rest)) g s f r u → s ≡ row → u ≡ behind_first test row
+  left_behind s row u r ran e = left_over ran.0 s ran.2.0 u f ran.1 r refl ran.2.1 ran.2.2 ran.3 ran.4 ∙ ap (behind_first test) e
 
 -- what is asked first is the first of the row
 pub first_given : (s u : List ℕ) (r : Option ℕ) → YieldsFirst (λ rest. rest) s r u → r ≡ first s

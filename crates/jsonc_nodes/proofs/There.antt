@@ -5,6 +5,7 @@ use Rattle.std.proofs.lemmas.List.{get_or-reverse, get_or_default, length-revers
 use Rattle.std.proofs.lemmas.List.Elements.{All-drop, All-filter, All-nil, All-take}
 use Rattle.jsonc_tree.specs.Tree.{Node, children_at, parent_at, place_at, IsTree}
 use Rattle.jsonc_tree.specs.Order.{with_parent}
+use Rattle.jsonc_nodes.specs.Properties.{behind_first}
 use Rattle.jsonc_nodes.specs.Siblings.{AreThere, IsThere, is_no_newline_at, line_before, row_of, siblings_after, siblings_before}
 use Rattle.std.specs.Iterator.{YieldsFirst}
 use Rattle.jsonc_nodes.specs.Comments.{comments_beside}
@@ -47,6 +48,16 @@ module _ (ns : List Node) where
 
   pub beside_there : (xs : List ℕ) → AreThere ns xs → AreThere ns (comments_beside ns xs)
   beside_there xs h = All-filter (is_comment_at ns) (λ m. m < length ns) (take_while (is_beside_at ns) xs) (All-take (λ m. m < length ns) (prefix_len (is_beside_at ns) xs) xs h)
+
+  behind_one_there : (test : ℕ → Bool) (b : Bool) (xs : List ℕ) → AreThere ns xs → AreThere ns (behind_first test xs) → AreThere ns (cond b xs (behind_first test xs))
+  behind_one_there test true xs here further = here
+  behind_one_there test false xs here further = further
+
+  pub behind_there : (test : ℕ → Bool) (xs : List ℕ) → AreThere ns xs → AreThere ns (behind_first test xs)
+  behind_there test [] h = h
+  behind_there test (x ∷ xs) h =
+      let later : AreThere ns xs = λ k d l. h (suc k) d (omega arith) in
+      behind_one_there test (test x) xs later (behind_there test xs later)
 
   -- what was found in a row, or made of one, is there
   pub found_there : (test : ℕ → Bool) (r : Option ℕ) (s row : List ℕ) → r ≡ find test row → s ≡ row → AreThere ns s → IsThere ns r

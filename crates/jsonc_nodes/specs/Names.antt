@@ -1,5 +1,5 @@
 -- What string leaves stand for, and the names of properties.
-use Rattle.std.specs.Prelude.{◌≡◌, ◌≢◌, ℕ, Bool, true, false, List, [], ◌∷◌, Option, Some, None, IsTrue, chars, String, string_bytes, if◌then◌else◌}
+use Rattle.std.specs.Prelude.{◌≡◌, ◌≢◌, ℕ, Bool, true, false, List, [], ◌∷◌, Option, Some, None, chars, String, string_bytes}
 use Rattle.std.specs.declared.borrow.CowStr.{CowStr}
 use Rattle.std.specs.Cow.{cow_str_bytes}
 use Rattle.jsonc_text.specs.Options.{all_on}
@@ -8,10 +8,9 @@ use Rattle.jsonc_text.specs.Text.{rest}
 use Rattle.jsonc_text.specs.declared.errors.ParseStringErrorKind.{ParseStringErrorKind}
 use Rattle.jsonc_text.specs.declared.errors.ParseStringErrorKind.TheVariants.{OutOfMemory}
 use Rattle.jsonc_string.specs.Told.{TellsError}
-use Rattle.jsonc_tree.specs.Content.{Content, property, string, text_of}
+use Rattle.jsonc_tree.specs.Content.{Content, property, string, word}
 use Rattle.jsonc_tree.specs.Order.{text_at}
 use Rattle.jsonc_tree.specs.Tree.{Node, children_at, content_at}
-use Rattle.jsonc_tree.specs.Values.{is_loose_name}
 use Rattle.jsonc_nodes.specs.Properties.{name_at}
 
 -- a string stands at the front of the text, and stands for these characters, whatever follows it
@@ -31,10 +30,11 @@ LeafStandsFor ns n bytes = StandsFor (text_at ns n) (chars bytes)
 abbrev pub LeafIsNoString : List Node → ℕ → ParseStringErrorKind → Type 0
 LeafIsNoString ns n kind = kind ≢ OutOfMemory → IsNoString (text_at ns n) kind
 
--- a leaf of this content is this name: a string by what it stands for, a loose name by its text
+-- a leaf of this content is this name: a string by what it stands for, a word by its text
 abbrev pub Names : Content → List ℕ → Type 0
 Names (string s) v = StandsFor s v
-Names content v = IsTrue (is_loose_name content) × (v ≡ chars (text_of content))
+Names (word s) v = v ≡ chars s
+Names _ v = ⊥
 
 -- the property has this name
 abbrev pub HasName : List Node → ℕ → List ℕ → Type 0
@@ -73,6 +73,7 @@ abbrev pub is_string : Content → Bool
 is_string (string s) = true
 is_string _ = false
 
--- the text of a loose name
-abbrev pub loose_name : Content → Option (List ℕ)
-loose_name content = if is_loose_name content then Some (text_of content) else None
+-- the text of a word
+abbrev pub word_text : Content → Option (List ℕ)
+word_text (word s) = Some s
+word_text content = None

@@ -4,12 +4,11 @@
 
 ghost use Rattle.std.specs.Prelude.{◌≡◌};
 ghost use Rattle.jsonc_tree.specs.Stored.{content_of};
-ghost use Rattle.jsonc_tree.specs.Tree.{content_at};
 ghost use Rattle.jsonc_nodes.specs.Kinds.{is_beside, is_colon, is_comment, is_element};
 ghost use Rattle.jsonc_nodes.specs.Kinds.{is_newline, is_trivia, is_whitespace};
 ghost use Rattle.jsonc_nodes.specs.Kinds.{is_beside_at, is_colon_at, is_comment_at, is_element_at};
 ghost use Rattle.jsonc_nodes.specs.Kinds.{is_newline_at, is_trivia_at, is_whitespace_at};
-ghost use Rattle.jsonc_nodes.specs.Properties.{is_name};
+ghost use Rattle.jsonc_nodes.specs.Properties.{is_name, is_name_at};
 
 use jsonc_tree::{Kind, Tree};
 use std::alloc::Allocator;
@@ -88,8 +87,6 @@ fn is_name_kind<A: Allocator>(kind: &Kind<A>) -> bool
     match kind {
         Kind::String(_) | Kind::StringPart(_) => true,
         Kind::Word(_) | Kind::WordPart(_) => true,
-        Kind::Number(_) | Kind::NumberPart(_) => true,
-        Kind::Boolean(_) | Kind::Null => true,
         _ => false,
     }
 }
@@ -162,12 +159,12 @@ pub fn is_trivia<A: Allocator>(tree: &Tree<A>, node: usize) -> bool
     is_trivia_kind(tree.kind(node))
 }
 
-// Whether a node is a leaf that can name a property.
+// Whether a node is a leaf that names a property: a string or a word.
 pub(crate) fn is_name<A: Allocator>(tree: &Tree<A>, node: usize) -> bool
-    ensures { result ≡ is_name (content_at tree.now.nodes node) }
+    ensures { result ≡ is_name_at tree.now.nodes node }
 {
     if node >= tree.len() {
-        return true;
+        return false;
     }
     is_name_kind(tree.kind(node))
 }

@@ -17,7 +17,7 @@ pub use comments::{leading_comments_same_line, trailing_comments_same_line};
 pub use jsonc_tree::{Children, PreviousSiblings};
 pub use kinds::{is_element, is_newline, is_trivia, is_whitespace};
 pub use names::{decoded_name, decoded_value, get};
-pub use property::{first_element_from, name_of, value_of};
+pub use property::{first_element_from, lacks_name, name_of, value_of};
 pub use siblings::{
     LineBefore, child_at_index, children_from, line_before, next_sibling, next_siblings,
     previous_sibling, previous_siblings, root_node,

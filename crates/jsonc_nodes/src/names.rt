@@ -7,7 +7,7 @@ ghost use Rattle.jsonc_tree.specs.Stored.{content_of};
 ghost use Rattle.jsonc_tree.specs.Tree.{content_at};
 ghost use Rattle.jsonc_nodes.specs.Names.{FirstInObject, HasName, IsNamed, LeafIsNoString};
 ghost use Rattle.jsonc_nodes.specs.Names.{LeafStandsFor, NameReads, Names, ReadsAs, StandsFor};
-ghost use Rattle.jsonc_nodes.specs.Names.{is_string, loose_name, string_text};
+ghost use Rattle.jsonc_nodes.specs.Names.{is_string, string_text, word_text};
 ghost use Rattle.jsonc_nodes.specs.Siblings.{IsThere};
 
 use crate::property::name_of;
@@ -29,16 +29,13 @@ fn text_of_string<A: Allocator>(kind: &Kind<A>) -> Option<&str>
     }
 }
 
-// The text of a word, number, `true`, `false` or `null`.
-fn text_of_loose_name<A: Allocator>(kind: &Kind<A>) -> Option<&str>
-    ensures { option_map (λ s. s.now) result ≡ loose_name (content_of kind.now) }
+// The text of a word.
+fn text_of_word<A: Allocator>(kind: &Kind<A>) -> Option<&str>
+    ensures { option_map (λ s. s.now) result ≡ word_text (content_of kind.now) }
 {
     match kind {
-        Kind::Word(s) | Kind::Number(s) => Some(s.as_str()),
-        Kind::WordPart(s) | Kind::NumberPart(s) => Some(s.as_str()),
-        Kind::Boolean(true) => Some("true"),
-        Kind::Boolean(false) => Some("false"),
-        Kind::Null => Some("null"),
+        Kind::Word(s) => Some(s.as_str()),
+        Kind::WordPart(s) => Some(s.as_str()),
         _ => None,
     }
 }
@@ -95,7 +92,7 @@ fn name_in<'a, A: Allocator, B: Allocator>(
     if let Some(text) = text_of_string(kind) {
         return front_string(alloc, text);
     }
-    match text_of_loose_name(kind) {
+    match text_of_word(kind) {
         Some(text) => Ok(Some(CowStr::Borrowed(text))),
         None => Ok(None),
     }
@@ -164,7 +161,7 @@ fn is_named<A: Allocator, B: Allocator>(
 }
 
 /// The first property of a name among the children of an object. A name in quotes is decoded, and
-/// one that does not decode is passed over; any other name is its text.
+/// one that does not decode is passed over; a word is its text.
 pub fn get<A: Allocator, B: Allocator + Copy>(
     alloc: B,
     tree: &Tree<A>,

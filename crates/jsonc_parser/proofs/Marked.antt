@@ -5,7 +5,7 @@ use Rattle.jsonc_tree.specs.OrderedTree.{OrderedTree}
 use Rattle.jsonc_tree.specs.Tree.{Node, IsTree}
 use Rattle.jsonc_build.specs.Shape.{printed_text}
 use Rattle.jsonc_edit.specs.declared.error.EditError.{EditError}
-use Rattle.jsonc_marks.specs.Marks.{AreMarks}
+use Rattle.jsonc_laws.specs.Marks.{AreMarks}
 use Rattle.jsonc_run.specs.Edits.{Operation, AreMade}
 use Rattle.jsonc_run.specs.Refusals.{StopsAt}
 use Rattle.jsonc_run.specs.Marked.{MarkAll}

@@ -7,6 +7,7 @@
 #![tactic(auto)]
 
 pub mod cst;
+pub mod laws;
 pub mod string;
 
 pub use jsonc_ast::ast;

@@ -6,14 +6,14 @@ use Rattle.jsonc_tree.specs.OrderedTree.{OrderedTree, none, more, Shows, shows_n
 use Rattle.jsonc_tree.specs.Tree.{Node, content_at, children_at, IsTree, IsOver}
 use Rattle.jsonc_build.specs.Shape.{IsLiteralBefore, token_then}
 use Rattle.jsonc_lines.specs.Kinds.{holds_values}
-use Rattle.jsonc_sound.specs.Rows as rows
-use Rattle.jsonc_sound.specs.Rows.{RowKind, of_values, of_properties, holder, opening, closing, container_of, Last}
-use Rattle.jsonc_sound.specs.TreeChanges.{DocumentChanged}
-use Rattle.jsonc_sound.proofs.HeldValues.{document_held}
-use Rattle.jsonc_seams.specs.Alone as alone
-use Rattle.jsonc_seams.specs.Alone.{ValueAlone, RowAlone}
-use Rattle.jsonc_seams.specs.SoundTrees.{SoundTree}
-use Rattle.jsonc_seams.proofs.Apart.{value_alone}
+use Rattle.jsonc_laws.specs.Rows as rows
+use Rattle.jsonc_laws.specs.Rows.{RowKind, of_values, of_properties, holder, opening, closing, container_of, Last}
+use Rattle.jsonc_laws.specs.TreeChanges.{DocumentChanged}
+use Rattle.jsonc_laws.proofs.HeldValues.{document_held}
+use Rattle.jsonc_laws.specs.Alone as alone
+use Rattle.jsonc_laws.specs.Alone.{ValueAlone, RowAlone}
+use Rattle.jsonc_laws.specs.SoundTrees.{SoundTree}
+use Rattle.jsonc_laws.proofs.Apart.{value_alone}
 use Rattle.jsonc_edit.specs.Changes.{row_below, top_at}
 use Rattle.jsonc_edit.specs.Paths.{IsAt}
 use Rattle.jsonc_edit.proofs.Walk.{ChangedIn, Shows-row_below, changed_over}

@@ -5,8 +5,8 @@ use Rattle.jsonc_tree.specs.OrderedTree.{OrderedTree, Shows, shows_none, shows_m
 use Rattle.jsonc_tree.specs.Tree.{Node, content_at}
 use Rattle.jsonc_nodes.specs.Kinds.{is_beside, is_element, is_trivia}
 use Rattle.jsonc_lines.specs.Kinds.{is_comma}
-use Rattle.jsonc_sound.specs.TriviaChanges.{AreTrivia}
-use Rattle.jsonc_rows.specs.Leaving.{AreBeside, ends_apart, has_no_comma, comma_comes, element_count}
+use Rattle.jsonc_laws.specs.TriviaChanges.{AreTrivia}
+use Rattle.jsonc_laws.specs.Leaving.{AreBeside, ends_apart, has_no_comma, comma_comes, element_count}
 
 -- the same of contents as of rows of trees
 abbrev pub apart : List Content → Bool

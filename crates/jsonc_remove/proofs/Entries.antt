@@ -17,12 +17,12 @@ use Rattle.jsonc_nodes.specs.Kinds.{is_element, is_element_at, is_property}
 use Rattle.jsonc_nodes.specs.Siblings.{elements_at}
 use Rattle.jsonc_nodes.proofs.There.{All-reverse}
 use Rattle.jsonc_lines.specs.Kinds.{holds_values}
-use Rattle.jsonc_sound.specs.Rows.{RowKind, of_values, of_properties, holder, opening, closing, container_of}
+use Rattle.jsonc_laws.specs.Rows.{RowKind, of_values, of_properties, holder, opening, closing, container_of}
 use Rattle.jsonc_tree.specs.OrderedTree.{Top}
-use Rattle.jsonc_sound.specs.TreeChanges.{IsElement, DocumentChanged}
-use Rattle.jsonc_seams.specs.SoundTrees.{SoundTree}
-use Rattle.jsonc_seams.specs.Adjacent.{or_else}
-use Rattle.jsonc_rows.specs.Leaving.{ElementLeaves}
+use Rattle.jsonc_laws.specs.TreeChanges.{IsElement, DocumentChanged}
+use Rattle.jsonc_laws.specs.SoundTrees.{SoundTree}
+use Rattle.jsonc_laws.specs.Adjacent.{or_else}
+use Rattle.jsonc_laws.specs.Leaving.{ElementLeaves}
 use Rattle.jsonc_spaces.specs.Due.{nearest, seen_before, seen_behind, behind_holder, behind_property, due_between, listed, ends_bare, begins_bare}
 use Rattle.jsonc_spaces.specs.Put.{AreSpaced}
 use Rattle.jsonc_spaces.proofs.Putting.{elements_kept}

@@ -10,8 +10,8 @@ use Rattle.jsonc_tree.specs.Tree.{Node, content_at, parent_at, children_at, plac
 use Rattle.jsonc_nodes.specs.Kinds.{is_beside, is_element, is_trivia}
 use Rattle.jsonc_lines.specs.Kinds.{is_comma}
 use Rattle.jsonc_lines.specs.Siblings.{is_no_trivia_at, if_comma, trailing_comma_at}
-use Rattle.jsonc_sound.specs.TriviaChanges.{AreTrivia}
-use Rattle.jsonc_rows.specs.Leaving.{AreBeside}
+use Rattle.jsonc_laws.specs.TriviaChanges.{AreTrivia}
+use Rattle.jsonc_laws.specs.Leaving.{AreBeside}
 use Rattle.jsonc_remove.specs.Leaving.{comma_before, comma_behind, comma_gone, comma_unless, ends_line_at, first_gone, has_neighbours, if_inner, is_comma_at, last_gone, last_past, line_end_at}
 use Rattle.jsonc_remove.proofs.Contents.{apart, no_commas, comma_first, apart_behind, apart_rest, first_past, no_commas_rest}
 use Rattle.jsonc_remove.proofs.Places.{row_split, before_in, after_in, final, final_last, final_behind, up_to_final}

@@ -8,16 +8,16 @@ use Rattle.jsonc_tree.specs.Values as values
 use Rattle.jsonc_tree.specs.Values.{HasNoValue, DocumentValueOf}
 use Rattle.jsonc_build.specs.Shape.{PrintsDocument, printed_text}
 use Rattle.jsonc_tree.specs.OrderedTree.{Top}
-use Rattle.jsonc_sound.specs.TreeChanges.{ElementChanged, DocumentChanged, in_root}
-use Rattle.jsonc_sound.proofs.FirstNodes.{here, over, beyond, meets_first, none_changed, no_element}
-use Rattle.jsonc_seams.specs.SoundTrees.{SoundTree}
+use Rattle.jsonc_laws.specs.TreeChanges.{ElementChanged, DocumentChanged, in_root}
+use Rattle.jsonc_laws.proofs.FirstNodes.{here, over, beyond, meets_first, none_changed, no_element}
+use Rattle.jsonc_laws.specs.SoundTrees.{SoundTree}
 use Rattle.jsonc_build.proofs.ShapeValues.{document_printed}
-use Rattle.jsonc_marks.specs.Marks.{marks}
-use Rattle.jsonc_marks.proofs.GivingWay.{space_keeps_marks}
-use Rattle.jsonc_rows.specs.Laws.{LosesMarks}
-use Rattle.jsonc_rows.proofs.LostMarks.{document_loses_marks}
-use Rattle.jsonc_rows.proofs.LostValues.{document_loses}
-use Rattle.jsonc_rows.proofs.SoundLeft.{sound_without_element}
+use Rattle.jsonc_laws.specs.Marks.{marks}
+use Rattle.jsonc_laws.proofs.GivingWay.{space_keeps_marks}
+use Rattle.jsonc_laws.specs.EntryLaws.{LosesMarks}
+use Rattle.jsonc_laws.proofs.LostMarks.{document_loses_marks}
+use Rattle.jsonc_laws.proofs.LostValues.{document_loses}
+use Rattle.jsonc_laws.proofs.SoundLeft.{sound_without_element}
 use Rattle.jsonc_edit.specs.Spaced.{SpacesPut, none_put, one_put}
 use Rattle.jsonc_edit.proofs.OneValue.{document_once}
 use Rattle.jsonc_edit.proofs.Spacing.{spaces_sound, spaces_value}

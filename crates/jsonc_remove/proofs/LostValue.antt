@@ -9,14 +9,14 @@ use Rattle.jsonc_tree.specs.Values as values
 use Rattle.jsonc_tree.specs.Values.{HasNoValue, DocumentValueOf, is_passed_over}
 use Rattle.jsonc_build.specs.Shape.{printed_text}
 use Rattle.jsonc_tree.specs.OrderedTree.{Top}
-use Rattle.jsonc_sound.specs.TreeChanges.{IsElement}
-use Rattle.jsonc_sound.specs.TriviaChanges.{leaves_then}
-use Rattle.jsonc_sound.proofs.FirstNodes.{no_element}
-use Rattle.jsonc_seams.specs.SoundTrees.{SoundTree}
+use Rattle.jsonc_laws.specs.TreeChanges.{IsElement}
+use Rattle.jsonc_laws.specs.TriviaChanges.{leaves_then}
+use Rattle.jsonc_laws.proofs.FirstNodes.{no_element}
+use Rattle.jsonc_laws.specs.SoundTrees.{SoundTree}
 use Rattle.jsonc_build.proofs.ShapeValues.{document_printed}
-use Rattle.jsonc_rows.specs.Laws.{root_with}
-use Rattle.jsonc_rows.specs.Leaving.{ValueLeaves, value_leaves, among, Empties}
-use Rattle.jsonc_rows.proofs.WithoutValue.{sound_without, none_without, marks_without}
+use Rattle.jsonc_laws.specs.EntryLaws.{root_with}
+use Rattle.jsonc_laws.specs.Leaving.{ValueLeaves, value_leaves, among, Empties}
+use Rattle.jsonc_laws.proofs.WithoutValue.{sound_without, none_without, marks_without}
 use Rattle.jsonc_remove.specs.Laws.{RemovesValue, IsValueRemoved}
 use Rattle.jsonc_remove.proofs.Lost.{prints_value}
 

@@ -12,10 +12,10 @@ use Rattle.jsonc_tree.proofs.Rows.{Shows-append, Shows-part, followed_by-assoc, 
 use Rattle.jsonc_nodes.specs.Kinds.{is_element, is_element_at}
 use Rattle.jsonc_build.specs.Shape.{token_then}
 use Rattle.jsonc_lines.specs.Kinds.{holds_values}
-use Rattle.jsonc_sound.specs.Rows.{RowKind, opening, closing}
-use Rattle.jsonc_sound.specs.TriviaChanges.{leaves_then}
-use Rattle.jsonc_seams.specs.Spaces.{meet}
-use Rattle.jsonc_rows.specs.Leaving.{AreBeside, ends_apart, element_count, among, ElementLeaves, with_comma_behind, with_comma_before, with_no_comma, ClosesUp}
+use Rattle.jsonc_laws.specs.Rows.{RowKind, opening, closing}
+use Rattle.jsonc_laws.specs.TriviaChanges.{leaves_then}
+use Rattle.jsonc_laws.specs.Spaces.{meet}
+use Rattle.jsonc_laws.specs.Leaving.{AreBeside, ends_apart, element_count, among, ElementLeaves, with_comma_behind, with_comma_before, with_no_comma, ClosesUp}
 use Rattle.jsonc_spaces.proofs.Whole.{Whole, more_whole, whole_before, whole_behind}
 use Rattle.jsonc_spaces.proofs.Meeting.{meet_bare}
 use Rattle.jsonc_edit.specs.Changes.{row_below, top_at}

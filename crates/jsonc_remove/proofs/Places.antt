@@ -9,8 +9,8 @@ use Rattle.jsonc_text.specs.Text.{starts}
 use Rattle.jsonc_tree.specs.Order.{with_parent}
 use Rattle.jsonc_tree.specs.Siblings.{row_of, siblings_after, siblings_before}
 use Rattle.jsonc_tree.specs.Tree.{Node, content_at, parent_at, children_at, place_at, IsTree}
-use Rattle.jsonc_seams.specs.Spaces.{is_bare}
-use Rattle.jsonc_seams.proofs.Spaced.{space_first}
+use Rattle.jsonc_laws.specs.Spaces.{is_bare}
+use Rattle.jsonc_laws.proofs.Spaced.{space_first}
 use Rattle.jsonc_spaces.specs.Due.{prints, prints_at, nearest, beginning_in, begins_bare, ends_bare, is_bare_at, listed}
 use Rattle.jsonc_spaces.specs.Put.{a_space, StandsBefore, AreSpaced}
 use Rattle.jsonc_spaces.proofs.Putting.{contents_kept, container_row}

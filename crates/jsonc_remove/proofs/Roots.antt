@@ -19,15 +19,15 @@ use Rattle.jsonc_build.specs.Shape.{DocumentShaped, IsTrivia}
 use Rattle.jsonc_lines.specs.Kinds.{holds_values}
 use Rattle.jsonc_lines.specs.Siblings.{is_no_trivia_at, if_comma}
 use Rattle.jsonc_tree.specs.OrderedTree.{Top}
-use Rattle.jsonc_sound.specs.TreeChanges.{IsElement}
-use Rattle.jsonc_sound.specs.TriviaChanges.{AreTrivia, leaves_then}
-use Rattle.jsonc_seams.specs.Alone as alone
-use Rattle.jsonc_seams.specs.Alone.{RootAlone}
-use Rattle.jsonc_seams.specs.SoundTrees.{SoundTree}
-use Rattle.jsonc_seams.specs.Spaces.{is_bare}
-use Rattle.jsonc_seams.proofs.Apart.{document_alone}
-use Rattle.jsonc_marks.specs.Changes.{AreBlanks}
-use Rattle.jsonc_rows.specs.Leaving.{AreBeside, ends_apart, among, ValueLeaves, value_leaves, Empties, empties}
+use Rattle.jsonc_laws.specs.TreeChanges.{IsElement}
+use Rattle.jsonc_laws.specs.TriviaChanges.{AreTrivia, leaves_then}
+use Rattle.jsonc_laws.specs.Alone as alone
+use Rattle.jsonc_laws.specs.Alone.{RootAlone}
+use Rattle.jsonc_laws.specs.SoundTrees.{SoundTree}
+use Rattle.jsonc_laws.specs.Spaces.{is_bare}
+use Rattle.jsonc_laws.proofs.Apart.{document_alone}
+use Rattle.jsonc_laws.specs.MarkChanges.{AreBlanks}
+use Rattle.jsonc_laws.specs.Leaving.{AreBeside, ends_apart, among, ValueLeaves, value_leaves, Empties, empties}
 use Rattle.jsonc_spaces.specs.Due.{nearest, prints_at, ends_bare, begins_bare, seen_before, seen_behind, due_between, beginning_in, is_bare_at, listed}
 use Rattle.jsonc_spaces.specs.Put.{AreSpaced}
 use Rattle.jsonc_edit.specs.Changes.{row_below, top_at}

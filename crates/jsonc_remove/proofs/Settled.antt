@@ -12,9 +12,9 @@ use Rattle.jsonc_tree.specs.Content.{Content, token}
 use Rattle.jsonc_tree.specs.Tree.{Node, content_at, children_at, IsTree}
 use Rattle.jsonc_nodes.proofs.There.{All-reverse}
 use Rattle.jsonc_lines.specs.Kinds.{holds_values, is_comma}
-use Rattle.jsonc_sound.specs.TriviaChanges.{AreTrivia}
-use Rattle.jsonc_seams.proofs.Texts.{comma_first as comma_char}
-use Rattle.jsonc_rows.specs.Leaving.{AreBeside}
+use Rattle.jsonc_laws.specs.TriviaChanges.{AreTrivia}
+use Rattle.jsonc_laws.proofs.Texts.{comma_first as comma_char}
+use Rattle.jsonc_laws.specs.Leaving.{AreBeside}
 use Rattle.jsonc_spaces.specs.Due.{prints, prints_at, nearest, begins_bare, ends_bare, seen_before, due_between, listed}
 use Rattle.jsonc_spaces.specs.Put.{AreSpaced}
 use Rattle.jsonc_remove.specs.Leaving.{is_comma_at}

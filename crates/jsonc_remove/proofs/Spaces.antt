@@ -6,9 +6,9 @@ use Rattle.std.specs.Option.{option_and_then}
 use Rattle.jsonc_tree.specs.Content.{Content, array, object}
 use Rattle.jsonc_tree.specs.Tree.{Node, content_at, children_at, IsTree}
 use Rattle.jsonc_lines.specs.Kinds.{holds_values, is_comma}
-use Rattle.jsonc_sound.specs.TriviaChanges.{AreTrivia}
-use Rattle.jsonc_rows.specs.Leaving.{AreBeside}
-use Rattle.jsonc_seams.specs.Adjacent.{or_else}
+use Rattle.jsonc_laws.specs.TriviaChanges.{AreTrivia}
+use Rattle.jsonc_laws.specs.Leaving.{AreBeside}
+use Rattle.jsonc_laws.specs.Adjacent.{or_else}
 use Rattle.jsonc_spaces.specs.Due.{prints, prints_at, nearest, begins_bare, ends_bare, seen_before, seen_behind, behind_holder, behind_property, due_between}
 use Rattle.jsonc_spaces.specs.Put.{AreSpaced}
 use Rattle.jsonc_remove.proofs.Contents.{apart, no_commas, comma_first}

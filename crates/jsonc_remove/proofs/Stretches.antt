@@ -7,8 +7,8 @@ use Rattle.jsonc_tree.specs.Tree.{Node, content_at}
 use Rattle.jsonc_nodes.specs.Kinds.{is_beside, is_newline, is_trivia, is_beside_at, is_newline_at, is_trivia_at, is_whitespace_at}
 use Rattle.jsonc_lines.specs.Kinds.{is_comma}
 use Rattle.jsonc_lines.specs.Siblings.{is_no_trivia_at, if_comma}
-use Rattle.jsonc_sound.specs.TriviaChanges.{AreTrivia}
-use Rattle.jsonc_rows.specs.Leaving.{AreBeside}
+use Rattle.jsonc_laws.specs.TriviaChanges.{AreTrivia}
+use Rattle.jsonc_laws.specs.Leaving.{AreBeside}
 use Rattle.jsonc_remove.specs.Leaving.{begins_other, is_comma_at, line_end, outermost}
 use Rattle.jsonc_remove.proofs.Contents.{apart, no_commas, comma_first, apart_last, beside_append}
 

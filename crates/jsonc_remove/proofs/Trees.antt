@@ -16,10 +16,10 @@ use Rattle.jsonc_tree.proofs.Rows.{Shows-part}
 use Rattle.jsonc_nodes.specs.Kinds.{is_trivia, is_whitespace, is_newline, is_beside}
 use Rattle.jsonc_build.specs.Shape.{token_then}
 use Rattle.jsonc_lines.specs.Kinds.{holds_values}
-use Rattle.jsonc_sound.specs.Rows.{RowKind, opening, closing}
-use Rattle.jsonc_sound.specs.TriviaChanges.{AreTrivia, leaves_then}
-use Rattle.jsonc_marks.specs.Changes.{AreBlanks}
-use Rattle.jsonc_rows.specs.Leaving.{AreBeside, ClosesUp, closes_up}
+use Rattle.jsonc_laws.specs.Rows.{RowKind, opening, closing}
+use Rattle.jsonc_laws.specs.TriviaChanges.{AreTrivia, leaves_then}
+use Rattle.jsonc_laws.specs.MarkChanges.{AreBlanks}
+use Rattle.jsonc_laws.specs.Leaving.{AreBeside, ClosesUp, closes_up}
 use Rattle.jsonc_spaces.specs.Due.{nearest, prints_at, begins_bare, ends_bare}
 use Rattle.jsonc_edit.specs.Changes.{row_below}
 use Rattle.jsonc_edit.proofs.Walk.{Shows-row_below, apart_kept}

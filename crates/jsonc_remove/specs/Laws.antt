@@ -7,13 +7,13 @@ use Rattle.jsonc_tree.specs.OrderedTree.{OrderedTree, ordered_tree}
 use Rattle.jsonc_tree.specs.Tree.{Node, content_at, IsTree}
 use Rattle.jsonc_lines.specs.Kinds.{holds_values}
 use Rattle.jsonc_build.specs.Shape.{printed_text}
-use Rattle.jsonc_sound.specs.Rows.{RowKind, container_of}
+use Rattle.jsonc_laws.specs.Rows.{RowKind, container_of}
 use Rattle.jsonc_tree.specs.OrderedTree.{Top}
-use Rattle.jsonc_sound.specs.TreeChanges.{IsElement, DocumentChanged}
-use Rattle.jsonc_seams.specs.SoundTrees.{SoundTree}
-use Rattle.jsonc_marks.specs.Marks.{marks}
-use Rattle.jsonc_rows.specs.Leaving.{ElementLeaves, ClosesUp, ValueLeaves, Empties}
-use Rattle.jsonc_rows.specs.Laws.{LosesEntry, LosesMarks, root_with}
+use Rattle.jsonc_laws.specs.TreeChanges.{IsElement, DocumentChanged}
+use Rattle.jsonc_laws.specs.SoundTrees.{SoundTree}
+use Rattle.jsonc_laws.specs.Marks.{marks}
+use Rattle.jsonc_laws.specs.Leaving.{ElementLeaves, ClosesUp, ValueLeaves, Empties}
+use Rattle.jsonc_laws.specs.EntryLaws.{LosesEntry, LosesMarks, root_with}
 use Rattle.jsonc_edit.specs.Changes.{top_at}
 use Rattle.jsonc_edit.specs.Paths.{IsAt, IsElementOf}
 use Rattle.jsonc_edit.specs.Spaced.{SpacesPut}

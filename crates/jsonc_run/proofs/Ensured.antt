@@ -14,8 +14,8 @@ use Rattle.jsonc_build.specs.Shape.{printed_text}
 use Rattle.jsonc_build.proofs.ShapeValues.{document_printed}
 use Rattle.jsonc_nodes.specs.Kinds.{is_element_at}
 use Rattle.jsonc_nodes.specs.Properties.{value_at, value_by}
-use Rattle.jsonc_sound.proofs.FirstNodes.{value_of_element}
-use Rattle.jsonc_seams.specs.SoundTrees.{SoundTree}
+use Rattle.jsonc_laws.proofs.FirstNodes.{value_of_element}
+use Rattle.jsonc_laws.specs.SoundTrees.{SoundTree}
 use Rattle.jsonc_edit.specs.Changes.{row_below}
 use Rattle.jsonc_edit.specs.Reading.{IsReplaced}
 use Rattle.jsonc_edit.specs.Writing.{IsWritable}
@@ -39,7 +39,7 @@ empty_writable o Object = record { texts = tt; numbers = tt }
 empty_writable o Array = record { texts = tt; numbers = tt }
 
 -- a node has the shape of its value
-same_shape : {o : Options} {content : Content} {below : OrderedTree} {x : Plain} (shape : Shape) → ValueOf o content below x → is_of shape content ≡ has_shape shape x
+pub same_shape : {o : Options} {content : Content} {below : OrderedTree} {x : Plain} (shape : Shape) → ValueOf o content below x → is_of shape content ≡ has_shape shape x
 same_shape Object (values.string h) = refl
 same_shape Object values.number = refl
 same_shape Object values.boolean = refl

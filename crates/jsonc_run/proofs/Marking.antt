@@ -7,19 +7,19 @@ use Rattle.jsonc_tree.specs.OrderedTree.{OrderedTree, none, leaves, ordered_tree
 use Rattle.jsonc_tree.specs.Tree.{Node, IsTree}
 use Rattle.jsonc_from_input.specs.Laid.{laid, laid_property}
 use Rattle.jsonc_from_input.specs.Texts.{IsCharacters}
-use Rattle.jsonc_sound.specs.Laws.{DiffersIn}
-use Rattle.jsonc_sound.specs.TreeChanges.{leaves_of, property_of}
-use Rattle.jsonc_seams.specs.SoundTrees.{SoundTree}
-use Rattle.jsonc_marks.specs.Changes.{MarksDifferIn, marks_under}
-use Rattle.jsonc_marks.specs.Marks.{Mark, marks, trimmed}
-use Rattle.jsonc_marks.specs.Written.{written}
-use Rattle.jsonc_marks.proofs.GivingWay.{marks_follow, one_mark_leaves}
-use Rattle.jsonc_marks.proofs.Laid.{laid_as_written, laid_as_written_named}
-use Rattle.jsonc_marks.proofs.OneList.{marks_unique}
-use Rattle.jsonc_marks.proofs.Printed.{prints_its_marks}
-use Rattle.jsonc_rows.specs.Laws.{root_with}
-use Rattle.jsonc_rows.proofs.FirstValue.{marks_with_first}
-use Rattle.jsonc_rows.proofs.RootRows.{root_marks}
+use Rattle.jsonc_laws.specs.ChangeLaws.{DiffersIn}
+use Rattle.jsonc_laws.specs.TreeChanges.{leaves_of, property_of}
+use Rattle.jsonc_laws.specs.SoundTrees.{SoundTree}
+use Rattle.jsonc_laws.specs.MarkChanges.{MarksDifferIn, marks_under}
+use Rattle.jsonc_laws.specs.Marks.{Mark, marks, trimmed}
+use Rattle.jsonc_laws.specs.Written.{written}
+use Rattle.jsonc_laws.proofs.GivingWay.{marks_follow, one_mark_leaves}
+use Rattle.jsonc_laws.proofs.Laid.{laid_as_written, laid_as_written_named}
+use Rattle.jsonc_laws.proofs.OneList.{marks_unique}
+use Rattle.jsonc_laws.proofs.Printed.{prints_its_marks}
+use Rattle.jsonc_laws.specs.EntryLaws.{root_with}
+use Rattle.jsonc_laws.proofs.FirstValue.{marks_with_first}
+use Rattle.jsonc_laws.proofs.RootRows.{root_marks}
 use Rattle.jsonc_edit.specs.Spaced.{SpacesPut}
 use Rattle.jsonc_edit.specs.Writing.{IsWritable}
 use Rattle.jsonc_remove.proofs.Lost.{removes_entry}
@@ -29,8 +29,8 @@ use Rattle.jsonc_run.specs.declared.edit.Over.{Over}
 use Rattle.jsonc_run.specs.declared.edit.Shape.{Shape}
 use Rattle.jsonc_run.specs.declared.edit.Shape.TheVariants.{Object, Array}
 use Rattle.jsonc_run.specs.Shapes.{empty_of}
-use Rattle.jsonc_run.specs.Edits.{Operation, replace, remove, remove_comment, set_root, clear_root, replace_property, ensure_root, AreMade, none_made, first_made}
-use Rattle.jsonc_run.specs.Written.{MayBeMade, EntryLeft, entry_left, value_left, ValueGivesWay, RootValueSet, given_way, has_come, RootValueEnsured, all_kept, empty_set, PropertyGivenWay, property_given, StayAround}
+use Rattle.jsonc_run.specs.Edits.{Operation, replace, remove, remove_comment, set_root, clear_root, replace_property, ensure_root, set_value, ensure_value, set_boolean, AreMade, none_made, first_made}
+use Rattle.jsonc_run.specs.Written.{MayBeMade, EntryLeft, entry_left, value_left, ValueGivesWay, RootValueSet, given_way, has_come, RootValueEnsured, all_kept, empty_set, PropertyGivenWay, property_given, ValueEnsured, all_stays, empty_given, StayAround}
 use Rattle.jsonc_run.specs.Marked.{IsMarked, AreMarked, none_marked, first_marked, MarkAll}
 use Rattle.jsonc_run.proofs.Ensured.{empty_writable}
 use Rattle.jsonc_run.proofs.Written.{is_written, stays_around, write_all}
@@ -62,6 +62,11 @@ ensured_marked o t u shape how (all_kept same) = ([], record { front = []; back 
 ensured_marked o t u Object how (empty_set set) = root_marked o t u (empty_of Object) (empty_writable o Object) set
 ensured_marked o t u Array how (empty_set set) = root_marked o t u (empty_of Array) (empty_writable o Array) set
 
+held_marked : (o : Options) (t u : OrderedTree) (path : List ℕ) (shape : Shape) → ValueEnsured path shape t u → IsMarked (marks t) (ensure_value path shape) (marks u)
+held_marked o t u path shape (all_stays same) = ([], record { front = []; back = marks t; before = refl; after = ap marks same })
+held_marked o t u path Object (empty_given g) = value_marked o t u path (empty_of Object) (empty_writable o Object) g
+held_marked o t u path Array (empty_given g) = value_marked o t u path (empty_of Array) (empty_writable o Array) g
+
 -- a property that gives way leaves its marks to those of the new one
 property_marked : (o : Options) (t u : OrderedTree) (path name : List ℕ) (v : Plain) → IsCharacters name → IsWritable o v → PropertyGivenWay name v t u path → IsMarked (marks t) (replace_property path name v) (marks u)
 property_marked o t u _ name v texts may (property_given path i layout spaced front was back puts changed around) =
@@ -82,6 +87,9 @@ one_marked o t u (set_root v) may s set = root_marked o t u v may (set o s)
 one_marked o t u clear_root may s bare = ap marks bare ∙ root_marks none
 one_marked o t u (replace_property path name v) may s given = property_marked o t u path name v may.0 may.1 (given o s may.0 may.1)
 one_marked o t u (ensure_root shape how) may s set = ensured_marked o t u shape how (set o s)
+one_marked o t u (set_value path v) may s g = value_marked o t u path v may (g o s)
+one_marked o t u (ensure_value path shape) may s g = held_marked o t u path shape (g o s)
+one_marked o t u (set_boolean path b) may s (was, g, is) = (was, subst (λ (w : Top). MarksDifferIn (marks_under w) (written (Plain.boolean b)) (marks t) (marks u)) is (marks_given g.was (laid g.layout (Plain.boolean b)) t g.spaced u g.spaces g.around))
 
 all_marked : (o : Options) (old new : List Node) (es : List Operation) → IsTree old → AreMade old es new → SoundTree o (ordered_tree old 0) → All (MayBeMade o) es → AreMarked (marks (ordered_tree old 0)) es (marks (ordered_tree new 0))
 all_marked o old _ [] tree none_made s may = none_marked

@@ -10,12 +10,12 @@ use Rattle.jsonc_tree.specs.OrderedTree.{none, Shows, shows_none, ordered_tree}
 use Rattle.jsonc_tree.specs.Tree.{Node, children_at, IsTree}
 use Rattle.jsonc_nodes.specs.Kinds.{is_element_at}
 use Rattle.jsonc_nodes.specs.Properties.{value_at, value_by}
-use Rattle.jsonc_sound.proofs.LeavesAround.{document_differs}
-use Rattle.jsonc_sound.specs.Changes as changes
-use Rattle.jsonc_sound.specs.Changes.{Changed}
-use Rattle.jsonc_seams.specs.SoundTrees.{SoundTree}
+use Rattle.jsonc_laws.proofs.LeavesAround.{document_differs}
+use Rattle.jsonc_laws.specs.Changes as changes
+use Rattle.jsonc_laws.specs.Changes.{Changed}
+use Rattle.jsonc_laws.specs.SoundTrees.{SoundTree}
 use Rattle.jsonc_from_input.specs.Laid.{laid}
-use Rattle.jsonc_rows.specs.Laws.{root_with}
+use Rattle.jsonc_laws.specs.EntryLaws.{root_with}
 use Rattle.jsonc_edit.specs.Changes.{row_below, top_at}
 use Rattle.jsonc_edit.specs.Paths.{IsAt, itself}
 use Rattle.jsonc_edit.specs.Reading.{layout_for, IsReplaced}

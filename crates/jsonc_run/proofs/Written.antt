@@ -1,5 +1,5 @@
 -- What edits that were made in order make of a document.
-use Rattle.std.proofs.Common.{Result, Ok, Err, OnOk, ◌≡◌, ℕ, suc, List, [], ◌∷◌, Option, Some, None, IsTrue, sym, refl, ap, subst, ◌∙◌, arith}
+use Rattle.std.proofs.Common.{Result, Ok, Err, OnOk, ◌≡◌, ℕ, Bool, suc, List, [], ◌∷◌, ◌++◌, Option, Some, None, IsTrue, sym, refl, ap, subst, ◌∙◌, arith}
 use Rattle.std.specs.List.{All}
 use Rattle.jsonc_text.specs.Options.{Options}
 use Rattle.jsonc_text.specs.Plain.{Plain}
@@ -8,7 +8,8 @@ use Rattle.jsonc_text.proofs.UniqueValues.{document_unique}
 use Rattle.jsonc_tree.specs.OrderedTree.{OrderedTree, ordered_tree}
 use Rattle.jsonc_tree.specs.Tree.{Node, content_at, children_at, IsTree}
 use Rattle.jsonc_build.specs.Shape.{printed_text}
-use Rattle.jsonc_seams.specs.SoundTrees.{SoundTree}
+use Rattle.jsonc_laws.specs.Changes.{Changed}
+use Rattle.jsonc_laws.specs.SoundTrees.{SoundTree}
 use Rattle.jsonc_build.proofs.ShapeValues.{document_printed}
 use Rattle.jsonc_edit.specs.Changes.{top_at}
 use Rattle.jsonc_edit.specs.Writing.{IsWritable}
@@ -17,27 +18,35 @@ use Rattle.jsonc_nodes.specs.Properties.{value_at}
 use Rattle.jsonc_edit.proofs.OneValue.{document_once}
 use Rattle.jsonc_edit.proofs.ReplacedValues.{replaced_written}
 use Rattle.jsonc_edit.proofs.TakingOut.{loses_comment, taken_sound, taken_value}
-use Rattle.jsonc_edit.specs.Paths.{IsElementOf, LeadsTo, itself}
+use Rattle.jsonc_edit.specs.Paths.{IsAt, IsElementOf, LeadsTo, itself}
+use Rattle.jsonc_edit.specs.Reading.{IsReplaced}
 use Rattle.jsonc_lines.specs.Kinds.{holds_values}
 use Rattle.jsonc_remove.specs.Removed.{TakesElement}
 use Rattle.jsonc_remove.proofs.Entries.{entry_taken}
 use Rattle.jsonc_remove.proofs.Lost.{removes_entry}
 use Rattle.jsonc_remove.proofs.LostValue.{removes_value}
 use Rattle.jsonc_remove.proofs.Roots.{value_taken}
+use Rattle.jsonc_set.specs.Booleans.{BooleanSet}
 use Rattle.jsonc_set.specs.Giving.{IsPropertyReplaced}
 use Rattle.jsonc_set.proofs.Gaining.{gives_first_value, leaves_bare}
+use Rattle.jsonc_set.proofs.PropertyRows.{some_value_of, prints_value}
+use Rattle.jsonc_set.proofs.WrittenBoolean.{writes_boolean}
 use Rattle.jsonc_set.proofs.WrittenProperty.{writes_property}
-use Rattle.jsonc_run.specs.Places.{IsEntryAt, the_value, an_entry, IsEntryOf, in_array, in_object, IsPropertyAt, a_property}
-use Rattle.jsonc_run.specs.Edits.{Operation, replace, remove, remove_comment, set_root, clear_root, replace_property, ensure_root, AreMade, none_made, first_made, RootSet, IsMade}
-use Rattle.jsonc_run.specs.Written.{MayBeMade, IsChanged, by_value, by_entry, by_all, by_comment, by_root, by_clearing, by_property, by_ensuring, AreChanged, unchanged, first_changed}
+use Rattle.jsonc_run.specs.Places.{IsEntryAt, the_value, an_entry, IsEntryOf, in_array, in_object, IsBooleanAt, IsPropertyAt, a_property}
+use Rattle.jsonc_run.specs.Edits.{Operation, replace, remove, remove_comment, set_root, clear_root, replace_property, ensure_root, set_value, ensure_value, set_boolean, AreMade, none_made, first_made, RootSet, IsMade}
+use Rattle.jsonc_run.specs.Written.{MayBeMade, IsChanged, by_value, by_entry, by_all, by_comment, by_root, by_clearing, by_property, by_ensuring, by_setting, by_ensuring_held, by_boolean, AreChanged, unchanged, first_changed}
 use Rattle.jsonc_run.specs.declared.edit.Over.{Over}
 use Rattle.jsonc_run.specs.declared.edit.Over.TheVariants as over
 use Rattle.jsonc_run.specs.declared.edit.Shape.{Shape}
 use Rattle.jsonc_run.specs.Shapes.{empty_of}
 use Rattle.jsonc_run.specs.Written.{comes_first, has_it, may_stay, must_give_way}
 use Rattle.jsonc_run.specs.Written.{EntryLeft, entry_left, value_left, StayAround, AllStayAround, all_stay, first_stay, AreWritten, WriteAll}
-use Rattle.jsonc_run.proofs.Ensured.{empty_writable, held, Ensured, created, stayed, other_stayed, replaced, ensured, value_ensured}
+use Rattle.jsonc_run.proofs.Ensured.{empty_writable, same_shape, held, Ensured, created, stayed, other_stayed, replaced, ensured, value_ensured}
+use Rattle.jsonc_run.proofs.Booleans.{boolean_given, boolean_changed}
+use Rattle.jsonc_run.proofs.PathValues.{gives_way_to_itself, value_of_text, value_at_path, value_once}
 use Rattle.jsonc_run.proofs.PropertyMade.{property_gives_way}
+use Rattle.jsonc_run.proofs.ValueMade as property_values
+use Rattle.jsonc_run.proofs.ValueMade.{replaces_held, set_replaced, stays_ensured}
 use Rattle.jsonc_run.proofs.Roots.{value_stands, value_gives_way, root_value_set, whole_changed, emptied, no_leaves}
 
 -- an entry is an element of an array or object
@@ -65,6 +74,11 @@ stays_around old new (set_root v) tree after made = λ o sound. root_value_set o
 stays_around old new clear_root tree after made = no_leaves new after (emptied old new made)
 stays_around old new (replace_property path name v) tree after (n, m, at, r) = λ o sound texts may. property_gives_way o old new path n m name v tree sound at texts may r
 stays_around old new (ensure_root shape how) tree after made = λ o sound. value_ensured o old new shape how tree sound (ensured old new shape how made)
+stays_around old new (set_value path v) tree after (r, at, set) = λ o sound.
+    let given = set_replaced o old new tree sound path r at v set in
+    value_gives_way old new path given.0 given.1 v tree given.2 given.3
+stays_around old new (ensure_value path shape) tree after (r, at, ensured) = λ o sound. stays_ensured old new path shape tree (property_values.value_ensured o old new tree sound path r at shape ensured)
+stays_around old new (set_boolean path b) tree after (n, at, set) = boolean_given old new path n b tree at set
 
 -- under all options the leaves around stay
 pub stay_around : (old new : List Node) (es : List Operation) → IsTree old → AreMade old es new → AllStayAround (ordered_tree old 0) es (ordered_tree new 0)
@@ -139,6 +153,58 @@ module _ (o : Options) where
         sound = w.sound;
       }
 
+  -- the value of the property at a path is the one that was set
+  value_written : (old new : List Node) (path : List ℕ) (r : ℕ) (v : Plain) → IsTree old → SoundTree o (ordered_tree old 0) → IsPropertyAt old path r → (n m : ℕ) → IsAt old path n → IsWritable o v → IsReplaced old new n v m
+      → IsWritten o (set_value path v) (ordered_tree old 0) (ordered_tree new 0)
+  value_written old new _ r v tree s (a_property front c i at inside) n m stands may given =
+      let w = replaced_written o old new n m v tree given (front ++ i ∷ []) s stands may in
+      record {
+        before = Some w.before;
+        after = Some w.after;
+        old_text = w.old_text;
+        new_text = w.new_text;
+        changed = by_setting front i (replaces_held o old tree front c i at inside.of_object w.before w.after (value_of_text o (ordered_tree old 0) s w.before w.old_text) w.changed);
+        sound = w.sound;
+      }
+
+  -- or is of a shape
+  shape_written : (old new : List Node) (path : List ℕ) (r : ℕ) (shape : Shape) → IsTree old → SoundTree o (ordered_tree old 0) → IsPropertyAt old path r → property_values.Ensured old new path shape → IsWritten o (ensure_value path shape) (ordered_tree old 0) (ordered_tree new 0)
+  shape_written old new _ r shape tree s (a_property front c i at inside) (property_values.has_stayed n stands is same) =
+      let path : List ℕ = front ++ i ∷ [] in
+      let known = document_printed o (ordered_tree old 0) s.shaped s.lines in
+      let value = some_value_of o (gives_way_to_itself old tree path n stands) known.0 known.2 in
+      let text = prints_value o (ordered_tree old 0) (Some value.0) s value.1 in
+      let held = value_at_path o old tree path n stands value.0 value.1 in
+      subst (λ (ns : List Node). IsWritten o (ensure_value path shape) (ordered_tree old 0) (ordered_tree ns 0)) (sym same)
+      (record {
+        before = Some value.0;
+        after = Some value.0;
+        old_text = text;
+        new_text = text;
+        changed = by_ensuring_held front i (has_it (sym (same_shape shape held.has) ∙ is)) (replaces_held o old tree front c i at inside.of_object value.0 value.0 value.1 held.at);
+        sound = s;
+      })
+  shape_written old new _ r shape tree s (a_property front c i at inside) (property_values.has_given_way n m stands is given) =
+      let path : List ℕ = front ++ i ∷ [] in
+      let w = replaced_written o old new n m (empty_of shape) tree given path s stands (empty_writable o shape) in
+      let value = value_of_text o (ordered_tree old 0) s w.before w.old_text in
+      let held = value_at_path o old tree path n stands w.before value in
+      let changed = subst (λ x. Changed x (empty_of shape) path w.before w.after) (value_once w.changed held.at) w.changed in
+      record {
+        before = Some w.before;
+        after = Some w.after;
+        old_text = w.old_text;
+        new_text = w.new_text;
+        changed = by_ensuring_held front i (must_give_way (sym (same_shape shape held.has) ∙ is)) (replaces_held o old tree front c i at inside.of_object w.before w.after value changed);
+        sound = w.sound;
+      }
+
+  -- the truth value at a path is the one that was set
+  boolean_written : (old new : List Node) (path : List ℕ) (n : ℕ) (b : Bool) → IsTree old → SoundTree o (ordered_tree old 0) → IsBooleanAt old path n → BooleanSet old new n b → IsWritten o (set_boolean path b) (ordered_tree old 0) (ordered_tree new 0)
+  boolean_written old new path n b tree s at set =
+      let w = (writes_boolean o old new path n b tree s at.0 at.1 set).written in
+      record { before = Some w.before; after = Some w.after; old_text = w.old_text; new_text = w.new_text; changed = by_boolean (boolean_changed o old path n tree s at w.old_text w.changed).1; sound = w.sound }
+
   pub is_written : (old new : List Node) (e : Operation) → IsTree old → IsTree new → IsMade old e new → SoundTree o (ordered_tree old 0) → MayBeMade o e → IsWritten o e (ordered_tree old 0) (ordered_tree new 0)
   is_written old new (replace path v) tree after (n, m, at, r) s may =
       let w = replaced_written o old new n m v tree r path s at may in
@@ -155,6 +221,11 @@ module _ (o : Options) where
   is_written old new clear_root tree after made s may = root_cleared old new after s (emptied old new made)
   is_written old new (replace_property path name v) tree after (n, m, at, r) s may = property_written old new path n m name v tree s at may.0 may.1 r
   is_written old new (ensure_root shape how) tree after made s may = root_ensured old new shape how tree s (ensured old new shape how made)
+  is_written old new (set_value path v) tree after (r, at, set) s may =
+      let given = set_replaced o old new tree s path r at v set in
+      value_written old new path r v tree s at given.0 given.1 given.2 may given.3
+  is_written old new (ensure_value path shape) tree after (r, at, ensured) s may = shape_written old new path r shape tree s at (property_values.value_ensured o old new tree s path r at shape ensured)
+  is_written old new (set_boolean path b) tree after (n, at, set) s may = boolean_written old new path n b tree s at set
 
   all_written : (old new : List Node) (es : List Operation) → IsTree old → AreMade old es new → SoundTree o (ordered_tree old 0) → All (MayBeMade o) es → AreWritten o es (ordered_tree old 0) (ordered_tree new 0)
   all_written old _ [] tree none_made s may =

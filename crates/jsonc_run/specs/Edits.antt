@@ -1,28 +1,30 @@
 -- What edits ask for, and that they are made in order.
-use Rattle.std.specs.Prelude.{◌≡◌, ℕ, List, [], ◌∷◌, length, Option, Some, None, map}
+use Rattle.std.specs.Prelude.{◌≡◌, ℕ, Bool, false, List, [], ◌∷◌, length, Option, Some, None, map}
 use Rattle.jsonc_text.specs.Plain.{Plain}
 use Rattle.jsonc_input.specs.Views.{chars_of, plain}
 use Rattle.jsonc_tree.specs.Changes.{Splices}
 use Rattle.jsonc_tree.specs.Tree.{Node, children_at, IsTree}
-use Rattle.jsonc_nodes.specs.Properties.{value_at}
+use Rattle.jsonc_nodes.specs.Properties.{lacks_name_at, value_at}
 use Rattle.jsonc_edit.specs.Comments.{CommentTaken}
 use Rattle.jsonc_edit.specs.Paths.{IsAt}
 use Rattle.jsonc_edit.specs.Reading.{IsReplaced}
 use Rattle.jsonc_remove.specs.Removed.{TakesElement}
+use Rattle.jsonc_set.specs.Booleans.{BooleanSet}
 use Rattle.jsonc_set.specs.Giving.{IsPropertyReplaced}
 use Rattle.jsonc_set.specs.Kinds.{FoundOrCreated, FoundOrSet}
+use Rattle.jsonc_set.specs.PropertyValues.{HeldOrSet, LastValue}
 use Rattle.jsonc_set.specs.RootSet.{FirstValue}
 use Rattle.jsonc_run.specs.declared.edit.Edit.{Edit}
-use Rattle.jsonc_run.specs.declared.edit.Edit.TheVariants.{Replace, Remove, RemoveComment, SetRoot, ClearRoot, ReplaceProperty, EnsureRoot}
+use Rattle.jsonc_run.specs.declared.edit.Edit.TheVariants.{Replace, Remove, RemoveComment, SetRoot, ClearRoot, ReplaceProperty, EnsureRoot, SetValue, EnsureValue, SetBoolean}
 use Rattle.jsonc_run.specs.declared.edit.Over.{Over}
 use Rattle.jsonc_run.specs.declared.edit.Over.TheVariants as over
 use Rattle.jsonc_run.specs.declared.edit.Shape.{Shape}
-use Rattle.jsonc_run.specs.Places.{comment_at, IsEntryAt, IsPropertyAt}
+use Rattle.jsonc_run.specs.Places.{comment_at, IsBooleanAt, IsEntryAt, IsPropertyAt}
 use Rattle.jsonc_run.specs.Shapes.{is_of, empty_of}
 
 -- What an edit asks for: that the value at the path gives way to this one, that the entry at the path leaves, or the comment of this number; that the
 -- document's value is this one, or that all leaves the document; that the property at the path gives way to one of this name and value; that the document has
--- a value of a shape.
+-- a value of a shape; that the value of the property at the path is this one, or is of a shape; that the truth value at the path becomes this one.
 pub data Operation : Type 0 where
   replace : List ℕ → Plain → Operation
   remove : List ℕ → Operation
@@ -31,6 +33,9 @@ pub data Operation : Type 0 where
   clear_root : Operation
   replace_property : List ℕ → List ℕ → Plain → Operation
   ensure_root : Shape → Over → Operation
+  set_value : List ℕ → Plain → Operation
+  ensure_value : List ℕ → Shape → Operation
+  set_boolean : List ℕ → Bool → Operation
 
 module _ {A : Type 0} where
   abbrev pub operation_of : Edit A → Operation
@@ -41,6 +46,9 @@ module _ {A : Type 0} where
   operation_of ClearRoot = clear_root
   operation_of (ReplaceProperty path name value) = replace_property path.items (chars_of name) (plain value)
   operation_of (EnsureRoot shape how) = ensure_root shape how
+  operation_of (SetValue path value) = set_value path.items (plain value)
+  operation_of (EnsureValue path shape) = ensure_value path.items shape
+  operation_of (SetBoolean path value) = set_boolean path.items value
 
   abbrev pub operations_of : List (Edit A) → List Operation
   operations_of edits = map operation_of edits
@@ -56,10 +64,21 @@ abbrev pub RootEnsured : Shape → Over → List Node → List Node → Type 0
 RootEnsured shape over.Keep old new = (answer : Option ℕ) × FoundOrCreated (is_of shape) (empty_of shape) old new (value_at old 0) answer
 RootEnsured shape over.Replace old new = (m : ℕ) × FoundOrSet (is_of shape) (empty_of shape) old new (value_at old 0) m
 
+-- the value of the property r, if it holds one, has given way to this value; where it held none this has come at its end
+abbrev pub PropertyValueSet : List Node → List Node → ℕ → Plain → Option ℕ → Type 0
+PropertyValueSet old new r v None = (m : ℕ) × LastValue old new r v m
+PropertyValueSet old new r v (Some n) = (m : ℕ) × IsReplaced old new n v m
+
+-- the property r has a name and a colon; where its value is of the shape nothing has changed, and in the place of another, or where there was none, an empty
+-- one has been set
+abbrev pub PropertyValueEnsured : Shape → List Node → List Node → ℕ → Type 0
+PropertyValueEnsured shape old new r = (lacks_name_at old r ≡ false) × (m : ℕ) × HeldOrSet (is_of shape) (empty_of shape) old new r (value_at old r) m
+
 -- The edit was made: the node n, which stood at the path, has given way to m, which is the value, laid out as the old nodes tell; or n, the entry at the path,
 -- has been taken out with what leaves with it; or n, the comment of this number, has been taken out of the document; or the document's value has been set; or
 -- all the root's children have been taken out; or n, the property at the path, has given way to m; or the document has a value of
--- the shape, if it had none of another that was to stay.
+-- the shape, if it had none of another that was to stay; or the value of r, the property at the path, has been set, or is of the shape; or n, the truth value at
+-- the path, has become this one.
 abbrev pub IsMade : List Node → Operation → List Node → Type 0
 IsMade old (replace path v) new = (n m : ℕ) × IsAt old path n × IsReplaced old new n v m
 IsMade old (remove path) new = (n : ℕ) × IsEntryAt old path n × TakesElement old new n
@@ -68,6 +87,9 @@ IsMade old (set_root v) new = RootSet old new v (value_at old 0)
 IsMade old clear_root new = Splices old new 0 0 (length (children_at old 0)) []
 IsMade old (replace_property path name v) new = (n m : ℕ) × IsPropertyAt old path n × IsPropertyReplaced old new n name v m
 IsMade old (ensure_root shape how) new = RootEnsured shape how old new
+IsMade old (set_value path v) new = (r : ℕ) × IsPropertyAt old path r × PropertyValueSet old new r v (value_at old r)
+IsMade old (ensure_value path shape) new = (r : ℕ) × IsPropertyAt old path r × PropertyValueEnsured shape old new r
+IsMade old (set_boolean path b) new = (n : ℕ) × IsBooleanAt old path n × BooleanSet old new n b
 
 -- the edits were made in order, each in the tree that the one before it made
 pub data AreMade : List Node → List Operation → List Node → Type 0 where

@@ -1,23 +1,24 @@
 -- What edits that were made in order make of the marks of a document: its literals and comments, as they are written.
-use Rattle.std.specs.Prelude.{◌≡◌, ℕ, List, [], ◌∷◌}
+use Rattle.std.specs.Prelude.{◌≡◌, ℕ, Bool, List, [], ◌∷◌}
 use Rattle.std.specs.List.{All}
 use Rattle.jsonc_text.specs.Options.{Options}
+use Rattle.jsonc_text.specs.Plain.{boolean}
 use Rattle.jsonc_tree.specs.Tree.{Node}
 use Rattle.jsonc_tree.specs.OrderedTree.{ordered_tree}
 use Rattle.jsonc_build.specs.Shape.{printed_text}
 use Rattle.jsonc_tree.specs.OrderedTree.{Top}
-use Rattle.jsonc_seams.specs.SoundTrees.{SoundTree}
-use Rattle.jsonc_marks.specs.Changes.{MarksDifferIn}
-use Rattle.jsonc_marks.specs.Marks as marks
-use Rattle.jsonc_marks.specs.Marks.{Mark, AreMarks}
-use Rattle.jsonc_marks.specs.Written.{property_written, written}
-use Rattle.jsonc_rows.specs.Laws.{LosesMarks}
-use Rattle.jsonc_run.specs.Edits.{Operation, replace, remove, remove_comment, set_root, clear_root, replace_property, ensure_root}
+use Rattle.jsonc_laws.specs.SoundTrees.{SoundTree}
+use Rattle.jsonc_laws.specs.MarkChanges.{MarksDifferIn}
+use Rattle.jsonc_laws.specs.Marks as marks
+use Rattle.jsonc_laws.specs.Marks.{Mark, AreMarks}
+use Rattle.jsonc_laws.specs.Written.{property_written, written}
+use Rattle.jsonc_laws.specs.EntryLaws.{LosesMarks}
+use Rattle.jsonc_run.specs.Edits.{Operation, replace, remove, remove_comment, set_root, clear_root, replace_property, ensure_root, set_value, ensure_value, set_boolean}
 use Rattle.jsonc_run.specs.Written.{MayBeMade}
 
 -- One stretch of the marks has given way to the literals that are written for the new value, or for the new name and value of a property; in a document
 -- that had no value these have come. Or those of an entry have left, with comments beside it; or one comment has left. All others stay, in order. An
--- empty array or object has none. Of a cleared root none stay.
+-- empty array or object has none. Of a cleared root none stay. One truth value has given way to another.
 abbrev pub IsMarked : List Mark → Operation → List Mark → Type 0
 IsMarked x (replace path v) y = (was : List Mark) × MarksDifferIn was (written v) x y
 IsMarked x (remove path) y = (top : Top) × LosesMarks top x y
@@ -26,6 +27,9 @@ IsMarked x (set_root v) y = (was : List Mark) × MarksDifferIn was (written v) x
 IsMarked x clear_root y = y ≡ []
 IsMarked x (replace_property path name v) y = (was : List Mark) × MarksDifferIn was (property_written name v) x y
 IsMarked x (ensure_root shape how) y = (was : List Mark) × MarksDifferIn was [] x y
+IsMarked x (set_value path v) y = (was : List Mark) × MarksDifferIn was (written v) x y
+IsMarked x (ensure_value path shape) y = (was : List Mark) × MarksDifferIn was [] x y
+IsMarked x (set_boolean path b) y = (was : Bool) × MarksDifferIn (written (boolean was)) (written (boolean b)) x y
 
 -- so it is for each of the edits, one after another
 pub data AreMarked : List Mark → List Operation → List Mark → Type 0 where

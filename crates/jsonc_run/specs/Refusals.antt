@@ -1,23 +1,24 @@
 -- Why an edit is not made, and what a list of edits has made until then.
-use Rattle.std.specs.Prelude.{◌≡◌, ℕ, List, Some, None, take}
+use Rattle.std.specs.Prelude.{◌≡◌, ℕ, true, List, Some, None, take}
 use Rattle.std.specs.List.{slice_get}
 use Rattle.jsonc_tree.specs.OrderedTree.{ordered_tree}
 use Rattle.jsonc_tree.specs.Tree.{Node}
-use Rattle.jsonc_nodes.specs.Properties.{value_at}
+use Rattle.jsonc_nodes.specs.Properties.{lacks_name_at, value_at}
 use Rattle.jsonc_edit.specs.declared.error.EditError.{EditError}
 use Rattle.jsonc_edit.specs.declared.error.EditError.TheVariants.{OutOfMemory, MissingBrackets, MissingName, NoSuchPlace}
 use Rattle.jsonc_edit.specs.Comments.{WantsSpace}
 use Rattle.jsonc_edit.specs.Paths.{IsAt}
 use Rattle.jsonc_remove.specs.Removed.{IsKeptFor}
+use Rattle.jsonc_set.specs.Booleans.{WantsSpaceFor}
 use Rattle.jsonc_set.specs.Kinds.{LacksKind}
 use Rattle.jsonc_run.specs.declared.edit.Over.{Over}
 use Rattle.jsonc_run.specs.declared.edit.Over.TheVariants as over
 use Rattle.jsonc_run.specs.declared.edit.Shape.{Shape}
 use Rattle.jsonc_run.specs.Shapes.{is_of}
-use Rattle.jsonc_run.specs.Places.{comment_at, IsEntryAt, IsPropertyAt}
-use Rattle.jsonc_run.specs.Edits.{Operation, replace, remove, remove_comment, set_root, clear_root, replace_property, ensure_root, AreMade}
+use Rattle.jsonc_run.specs.Places.{comment_at, IsBooleanAt, IsEntryAt, IsPropertyAt}
+use Rattle.jsonc_run.specs.Edits.{Operation, replace, remove, remove_comment, set_root, clear_root, replace_property, ensure_root, set_value, ensure_value, set_boolean, AreMade}
 
--- a node stands where the edit is to be made, an entry, a property, or there is the comment; edits of the root always have their place
+-- a node stands where the edit is to be made, an entry, a property, a truth value, or there is the comment; edits of the root always have their place
 abbrev pub HasItsPlace : List Node → Operation → Type 0
 HasItsPlace ns (replace path v) = (n : ℕ) × IsAt ns path n
 HasItsPlace ns (remove path) = (n : ℕ) × IsEntryAt ns path n
@@ -26,13 +27,16 @@ HasItsPlace ns (set_root v) = Unit {0}
 HasItsPlace ns clear_root = Unit {0}
 HasItsPlace ns (replace_property path name v) = (n : ℕ) × IsPropertyAt ns path n
 HasItsPlace ns (ensure_root shape how) = Unit {0}
+HasItsPlace ns (set_value path v) = (n : ℕ) × IsPropertyAt ns path n
+HasItsPlace ns (ensure_value path shape) = (n : ℕ) × IsPropertyAt ns path n
+HasItsPlace ns (set_boolean path b) = (n : ℕ) × IsBooleanAt ns path n
 
 -- an empty value has to be set: the document has none, or one of another shape that is to give way
 abbrev pub WantsEmpty : Shape → Over → List Node → Type 0
 WantsEmpty shape over.Keep ns = value_at ns 0 ≡ None
 WantsEmpty shape over.Replace ns = LacksKind (is_of shape) ns (value_at ns 0)
 
--- memory may be wanted for what is written, where that has its place, and for the space that is due where an entry or a comment leaves
+-- memory may be wanted for what is written, where that has its place, and for the space that is due where an entry or a comment leaves, or before `false`
 abbrev pub MayWantMemory : List Node → Operation → Type 0
 MayWantMemory ns (replace path v) = (n : ℕ) × IsAt ns path n
 MayWantMemory ns (remove path) = (n : ℕ) × IsEntryAt ns path n × IsKeptFor ns n OutOfMemory
@@ -41,18 +45,26 @@ MayWantMemory ns (set_root v) = Unit {0}
 MayWantMemory ns clear_root = ⊥
 MayWantMemory ns (replace_property path name v) = (n : ℕ) × IsPropertyAt ns path n
 MayWantMemory ns (ensure_root shape how) = WantsEmpty shape how ns
+MayWantMemory ns (set_value path v) = (n : ℕ) × IsPropertyAt ns path n
+MayWantMemory ns (ensure_value path shape) = (n : ℕ) × IsPropertyAt ns path n × LacksKind (is_of shape) ns (value_at ns n)
+MayWantMemory ns (set_boolean path b) = (n : ℕ) × IsBooleanAt ns path n × WantsSpaceFor ns n b
 
 -- the array or object of the entry that is to leave lacks a bracket
 abbrev pub LacksBrackets : List Node → Operation → Type 0
 LacksBrackets ns (remove path) = (n : ℕ) × IsEntryAt ns path n × IsKeptFor ns n MissingBrackets
 LacksBrackets ns e = ⊥
 
--- why the edit was not made: memory was wanted, it has no place, or a bracket is missing; nothing else is told
+-- the property whose value is to be of a shape lacks its name, or its colon
+abbrev pub LacksName : List Node → Operation → Type 0
+LacksName ns (ensure_value path shape) = (n : ℕ) × IsPropertyAt ns path n × (lacks_name_at ns n ≡ true)
+LacksName ns e = ⊥
+
+-- why the edit was not made: memory was wanted, it has no place, or a bracket or a name is missing; nothing else is told
 abbrev pub IsToldBy : List Node → Operation → EditError → Type 0
 IsToldBy ns e OutOfMemory = MayWantMemory ns e
 IsToldBy ns e NoSuchPlace = ¬ (HasItsPlace ns e)
 IsToldBy ns e MissingBrackets = LacksBrackets ns e
-IsToldBy ns e MissingName = ⊥
+IsToldBy ns e MissingName = LacksName ns e
 
 -- The first k edits were made, each whole; there is one more, which was not made for this reason; and the document is as those k left it.
 pub record StopsAt (old : List Node) (es : List Operation) (k : ℕ) (stop : EditError) (new : List Node) : Type 0 where

@@ -1,31 +1,32 @@
 -- What edits that were made in order make of a document: of its value, its leaves and its text.
-use Rattle.std.specs.Prelude.{◌≡◌, ℕ, true, false, List, [], ◌∷◌, ◌++◌, Option, Some, None}
+use Rattle.std.specs.Prelude.{◌≡◌, ℕ, Bool, true, false, List, [], ◌∷◌, ◌++◌, Option, Some, None}
 use Rattle.std.specs.List.{All}
 use Rattle.jsonc_text.specs.Options.{Options}
-use Rattle.jsonc_text.specs.Plain.{Plain}
+use Rattle.jsonc_text.specs.Plain.{Plain, boolean, object, Members}
 use Rattle.jsonc_text.specs.Grammar.{IsDocument}
 use Rattle.jsonc_tree.specs.Tree.{Node}
 use Rattle.jsonc_tree.specs.OrderedTree.{OrderedTree, none, leaves, ordered_tree, Top}
 use Rattle.jsonc_build.specs.Shape.{printed_text}
-use Rattle.jsonc_sound.specs.Changes.{Changed}
-use Rattle.jsonc_sound.specs.Laws.{DiffersIn}
-use Rattle.jsonc_sound.specs.TreeChanges.{leaves_of, property_of, DocumentChanged}
+use Rattle.jsonc_laws.specs.Booleans.{boolean_leaf}
+use Rattle.jsonc_laws.specs.Changes.{Changed, MemberChanged}
+use Rattle.jsonc_laws.specs.ChangeLaws.{DiffersIn}
+use Rattle.jsonc_laws.specs.TreeChanges.{leaves_of, property_of, DocumentChanged}
 use Rattle.jsonc_from_input.specs.Layout.{Layout}
-use Rattle.jsonc_seams.specs.SoundTrees.{SoundTree}
+use Rattle.jsonc_laws.specs.SoundTrees.{SoundTree}
 use Rattle.jsonc_edit.specs.Comments.{LosesComment}
 use Rattle.jsonc_from_input.specs.Laid.{laid, laid_property}
 use Rattle.jsonc_from_input.specs.Texts.{IsCharacters}
 use Rattle.jsonc_edit.specs.Spaced.{SpacesPut}
 use Rattle.jsonc_edit.specs.Writing.{IsWritable}
-use Rattle.jsonc_rows.specs.Coming.{ValueComes}
-use Rattle.jsonc_rows.specs.Laws.{LosesEntry, root_with}
-use Rattle.jsonc_rows.specs.Properties.{PropertyChanged, ReplacesMember}
+use Rattle.jsonc_laws.specs.Coming.{ValueComes}
+use Rattle.jsonc_laws.specs.EntryLaws.{LosesEntry, root_with}
+use Rattle.jsonc_laws.specs.Properties.{PropertyChanged, ReplacesMember}
 use Rattle.jsonc_remove.specs.Laws.{EntryTaken, ValueTaken}
 use Rattle.jsonc_run.specs.declared.edit.Over.{Over}
 use Rattle.jsonc_run.specs.declared.edit.Over.TheVariants as over
 use Rattle.jsonc_run.specs.declared.edit.Shape.{Shape}
 use Rattle.jsonc_run.specs.Shapes.{has_shape, empty_of}
-use Rattle.jsonc_run.specs.Edits.{Operation, replace, remove, remove_comment, set_root, clear_root, replace_property, ensure_root}
+use Rattle.jsonc_run.specs.Edits.{Operation, replace, remove, remove_comment, set_root, clear_root, replace_property, ensure_root, set_value, ensure_value, set_boolean}
 
 -- documents of these options can hold what the edit writes: its value, and the name of its property
 abbrev pub MayBeMade : Options → Operation → Type 0
@@ -36,6 +37,9 @@ MayBeMade o (set_root v) = IsWritable o v
 MayBeMade o clear_root = Unit {0}
 MayBeMade o (replace_property path name v) = IsCharacters name × IsWritable o v
 MayBeMade o (ensure_root shape how) = Unit {0}
+MayBeMade o (set_value path v) = IsWritable o v
+MayBeMade o (ensure_value path shape) = Unit {0}
+MayBeMade o (set_boolean path b) = Unit {0}
 
 -- the second value is the empty one of the shape, where there was none, or one of another shape that was to give way; any other has stayed
 pub data EnsuredValue (shape : Shape) : Over → Option Plain → Option Plain → Type 0 where
@@ -44,10 +48,19 @@ pub data EnsuredValue (shape : Shape) : Over → Option Plain → Option Plain �
   may_stay : {x : Plain} → has_shape shape x ≡ false → EnsuredValue shape over.Keep (Some x) (Some x)
   must_give_way : {x : Plain} → has_shape shape x ≡ false → EnsuredValue shape over.Replace (Some x) (Some (empty_of shape))
 
+-- of the object at the path the value of the property at this place has given way to another, and nothing else has
+pub record ReplacesHeld (path : List ℕ) (i : ℕ) (was now x y : Plain) : Type 0 where
+  pub old : Members
+  pub new : Members
+  pub changed : MemberChanged was now i old new
+  pub inside : Changed (object old) (object new) path x y
+
 -- The edit makes the second value of the first: where another value is written, this is the first, but that at the path the new value stands; where an entry
 -- leaves, it is the first without the entry, or none without the document's value; where a comment leaves, it is the first, if there is one; where the
 -- document's value is set, it is that, and where the root is cleared there is none; where a property gives way, it is the first, but for that entry; where
--- a value of a shape is to be there, it is the first or an empty one.
+-- a value of a shape is to be there, it is the first or an empty one; where the value of a property is set, or is to be of a shape, it is the first, but that
+-- the property has this value, or, if it had none of the shape, an empty one; where a truth value is set, it is the first, but that at the path, where one
+-- stood, this one stands.
 pub data IsChanged : Option Plain → Operation → Option Plain → Type 0 where
   by_value : {given_up v x y : Plain} {path : List ℕ} → Changed given_up v path x y → IsChanged (Some x) (replace path v) (Some y)
   by_entry : (path : List ℕ) (i : ℕ) {x y : Plain} → LosesEntry path i x y → IsChanged (Some x) (remove (path ++ i ∷ [])) (Some y)
@@ -58,6 +71,10 @@ pub data IsChanged : Option Plain → Operation → Option Plain → Type 0 wher
   by_property : (path : List ℕ) (i : ℕ) {name : List ℕ} {v x y : Plain} → ReplacesMember path i name v x y
       → IsChanged (Some x) (replace_property (path ++ i ∷ []) name v) (Some y)
   by_ensuring : {shape : Shape} {how : Over} {w x : Option Plain} → EnsuredValue shape how w x → IsChanged w (ensure_root shape how) x
+  by_setting : (path : List ℕ) (i : ℕ) {was v x y : Plain} → ReplacesHeld path i was v x y → IsChanged (Some x) (set_value (path ++ i ∷ []) v) (Some y)
+  by_ensuring_held : (path : List ℕ) (i : ℕ) {shape : Shape} {was now x y : Plain} → EnsuredValue shape over.Replace (Some was) (Some now) → ReplacesHeld path i was now x y
+      → IsChanged (Some x) (ensure_value (path ++ i ∷ []) shape) (Some y)
+  by_boolean : {was b : Bool} {x y : Plain} {path : List ℕ} → Changed (boolean was) (boolean b) path x y → IsChanged (Some x) (set_boolean path b) (Some y)
 
 -- the edits, one after another, make the second value of the first
 pub data AreChanged : Option Plain → List Operation → Option Plain → Type 0 where
@@ -89,6 +106,11 @@ pub data RootValueEnsured (shape : Shape) (t u : OrderedTree) : Type 0 where
   all_kept : u ≡ t → RootValueEnsured shape t u
   empty_set : RootValueSet (empty_of shape) t u → RootValueEnsured shape t u
 
+-- all has stayed, or the value at the path has given way to the empty value of a shape
+pub data ValueEnsured (path : List ℕ) (shape : Shape) (t u : OrderedTree) : Type 0 where
+  all_stays : u ≡ t → ValueEnsured path shape t u
+  empty_given : ValueGivesWay path (empty_of shape) t u → ValueEnsured path shape t u
+
 -- spaces have come into the document, and then in the row of the object at the path, between its front and its rest, a property has given way to one of this
 -- name and value, in some layout; all leaves before and after stay
 pub data PropertyGivenWay (name : List ℕ) (v : Plain) (t u : OrderedTree) : List ℕ → Type 0 where
@@ -97,9 +119,9 @@ pub data PropertyGivenWay (name : List ℕ) (v : Plain) (t u : OrderedTree) : Li
       → DiffersIn (leaves_of (property_of was)) (leaves_of (property_of (laid_property layout name v).below)) (leaves spaced) (leaves u)
       → PropertyGivenWay name v t u (path ++ i ∷ [])
 
--- What stays where an edit is made: all leaves around a value that gives way, and around a comment with the blanks before it; in a sound document all around
--- an entry with what leaves with it, around the document's value, and around a property that gives way to one that may be written. Of a cleared root nothing
--- stays.
+-- What stays where an edit is made: all leaves around a value that gives way, or a truth value that becomes another, and around a comment with the blanks
+-- before it; in a sound document all around an entry with what leaves with it, around the document's value, around a property that gives way to one that may
+-- be written, and around a property's value. Of a cleared root nothing stays.
 abbrev pub StayAround : OrderedTree → Operation → OrderedTree → Type 0
 StayAround t (replace path v) u = ValueGivesWay path v t u
 StayAround t (remove path) u = (o : Options) → SoundTree o t → EntryLeft t u path
@@ -108,6 +130,9 @@ StayAround t (set_root v) u = (o : Options) → SoundTree o t → RootValueSet v
 StayAround t clear_root u = u ≡ root_with none
 StayAround t (replace_property path name v) u = (o : Options) → SoundTree o t → IsCharacters name → IsWritable o v → PropertyGivenWay name v t u path
 StayAround t (ensure_root shape how) u = (o : Options) → SoundTree o t → RootValueEnsured shape t u
+StayAround t (set_value path v) u = (o : Options) → SoundTree o t → ValueGivesWay path v t u
+StayAround t (ensure_value path shape) u = (o : Options) → SoundTree o t → ValueEnsured path shape t u
+StayAround t (set_boolean path b) u = (was : Bool) × (given : ValueGivesWay path (boolean b) t u) × (given.was ≡ boolean_leaf was)
 
 -- so it is for each of the edits, one after another
 pub data AllStayAround : OrderedTree → List Operation → OrderedTree → Type 0 where

@@ -45,4 +45,15 @@ pub enum Edit<A: Allocator> {
     /// The document has an array or an object: where it has no value, an empty one is set; where it has a
     /// value of another kind, that stays or gives way to an empty one.
     EnsureRoot(Shape, Over),
+    /// The value of the property that the last step of a path leads to gives way to another. In a document
+    /// whose properties are whole that is what `Replace` does; a property that lost its value by edits of
+    /// single leaves gets this one behind all that it holds.
+    SetValue(Vec<usize, A>, CstInputValue<A>),
+    /// The property that the last step of a path leads to has an array or an object as its value: a value
+    /// of another kind gives way to an empty one, and one that is missing is set so. A property that lacks
+    /// its name or its colon is refused.
+    EnsureValue(Vec<usize, A>, Shape),
+    /// The truth value at a path becomes this one. Memory is wanted only where `false` would come to stand
+    /// directly behind a hexadecimal number, and a space has to come between them.
+    SetBoolean(Vec<usize, A>, bool),
 }

@@ -4,8 +4,9 @@
 //! (`specs/Edits.antt`). An edit lets the value at a path give way to another, takes the element or
 //! property at a path out, or the document's value ([`find_entry`]), or the comment of a number
 //! ([`find_comment`]); it sets the document's value, takes all out of the document, lets the property at a
-//! path give way to another ([`find_property`]), or sees that the document has an array or an object. One
-//! that is refused leaves the document as the ones before it left it (`specs/Refusals.antt`).
+//! path give way to another ([`find_property`]), sets the value of that property or the truth value at a
+//! path, or sees that the document or a property has an array or an object. One that is refused leaves
+//! the document as the ones before it left it (`specs/Refusals.antt`).
 //! In a sound document the text that a list of edits makes is a document again, whose value is what the
 //! same edits make of the old one's, and which is sound (`specs/Written.antt`). Where two literals
 //! without quotes would come to stand directly beside each other, an edit writes a space between them.
@@ -16,6 +17,7 @@ mod edit;
 mod entries;
 pub mod laws;
 mod making;
+mod values;
 
 pub use comments::find_comment;
 pub use edit::{Edit, Over, Shape};

@@ -18,6 +18,7 @@ ghost use Rattle.jsonc_run.specs.Written.{WriteAll};
 use crate::comments::find_comment;
 use crate::edit::{Edit, Over, Shape};
 use crate::entries::{find_entry, find_property};
+use crate::values::{ensure_value_at, set_boolean_at, set_value_at};
 use jsonc_edit::{EditError, find, remove_comment, replace};
 use jsonc_input::CstInputValue;
 use jsonc_remove::remove;
@@ -71,6 +72,9 @@ fn make_by_kind<A: Allocator + Copy>(
             replace_property_at(alloc, tree, path, name, value)
         }
         Edit::EnsureRoot(shape, over) => ensure_value(alloc, tree, *shape, *over),
+        Edit::SetValue(path, value) => set_value_at(alloc, tree, path, value),
+        Edit::EnsureValue(path, shape) => ensure_value_at(alloc, tree, path, *shape),
+        Edit::SetBoolean(path, value) => set_boolean_at(alloc, tree, path, *value),
     }
 }
 

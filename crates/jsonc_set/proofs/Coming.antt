@@ -16,15 +16,15 @@ use Rattle.jsonc_nodes.specs.Kinds.{is_element_at, is_trivia}
 use Rattle.jsonc_nodes.specs.Properties.{value_at, value_by}
 use Rattle.jsonc_lines.specs.Breadth.{newline_kind_of}
 use Rattle.jsonc_tree.specs.OrderedTree.{Top}
-use Rattle.jsonc_sound.specs.TriviaChanges.{AreTrivia, leaves_then}
-use Rattle.jsonc_sound.proofs.FirstNodes.{no_element}
-use Rattle.jsonc_seams.specs.Alone as alone
-use Rattle.jsonc_seams.specs.Alone.{RootAlone}
-use Rattle.jsonc_seams.specs.SoundTrees.{SoundTree}
-use Rattle.jsonc_seams.proofs.Changed.{alone_element}
-use Rattle.jsonc_rows.specs.Coming.{ValueComes, value_comes}
-use Rattle.jsonc_rows.specs.Leaving.{among}
-use Rattle.jsonc_rows.proofs.RootRows.{leaves_then_joined, line_ends_trivia, passed_first, root_alone}
+use Rattle.jsonc_laws.specs.TriviaChanges.{AreTrivia, leaves_then}
+use Rattle.jsonc_laws.proofs.FirstNodes.{no_element}
+use Rattle.jsonc_laws.specs.Alone as alone
+use Rattle.jsonc_laws.specs.Alone.{RootAlone}
+use Rattle.jsonc_laws.specs.SoundTrees.{SoundTree}
+use Rattle.jsonc_laws.proofs.Changed.{alone_element}
+use Rattle.jsonc_laws.specs.Coming.{ValueComes, value_comes}
+use Rattle.jsonc_laws.specs.Leaving.{among}
+use Rattle.jsonc_laws.proofs.RootRows.{leaves_then_joined, line_ends_trivia, passed_first, root_alone}
 use Rattle.jsonc_edit.specs.Changes.{row_below, Respliced}
 use Rattle.jsonc_edit.specs.Reading.{layout_for}
 use Rattle.jsonc_from_input.specs.Laid.{laid}

@@ -6,7 +6,7 @@ use Rattle.jsonc_tree.specs.Content.{Content, newline}
 use Rattle.jsonc_tree.specs.Tree.{Node, content_at}
 use Rattle.jsonc_tree.specs.declared.node.CstNewlineKind.{CstNewlineKind}
 use Rattle.jsonc_nodes.specs.Kinds.{is_newline, is_newline_at}
-use Rattle.jsonc_rows.specs.Coming.{AreLineEnds, ends_in_comment, begins_in_line_end}
+use Rattle.jsonc_laws.specs.Coming.{AreLineEnds, ends_in_comment, begins_in_line_end}
 use Rattle.jsonc_edit.specs.Comments.{newline_from}
 use Rattle.jsonc_set.specs.RootSet.{place_in, follows_comment, ends_row, line_end_if}
 

@@ -11,16 +11,16 @@ use Rattle.jsonc_tree.specs.Values.{DocumentValueOf}
 use Rattle.jsonc_build.specs.Shape.{DocumentShaped, printed_text}
 use Rattle.jsonc_nodes.specs.Kinds.{is_property}
 use Rattle.jsonc_tree.specs.OrderedTree.{Top}
-use Rattle.jsonc_sound.specs.TreeChanges.{IsElement}
-use Rattle.jsonc_seams.specs.Alone as alone
-use Rattle.jsonc_seams.specs.SoundTrees.{SoundTree}
+use Rattle.jsonc_laws.specs.TreeChanges.{IsElement}
+use Rattle.jsonc_laws.specs.Alone as alone
+use Rattle.jsonc_laws.specs.SoundTrees.{SoundTree}
 use Rattle.jsonc_build.proofs.ShapeValues.{document_printed}
-use Rattle.jsonc_marks.specs.Marks.{marks}
-use Rattle.jsonc_marks.specs.Changes.{MarksDifferIn, marks_under}
-use Rattle.jsonc_rows.specs.Coming.{ValueComes}
-use Rattle.jsonc_rows.specs.Laws.{root_with}
-use Rattle.jsonc_rows.proofs.FirstValue.{sound_with_first, has_first, marks_with_first}
-use Rattle.jsonc_rows.proofs.RootRows.{root_marks, root_sound}
+use Rattle.jsonc_laws.specs.Marks.{marks}
+use Rattle.jsonc_laws.specs.MarkChanges.{MarksDifferIn, marks_under}
+use Rattle.jsonc_laws.specs.Coming.{ValueComes}
+use Rattle.jsonc_laws.specs.EntryLaws.{root_with}
+use Rattle.jsonc_laws.proofs.FirstValue.{sound_with_first, has_first, marks_with_first}
+use Rattle.jsonc_laws.proofs.RootRows.{root_marks, root_sound}
 use Rattle.jsonc_edit.specs.Changes.{row_below}
 use Rattle.jsonc_edit.specs.Reading.{layout_for, commas_told_by}
 use Rattle.jsonc_from_input.specs.Laid.{laid}

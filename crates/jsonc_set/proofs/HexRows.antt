@@ -11,14 +11,14 @@ use Rattle.jsonc_tree.specs.OrderedTree.{OrderedTree, none, more, own_leaf, leav
 use Rattle.jsonc_tree.specs.Tree.{Node, content_at}
 use Rattle.jsonc_build.specs.Shape as shape
 use Rattle.jsonc_build.specs.Shape.{IsTrivia, Trivia, IsLiteralBefore, IsNameBefore}
-use Rattle.jsonc_sound.specs.Rows as rows
-use Rattle.jsonc_sound.specs.Rows.{Last}
-use Rattle.jsonc_seams.specs.Adjacent.{first_char, or_else, last_printed}
-use Rattle.jsonc_seams.specs.Alone as alone
-use Rattle.jsonc_seams.specs.Alone.{ValueAlone, RowAlone, PropertyAlone, RootAlone}
-use Rattle.jsonc_seams.specs.Booleans.{is_hex_leaf}
-use Rattle.jsonc_seams.specs.Spaces.{is_bare}
-use Rattle.jsonc_seams.proofs.Spaces.{own_last, last_append}
+use Rattle.jsonc_laws.specs.Rows as rows
+use Rattle.jsonc_laws.specs.Rows.{Last}
+use Rattle.jsonc_laws.specs.Adjacent.{first_char, or_else, last_printed}
+use Rattle.jsonc_laws.specs.Alone as alone
+use Rattle.jsonc_laws.specs.Alone.{ValueAlone, RowAlone, PropertyAlone, RootAlone}
+use Rattle.jsonc_laws.specs.Booleans.{is_hex_leaf}
+use Rattle.jsonc_laws.specs.Spaces.{is_bare}
+use Rattle.jsonc_laws.proofs.Spaces.{own_last, last_append}
 use Rattle.jsonc_spaces.specs.Due.{prints, prints_at, nearest}
 use Rattle.jsonc_spaces.proofs.Meeting.{Printed, value_last}
 use Rattle.jsonc_set.specs.Booleans.{is_hex_at}

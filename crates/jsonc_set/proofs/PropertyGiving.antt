@@ -8,7 +8,7 @@ use Rattle.jsonc_tree.specs.Changes.{CanJoin, Splices}
 use Rattle.jsonc_tree.specs.Content.{Content, property}
 use Rattle.jsonc_tree.specs.Tree.{Node, content_at, parent_at, place_at, IsTree, IsOver}
 use Rattle.jsonc_tree.proofs.Order.{parent_there}
-use Rattle.jsonc_sound.specs.TreeChanges.{IsElement}
+use Rattle.jsonc_laws.specs.TreeChanges.{IsElement}
 use Rattle.jsonc_from_input.specs.Layout.{Layout}
 use Rattle.jsonc_from_input.specs.Laid.{laid_property}
 use Rattle.jsonc_spaces.specs.Due.{due_behind, due_before, listed}

@@ -9,7 +9,7 @@ use Rattle.jsonc_tree.proofs.Order.{not_over_parent, parent_there}
 use Rattle.jsonc_tree.proofs.Over.{over_up}
 use Rattle.jsonc_nodes.specs.Kinds.{is_element, is_element_at}
 use Rattle.jsonc_nodes.specs.Siblings.{elements_at}
-use Rattle.jsonc_sound.specs.TreeChanges.{IsElement}
+use Rattle.jsonc_laws.specs.TreeChanges.{IsElement}
 use Rattle.jsonc_spaces.specs.Due.{listed}
 use Rattle.jsonc_spaces.specs.Put.{AreSpaced}
 use Rattle.jsonc_edit.specs.Paths.{IsElementOf, StepsTo, LeadsTo, itself, step, IsAt}
@@ -17,6 +17,7 @@ use Rattle.jsonc_edit.specs.Reading.{layout_for}
 use Rattle.jsonc_edit.proofs.Elements.{Some_same, taken, left, StandsAt, stands_at}
 use Rattle.jsonc_edit.proofs.GivingWay.{InPlace, in_place}
 use Rattle.jsonc_edit.proofs.Kept.{at_kept, filter_same}
+use Rattle.jsonc_edit.proofs.NewPaths.{other_held}
 use Rattle.jsonc_edit.proofs.Spacing.{at_stays}
 use Rattle.jsonc_edit.proofs.Uniqueness.{element_parent, leads_over}
 use Rattle.jsonc_set.specs.Giving.{due_after, property_top}
@@ -62,7 +63,7 @@ module _ (old new : List Node) (tree : IsTree old) (n m c i : ℕ) (now : Top) (
       let below : parent_at old q ≡ Some r = element_parent old tree r 1 q held.1 in
       let apart_r : r ≢ c = λ same. not_over_parent old tree q c (below ∙ ap Some same) over in
       let apart_x : x ≢ c = λ same. not_over_parent old tree r c (element_parent old tree x j r e ∙ ap Some same) (over_up old q r c below over) in
-      step (StepsTo.in_object (p.contents x ∙ o) (element_stays x j r apart_x e) (p.contents r ∙ held.0, element_stays r 1 q apart_r held.1)) (leads_stay q path rest)
+      step (StepsTo.in_object (p.contents x ∙ o) (element_stays x j r apart_x e) (p.contents r ∙ held.0, element_stays r 1 q apart_r held.1, other_held old new tree n m now p element r q held.0 (λ told. apart_r (Some_same r c (sym told ∙ said))) held.2)) (leads_stay q path rest)
 
   pub at_still : (path : List ℕ) → IsAt old path c → IsAt new path c
   at_still path (x, e, leads) =

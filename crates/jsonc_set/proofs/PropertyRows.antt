@@ -22,23 +22,23 @@ use Rattle.jsonc_nodes.specs.Kinds.{is_element, is_element_at}
 use Rattle.jsonc_nodes.specs.Siblings.{elements_at}
 use Rattle.jsonc_from_input.specs.Layout.{Layout}
 use Rattle.jsonc_from_input.specs.Laid.{laid, laid_property, string_leaf}
-use Rattle.jsonc_sound.specs.Laws.{DiffersIn}
-use Rattle.jsonc_sound.specs.Rows as rows
-use Rattle.jsonc_sound.specs.Rows.{Last}
-use Rattle.jsonc_sound.specs.TreeChanges.{IsElement, leaves_of, property_of, ElementChanged, DocumentChanged, in_root}
-use Rattle.jsonc_sound.proofs.FirstNodes.{here, over, beyond, meets_first, none_changed, no_element, trivia_over}
-use Rattle.jsonc_seams.specs.Adjacent.{or_else, last_printed}
-use Rattle.jsonc_seams.specs.Alone as alone
-use Rattle.jsonc_seams.specs.Alone.{ValueAlone, RowAlone, PropertyAlone}
-use Rattle.jsonc_seams.specs.InRows.{row_around}
-use Rattle.jsonc_seams.specs.SoundTrees.{SoundTree}
-use Rattle.jsonc_seams.specs.Spaces.{is_bare, is_bare_leaf, first_printed}
-use Rattle.jsonc_seams.proofs.RowsWithin.{LeafPrints, name_prints}
-use Rattle.jsonc_seams.proofs.Spaces.{last_append}
-use Rattle.jsonc_marks.specs.Marks.{marks}
-use Rattle.jsonc_marks.proofs.GivingWay.{space_keeps_marks}
-use Rattle.jsonc_rows.specs.Leaving.{element_count}
-use Rattle.jsonc_rows.specs.Properties.{object_of}
+use Rattle.jsonc_laws.specs.ChangeLaws.{DiffersIn}
+use Rattle.jsonc_laws.specs.Rows as rows
+use Rattle.jsonc_laws.specs.Rows.{Last}
+use Rattle.jsonc_laws.specs.TreeChanges.{IsElement, leaves_of, property_of, ElementChanged, DocumentChanged, in_root}
+use Rattle.jsonc_laws.proofs.FirstNodes.{here, over, beyond, meets_first, none_changed, no_element, trivia_over}
+use Rattle.jsonc_laws.specs.Adjacent.{or_else, last_printed}
+use Rattle.jsonc_laws.specs.Alone as alone
+use Rattle.jsonc_laws.specs.Alone.{ValueAlone, RowAlone, PropertyAlone}
+use Rattle.jsonc_laws.specs.InRows.{row_around}
+use Rattle.jsonc_laws.specs.SoundTrees.{SoundTree}
+use Rattle.jsonc_laws.specs.Spaces.{is_bare, is_bare_leaf, first_printed}
+use Rattle.jsonc_laws.proofs.RowsWithin.{LeafPrints, name_prints}
+use Rattle.jsonc_laws.proofs.Spaces.{last_append}
+use Rattle.jsonc_laws.specs.Marks.{marks}
+use Rattle.jsonc_laws.proofs.GivingWay.{space_keeps_marks}
+use Rattle.jsonc_laws.specs.Leaving.{element_count}
+use Rattle.jsonc_laws.specs.Properties.{object_of}
 use Rattle.jsonc_spaces.specs.Due.{begins_bare, due_before, due_behind, seen_behind, listed}
 use Rattle.jsonc_spaces.specs.Put.{AreSpaced}
 use Rattle.jsonc_spaces.proofs.Meeting.{value_last}

@@ -1,31 +1,24 @@
 -- The value of a property is its child; and what is taken back leaves the nodes as they were.
-use Rattle.std.proofs.Common.{◌≡◌, ℕ, ◌+◌, ◌<◌, false, cond, All, List, [], ◌∷◌, ◌++◌, length, take, drop, get_or, slice_index, slice_range, Option, Some, None, inl, inr, sym, ap, subst, ◌∙◌, arith, append-nil, length-append}
-use Rattle.std.specs.List.{splice, position}
-use Rattle.std.specs.Option.{option_and_then}
+use Rattle.std.proofs.Common.{◌≡◌, ℕ, ◌+◌, ◌<◌, false, cond, All, List, [], ◌∷◌, ◌++◌, length, take, drop, get_or, slice_index, slice_range, Some, None, inl, inr, sym, ap, subst, ◌∙◌, arith, append-nil, length-append}
+use Rattle.std.specs.List.{splice}
 use Rattle.std.proofs.Math.Seq.{get_or-append_seam, take-append_seam}
 use Rattle.std.proofs.lemmas.Bool.{cases_eq}
 use Rattle.std.proofs.lemmas.List.{drop_all, get_or_default}
 use Rattle.std.proofs.lemmas.List.Edits.{get_or-between, length-between}
-use Rattle.std.proofs.lemmas.List.Elements.{All-drop}
 use Rattle.jsonc_tree.specs.Building.{Keeps}
 use Rattle.jsonc_tree.specs.Changes.{Pushes, Splices}
 use Rattle.jsonc_tree.specs.Content.{Content, property}
 use Rattle.jsonc_tree.specs.Tree.{Node, content_at, parent_at, children_at, place_at, is_in, IsTree}
 use Rattle.jsonc_tree.proofs.Splicing.{out_from}
-use Rattle.jsonc_nodes.specs.Kinds.{is_colon_at, is_element_at}
-use Rattle.jsonc_nodes.specs.Properties.{element_from, value_at, value_by}
-use Rattle.jsonc_edit.proofs.FittingFinds.{found_one, none_is_some}
+use Rattle.jsonc_nodes.specs.Properties.{value_at}
+use Rattle.jsonc_nodes.proofs.Held.{held_among, value_is_held}
 
 -- the value of a property is its child
 pub held_child : (ns : List Node) → IsTree ns → (p n : ℕ) → content_at ns p ≡ property → value_at ns p ≡ Some n → parent_at ns n ≡ Some p
-held_child ns tree p n is e = by (position (is_colon_at ns) (children_at ns p)) (sym (ap (λ w. value_by w ns p) is) ∙ e)
+held_child ns tree p n is e = held_among (λ k. parent_at ns k ≡ Some p) ns (children_at ns p) n all (sym (value_is_held ns p is) ∙ e)
   where
     all : All (λ k. parent_at ns k ≡ Some p) (children_at ns p)
     all k d l = subst (λ j. parent_at ns j ≡ Some p) (get_or_default (children_at ns p) k 0 d l) (tree.named p k l)
-
-    by : (o : Option ℕ) → option_and_then (element_from ns p) o ≡ Some n → parent_at ns n ≡ Some p
-    by None f = none_is_some n f
-    by (Some k) f = (found_one (is_element_at ns) (λ j. parent_at ns j ≡ Some p) (drop k (children_at ns p)) n (All-drop (λ j. parent_at ns j ≡ Some p) k (children_at ns p) all) f).0
 
 -- A leaf came as the last child of p, other nodes were made, and then it was taken out.
 module _ (old held after new : List Node) (p : ℕ) (content : Content) (there : p < length old) (pushed : Pushes old held p content) (keeps : Keeps (length held) held after) (tree : IsTree after)

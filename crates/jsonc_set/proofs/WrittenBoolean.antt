@@ -3,7 +3,7 @@ use Rattle.std.proofs.Common.{◌≡◌, ◌≢◌, ℕ, ◌+◌, ◌<◌, Bool,
 use Rattle.std.specs.List.{All}
 use Rattle.std.proofs.lemmas.Bool.{cases_eq, false≢true}
 use Rattle.std.proofs.lemmas.List.{append_assoc, take-append-drop, drop_more}
-use Rattle.std.proofs.lemmas.List.Elements.{All-cons, All-head, All-nil, All-tail}
+use Rattle.std.proofs.lemmas.List.Elements.{All-cons, All-from_get_or, All-head, All-nil, All-tail}
 use Rattle.jsonc_text.specs.Options.{Options}
 use Rattle.jsonc_text.specs.Plain.{Plain}
 use Rattle.jsonc_tree.specs.Building.{Keeps}
@@ -17,36 +17,38 @@ use Rattle.jsonc_tree.proofs.Order.{not_over_parent, parent_there}
 use Rattle.jsonc_tree.proofs.Over.{over_up, sibling_not_over}
 use Rattle.jsonc_tree.proofs.OrderedTrees.{Shows-unique, leaves-followed_by}
 use Rattle.jsonc_tree.proofs.Rows.{Shows-append}
-use Rattle.jsonc_nodes.specs.Kinds.{is_element, is_element_at}
+use Rattle.jsonc_nodes.specs.Kinds.{is_colon, is_colon_at, is_element, is_element_at}
+use Rattle.jsonc_nodes.specs.Properties.{is_name, is_name_at, value_at}
 use Rattle.jsonc_nodes.specs.Siblings.{AreThere, IsThere, elements_at}
+use Rattle.jsonc_nodes.proofs.Held.{IsAlike, held_alike, held_in, value_is_held}
 use Rattle.jsonc_nodes.proofs.There.{before_there, find_there}
 use Rattle.jsonc_build.specs.Shape.{IsLiteralBefore, IsTrivia, token_then}
 use Rattle.jsonc_build.proofs.ShapeValues.{document_printed}
-use Rattle.jsonc_sound.specs.Laws.{DiffersIn}
-use Rattle.jsonc_sound.specs.Rows as rows
-use Rattle.jsonc_sound.specs.Rows.{Last}
-use Rattle.jsonc_sound.specs.TreeChanges.{IsElement, leaves_of, DocumentChanged}
-use Rattle.jsonc_sound.proofs.HeldValues.{document_held}
-use Rattle.jsonc_sound.proofs.LeavesAround.{document_differs, within}
-use Rattle.jsonc_sound.proofs.Values.{document_change}
-use Rattle.jsonc_seams.specs.Adjacent.{last_printed}
-use Rattle.jsonc_seams.specs.Alone as alone
-use Rattle.jsonc_seams.specs.Alone.{ValueAlone, RowAlone, PropertyAlone}
-use Rattle.jsonc_seams.specs.Booleans.{boolean_leaf, is_hex_leaf}
-use Rattle.jsonc_seams.specs.InRows.{row_around}
-use Rattle.jsonc_seams.specs.SoundTrees.{SoundTree}
-use Rattle.jsonc_seams.proofs.Apart.{document_alone, value_alone}
-use Rattle.jsonc_seams.proofs.Booleans.{shaped_with_boolean}
-use Rattle.jsonc_seams.proofs.LooseChanges.{document_loose}
-use Rattle.jsonc_seams.proofs.RowsWithin.{LeafPrints, last_some, name_prints, opening_print, same_if_some}
-use Rattle.jsonc_seams.proofs.Spaces.{last_append}
-use Rattle.jsonc_seams.proofs.Stretches.{parted_row}
-use Rattle.jsonc_seams.proofs.Texts.{name_leaf}
-use Rattle.jsonc_marks.specs.Changes.{MarksDifferIn, marks_under}
-use Rattle.jsonc_marks.specs.Marks.{marks}
-use Rattle.jsonc_marks.specs.Written as written_marks
-use Rattle.jsonc_marks.proofs.GivingWay.{values_marks}
-use Rattle.jsonc_rows.specs.Leaving.{element_count}
+use Rattle.jsonc_laws.specs.ChangeLaws.{DiffersIn}
+use Rattle.jsonc_laws.specs.Rows as rows
+use Rattle.jsonc_laws.specs.Rows.{Last}
+use Rattle.jsonc_laws.specs.TreeChanges.{IsElement, leaves_of, DocumentChanged}
+use Rattle.jsonc_laws.proofs.HeldValues.{document_held}
+use Rattle.jsonc_laws.proofs.LeavesAround.{document_differs, within}
+use Rattle.jsonc_laws.proofs.Values.{document_change}
+use Rattle.jsonc_laws.specs.Adjacent.{last_printed}
+use Rattle.jsonc_laws.specs.Alone as alone
+use Rattle.jsonc_laws.specs.Alone.{ValueAlone, RowAlone, PropertyAlone}
+use Rattle.jsonc_laws.specs.Booleans.{boolean_leaf, is_hex_leaf}
+use Rattle.jsonc_laws.specs.InRows.{row_around}
+use Rattle.jsonc_laws.specs.SoundTrees.{SoundTree}
+use Rattle.jsonc_laws.proofs.Apart.{document_alone, value_alone}
+use Rattle.jsonc_laws.proofs.Booleans.{shaped_with_boolean}
+use Rattle.jsonc_laws.proofs.LooseChanges.{document_loose}
+use Rattle.jsonc_laws.proofs.RowsWithin.{LeafPrints, last_some, name_prints, opening_print, same_if_some}
+use Rattle.jsonc_laws.proofs.Spaces.{last_append}
+use Rattle.jsonc_laws.proofs.SeamStretches.{parted_row}
+use Rattle.jsonc_laws.proofs.Texts.{name_leaf}
+use Rattle.jsonc_laws.specs.MarkChanges.{MarksDifferIn, marks_under}
+use Rattle.jsonc_laws.specs.Marks.{marks}
+use Rattle.jsonc_laws.specs.Written as written_marks
+use Rattle.jsonc_laws.proofs.GivingWay.{values_marks}
+use Rattle.jsonc_laws.specs.Leaving.{element_count}
 use Rattle.jsonc_spaces.specs.Due.{prints, prints_at, nearest, listed, seen_before}
 use Rattle.jsonc_spaces.specs.Put.{AreSpaced}
 use Rattle.jsonc_spaces.proofs.Putting.{contents_kept}
@@ -347,12 +349,31 @@ module _ (old new : List Node) (path : List ℕ) (n : ℕ) (b : Bool) (tree : Is
   content_still : (k : ℕ) (w : Content) → is_container w ≡ true → content_at spaced k ≡ w → content_at new k ≡ w
   content_still k w holds e = g.becomes.others k (λ same. false≢true (sym leaf ∙ ap (is_container_at spaced) (sym same) ∙ ap is_container e ∙ holds)) ∙ e
 
+  -- so does the value of a property
+  alike : (k : ℕ) → IsAlike spaced new k
+  alike k =
+      elim (cases_eq k n) [
+        | inl e ↦
+            record {
+              names = ap (is_name_at new) e ∙ ap is_name g.becomes.content ∙ sym (ap (is_name_at spaced) e ∙ ap is_name is_spaced);
+              colons = ap (is_colon_at new) e ∙ ap is_colon g.becomes.content ∙ sym (ap (is_colon_at spaced) e ∙ ap is_colon is_spaced);
+              elements = same_kind k;
+            }
+        | inr ne ↦ record { names = ap is_name (g.becomes.others k ne); colons = ap is_colon (g.becomes.others k ne); elements = same_kind k }
+      ]
+
+  held_still : (p q : ℕ) → content_at spaced p ≡ property → value_at spaced p ≡ Some q → value_at new p ≡ Some q
+  held_still p q is e =
+      value_is_held new p (content_still p property refl is) ∙ ap (held_in new) (g.becomes.children p)
+      ∙ held_alike spaced new (children_at spaced p) (All-from_get_or (IsAlike spaced new) (children_at spaced p) 0 (λ k l. alike (slice_index (children_at spaced p) k)))
+      ∙ sym (value_is_held spaced p is) ∙ e
+
   leads_still : (v : ℕ) (q : List ℕ) → LeadsTo spaced n v q → LeadsTo new n v q
   leads_still _ _ itself = itself
   leads_still v _ (step {i = i} {q = q} {path = rest} (StepsTo.in_array e f) further) =
       step (StepsTo.in_array (content_still v array refl e) (element_still v i q f)) (leads_still q rest further)
   leads_still v _ (step {i = i} {q = q} {path = rest} (StepsTo.in_object {r = p} e f held) further) =
-      step (StepsTo.in_object (content_still v object refl e) (element_still v i p f) (content_still p property refl held.0, element_still p 1 q held.1)) (leads_still q rest further)
+      step (StepsTo.in_object (content_still v object refl e) (element_still v i p f) (content_still p property refl held.0, element_still p 1 q held.1, held_still p q held.0 held.2)) (leads_still q rest further)
 
   at_new : IsAt new path n
   at_new = (at_spaced.0, element_still 0 0 at_spaced.0 at_spaced.1, leads_still at_spaced.0 path at_spaced.2)
@@ -465,6 +486,11 @@ module _ (old new : List Node) (path : List ℕ) (n : ℕ) (b : Bool) (tree : Is
               (subst (λ (w : Top). MarksDifferIn (marks_under w) (written_marks.written (Plain.boolean b)) (marks (ordered_tree spaced 0)) (marks (ordered_tree new 0))) same
               (values_marks (ordered_tree spaced 0) (boolean_leaf a) (boolean_leaf b) path (ordered_tree new 0) changed));
         }
+
+-- spaces have come, and then the one truth value has given way to the other at the path
+pub boolean_gives_way : (old new : List Node) (path : List ℕ) (n : ℕ) (b : Bool) → IsTree old → IsAt old path n → is_boolean (content_at old n) ≡ true → BooleanSet old new n b
+    → (was : Bool) × (held : OrderedTree) × SpacesPut (ordered_tree old 0) held × DocumentChanged (boolean_leaf was) (boolean_leaf b) path held (ordered_tree new 0)
+boolean_gives_way old new path n b tree at h g = (a old new path n b tree at h g, ordered_tree g.spaced 0, spaces old new path n b tree at h g, changed old new path n b tree at h g)
 
 pub writes_boolean : (o : Options) (old new : List Node) (path : List ℕ) (n : ℕ) (b : Bool) → WritesBoolean o old new path n b
 writes_boolean o old new path n b tree sound at h g = boolean_written old new path n b tree at h g o sound

@@ -16,24 +16,24 @@ use Rattle.jsonc_nodes.specs.Kinds.{is_element, is_element_at}
 use Rattle.jsonc_from_input.specs.Layout.{Layout}
 use Rattle.jsonc_from_input.specs.Laid.{laid_property}
 use Rattle.jsonc_from_input.specs.Texts.{IsCharacters}
-use Rattle.jsonc_sound.specs.Laws.{DiffersIn}
-use Rattle.jsonc_sound.specs.Rows as rows
-use Rattle.jsonc_sound.specs.TreeChanges.{IsElement, leaves_of, property_of, DocumentChanged}
-use Rattle.jsonc_sound.proofs.HeldValues.{document_held}
-use Rattle.jsonc_sound.proofs.LeavesAround.{document_differs, within}
-use Rattle.jsonc_seams.specs.Adjacent.{last_printed}
-use Rattle.jsonc_seams.specs.Alone.{RowAlone}
-use Rattle.jsonc_seams.specs.SoundTrees.{SoundTree}
-use Rattle.jsonc_seams.specs.Spaces.{is_bare_leaf, first_printed, meet}
-use Rattle.jsonc_seams.proofs.Apart.{value_alone, property_alone}
-use Rattle.jsonc_seams.proofs.Stretches.{parted_row}
-use Rattle.jsonc_marks.specs.Marks.{marks}
-use Rattle.jsonc_marks.specs.Changes.{MarksDifferIn, marks_under}
-use Rattle.jsonc_marks.specs.Written.{property_written}
-use Rattle.jsonc_marks.proofs.Laid.{laid_as_written_named}
-use Rattle.jsonc_rows.specs.Leaving.{element_count}
-use Rattle.jsonc_rows.specs.Properties.{among_properties, object_of, IsNewProperty, PropertyChanged, ReplacesMember}
-use Rattle.jsonc_rows.proofs.GivenProperties.{sound_with_property, value_with_property, marks_with_property}
+use Rattle.jsonc_laws.specs.ChangeLaws.{DiffersIn}
+use Rattle.jsonc_laws.specs.Rows as rows
+use Rattle.jsonc_laws.specs.TreeChanges.{IsElement, leaves_of, property_of, DocumentChanged}
+use Rattle.jsonc_laws.proofs.HeldValues.{document_held}
+use Rattle.jsonc_laws.proofs.LeavesAround.{document_differs, within}
+use Rattle.jsonc_laws.specs.Adjacent.{last_printed}
+use Rattle.jsonc_laws.specs.Alone.{RowAlone}
+use Rattle.jsonc_laws.specs.SoundTrees.{SoundTree}
+use Rattle.jsonc_laws.specs.Spaces.{is_bare_leaf, first_printed, meet}
+use Rattle.jsonc_laws.proofs.Apart.{value_alone, property_alone}
+use Rattle.jsonc_laws.proofs.SeamStretches.{parted_row}
+use Rattle.jsonc_laws.specs.Marks.{marks}
+use Rattle.jsonc_laws.specs.MarkChanges.{MarksDifferIn, marks_under}
+use Rattle.jsonc_laws.specs.Written.{property_written}
+use Rattle.jsonc_laws.proofs.Laid.{laid_as_written_named}
+use Rattle.jsonc_laws.specs.Leaving.{element_count}
+use Rattle.jsonc_laws.specs.Properties.{among_properties, object_of, IsNewProperty, PropertyChanged, ReplacesMember}
+use Rattle.jsonc_laws.proofs.GivenProperties.{sound_with_property, value_with_property, marks_with_property}
 use Rattle.jsonc_spaces.specs.Due.{nearest, begins_bare, behind_holder, listed}
 use Rattle.jsonc_spaces.proofs.Meeting.{back_bare}
 use Rattle.jsonc_spaces.proofs.Whole.{Whole, whole_behind, row_whole}

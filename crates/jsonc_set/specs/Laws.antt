@@ -9,10 +9,10 @@ use Rattle.jsonc_tree.specs.Values.{DocumentValueOf}
 use Rattle.jsonc_build.specs.Shape.{printed_text}
 use Rattle.jsonc_nodes.specs.Properties.{value_at}
 use Rattle.jsonc_tree.specs.OrderedTree.{Top}
-use Rattle.jsonc_seams.specs.SoundTrees.{SoundTree}
-use Rattle.jsonc_marks.specs.Marks.{marks}
-use Rattle.jsonc_marks.specs.Changes.{MarksDifferIn, marks_under}
-use Rattle.jsonc_rows.specs.Coming.{ValueComes}
+use Rattle.jsonc_laws.specs.SoundTrees.{SoundTree}
+use Rattle.jsonc_laws.specs.Marks.{marks}
+use Rattle.jsonc_laws.specs.MarkChanges.{MarksDifferIn, marks_under}
+use Rattle.jsonc_laws.specs.Coming.{ValueComes}
 use Rattle.jsonc_edit.specs.Changes.{row_below}
 use Rattle.jsonc_edit.specs.Reading.{layout_for}
 use Rattle.jsonc_from_input.specs.Laid.{laid}

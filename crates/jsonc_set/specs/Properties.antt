@@ -8,13 +8,13 @@ use Rattle.jsonc_tree.specs.OrderedTree.{OrderedTree, leaves, ordered_tree, Top}
 use Rattle.jsonc_tree.specs.Tree.{Node, content_at, IsTree}
 use Rattle.jsonc_build.specs.Shape.{printed_text}
 use Rattle.jsonc_from_input.specs.Texts.{IsCharacters}
-use Rattle.jsonc_sound.specs.Laws.{DiffersIn}
-use Rattle.jsonc_sound.specs.TreeChanges.{leaves_of}
-use Rattle.jsonc_seams.specs.SoundTrees.{SoundTree}
-use Rattle.jsonc_marks.specs.Marks.{marks}
-use Rattle.jsonc_marks.specs.Changes.{MarksDifferIn, marks_under}
-use Rattle.jsonc_marks.specs.Written.{property_written}
-use Rattle.jsonc_rows.specs.Properties.{PropertyChanged, ReplacesMember}
+use Rattle.jsonc_laws.specs.ChangeLaws.{DiffersIn}
+use Rattle.jsonc_laws.specs.TreeChanges.{leaves_of}
+use Rattle.jsonc_laws.specs.SoundTrees.{SoundTree}
+use Rattle.jsonc_laws.specs.Marks.{marks}
+use Rattle.jsonc_laws.specs.MarkChanges.{MarksDifferIn, marks_under}
+use Rattle.jsonc_laws.specs.Written.{property_written}
+use Rattle.jsonc_laws.specs.Properties.{PropertyChanged, ReplacesMember}
 use Rattle.jsonc_edit.specs.Changes.{top_at}
 use Rattle.jsonc_edit.specs.Paths.{IsAt, IsElementOf}
 use Rattle.jsonc_edit.specs.Spaced.{SpacesPut}

@@ -1,13 +1,11 @@
 -- The value of a property, where it is set: another gives way to it, or it comes at the property's end.
-use Rattle.std.specs.Prelude.{◌≡◌, ℕ, ◌||◌, Bool, true, List, length, Option, Some, None, is_none}
-use Rattle.std.specs.List.{find}
+use Rattle.std.specs.Prelude.{◌≡◌, ℕ, Bool, true, List, length, Option, Some, None}
 use Rattle.jsonc_text.specs.Plain.{Plain}
 use Rattle.jsonc_tree.specs.Changes.{Pushes}
 use Rattle.jsonc_tree.specs.Content.{Content, null}
-use Rattle.jsonc_tree.specs.Tree.{Node, content_at, children_at, IsTree}
+use Rattle.jsonc_tree.specs.Tree.{Node, content_at, IsTree}
 use Rattle.jsonc_from_input.specs.Laid.{laid}
-use Rattle.jsonc_nodes.specs.Kinds.{is_colon_at}
-use Rattle.jsonc_nodes.specs.Properties.{name_at, value_at}
+use Rattle.jsonc_nodes.specs.Properties.{lacks_name_at, value_at}
 use Rattle.jsonc_edit.specs.Reading.{layout_for}
 use Rattle.jsonc_edit.specs.Replacing.{GivesWay}
 use Rattle.jsonc_edit.specs.declared.error.EditError.{EditError}
@@ -21,21 +19,13 @@ pub record LastValue (old new : List Node) (p : ℕ) (v : Plain) (m : ℕ) : Typ
   pub tree : IsTree held
   pub given : GivesWay held new (length old) m (laid (layout_for old p p) v)
 
--- the property has no colon
-abbrev pub lacks_colon : List Node → ℕ → Bool
-lacks_colon ns p = is_none (find (is_colon_at ns) (children_at ns p))
-
--- it has no name, or no colon
-abbrev pub lacks_name : List Node → ℕ → Bool
-lacks_name ns p = is_none (name_at ns p) || lacks_colon ns p
-
 -- where the value is of the kind it is answered; where another stood, or none, one has been set, and is answered
 abbrev pub HeldOrSet : (Content → Bool) → Plain → List Node → List Node → ℕ → Option ℕ → ℕ → Type 0
 HeldOrSet kind v old new p None m = LastValue old new p v m
 HeldOrSet kind v old new p (Some n) m = KeptOrReplaced (kind (content_at old n)) v old new n m
 
--- why none was set: memory was wanted for it, or the property has no name or no colon
+-- why none was set: memory was wanted for it, or the property has no name, or no colon behind it
 abbrev pub IsUnset : (Content → Bool) → List Node → ℕ → EditError → Type 0
 IsUnset kind ns p OutOfMemory = LacksKind kind ns (value_at ns p)
-IsUnset kind ns p MissingName = lacks_name ns p ≡ true
+IsUnset kind ns p MissingName = lacks_name_at ns p ≡ true
 IsUnset kind ns p e = ⊥

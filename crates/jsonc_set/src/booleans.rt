@@ -8,7 +8,7 @@ ghost use Rattle.jsonc_tree.specs.OrderedTree.{ordered_tree};
 ghost use Rattle.jsonc_tree.specs.Stored.{content_of};
 ghost use Rattle.jsonc_tree.specs.Tree.{content_at, IsTree};
 ghost use Rattle.jsonc_nodes.specs.Siblings.{IsThere};
-ghost use Rattle.jsonc_seams.specs.Booleans.{begins_hex, is_hexadecimal, is_hex_leaf};
+ghost use Rattle.jsonc_laws.specs.Booleans.{begins_hex, is_hexadecimal, is_hex_leaf};
 ghost use Rattle.jsonc_set.specs.Booleans.{due_for, is_boolean, is_hex_at, BooleanSet, WantsSpaceFor};
 
 use jsonc_edit::EditError;

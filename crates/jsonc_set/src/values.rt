@@ -1,6 +1,6 @@
 //! Values of properties, set.
 
-ghost use Rattle.std.specs.Prelude.{◌≡◌, ◌+◌, ◌<◌, [], IfErr, IfNone, IfOk, IfSome, OnErr, OnOk, Some, false, length};
+ghost use Rattle.std.specs.Prelude.{◌≡◌, ◌+◌, ◌<◌, [], IfErr, IfNone, IfOk, IfSome, OnErr, OnOk, Some, false, length, true};
 ghost use Rattle.jsonc_text.specs.Options.{Options};
 ghost use Rattle.jsonc_text.specs.Plain.{array, object, no_items, no_members};
 ghost use Rattle.jsonc_tree.specs.Building.{Keeps};
@@ -9,18 +9,17 @@ ghost use Rattle.jsonc_tree.specs.Content.{Content};
 ghost use Rattle.jsonc_tree.specs.OrderedTree.{ordered_tree};
 ghost use Rattle.jsonc_tree.specs.Tree.{content_at, parent_at, place_at, IsTree};
 ghost use Rattle.jsonc_input.specs.Views.{plain};
-ghost use Rattle.jsonc_nodes.specs.Kinds.{is_colon_at};
-ghost use Rattle.jsonc_nodes.specs.Properties.{value_at};
+ghost use Rattle.jsonc_nodes.specs.Properties.{lacks_name_at, value_at};
 ghost use Rattle.jsonc_edit.specs.Reading.{IsReplaced};
 ghost use Rattle.jsonc_edit.specs.Written.{Writes};
 ghost use Rattle.jsonc_set.specs.Kinds.{is_array, is_object};
-ghost use Rattle.jsonc_set.specs.PropertyValues.{lacks_colon, lacks_name, HeldOrSet, IsUnset, LastValue};
+ghost use Rattle.jsonc_set.specs.PropertyValues.{HeldOrSet, IsUnset, LastValue};
 
 use crate::kinds::{empty_array, empty_object, is_array, is_object};
 use crate::root::replace_child;
 use jsonc_edit::{EditError, layout_for, replace_with};
 use jsonc_input::CstInputValue;
-use jsonc_nodes::{children_from, name_of, value_of};
+use jsonc_nodes::{lacks_name, value_of};
 use jsonc_tree::{Kind, Tree};
 use std::alloc::Allocator;
 
@@ -95,38 +94,9 @@ pub fn set_property_value<A: Allocator + Copy>(
     }
 }
 
-// Whether a node is a colon.
-fn is_colon<A: Allocator>(tree: &Tree<A>, node: usize) -> bool
-    requires { node < length tree.now.nodes }
-    ensures { result ≡ is_colon_at tree.now.nodes node }
-{
-    matches!(tree.kind(node), Kind::Token(':'))
-}
-
-// Whether a property has no colon.
-fn lacks_colon<A: Allocator>(tree: &Tree<A>, property: usize) -> bool
-    requires { property < length tree.now.nodes }
-    ensures { result ≡ lacks_colon tree.now.nodes property }
-{
-    children_from(tree, property, 0)
-        .find(|child| is_colon(tree, *child))
-        .is_none()
-}
-
-// Whether it has no name, or no colon.
-fn lacks_name<A: Allocator>(tree: &Tree<A>, property: usize) -> bool
-    requires { property < length tree.now.nodes }
-    ensures { result ≡ lacks_name tree.now.nodes property }
-{
-    if name_of(tree, property).is_none() {
-        return true;
-    }
-    lacks_colon(tree, property)
-}
-
 /// The value of a property, if it is an object. Where it is another, or there is none, an empty object
-/// is set, as by [`set_property_value`]; where the property has no name or no colon the answer is
-/// `MissingName`, and nothing changes.
+/// is set, as by [`set_property_value`]; where the property has no name, or no colon behind it,
+/// the answer is `MissingName`, and nothing changes.
 pub fn property_object_or_set<A: Allocator + Copy>(
     alloc: A,
     tree: &mut Tree<A>,
@@ -135,8 +105,9 @@ pub fn property_object_or_set<A: Allocator + Copy>(
     requires there { property < length tree.old.nodes }
     requires property { content_at tree.old.nodes property ≡ Content.property }
     ensures value { IfOk result (HeldOrSet is_object (object no_members) tree.old.nodes tree.new.nodes property (value_at tree.old.nodes property)) }
-    ensures named { OnOk result (lacks_name tree.old.nodes property ≡ false) }
+    ensures named { OnOk result (lacks_name_at tree.old.nodes property ≡ false) }
     ensures told { IfErr result (IsUnset is_object tree.old.nodes property) }
+    ensures missing { IfErr result (λ e. lacks_name_at tree.old.nodes property ≡ true → e ≡ EditError.MissingName) }
     ensures kept { OnErr result (Keeps (length tree.old.nodes) tree.old.nodes tree.new.nodes) }
     ensures document { OnErr result (ordered_tree tree.new.nodes 0 ≡ ordered_tree tree.old.nodes 0) }
     ensures tree { IsTree tree.new.nodes }
@@ -155,8 +126,8 @@ pub fn property_object_or_set<A: Allocator + Copy>(
 }
 
 /// The value of a property, if it is an array. Where it is another, or there is none, an empty array
-/// is set, as by [`set_property_value`]; where the property has no name or no colon the answer is
-/// `MissingName`, and nothing changes.
+/// is set, as by [`set_property_value`]; where the property has no name, or no colon behind it,
+/// the answer is `MissingName`, and nothing changes.
 pub fn property_array_or_set<A: Allocator + Copy>(
     alloc: A,
     tree: &mut Tree<A>,
@@ -165,8 +136,9 @@ pub fn property_array_or_set<A: Allocator + Copy>(
     requires there { property < length tree.old.nodes }
     requires property { content_at tree.old.nodes property ≡ Content.property }
     ensures value { IfOk result (HeldOrSet is_array (array no_items) tree.old.nodes tree.new.nodes property (value_at tree.old.nodes property)) }
-    ensures named { OnOk result (lacks_name tree.old.nodes property ≡ false) }
+    ensures named { OnOk result (lacks_name_at tree.old.nodes property ≡ false) }
     ensures told { IfErr result (IsUnset is_array tree.old.nodes property) }
+    ensures missing { IfErr result (λ e. lacks_name_at tree.old.nodes property ≡ true → e ≡ EditError.MissingName) }
     ensures kept { OnErr result (Keeps (length tree.old.nodes) tree.old.nodes tree.new.nodes) }
     ensures document { OnErr result (ordered_tree tree.new.nodes 0 ≡ ordered_tree tree.old.nodes 0) }
     ensures tree { IsTree tree.new.nodes }

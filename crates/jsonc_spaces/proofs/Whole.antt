@@ -5,10 +5,10 @@ use Rattle.jsonc_tree.specs.Content.{Content, root, property, is_container}
 use Rattle.jsonc_tree.specs.OrderedTree.{OrderedTree, none, more, followed_by}
 use Rattle.jsonc_build.specs.Shape as shape
 use Rattle.jsonc_build.specs.Shape.{IsTrivia, Trivia, IsNameBefore, token_then}
-use Rattle.jsonc_sound.specs.Rows.{RowKind, Last}
-use Rattle.jsonc_seams.specs.Alone as alone
-use Rattle.jsonc_seams.specs.Alone.{ValueAlone, PartAlone, RowAlone, PropertyAlone, StretchAlone, RootAlone, DocumentAlone}
-use Rattle.jsonc_seams.proofs.RowsWithin.{Within, here, deeper, later, no_row}
+use Rattle.jsonc_laws.specs.Rows.{RowKind, Last}
+use Rattle.jsonc_laws.specs.Alone as alone
+use Rattle.jsonc_laws.specs.Alone.{ValueAlone, PartAlone, RowAlone, PropertyAlone, StretchAlone, RootAlone, DocumentAlone}
+use Rattle.jsonc_laws.proofs.RowsWithin.{Within, here, deeper, later, no_row}
 
 -- a leaf with nothing below it, a value, or a property
 pub data IsWhole (o : Options) : Content → OrderedTree → Type 0 where

@@ -4,9 +4,9 @@ use Rattle.jsonc_tree.specs.Content.{Content}
 use Rattle.jsonc_tree.specs.OrderedTree.{ordered_tree}
 use Rattle.jsonc_tree.specs.Tree.{Node, content_at, place_at, IsTree, IsOver}
 use Rattle.jsonc_nodes.specs.Siblings.{elements_at}
-use Rattle.jsonc_sound.specs.TreeChanges.{IsElement}
-use Rattle.jsonc_seams.specs.InRows.{SpacePut}
-use Rattle.jsonc_seams.specs.Spaces.{is_bare}
+use Rattle.jsonc_laws.specs.TreeChanges.{IsElement}
+use Rattle.jsonc_laws.specs.InRows.{SpacePut}
+use Rattle.jsonc_laws.specs.Spaces.{is_bare}
 use Rattle.jsonc_spaces.specs.Due.{due_around, begins_bare, ends_bare, seen_before, seen_behind}
 use Rattle.jsonc_spaces.specs.Put.{StandsBefore, AreSpaced}
 

@@ -5,7 +5,7 @@ ghost use Rattle.jsonc_text.specs.Text.{next, starts};
 ghost use Rattle.jsonc_tree.specs.Siblings.{siblings_after};
 ghost use Rattle.jsonc_tree.specs.Stored.{content_of};
 ghost use Rattle.jsonc_nodes.specs.Siblings.{IsThere};
-ghost use Rattle.jsonc_seams.specs.Spaces.{is_bare};
+ghost use Rattle.jsonc_laws.specs.Spaces.{is_bare};
 ghost use Rattle.jsonc_spaces.specs.Due.{prints, prints_at, nearest, beginning_of, end_of, is_bare_at};
 ghost use Rattle.jsonc_spaces.specs.Due.{begins_bare, ends_bare, seen_before, behind_holder, seen_behind};
 ghost use Rattle.jsonc_spaces.specs.Due.{due_between, due_before, due_behind};

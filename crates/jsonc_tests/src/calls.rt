@@ -1,20 +1,15 @@
 //! The calls that may want memory.
 
-use crate::awaited::Awaited;
 use crate::clones::copies;
-use crate::edits::edited;
-use crate::inputs::inputs;
 use crate::lines::laid_out;
 use crate::maps::changed_map;
 use crate::nodes::node_names;
-use crate::outcome::Outcome;
 use crate::tokens::decode_provided;
 use crate::tree_copies::tree_copies;
-use crate::trees::changed_tree;
-use crate::typed::{children, names};
 use jsonc_engine::calls::{FromReader, ToWriter};
 use jsonc_engine::command::Command;
 use jsonc_engine::engine::{engine, run_on};
+use jsonc_engine::fault::Fault;
 use jsonc_parser::cst::CstRootNode;
 use jsonc_parser::tokens::Token;
 use jsonc_parser::{
@@ -22,6 +17,8 @@ use jsonc_parser::{
     ParseResult, Scanner, ScannerOptions, parse_to_ast, parse_to_value,
 };
 use jsonc_string::provider::parse_string;
+use refusing::awaited::Awaited;
+use refusing::outcome::Outcome;
 use std::alloc::Allocator;
 use std::borrow::CowStr;
 use std::default::Default;
@@ -31,7 +28,6 @@ use std::default::Default;
 pub enum Call {
     Decode,
     DecodeProvided,
-    Inputs,
     Scan,
     SyntaxTree,
     SyntaxTreeCopies,
@@ -39,23 +35,18 @@ pub enum Call {
     Value,
     ValueCopies,
     Document,
-    Children,
-    Names,
     NodeNames,
     TokenCopy,
     MapChanges,
-    TreeChanges,
     Layout,
-    Edits,
     BytesToBytes,
     WholeRun,
 }
 
 /// All of them, each with its name.
-pub const CALLS: [(Call, &str); 20] = [
+pub const CALLS: [(Call, &str); 15] = [
     (Call::Decode, "decode"),
     (Call::DecodeProvided, "decode provided"),
-    (Call::Inputs, "inputs"),
     (Call::Scan, "scan"),
     (Call::SyntaxTree, "syntax tree"),
     (Call::SyntaxTreeCopies, "syntax tree copies"),
@@ -63,14 +54,10 @@ pub const CALLS: [(Call, &str); 20] = [
     (Call::Value, "value"),
     (Call::ValueCopies, "value copies"),
     (Call::Document, "document"),
-    (Call::Children, "children"),
-    (Call::Names, "names"),
     (Call::NodeNames, "node names"),
     (Call::TokenCopy, "token copy"),
     (Call::MapChanges, "map changes"),
-    (Call::TreeChanges, "tree changes"),
     (Call::Layout, "layout"),
-    (Call::Edits, "edits"),
     (Call::BytesToBytes, "bytes to bytes"),
     (Call::WholeRun, "whole run"),
 ];
@@ -98,7 +85,6 @@ pub fn outcome_of<A: Allocator + Copy>(call: Call, alloc: A) -> Outcome {
     match call {
         Call::Decode => decode(alloc),
         Call::DecodeProvided => decode_provided(alloc),
-        Call::Inputs => inputs(alloc),
         Call::Scan => scan(alloc),
         Call::SyntaxTree => syntax_tree(alloc),
         Call::SyntaxTreeCopies => tree_copies(alloc),
@@ -106,14 +92,10 @@ pub fn outcome_of<A: Allocator + Copy>(call: Call, alloc: A) -> Outcome {
         Call::Value => value(alloc),
         Call::ValueCopies => copies(alloc),
         Call::Document => document(alloc),
-        Call::Children => children(alloc),
-        Call::Names => names(alloc),
         Call::NodeNames => node_names(alloc),
         Call::TokenCopy => token_copy(alloc),
         Call::MapChanges => changed_map(alloc),
-        Call::TreeChanges => changed_tree(alloc),
         Call::Layout => laid_out(alloc),
-        Call::Edits => edited(alloc),
         Call::BytesToBytes => bytes_to_bytes(alloc),
         Call::WholeRun => whole_run(alloc),
     }
@@ -235,11 +217,20 @@ fn token_copy<A: Allocator + Copy>(alloc: A) -> Outcome {
     }
 }
 
+/// What a run of the program tells of memory.
+fn of_fault(fault: Fault) -> Outcome {
+    match fault {
+        Fault::Input(error) => Outcome::from(error),
+        Fault::Edit(error) => Outcome::from(error),
+        _ => Outcome::Other,
+    }
+}
+
 fn bytes_to_bytes<A: Allocator + Copy>(alloc: A) -> Outcome {
     match run_on(alloc, Command::Print, PLAIN.as_bytes()) {
         Ok(Some(written)) => Outcome::of(written.as_str() == PLAIN),
         Ok(None) => Outcome::Other,
-        Err(fault) => Outcome::from(fault),
+        Err(fault) => of_fault(fault),
     }
 }
 
@@ -250,6 +241,6 @@ fn whole_run<A: Allocator + Copy>(alloc: A) -> Outcome {
     });
     match engine(alloc, &["print"], &mut source, &mut sink) {
         Ok(()) => Outcome::of(sink.writer.rest.is_empty()),
-        Err(fault) => Outcome::from(fault),
+        Err(fault) => of_fault(fault),
     }
 }

@@ -1,26 +1,19 @@
-//! Tests that cross crates: what no clause says of calls, of memory that is refused and of streams that fail.
+//! Tests of reading: what no clause says of texts, values, maps and trees, of memory that is refused, and of
+//! streams that fail.
 //!
 //! `docs/BENCH.md` says what each test is of.
 #![tactic(auto)]
 
 #[cfg(test)]
-mod awaited;
-#[cfg(test)]
 mod calls;
 #[cfg(test)]
 mod clones;
-#[cfg(test)]
-mod edits;
-#[cfg(test)]
-mod inputs;
 #[cfg(test)]
 mod lines;
 #[cfg(test)]
 mod maps;
 #[cfg(test)]
 mod nodes;
-#[cfg(test)]
-mod outcome;
 #[cfg(test)]
 mod refusals;
 #[cfg(test)]
@@ -29,9 +22,5 @@ mod streams;
 mod tokens;
 #[cfg(test)]
 mod tree_copies;
-#[cfg(test)]
-mod trees;
-#[cfg(test)]
-mod typed;
 #[cfg(test)]
 mod unasked;

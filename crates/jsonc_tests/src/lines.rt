@@ -1,7 +1,6 @@
 //! How documents are laid out.
 ghost use Rattle.std.specs.Prelude.{◌<◌, IfSome, length};
 
-use crate::outcome::Outcome;
 use jsonc_build::build;
 use jsonc_lines::{
     Indents, has_blank_line_before, indent_text, indents_at, newline_kind, single_indent_text,
@@ -9,11 +8,12 @@ use jsonc_lines::{
 };
 use jsonc_parser::{CollectOptions, ParseOptions, parse_to_ast};
 use jsonc_tree::{CstNewlineKind, Kind, Tree};
+use refusing::outcome::Outcome;
 use std::alloc::{AllocError, Allocator};
 use std::default::Default;
 
 /// An object over lines, with a comment at the end of one.
-pub const SPREAD: &str = "{\n  \"a\": 1, // x\n  \"b\": [2]\n}";
+const SPREAD: &str = "{\n  \"a\": 1, // x\n  \"b\": [2]\n}";
 
 /// An array with a blank line, a comment before an element and a comma after the last one.
 const GROUPED: &str = "[\r\n\t\"a\",\r\n\r\n\t/* c */ \"b\",\r\n]";

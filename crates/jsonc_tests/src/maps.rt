@@ -1,8 +1,8 @@
 //! Maps and objects.
 
-use crate::awaited::Awaited;
-use crate::outcome::Outcome;
 use jsonc_parser::{JsonObject, JsonValue, Map};
+use refusing::awaited::Awaited;
+use refusing::outcome::Outcome;
 use std::alloc::{AllocError, Allocator, Global};
 use std::borrow::CowStr;
 use std::fmt::Write;

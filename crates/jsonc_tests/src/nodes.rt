@@ -3,13 +3,13 @@ ghost use Rattle.std.specs.Prelude.{◌<◌, length, IfSome};
 ghost use Rattle.jsonc_nodes.specs.Siblings.{IsThere};
 
 use crate::lines::tree_of;
-use crate::outcome::Outcome;
 use jsonc_nodes::{
     child_at_index, children, decoded_name, decoded_value, element_index, elements, get,
     leading_comments_same_line, name_of, next_element, next_sibling, previous_element,
     previous_sibling, root_node, trailing_comments_same_line, value_of,
 };
 use jsonc_tree::{Kind, Tree};
+use refusing::outcome::Outcome;
 use std::alloc::{AllocError, Allocator, Global};
 
 /// A document whose object has twelve children: its properties are children 3 and 9.

@@ -1,9 +1,9 @@
 //! A provider of characters, and the string that is decoded from it.
 ghost use Rattle.std.specs.Prelude.{IsCharBoundary};
 
-use crate::outcome::Outcome;
 use jsonc_string::provider::{CharProvider, parse_string_with_char_provider};
 use jsonc_text::chars::{char_at, char_end};
+use refusing::outcome::Outcome;
 use std::alloc::Allocator;
 
 /// The characters of a text from a place on.

@@ -1,8 +1,8 @@
 //! Copies of syntax trees and of their parts.
 
-use crate::outcome::Outcome;
 use jsonc_parser::ast::{Object, Value};
 use jsonc_parser::{CollectOptions, ParseOptions, ParseResult, parse_to_ast};
+use refusing::outcome::Outcome;
 use std::alloc::Allocator;
 use std::default::Default;
 

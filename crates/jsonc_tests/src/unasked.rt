@@ -1,10 +1,10 @@
 //! Calls that take no memory.
 
-use crate::awaited::prints;
 use jsonc_parser::cst::CstRootNode;
 use jsonc_parser::tokens::Token;
 use jsonc_parser::{ParseOptions, Scanner, ScannerOptions};
 use refusing::Refusing;
+use refusing::awaited::prints;
 use std::alloc::{Allocator, Global};
 use std::default::Default;
 

@@ -212,6 +212,10 @@ ok_some (Ok (Some x)) f h = f x h
 ok_some (Ok None) f h = tt
 ok_some (Err e) f h = tt
 
+pub ok_of : {X E : Type 0} {P Q : X → Type 0} (r : Result X E) → ((x : X) → P x → Q x) → IfOk r P → IfOk r Q
+ok_of (Ok x) f h = f x h
+ok_of (Err e) f h = tt
+
 pub err_some : {X E : Type 0} {P Q : E → Type 0} (r : Result X E) → ((e : E) → P e → Q e) → IfErr r P → IfErr r Q
 err_some (Ok x) f h = tt
 err_some (Err e) f h = f e h

@@ -60,6 +60,17 @@ module _ {A : Type 0} where
         subst (λ x. StandsAt x g) (sym same) (subst (StandsAt s) is at),
       )
 
+  -- after a step of the scanner
+  pub kept_step : (start now new : Context A) (s : Scanner A) → Passing start now → PassesBlanks now.scanner s → new.scanner ≡ s → tokens_asked new ≡ tokens_asked now → new.comments_are_tokens ≡ now.comments_are_tokens
+      → comments_asked new ≡ comments_asked now → Keeps start new
+  kept_step start now new s h blanks same asked strategy apart = record {
+    text = ap text_of same ∙ blanks.text ∙ h.kept.text;
+    options = ap options_of same ∙ blanks.options ∙ h.kept.options;
+    tokens = asked ∙ h.kept.tokens;
+    comments = strategy ∙ h.kept.comments;
+    apart = apart ∙ h.kept.apart;
+  }
+
   -- a comment after a gap
   pub passing_on : (start now new : Context A) (s : Scanner A) (f : Option (Token A)) (t : Token A) → f ≡ Some t → new.scanner ≡ s → tokens_asked new ≡ tokens_asked now → new.comments_are_tokens ≡ now.comments_are_tokens → comments_asked new ≡ comments_asked now
       → Passing start now → PassesBlanks now.scanner s → StandsAt s f → is_comment (scanned_of t) ≡ true → IsTrue (options_of s).comments
@@ -68,7 +79,7 @@ module _ {A : Type 0} where
       let may : IsTrue (options_in start).comments = ap (λ p. p.comments) (sym (blanks.options ∙ h.kept.options)) ∙ allowed in
       let gap = comment_passed (text_in start) (options_in start) (token_end start) now.scanner s t h.kept.text h.kept.options blanks h.gap (subst (StandsAt s) is at) comment may in
       record {
-        kept = record { text = ap text_of same ∙ blanks.text ∙ h.kept.text; options = ap options_of same ∙ blanks.options ∙ h.kept.options; tokens = asked ∙ h.kept.tokens; comments = strategy ∙ h.kept.comments; apart = apart ∙ h.kept.apart };
+        kept = kept_step start now new s h blanks same asked strategy apart;
         gap = subst (λ x. Between (text_in start) (Gap (options_in start)) (token_end start) (end_of x)) (sym same) gap;
         collects = collects_comment start now new s f t h.kept h.collects blanks same at is comment more none_more lent noted (ap (λ p. p.comments) (sym blanks.options) ∙ allowed);
       }

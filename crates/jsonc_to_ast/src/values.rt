@@ -1,12 +1,12 @@
 //! Values read by recursive descent.
 ghost use Rattle.std.specs.Prelude.{◌≡◌, ◌+◌, ◌≤◌, IfOk, IfErr, OnOk, IfSome, Some, true, option_map, is_some, chars};
-ghost use Rattle.jsonc_text.specs.Faults.{IsFault};
+ghost use Rattle.jsonc_text.specs.Faults.{IsFault, kind_of};
 ghost use Rattle.jsonc_text.specs.Grammar.{IsDocument};
 ghost use Rattle.jsonc_text.specs.OptionsOf.{parse_options};
 ghost use Rattle.jsonc_text.specs.Plain.{around};
 ghost use Rattle.jsonc_text.specs.Tokens.{scanned_of};
-ghost use Rattle.jsonc_to_ast.specs.Collected.{HoldsCollected, is_separate, HoldsComments, Collects};
-ghost use Rattle.jsonc_to_ast.specs.Context.{text_in, options_in, token_start, token_end, Keeps, IsToken, IsBracket, OpensNone};
+ghost use Rattle.jsonc_to_ast.specs.Collected.{HoldsCollected, is_separate, HoldsComments, Collects, ShowsNoted};
+ghost use Rattle.jsonc_to_ast.specs.Context.{text_in, options_in, token_start, token_end, comments_asked, Keeps, AtEnd, IsToken, IsBracket, OpensNone};
 ghost use Rattle.jsonc_ast.specs.Located.{leaf_at, range_at, value_at, IsLocatedDocument};
 ghost use Rattle.jsonc_to_ast.specs.Reads.{Reads, ReadsMember};
 ghost use Rattle.jsonc_to_ast.specs.Refusals.{NoLiteral, NoPropertyHere, NoValueHere, RefusesText, Tells};
@@ -188,6 +188,52 @@ fn parse_property<'a, A: Allocator + Copy>(
     Ok(property_of(Range::new(start, context.scanner.token_end()), name, value))
 }
 
+/// The value of the whole text, or none where it holds blanks and comments alone.
+fn parse_whole<'a, A: Allocator + Copy>(
+    context: &mut Context<'a, A>,
+) -> Result<Option<Value<'a, A>>, ParseError>
+    requires { token_end context.old ≡ 0 }
+    ensures kept { OnOk result (Keeps context.old context.new) }
+    ensures collects { OnOk result (Collects context.old context.new) }
+    ensures end { OnOk result (AtEnd context.new) }
+    ensures located { IfOk result (λ v. IsLocatedDocument (options_in context.old) (text_in context.old) (option_map located v)) }
+    ensures written { IfOk result (λ f. IfSome f (λ v. AreWrittenIn context.old (spelled v))) }
+    ensures within { IfOk result (λ f. IfSome f (λ v. around (plain v) ≤ 512)) }
+    ensures refused { IfErr result (RefusesText (options_in context.old) (text_in context.old)) }
+    ensures fault { IfErr result (IsFault (text_in context.old)) }
+    ensures told { IfErr result (IsTold (options_in context.old) (text_in context.old) true) }
+{
+    let Some(token) = context.scan()? else {
+        return Ok(None);
+    };
+    let value = parse_value(context, token, 0)?;
+    let None = context.scan()? else {
+        return Err(context.fault_here(ParseErrorKind::MultipleRootJsonValues));
+    };
+    Ok(Some(value))
+}
+
+/// What a parser answers of a text at its end, with this value.
+fn finish<'a, A: Allocator + Copy>(
+    context: &mut Context<'a, A>,
+    value: Option<Value<'a, A>>,
+) -> Result<ParseResult<'a, A>, ParseError>
+    ensures value { IfOk result (λ r. r.value ≡ value.entry) }
+    ensures tokens { IfOk result (λ r. r.tokens ≡ context.old.tokens) }
+    ensures apart { IfOk result (λ r. is_some r.comments ≡ comments_asked context.old) }
+    ensures shown { IfOk result (λ r. ShowsNoted context.old r.comments) }
+    ensures memory { IfErr result (λ e. kind_of e ≡ ParseErrorKind.OutOfMemory) }
+    ensures fault { IfErr result (IsFault (text_in context.old)) }
+{
+    let comments = context.take_comments()?;
+    let tokens = context.tokens.take();
+    Ok(ParseResult {
+        comments,
+        value,
+        tokens,
+    })
+}
+
 /// Parses a text to its value, with the range of each node.
 ///
 /// Places are bytes of the text. The value is none where the text holds blanks and comments alone.
@@ -213,20 +259,6 @@ pub fn parse_to_ast<'a, A: Allocator + Copy>(
     ensures told { IfErr result (IsTold (parse_options options.now) text.now true) }
 {
     let mut context = Context::new(alloc, text, collect, options);
-    let Some(token) = context.scan()? else {
-        return Ok(ParseResult {
-            comments: context.take_comments()?,
-            value: None,
-            tokens: context.tokens,
-        });
-    };
-    let value = parse_value(&mut context, token, 0)?;
-    let None = context.scan()? else {
-        return Err(context.fault_here(ParseErrorKind::MultipleRootJsonValues));
-    };
-    Ok(ParseResult {
-        comments: context.take_comments()?,
-        value: Some(value),
-        tokens: context.tokens,
-    })
+    let value = parse_whole(&mut context)?;
+    finish(&mut context, value)
 }

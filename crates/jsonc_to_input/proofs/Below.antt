@@ -1,11 +1,10 @@
 -- A node stands over more nodes than a child of it.
-use Rattle.std.proofs.Common.{◌≡◌, Bool, true, false, cond, Option, None, Some, drop, sym, subst, ℕ, zero, suc, ◌<◌, ◌≤◌, List, [], ◌∷◌, length, get_or, ap, arith, length-append}
-use Rattle.std.specs.List.{flat_map, find, position}
-use Rattle.std.specs.Option.{option_and_then}
+use Rattle.std.proofs.Common.{◌≡◌, Bool, true, false, cond, None, Some, sym, subst, ℕ, zero, suc, ◌<◌, ◌≤◌, List, [], ◌∷◌, length, get_or, ap, arith, length-append}
+use Rattle.std.specs.List.{flat_map, find}
 use Rattle.jsonc_tree.specs.Content.{Content, root, object, array, property, string, word, number, boolean, null, token, whitespace, newline, comment}
 use Rattle.jsonc_tree.specs.Tree.{Node, IsTree, children_at, content_at}
 use Rattle.jsonc_nodes.specs.Kinds.{is_element_at, is_colon_at}
-use Rattle.jsonc_nodes.specs.Properties.{value_by, value_at, element_from}
+use Rattle.jsonc_nodes.specs.Properties.{value_by, value_at, behind_first, behind_name, behind_colon, is_name_at}
 use Rattle.jsonc_tree.specs.Order.{in_order}
 use Rattle.jsonc_tree.proofs.Order.{in_order_is}
 
@@ -18,11 +17,14 @@ part_within f [] k h = absurd (omega arith)
 part_within f (x ∷ xs) zero h = omega (arith, length-append (f x) (flat_map f xs))
 part_within f (x ∷ xs) (suc k) h = omega (arith, part_within f xs k (omega arith), length-append (f x) (flat_map f xs))
 
--- what holds of each part of a list holds of the rest of it, and of what is found in it
-drop_each : (P : ℕ → Type 0) (p : ℕ) (xs : List ℕ) → ((k : ℕ) → k < length xs → P (get_or xs k 0)) → (k : ℕ) → k < length (drop p xs) → P (get_or (drop p xs) k 0)
-drop_each P zero xs h = h
-drop_each P (suc p) [] h = h
-drop_each P (suc p) (x ∷ xs) h = drop_each P p xs (λ k l. h (suc k) (omega arith))
+-- what holds of each part of a list holds of those behind one, and of what is found in it
+behind_each : (P : ℕ → Type 0) (test : ℕ → Bool) (xs : List ℕ) → ((k : ℕ) → k < length xs → P (get_or xs k 0)) → (k : ℕ) → k < length (behind_first test xs) → P (get_or (behind_first test xs) k 0)
+behind_each P test [] h = h
+behind_each P test (x ∷ xs) h = go (test x) (behind_each P test xs (λ k l. h (suc k) (omega arith)))
+  where
+    go : (b : Bool) → ((k : ℕ) → k < length (behind_first test xs) → P (get_or (behind_first test xs) k 0)) → (k : ℕ) → k < length (cond b xs (behind_first test xs)) → P (get_or (cond b xs (behind_first test xs)) k 0)
+    go true further = λ k l. h (suc k) (omega arith)
+    go false further = further
 
 find_each : (P : ℕ → Type 0) (test : ℕ → Bool) (xs : List ℕ) (m : ℕ) → ((k : ℕ) → k < length xs → P (get_or xs k 0)) → find test xs ≡ Some m → P m
 find_each P test [] m h e = absurd (let wrong : None ≡ Some m = e in cc)
@@ -38,11 +40,8 @@ no_value m e = absurd (let wrong : None ≡ Some m = e in cc)
 -- and of the value of a node, which is one of its children
 value_each : (P : ℕ → Type 0) (ns : List Node) (content : Content) (n m : ℕ) → ((k : ℕ) → k < length (children_at ns n) → P (get_or (children_at ns n) k 0)) → value_by content ns n ≡ Some m → P m
 value_each P ns root n m h e = find_each P (is_element_at ns) (children_at ns n) m h e
-value_each P ns property n m h e = go (position (is_colon_at ns) (children_at ns n)) e
-  where
-    go : (o : Option ℕ) → option_and_then (element_from ns n) o ≡ Some m → P m
-    go None f = no_value m f
-    go (Some p) f = find_each P (is_element_at ns) (drop p (children_at ns n)) m (drop_each P p (children_at ns n) h) f
+value_each P ns property n m h e =
+    find_each P (is_element_at ns) (behind_colon ns n) m (behind_each P (is_colon_at ns) (behind_name ns n) (behind_each P (is_name_at ns) (children_at ns n) h)) e
 value_each P ns object n m h e = no_value m e
 value_each P ns array n m h e = no_value m e
 value_each P ns (string s) n m h e = no_value m e

@@ -1,17 +1,17 @@
 -- A node that has a value gives it.
-use Rattle.std.proofs.Common.{◌≡◌, ℕ, ◌+◌, List, [], Bool, true, false, Option, None, Some, IsTrue, refl, sym, subst, ◌∙◌, arith, ◌⊎◌, inl, inr}
+use Rattle.std.proofs.Common.{◌≡◌, ℕ, ◌&&◌, List, [], Bool, true, false, Option, None, Some, IsTrue, refl, sym, subst, ◌∙◌, arith, ◌⊎◌, inl, inr}
 use Rattle.std.proofs.lemmas.Bool.{false≢true}
 use Rattle.jsonc_text.specs.Options.{Options, all_on}
 use Rattle.jsonc_text.specs.Strings.{IsQuote, Piece, Pieces}
 use Rattle.jsonc_text.specs.Plain.{Plain, Items, Members}
 use Rattle.jsonc_tree.specs.Content.{Content}
 use Rattle.jsonc_tree.specs.OrderedTree.{OrderedTree, none, more}
-use Rattle.jsonc_tree.specs.Values.{is_passed_over, is_loose_name, IsStringText, IsNameLeaf, HasNoValue, ValueOf, ItemsOf, MembersOf, PropertyOf, HoldsValue, DocumentValueOf}
+use Rattle.jsonc_tree.specs.Values.{is_passed_over, IsStringText, IsNameLeaf, HasNoValue, ValueOf, ItemsOf, MembersOf, PropertyOf, HoldsValue, DocumentValueOf}
 use Rattle.jsonc_tree.specs.Values as values
 use Rattle.jsonc_nodes.specs.Kinds.{is_element, is_colon, is_property}
 use Rattle.jsonc_nodes.specs.Properties.{is_name}
 use Rattle.jsonc_nodes.specs.Names.{Names, StandsFor}
-use Rattle.jsonc_to_input.specs.Given.{Gives, FirstGives, GivesItems, GivesMembers, RowHasName, gives_nothing, from_colon, name_leaf, elements_before_colon, HaveColons, no_element, pass_to_element, first_element, no_more_items, pass_to_items, one_item, no_more_members, pass_to_members, one_member, named_value, no_property}
+use Rattle.jsonc_to_input.specs.Given.{Gives, FirstGives, GivesItems, GivesMembers, RowHasName, gives_nothing, behind_colon, row_behind, name_leaf, colon_first, name_first, HaveColons, no_element, pass_to_element, first_element, no_more_items, pass_to_items, one_item, no_more_members, pass_to_members, one_member, named_value, no_property}
 use Rattle.jsonc_to_input.specs.Taken.{TreeGives}
 
 not_so : {X : Type 0} → false ≡ true → X
@@ -76,13 +76,17 @@ record IsElement (content : Content) : Type 0 where
   element : is_element content ≡ true
   colon : is_colon content ≡ false
 
--- a leaf that is a name
-name_leaf_is : (o : Options) (content : Content) (name : List ℕ) → IsNameLeaf o content name → IsElement content × (is_name content ≡ true) × Names content name
-name_leaf_is o (Content.string s) name h = (record { element = refl; colon = refl }, refl, stands_for o s name h)
-name_leaf_is o (Content.word s) name h = (record { element = refl; colon = refl }, refl, h)
-name_leaf_is o (Content.number s) name h = (record { element = refl; colon = refl }, refl, h)
-name_leaf_is o (Content.boolean b) name h = (record { element = refl; colon = refl }, refl, h)
-name_leaf_is o Content.null name h = (record { element = refl; colon = refl }, refl, h)
+-- a leaf that is a name: where it is a string or a word, it is read as that name
+record IsNameRead (content : Content) (name : List ℕ) : Type 0 where
+  element : is_element content ≡ true
+  named : is_name content ≡ true → Names content name
+
+name_leaf_is : (o : Options) (content : Content) (name : List ℕ) → IsNameLeaf o content name → IsNameRead content name
+name_leaf_is o (Content.string s) name h = record { element = refl; named = λ n. stands_for o s name h }
+name_leaf_is o (Content.word s) name h = record { element = refl; named = λ n. h.1 }
+name_leaf_is o (Content.number s) name h = record { element = refl; named = not_so }
+name_leaf_is o (Content.boolean b) name h = record { element = refl; named = not_so }
+name_leaf_is o Content.null name h = record { element = refl; named = not_so }
 name_leaf_is o Content.root name h = not_so h.0
 name_leaf_is o Content.object name h = not_so h.0
 name_leaf_is o Content.array name h = not_so h.0
@@ -100,27 +104,50 @@ value_is values.null = record { element = refl; colon = refl }
 value_is (values.array h) = record { element = refl; colon = refl }
 value_is (values.object h) = record { element = refl; colon = refl }
 
--- how the row goes on where what it begins with is passed over, and is a colon or none
-passed_name : (content : Content) (below after : OrderedTree) → is_passed_over content ≡ true → is_colon content ≡ false → name_leaf (more content below after) ≡ name_leaf after
-passed_name content below after p q = rw (p, q) refl
+-- what is passed over is no name
+passed_no_name : (content : Content) → IsTrue (is_passed_over content) → is_name content ≡ false
+passed_no_name (Content.string s) h = not_so h
+passed_no_name (Content.word s) h = not_so h
+passed_no_name (Content.whitespace s) h = refl
+passed_no_name (Content.newline k) h = refl
+passed_no_name (Content.comment s) h = refl
+passed_no_name (Content.token c) h = refl
+passed_no_name Content.root h = refl
+passed_no_name Content.object h = refl
+passed_no_name Content.array h = refl
+passed_no_name Content.property h = refl
+passed_no_name (Content.number s) h = refl
+passed_no_name (Content.boolean b) h = refl
+passed_no_name Content.null h = refl
 
-passed_count : (content : Content) (below after : OrderedTree) → is_passed_over content ≡ true → is_colon content ≡ false → elements_before_colon (more content below after) ≡ elements_before_colon after
-passed_count content below after p q = rw (p, q) refl
+-- how the row goes on where what it begins with is passed over
+passed_name : (content : Content) (below after : OrderedTree) → is_name content ≡ false → name_leaf (more content below after) ≡ name_leaf after
+passed_name content below after n = rw n refl
 
-colon_count : (content : Content) (below after : OrderedTree) → is_colon content ≡ true → elements_before_colon (more content below after) ≡ 0
-colon_count content below after q = rw q refl
+passed_behind : (content : Content) (below after : OrderedTree) → is_name content ≡ false → behind_colon (more content below after) ≡ behind_colon after
+passed_behind content below after n = rw n refl
 
-element_count : (content : Content) (below after : OrderedTree) → IsElement content → elements_before_colon (more content below after) ≡ elements_before_colon after + 1
-element_count content below after is = rw (is.colon, is.element) refl
+passed_first : (content : Content) (below after : OrderedTree) → is_passed_over content ≡ true → name_first (more content below after) ≡ name_first after
+passed_first content below after p = rw p refl
 
-from_here : (content : Content) (below after : OrderedTree) → is_colon content ≡ true → from_colon (more content below after) ≡ more content below after
-from_here content below after q = rw q refl
+passed_colon : (content : Content) (below after : OrderedTree) → is_passed_over content ≡ true → is_colon content ≡ false → colon_first (more content below after) ≡ colon_first after
+passed_colon content below after p q = rw (p, q) refl
 
-from_later : (content : Content) (below after : OrderedTree) → is_colon content ≡ false → from_colon (more content below after) ≡ from_colon after
-from_later content below after q = rw q refl
+element_first : (content : Content) (below after : OrderedTree) → IsElement content → colon_first (more content below after) ≡ false
+element_first content below after is = rw (is.colon, is.element) refl
 
-named_here : (content : Content) (below after : OrderedTree) → IsElement content → is_name content ≡ true → name_leaf (more content below after) ≡ Some content
-named_here content below after is n = rw (is.element, n) refl
+-- or where it is the name, or the colon
+named_here : (content : Content) (below after : OrderedTree) → is_name content ≡ true → name_leaf (more content below after) ≡ Some content
+named_here content below after n = rw n refl
+
+behind_here : (content : Content) (below after : OrderedTree) → is_name content ≡ true → behind_colon (more content below after) ≡ row_behind is_colon after
+behind_here content below after n = rw n refl
+
+colon_here : (content : Content) (below after : OrderedTree) → is_colon content ≡ true → row_behind is_colon (more content below after) ≡ after
+colon_here content below after q = rw q refl
+
+colon_later : (content : Content) (below after : OrderedTree) → is_colon content ≡ false → row_behind is_colon (more content below after) ≡ row_behind is_colon after
+colon_later content below after q = rw q refl
 
 colon_or_not : (content : Content) → (is_colon content ≡ true) ⊎ (is_colon content ≡ false)
 colon_or_not content = go (is_colon content)
@@ -129,18 +156,26 @@ colon_or_not content = go (is_colon content)
     go true = inl refl
     go false = inr refl
 
--- a property with a name has it, where an element stands before its first colon
-property_name : {o : Options} {row : OrderedTree} {name : List ℕ} {v : Plain} → PropertyOf o row name v → elements_before_colon row ≡ 1 → RowHasName row name
+-- the first element is a name, and a colon stands before the next
+first_named : (content : Content) (below after : OrderedTree) → is_element content ≡ true → IsTrue (name_first (more content below after)) → (is_name content ≡ true) × IsTrue (colon_first after)
+first_named content below after is h = go (is_name content) (colon_first after) (sym (here) ∙ h)
+  where
+    here : name_first (more content below after) ≡ (is_name content && colon_first after)
+    here = rw is refl
+
+    go : (n c : Bool) → (n && c) ≡ true → (n ≡ true) × (c ≡ true)
+    go true c k = (refl, k)
+    go false c k = not_so k
+
+-- a property with a name has it, where its first element is a string or a word
+property_name : {o : Options} {row : OrderedTree} {name : List ℕ} {v : Plain} → PropertyOf o row name v → IsTrue (name_first row) → RowHasName row name
 property_name (values.pass_to_name {content = content} {below = below} {after = after} p h) e =
-    elim (colon_or_not content) [
-      | inl q ↦ absurd (omega (arith, colon_count content below after q, e))
-      | inr q ↦
-          let rest = property_name h (sym (passed_count content below after p q) ∙ e) in
-          (rest.0, passed_name content below after p q ∙ rest.1, rest.2)
-    ]
+    let rest = property_name h (sym (passed_first content below after p) ∙ e) in
+    (rest.0, passed_name content below after (passed_no_name content p) ∙ rest.1, rest.2)
 property_name {o = o} {name = name} (values.name_of {content = content} {after = after} n h) e =
     let is = name_leaf_is o content name n in
-    (content, named_here content none after is.0 is.1, is.2)
+    let named = (first_named content none after is.element e).0 in
+    (content, named_here content none after named, is.named named)
 
 mutual
   pub value_gives : {o : Options} {content : Content} {below : OrderedTree} {v : Plain} → ValueOf o content below v → HaveColons below → Gives content below (Some v)
@@ -161,25 +196,21 @@ mutual
   members_given (values.pass_to_members {content = content} p h) c = pass_to_members (no_property (passed_property content p)) (members_given h c.2)
   members_given (values.one_member h r) c = one_member (named_value (property_name h c.0) (Gives.property (property_value h c.0 c.1))) (members_given r c.2)
 
-  property_value : {o : Options} {row : OrderedTree} {name : List ℕ} {v : Plain} → PropertyOf o row name v → elements_before_colon row ≡ 1 → HaveColons row → FirstGives (from_colon row) (Some v)
+  property_value : {o : Options} {row : OrderedTree} {name : List ℕ} {v : Plain} → PropertyOf o row name v → IsTrue (name_first row) → HaveColons row → FirstGives (behind_colon row) (Some v)
   property_value {v = v} (values.pass_to_name {content = content} {below = below} {after = after} p h) e c =
-      elim (colon_or_not content) [
-        | inl q ↦ absurd (omega (arith, colon_count content below after q, e))
-        | inr q ↦ subst (λ (r : OrderedTree). FirstGives r (Some v)) (sym (from_later content below after q)) (property_value h (sym (passed_count content below after p q) ∙ e) c.2)
-      ]
+      subst (λ (r : OrderedTree). FirstGives r (Some v)) (sym (passed_behind content below after (passed_no_name content p))) (property_value h (sym (passed_first content below after p) ∙ e) c.2)
   property_value {o = o} {name = name} {v = v} (values.name_of {content = content} {after = after} n h) e c =
-      let is = name_leaf_is o content name n in
-      let less : elements_before_colon after ≡ 0 = omega (arith, element_count content none after is.0, e) in
-      subst (λ (r : OrderedTree). FirstGives r (Some v)) (sym (from_later content none after is.0.colon)) (after_name h less c.2)
+      let is = first_named content none after (name_leaf_is o content name n).element e in
+      subst (λ (r : OrderedTree). FirstGives r (Some v)) (sym (behind_here content none after is.0)) (after_name h is.1 c.2)
 
-  -- after the name no element stands before the colon
-  after_name : {o : Options} {row : OrderedTree} {v : Plain} → HoldsValue o row v → elements_before_colon row ≡ 0 → HaveColons row → FirstGives (from_colon row) (Some v)
+  -- after the name a colon stands before the next element
+  after_name : {o : Options} {row : OrderedTree} {v : Plain} → HoldsValue o row v → IsTrue (colon_first row) → HaveColons row → FirstGives (row_behind is_colon row) (Some v)
   after_name {v = v} (values.pass_to_value {content = content} {below = below} {after = after} p h) e c =
       elim (colon_or_not content) [
-        | inl q ↦ subst (λ (r : OrderedTree). FirstGives r (Some v)) (sym (from_here content below after q)) (pass_to_element p (holds_given h c.2))
-        | inr q ↦ subst (λ (r : OrderedTree). FirstGives r (Some v)) (sym (from_later content below after q)) (after_name h (sym (passed_count content below after p q) ∙ e) c.2)
+        | inl q ↦ subst (λ (r : OrderedTree). FirstGives r (Some v)) (sym (colon_here content below after q)) (holds_given h c.2)
+        | inr q ↦ subst (λ (r : OrderedTree). FirstGives r (Some v)) (sym (colon_later content below after q)) (after_name h (sym (passed_colon content below after p q) ∙ e) c.2)
       ]
-  after_name (values.value_of {content = content} {below = below} {after = after} h r) e c = absurd (omega (arith, element_count content below after (value_is h), e))
+  after_name (values.value_of {content = content} {below = below} {after = after} h r) e c = not_so (sym (element_first content below after (value_is h)) ∙ e)
 
   holds_given : {o : Options} {row : OrderedTree} {v : Plain} → HoldsValue o row v → HaveColons row → FirstGives row (Some v)
   holds_given (values.pass_to_value p h) c = pass_to_element p (holds_given h c.2)

@@ -1,10 +1,9 @@
 -- What stands in a row of numbers stands in the row of trees that it shows.
-use Rattle.std.proofs.Common.{◌≡◌, ℕ, suc, ◌+◌, ◌<◌, List, [], ◌∷◌, length, get_or, drop, take, Bool, true, false, cond, not, Option, None, Some, IsTrue, refl, sym, ap, subst, ◌∙◌, arith}
-use Rattle.std.specs.List.{find, position_or_len}
-use Rattle.std.specs.Option.{option_map, option_and_then}
-use Rattle.std.proofs.lemmas.Bool.{ltb-false, false≢true}
-use Rattle.std.proofs.lemmas.List.{drop_all, take_more}
-use Rattle.std.specs.Prelude.{nat_lt}
+use Rattle.std.proofs.Common.{◌≡◌, ℕ, ◌+◌, ◌<◌, List, [], ◌∷◌, length, get_or, take, Bool, true, false, cond, not, Option, None, Some, IsTrue, refl, sym, ap, subst, ◌∙◌}
+use Rattle.std.specs.List.{find}
+use Rattle.std.specs.Option.{option_map}
+use Rattle.std.proofs.lemmas.Bool.{false≢true}
+use Rattle.std.proofs.lemmas.List.{take_more}
 use Rattle.jsonc_text.specs.Plain.{Plain}
 use Rattle.jsonc_tree.specs.Content.{Content}
 use Rattle.jsonc_tree.specs.Tree.{Node, IsTree, children_at, content_at}
@@ -12,11 +11,11 @@ use Rattle.jsonc_tree.specs.Values.{is_passed_over}
 use Rattle.jsonc_tree.specs.OrderedTree.{OrderedTree, none, more, followed_by, Shows, shows_none, shows_more, ordered_tree}
 use Rattle.jsonc_tree.proofs.OrderedTrees.{Shows-ordered_tree}
 use Rattle.jsonc_tree.proofs.Rows.{Shows-part}
-use Rattle.jsonc_nodes.specs.Kinds.{is_element, is_element_at, is_colon_at}
-use Rattle.jsonc_nodes.specs.Properties.{value_by, value_at, element_from, is_name, name_at, is_element_or_colon_at}
+use Rattle.jsonc_nodes.specs.Kinds.{is_element, is_element_at, is_colon}
+use Rattle.jsonc_nodes.specs.Properties.{value_by, value_at, behind_first, is_name, is_name_at, name_at}
 use Rattle.jsonc_nodes.specs.Properties as properties
 use Rattle.jsonc_nodes.specs.Names.{Names, HasName}
-use Rattle.jsonc_to_input.specs.Given.{Gives, FirstGives, no_element, pass_to_element, first_element, from_colon, if_name, name_leaf, RowHasName, holds_value}
+use Rattle.jsonc_to_input.specs.Given.{Gives, FirstGives, no_element, pass_to_element, first_element, behind_colon, row_behind, name_leaf, RowHasName, holds_value}
 use Rattle.jsonc_to_input.specs.Taken.{GivesAt, TreeGives}
 
 module _ (ns : List Node) where
@@ -26,15 +25,18 @@ module _ (ns : List Node) where
   pub empty_shown : (xs : List ℕ) (row : OrderedTree) → xs ≡ [] → Shows ns xs row → row ≡ none
   empty_shown xs row e shows = nothing_shown row (subst (λ (l : List ℕ). Shows ns l row) e shows)
 
-  -- the rows from the first colon on
-  colon_shown : (xs : List ℕ) (row : OrderedTree) → Shows ns xs row → Shows ns (drop (position_or_len (is_colon_at ns) xs) xs) (from_colon row)
-  colon_shown _ _ shows_none = shows_none
-  colon_shown _ _ (shows_more {n = n} {rest = rest} {below = below} {after = after} p q) =
-      go (is_colon_at ns n) (position_or_len (is_colon_at ns) rest) (colon_shown rest after q)
+  -- the rows behind the first that passes a test
+  behind_shown : (test : Content → Bool) (xs : List ℕ) (row : OrderedTree) → Shows ns xs row → Shows ns (behind_first (λ n. test (content_at ns n)) xs) (row_behind test row)
+  behind_shown test _ _ shows_none = shows_none
+  behind_shown test _ _ (shows_more {n = n} {rest = rest} {after = after} p q) = go (test (content_at ns n)) (behind_shown test rest after q)
     where
-      go : (b : Bool) (k : ℕ) → Shows ns (drop k rest) (from_colon after) → Shows ns (drop (cond (not b) (1 + k) 0) (n ∷ rest)) (cond b (more (content_at ns n) below after) (from_colon after))
-      go true k shows = shows_more p q
-      go false k shows = let next : suc k ≡ 1 + k = omega arith in subst (λ (i : ℕ). Shows ns (drop i (n ∷ rest)) (from_colon after)) next shows
+      go : (b : Bool) → Shows ns (behind_first (λ n. test (content_at ns n)) rest) (row_behind test after) → Shows ns (cond b rest (behind_first (λ n. test (content_at ns n)) rest)) (cond b after (row_behind test after))
+      go true shows = q
+      go false shows = shows
+
+  -- the rows behind the colon of a property
+  colon_shown : (n : ℕ) (row : OrderedTree) → Shows ns (children_at ns n) row → Shows ns (properties.behind_colon ns n) (behind_colon row)
+  colon_shown n row shows = behind_shown is_colon (properties.behind_name ns n) (row_behind is_name row) (behind_shown is_name (children_at ns n) row shows)
 
   passed : (content : Content) → is_element content ≡ false → IsTrue (is_passed_over content)
   passed content e = go (is_passed_over content) e
@@ -66,21 +68,11 @@ module _ (ns : List Node) where
       go false h f further = pass_to_element (passed (content_at ns n) h) (further f)
 
   -- the value of a property
-  after_colon : (n m : ℕ) (row : OrderedTree) (found : Option Plain) → Shows ns (children_at ns n) row → value_by Content.property ns n ≡ Some m → GivesAt ns m found → FirstGives (from_colon row) found
-  after_colon n m row found shows e gives = go (nat_lt (position_or_len (is_colon_at ns) (children_at ns n)) (length (children_at ns n))) e
-    where
-      go : (b : Bool) → option_and_then (element_from ns n) (cond b (Some (position_or_len (is_colon_at ns) (children_at ns n))) None) ≡ Some m → FirstGives (from_colon row) found
-      go true f = first_shown (drop (position_or_len (is_colon_at ns) (children_at ns n)) (children_at ns n)) (from_colon row) m found (colon_shown (children_at ns n) row shows) f gives
-      go false f = absurd (let wrong : None ≡ Some m = f in cc)
+  after_colon : (n m : ℕ) (row : OrderedTree) (found : Option Plain) → Shows ns (children_at ns n) row → value_by Content.property ns n ≡ Some m → GivesAt ns m found → FirstGives (behind_colon row) found
+  after_colon n m row found shows e gives = first_shown (properties.behind_colon ns n) (behind_colon row) m found (colon_shown n row shows) e gives
 
-  none_after_colon : (n : ℕ) (row : OrderedTree) → Shows ns (children_at ns n) row → value_by Content.property ns n ≡ None → FirstGives (from_colon row) None
-  none_after_colon n row shows e = go (nat_lt (position_or_len (is_colon_at ns) (children_at ns n)) (length (children_at ns n))) refl e
-    where
-      go : (b : Bool) → nat_lt (position_or_len (is_colon_at ns) (children_at ns n)) (length (children_at ns n)) ≡ b → option_and_then (element_from ns n) (cond b (Some (position_or_len (is_colon_at ns) (children_at ns n))) None) ≡ None → FirstGives (from_colon row) None
-      go true h f = none_shown (drop (position_or_len (is_colon_at ns) (children_at ns n)) (children_at ns n)) (from_colon row) (colon_shown (children_at ns n) row shows) f
-      go false h f =
-          let past : drop (position_or_len (is_colon_at ns) (children_at ns n)) (children_at ns n) ≡ [] = drop_all (position_or_len (is_colon_at ns) (children_at ns n)) (children_at ns n) (ltb-false _ _ h) in
-          subst (λ (r : OrderedTree). FirstGives r None) (sym (empty_shown (drop (position_or_len (is_colon_at ns) (children_at ns n)) (children_at ns n)) (from_colon row) past (colon_shown (children_at ns n) row shows))) no_element
+  none_after_colon : (n : ℕ) (row : OrderedTree) → Shows ns (children_at ns n) row → value_by Content.property ns n ≡ None → FirstGives (behind_colon row) None
+  none_after_colon n row shows e = none_shown (properties.behind_colon ns n) (behind_colon row) (colon_shown n row shows) e
 
   no_value : {X : Type 0} (m : ℕ) → None ≡ Some m → X
   no_value m e = absurd (let wrong : None ≡ Some m = e in cc)
@@ -127,20 +119,12 @@ module _ (ns : List Node) where
   no_value_gives n h e row shows = nothing_held (content_at ns n) n row h shows e
 
   -- names
-  same_name : (n : ℕ) → option_map (content_at ns) (properties.if_name ns n) ≡ if_name (content_at ns n)
-  same_name n = go (is_name (content_at ns n))
-    where
-      go : (b : Bool) → option_map (content_at ns) (cond b (Some n) None) ≡ cond b (Some (content_at ns n)) None
-      go true = refl
-      go false = refl
-
-  name_shown : (xs : List ℕ) (row : OrderedTree) → Shows ns xs row → option_map (content_at ns) (option_and_then (properties.if_name ns) (find (is_element_or_colon_at ns) xs)) ≡ name_leaf row
+  name_shown : (xs : List ℕ) (row : OrderedTree) → Shows ns xs row → option_map (content_at ns) (find (is_name_at ns) xs) ≡ name_leaf row
   name_shown _ _ shows_none = refl
-  name_shown _ _ (shows_more {n = n} {rest = rest} {below = below} {after = after} p q) = go (is_element_or_colon_at ns n) (name_shown rest after q)
+  name_shown _ _ (shows_more {n = n} {rest = rest} {below = below} {after = after} p q) = go (is_name_at ns n) (name_shown rest after q)
     where
-      go : (b : Bool) → option_map (content_at ns) (option_and_then (properties.if_name ns) (find (is_element_or_colon_at ns) rest)) ≡ name_leaf after
-          → option_map (content_at ns) (option_and_then (properties.if_name ns) (cond b (Some n) (find (is_element_or_colon_at ns) rest))) ≡ cond b (if_name (content_at ns n)) (name_leaf after)
-      go true h = same_name n
+      go : (b : Bool) → option_map (content_at ns) (find (is_name_at ns) rest) ≡ name_leaf after → option_map (content_at ns) (cond b (Some n) (find (is_name_at ns) rest)) ≡ cond b (Some (content_at ns n)) (name_leaf after)
+      go true h = refl
       go false h = h
 
   pub has_name_shown : (n : ℕ) (v : List ℕ) (row : OrderedTree) → Shows ns (children_at ns n) row → HasName ns n v → RowHasName row v

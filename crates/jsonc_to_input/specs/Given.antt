@@ -1,5 +1,5 @@
 -- What a node gives as a value for edits: its plain value, by the kinds of its nodes and the texts of its leaves, where what has none is passed over.
-use Rattle.std.specs.Prelude.{ℕ, ◌≡◌, ◌+◌, ◌||◌, Bool, true, false, List, Option, Some, None, IsTrue, chars, if◌then◌else◌}
+use Rattle.std.specs.Prelude.{ℕ, ◌≡◌, ◌&&◌, Bool, true, false, List, Option, Some, None, IsTrue, chars, if◌then◌else◌}
 use Rattle.jsonc_text.specs.Plain.{Plain, Items, no_items, item, Members, no_members, member}
 use Rattle.jsonc_tree.specs.Content.{Content}
 use Rattle.jsonc_tree.specs.OrderedTree.{OrderedTree, none, more}
@@ -19,19 +19,19 @@ holds_value Content.root = true
 holds_value Content.property = true
 holds_value _ = false
 
--- the row from its first colon on
-abbrev pub from_colon : OrderedTree → OrderedTree
-from_colon none = none
-from_colon (more content below after) = if is_colon content then more content below after else from_colon after
-
--- the content, if it is that of a name
-abbrev pub if_name : Content → Option Content
-if_name content = if is_name content then Some content else None
-
--- the name of a property over this row: the first element, where it is a name and no colon stands before it
+-- the name of a property over this row: its first string or word
 abbrev pub name_leaf : OrderedTree → Option Content
 name_leaf none = None
-name_leaf (more content below after) = if is_element content || is_colon content then if_name content else name_leaf after
+name_leaf (more content below after) = if is_name content then Some content else name_leaf after
+
+-- what stands in the row behind its first node that passes a test: nothing where none does
+abbrev pub row_behind : (Content → Bool) → OrderedTree → OrderedTree
+row_behind test none = none
+row_behind test (more content below after) = if test content then after else row_behind test after
+
+-- what stands behind the first colon behind the name
+abbrev pub behind_colon : OrderedTree → OrderedTree
+behind_colon row = row_behind is_colon (row_behind is_name row)
 
 -- a property over this row has this name
 abbrev pub RowHasName : OrderedTree → List ℕ → Type 0
@@ -47,7 +47,7 @@ mutual
     null : {below : OrderedTree} → Gives Content.null below (Some Plain.null)
     array : {below : OrderedTree} {vs : Items} → GivesItems below vs → Gives Content.array below (Some (Plain.array vs))
     object : {below : OrderedTree} {ms : Members} → GivesMembers below ms → Gives Content.object below (Some (Plain.object ms))
-    property : {below : OrderedTree} {found : Option Plain} → FirstGives (from_colon below) found → Gives Content.property below found
+    property : {below : OrderedTree} {found : Option Plain} → FirstGives (behind_colon below) found → Gives Content.property below found
     root : {below : OrderedTree} {found : Option Plain} → FirstGives below found → Gives Content.root below found
     nothing : {content : Content} {below : OrderedTree} → IsTrue (gives_nothing content) → Gives content below None
 
@@ -76,14 +76,19 @@ mutual
     valueless : {below : OrderedTree} → Gives Content.property below None → GivesMember Content.property below None
     no_property : {content : Content} {below : OrderedTree} → is_property content ≡ false → GivesMember content below None
 
--- how many elements stand in the row before its first colon, or its end
-abbrev pub elements_before_colon : OrderedTree → ℕ
-elements_before_colon none = 0
-elements_before_colon (more content below after) = if is_colon content then 0 else (if is_element content then elements_before_colon after + 1 else elements_before_colon after)
+-- a colon stands in the row before its first element
+abbrev pub colon_first : OrderedTree → Bool
+colon_first none = false
+colon_first (more content below after) = if is_colon content then true else (if is_element content then false else colon_first after)
 
--- one element of a property, its name, stands before its first colon, or its end
+-- the first element of the row is a string or a word, and a colon stands between it and the next
+abbrev pub name_first : OrderedTree → Bool
+name_first none = false
+name_first (more content below after) = if is_element content then is_name content && colon_first after else name_first after
+
+-- a property has its name, and its colon behind it
 abbrev pub HasColon : Content → OrderedTree → Type 0
-HasColon Content.property below = elements_before_colon below ≡ 1
+HasColon Content.property below = IsTrue (name_first below)
 HasColon _ below = Unit {0}
 
 -- so it is in each property of the row and below it

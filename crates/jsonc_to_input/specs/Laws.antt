@@ -12,7 +12,7 @@ use Rattle.jsonc_to_input.specs.Taken.{TreeGives}
 abbrev pub GivesOnce : Content → OrderedTree → Type 0
 GivesOnce content below = (v w : Option Plain) → Gives content below v → Gives content below w → v ≡ w
 
--- where a node has a value, and each property below it its colon, it gives that value
+-- where a node has a value, and each property below it its name with a colon behind it, it gives that value
 abbrev pub GivesItsValue : Options → Content → OrderedTree → Type 0
 GivesItsValue o content below = (v : Plain) → ValueOf o content below v → HaveColons below → Gives content below (Some v)
 

@@ -11,7 +11,7 @@ pub fn one_value_is_given()
 {}
 
 /// A node that has a value gives it, and a document its value or none, if in each property the
-/// first colon stands between name and value.
+/// first element is a string or a word, and a colon stands between it and the value.
 pub fn values_are_given()
     ensures node { (o : Options) (content : Content) (below : OrderedTree) → GivesItsValue o content below }
     ensures document { (o : Options) (tree : OrderedTree) → GivesDocumentValue o tree }

@@ -12,7 +12,7 @@ use Rattle.jsonc_tree.specs.Tree.{Node, content_at, children_at, IsTree}
 use Rattle.jsonc_tree.specs.declared.node.CstNewlineKind.{CstNewlineKind}
 use Rattle.jsonc_nodes.specs.Kinds.{is_element, is_element_at}
 use Rattle.jsonc_nodes.specs.Properties.{value_at, value_by}
-use Rattle.jsonc_sound.specs.TreeChanges.{IsElement}
+use Rattle.jsonc_laws.specs.TreeChanges.{IsElement}
 use Rattle.jsonc_from_input.specs.Laid.{laid}
 use Rattle.jsonc_lines.specs.Breadth.{newline_kind_of}
 use Rattle.jsonc_edit.specs.Paths.{IsElementOf, LeadsTo, itself, IsAt}

@@ -70,7 +70,7 @@ module _ (kind : Content → Bool) (v : Plain) (old new : List Node) where
   stay_created None answer (m, said, f) = stay_first old new v m f
   stay_created (Some n) answer (said, same) = stay_same old new same
 
-  kept_stays : (n m : ℕ) (b : Bool) → KeptOrReplaced b v old new n m → Stays old new
+  pub kept_stays : (n m : ℕ) (b : Bool) → KeptOrReplaced b v old new n m → Stays old new
   kept_stays n m true (here, same) = stay_same old new same
   kept_stays n m false r = stay_replaced old new n v m r
 
@@ -105,7 +105,7 @@ module _ (kind : Content → Bool) (v : Plain) (content : Content) (made : (l : 
       ap (content_at new) here ∙ first_content old new v k f ∙ made (layout_for old 0 0)
   created_is (Some n) m (said, same) = found_if n m same (kind (content_at old n)) refl said
 
-  kept_is : (n m : ℕ) (b : Bool) → kind (content_at old n) ≡ b → KeptOrReplaced b v old new n m → content_at new m ≡ content
+  pub kept_is : (n m : ℕ) (b : Bool) → kind (content_at old n) ≡ b → KeptOrReplaced b v old new n m → content_at new m ≡ content
   kept_is n m true e (here, same) = still_is n m here same e
   kept_is n m false e r = replaced_content old new n v m content made r
 

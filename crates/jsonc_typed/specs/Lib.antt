@@ -2,3 +2,4 @@ pub mod Edits
 pub mod Raw
 pub mod Removing
 pub mod Setting
+pub mod Values

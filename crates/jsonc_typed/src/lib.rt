@@ -5,10 +5,10 @@
 //! after a refusal (`specs/Edits.antt`): a node that has given way or left is nobody's child.
 //!
 //! [`ReplaceWith`] and [`ReplaceProperty`] let a node give way to another, [`Remove`] and [`RemoveLeaf`]
-//! take one out, and [`SetRoot`] has what sets the document's value. [`SetRawValue`], [`SetToken`],
-//! [`SetWhitespace`] and [`SetNewline`] write one leaf anew as it stands, without memory, whatever the
-//! document makes of that (`specs/Raw.antt`). A closure that reads the document is lent one by
-//! [`IsDocument`].
+//! take one out, and [`SetRoot`], [`SetProperty`] and [`SetBoolean`] have what sets the document's value,
+//! that of a property, and a truth value. [`SetRawValue`], [`SetToken`], [`SetWhitespace`] and
+//! [`SetNewline`] write one leaf anew as it stands, without memory, whatever the document makes of that
+//! (`specs/Raw.antt`). A closure that reads the document is lent one by [`IsDocument`].
 #![tactic(auto)]
 
 mod document;
@@ -16,9 +16,11 @@ mod raw;
 mod removing;
 mod replacing;
 mod setting;
+mod values;
 
 pub use document::IsDocument;
 pub use raw::{SetNewline, SetRawValue, SetToken, SetWhitespace};
 pub use removing::{Remove, RemoveLeaf};
 pub use replacing::ReplaceWith;
 pub use setting::{ReplaceProperty, SetRoot};
+pub use values::{SetBoolean, SetProperty};

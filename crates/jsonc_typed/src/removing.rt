@@ -15,7 +15,7 @@ ghost use Rattle.jsonc_typed.specs.Removing.{HasLeft, HasLeftAlone, IsKeptIn, Is
 use jsonc_cst::cst::{
     CstArray, CstBooleanLit, CstComment, CstContainerNode, CstLeafNode, CstNewline, CstNode,
     CstNullKeyword, CstNumberLit, CstObject, CstObjectProp, CstRootNode, CstStringLit, CstToken,
-    CstWhitespace, CstWordLit, EditError, IsNode,
+    CstWhitespace, CstWordLit, EditError, IsNode, ObjectPropName,
 };
 use jsonc_tree::Tree;
 use std::alloc::Allocator;
@@ -145,8 +145,8 @@ fn remove_by<A: Allocator + Copy>(
     }
 }
 
-/// What is taken out with what leaves with it: a value, a property, a comment; and the node that a
-/// [`CstNode`], [`CstContainerNode`] or [`CstLeafNode`] is.
+/// What is taken out with what leaves with it: a value, a property or its name, a comment; and the node
+/// that a [`CstNode`], [`CstContainerNode`] or [`CstLeafNode`] is.
 pub trait Remove: IsNode {
     /// Takes it out of the document.
     ///
@@ -215,6 +215,8 @@ impl Remove for CstStringLit {}
 impl Remove for CstWordLit {}
 
 impl Remove for CstComment {}
+
+impl Remove for ObjectPropName {}
 
 impl RemoveLeaf for CstToken {}
 

@@ -16,7 +16,7 @@ ghost use Rattle.jsonc_cst.specs.Tree.{NodesAreTree};
 
 use jsonc_cst::cst::{
     CstArray, CstBooleanLit, CstNode, CstNullKeyword, CstNumberLit, CstObject, CstRootNode,
-    CstStringLit, CstWordLit, EditError, IsNode, node_at,
+    CstStringLit, CstWordLit, EditError, IsNode, ObjectPropName, node_at,
 };
 use jsonc_input::CstInputValue;
 use jsonc_tree::{Kind, Tree};
@@ -118,7 +118,7 @@ fn replace_node<A: Allocator + Copy>(
     replace_value(alloc, tree, number, value)
 }
 
-/// What a value may stand in the place of: a literal, an array or an object.
+/// What a value may stand in the place of: a literal, an array or an object; and the name of a property.
 pub trait ReplaceWith: IsNode {
     /// Lets it give way to a value, and answers the node that the value is now.
     ///
@@ -167,3 +167,5 @@ impl ReplaceWith for CstNumberLit {}
 impl ReplaceWith for CstStringLit {}
 
 impl ReplaceWith for CstWordLit {}
+
+impl ReplaceWith for ObjectPropName {}

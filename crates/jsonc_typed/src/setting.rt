@@ -27,7 +27,7 @@ use jsonc_tree::Tree;
 use std::alloc::Allocator;
 
 // The object that stands under a number.
-fn object_at<A: Allocator>(tree: &Tree<A>, number: usize) -> CstObject
+pub(crate) fn object_at<A: Allocator>(tree: &Tree<A>, number: usize) -> CstObject
     requires { content_at tree.now.nodes number ≡ Content.object }
     ensures number { result.number ≡ number }
     ensures held { IsNodeOf tree.now.nodes (object_node result) }
@@ -39,7 +39,7 @@ fn object_at<A: Allocator>(tree: &Tree<A>, number: usize) -> CstObject
 }
 
 // The array that stands under a number.
-fn array_at<A: Allocator>(tree: &Tree<A>, number: usize) -> CstArray
+pub(crate) fn array_at<A: Allocator>(tree: &Tree<A>, number: usize) -> CstArray
     requires { content_at tree.now.nodes number ≡ Content.array }
     ensures number { result.number ≡ number }
     ensures held { IsNodeOf tree.now.nodes (array_node result) }

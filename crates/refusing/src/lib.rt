@@ -1,5 +1,10 @@
-//! An allocator that refuses some requests for memory, so that tests can refuse each request of a call in turn.
+//! What crates of tests share: an allocator that refuses some requests for memory, so that each request of
+//! a call can be refused in turn; what came of a call; and a writer that takes no memory.
 #![tactic(auto)]
+
+pub mod awaited;
+pub mod in_turn;
+pub mod outcome;
 
 use std::alloc::{AllocError, Allocator};
 use std::cell::Cell;
@@ -45,6 +50,14 @@ impl<A: Allocator> Refusing<A> {
         Refusing {
             heap,
             turns: Turns::new(number, number.saturating_add(1)),
+        }
+    }
+
+    /// Refuses every request but so many first ones.
+    pub fn after(heap: A, count: u64) -> Refusing<A> {
+        Refusing {
+            heap,
+            turns: Turns::new(count, u64::MAX),
         }
     }
 

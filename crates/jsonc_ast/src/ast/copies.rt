@@ -4,7 +4,10 @@ ghost use Rattle.std.specs.Cow.{cow_str_bytes};
 ghost use Rattle.jsonc_ast.specs.Views.{located, object_located, member_of, name_at};
 ghost use Rattle.jsonc_ast.specs.Copies.{array_located, in_quotes, quotes, quotes_in_array, quotes_in_object, quotes_in_property};
 
-use super::{Array, Object, ObjectProp, ObjectPropName, StringLit, Value};
+use super::{
+    Array, BooleanLit, NullKeyword, NumberLit, Object, ObjectProp, ObjectPropName, StringLit,
+    Value, WordLit,
+};
 use std::alloc::{AllocError, Allocator};
 
 impl<'a, A: Allocator + Copy> StringLit<'a, A> {
@@ -28,7 +31,10 @@ impl<'a, A: Allocator + Copy> ObjectPropName<'a, A> {
     {
         match self {
             ObjectPropName::String(name) => Ok(ObjectPropName::String(name.try_clone()?)),
-            ObjectPropName::Word(name) => Ok(ObjectPropName::Word(name.clone()?)),
+            ObjectPropName::Word(name) => Ok(ObjectPropName::Word(WordLit {
+                range: name.range,
+                value: name.value,
+            })),
         }
     }
 }
@@ -42,11 +48,17 @@ impl<'a, A: Allocator + Copy> Value<'a, A> {
     {
         match self {
             Value::StringLit(string) => Ok(Value::StringLit(string.try_clone()?)),
-            Value::NumberLit(number) => Ok(Value::NumberLit(number.clone()?)),
-            Value::BooleanLit(boolean) => Ok(Value::BooleanLit(boolean.clone()?)),
+            Value::NumberLit(number) => Ok(Value::NumberLit(NumberLit {
+                range: number.range,
+                value: number.value,
+            })),
+            Value::BooleanLit(boolean) => Ok(Value::BooleanLit(BooleanLit {
+                range: boolean.range,
+                value: boolean.value,
+            })),
             Value::Object(object) => Ok(Value::Object(object.try_clone()?)),
             Value::Array(array) => Ok(Value::Array(array.try_clone()?)),
-            Value::NullKeyword(null) => Ok(Value::NullKeyword(null.clone()?)),
+            Value::NullKeyword(null) => Ok(Value::NullKeyword(NullKeyword { range: null.range })),
         }
     }
 }

@@ -15,7 +15,7 @@ use super::{CstRootNode, EditError};
 use std::alloc::Allocator;
 
 impl CstObjectProp {
-    /// Its name as it is written, a string or a word. None where no name stands before its colon.
+    /// Its name as it is written: the first string or word among its children, if there is one.
     pub fn name<A: Allocator>(self, doc: &CstRootNode<A>) -> Option<ObjectPropName>
         requires { Holds doc.now (object_prop_node self) }
         ensures name { result ≡ name_of doc.now self }
@@ -33,7 +33,7 @@ impl CstObjectProp {
         }
     }
 
-    /// Its value, if there is one after its colon.
+    /// Its value: the first element behind a colon behind its name, if there is one.
     pub fn value<A: Allocator>(self, doc: &CstRootNode<A>) -> Option<CstNode>
         requires { Holds doc.now (object_prop_node self) }
         ensures value { result ≡ value_under doc.now self.number }

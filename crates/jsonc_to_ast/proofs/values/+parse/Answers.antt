@@ -3,7 +3,7 @@ use Rattle.jsonc_text.specs.Plain.{around}
 use Rattle.jsonc_ast.specs.Located.{value_at}
 use Rattle.jsonc_to_ast.specs.Reads.{Reads}
 use Rattle.jsonc_ast.specs.Views.{located, member_of}
-use Rattle.jsonc_to_ast.proofs.Scans.{kept_on}
+use Rattle.jsonc_to_ast.proofs.Scans.{kept_same, kept_on}
 use Rattle.jsonc_to_ast.proofs.Collecting.{ok_is, collects_same, collects_turn}
 use Rattle.jsonc_to_ast.proofs.Loops.{AtHand, start_spans, smaller, leads_on, elements_start, elements_turn, elements_whole}
 use Rattle.jsonc_to_ast.proofs.Properties.{properties_start, properties_turn, properties_whole}
@@ -12,7 +12,7 @@ use Rattle.jsonc_text.specs.Grammar.{Separates, Closes}
 use Rattle.jsonc_text.specs.Text.{rest}
 use Rattle.jsonc_to_ast.specs.Context.{text_in, options_in}
 use Rattle.jsonc_ast.specs.Views.{name_at}
-use Rattle.jsonc_to_ast.proofs.Refusals.{err_of, err_some, still}
+use Rattle.jsonc_to_ast.proofs.Refusals.{err_of, err_some, ok_of, still}
 use Rattle.jsonc_to_ast.specs.Refusals.{NoPropertyHere, NoValueHere, Tells}
 use Rattle.jsonc_to_ast.specs.declared.container.Container.TheVariants.{Array, Object}
 use Rattle.jsonc_to_ast.proofs.Tokens.{opens_none}
@@ -22,6 +22,7 @@ use Rattle.std.proofs.lemmas.List.Elements.{All-nil, All-cons}
 use Rattle.jsonc_ast.specs.Spelled.{spelled, spelled_in_property, spelled_in_elements, spelled_in_properties}
 use Rattle.jsonc_to_ast.specs.Written.{IsWritten, IsLentHere, AreWrittenIn}
 use Rattle.jsonc_to_ast.proofs.Spelling.{element_written, property_written, still_written}
+use Rattle.jsonc_text.specs.Faults.{IsFault}
 use Rattle.jsonc_to_ast.proofs.values.+parse.Goals as goal
 
 pub parse_array-loop-next-init : goal.parse_array-loop-next-init
@@ -397,3 +398,116 @@ parse_property-returns-clause-written g t c = λ lent.
     let kept = kept_on old c.pass_colon.new.self here c.pass_colon.ensures.kept c.scan.ensures.kept in
     let value = still_written old here (spelled c.in_ok-value.value) kept (c.in_ok-value.ensures.written (subst (IsLentHere here) c.in-Some.is c.in_ok-found.ensures.lent)) in
     subst (AreWrittenIn old) (sym c.property_of.ensures.spelled) (All-cons (IsWritten (options_in old) (text_in old)) c.in_ok-name.name (spelled c.in_ok-value.value) (c.in_ok-name.ensures.written lent) value)
+
+pub parse_array-returns-in_err-next-clause-fault : goal.parse_array-returns-in_err-next-clause-fault
+parse_array-returns-in_err-next-clause-fault g t c =
+    let e = c.in_err-next.field-0.0 in
+    err_of (IsFault (text_in c.args.context.now)) e c.from_residual.result c.from_residual.ensures.1 c.in_err-next.ensures.fault
+
+pub parse_array-returns-in_err-check_nesting-clause-fault : goal.parse_array-returns-in_err-check_nesting-clause-fault
+parse_array-returns-in_err-check_nesting-clause-fault g t c =
+    let e = c.in_err-check_nesting.field-0.0 in
+    err_of (IsFault (text_in c.args.context.now)) e c.from_residual-in_err-check_nesting.result c.from_residual-in_err-check_nesting.ensures.1 (subst (λ b. IsFault b e) (c.loop-next.invariant.so_far.kept.text) c.in_err-check_nesting.ensures.fault)
+
+pub parse_array-returns-in_err-value-clause-fault : goal.parse_array-returns-in_err-value-clause-fault
+parse_array-returns-in_err-value-clause-fault g t c =
+    let e = c.in_err-value.field-0.0 in
+    err_of (IsFault (text_in c.args.context.now)) e c.from_residual-in_err-value.result c.from_residual-in_err-value.ensures.1 (subst (λ b. IsFault b e) (c.loop-next.invariant.so_far.kept.text) c.in_err-value.ensures.fault)
+
+pub parse_array-returns-in_err-next-2-clause-fault : goal.parse_array-returns-in_err-next-2-clause-fault
+parse_array-returns-in_err-next-2-clause-fault g t c =
+    let e = c.in_err-next-2.field-0.0 in
+    err_of (IsFault (text_in c.args.context.now)) e c.from_residual-in_err-next-2.result c.from_residual-in_err-next-2.ensures.1 (subst (λ b. IsFault b e) (c.in_ok-value.ensures.kept.text ∙ c.loop-next.invariant.so_far.kept.text) c.in_err-next-2.ensures.fault)
+
+pub parse_object-returns-in_err-next-clause-fault : goal.parse_object-returns-in_err-next-clause-fault
+parse_object-returns-in_err-next-clause-fault g t c =
+    let e = c.in_err-next.field-0.0 in
+    err_of (IsFault (text_in c.args.context.now)) e c.from_residual.result c.from_residual.ensures.1 c.in_err-next.ensures.fault
+
+pub parse_object-returns-in_err-property-clause-fault : goal.parse_object-returns-in_err-property-clause-fault
+parse_object-returns-in_err-property-clause-fault g t c =
+    let e = c.in_err-property.field-0.0 in
+    err_of (IsFault (text_in c.args.context.now)) e c.from_residual-in_err-property.result c.from_residual-in_err-property.ensures.1 (subst (λ b. IsFault b e) (c.loop-next.invariant.so_far.kept.text) c.in_err-property.ensures.fault)
+
+pub parse_object-returns-in_err-next-2-clause-fault : goal.parse_object-returns-in_err-next-2-clause-fault
+parse_object-returns-in_err-next-2-clause-fault g t c =
+    let e = c.in_err-next-2.field-0.0 in
+    err_of (IsFault (text_in c.args.context.now)) e c.from_residual-in_err-next-2.result c.from_residual-in_err-next-2.ensures.1 (subst (λ b. IsFault b e) (c.in_ok-property.ensures.kept.text ∙ c.loop-next.invariant.so_far.kept.text) c.in_err-next-2.ensures.fault)
+
+pub parse_property-returns-in_err-name-clause-fault : goal.parse_property-returns-in_err-name-clause-fault
+parse_property-returns-in_err-name-clause-fault g t c =
+    let e = c.in_err-name.field-0.0 in
+    err_of (IsFault (text_in c.args.context.now)) e c.from_residual.result c.from_residual.ensures.1 c.in_err-name.ensures.fault
+
+pub parse_property-returns-in_err-pass_colon-clause-fault : goal.parse_property-returns-in_err-pass_colon-clause-fault
+parse_property-returns-in_err-pass_colon-clause-fault g t c =
+    let e = c.in_err-pass_colon.field-0.0 in
+    err_of (IsFault (text_in c.args.context.now)) e c.from_residual-in_err-pass_colon.result c.from_residual-in_err-pass_colon.ensures.1 c.in_err-pass_colon.ensures.fault
+
+pub parse_property-returns-in_err-found-clause-fault : goal.parse_property-returns-in_err-found-clause-fault
+parse_property-returns-in_err-found-clause-fault g t c =
+    let e = c.in_err-found.field-0.0 in
+    err_of (IsFault (text_in c.args.context.now)) e c.from_residual-in_err-found.result c.from_residual-in_err-found.ensures.1 (subst (λ b. IsFault b e) (c.in_ok-pass_colon.ensures.kept.text) c.in_err-found.ensures.fault)
+
+pub parse_property-returns-in_err-check_nesting-clause-fault : goal.parse_property-returns-in_err-check_nesting-clause-fault
+parse_property-returns-in_err-check_nesting-clause-fault g t c =
+    let e = c.in_err-check_nesting.field-0.0 in
+    err_of (IsFault (text_in c.args.context.now)) e c.from_residual-in_err-check_nesting.result c.from_residual-in_err-check_nesting.ensures.1 (subst (λ b. IsFault b e) (c.in_ok-found.ensures.kept.text ∙ c.in_ok-pass_colon.ensures.kept.text) c.in_err-check_nesting.ensures.fault)
+
+pub parse_property-returns-in_default-clause-fault : goal.parse_property-returns-in_default-clause-fault
+parse_property-returns-in_default-clause-fault g t c =
+    let e = c.fault_here.result in
+    subst (λ b. IsFault b e) (c.in_ok-found.ensures.kept.text ∙ c.in_ok-pass_colon.ensures.kept.text) c.fault_here.ensures.fault
+
+pub parse_property-returns-in_err-value-clause-fault : goal.parse_property-returns-in_err-value-clause-fault
+parse_property-returns-in_err-value-clause-fault g t c =
+    let e = c.in_err-value.field-0.0 in
+    err_of (IsFault (text_in c.args.context.now)) e c.from_residual-in_err-value.result c.from_residual-in_err-value.ensures.1 (subst (λ b. IsFault b e) (c.in_ok-found.ensures.kept.text ∙ c.in_ok-pass_colon.ensures.kept.text) c.in_err-value.ensures.fault)
+
+pub parse_array-returns-in_default-push_value-clause-fault : goal.parse_array-returns-in_default-push_value-clause-fault
+parse_array-returns-in_default-push_value-clause-fault g t c =
+    let e = c.out_of_memory.result in
+    subst (λ b. IsFault b e) (c.in_ok-value.ensures.kept.text ∙ c.loop-next.invariant.so_far.kept.text) c.out_of_memory.ensures.fault
+
+pub parse_array-returns-clause-kept : goal.parse_array-returns-clause-kept
+parse_array-returns-clause-kept g t c = c.loop-next.invariant.so_far.kept
+
+pub parse_array-returns-clause-written : goal.parse_array-returns-clause-written
+parse_array-returns-clause-written g t c = subst (AreWrittenIn c.args.context.now) (sym c.array_of.ensures.spelled) c.loop-next.invariant.written
+
+pub parse_array-returns-clause-within : goal.parse_array-returns-clause-within
+parse_array-returns-clause-within g t c = subst (λ x. around (value_at x) + c.args.count ≤ 512) (sym c.array_of.ensures.located) c.loop-next.invariant.so_far.within
+
+pub parse_object-returns-in_default-push_property-clause-fault : goal.parse_object-returns-in_default-push_property-clause-fault
+parse_object-returns-in_default-push_property-clause-fault g t c =
+    let e = c.out_of_memory.result in
+    subst (λ b. IsFault b e) (c.in_ok-property.ensures.kept.text ∙ c.loop-next.invariant.so_far.kept.text) c.out_of_memory.ensures.fault
+
+pub parse_object-returns-clause-kept : goal.parse_object-returns-clause-kept
+parse_object-returns-clause-kept g t c = c.loop-next.invariant.so_far.kept
+
+pub parse_object-returns-clause-written : goal.parse_object-returns-clause-written
+parse_object-returns-clause-written g t c = subst (AreWrittenIn c.args.context.now) (sym c.object_of.ensures.spelled) c.loop-next.invariant.written
+
+pub parse_object-returns-clause-within : goal.parse_object-returns-clause-within
+parse_object-returns-clause-within g t c = subst (λ x. around (value_at x) + c.args.count ≤ 512) (sym c.object_of.ensures.located) c.loop-next.invariant.so_far.within
+
+pub parse_property-returns-clause-kept : goal.parse_property-returns-clause-kept
+parse_property-returns-clause-kept g t c =
+    let mid = c.pass_colon.new.self in
+    let new = c.parse_value.new.context in
+    kept_on c.args.context.now mid new c.pass_colon.ensures.kept (kept_on mid c.scan.new.self new c.scan.ensures.kept c.in_ok-value.ensures.kept)
+
+pub parse_property-check_nesting-requires : goal.parse_property-check_nesting-requires
+parse_property-check_nesting-requires g t c =
+    let old = c.args.context.now in
+    let mid = c.pass_colon.new.self in
+    let now = c.scan.new.self in
+    start_spans old now c.token_start-start.result c.token_start-start.ensures (kept_on old mid now c.pass_colon.ensures.kept c.scan.ensures.kept)
+    (omega (arith, c.in_ok-pass_colon.ensures.found.spans.order, c.in_ok-found.ensures.found.0.spans.order, now.scanner.order))
+
+pub parse_value-returns-in_default-clause-kept : goal.parse_value-returns-in_default-clause-kept
+parse_value-returns-in_default-clause-kept g t c = ok_is c.parse_leaf.result (kept_same c.args.context.now)
+
+pub parse_value-returns-in_default-clause-within : goal.parse_value-returns-in_default-clause-within
+parse_value-returns-in_default-clause-within g t c = ok_of c.parse_leaf.result (λ v none. omega (arith, none, c.requires.around)) c.parse_leaf.ensures.within

@@ -6,6 +6,8 @@ use Rattle.jsonc_to_ast.specs.Context.{options_in}
 use Rattle.jsonc_to_ast.specs.Refusals.{after}
 use Rattle.jsonc_to_ast.proofs.Refusals.{err_of, still, refuted, no_token_lexeme, nowhere_first, nothing_at_end, only_first}
 use Rattle.jsonc_to_ast.proofs.Tokens.{open_before, end_here, closes_none}
+use Rattle.jsonc_text.specs.Faults.{IsFault}
+use Rattle.std.proofs.Common.{subst}
 use Rattle.jsonc_to_ast.proofs.context.Context.first_item.Goals as goal
 
 pub returns-in_err-first-clause-refused : goal.returns-in_err-first-clause-refused
@@ -45,3 +47,6 @@ returns-in_default-clause-told g c =
     let kept = c.scan.ensures.kept in
     open_stops old new c.in_ok-first.field-0 kept read.found read.lexeme c.in_default.is c.args.container c.args.start c.unterminated.result
     (open_before old new c.args.container c.args.start c.unterminated.result kept (c.unterminated.ensures.told (end_here old new c.in_ok-first.field-0 kept read.found read.lexeme c.in_default.is))) (first c.args.container) (λ whole q. refl)
+
+pub returns-in_default-clause-fault : goal.returns-in_default-clause-fault
+returns-in_default-clause-fault g c = subst (λ b. IsFault b c.unterminated.result) c.scan.ensures.kept.text c.unterminated.ensures.fault

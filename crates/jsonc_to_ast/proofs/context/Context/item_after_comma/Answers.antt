@@ -8,6 +8,8 @@ use Rattle.jsonc_to_ast.specs.Context.{options_in}
 use Rattle.jsonc_to_ast.specs.Refusals.{after}
 use Rattle.jsonc_to_ast.proofs.Refusals.{err_of, still, refuted, no_token_lexeme, nowhere_comma, nothing_at_end, only_after_comma, trailing_refused}
 use Rattle.jsonc_to_ast.proofs.Tokens.{open_before, end_here, closes_none}
+use Rattle.jsonc_text.specs.Faults.{IsFault}
+use Rattle.std.proofs.Common.{subst}
 use Rattle.jsonc_to_ast.proofs.context.Context.item_after_comma.Goals as goal
 
 pub returns-in_err-token-clause-refused : goal.returns-in_err-token-clause-refused
@@ -62,3 +64,9 @@ returns-then-not-self-clause-told g c = λ one q a from.
     let new = c.scan.new.self in
     trailing_stops c.args.self.now new c.in_ok-token.field-0 c.scan.ensures.kept read.found read.lexeme c.in-Some.token c.in-Some.is c.args.container (c.is_closed_by.ensures.0 c.if-not-is_closed_by.false) c.fault.result
     (ap (λ p. p.trailing_commas) (sym (new.same ∙ c.scan.ensures.kept.options)) ∙ c.if-not-self.true) c.fault.ensures.kind (c.fault.ensures.range ∙ c.range-comma.ensures) (is_some c.args.start) (container c.args.container a ∷ q) one
+
+pub returns-in_default-clause-fault : goal.returns-in_default-clause-fault
+returns-in_default-clause-fault g c = subst (λ b. IsFault b c.unterminated.result) c.scan.ensures.kept.text c.unterminated.ensures.fault
+
+pub returns-then-not-self-clause-fault : goal.returns-then-not-self-clause-fault
+returns-then-not-self-clause-fault g c = subst (λ b. IsFault b c.fault.result) c.scan.ensures.kept.text c.fault.ensures.fault

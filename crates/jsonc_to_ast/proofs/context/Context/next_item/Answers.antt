@@ -13,6 +13,9 @@ use Rattle.jsonc_to_ast.specs.Refusals.{after}
 use Rattle.jsonc_to_ast.proofs.Collecting.{collects_on, ok_collects}
 use Rattle.jsonc_to_ast.proofs.Refusals.{err_of, ok_some, err_some, still, refuted, no_token_lexeme, nowhere_next, nothing_at_end, nothing_next, next_after_comma, missing_refused, only_next}
 use Rattle.jsonc_to_ast.proofs.Tokens.{open_before, end_here, closes_none, comes_after_ok}
+use Rattle.jsonc_text.specs.Faults.{IsFault}
+use Rattle.std.proofs.Common.{subst, IfErr}
+use Rattle.jsonc_to_ast.proofs.Scans.{kept_on}
 use Rattle.jsonc_to_ast.proofs.context.Context.next_item.Goals as goal
 
 pub returns-then-is_closed_by-clause-found : goal.returns-then-is_closed_by-clause-found
@@ -170,3 +173,21 @@ returns-then-has_next-clause-told g c =
     (λ e told q a from. comma_stops old new (Some token.Comma) kept passed.found refl token.Comma refl refl c.args.container e (is_some c.args.start) (container c.args.container a ∷ q) one
     (told one q a (from_before old new kept c.args.start a from)))
     c.item_after_comma.ensures.told
+
+pub returns-in_default-clause-fault : goal.returns-in_default-clause-fault
+returns-in_default-clause-fault g c = subst (λ b. IsFault b c.unterminated.result) c.scan.ensures.kept.text c.unterminated.ensures.fault
+
+pub returns-then-not-self-clause-fault : goal.returns-then-not-self-clause-fault
+returns-then-not-self-clause-fault g c = subst (λ b. IsFault b c.missing_comma.result) c.scan.ensures.kept.text c.missing_comma.ensures.fault
+
+pub returns-then-is_comma-clause-kept : goal.returns-then-is_comma-clause-kept
+returns-then-is_comma-clause-kept g c = kept_on c.args.self.now c.scan.new.self c.item_after_comma-then-is_comma.new.self c.scan.ensures.kept c.item_after_comma-then-is_comma.ensures.kept
+
+pub returns-then-is_comma-clause-fault : goal.returns-then-is_comma-clause-fault
+returns-then-is_comma-clause-fault g c = subst (λ b. IfErr c.item_after_comma-then-is_comma.result (IsFault b)) c.scan.ensures.kept.text c.item_after_comma-then-is_comma.ensures.fault
+
+pub returns-then-has_next-clause-kept : goal.returns-then-has_next-clause-kept
+returns-then-has_next-clause-kept g c = kept_on c.args.self.now c.pass_next_comma.new.self c.item_after_comma.new.self c.pass_next_comma.ensures.kept c.item_after_comma.ensures.kept
+
+pub returns-then-has_next-clause-fault : goal.returns-then-has_next-clause-fault
+returns-then-has_next-clause-fault g c = subst (λ b. IfErr c.item_after_comma.result (IsFault b)) c.pass_next_comma.ensures.kept.text c.item_after_comma.ensures.fault

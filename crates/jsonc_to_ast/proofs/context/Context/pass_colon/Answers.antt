@@ -3,6 +3,8 @@ use Rattle.jsonc_to_ast.specs.Reached.{colon}
 use Rattle.jsonc_to_ast.specs.Told.{StopsAtColon}
 use Rattle.jsonc_to_ast.proofs.Stopping.{stops_here, colon_end_stops, colon_stops}
 use Rattle.jsonc_to_ast.proofs.Refusals.{err_of, still, refuted, no_token_colon, no_colon_at_end, no_colon}
+use Rattle.jsonc_text.specs.Faults.{IsFault}
+use Rattle.std.proofs.Common.{subst}
 use Rattle.jsonc_to_ast.proofs.context.Context.pass_colon.Goals as goal
 
 pub returns-in_err-token-clause-refused : goal.returns-in_err-token-clause-refused
@@ -36,3 +38,9 @@ returns-then-not-is_colon-clause-told g c =
     let read = c.in_ok-token.ensures in
     colon_stops c.args.self.now c.scan.new.self c.in_ok-token.field-0 c.scan.ensures.kept read.found read.lexeme c.in-Some.token c.in-Some.is c.fault_here-then-not-is_colon.result
     (refuted c.is_colon.ensures.1 c.if-not-is_colon.true) c.fault_here-then-not-is_colon.ensures.kind c.fault_here-then-not-is_colon.ensures.range
+
+pub returns-in_default-clause-fault : goal.returns-in_default-clause-fault
+returns-in_default-clause-fault g c = subst (λ b. IsFault b c.fault_here.result) c.scan.ensures.kept.text c.fault_here.ensures.fault
+
+pub returns-then-not-is_colon-clause-fault : goal.returns-then-not-is_colon-clause-fault
+returns-then-not-is_colon-clause-fault g c = subst (λ b. IsFault b c.fault_here-then-not-is_colon.result) c.scan.ensures.kept.text c.fault_here-then-not-is_colon.ensures.fault

@@ -1,6 +1,8 @@
-use Rattle.std.proofs.Common.{sym, ◌∙◌, refl, subst}
-use Rattle.jsonc_scan.specs.Scanner.{IsLent}
-use Rattle.jsonc_to_ast.proofs.Scans.{passing_start, scan_found, passing_on}
+use Rattle.std.proofs.Common.{sym, ap, ◌∙◌, refl, subst, Some, is_some}
+use Rattle.jsonc_text.specs.Faults.{IsFault}
+use Rattle.jsonc_scan.specs.Scanner.{IsLent, text_of}
+use Rattle.jsonc_to_ast.specs.Context.{text_in}
+use Rattle.jsonc_to_ast.proofs.Scans.{passing_start, scan_found, kept_step, passing_on}
 use Rattle.jsonc_to_ast.proofs.Collecting.{collects_end, collects_nothing, collects_on_lexeme}
 use Rattle.jsonc_to_ast.proofs.Refusals.{err_of, scan_refused, comment_refused}
 use Rattle.jsonc_to_ast.specs.Told.{StopsAnyhow}
@@ -71,3 +73,70 @@ returns-in_err-pass_comment-clause-told g c =
     err_of (StopsAnyhow c.args.self.now) e c.from_residual-in_err-pass_comment.result c.from_residual-in_err-pass_comment.ensures.1
     (comment_stops c.args.self.now c.loop-token.self c.step.new.self c.in_ok-token.field-0 c.in-Some.token e c.in-Some.is c.loop-token.invariant c.step.ensures.blanks c.in_ok-token.ensures.found
     (sym c.is_comment.ensures ∙ c.if-not-is_comment.false) c.in_err-pass_comment.ensures.refused)
+
+pub returns-in_err-token-clause-kept : goal.returns-in_err-token-clause-kept
+returns-in_err-token-clause-kept g c = kept_step c.args.self.now c.loop-token.self _ c.step.new.self c.loop-token.invariant c.step.ensures.blanks refl refl refl refl
+
+pub returns-in_default-clause-kept : goal.returns-in_default-clause-kept
+returns-in_default-clause-kept g c = kept_step c.args.self.now c.loop-token.self _ c.step.new.self c.loop-token.invariant c.step.ensures.blanks refl refl refl refl
+
+pub returns-then-not-collects-clause-kept : goal.returns-then-not-collects-clause-kept
+returns-then-not-collects-clause-kept g c = kept_step c.args.self.now c.loop-token.self _ c.step.new.self c.loop-token.invariant c.step.ensures.blanks refl refl refl refl
+
+pub returns-in_err-collect-clause-kept : goal.returns-in_err-collect-clause-kept
+returns-in_err-collect-clause-kept g c =
+    kept_step c.args.self.now c.loop-token.self c.collect.new.self c.step.new.self c.loop-token.invariant c.step.ensures.blanks c.collect.ensures.scanner c.collect.ensures.tokens c.collect.ensures.comments (ap is_some c.collect.ensures.apart)
+
+pub returns-in_err-end_gap-clause-kept : goal.returns-in_err-end_gap-clause-kept
+returns-in_err-end_gap-clause-kept g c =
+    let taken = c.collect.ensures in
+    let ended = c.end_gap.ensures in
+    kept_step c.args.self.now c.loop-token.self c.end_gap.new.self c.step.new.self c.loop-token.invariant c.step.ensures.blanks (ended.scanner ∙ taken.scanner) (ap is_some ended.tokens ∙ taken.tokens) (ended.comments ∙ taken.comments) (ended.apart ∙ ap is_some taken.apart)
+
+pub returns-then-not-is_comment-clause-kept : goal.returns-then-not-is_comment-clause-kept
+returns-then-not-is_comment-clause-kept g c =
+    let taken = c.collect.ensures in
+    let ended = c.end_gap.ensures in
+    kept_step c.args.self.now c.loop-token.self c.end_gap.new.self c.step.new.self c.loop-token.invariant c.step.ensures.blanks (ended.scanner ∙ taken.scanner) (ap is_some ended.tokens ∙ taken.tokens) (ended.comments ∙ taken.comments) (ended.apart ∙ ap is_some taken.apart)
+
+pub returns-in_err-pass_comment-clause-kept : goal.returns-in_err-pass_comment-clause-kept
+returns-in_err-pass_comment-clause-kept g c =
+    let passed = c.pass_comment.ensures in
+    kept_step c.args.self.now c.loop-token.self c.pass_comment.new.self c.step.new.self c.loop-token.invariant c.step.ensures.blanks passed.scanner passed.tokens passed.comments passed.apart
+
+pub returns-in_err-token-clause-fault : goal.returns-in_err-token-clause-fault
+returns-in_err-token-clause-fault g c =
+    let e = c.in_err-token.field-0.0 in
+    err_of (IsFault (text_in c.args.self.now)) e c.from_residual.result c.from_residual.ensures.1
+    (subst (λ b. IsFault b e) (c.step.ensures.blanks.text ∙ c.loop-token.invariant.kept.text) c.in_err-token.ensures.fault)
+
+pub returns-in_err-collect-clause-fault : goal.returns-in_err-collect-clause-fault
+returns-in_err-collect-clause-fault g c =
+    let e = c.in_err-collect.field-0.0 in
+    err_of (IsFault (text_in c.args.self.now)) e c.from_residual-in_err-collect.result c.from_residual-in_err-collect.ensures.1
+    (subst (λ b. IsFault b e) (c.step.ensures.blanks.text ∙ c.loop-token.invariant.kept.text) c.in_err-collect.ensures.fault)
+
+pub returns-in_err-end_gap-clause-fault : goal.returns-in_err-end_gap-clause-fault
+returns-in_err-end_gap-clause-fault g c =
+    let e = c.in_err-end_gap.field-0.0 in
+    err_of (IsFault (text_in c.args.self.now)) e c.from_residual-in_err-end_gap.result c.from_residual-in_err-end_gap.ensures.1
+    (subst (λ b. IsFault b e) (ap text_of c.collect.ensures.scanner ∙ c.step.ensures.blanks.text ∙ c.loop-token.invariant.kept.text) c.in_err-end_gap.ensures.fault)
+
+pub returns-in_err-pass_comment-clause-fault : goal.returns-in_err-pass_comment-clause-fault
+returns-in_err-pass_comment-clause-fault g c =
+    let e = c.in_err-pass_comment.field-0.0 in
+    err_of (IsFault (text_in c.args.self.now)) e c.from_residual-in_err-pass_comment.result c.from_residual-in_err-pass_comment.ensures.1
+    (subst (λ b. IsFault b e) (c.step.ensures.blanks.text ∙ c.loop-token.invariant.kept.text) c.in_err-pass_comment.ensures.fault)
+
+pub returns-then-not-collects-clause-lent : goal.returns-then-not-collects-clause-lent
+returns-then-not-collects-clause-lent g c = subst (IsLent c.step.new.self) c.in-Some.is c.in_ok-token.ensures.lent
+
+pub returns-then-not-is_comment-clause-lent : goal.returns-then-not-is_comment-clause-lent
+returns-then-not-is_comment-clause-lent g c =
+    subst (λ s. IsLent s (Some c.in-Some.token)) (sym (c.end_gap.ensures.scanner ∙ c.collect.ensures.scanner)) (subst (IsLent c.step.new.self) c.in-Some.is c.in_ok-token.ensures.lent)
+
+pub returns-then-not-collects-clause-lexeme : goal.returns-then-not-collects-clause-lexeme
+returns-then-not-collects-clause-lexeme g c = sym c.is_comment.ensures ∙ c.if-not-is_comment.true
+
+pub returns-then-not-is_comment-clause-lexeme : goal.returns-then-not-is_comment-clause-lexeme
+returns-then-not-is_comment-clause-lexeme g c = sym c.is_comment.ensures ∙ c.if-not-is_comment.true

@@ -1,0 +1,65 @@
+//! The property that a path leads to.
+
+ghost use Rattle.jsonc_cst.specs.Document.{Holds};
+
+use crate::refusal::Refusal;
+use jsonc_parser::cst::{CstContainerNode, CstNode, CstObjectProp, CstRootNode, EditError};
+use std::alloc::Global;
+
+/// The property that a path leads to.
+pub fn property_at(doc: &CstRootNode<Global>, path: &[usize]) -> Result<CstObjectProp, Refusal> {
+    let [front @ .., place] = path else {
+        return Err(Refusal::Error(EditError::NoSuchPlace));
+    };
+    let mut found = doc.value();
+    for step in front {
+        found = match found {
+            Some(node) if doc.holds(node) => value_below(doc, node, *step)?,
+            _ => None,
+        };
+    }
+    match found {
+        Some(node) if doc.holds(node) => property_below(doc, node, *place),
+        _ => Err(Refusal::Error(EditError::NoSuchPlace)),
+    }
+}
+
+/// The element at a place of an array, or the value of the property at a place of an object.
+fn value_below(
+    doc: &CstRootNode<Global>,
+    node: CstNode,
+    place: usize,
+) -> Result<Option<CstNode>, Refusal>
+    requires { Holds doc.now node }
+{
+    match node {
+        CstNode::Container(CstContainerNode::Array(row)) => {
+            Ok(row.elements(doc)?.get(place).copied())
+        }
+        CstNode::Container(CstContainerNode::Object(_)) => {
+            let property = property_below(doc, node, place)?;
+            if !doc.holds(property.into()) {
+                return Ok(None);
+            }
+            Ok(property.value(doc))
+        }
+        _ => Ok(None),
+    }
+}
+
+/// The property at a place of an object.
+fn property_below(
+    doc: &CstRootNode<Global>,
+    node: CstNode,
+    place: usize,
+) -> Result<CstObjectProp, Refusal>
+    requires { Holds doc.now node }
+{
+    let CstNode::Container(CstContainerNode::Object(object)) = node else {
+        return Err(Refusal::Error(EditError::NoSuchPlace));
+    };
+    match object.properties(doc)?.get(place) {
+        Some(property) => Ok(*property),
+        None => Err(Refusal::Error(EditError::NoSuchPlace)),
+    }
+}

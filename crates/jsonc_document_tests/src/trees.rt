@@ -1,0 +1,111 @@
+//! Changes of a tree, each through the tests that make it allowed.
+ghost use Rattle.std.specs.Prelude.{◌<◌, IsTrue, length};
+ghost use Rattle.jsonc_tree.specs.Tree.{is_container_at};
+
+use jsonc_tree::{Kind, Tree};
+use refusing::outcome::Outcome;
+use std::alloc::Allocator;
+
+/// Whether a node is there and may have children.
+fn can_hold<A: Allocator>(tree: &Tree<A>, node: usize) -> bool
+    ensures there { IsTrue result → node < length tree.now.nodes }
+    ensures container { IsTrue result → IsTrue (is_container_at tree.now.nodes node) }
+{
+    if node >= tree.len() {
+        return false;
+    }
+    tree.kind(node).is_container()
+}
+
+fn push<A: Allocator + Copy>(
+    tree: &mut Tree<A>,
+    container: usize,
+    kind: Kind<A>,
+) -> Result<usize, Outcome> {
+    if !can_hold(tree, container) {
+        return Err(Outcome::Other);
+    }
+    Ok(tree.push_child(container, kind)?)
+}
+
+/// A new node at the end of a container.
+fn attach<A: Allocator + Copy>(
+    tree: &mut Tree<A>,
+    container: usize,
+    kind: Kind<A>,
+) -> Result<(), Outcome> {
+    if !can_hold(tree, container) {
+        return Err(Outcome::Other);
+    }
+    let node = tree.add(kind)?;
+    tree.attach(container, node)?;
+    Ok(())
+}
+
+/// A new node in the place of a stretch of a container's children.
+fn put<A: Allocator + Copy>(
+    tree: &mut Tree<A>,
+    container: usize,
+    from: usize,
+    to: usize,
+    kind: Kind<A>,
+) -> Result<(), Outcome> {
+    if !can_hold(tree, container) {
+        return Err(Outcome::Other);
+    }
+    let node = tree.add(kind)?;
+    tree.reserve(container, 1)?;
+    if from > to || to > tree.child_count(container) {
+        return Err(Outcome::Other);
+    }
+    tree.splice(container, from, to, &[node]);
+    Ok(())
+}
+
+/// Another leaf in the place of one.
+fn set<A: Allocator + Copy>(tree: &mut Tree<A>, leaf: usize, kind: Kind<A>) -> Result<(), Outcome> {
+    if leaf >= tree.len() || tree.kind(leaf).is_container() || kind.is_container() {
+        return Err(Outcome::Other);
+    }
+    tree.set_leaf(leaf, kind);
+    Ok(())
+}
+
+/// Fills the tree by pushing and attaching, and answers its array and the number in it.
+fn fill<A: Allocator + Copy>(alloc: A, tree: &mut Tree<A>) -> Result<(usize, usize), Outcome> {
+    let array = push(tree, 0, Kind::Array)?;
+    push(tree, array, Kind::Token('['))?;
+    let number = push(tree, array, Kind::Number(String::from_str(alloc, "1")?))?;
+    attach(tree, array, Kind::Token(']'))?;
+    Ok((array, number))
+}
+
+/// Puts a comma behind the number, blanks in the place of the comma, and a word in the number's.
+fn change<A: Allocator + Copy>(alloc: A, tree: &mut Tree<A>) -> Result<(), Outcome> {
+    let (array, number) = fill(alloc, tree)?;
+    put(tree, array, 2, 2, Kind::Token(','))?;
+    put(
+        tree,
+        array,
+        2,
+        3,
+        Kind::Whitespace(String::from_str(alloc, "  ")?),
+    )?;
+    set(tree, number, Kind::Word(String::from_str(alloc, "a")?))
+}
+
+/// A tree that each change has a part in.
+pub fn changed_tree<A: Allocator + Copy>(alloc: A) -> Outcome {
+    match Tree::new(alloc) {
+        Ok(tree) => is_changed(alloc, tree),
+        Err(error) => Outcome::from(error),
+    }
+}
+
+fn is_changed<A: Allocator + Copy>(alloc: A, tree: Tree<A>) -> Outcome {
+    let mut tree = tree;
+    match change(alloc, &mut tree) {
+        Ok(()) => Outcome::of_text(tree.to_string(alloc), "[a  ]"),
+        Err(outcome) => outcome,
+    }
+}

@@ -1,0 +1,280 @@
+//! The nodes of a document, reached from its root and by names.
+ghost use Rattle.std.specs.Prelude.{IfOk};
+ghost use Rattle.jsonc_cst.specs.Document.{Holds};
+ghost use Rattle.jsonc_cst.specs.Nodes.{array_node, object_prop_node};
+
+use crate::reading::read;
+use jsonc_parser::cst::{
+    CstArray, CstLeafNode, CstNode, CstObjectProp, CstRootNode, EditError, HasChildren, IsNode,
+    ObjectPropName,
+};
+use refusing::awaited::prints;
+use refusing::outcome::Outcome;
+use std::alloc::{Allocator, Global};
+
+/// A comment, an array of nine parts and another comment, with blanks between.
+const TEXT: &str = "/* c */ [1, 2,\n'\\x61'] // end";
+
+/// What the array prints.
+const ARRAY: &str = "[1, 2,\n'\\x61']";
+
+/// An object over lines, with a comment at the end of one.
+const SPREAD: &str = "{\n  \"a\": 1, // x\n  \"b\": [2]\n}";
+
+/// A name in quotes with an escape, and one without quotes.
+const NAMES: &str = "{\"\\u0061\": 'x\\ty', b: [2]} // end";
+
+/// Whether a list has so many nodes, or the memory for it was wanted.
+fn is_count<A: Allocator>(found: Result<Vec<CstNode, A>, EditError>, count: usize) -> Outcome {
+    match found {
+        Ok(found) => Outcome::of(found.len() == count),
+        Err(error) => Outcome::from(error),
+    }
+}
+
+fn are_children<A: Allocator + Copy>(doc: &CstRootNode<A>) -> Outcome {
+    let root = CstNode::from(doc.root());
+    let are_parts = is_count(root.children(doc), 5);
+    match root.child_at_index(doc, 2) {
+        Some(array) => {
+            let is_array = array.as_array().is_some() && prints(&array.shown(doc), ARRAY);
+            are_parts
+                .then(is_count(array.children(doc), 9))
+                .then(Outcome::of(is_array))
+        }
+        None => Outcome::Other,
+    }
+}
+
+/// The children of the root and of the array in it, and what the array prints.
+pub fn children<A: Allocator + Copy>(alloc: A) -> Outcome {
+    match read(alloc, TEXT) {
+        Ok(doc) => are_children(&doc),
+        Err(outcome) => outcome,
+    }
+}
+
+/// The property of this name.
+fn property_of<A: Allocator + Copy>(
+    doc: &CstRootNode<A>,
+    name: &str,
+) -> Result<CstObjectProp, Outcome>
+    ensures { IfOk result (λ p. Holds doc.now (object_prop_node p)) }
+{
+    let Some(object) = doc.object_value() else {
+        return Err(Outcome::Other);
+    };
+    match object.get(doc, name) {
+        Ok(Some(property)) => Ok(property),
+        Ok(None) => Err(Outcome::Other),
+        Err(error) => Err(Outcome::from(error)),
+    }
+}
+
+/// No property has a name that is written so.
+fn is_missing<A: Allocator + Copy>(doc: &CstRootNode<A>, name: &str) -> Outcome {
+    match doc.object_value() {
+        Some(object) => Outcome::of_answer(object.get(doc, name), &None),
+        None => Outcome::Other,
+    }
+}
+
+fn is_decoded<A: Allocator + Copy>(
+    doc: &CstRootNode<A>,
+    property: CstObjectProp,
+    name: &str,
+) -> Outcome
+    requires { Holds doc.now (object_prop_node property) }
+{
+    match property.decoded_name(doc) {
+        Ok(Some(found)) => Outcome::of(found.as_str() == name),
+        Ok(None) => Outcome::Other,
+        Err(error) => Outcome::from(error),
+    }
+}
+
+fn is_name<A: Allocator + Copy>(
+    doc: &CstRootNode<A>,
+    property: CstObjectProp,
+    text: &str,
+) -> Outcome
+    requires { Holds doc.now (object_prop_node property) }
+{
+    match property.name(doc) {
+        Some(name) => Outcome::of_text(name.decoded_value(doc), text),
+        None => Outcome::Other,
+    }
+}
+
+fn is_string<A: Allocator + Copy>(
+    doc: &CstRootNode<A>,
+    property: CstObjectProp,
+    text: &str,
+) -> Outcome
+    requires { Holds doc.now (object_prop_node property) }
+{
+    match property.value(doc) {
+        Some(CstNode::Leaf(CstLeafNode::StringLit(string))) => {
+            Outcome::of_text(string.decoded_value(doc), text)
+        }
+        _ => Outcome::Other,
+    }
+}
+
+fn is_first_told<A: Allocator + Copy>(doc: &CstRootNode<A>) -> Outcome {
+    match property_of(doc, "a") {
+        Ok(first) => is_decoded(doc, first, "a")
+            .then(is_name(doc, first, "a"))
+            .then(is_string(doc, first, "x\ty")),
+        Err(outcome) => outcome,
+    }
+}
+
+fn is_second_told<A: Allocator + Copy>(doc: &CstRootNode<A>) -> Outcome {
+    match property_of(doc, "b") {
+        Ok(second) => {
+            let is_array = second.array_value(doc).is_some();
+            is_name(doc, second, "b").then(Outcome::of(is_array))
+        }
+        Err(outcome) => outcome,
+    }
+}
+
+/// Properties by their names, and what strings stand for.
+pub fn names<A: Allocator + Copy>(alloc: A) -> Outcome {
+    match read(alloc, NAMES) {
+        Ok(doc) => is_first_told(&doc)
+            .then(is_second_told(&doc))
+            .then(is_missing(&doc, "\\u0061")),
+        Err(outcome) => outcome,
+    }
+}
+
+/// The properties are children 3 and 9 of the 12 of their object.
+fn are_properties<A: Allocator + Copy>(
+    doc: &CstRootNode<A>,
+    first: CstObjectProp,
+    second: CstObjectProp,
+) -> bool
+    requires first { Holds doc.now (object_prop_node first) }
+    requires second { Holds doc.now (object_prop_node second) }
+{
+    let are_beside = first.next_property(doc) == Some(second)
+        && second.previous_property(doc) == Some(first)
+        && first.previous_property(doc) == None;
+    let are_counted = first.property_index(doc) == 0 && second.property_index(doc) == 1;
+    let are_placed = CstNode::from(first).child_index(doc) == 3
+        && CstNode::from(second).child_index(doc) == 9;
+    let is_named = matches!(second.name(doc), Some(ObjectPropName::String(_)));
+    are_beside && are_counted && are_placed && is_named
+}
+
+/// Whether these are all properties of the document's object.
+fn are_listed<A: Allocator + Copy>(doc: &CstRootNode<A>, wanted: &[CstObjectProp]) -> Outcome {
+    let Some(object) = doc.object_value() else {
+        return Outcome::Other;
+    };
+    match object.properties(doc) {
+        Ok(found) => Outcome::of(found.as_slice() == wanted),
+        Err(error) => Outcome::from(error),
+    }
+}
+
+fn properties_stand<A: Allocator + Copy>(doc: &CstRootNode<A>) -> Outcome {
+    match (property_of(doc, "a"), property_of(doc, "b")) {
+        (Ok(first), Ok(second)) => {
+            let are_properties = Outcome::of(are_properties(doc, first, second));
+            are_properties.then(are_listed(doc, &[first, second]))
+        }
+        (Err(outcome), _) | (_, Err(outcome)) => outcome,
+    }
+}
+
+/// Before and after the object's first property stand 3 and 8 siblings.
+fn are_counted<A: Allocator>(doc: &CstRootNode<A>, object: CstNode, first: CstNode) -> bool
+    requires object { Holds doc.now object }
+    requires first { Holds doc.now first }
+{
+    let mut before = first.previous_siblings(doc);
+    let mut after = first.next_siblings(doc);
+    before.nth(2) == object.child_at_index(doc, 0)
+        && before.next() == None
+        && after.nth(7) == object.child_at_index(doc, 11)
+        && after.next() == None
+}
+
+/// Behind the object's first property is a comma.
+fn are_siblings<A: Allocator>(doc: &CstRootNode<A>, first: CstNode, comma: CstNode) -> bool
+    requires first { Holds doc.now first }
+    requires comma { Holds doc.now comma }
+{
+    let is_beside = first.next_sibling(doc) == Some(comma)
+        && comma.previous_sibling(doc) == Some(first);
+    is_beside && first.root_node(doc) == Some(doc.root()) && comma.is_comma(doc)
+}
+
+fn siblings_stand<A: Allocator + Copy>(doc: &CstRootNode<A>) -> Outcome {
+    let Some(object) = doc.object_value() else {
+        return Outcome::Other;
+    };
+    let node = CstNode::from(object);
+    match (node.child_at_index(doc, 3), node.child_at_index(doc, 4)) {
+        (Some(first), Some(comma)) => {
+            let stand = are_siblings(doc, first, comma) && are_counted(doc, node, first);
+            is_count(node.children_exclude_trivia_and_tokens(doc), 2).then(Outcome::of(stand))
+        }
+        _ => Outcome::Other,
+    }
+}
+
+/// Whether this is the only element of an array.
+fn is_only<A: Allocator + Copy>(doc: &CstRootNode<A>, array: CstArray, element: CstNode) -> Outcome
+    requires array { Holds doc.now (array_node array) }
+    requires element { Holds doc.now element }
+{
+    let is_number = element.element_index(doc) == Some(0) && element.as_number_lit().is_some();
+    match array.elements(doc) {
+        Ok(found) => Outcome::of(is_number && found.as_slice() == [element].as_slice()),
+        Err(error) => Outcome::from(error),
+    }
+}
+
+/// The array under the object's last name has one element.
+fn elements_stand<A: Allocator + Copy>(doc: &CstRootNode<A>, property: CstObjectProp) -> Outcome
+    requires { Holds doc.now (object_prop_node property) }
+{
+    let Some(array) = property.array_value(doc) else {
+        return Outcome::Other;
+    };
+    let is_array = Outcome::of(property.object_value(doc) == None);
+    match CstNode::from(array).child_at_index(doc, 1) {
+        Some(element) => is_array.then(is_only(doc, array, element)),
+        None => Outcome::Other,
+    }
+}
+
+/// The document's value is its object.
+fn values_stand<A: Allocator + Copy>(doc: &CstRootNode<A>) -> Outcome {
+    let is_object = doc.value() == doc.object_value().map(CstNode::from);
+    let is_value = Outcome::of(is_object && doc.array_value() == None);
+    match property_of(doc, "b") {
+        Ok(property) => is_value.then(elements_stand(doc, property)),
+        Err(outcome) => outcome,
+    }
+}
+
+/// The rows that typed nodes stand in. Lists that are collected ask again for less where they were
+/// refused, so one refusal need not show.
+fn typed_rows<A: Allocator + Copy>(alloc: A) -> Outcome {
+    match read(alloc, SPREAD) {
+        Ok(doc) => properties_stand(&doc)
+            .then(siblings_stand(&doc))
+            .then(values_stand(&doc)),
+        Err(outcome) => outcome,
+    }
+}
+
+#[test]
+fn typed_nodes_stand_in_their_rows(rt: HostRuntime) {
+    assert!(rt; typed_rows::<Global>(rt.alloc()) == Outcome::Answered);
+}

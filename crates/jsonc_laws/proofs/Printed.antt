@@ -1,0 +1,270 @@
+-- A sound tree prints a text that has the marks of its leaves.
+use Rattle.std.proofs.Common.{ℕ, ◌≡◌, ◌<◌, ◌∙◌, sym, ap, subst, refl, Bool, true, false, inl, inr, List, [], ◌∷◌, ◌++◌, Some, None, IsTrue, IsUtf8, chars, encode_utf8, encode_utf8_all, arith, rules}
+use Rattle.std.specs.List.{flat_map, cons_option}
+use Rattle.std.proofs.lemmas.List.{append_assoc, append-nil}
+use Rattle.std.proofs.lemmas.Str.{chars-nil, chars-append, chars-IsAscii, chars-encodes, encodes-chars, IsUtf8-from_ascii}
+use Rattle.std.proofs.Math.Utf8.{low_scalar, scalars}
+use lib.Utf8.{encode}
+use Rattle.jsonc_text.specs.Options.{Options}
+use Rattle.jsonc_text.specs.Text.{next, no, Many, stop, step}
+use Rattle.jsonc_text.specs.Gaps.{is_blank, is_in_line, LineComment, line, BlockComment, IsComment}
+use Rattle.jsonc_text.specs.Grammar.{may_name}
+use Rattle.jsonc_text.specs.Words.{Keyword, keyword_text}
+use Rattle.jsonc_text.specs.Lexemes.{LexemeKind, lexeme, line_comment, block_comment, IsScanned, is_punctuation}
+use Rattle.jsonc_text.proofs.Alone.{scanned_before}
+use Rattle.jsonc_text.proofs.Basics.{and_both}
+use Rattle.jsonc_text.proofs.BlockComments.{block_inside}
+use Rattle.jsonc_text.proofs.Steps.{many_append}
+use Rattle.jsonc_text.proofs.UniqueWords.{many_more}
+use Rattle.jsonc_tree.specs.Content.{Content, text_of, newline_text}
+use Rattle.jsonc_tree.specs.declared.node.CstNewlineKind.{CstNewlineKind}
+use Rattle.jsonc_tree.specs.declared.node.CstNewlineKind.TheVariants.{LineFeed, CarriageReturnLineFeed, CarriageReturn}
+use Rattle.jsonc_tree.specs.OrderedTree.{OrderedTree, leaves}
+use Rattle.jsonc_build.specs.Leaves.{is_inner_blank}
+use Rattle.jsonc_build.specs.Lines.{is_line_comment}
+use Rattle.jsonc_build.specs.Shape.{IsTrivia, IsLiteralBefore, IsNameBefore, printed_text}
+use Rattle.jsonc_build.proofs.ShapeTexts.{trivia_utf8}
+use Rattle.jsonc_laws.specs.ChangeLaws.{DiffersIn}
+use Rattle.jsonc_laws.specs.Adjacent.{EndsBefore, follower, LeavesEnd}
+use Rattle.jsonc_laws.specs.SoundTrees.{SoundTree}
+use Rattle.jsonc_laws.proofs.Apart.{document_alone, document_leaves}
+use Rattle.jsonc_laws.proofs.Ends.{literal_there, name_there}
+use Rattle.jsonc_laws.proofs.Texts.{AllUtf8, text_follower}
+use Rattle.jsonc_laws.specs.Marks.{Mark, comment_mark, mark_of, AreMarks, no_more, blank, one, mark_of_leaf, marks_of, marks}
+use Rattle.jsonc_laws.specs.MarkChanges.{MarksDifferIn}
+use Rattle.jsonc_laws.proofs.GivingWay.{marks_differ}
+use Rattle.jsonc_laws.proofs.OneList.{marks_unique}
+use Rattle.jsonc_laws.proofs.Pieces.{Piece, a_literal, a_name, a_token, a_trivia, Pieces, ends_line, LinesFlat, document_pieces, document_flat}
+use Rattle.jsonc_laws.proofs.Trimmed.{blanks_left_out}
+
+-- the characters that leaves print
+abbrev pub text_of_leaves : List Content → List ℕ
+text_of_leaves contents = chars (flat_map text_of contents)
+
+-- the texts of leaves
+boolean_utf8 : (b : Bool) → IsUtf8 (text_of (Content.boolean b))
+boolean_utf8 true = IsUtf8-from_ascii _ (search rules)
+boolean_utf8 false = IsUtf8-from_ascii _ (search rules)
+
+boolean_text : (b : Bool) → chars (text_of (Content.boolean b)) ≡ keyword_text (Keyword.boolean b)
+boolean_text true = chars-IsAscii _ (search rules)
+boolean_text false = chars-IsAscii _ (search rules)
+
+null_utf8 : IsUtf8 (text_of Content.null)
+null_utf8 = IsUtf8-from_ascii _ (search rules)
+
+null_text : chars (text_of Content.null) ≡ keyword_text Keyword.null
+null_text = chars-IsAscii _ (search rules)
+
+newline_text_is : (k : CstNewlineKind) → chars (newline_text k) ≡ newline_text k
+newline_text_is LineFeed = chars-IsAscii (10 ∷ []) (search rules)
+newline_text_is CarriageReturnLineFeed = chars-IsAscii (13 ∷ 10 ∷ []) (search rules)
+newline_text_is CarriageReturn = chars-IsAscii (13 ∷ []) (search rules)
+
+punctuation_low : (c : ℕ) → IsTrue (is_punctuation c) → c < 55296
+punctuation_low c h = grind arith
+
+one_scalar : (c : ℕ) → IsTrue (is_punctuation c) → scalars (c ∷ []) ≡ true
+one_scalar c h = rw (low_scalar c (punctuation_low c h)) refl
+
+one_code : (c : ℕ) → encode_utf8_all (c ∷ []) ≡ encode_utf8 c
+one_code c = append-nil (encode_utf8 c)
+
+token_utf8 : (c : ℕ) → IsTrue (is_punctuation c) → IsUtf8 (text_of (Content.token c))
+token_utf8 c h = (c ∷ [], (one_scalar c h, one_code c))
+
+token_text : (c : ℕ) → IsTrue (is_punctuation c) → chars (text_of (Content.token c)) ≡ c ∷ []
+token_text c h = ap chars (sym (one_code c)) ∙ chars-encodes (c ∷ []) (one_scalar c h)
+
+module _ (o : Options) where
+  literal_utf8 : (content : Content) → IsLiteralBefore o content [] → IsUtf8 (text_of content)
+  literal_utf8 (Content.string s) h = h.1.0
+  literal_utf8 (Content.number s) h = h.0
+  literal_utf8 (Content.boolean b) h = boolean_utf8 b
+  literal_utf8 Content.null h = null_utf8
+  literal_utf8 content h = absurd h
+
+  name_utf8 : (content : Content) → IsNameBefore o content [] → IsUtf8 (text_of content)
+  name_utf8 (Content.string s) h = h.1.0
+  name_utf8 (Content.word s) h = h.0
+  name_utf8 content h = absurd h
+
+  piece_utf8 : {content : Content} → Piece o content → IsUtf8 (text_of content)
+  piece_utf8 (a_literal {content = content} h) = literal_utf8 content h
+  piece_utf8 (a_name {content = content} h) = name_utf8 content h
+  piece_utf8 (a_token {c = c} h) = token_utf8 c h
+  piece_utf8 (a_trivia {content = content} h) = trivia_utf8 o content h
+
+  pieces_utf8 : (contents : List Content) → Pieces o contents → AllUtf8 contents
+  pieces_utf8 [] h = tt
+  pieces_utf8 (content ∷ rest) h = (piece_utf8 h.0, pieces_utf8 rest h.1)
+
+  -- a leaf and those behind it
+  leaf_text : (content : Content) (rest : List Content) → IsUtf8 (text_of content) → text_of_leaves (content ∷ rest) ≡ chars (text_of content) ++ text_of_leaves rest
+  leaf_text content rest u = chars-append (text_of content) (flat_map text_of rest) u
+
+  -- a leaf's mark before those of a text
+  abbrev AreMarksWith : Content → List ℕ → List Mark → Type 0
+  AreMarksWith content t ms = AreMarks o (chars (text_of content) ++ t) (cons_option (mark_of_leaf content) ms)
+
+  keyword_marks : (k : Keyword) (text t : List ℕ) (ms : List Mark) → text ≡ keyword_text k → IsScanned o (lexeme (LexemeKind.keyword k)) (keyword_text k ++ t) t → AreMarks o t ms
+      → AreMarks o (text ++ t) (Mark.literal (keyword_text k) ∷ ms)
+  keyword_marks k text t ms e h g = subst (λ x. AreMarks o (x ++ t) (Mark.literal (keyword_text k) ∷ ms)) (sym e) (one (lexeme (LexemeKind.keyword k)) (keyword_text k) h refl g)
+
+  literal_marks : (content : Content) (t : List ℕ) (ms : List Mark) → IsLiteralBefore o content t → AreMarks o t ms → AreMarksWith content t ms
+  literal_marks (Content.string s) t ms (v, (u, h)) g = one (lexeme (LexemeKind.string v)) (chars s) h refl g
+  literal_marks (Content.number s) t ms (u, h) g = one (lexeme (LexemeKind.number (chars s))) (chars s) h refl g
+  literal_marks (Content.boolean b) t ms h g = keyword_marks (Keyword.boolean b) (chars (text_of (Content.boolean b))) t ms (boolean_text b) (refl, h) g
+  literal_marks Content.null t ms h g = keyword_marks Keyword.null (chars (text_of Content.null)) t ms null_text (refl, h) g
+  literal_marks content t ms h g = absurd h
+
+  named_mark : (k : LexemeKind) (s : List ℕ) → IsTrue (may_name k) → mark_of (lexeme k) s ≡ Some (Mark.literal s)
+  named_mark (LexemeKind.string v) s h = refl
+  named_mark (LexemeKind.number n) s h = refl
+  named_mark (LexemeKind.word n) s h = refl
+  named_mark (LexemeKind.keyword k) s h = refl
+  named_mark (LexemeKind.punctuation c) s h = cc
+
+  name_marks : (content : Content) (t : List ℕ) (ms : List Mark) → IsNameBefore o content t → AreMarks o t ms → AreMarksWith content t ms
+  name_marks (Content.string s) t ms h g = literal_marks (Content.string s) t ms h g
+  name_marks (Content.word s) t ms (u, h) g = subst (λ m. AreMarks o (chars s ++ t) (cons_option m ms)) (named_mark h.2 (chars s) h.3) (one (lexeme h.2) (chars s) h.4 refl g)
+  name_marks content t ms h g = absurd h
+
+  token_marks : (c : ℕ) (t : List ℕ) (ms : List Mark) → IsTrue (is_punctuation c) → AreMarks o t ms → AreMarksWith (Content.token c) t ms
+  token_marks c t ms h g = subst (λ x. AreMarks o (x ++ t) ms) (sym (token_text c h)) (one (lexeme (LexemeKind.punctuation c)) (c ∷ []) (h, refl) refl g)
+
+  -- blanks and line ends
+  blanks_marks : {s r : List ℕ} (t : List ℕ) (ms : List Mark) → Many is_inner_blank s r → r ≡ [] → AreMarks o t ms → AreMarks o (s ++ t) ms
+  blanks_marks t ms stop e g = subst (λ x. AreMarks o (x ++ t) ms) (sym e) g
+  blanks_marks t ms (step {c = c} h k) e g = blank (and_both (is_blank c) _ h).0 (blanks_marks t ms k e g)
+
+  newline_marks : (k : CstNewlineKind) (t : List ℕ) (ms : List Mark) → AreMarks o t ms → AreMarks o (chars (newline_text k) ++ t) ms
+  newline_marks k t ms g = subst (λ x. AreMarks o (x ++ t) ms) (sym (newline_text_is k)) (by k)
+    where
+      by : (k : CstNewlineKind) → AreMarks o (newline_text k ++ t) ms
+      by LineFeed = blank refl g
+      by CarriageReturnLineFeed = blank refl (blank refl g)
+      by CarriageReturn = blank refl g
+
+  newline_ends : (k : CstNewlineKind) (t : List ℕ) → IsTrue (no is_in_line (next (chars (newline_text k) ++ t)))
+  newline_ends k t = subst (λ x. IsTrue (no is_in_line (next (x ++ t)))) (sym (newline_text_is k)) (by k)
+    where
+      by : (k : CstNewlineKind) → IsTrue (no is_in_line (next (newline_text k ++ t)))
+      by LineFeed = refl
+      by CarriageReturnLineFeed = refl
+      by CarriageReturn = refl
+
+  -- comments
+  block_marks : (s t : List ℕ) (ms : List Mark) → BlockComment s [] → AreMarks o t ms → AreMarks o (s ++ t) (comment_mark s ∷ ms)
+  block_marks s t ms b g =
+      let inside = block_inside b in
+      one (block_comment inside.0) s (scanned_before o (block_comment inside.0) s t (b, inside.1) tt) refl g
+
+  -- what is left behind the blanks of a line
+  record LineEnd (t : List ℕ) (ms : List Mark) : Type 0 where
+    blanks : List ℕ
+    rest : List ℕ
+    split : t ≡ blanks ++ rest
+    inner : Many is_inner_blank blanks []
+    ends : IsTrue (no is_in_line (next rest))
+    behind : AreMarks o rest ms
+
+  in_line : {s r : List ℕ} → Many is_inner_blank s r → Many is_in_line s r
+  in_line stop = stop
+  in_line (step {c = c} h k) = step (and_both (is_blank c) _ h).1 (in_line k)
+
+  are_blank : {s r : List ℕ} → Many is_inner_blank s r → Many is_blank s r
+  are_blank stop = stop
+  are_blank (step {c = c} h k) = step (and_both (is_blank c) _ h).0 (are_blank k)
+
+  -- a line comment takes the blanks behind it
+  line_taken : (s blanks t : List ℕ) → LineComment s [] → Many is_inner_blank blanks [] → IsTrue (no is_in_line (next t)) → (c : List ℕ) × IsScanned o (line_comment c) ((s ++ blanks) ++ t) t
+  line_taken _ blanks t (line {t = x} m n) b e =
+      let whole : Many is_in_line ((x ++ blanks) ++ t) t = many_more (many_append (many_more m blanks) (in_line b)) t in
+      (x ++ blanks, (line whole e, refl))
+
+  line_marks : (s t : List ℕ) (ms : List Mark) → LineComment s [] → LineEnd t ms → AreMarks o (s ++ t) (comment_mark s ∷ ms)
+  line_marks s t ms l k =
+      let taken = line_taken s k.blanks k.rest l k.inner k.ends in
+      let text : s ++ t ≡ (s ++ k.blanks) ++ k.rest = ap (λ x. s ++ x) k.split ∙ sym (append_assoc s k.blanks k.rest) in
+      let same : comment_mark (s ++ k.blanks) ≡ comment_mark s = ap Mark.comment (blanks_left_out s k.blanks (are_blank k.inner)) in
+      subst (λ x. AreMarks o x (comment_mark s ∷ ms)) (sym text) (subst (λ m. AreMarks o ((s ++ k.blanks) ++ k.rest) (m ∷ ms)) same (one (line_comment taken.0) (s ++ k.blanks) taken.1 refl k.behind))
+
+  begins_line : (s : List ℕ) {t : List ℕ} → IsUtf8 s → chars s ≡ 0x2F ∷ 0x2F ∷ t → IsTrue (is_line_comment (Content.comment s))
+  unfolding encode
+  begins_line s {t} u e = subst (λ b. IsTrue (is_line_comment (Content.comment b))) (ap encode_utf8_all (sym e) ∙ encodes-chars s u) refl
+
+  is_line : (s x : List ℕ) → IsUtf8 s → chars s ≡ x → LineComment x [] → IsTrue (is_line_comment (Content.comment s))
+  is_line s _ u e (line m n) = begins_line s u e
+
+  comment_marks : (s t : List ℕ) (ms : List Mark) → IsUtf8 s → IsComment (chars s) [] → AreMarks o t ms → (IsTrue (is_line_comment (Content.comment s)) → LineEnd t ms) → AreMarksWith (Content.comment s) t ms
+  comment_marks s t ms u (inl l) g f = line_marks (chars s) t ms l (f (is_line s (chars s) u refl l))
+  comment_marks s t ms u (inr b) g f = block_marks (chars s) t ms b g
+
+  trivia_marks : (content : Content) (t : List ℕ) (ms : List Mark) → IsTrivia o content → AreMarks o t ms → (IsTrue (is_line_comment content) → LineEnd t ms) → AreMarksWith content t ms
+  trivia_marks (Content.whitespace s) t ms h g f = blanks_marks t ms h.1 refl g
+  trivia_marks (Content.newline k) t ms h g f = newline_marks k t ms g
+  trivia_marks (Content.comment s) t ms h g f = comment_marks s t ms h.1.0 h.1.1 g f
+  trivia_marks content t ms h g f = absurd h
+
+  -- each leaf, by what follows it
+  piece_marks : {content : Content} (rest : List Content) → Piece o content → AllUtf8 rest → EndsBefore o content (follower rest None) → AreMarks o (text_of_leaves rest) (marks_of rest)
+      → (IsTrue (is_line_comment content) → LineEnd (text_of_leaves rest) (marks_of rest)) → AreMarksWith content (text_of_leaves rest) (marks_of rest)
+  piece_marks rest (a_literal {content = content} h) u e g f =
+      literal_marks content (text_of_leaves rest) (marks_of rest) (literal_there o content (text_of_leaves rest) h (subst (EndsBefore o content) (sym (text_follower rest u)) e)) g
+  piece_marks rest (a_name {content = content} h) u e g f =
+      name_marks content (text_of_leaves rest) (marks_of rest) (name_there o content (text_of_leaves rest) h (subst (EndsBefore o content) (sym (text_follower rest u)) e)) g
+  piece_marks rest (a_token {c = c} h) u e g f = token_marks c (text_of_leaves rest) (marks_of rest) h g
+  piece_marks rest (a_trivia {content = content} h) u e g f = trivia_marks content (text_of_leaves rest) (marks_of rest) h g f
+
+  first_marks : (content : Content) (rest : List Content) → Piece o content → AreMarksWith content (text_of_leaves rest) (marks_of rest) → AreMarks o (text_of_leaves (content ∷ rest)) (marks_of (content ∷ rest))
+  first_marks content rest p g = subst (λ x. AreMarks o x (marks_of (content ∷ rest))) (sym (leaf_text content rest (piece_utf8 p))) g
+
+  -- behind a line comment, past whitespace
+  end_at_newline : (k : CstNewlineKind) (rest : List Content) → Piece o (Content.newline k) → AreMarks o (text_of_leaves rest) (marks_of rest) → LineEnd (text_of_leaves (Content.newline k ∷ rest)) (marks_of rest)
+  end_at_newline k rest p g = record {
+    blanks = [];
+    rest = chars (newline_text k) ++ text_of_leaves rest;
+    split = leaf_text (Content.newline k) rest (piece_utf8 p);
+    inner = stop;
+    ends = newline_ends k (text_of_leaves rest);
+    behind = newline_marks k (text_of_leaves rest) (marks_of rest) g;
+  }
+
+  end_past_blanks : (s : List ℕ) (rest : List Content) → IsTrivia o (Content.whitespace s) → LineEnd (text_of_leaves rest) (marks_of rest) → LineEnd (text_of_leaves (Content.whitespace s ∷ rest)) (marks_of rest)
+  end_past_blanks s rest h k = record {
+    blanks = chars s ++ k.blanks;
+    rest = k.rest;
+    split = leaf_text (Content.whitespace s) rest h.0 ∙ ap (λ x. chars s ++ x) k.split ∙ sym (append_assoc (chars s) k.blanks k.rest);
+    inner = many_append (many_more h.1 k.blanks) k.inner;
+    ends = k.ends;
+    behind = k.behind;
+  }
+
+  whitespace_piece : (s : List ℕ) → Piece o (Content.whitespace s) → IsTrivia o (Content.whitespace s)
+  whitespace_piece s (a_literal h) = absurd h
+  whitespace_piece s (a_name h) = absurd h
+  whitespace_piece s (a_trivia h) = h
+
+  mutual
+    pub leaves_marks : (contents : List Content) → Pieces o contents → LeavesEnd o contents None → LinesFlat contents → AreMarks o (text_of_leaves contents) (marks_of contents)
+    leaves_marks [] p e l = subst (λ x. AreMarks o x []) (sym chars-nil) no_more
+    leaves_marks (content ∷ rest) p e l = first_marks content rest p.0 (piece_marks rest p.0 (pieces_utf8 rest p.1) e.0 (leaves_marks rest p.1 e.1 l.1) (λ k. line_end rest p.1 e.1 l.1 (l.0 k)))
+
+    line_end : (contents : List Content) → Pieces o contents → LeavesEnd o contents None → LinesFlat contents → IsTrue (ends_line contents) → LineEnd (text_of_leaves contents) (marks_of contents)
+    line_end [] p e l h = record { blanks = []; rest = []; split = chars-nil; inner = stop; ends = refl; behind = no_more }
+    line_end (Content.newline k ∷ rest) p e l h = end_at_newline k rest p.0 (leaves_marks rest p.1 e.1 l.1)
+    line_end (Content.whitespace s ∷ rest) p e l h = end_past_blanks s rest (whitespace_piece s p.0) (line_end rest p.1 e.1 l.1 h)
+    line_end (content ∷ rest) p e l h = cc
+
+  pub prints_its_marks : (t : OrderedTree) → SoundTree o t → AreMarks o (printed_text t) (marks t)
+  prints_its_marks t s =
+      let nodes = document_alone o s.shaped in
+      leaves_marks (leaves t) (document_pieces o nodes) (document_leaves o s.shaped) (document_flat o nodes s.lines)
+
+  -- so with what two trees print
+  pub printed_give_way : (t u : OrderedTree) → SoundTree o t → SoundTree o u → (was now : List Content) → DiffersIn was now (leaves t) (leaves u)
+      → (ms ns : List Mark) → AreMarks o (printed_text t) ms → AreMarks o (printed_text u) ns → MarksDifferIn (marks_of was) (marks_of now) ms ns
+  printed_give_way t u s r was now d ms ns g h =
+      subst (λ xs. MarksDifferIn (marks_of was) (marks_of now) xs ns) (marks_unique (prints_its_marks t s) g)
+      (subst (MarksDifferIn (marks_of was) (marks_of now) (marks t)) (marks_unique (prints_its_marks u r) h) (marks_differ was now (leaves t) (leaves u) d))

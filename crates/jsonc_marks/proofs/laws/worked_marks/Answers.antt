@@ -1,5 +1,0 @@
-use Rattle.jsonc_marks.proofs.Worked.{text_marks, tree_text, tree_marks, other_text, other_marks}
-use Rattle.jsonc_marks.proofs.laws.worked_marks.Goals as goal
-
-pub returns : goal.returns
-returns c = (text_marks, (tree_text, tree_marks), (other_text, other_marks))

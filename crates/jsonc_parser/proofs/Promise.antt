@@ -1,0 +1,87 @@
+-- From a parsed text to the text after edits.
+use Rattle.std.proofs.Common.{ℕ, ◌≡◌, List, [], ◌∷◌, ◌++◌, sym, refl, ap, subst, chars}
+use Rattle.std.proofs.lemmas.List.{append-nil}
+use Rattle.std.specs.List.{All}
+use Rattle.jsonc_text.specs.Options.{Options}
+use Rattle.jsonc_text.specs.Plain.{boolean}
+use Rattle.jsonc_tree.specs.OrderedTree.{OrderedTree, ordered_tree, printed}
+use Rattle.jsonc_tree.specs.Tree.{Node}
+use Rattle.jsonc_build.specs.Lines.{DocumentLinesEnd}
+use Rattle.jsonc_build.specs.Shape.{DocumentShaped}
+use Rattle.jsonc_build.proofs.LooseLines.{document_loosens}
+use Rattle.jsonc_laws.specs.MarkChanges.{MarksDifferIn, marks_under}
+use Rattle.jsonc_laws.specs.Marks.{Mark, AreMarks, comments_of, marks}
+use Rattle.jsonc_laws.specs.Marks as mark
+use Rattle.jsonc_laws.specs.SoundTrees.{SoundTree}
+use Rattle.jsonc_laws.specs.Written.{property_written, written}
+use Rattle.jsonc_laws.proofs.GivingWay.{other_comments, others_alone}
+use Rattle.jsonc_laws.proofs.Laid.{writes_no_comments}
+use Rattle.jsonc_laws.proofs.Printed.{prints_its_marks}
+use Rattle.jsonc_run.specs.Edits.{Operation, replace, remove, remove_comment, set_root, clear_root, replace_property, ensure_root, set_value, ensure_value, set_boolean}
+use Rattle.jsonc_run.specs.Marked.{IsMarked, AreMarked, none_marked, first_marked, MarkAll}
+use Rattle.jsonc_run.specs.Written.{MayBeMade, WriteAll}
+use Rattle.jsonc_parser.specs.Promise.{CommentsStay, all_stay, others_stay, IsEditedText}
+
+-- of the comments x one stretch has left, and none has come
+record LosesStretch (x y : List Mark) : Type 0 where
+  front : List Mark
+  gone : List Mark
+  back : List Mark
+  before : x ≡ front ++ (gone ++ back)
+  after : y ≡ front ++ back
+
+one_stretch : (was now x y : List Mark) (d : MarksDifferIn was now x y) → comments_of now ≡ [] → LosesStretch (comments_of x) (comments_of y)
+one_stretch was now x y d none =
+    record { front = comments_of d.front; gone = comments_of was; back = comments_of d.back; before = (other_comments was now x y d).0; after = others_alone was now x y d none }
+
+all_leave : (x : List Mark) → LosesStretch (comments_of x) []
+all_leave x = record { front = []; gone = comments_of x; back = []; before = sym (append-nil (comments_of x)); after = refl }
+
+edit_takes : (x y : List Mark) (e : Operation) → IsMarked x e y → LosesStretch (comments_of x) (comments_of y)
+edit_takes x y (replace path v) (was, d) = one_stretch was (written v) x y d (writes_no_comments v)
+edit_takes x y (remove path) (top, l) = one_stretch (l.leading ++ (marks_under top ++ l.trailing)) [] x y l.gone refl
+edit_takes x y (remove_comment number) (s, d) = one_stretch (mark.Mark.comment s ∷ []) [] x y d refl
+edit_takes x y (set_root v) (was, d) = one_stretch was (written v) x y d (writes_no_comments v)
+edit_takes x y clear_root none = subst (λ z. LosesStretch (comments_of x) (comments_of z)) (sym none) (all_leave x)
+edit_takes x y (replace_property path name v) (was, d) = one_stretch was (property_written name v) x y d (writes_no_comments v)
+edit_takes x y (ensure_root shape how) (was, d) = one_stretch was [] x y d refl
+edit_takes x y (set_value path v) (was, d) = one_stretch was (written v) x y d (writes_no_comments v)
+edit_takes x y (ensure_value path shape) (was, d) = one_stretch was [] x y d refl
+edit_takes x y (set_boolean path b) (was, d) = one_stretch (written (boolean was)) (written (boolean b)) x y d refl
+
+comments_stay : {x y : List Mark} {es : List Operation} → AreMarked x es y → CommentsStay (comments_of x) es (comments_of y)
+comments_stay none_marked = all_stay
+comments_stay (first_marked {x = x} {y = y} {z = z} {e = e} {es = es} m ms) =
+    let l = edit_takes x y e m in
+    others_stay l.front l.gone l.back l.before (subst (λ c. CommentsStay c es (comments_of z)) l.after (comments_stay ms))
+
+module _ (o : Options) (text : List ℕ) (old : List Node) (es : List Operation) (new : List Node) where
+  abbrev was : OrderedTree
+  was = ordered_tree old 0
+
+  abbrev now : OrderedTree
+  now = ordered_tree new 0
+
+  of_sound : SoundTree o was → WriteAll o old es new → MarkAll o old es new → All (MayBeMade o) es → IsEditedText o (chars (printed was)) es (chars (printed now))
+  of_sound sound writes marks_all may =
+      let w = writes sound may in
+      let had = prints_its_marks o was sound in
+      let has = prints_its_marks o now w.sound in
+      let m = marks_all sound may (marks was) (marks now) had has in record {
+        before = w.before;
+        after = w.after;
+        was = w.old_text;
+        is = w.new_text;
+        changed = w.changed;
+        old_marks = marks was;
+        new_marks = marks now;
+        had = had;
+        has = has;
+        marked = m;
+        comments = comments_stay m;
+      }
+
+  pub keeps_the_promise : printed was ≡ text → DocumentShaped o was → DocumentLinesEnd was → WriteAll o old es new → MarkAll o old es new → All (MayBeMade o) es
+      → IsEditedText o (chars text) es (chars (printed now))
+  keeps_the_promise prints shaped lines w m may =
+      subst (λ t. IsEditedText o (chars t) es (chars (printed now))) prints (of_sound (record { shaped = shaped; lines = document_loosens lines }) w m may)

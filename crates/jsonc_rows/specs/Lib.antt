@@ -1,5 +1,0 @@
-pub mod Leaving
-pub mod Coming
-pub mod Values
-pub mod Laws
-pub mod Properties

@@ -1,0 +1,24 @@
+use Rattle.std.proofs.Common.{rules, IfErr}
+use Rattle.jsonc_set.specs.PropertyValues.{IsUnset}
+use Rattle.jsonc_run.specs.Places.{IsPropertyAt}
+use Rattle.jsonc_run.specs.Shapes.{is_of}
+use Rattle.jsonc_run.proofs.Made.{no_place}
+use Rattle.jsonc_run.proofs.ValueMade.{property_kind, unset_answer}
+use Rattle.jsonc_run.proofs.values.ensure_value_at.Goals as goal
+
+pub returns-in_default-clause-told : goal.returns-in_default-clause-told
+returns-in_default-clause-told g c =
+    no_place c.find_property.result (IsPropertyAt c.args.tree.now.nodes c.args.path.now) c.find_property.ensures.found c.in_default.not-Some
+
+pub held_or_set-requires-clause-property : goal.held_or_set-requires-clause-property
+held_or_set-requires-clause-property g c =
+    property_kind c.args.tree.now.nodes c.args.path.now c.in-Some.property ((c.find_property.ensures.found c.in-Some.property).0 c.in-Some.is)
+
+pub returns-clause-made : goal.returns-clause-made
+returns-clause-made g c =
+    (c.in-Some.property, (c.find_property.ensures.found c.in-Some.property).0 c.in-Some.is, (c.in_ok-held_or_set.ensures.named, c.in_ok-held_or_set.field-0, c.in_ok-held_or_set.ensures.value))
+
+pub returns-in_err-held_or_set-clause-told : goal.returns-in_err-held_or_set-clause-told
+returns-in_err-held_or_set-clause-told g c =
+    let told : IfErr c.from_residual.result (IsUnset (is_of c.args.shape) c.args.tree.now.nodes c.in-Some.property) = search rules in
+    unset_answer c.args.tree.now.nodes c.args.path.now c.in-Some.property c.args.shape ((c.find_property.ensures.found c.in-Some.property).0 c.in-Some.is) c.from_residual.result told

@@ -1,0 +1,37 @@
+use Rattle.std.proofs.Common.{◌≡◌, ℕ, Some, false, refl, subst, sym}
+use Rattle.jsonc_text.specs.Plain.{object, no_members}
+use Rattle.jsonc_tree.specs.Content.{Content}
+use Rattle.jsonc_tree.specs.Tree.{content_at, parent_at}
+use Rattle.jsonc_nodes.specs.Properties.{value_at}
+use Rattle.jsonc_edit.specs.Written.{Writes}
+use Rattle.jsonc_set.specs.Kinds.{is_object}
+use Rattle.jsonc_typed.proofs.Kept.{nodes_stay}
+use Rattle.jsonc_typed.proofs.Roots.{object_is}
+use Rattle.jsonc_typed.proofs.Held.{found_is, found_is_child, found_is_written, found_or_kept}
+use Rattle.jsonc_typed.proofs.values.property_object_or_set.Goals as goal
+
+pub object_at-requires : goal.object_at-requires
+object_at-requires g c =
+    let old = c.args.tree.now.nodes in
+    let new = c.property_object_or_set.new.tree.nodes in
+    found_is is_object (object no_members) Content.object (λ l. refl) object_is old new c.args.property (value_at old c.args.property) c.in_ok-number.number c.in_ok-number.ensures.value
+
+pub returns-clause-written : goal.returns-clause-written
+returns-clause-written g c = λ o.
+    let old = c.args.tree.now.nodes in
+    let new = c.property_object_or_set.new.tree.nodes in
+    subst (λ m. (n : ℕ) → value_at old c.args.property ≡ Some n → is_object (content_at old n) ≡ false → Writes o old new n m (object no_members)) (sym c.object_at.ensures.number)
+    (found_is_written is_object (object no_members) old new c.args.property o c.len.ensures.tree (value_at old c.args.property) c.in_ok-number.number c.in_ok-number.ensures.value)
+
+pub returns-clause-stays : goal.returns-clause-stays
+returns-clause-stays g c =
+    let old = c.args.tree.now.nodes in
+    let new = c.property_object_or_set.new.tree.nodes in
+    nodes_stay old new (found_or_kept is_object (object no_members) old new c.args.property (value_at old c.args.property) c.property_object_or_set.result c.property_object_or_set.ensures.value c.property_object_or_set.ensures.kept)
+
+pub returns-clause-child : goal.returns-clause-child
+returns-clause-child g c =
+    let old = c.args.tree.now.nodes in
+    let new = c.property_object_or_set.new.tree.nodes in
+    subst (λ m. parent_at new m ≡ Some c.args.property) (sym c.object_at.ensures.number)
+    (found_is_child old new c.args.property (object no_members) c.len.ensures.tree c.requires.property is_object (value_at old c.args.property) c.in_ok-number.number refl c.in_ok-number.ensures.value)

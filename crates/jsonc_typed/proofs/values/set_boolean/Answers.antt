@@ -1,0 +1,19 @@
+use Rattle.std.proofs.Common.{OnOk, subst}
+use Rattle.jsonc_typed.specs.Values.{BooleanIsWritten}
+use Rattle.jsonc_typed.proofs.Held.{boolean_is_written, boolean_or_kept}
+use Rattle.jsonc_typed.proofs.values.set_boolean.Goals as goal
+
+pub returns-clause-written : goal.returns-clause-written
+returns-clause-written g c = λ o.
+    let old = c.args.tree.now.nodes in
+    let new = c.set_boolean.new.tree.nodes in
+    let number = c.boolean_number-number in
+    subst (λ n. OnOk c.set_boolean.result (BooleanIsWritten old new o n c.args.value)) number.ensures.number
+    (boolean_is_written old new number.result c.args.value number.ensures.there number.ensures.boolean o c.len.ensures.tree c.set_boolean.result c.set_boolean.ensures.set)
+
+pub returns-clause-stays : goal.returns-clause-stays
+returns-clause-stays g c =
+    let old = c.args.tree.now.nodes in
+    let new = c.set_boolean.new.tree.nodes in
+    let number = c.boolean_number-number in
+    boolean_or_kept old new number.result c.args.value number.ensures.there number.ensures.boolean c.set_boolean.result c.set_boolean.ensures.set c.set_boolean.ensures.kept

@@ -1,0 +1,53 @@
+use Rattle.std.proofs.Common.{◌≡◌, ℕ, Some, refl}
+use Rattle.jsonc_input.specs.Views.{plain}
+use Rattle.jsonc_tree.specs.Tree.{parent_at}
+use Rattle.jsonc_nodes.specs.Properties.{value_at}
+use Rattle.jsonc_edit.specs.Written.{Writes}
+use Rattle.jsonc_typed.specs.Values.{HeldBecomes}
+use Rattle.jsonc_typed.proofs.Kept.{as_typed, nodes_stay}
+use Rattle.jsonc_typed.proofs.Held.{held_becomes, held_is_child, held_is_written, held_there, stay_held}
+use Rattle.jsonc_typed.proofs.values.set_property_value.Goals as goal
+
+pub node_at-requires : goal.node_at-requires
+node_at-requires g c =
+    let old = c.args.tree.now.nodes in
+    let new = c.set_property_value.new.tree.nodes in
+    let p = c.args.property in
+    let v = plain c.args.value.now in
+    held_there old new p v (value_at old p) c.in_ok-number.number (held_becomes old new p v (value_at old p) c.in_ok-number.number c.in_ok-number.ensures.replaced c.in_ok-number.ensures.last)
+
+pub returns-clause-set : goal.returns-clause-set
+returns-clause-set g c =
+    let old = c.args.tree.now.nodes in
+    let new = c.set_property_value.new.tree.nodes in
+    let p = c.args.property in
+    let v = plain c.args.value.now in
+    as_typed (HeldBecomes old new p v (value_at old p)) new c.in_ok-number.number c.node_at.result c.node_at.ensures.node
+    (held_becomes old new p v (value_at old p) c.in_ok-number.number c.in_ok-number.ensures.replaced c.in_ok-number.ensures.last)
+
+pub returns-clause-written : goal.returns-clause-written
+returns-clause-written g c = λ o.
+    let old = c.args.tree.now.nodes in
+    let new = c.set_property_value.new.tree.nodes in
+    let p = c.args.property in
+    let v = plain c.args.value.now in
+    as_typed (λ m. (n : ℕ) → value_at old p ≡ Some n → Writes o old new n m v) new c.in_ok-number.number c.node_at.result c.node_at.ensures.node
+    (held_is_written o old new v (value_at old p) c.in_ok-number.number (c.in_ok-number.ensures.written o))
+
+pub returns-clause-stays : goal.returns-clause-stays
+returns-clause-stays g c =
+    let old = c.args.tree.now.nodes in
+    let new = c.set_property_value.new.tree.nodes in
+    let p = c.args.property in
+    let v = plain c.args.value.now in
+    nodes_stay old new (stay_held old new p v (value_at old p) c.in_ok-number.number (held_becomes old new p v (value_at old p) c.in_ok-number.number c.in_ok-number.ensures.replaced c.in_ok-number.ensures.last))
+
+pub returns-clause-child : goal.returns-clause-child
+returns-clause-child g c =
+    let old = c.args.tree.now.nodes in
+    let new = c.set_property_value.new.tree.nodes in
+    let p = c.args.property in
+    let v = plain c.args.value.now in
+    as_typed (λ m. parent_at new m ≡ Some p) new c.in_ok-number.number c.node_at.result c.node_at.ensures.node
+    (held_is_child old new p v c.len.ensures.tree c.requires.property (value_at old p) c.in_ok-number.number refl
+    (held_becomes old new p v (value_at old p) c.in_ok-number.number c.in_ok-number.ensures.replaced c.in_ok-number.ensures.last))
