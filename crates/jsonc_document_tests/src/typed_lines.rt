@@ -43,10 +43,7 @@ fn are_comments<A: Allocator>(
 fn document_told<A: Allocator + Copy>(doc: &CstRootNode<A>) -> Outcome {
     Outcome::of_answer(doc.newline_kind(), &CstNewlineKind::LineFeed)
         .then(is_text(doc.single_indent_text(), Some("  ")))
-        .then(Outcome::of_answer(
-            doc.root().uses_trailing_commas(doc),
-            &false,
-        ))
+        .then(Outcome::of_answer(doc.root().uses_trailing_commas(doc), &false))
 }
 
 /// The comment at the end of the line stands behind the comma.
