@@ -27,3 +27,5 @@ mod trees;
 mod typed;
 #[cfg(test)]
 mod typed_edits;
+#[cfg(test)]
+mod typed_lines;

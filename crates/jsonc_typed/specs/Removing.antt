@@ -1,10 +1,17 @@
 -- What is taken out with a node, by its kind, and why it is not.
-use Rattle.std.specs.Prelude.{◌≡◌, ℕ, ◌+◌, List, [], length, Some, None}
+use Rattle.std.specs.Prelude.{◌≡◌, ℕ, ◌+◌, List, [], length, Some, None, IsTrue}
+use Rattle.jsonc_text.specs.Options.{Options}
 use Rattle.jsonc_tree.specs.Changes.{Splices}
-use Rattle.jsonc_tree.specs.Tree.{Node, parent_at, children_at, place_at}
+use Rattle.jsonc_tree.specs.OrderedTree.{ordered_tree}
+use Rattle.jsonc_tree.specs.Tree.{Node, content_at, parent_at, children_at, place_at}
+use Rattle.jsonc_lines.specs.Kinds.{holds_values}
+use Rattle.jsonc_laws.specs.SoundTrees.{SoundTree}
 use Rattle.jsonc_edit.specs.declared.error.EditError.{EditError}
 use Rattle.jsonc_edit.specs.declared.error.EditError.TheVariants.{OutOfMemory}
+use Rattle.jsonc_edit.specs.Changes.{top_at}
 use Rattle.jsonc_edit.specs.Comments.{TakesOut, WantsSpace}
+use Rattle.jsonc_edit.specs.Paths.{IsAt, IsElementOf}
+use Rattle.jsonc_remove.specs.Laws.{IsEntryRemoved, IsValueRemoved}
 use Rattle.jsonc_remove.specs.Removed.{IsKeptFor, TakesElement}
 use Rattle.jsonc_cst.specs.declared.cst.CstRootNode.{CstRootNode}
 use Rattle.jsonc_cst.specs.declared.cst.node.CstNode.{CstNode}
@@ -61,7 +68,23 @@ IsKeptBy OfComment ns n e = (e ≡ OutOfMemory) × WantsSpace ns n
 IsKeptBy OfElement ns n e = IsKeptFor ns n e
 IsKeptBy OfLeaf ns n e = ⊥
 
+-- Where the node stood in an array or object at a path of a document, this is one without that entry, sound, and of its marks those of the entry have left, and
+-- comments beside it; where it was the document's value, the document has none.
+pub record IsElementGone (o : Options) (old new : List Node) (n : ℕ) : Type 0 where
+  pub entry : (path : List ℕ) (c i : ℕ) → IsAt old path c → IsTrue (holds_values (content_at old c)) → IsElementOf old c i n
+      → IsEntryRemoved o path i (top_at old n) (ordered_tree old 0) (ordered_tree new 0)
+  pub value : IsElementOf old 0 0 n → IsValueRemoved o (top_at old n) (ordered_tree old 0) (ordered_tree new 0)
+
+-- so it is if the old document is sound and the node leaves with what leaves with it
+abbrev pub IsWrittenBy : Removal → Options → List Node → List Node → ℕ → Type 0
+IsWrittenBy OfElement o old new n = SoundTree o (ordered_tree old 0) → IsElementGone o old new n
+IsWrittenBy removal o old new n = Unit {0}
+
 module _ {A : Type 0} where
+  -- so it is of the document
+  abbrev pub LeavesWritten : CstRootNode A → CstRootNode A → Options → CstNode → Type 0
+  LeavesWritten old new o node = IsWrittenBy (removal_of node) o (nodes_of old) (nodes_of new) (number_of node)
+
   -- the node has been taken out of the document, with what leaves with it
   abbrev pub HasLeft : CstRootNode A → CstRootNode A → CstNode → Type 0
   HasLeft old new node = IsTakenBy (removal_of node) (nodes_of old) (nodes_of new) (number_of node)

@@ -1,6 +1,7 @@
 //! Nodes that are taken out of a document.
 
 ghost use Rattle.std.specs.Prelude.{◌≡◌, ◌+◌, ◌<◌, [], IfErr, None, OnErr, OnOk, Some, length};
+ghost use Rattle.jsonc_text.specs.Options.{Options};
 ghost use Rattle.jsonc_tree.specs.Changes.{Splices};
 ghost use Rattle.jsonc_tree.specs.OrderedTree.{ordered_tree};
 ghost use Rattle.jsonc_tree.specs.Tree.{parent_at, place_at, IsTree};
@@ -9,8 +10,9 @@ ghost use Rattle.jsonc_remove.specs.Removed.{IsKeptFor, TakesElement};
 ghost use Rattle.jsonc_cst.specs.Document.{parent_of, tree_of, Holds};
 ghost use Rattle.jsonc_cst.specs.Tree.{NodesAreTree};
 ghost use Rattle.jsonc_typed.specs.Edits.{IsUntouched, StillHolds, StillNodes};
-ghost use Rattle.jsonc_typed.specs.Removing.{removal_of, IsCleared, IsKeptBy, IsLooseFor, IsTakenBy, LeavesAlone};
-ghost use Rattle.jsonc_typed.specs.Removing.{HasLeft, HasLeftAlone, IsKeptIn, IsLoose};
+ghost use Rattle.jsonc_typed.specs.declared.removing.Removal.{Removal};
+ghost use Rattle.jsonc_typed.specs.Removing.{removal_of, IsCleared, IsKeptBy, IsLooseFor, IsTakenBy, IsWrittenBy, LeavesAlone};
+ghost use Rattle.jsonc_typed.specs.Removing.{HasLeft, HasLeftAlone, IsKeptIn, IsLoose, LeavesWritten};
 
 use jsonc_cst::cst::{
     CstArray, CstBooleanLit, CstComment, CstContainerNode, CstLeafNode, CstNewline, CstNode,
@@ -50,6 +52,7 @@ fn remove_element<A: Allocator + Copy>(
 ) -> Result<(), EditError>
     requires { number < length tree.old.nodes }
     ensures taken { OnOk result (TakesElement tree.old.nodes tree.new.nodes number) }
+    ensures written { (o : Options) → OnOk result (IsWrittenBy Removal.OfElement o tree.old.nodes tree.new.nodes number) }
     ensures untouched { parent_at tree.old.nodes number ≡ None → tree.new.nodes ≡ tree.old.nodes }
     ensures stays { StillNodes tree.old.nodes tree.new.nodes }
     ensures told { IfErr result (IsKeptFor tree.old.nodes number) }
@@ -125,6 +128,7 @@ fn remove_by<A: Allocator + Copy>(
 ) -> Result<(), EditError>
     requires { number < length tree.old.nodes }
     ensures taken { OnOk result (IsTakenBy removal tree.old.nodes tree.new.nodes number) }
+    ensures written { (o : Options) → OnOk result (IsWrittenBy removal o tree.old.nodes tree.new.nodes number) }
     ensures untouched { IsLooseFor removal tree.old.nodes number → tree.new.nodes ≡ tree.old.nodes }
     ensures stays { StillNodes tree.old.nodes tree.new.nodes }
     ensures told { IfErr result (IsKeptBy removal tree.old.nodes number) }
@@ -157,12 +161,16 @@ pub trait Remove: IsNode {
     /// of the root all its children do. Where two literals without quotes would come to stand directly
     /// beside each other, a space comes between them.
     ///
+    /// If the document is sound, and the node stands in an array or object at a path, or is the document's
+    /// value, the document is one again, without that entry or that value, and sound.
+    ///
     /// The memory of a space alone may be wanted; an array or object from which an element is to leave,
     /// and that has not its brackets, is `MissingBrackets`. A refusal leaves the document as it was. Where
     /// the node is nobody's child, and not the root, no node changes.
     final fn remove<A: Allocator + Copy>(self, doc: &mut CstRootNode<A>) -> Result<(), EditError>
         requires { Holds doc.old (Self.node_of self) }
         ensures removed { OnOk result (HasLeft doc.old doc.new (Self.node_of self)) }
+        ensures written { (o : Options) → OnOk result (LeavesWritten doc.old doc.new o (Self.node_of self)) }
         ensures untouched { IsLoose doc.old (Self.node_of self) → IsUntouched doc.old doc.new }
         ensures stays { StillHolds doc.old doc.new }
         ensures told { IfErr result (IsKeptIn doc.old (Self.node_of self)) }

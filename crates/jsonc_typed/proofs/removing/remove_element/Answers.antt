@@ -1,3 +1,4 @@
+use Rattle.jsonc_typed.proofs.Gone.{element_written}
 use Rattle.jsonc_typed.proofs.Kept.{nodes_stay, stay_element}
 use Rattle.jsonc_typed.proofs.removing.remove_element.Goals as goal
 
@@ -6,3 +7,7 @@ returns-clause-stays g c =
     let old = c.args.tree.now.nodes in
     let new = c.remove.new.tree.nodes in
     nodes_stay old new (stay_element old new c.args.number c.remove.result c.remove.ensures.untouched c.remove.ensures.taken c.remove.ensures.kept)
+
+pub returns-clause-written : goal.returns-clause-written
+returns-clause-written g c =
+    λ o. element_written o c.args.tree.now.nodes c.remove.new.tree.nodes c.args.number c.len.ensures.tree c.remove.ensures.tree c.remove.result c.remove.ensures.taken
