@@ -32,9 +32,9 @@ use Rattle.jsonc_laws.proofs.Apart.{value_alone, document_alone}
 use Rattle.jsonc_build.proofs.LooseLines.{loosens}
 use Rattle.jsonc_laws.proofs.RowsTell.{kept_by_value_in_row, kept_by_value_in_root, kept_by_value_in_property}
 use Rattle.jsonc_laws.proofs.Spaces.{first_append}
-use Rattle.jsonc_spaces.specs.Due.{nearest, begins_bare, ends_bare, seen_before, seen_behind, behind_holder, behind_property}
-use Rattle.jsonc_spaces.proofs.Whole.{IsWhole, whole_leaf, whole_value, whole_property, Whole, more_whole, whole_before, whole_behind, value_row_whole, property_whole, root_whole}
-use Rattle.jsonc_spaces.proofs.Meeting.{Printed, value_first, value_last, front_bare, back_bare}
+use Rattle.jsonc_edit.specs.Due.{nearest, begins_bare, ends_bare, seen_before, seen_behind, behind_holder, behind_property}
+use Rattle.jsonc_edit.proofs.Whole.{IsWhole, whole_leaf, whole_value, whole_property, Whole, more_whole, whole_before, whole_behind, value_row_whole, property_whole, root_whole}
+use Rattle.jsonc_edit.proofs.Meeting.{Printed, value_first, value_last, front_bare, back_bare}
 use Rattle.jsonc_edit.specs.Changes.{row_below, top_at, Replaces, Respliced}
 use Rattle.jsonc_edit.specs.Laws.{IsApart}
 use Rattle.jsonc_edit.specs.Paths.{IsElementOf, IsHeldBy, IsAt}

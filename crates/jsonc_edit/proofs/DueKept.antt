@@ -13,7 +13,7 @@ use Rattle.jsonc_nodes.specs.Siblings.{AreThere, IsThere}
 use Rattle.jsonc_nodes.proofs.There.{All-reverse, children_there, after_there, before_there, find_there}
 use Rattle.jsonc_laws.specs.Adjacent.{or_else}
 use Rattle.jsonc_laws.specs.Spaces.{is_bare}
-use Rattle.jsonc_spaces.specs.Due.{prints, prints_at, nearest, beginning_in, is_bare_at, begins_bare, ends_bare, seen_before, seen_behind, behind_holder, behind_property, due_before, due_behind, due_between}
+use Rattle.jsonc_edit.specs.Due.{prints, prints_at, nearest, beginning_in, is_bare_at, begins_bare, ends_bare, seen_before, seen_behind, behind_holder, behind_property, due_before, due_behind, due_between}
 
 module _ (old new : List Node) (tree : IsTree old) (keeps : Keeps (length old) old new) where
   nearest_same : (xs : List ℕ) → AreThere old xs → nearest new xs ≡ nearest old xs

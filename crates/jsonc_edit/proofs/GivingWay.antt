@@ -17,9 +17,9 @@ use Rattle.jsonc_from_input.specs.Layout.{Layout}
 use Rattle.jsonc_from_input.specs.Laid.{laid}
 use Rattle.jsonc_tree.specs.OrderedTree.{OrderedTree, ordered_tree, Top}
 use Rattle.jsonc_laws.specs.Spaces.{is_bare}
-use Rattle.jsonc_spaces.specs.Due.{due_around, due_before, due_behind, listed}
-use Rattle.jsonc_spaces.specs.Put.{AreAtHand, AreChildren, AreSpaced, Prepared, nodes_of}
-use Rattle.jsonc_spaces.specs.declared.put.Spaces.{Spaces}
+use Rattle.jsonc_edit.specs.Due.{due_around, due_before, due_behind, listed}
+use Rattle.jsonc_edit.specs.Put.{AreAtHand, AreChildren, AreSpaced, Prepared, nodes_of}
+use Rattle.jsonc_edit.specs.declared.put.Spaces.{Spaces}
 use Rattle.jsonc_edit.specs.Changes.{top_at, ChangesAt, Replaces}
 use Rattle.jsonc_edit.specs.Replacing.{TakesPlace, GivesWay, GivesWayRaw}
 use Rattle.jsonc_edit.proofs.Elements.{Some_same}

@@ -27,3 +27,9 @@ pub mod Spacing
 pub mod DueKept
 pub mod TakingOut
 pub mod Refusals
+pub mod Whole
+pub mod Meeting
+pub mod Printing
+pub mod Placing
+pub mod Putting
+pub mod Quiet

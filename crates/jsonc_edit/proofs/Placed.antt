@@ -12,7 +12,7 @@ use Rattle.jsonc_tree.proofs.Order.{not_over_parent}
 use Rattle.jsonc_laws.specs.TreeChanges.{IsElement}
 use Rattle.jsonc_laws.specs.Adjacent.{or_else}
 use Rattle.jsonc_laws.specs.Spaces.{is_bare}
-use Rattle.jsonc_spaces.specs.Due.{prints_at, nearest, beginning_in, is_bare_at, begins_bare, ends_bare, seen_before, seen_behind, behind_holder, behind_property, due_before, due_behind, due_between, due_around, listed}
+use Rattle.jsonc_edit.specs.Due.{prints_at, nearest, beginning_in, is_bare_at, begins_bare, ends_bare, seen_before, seen_behind, behind_holder, behind_property, due_before, due_behind, due_between, due_around, listed}
 
 -- a node before which a space may come, and that is no part of n: nor is its container
 pub record Placed (ns : List Node) (n x : ℕ) : Type 0 where

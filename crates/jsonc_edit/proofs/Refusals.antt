@@ -3,7 +3,7 @@ use Rattle.std.proofs.Common.{◌≡◌, List, length, ◌∙◌}
 use Rattle.jsonc_tree.specs.Building.{Keeps}
 use Rattle.jsonc_tree.specs.OrderedTree.{ordered_tree}
 use Rattle.jsonc_tree.specs.Tree.{Node, IsTree}
-use Rattle.jsonc_spaces.specs.Put.{Prepared}
+use Rattle.jsonc_edit.specs.Put.{Prepared}
 use Rattle.jsonc_edit.proofs.Kept.{tree_stays}
 
 -- a value was laid out, and then spaces were made

@@ -23,9 +23,9 @@ use Rattle.jsonc_laws.proofs.Apart.{document_alone}
 use Rattle.jsonc_laws.proofs.RowsTell.{kept_without_comment_in_row}
 use Rattle.jsonc_laws.proofs.RowsWithin.{both_within}
 use Rattle.jsonc_laws.specs.MarkChanges.{AreBlanks}
-use Rattle.jsonc_spaces.specs.Due.{nearest, begins_bare, ends_bare, seen_before, seen_behind, behind_holder}
-use Rattle.jsonc_spaces.proofs.Whole.{Whole, whole_before, whole_behind, whole_within}
-use Rattle.jsonc_spaces.proofs.Meeting.{meet_bare}
+use Rattle.jsonc_edit.specs.Due.{nearest, begins_bare, ends_bare, seen_before, seen_behind, behind_holder}
+use Rattle.jsonc_edit.proofs.Whole.{Whole, whole_before, whole_behind, whole_within}
+use Rattle.jsonc_edit.proofs.Meeting.{meet_bare}
 use Rattle.jsonc_edit.specs.Changes.{row_below}
 use Rattle.jsonc_edit.specs.Comments.{blanks_from, newline_from, removed_from, CommentRemoved, leaves_gone, TakesTrivia}
 use Rattle.jsonc_edit.proofs.Walk.{Shows-row_below, document_is}

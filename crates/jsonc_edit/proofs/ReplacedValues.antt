@@ -23,8 +23,8 @@ use Rattle.jsonc_laws.proofs.Values.{document_change}
 use Rattle.jsonc_laws.specs.SoundTrees.{SoundTree}
 use Rattle.jsonc_laws.specs.Spaces.{is_bare}
 use Rattle.jsonc_build.proofs.ShapeValues.{document_printed}
-use Rattle.jsonc_spaces.specs.Due.{due_around}
-use Rattle.jsonc_spaces.proofs.Quiet.{none_due}
+use Rattle.jsonc_edit.specs.Due.{due_around}
+use Rattle.jsonc_edit.proofs.Quiet.{none_due}
 use Rattle.jsonc_edit.specs.Changes.{top_at}
 use Rattle.jsonc_edit.specs.Paths.{IsAt}
 use Rattle.jsonc_edit.specs.Reading.{layout_for}

@@ -20,8 +20,8 @@ use Rattle.jsonc_laws.proofs.TriviaValues.{document_kept}
 use Rattle.jsonc_laws.specs.InRows.{SpacePut}
 use Rattle.jsonc_laws.specs.SoundTrees.{SoundTree}
 use Rattle.jsonc_laws.proofs.SpacePut.{document_put, kept_with_space}
-use Rattle.jsonc_spaces.specs.Put.{a_space, StandsBefore, AreSpaced}
-use Rattle.jsonc_spaces.proofs.Putting.{contents_kept, parent_kept, children_kept, container_row, row_kept, elements_kept, over_kept, over_before, no_parent_space, placed_ahead, placed_behind, placed_elsewhere, puts_space}
+use Rattle.jsonc_edit.specs.Put.{a_space, StandsBefore, AreSpaced}
+use Rattle.jsonc_edit.proofs.Putting.{contents_kept, parent_kept, children_kept, container_row, row_kept, elements_kept, over_kept, over_before, no_parent_space, placed_ahead, placed_behind, placed_elsewhere, puts_space}
 use Rattle.jsonc_edit.specs.Changes.{row_below, top_at}
 use Rattle.jsonc_edit.specs.Paths.{IsElementOf, StepsTo, LeadsTo, itself, step, IsAt}
 use Rattle.jsonc_edit.specs.Spaced.{SpacesPut, none_put, one_put}

@@ -16,10 +16,10 @@ use Rattle.jsonc_laws.specs.ChangeLaws.{DiffersIn}
 use Rattle.jsonc_laws.proofs.TriviaLeaves.{document_differs}
 use Rattle.jsonc_laws.proofs.TriviaValues.{document_kept}
 use Rattle.jsonc_laws.specs.SoundTrees.{SoundTree}
-use Rattle.jsonc_spaces.specs.Due.{begins_bare, ends_bare, seen_before, seen_behind, due_between, listed}
-use Rattle.jsonc_spaces.specs.Put.{AreChildren, AreSpaced, Prepared, nodes_of}
-use Rattle.jsonc_spaces.specs.declared.put.Spaces.{Spaces}
-use Rattle.jsonc_spaces.proofs.Quiet.{quiet_behind}
+use Rattle.jsonc_edit.specs.Due.{begins_bare, ends_bare, seen_before, seen_behind, due_between, listed}
+use Rattle.jsonc_edit.specs.Put.{AreChildren, AreSpaced, Prepared, nodes_of}
+use Rattle.jsonc_edit.specs.declared.put.Spaces.{Spaces}
+use Rattle.jsonc_edit.proofs.Quiet.{quiet_behind}
 use Rattle.jsonc_edit.specs.Comments.{blanks_from, newline_from, removed_from, due_without, IsRemoved, IsTakenOut, TakesOut, CommentRemoved, CommentTaken, leaves_gone, LosesComment}
 use Rattle.jsonc_edit.specs.Spaced.{SpacesPut}
 use Rattle.jsonc_edit.proofs.Elements.{Some_same}

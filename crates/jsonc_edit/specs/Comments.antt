@@ -14,8 +14,8 @@ use Rattle.jsonc_laws.specs.ChangeLaws.{DiffersIn}
 use Rattle.jsonc_laws.specs.TriviaChanges.{AreTrivia, StretchChanged, EndsInComment}
 use Rattle.jsonc_laws.specs.SoundTrees.{SoundTree}
 use Rattle.jsonc_laws.specs.MarkChanges.{AreBlanks}
-use Rattle.jsonc_spaces.specs.Due.{due_between, listed}
-use Rattle.jsonc_spaces.specs.Put.{AreSpaced, IfDue, Prepared}
+use Rattle.jsonc_edit.specs.Due.{due_between, listed}
+use Rattle.jsonc_edit.specs.Put.{AreSpaced, IfDue, Prepared}
 use Rattle.jsonc_edit.specs.Spaced.{SpacesPut}
 use Rattle.jsonc_edit.specs.Worked.{node}
 

@@ -14,7 +14,7 @@ use Rattle.jsonc_from_input.specs.Laid.{laid, laid_property}
 use Rattle.jsonc_from_input.specs.Texts.{IsCharacters, IsOfTexts}
 use Rattle.jsonc_laws.specs.Spaces.{is_bare}
 use Rattle.jsonc_laws.specs.SoundTrees.{SoundTree}
-use Rattle.jsonc_spaces.specs.Due.{begins_bare, ends_bare, seen_before, seen_behind}
+use Rattle.jsonc_edit.specs.Due.{begins_bare, ends_bare, seen_before, seen_behind}
 use Rattle.jsonc_laws.specs.Properties.{IsNewProperty}
 use Rattle.jsonc_edit.specs.Paths.{IsAt, Stands}
 use Rattle.jsonc_edit.specs.Changes.{row_below, top_at, ChangesAt, Replaces, Respliced, LeafChanged}

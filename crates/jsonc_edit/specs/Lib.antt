@@ -10,3 +10,7 @@ pub mod Worked
 pub mod WorkedValue
 pub mod Comments
 pub mod Errors
+pub mod Due
+pub mod Put
+pub mod Meeting
+pub mod SpaceLaws

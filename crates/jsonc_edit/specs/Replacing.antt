@@ -2,8 +2,8 @@
 use Rattle.std.specs.Prelude.{◌≡◌, ℕ, ◌≤◌, List, length, None}
 use Rattle.jsonc_tree.specs.Tree.{Node, parent_at}
 use Rattle.jsonc_tree.specs.OrderedTree.{Top}
-use Rattle.jsonc_spaces.specs.Due.{due_around}
-use Rattle.jsonc_spaces.specs.Put.{AreSpaced, Prepared}
+use Rattle.jsonc_edit.specs.Due.{due_around}
+use Rattle.jsonc_edit.specs.Put.{AreSpaced, Prepared}
 use Rattle.jsonc_edit.specs.Changes.{top_at, Replaces}
 
 -- the element m, which was nobody's child, has taken the place of the child n: what it is, with the row below it

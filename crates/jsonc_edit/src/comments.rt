@@ -9,9 +9,10 @@ ghost use Rattle.jsonc_tree.specs.Tree.{children_at, content_at, parent_at, plac
 ghost use Rattle.jsonc_build.specs.Lines.{is_line_comment};
 ghost use Rattle.jsonc_edit.specs.Comments.{blanks_from, removed_from, newline_from, IsRemoved, TakesOut, WantsSpace};
 
+use crate::due::due_between;
 use crate::error::EditError;
+use crate::put::{make_spaces, put_spaces};
 use jsonc_nodes::{is_newline, is_whitespace};
-use jsonc_spaces::{due_between, make_spaces, put_spaces};
 use jsonc_tree::{Kind, Tree};
 use std::alloc::Allocator;
 

@@ -9,18 +9,19 @@ ghost use Rattle.jsonc_tree.specs.Tree.{content_at, parent_at, place_at, IsTree}
 ghost use Rattle.jsonc_input.specs.Views.{plain};
 ghost use Rattle.jsonc_from_input.specs.Layout.{layout_of};
 ghost use Rattle.jsonc_laws.specs.Spaces.{is_bare};
-ghost use Rattle.jsonc_spaces.specs.Due.{listed};
-ghost use Rattle.jsonc_spaces.specs.Put.{AreAtHand, Prepared};
+ghost use Rattle.jsonc_edit.specs.Due.{listed};
+ghost use Rattle.jsonc_edit.specs.Put.{AreAtHand, Prepared};
 ghost use Rattle.jsonc_edit.specs.Reading.{IsReplaced, IsReplacedRaw};
 ghost use Rattle.jsonc_from_input.specs.Laid.{laid};
 ghost use Rattle.jsonc_edit.specs.Replacing.{GivesWay, GivesWayRaw};
 ghost use Rattle.jsonc_edit.specs.Written.{Writes};
 
+use crate::due::{due_before, due_behind, is_bare};
 use crate::error::EditError;
+use crate::put::{Spaces, make_spaces, put_spaces};
 use crate::reading::layout_for;
 use jsonc_from_input::{Layout, lay_out};
 use jsonc_input::CstInputValue;
-use jsonc_spaces::{Spaces, due_before, due_behind, is_bare, make_spaces, put_spaces};
 use jsonc_tree::Tree;
 use std::alloc::{AllocError, Allocator};
 

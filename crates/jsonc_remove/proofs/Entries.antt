@@ -23,10 +23,10 @@ use Rattle.jsonc_laws.specs.TreeChanges.{IsElement, DocumentChanged}
 use Rattle.jsonc_laws.specs.SoundTrees.{SoundTree}
 use Rattle.jsonc_laws.specs.Adjacent.{or_else}
 use Rattle.jsonc_laws.specs.Leaving.{ElementLeaves}
-use Rattle.jsonc_spaces.specs.Due.{nearest, seen_before, seen_behind, behind_holder, behind_property, due_between, listed, ends_bare, begins_bare}
-use Rattle.jsonc_spaces.specs.Put.{AreSpaced}
-use Rattle.jsonc_spaces.proofs.Putting.{elements_kept}
-use Rattle.jsonc_spaces.proofs.Whole.{Whole, more_whole, whole_leaf, row_whole}
+use Rattle.jsonc_edit.specs.Due.{nearest, seen_before, seen_behind, behind_holder, behind_property, due_between, listed, ends_bare, begins_bare}
+use Rattle.jsonc_edit.specs.Put.{AreSpaced}
+use Rattle.jsonc_edit.proofs.Putting.{elements_kept}
+use Rattle.jsonc_edit.proofs.Whole.{Whole, more_whole, whole_leaf, row_whole}
 use Rattle.jsonc_edit.specs.Changes.{row_below, top_at}
 use Rattle.jsonc_edit.specs.Paths.{IsAt, IsElementOf}
 use Rattle.jsonc_edit.specs.Spaced.{SpacesPut}

@@ -16,8 +16,8 @@ use Rattle.jsonc_laws.specs.Rows.{RowKind, opening, closing}
 use Rattle.jsonc_laws.specs.TriviaChanges.{leaves_then}
 use Rattle.jsonc_laws.specs.Spaces.{meet}
 use Rattle.jsonc_laws.specs.Leaving.{AreBeside, ends_apart, element_count, among, ElementLeaves, with_comma_behind, with_comma_before, with_no_comma, ClosesUp}
-use Rattle.jsonc_spaces.proofs.Whole.{Whole, more_whole, whole_before, whole_behind}
-use Rattle.jsonc_spaces.proofs.Meeting.{meet_bare}
+use Rattle.jsonc_edit.proofs.Whole.{Whole, more_whole, whole_before, whole_behind}
+use Rattle.jsonc_edit.proofs.Meeting.{meet_bare}
 use Rattle.jsonc_edit.specs.Changes.{row_below, top_at}
 use Rattle.jsonc_edit.specs.Paths.{IsElementOf}
 use Rattle.jsonc_edit.proofs.Elements.{stands_at}

@@ -11,10 +11,10 @@ use Rattle.jsonc_tree.specs.Siblings.{row_of, siblings_after, siblings_before}
 use Rattle.jsonc_tree.specs.Tree.{Node, content_at, parent_at, children_at, place_at, IsTree}
 use Rattle.jsonc_laws.specs.Spaces.{is_bare}
 use Rattle.jsonc_laws.proofs.Spaced.{space_first}
-use Rattle.jsonc_spaces.specs.Due.{prints, prints_at, nearest, beginning_in, begins_bare, ends_bare, is_bare_at, listed}
-use Rattle.jsonc_spaces.specs.Put.{a_space, StandsBefore, AreSpaced}
-use Rattle.jsonc_spaces.proofs.Putting.{contents_kept, container_row}
-use Rattle.jsonc_spaces.proofs.Quiet.{begins_quiet, ends_kept}
+use Rattle.jsonc_edit.specs.Due.{prints, prints_at, nearest, beginning_in, begins_bare, ends_bare, is_bare_at, listed}
+use Rattle.jsonc_edit.specs.Put.{a_space, StandsBefore, AreSpaced}
+use Rattle.jsonc_edit.proofs.Putting.{contents_kept, container_row}
+use Rattle.jsonc_edit.proofs.Quiet.{begins_quiet, ends_kept}
 use Rattle.jsonc_remove.proofs.Contents.{Gains, gains_at}
 use Rattle.jsonc_remove.proofs.Stretches.{contents}
 

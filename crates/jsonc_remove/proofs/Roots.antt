@@ -28,8 +28,8 @@ use Rattle.jsonc_laws.specs.Spaces.{is_bare}
 use Rattle.jsonc_laws.proofs.Apart.{document_alone}
 use Rattle.jsonc_laws.specs.MarkChanges.{AreBlanks}
 use Rattle.jsonc_laws.specs.Leaving.{AreBeside, ends_apart, among, ValueLeaves, value_leaves, Empties, empties}
-use Rattle.jsonc_spaces.specs.Due.{nearest, prints_at, ends_bare, begins_bare, seen_before, seen_behind, due_between, beginning_in, is_bare_at, listed}
-use Rattle.jsonc_spaces.specs.Put.{AreSpaced}
+use Rattle.jsonc_edit.specs.Due.{nearest, prints_at, ends_bare, begins_bare, seen_before, seen_behind, due_between, beginning_in, is_bare_at, listed}
+use Rattle.jsonc_edit.specs.Put.{AreSpaced}
 use Rattle.jsonc_edit.specs.Changes.{row_below, top_at}
 use Rattle.jsonc_edit.specs.Paths.{IsElementOf}
 use Rattle.jsonc_edit.proofs.Elements.{stands_at}

@@ -15,8 +15,8 @@ use Rattle.jsonc_lines.specs.Kinds.{holds_values, is_comma}
 use Rattle.jsonc_laws.specs.TriviaChanges.{AreTrivia}
 use Rattle.jsonc_laws.proofs.Texts.{comma_first as comma_char}
 use Rattle.jsonc_laws.specs.Leaving.{AreBeside}
-use Rattle.jsonc_spaces.specs.Due.{prints, prints_at, nearest, begins_bare, ends_bare, seen_before, due_between, listed}
-use Rattle.jsonc_spaces.specs.Put.{AreSpaced}
+use Rattle.jsonc_edit.specs.Due.{prints, prints_at, nearest, begins_bare, ends_bare, seen_before, due_between, listed}
+use Rattle.jsonc_edit.specs.Put.{AreSpaced}
 use Rattle.jsonc_remove.specs.Leaving.{is_comma_at}
 use Rattle.jsonc_remove.specs.Removed.{is_next}
 use Rattle.jsonc_remove.proofs.Contents.{apart, no_commas, comma_first, Gains, apart_behind_gains, commas_gains, first_gains}

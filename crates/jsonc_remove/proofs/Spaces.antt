@@ -9,8 +9,8 @@ use Rattle.jsonc_lines.specs.Kinds.{holds_values, is_comma}
 use Rattle.jsonc_laws.specs.TriviaChanges.{AreTrivia}
 use Rattle.jsonc_laws.specs.Leaving.{AreBeside}
 use Rattle.jsonc_laws.specs.Adjacent.{or_else}
-use Rattle.jsonc_spaces.specs.Due.{prints, prints_at, nearest, begins_bare, ends_bare, seen_before, seen_behind, behind_holder, behind_property, due_between}
-use Rattle.jsonc_spaces.specs.Put.{AreSpaced}
+use Rattle.jsonc_edit.specs.Due.{prints, prints_at, nearest, begins_bare, ends_bare, seen_before, seen_behind, behind_holder, behind_property, due_between}
+use Rattle.jsonc_edit.specs.Put.{AreSpaced}
 use Rattle.jsonc_remove.proofs.Contents.{apart, no_commas, comma_first}
 use Rattle.jsonc_remove.proofs.Places.{parent_in, before_in, after_in}
 use Rattle.jsonc_remove.proofs.Stretches.{contents}

@@ -12,10 +12,10 @@ use Rattle.jsonc_tree.proofs.Order.{parent_there}
 use Rattle.jsonc_tree.proofs.Splicing.{in_at, out_from}
 use Rattle.jsonc_nodes.specs.Kinds.{is_property}
 use Rattle.jsonc_lines.specs.Kinds.{holds_values}
-use Rattle.jsonc_spaces.specs.Due.{due_between, listed, seen_before}
-use Rattle.jsonc_spaces.specs.Put.{AreChildren, AreSpaced, Prepared, StandsBefore, nodes_of}
-use Rattle.jsonc_spaces.specs.declared.put.Spaces.{Spaces}
-use Rattle.jsonc_spaces.proofs.Putting.{placed_ahead, placed_behind, placed_elsewhere}
+use Rattle.jsonc_edit.specs.Due.{due_between, listed, seen_before}
+use Rattle.jsonc_edit.specs.Put.{AreChildren, AreSpaced, Prepared, StandsBefore, nodes_of}
+use Rattle.jsonc_edit.specs.declared.put.Spaces.{Spaces}
+use Rattle.jsonc_edit.proofs.Putting.{placed_ahead, placed_behind, placed_elsewhere}
 use Rattle.jsonc_edit.proofs.Kept.{place_kept}
 use Rattle.jsonc_edit.proofs.Placed.{IsChild, between_children}
 use Rattle.jsonc_edit.proofs.Spacing.{parent_stays}

@@ -20,7 +20,7 @@ use Rattle.jsonc_laws.specs.Rows.{RowKind, opening, closing}
 use Rattle.jsonc_laws.specs.TriviaChanges.{AreTrivia, leaves_then}
 use Rattle.jsonc_laws.specs.MarkChanges.{AreBlanks}
 use Rattle.jsonc_laws.specs.Leaving.{AreBeside, ClosesUp, closes_up}
-use Rattle.jsonc_spaces.specs.Due.{nearest, prints_at, begins_bare, ends_bare}
+use Rattle.jsonc_edit.specs.Due.{nearest, prints_at, begins_bare, ends_bare}
 use Rattle.jsonc_edit.specs.Changes.{row_below}
 use Rattle.jsonc_edit.proofs.Walk.{Shows-row_below, apart_kept}
 use Rattle.jsonc_remove.specs.Leaving.{comes_to, is_blank_at}

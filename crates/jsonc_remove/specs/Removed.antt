@@ -6,8 +6,8 @@ use Rattle.jsonc_tree.specs.Siblings.{first}
 use Rattle.jsonc_tree.specs.Tree.{Node, content_at, children_at, parent_at, place_at}
 use Rattle.jsonc_nodes.specs.Kinds.{is_property}
 use Rattle.jsonc_lines.specs.Kinds.{holds_values}
-use Rattle.jsonc_spaces.specs.Due.{due_between, listed, seen_before}
-use Rattle.jsonc_spaces.specs.Put.{AreDue, AreSpaced, Prepared}
+use Rattle.jsonc_edit.specs.Due.{due_between, listed, seen_before}
+use Rattle.jsonc_edit.specs.Put.{AreDue, AreSpaced, Prepared}
 use Rattle.jsonc_edit.specs.declared.error.EditError.{EditError}
 use Rattle.jsonc_edit.specs.declared.error.EditError.TheVariants.{OutOfMemory, MissingBrackets, MissingName, NoSuchPlace}
 use Rattle.jsonc_remove.specs.Leaving.{comes_to, comma_gone, first_gone, last_gone}

@@ -9,16 +9,15 @@ ghost use Rattle.jsonc_tree.specs.Tree.{children_at, content_at, is_container_at
 ghost use Rattle.jsonc_nodes.specs.Kinds.{is_property};
 ghost use Rattle.jsonc_nodes.specs.Siblings.{IsThere};
 ghost use Rattle.jsonc_lines.specs.Kinds.{holds_values};
-ghost use Rattle.jsonc_spaces.specs.Due.{seen_before};
+ghost use Rattle.jsonc_edit.specs.Due.{seen_before};
 ghost use Rattle.jsonc_remove.specs.Leaving.{comes_to, is_blank_at};
 ghost use Rattle.jsonc_remove.specs.Removed.{blank_between, comma_in, due_at_comma, due_at_stretch, has_brackets, has_two};
 ghost use Rattle.jsonc_remove.specs.Removed.{hollow_from, hollow_to, is_hollow, is_next, is_node, is_token_at};
 ghost use Rattle.jsonc_remove.specs.Removed.{IsClosedUp, IsKeptFor, LosesChild, TakesElement};
 
 use crate::leaving::{comma_gone, first_gone, last_gone};
-use jsonc_edit::EditError;
+use jsonc_edit::{EditError, due_between, make_spaces, put_spaces, seen_before};
 use jsonc_nodes::{children_from, is_newline, is_whitespace};
-use jsonc_spaces::{due_between, make_spaces, put_spaces, seen_before};
 use jsonc_tree::{Kind, Tree};
 use std::alloc::Allocator;
 

@@ -7,7 +7,7 @@ use Rattle.jsonc_tree.specs.Building.{Keeps}
 use Rattle.jsonc_tree.specs.Content.{Content}
 use Rattle.jsonc_tree.specs.Order.{with_parent}
 use Rattle.jsonc_tree.specs.Tree.{Node, parent_at, children_at, place_at}
-use Rattle.jsonc_spaces.specs.Due.{nearest, listed, seen_before}
+use Rattle.jsonc_edit.specs.Due.{nearest, listed, seen_before}
 use Rattle.jsonc_edit.proofs.Placed.{IsChild}
 use Rattle.jsonc_set.specs.Booleans.{due_for, is_boolean, is_hex_at}
 

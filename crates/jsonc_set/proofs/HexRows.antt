@@ -19,8 +19,8 @@ use Rattle.jsonc_laws.specs.Alone.{ValueAlone, RowAlone, PropertyAlone, RootAlon
 use Rattle.jsonc_laws.specs.Booleans.{is_hex_leaf}
 use Rattle.jsonc_laws.specs.Spaces.{is_bare}
 use Rattle.jsonc_laws.proofs.Spaces.{own_last, last_append}
-use Rattle.jsonc_spaces.specs.Due.{prints, prints_at, nearest}
-use Rattle.jsonc_spaces.proofs.Meeting.{Printed, value_last}
+use Rattle.jsonc_edit.specs.Due.{prints, prints_at, nearest}
+use Rattle.jsonc_edit.proofs.Meeting.{Printed, value_last}
 use Rattle.jsonc_set.specs.Booleans.{is_hex_at}
 
 -- a leaf with nothing below it, or an array or object, which does not end with a literal without quotes

@@ -11,9 +11,9 @@ use Rattle.jsonc_tree.proofs.Order.{parent_there}
 use Rattle.jsonc_laws.specs.TreeChanges.{IsElement}
 use Rattle.jsonc_from_input.specs.Layout.{Layout}
 use Rattle.jsonc_from_input.specs.Laid.{laid_property}
-use Rattle.jsonc_spaces.specs.Due.{due_behind, due_before, listed}
-use Rattle.jsonc_spaces.specs.Put.{AreAtHand, AreChildren, AreSpaced, Prepared, nodes_of}
-use Rattle.jsonc_spaces.specs.declared.put.Spaces.{Spaces}
+use Rattle.jsonc_edit.specs.Due.{due_behind, due_before, listed}
+use Rattle.jsonc_edit.specs.Put.{AreAtHand, AreChildren, AreSpaced, Prepared, nodes_of}
+use Rattle.jsonc_edit.specs.declared.put.Spaces.{Spaces}
 use Rattle.jsonc_edit.specs.Changes.{top_at}
 use Rattle.jsonc_edit.specs.Replacing.{TakesPlace}
 use Rattle.jsonc_edit.specs.Reading.{layout_for}

@@ -10,8 +10,8 @@ use Rattle.jsonc_tree.proofs.Over.{over_up}
 use Rattle.jsonc_nodes.specs.Kinds.{is_element, is_element_at}
 use Rattle.jsonc_nodes.specs.Siblings.{elements_at}
 use Rattle.jsonc_laws.specs.TreeChanges.{IsElement}
-use Rattle.jsonc_spaces.specs.Due.{listed}
-use Rattle.jsonc_spaces.specs.Put.{AreSpaced}
+use Rattle.jsonc_edit.specs.Due.{listed}
+use Rattle.jsonc_edit.specs.Put.{AreSpaced}
 use Rattle.jsonc_edit.specs.Paths.{IsElementOf, StepsTo, LeadsTo, itself, step, IsAt}
 use Rattle.jsonc_edit.specs.Reading.{layout_for}
 use Rattle.jsonc_edit.proofs.Elements.{Some_same, taken, left, StandsAt, stands_at}

@@ -39,11 +39,11 @@ use Rattle.jsonc_laws.specs.Marks.{marks}
 use Rattle.jsonc_laws.proofs.GivingWay.{space_keeps_marks}
 use Rattle.jsonc_laws.specs.Leaving.{element_count}
 use Rattle.jsonc_laws.specs.Properties.{object_of}
-use Rattle.jsonc_spaces.specs.Due.{begins_bare, due_before, due_behind, seen_behind, listed}
-use Rattle.jsonc_spaces.specs.Put.{AreSpaced}
-use Rattle.jsonc_spaces.proofs.Meeting.{value_last}
-use Rattle.jsonc_spaces.proofs.Putting.{elements_kept}
-use Rattle.jsonc_spaces.proofs.Quiet.{quiet_behind}
+use Rattle.jsonc_edit.specs.Due.{begins_bare, due_before, due_behind, seen_behind, listed}
+use Rattle.jsonc_edit.specs.Put.{AreSpaced}
+use Rattle.jsonc_edit.proofs.Meeting.{value_last}
+use Rattle.jsonc_edit.proofs.Putting.{elements_kept}
+use Rattle.jsonc_edit.proofs.Quiet.{quiet_behind}
 use Rattle.jsonc_edit.specs.Changes.{row_below, top_at}
 use Rattle.jsonc_edit.specs.Paths.{IsAt}
 use Rattle.jsonc_edit.specs.Spaced.{SpacesPut, none_put, one_put}

@@ -3,7 +3,7 @@ use Rattle.std.proofs.Common.{◌≡◌, ℕ, zero, suc, ◌<◌, ◌≤◌, Lis
 use Rattle.jsonc_tree.specs.Tree.{Node, parent_at, IsTree}
 use Rattle.jsonc_tree.specs.Changes.{CanJoin, EachOnce}
 use Rattle.jsonc_tree.proofs.Appending.{not_over_alone}
-use Rattle.jsonc_spaces.specs.Due.{listed}
+use Rattle.jsonc_edit.specs.Due.{listed}
 
 -- nobody's children, of rising numbers, none below the first of these numbers
 pub data Rising (ns : List Node) : ℕ → List ℕ → Type 0 where

@@ -49,10 +49,10 @@ use Rattle.jsonc_laws.specs.Marks.{marks}
 use Rattle.jsonc_laws.specs.Written as written_marks
 use Rattle.jsonc_laws.proofs.GivingWay.{values_marks}
 use Rattle.jsonc_laws.specs.Leaving.{element_count}
-use Rattle.jsonc_spaces.specs.Due.{prints, prints_at, nearest, listed, seen_before}
-use Rattle.jsonc_spaces.specs.Put.{AreSpaced}
-use Rattle.jsonc_spaces.proofs.Putting.{contents_kept}
-use Rattle.jsonc_spaces.proofs.Quiet.{space_before}
+use Rattle.jsonc_edit.specs.Due.{prints, prints_at, nearest, listed, seen_before}
+use Rattle.jsonc_edit.specs.Put.{AreSpaced}
+use Rattle.jsonc_edit.proofs.Putting.{contents_kept}
+use Rattle.jsonc_edit.proofs.Quiet.{space_before}
 use Rattle.jsonc_edit.specs.Changes.{row_below, top_at, LeafChanged}
 use Rattle.jsonc_edit.specs.Paths.{IsElementOf, IsHeldBy, StepsTo, LeadsTo, itself, step, IsAt}
 use Rattle.jsonc_edit.specs.Spaced.{SpacesPut}

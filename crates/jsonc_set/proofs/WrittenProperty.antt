@@ -34,9 +34,9 @@ use Rattle.jsonc_laws.proofs.Laid.{laid_as_written_named}
 use Rattle.jsonc_laws.specs.Leaving.{element_count}
 use Rattle.jsonc_laws.specs.Properties.{among_properties, object_of, IsNewProperty, PropertyChanged, ReplacesMember}
 use Rattle.jsonc_laws.proofs.GivenProperties.{sound_with_property, value_with_property, marks_with_property}
-use Rattle.jsonc_spaces.specs.Due.{nearest, begins_bare, behind_holder, listed}
-use Rattle.jsonc_spaces.proofs.Meeting.{back_bare}
-use Rattle.jsonc_spaces.proofs.Whole.{Whole, whole_behind, row_whole}
+use Rattle.jsonc_edit.specs.Due.{nearest, begins_bare, behind_holder, listed}
+use Rattle.jsonc_edit.proofs.Meeting.{back_bare}
+use Rattle.jsonc_edit.proofs.Whole.{Whole, whole_behind, row_whole}
 use Rattle.jsonc_edit.specs.Changes.{row_below, top_at, Replaces, Respliced}
 use Rattle.jsonc_edit.specs.Paths.{IsAt, IsElementOf}
 use Rattle.jsonc_edit.specs.Reading.{layout_for}

@@ -11,8 +11,8 @@ use Rattle.jsonc_laws.specs.SoundTrees.{SoundTree}
 use Rattle.jsonc_laws.specs.MarkChanges.{MarksDifferIn, marks_under}
 use Rattle.jsonc_laws.specs.Marks.{marks}
 use Rattle.jsonc_laws.specs.Written as written_marks
-use Rattle.jsonc_spaces.specs.Due.{listed, seen_before}
-use Rattle.jsonc_spaces.specs.Put.{AreSpaced, IfDue, Prepared}
+use Rattle.jsonc_edit.specs.Due.{listed, seen_before}
+use Rattle.jsonc_edit.specs.Put.{AreSpaced, IfDue, Prepared}
 use Rattle.jsonc_edit.specs.Changes.{top_at}
 use Rattle.jsonc_edit.specs.Paths.{IsAt}
 use Rattle.jsonc_edit.specs.Written.{IsWrittenAt}

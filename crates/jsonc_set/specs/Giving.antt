@@ -6,8 +6,8 @@ use Rattle.jsonc_tree.specs.Tree.{Node, parent_at}
 use Rattle.jsonc_tree.specs.OrderedTree.{Top}
 use Rattle.jsonc_from_input.specs.Layout.{Layout}
 use Rattle.jsonc_from_input.specs.Laid.{laid_property}
-use Rattle.jsonc_spaces.specs.Due.{due_behind, listed}
-use Rattle.jsonc_spaces.specs.Put.{AreSpaced, Prepared}
+use Rattle.jsonc_edit.specs.Due.{due_behind, listed}
+use Rattle.jsonc_edit.specs.Put.{AreSpaced, Prepared}
 use Rattle.jsonc_edit.specs.Reading.{layout_for}
 use Rattle.jsonc_edit.specs.Replacing.{TakesPlace}
 

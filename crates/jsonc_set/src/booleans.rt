@@ -11,8 +11,7 @@ ghost use Rattle.jsonc_nodes.specs.Siblings.{IsThere};
 ghost use Rattle.jsonc_laws.specs.Booleans.{begins_hex, is_hexadecimal, is_hex_leaf};
 ghost use Rattle.jsonc_set.specs.Booleans.{due_for, is_boolean, is_hex_at, BooleanSet, WantsSpaceFor};
 
-use jsonc_edit::EditError;
-use jsonc_spaces::{make_spaces, put_spaces, seen_before};
+use jsonc_edit::{EditError, make_spaces, put_spaces, seen_before};
 use jsonc_text::chars::has_byte;
 use jsonc_tree::{Kind, Tree};
 use std::alloc::Allocator;

@@ -8,8 +8,8 @@ ghost use Rattle.jsonc_tree.specs.Stored.{content_of};
 ghost use Rattle.jsonc_tree.specs.Tree.{children_at, room_at, IsTree};
 ghost use Rattle.jsonc_input.specs.Views.{plain};
 ghost use Rattle.jsonc_nodes.specs.Kinds.{is_comment};
-ghost use Rattle.jsonc_spaces.specs.Due.{listed};
-ghost use Rattle.jsonc_spaces.specs.Put.{Prepared};
+ghost use Rattle.jsonc_edit.specs.Due.{listed};
+ghost use Rattle.jsonc_edit.specs.Put.{Prepared};
 ghost use Rattle.jsonc_set.specs.RootSet.{follows_comment, FirstValue, KeepsNodes, LineEndMade};
 
 use jsonc_edit::{EditError, layout_for, newline_from};

@@ -7,10 +7,9 @@ ghost use Rattle.jsonc_tree.specs.Tree.{parent_at, IsTree};
 ghost use Rattle.jsonc_input.specs.Views.{plain};
 ghost use Rattle.jsonc_set.specs.Giving.{due_after, is_bare_value, IsPropertyReplaced};
 
-use jsonc_edit::{EditError, layout_for, put_in_place};
+use jsonc_edit::{EditError, due_behind, layout_for, make_spaces, put_in_place, put_spaces};
 use jsonc_from_input::lay_out_property;
 use jsonc_input::CstInputValue;
-use jsonc_spaces::{due_behind, make_spaces, put_spaces};
 use jsonc_tree::Tree;
 use std::alloc::Allocator;
 

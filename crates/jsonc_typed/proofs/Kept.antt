@@ -6,7 +6,7 @@ use Rattle.jsonc_tree.specs.Changes.{Splices}
 use Rattle.jsonc_tree.specs.OrderedTree.{Top}
 use Rattle.jsonc_tree.specs.Tree.{Node, content_at, parent_at, IsTree}
 use Rattle.jsonc_tree.proofs.Order.{parent_there}
-use Rattle.jsonc_spaces.specs.Put.{AreSpaced}
+use Rattle.jsonc_edit.specs.Put.{AreSpaced}
 use Rattle.jsonc_edit.specs.Comments.{TakesOut}
 use Rattle.jsonc_edit.specs.Reading.{IsReplaced, IsReplacedRaw}
 use Rattle.jsonc_edit.specs.Replacing.{GivesWay}

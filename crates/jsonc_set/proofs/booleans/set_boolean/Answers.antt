@@ -1,6 +1,6 @@
 use Rattle.std.proofs.Common.{sym, ap, subst, ◌∙◌}
-use Rattle.jsonc_spaces.specs.Due.{listed}
-use Rattle.jsonc_spaces.specs.Put.{AreChildren}
+use Rattle.jsonc_edit.specs.Due.{listed}
+use Rattle.jsonc_edit.specs.Put.{AreChildren}
 use Rattle.jsonc_edit.proofs.GivingWay.{where_refused}
 use Rattle.jsonc_edit.proofs.Kept.{tree_stays}
 use Rattle.jsonc_set.proofs.BooleanSetting.{due_children}

@@ -1,0 +1,10 @@
+use Rattle.std.proofs.Common.{rules}
+use Rattle.jsonc_tree.specs.Siblings.{siblings_before}
+use Rattle.jsonc_nodes.proofs.Rows.{find_in}
+use Rattle.jsonc_edit.specs.Due.{prints_at}
+use Rattle.jsonc_edit.proofs.due.seen_before.Goals as goal
+
+pub returns-clause-seen : goal.returns-clause-seen
+returns-clause-seen g c =
+    let ns = c.args.tree.now.nodes in
+    find_in (prints_at ns) (siblings_before ns c.args.node) _ _ _ c.find.ensures.ran c.previous_siblings.ensures.siblings (λ x b q k. search rules)

@@ -1,0 +1,32 @@
+//! Laws of spaces that come in, and of where one is due: each is the contract of a function that does
+//! nothing.
+
+ghost use Rattle.std.specs.Prelude.{◌≡◌, false, List, ℕ};
+ghost use Rattle.jsonc_text.specs.Options.{Options};
+ghost use Rattle.jsonc_tree.specs.Content.{Content};
+ghost use Rattle.jsonc_tree.specs.Tree.{Node};
+ghost use Rattle.jsonc_edit.specs.SpaceLaws.{KeepsElements, NoneDueAround, PutsSpace};
+ghost use Rattle.jsonc_edit.specs.Meeting.{NearestTell, NoneDueWithCommas};
+
+/// A space that is put before an element, behind another child, has come into the document there, and
+/// nothing else has.
+pub fn spaces_come_before_elements()
+    ensures { (old new : List Node) (n space : ℕ) → PutsSpace old new n space }
+{}
+
+/// Each node has the elements that it had.
+pub fn spaces_are_no_elements()
+    ensures { (old new : List Node) (n space : ℕ) → KeepsElements old new n space }
+{}
+
+/// Where the spaces have come that are due around a node, none is due any more.
+pub fn no_further_space_is_due()
+    ensures { (old new : List Node) (n : ℕ) (content : Content) → NoneDueAround old new n content }
+{}
+
+/// The nearest children that print something tell whether two literals without quotes meet in a row.
+/// Where commas may not be missing, no space is due where children leave and the row goes on.
+pub fn nearest_tell()
+    ensures meet { (o : Options) (ns : List Node) → NearestTell o ns }
+    ensures none { (o : Options) (ns : List Node) → o.missing_commas ≡ false → NoneDueWithCommas o ns }
+{}

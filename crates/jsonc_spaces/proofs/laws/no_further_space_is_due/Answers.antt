@@ -1,5 +1,0 @@
-use Rattle.jsonc_spaces.proofs.Quiet.{none_due}
-use Rattle.jsonc_spaces.proofs.laws.no_further_space_is_due.Goals as goal
-
-pub returns : goal.returns
-returns c = λ old new n content tree spaced bare. none_due old new n tree content spaced bare

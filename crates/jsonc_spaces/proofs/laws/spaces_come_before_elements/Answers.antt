@@ -1,5 +1,0 @@
-use Rattle.jsonc_spaces.proofs.Putting.{puts_space}
-use Rattle.jsonc_spaces.proofs.laws.spaces_come_before_elements.Goals as goal
-
-pub returns : goal.returns
-returns c = λ old new n space tree stands over element behind. puts_space old new n space tree stands element behind over

@@ -1,4 +1,0 @@
-pub mod Due
-pub mod Put
-pub mod Laws
-pub mod Meeting
