@@ -1,10 +1,16 @@
 -- What is taken out with a node, by its kind, and why it is not.
-use Rattle.std.specs.Prelude.{◌≡◌, ℕ, ◌+◌, List, [], length, Some, None, IsTrue}
+use Rattle.std.specs.Prelude.{◌≡◌, ℕ, ◌+◌, List, [], ◌∷◌, length, Option, Some, None, IsTrue, chars}
 use Rattle.jsonc_text.specs.Options.{Options}
+use Rattle.jsonc_text.specs.Plain.{Plain}
+use Rattle.jsonc_text.specs.Grammar.{IsDocument}
 use Rattle.jsonc_tree.specs.Changes.{Splices}
-use Rattle.jsonc_tree.specs.OrderedTree.{ordered_tree}
-use Rattle.jsonc_tree.specs.Tree.{Node, content_at, parent_at, children_at, place_at}
+use Rattle.jsonc_tree.specs.Content.{comment}
+use Rattle.jsonc_tree.specs.OrderedTree.{OrderedTree, ordered_tree}
+use Rattle.jsonc_tree.specs.Tree.{Node, content_at, parent_at, children_at, place_at, IsOver}
+use Rattle.jsonc_build.specs.Shape.{printed_text}
 use Rattle.jsonc_lines.specs.Kinds.{holds_values}
+use Rattle.jsonc_laws.specs.MarkChanges.{MarksDifferIn}
+use Rattle.jsonc_laws.specs.Marks.{comment_mark, marks}
 use Rattle.jsonc_laws.specs.SoundTrees.{SoundTree}
 use Rattle.jsonc_edit.specs.declared.error.EditError.{EditError}
 use Rattle.jsonc_edit.specs.declared.error.EditError.TheVariants.{OutOfMemory}
@@ -13,6 +19,7 @@ use Rattle.jsonc_edit.specs.Comments.{TakesOut, WantsSpace}
 use Rattle.jsonc_edit.specs.Paths.{IsAt, IsElementOf}
 use Rattle.jsonc_remove.specs.Laws.{IsEntryRemoved, IsValueRemoved}
 use Rattle.jsonc_remove.specs.Removed.{IsKeptFor, TakesElement}
+use Rattle.jsonc_set.specs.Laws.{IsBareDocument}
 use Rattle.jsonc_cst.specs.declared.cst.CstRootNode.{CstRootNode}
 use Rattle.jsonc_cst.specs.declared.cst.node.CstNode.{CstNode}
 use Rattle.jsonc_cst.specs.declared.cst.node.CstContainerNode.TheVariants.{Root, Array, Object, ObjectProp}
@@ -75,10 +82,25 @@ pub record IsElementGone (o : Options) (old new : List Node) (n : ℕ) : Type 0 
       → IsEntryRemoved o path i (top_at old n) (ordered_tree old 0) (ordered_tree new 0)
   pub value : IsElementOf old 0 0 n → IsValueRemoved o (top_at old n) (ordered_tree old 0) (ordered_tree new 0)
 
--- so it is if the old document is sound and the node leaves with what leaves with it
+-- The document is one again, with the value that it had, or none as before; of its marks that of the comment of this text alone has left; and it is sound.
+pub record IsCommentGone (o : Options) (s : List ℕ) (t u : OrderedTree) : Type 0 where
+  pub value : Option Plain
+  pub old_text : IsDocument o (printed_text t) value
+  pub new_text : IsDocument o (printed_text u) value
+  pub marked : MarksDifferIn (comment_mark (chars s) ∷ []) [] (marks t) (marks u)
+  pub sound : SoundTree o u
+
+-- so it is if the old document is sound and the node leaves with what leaves with it; a cleared document has no value and no marks, and is sound
 abbrev pub IsWrittenBy : Removal → Options → List Node → List Node → ℕ → Type 0
+IsWrittenBy Clearing o old new n = IsBareDocument o (ordered_tree new 0)
+IsWrittenBy OfComment o old new n =
+    SoundTree o (ordered_tree old 0) → IsOver old 0 n → (s : List ℕ) → content_at old n ≡ comment s → IsCommentGone o s (ordered_tree old 0) (ordered_tree new 0)
 IsWrittenBy OfElement o old new n = SoundTree o (ordered_tree old 0) → IsElementGone o old new n
-IsWrittenBy removal o old new n = Unit {0}
+IsWrittenBy OfLeaf o old new n = Unit {0}
+
+-- where the node is one of a sound document, only memory has been wanted: nothing that an edit needs is missing there
+abbrev pub WantsMemoryAlone : Options → List Node → ℕ → EditError → Type 0
+WantsMemoryAlone o ns n e = SoundTree o (ordered_tree ns 0) → IsOver ns 0 n → e ≡ OutOfMemory
 
 module _ {A : Type 0} where
   -- so it is of the document
@@ -100,3 +122,7 @@ module _ {A : Type 0} where
   -- why it has not been taken out
   abbrev pub IsKeptIn : CstRootNode A → CstNode → EditError → Type 0
   IsKeptIn d node e = IsKeptBy (removal_of node) (nodes_of d) (number_of node) e
+
+  -- if the node is one of the document, and this sound, only memory was wanted
+  abbrev pub IsKeptForMemory : CstRootNode A → Options → CstNode → EditError → Type 0
+  IsKeptForMemory d o node e = WantsMemoryAlone o (nodes_of d) (number_of node) e

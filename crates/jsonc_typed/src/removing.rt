@@ -7,12 +7,13 @@ ghost use Rattle.jsonc_tree.specs.OrderedTree.{ordered_tree};
 ghost use Rattle.jsonc_tree.specs.Tree.{parent_at, place_at, IsTree};
 ghost use Rattle.jsonc_edit.specs.Comments.{TakesOut, WantsSpace};
 ghost use Rattle.jsonc_remove.specs.Removed.{IsKeptFor, TakesElement};
+ghost use Rattle.jsonc_set.specs.Laws.{IsBareDocument};
 ghost use Rattle.jsonc_cst.specs.Document.{parent_of, tree_of, Holds};
 ghost use Rattle.jsonc_cst.specs.Tree.{NodesAreTree};
 ghost use Rattle.jsonc_typed.specs.Edits.{IsUntouched, StillHolds, StillNodes};
 ghost use Rattle.jsonc_typed.specs.declared.removing.Removal.{Removal};
-ghost use Rattle.jsonc_typed.specs.Removing.{removal_of, IsCleared, IsKeptBy, IsLooseFor, IsTakenBy, IsWrittenBy, LeavesAlone};
-ghost use Rattle.jsonc_typed.specs.Removing.{HasLeft, HasLeftAlone, IsKeptIn, IsLoose, LeavesWritten};
+ghost use Rattle.jsonc_typed.specs.Removing.{removal_of, IsCleared, IsKeptBy, IsLooseFor, IsTakenBy, IsWrittenBy, LeavesAlone, WantsMemoryAlone};
+ghost use Rattle.jsonc_typed.specs.Removing.{HasLeft, HasLeftAlone, IsKeptForMemory, IsKeptIn, IsLoose, LeavesWritten};
 
 use jsonc_cst::cst::{
     CstArray, CstBooleanLit, CstComment, CstContainerNode, CstLeafNode, CstNewline, CstNode,
@@ -56,6 +57,7 @@ fn remove_element<A: Allocator + Copy>(
     ensures untouched { parent_at tree.old.nodes number ≡ None → tree.new.nodes ≡ tree.old.nodes }
     ensures stays { StillNodes tree.old.nodes tree.new.nodes }
     ensures told { IfErr result (IsKeptFor tree.old.nodes number) }
+    ensures memory { (o : Options) → IfErr result (WantsMemoryAlone o tree.old.nodes number) }
     ensures document { OnErr result (ordered_tree tree.new.nodes 0 ≡ ordered_tree tree.old.nodes 0) }
     ensures tree { IsTree tree.new.nodes }
 {
@@ -71,9 +73,11 @@ fn remove_comment<A: Allocator + Copy>(
 ) -> Result<(), EditError>
     requires { number < length tree.old.nodes }
     ensures taken { OnOk result (TakesOut tree.old.nodes tree.new.nodes number) }
+    ensures written { (o : Options) → OnOk result (IsWrittenBy Removal.OfComment o tree.old.nodes tree.new.nodes number) }
     ensures untouched { parent_at tree.old.nodes number ≡ None → tree.new.nodes ≡ tree.old.nodes }
     ensures stays { StillNodes tree.old.nodes tree.new.nodes }
-    ensures memory { IfErr result (λ e. e ≡ EditError.OutOfMemory) }
+    ensures told { IfErr result (λ e. e ≡ EditError.OutOfMemory) }
+    ensures memory { (o : Options) → IfErr result (WantsMemoryAlone o tree.old.nodes number) }
     ensures wanted { OnErr result (WantsSpace tree.old.nodes number) }
     ensures document { OnErr result (ordered_tree tree.new.nodes 0 ≡ ordered_tree tree.old.nodes 0) }
     ensures tree { IsTree tree.new.nodes }
@@ -113,6 +117,7 @@ fn remove_alone<A: Allocator>(tree: &mut Tree<A>, number: usize)
 // Takes all that stands in the root out of it.
 pub(crate) fn clear<A: Allocator>(tree: &mut Tree<A>)
     ensures taken { IsCleared tree.old.nodes tree.new.nodes }
+    ensures written { (o : Options) → IsBareDocument o (ordered_tree tree.new.nodes 0) }
     ensures stays { StillNodes tree.old.nodes tree.new.nodes }
     ensures tree { IsTree tree.new.nodes }
 {
@@ -132,6 +137,7 @@ fn remove_by<A: Allocator + Copy>(
     ensures untouched { IsLooseFor removal tree.old.nodes number → tree.new.nodes ≡ tree.old.nodes }
     ensures stays { StillNodes tree.old.nodes tree.new.nodes }
     ensures told { IfErr result (IsKeptBy removal tree.old.nodes number) }
+    ensures memory { (o : Options) → IfErr result (WantsMemoryAlone o tree.old.nodes number) }
     ensures document { OnErr result (ordered_tree tree.new.nodes 0 ≡ ordered_tree tree.old.nodes 0) }
     ensures tree { IsTree tree.new.nodes }
 {
@@ -162,10 +168,12 @@ pub trait Remove: IsNode {
     /// beside each other, a space comes between them.
     ///
     /// If the document is sound, and the node stands in an array or object at a path, or is the document's
-    /// value, the document is one again, without that entry or that value, and sound.
+    /// value, the document is one again, without that entry or that value, and sound. If the node is a
+    /// comment of it, the document keeps its value and all literals and other comments, and is sound.
     ///
     /// The memory of a space alone may be wanted; an array or object from which an element is to leave,
-    /// and that has not its brackets, is `MissingBrackets`. A refusal leaves the document as it was. Where
+    /// and that has not its brackets, is `MissingBrackets`, which no node of a sound document is told. A
+    /// refusal leaves the document as it was. Where
     /// the node is nobody's child, and not the root, no node changes.
     final fn remove<A: Allocator + Copy>(self, doc: &mut CstRootNode<A>) -> Result<(), EditError>
         requires { Holds doc.old (Self.node_of self) }
@@ -174,6 +182,7 @@ pub trait Remove: IsNode {
         ensures untouched { IsLoose doc.old (Self.node_of self) → IsUntouched doc.old doc.new }
         ensures stays { StillHolds doc.old doc.new }
         ensures told { IfErr result (IsKeptIn doc.old (Self.node_of self)) }
+        ensures memory { (o : Options) → IfErr result (IsKeptForMemory doc.old o (Self.node_of self)) }
         ensures document { OnErr result (tree_of doc.new ≡ tree_of doc.old) }
         ensures tree { NodesAreTree doc.new }
     {

@@ -8,6 +8,7 @@ ghost use Rattle.jsonc_tree.specs.OrderedTree.{ordered_tree};
 ghost use Rattle.jsonc_tree.specs.Tree.{content_at, parent_at, IsTree};
 ghost use Rattle.jsonc_nodes.specs.Properties.{value_at};
 ghost use Rattle.jsonc_set.specs.Kinds.{is_array, is_object, LacksKind};
+ghost use Rattle.jsonc_set.specs.Laws.{IsBareDocument};
 ghost use Rattle.jsonc_cst.specs.Document.{nodes_of, parent_of, tree_of, Holds};
 ghost use Rattle.jsonc_cst.specs.Nodes.{array_node, object_node, IsNodeOf};
 ghost use Rattle.jsonc_cst.specs.Readings.{value_under};
@@ -185,7 +186,8 @@ pub trait SetRoot {
     /// document as it was.
     fn set_value(&mut self, value: Self::Value) -> Result<CstNode, EditError>;
 
-    /// Takes all out of the document. No memory is wanted.
+    /// Takes all out of the document, which has no value then, and no comments, and is sound. No memory is
+    /// wanted.
     fn clear_children(&mut self);
 
     /// The document's value, if it is an object. Where there is none an empty object is set; where the
@@ -225,6 +227,7 @@ impl<A: Allocator + Copy> SetRoot for CstRootNode<A> {
 
     fn clear_children(&mut self)
         ensures cleared { IsCleared (nodes_of self.old) (nodes_of self.new) }
+        ensures written { (o : Options) → IsBareDocument o (tree_of self.new) }
         ensures stays { StillHolds self.old self.new }
         ensures tree { NodesAreTree self.new }
     {

@@ -15,6 +15,7 @@ ghost use Rattle.jsonc_cst.specs.Nodes.{array_node, boolean_lit_node, number_of,
 ghost use Rattle.jsonc_cst.specs.Nodes.{object_prop_node, IsNodeOf};
 ghost use Rattle.jsonc_cst.specs.Tree.{NodesAreTree};
 ghost use Rattle.jsonc_typed.specs.Edits.{StillHolds, StillNodes};
+ghost use Rattle.jsonc_typed.specs.Removing.{IsKeptForMemory, WantsMemoryAlone};
 ghost use Rattle.jsonc_typed.specs.Values.{BooleanIsWritten, FindsOrSetsHeldArray, FindsOrSetsHeldObject};
 ghost use Rattle.jsonc_typed.specs.Values.{HasSetBoolean, HasWrittenArray, HasWrittenBoolean, HasWrittenObject};
 ghost use Rattle.jsonc_typed.specs.Values.{HasWrittenValue, HeldArrayIsWritten, HeldIsWritten, HeldObjectIsWritten};
@@ -87,6 +88,7 @@ fn property_object_or_set<A: Allocator + Copy>(
     ensures held { IfOk result (λ x. IsNodeOf tree.new.nodes (object_node x)) }
     ensures stays { StillNodes tree.old.nodes tree.new.nodes }
     ensures told { IfErr result (IsUnset is_object tree.old.nodes property) }
+    ensures memory { (o : Options) → IfErr result (WantsMemoryAlone o tree.old.nodes property) }
     ensures document { OnErr result (ordered_tree tree.new.nodes 0 ≡ ordered_tree tree.old.nodes 0) }
     ensures tree { IsTree tree.new.nodes }
 {
@@ -110,6 +112,7 @@ fn property_array_or_set<A: Allocator + Copy>(
     ensures held { IfOk result (λ x. IsNodeOf tree.new.nodes (array_node x)) }
     ensures stays { StillNodes tree.old.nodes tree.new.nodes }
     ensures told { IfErr result (IsUnset is_array tree.old.nodes property) }
+    ensures memory { (o : Options) → IfErr result (WantsMemoryAlone o tree.old.nodes property) }
     ensures document { OnErr result (ordered_tree tree.new.nodes 0 ≡ ordered_tree tree.old.nodes 0) }
     ensures tree { IsTree tree.new.nodes }
 {
@@ -167,7 +170,8 @@ pub trait SetProperty: IsNode {
     /// [`SetProperty::set_value`].
     ///
     /// Where the property has no name or no colon, which is so only after edits of single leaves, the
-    /// answer is `MissingName`. A refusal leaves the document as it was.
+    /// answer is `MissingName`, and never for a property of a sound document. A refusal leaves the
+    /// document as it was.
     fn object_value_or_set<A: Allocator + Copy>(
         self,
         doc: &mut CstRootNode<A>,
@@ -180,6 +184,7 @@ pub trait SetProperty: IsNode {
         ensures held { IfOk result (λ x. Holds doc.new (object_node x)) }
         ensures stays { StillHolds doc.old doc.new }
         ensures told { IfErr result (IsUnset is_object (nodes_of doc.old) (number_of (Self.node_of self))) }
+        ensures memory { (o : Options) → IfErr result (IsKeptForMemory doc.old o (Self.node_of self)) }
         ensures document { OnErr result (tree_of doc.new ≡ tree_of doc.old) }
         ensures tree { NodesAreTree doc.new };
 
@@ -187,7 +192,8 @@ pub trait SetProperty: IsNode {
     /// [`SetProperty::set_value`].
     ///
     /// Where the property has no name or no colon, which is so only after edits of single leaves, the
-    /// answer is `MissingName`. A refusal leaves the document as it was.
+    /// answer is `MissingName`, and never for a property of a sound document. A refusal leaves the
+    /// document as it was.
     fn array_value_or_set<A: Allocator + Copy>(
         self,
         doc: &mut CstRootNode<A>,
@@ -200,6 +206,7 @@ pub trait SetProperty: IsNode {
         ensures held { IfOk result (λ x. Holds doc.new (array_node x)) }
         ensures stays { StillHolds doc.old doc.new }
         ensures told { IfErr result (IsUnset is_array (nodes_of doc.old) (number_of (Self.node_of self))) }
+        ensures memory { (o : Options) → IfErr result (IsKeptForMemory doc.old o (Self.node_of self)) }
         ensures document { OnErr result (tree_of doc.new ≡ tree_of doc.old) }
         ensures tree { NodesAreTree doc.new };
 }

@@ -1,4 +1,5 @@
 use Rattle.jsonc_typed.proofs.Kept.{nodes_stay, stay_spliced}
+use Rattle.jsonc_set.proofs.Gaining.{leaves_bare}
 use Rattle.jsonc_typed.proofs.removing.clear.Goals as goal
 
 pub returns-clause-stays : goal.returns-clause-stays
@@ -6,3 +7,6 @@ returns-clause-stays g c =
     let old = c.args.tree.now.nodes in
     let new = c.clear_root.new.tree.nodes in
     nodes_stay old new (stay_spliced old new _ _ _ _ c.clear_root.ensures.taken)
+
+pub returns-clause-written : goal.returns-clause-written
+returns-clause-written g c = λ o. leaves_bare o c.clear_root.new.tree.nodes c.clear_root.ensures.tree c.clear_root.ensures.cleared

@@ -1,5 +1,6 @@
 use Rattle.jsonc_typed.proofs.Gone.{element_written}
 use Rattle.jsonc_typed.proofs.Kept.{nodes_stay, stay_element}
+use Rattle.jsonc_typed.proofs.Whole.{element_for_memory}
 use Rattle.jsonc_typed.proofs.removing.remove_element.Goals as goal
 
 pub returns-clause-stays : goal.returns-clause-stays
@@ -11,3 +12,7 @@ returns-clause-stays g c =
 pub returns-clause-written : goal.returns-clause-written
 returns-clause-written g c =
     λ o. element_written o c.args.tree.now.nodes c.remove.new.tree.nodes c.args.number c.len.ensures.tree c.remove.ensures.tree c.remove.result c.remove.ensures.taken
+
+pub returns-clause-memory : goal.returns-clause-memory
+returns-clause-memory g c = λ o.
+    element_for_memory o c.args.tree.now.nodes c.len.ensures.tree c.args.number c.remove.result c.remove.ensures.told

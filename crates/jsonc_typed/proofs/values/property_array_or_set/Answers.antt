@@ -1,13 +1,15 @@
-use Rattle.std.proofs.Common.{◌≡◌, ℕ, Some, false, refl, subst, sym}
+use Rattle.std.proofs.Common.{rules, ◌≡◌, ℕ, IfErr, Some, false, refl, subst, sym}
 use Rattle.jsonc_text.specs.Plain.{array, no_items}
 use Rattle.jsonc_tree.specs.Content.{Content}
 use Rattle.jsonc_tree.specs.Tree.{content_at, parent_at}
 use Rattle.jsonc_nodes.specs.Properties.{value_at}
 use Rattle.jsonc_edit.specs.Written.{Writes}
 use Rattle.jsonc_set.specs.Kinds.{is_array}
+use Rattle.jsonc_set.specs.PropertyValues.{IsUnset}
 use Rattle.jsonc_typed.proofs.Kept.{nodes_stay}
 use Rattle.jsonc_typed.proofs.Roots.{array_is}
 use Rattle.jsonc_typed.proofs.Held.{found_is, found_is_child, found_is_written, found_or_kept}
+use Rattle.jsonc_typed.proofs.Whole.{value_for_memory}
 use Rattle.jsonc_typed.proofs.values.property_array_or_set.Goals as goal
 
 pub array_at-requires : goal.array_at-requires
@@ -35,3 +37,8 @@ returns-clause-child g c =
     let new = c.property_array_or_set.new.tree.nodes in
     subst (λ m. parent_at new m ≡ Some c.args.property) (sym c.array_at.ensures.number)
     (found_is_child old new c.args.property (array no_items) c.len.ensures.tree c.requires.property is_array (value_at old c.args.property) c.in_ok-number.number refl c.in_ok-number.ensures.value)
+
+pub returns-in_err-number-clause-memory : goal.returns-in_err-number-clause-memory
+returns-in_err-number-clause-memory g c = λ o.
+    let told : IfErr c.from_residual.result (IsUnset is_array c.args.tree.now.nodes c.args.property) = search rules in
+    value_for_memory o c.args.tree.now.nodes c.len.ensures.tree is_array c.args.property c.requires.there c.requires.property c.from_residual.result told
