@@ -1,5 +1,5 @@
 -- What is made of a sound document where an element or a comment leaves it.
-use Rattle.std.proofs.Common.{◌≡◌, ℕ, ◌<◌, List, [], ◌∷◌, length, slice_index, Some, Result, Ok, Err, OnOk, refl, sym, ap, subst, ◌∙◌, chars}
+use Rattle.std.proofs.Common.{◌≡◌, ℕ, ◌<◌, List, [], ◌∷◌, length, slice_index, Some, Result, Ok, Err, OnOk, sym, ap, subst, ◌∙◌, chars}
 use Rattle.jsonc_text.specs.Options.{Options}
 use Rattle.jsonc_text.specs.Grammar.{IsDocument}
 use Rattle.jsonc_tree.specs.Building.{Keeps}

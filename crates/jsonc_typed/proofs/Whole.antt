@@ -13,7 +13,7 @@ use Rattle.jsonc_tree.proofs.Order.{parent_there}
 use Rattle.jsonc_tree.proofs.OrderedTrees.{Shows-unique}
 use Rattle.jsonc_build.specs.Shape.{IsLiteralBefore, IsNameBefore, Trivia, nothing, trivia, token_then, printed_text, ValueShaped, PropertyShaped, DocumentShaped}
 use Rattle.jsonc_nodes.specs.Kinds.{is_colon, is_colon_at}
-use Rattle.jsonc_nodes.specs.Properties.{is_name, is_name_at, behind_first, lacks_name_at, value_at}
+use Rattle.jsonc_nodes.specs.Properties.{is_name, is_name_at, behind_first, lacks_name_at}
 use Rattle.jsonc_lines.specs.Kinds.{holds_values}
 use Rattle.jsonc_laws.specs.Alone as alone
 use Rattle.jsonc_laws.specs.Alone.{ValueAlone}
