@@ -89,11 +89,16 @@ fn main(rt: HostRuntime) -> io::Result<ExitCode> {
     let Ok(words) = timing::words(&rt) else {
         return Ok(ExitCode::FAILURE);
     };
-    if !words.is_empty() {
-        return Ok(timing::run(&rt, words.as_slice()));
+    if words.is_empty() {
+        if run(&rt)? {
+            return Ok(ExitCode::SUCCESS);
+        }
+        return Ok(ExitCode::FAILURE);
     }
-    if run(&rt)? {
-        return Ok(ExitCode::SUCCESS);
+    if let Err(fault) = timing::timed(&rt, words.as_slice()) {
+        // Where standard error fails too, the status alone tells.
+        let _ = eprintln!(rt; "{fault}");
+        return Ok(ExitCode::from(fault.status()));
     }
-    Ok(ExitCode::FAILURE)
+    Ok(ExitCode::SUCCESS)
 }

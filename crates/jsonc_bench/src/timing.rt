@@ -5,7 +5,6 @@ use jsonc_engine::fault::Fault;
 use std::env;
 use std::env::Env;
 use std::io::Read;
-use std::process::ExitCode;
 
 /// The words that the process was given.
 pub fn words<R: Env + AllocGlobal>(rt: &R) -> Result<Vec<String>, Fault> {
@@ -31,7 +30,7 @@ fn asked(words: &[String]) -> Result<(Call, u64), Fault> {
 
 /// Makes the call that the words name on the text of standard input as often as they say, and writes the sum
 /// of what came.
-fn timed<R: AllocGlobal + Input + Print>(rt: &R, words: &[String]) -> Result<(), Fault> {
+pub fn timed<R: AllocGlobal + Input + Print>(rt: &R, words: &[String]) -> Result<(), Fault> {
     let (call, count) = asked(words)?;
     let mut input = Vec::new(rt.alloc());
     let Ok(_) = rt.reader().read_to_end(&mut input) else {
@@ -43,16 +42,4 @@ fn timed<R: AllocGlobal + Input + Print>(rt: &R, words: &[String]) -> Result<(),
         return Err(Fault::Write);
     };
     Ok(())
-}
-
-/// Does so, and tells of a fault.
-pub fn run<R: AllocGlobal + Input + Print>(rt: &R, words: &[String]) -> ExitCode {
-    match timed(rt, words) {
-        Ok(()) => ExitCode::SUCCESS,
-        Err(fault) => {
-            // Where standard error fails too, the status alone tells.
-            let _ = eprintln!(rt; "{fault}");
-            ExitCode::from(fault.status())
-        }
-    }
 }
