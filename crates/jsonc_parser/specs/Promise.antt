@@ -17,8 +17,8 @@ use Rattle.jsonc_run.specs.Written.{AllStayAround, AreChanged, MayBeMade, WriteA
 -- Of these comments each edit in turn takes one stretch, perhaps an empty one, with what it replaces or removes. All others stay, in order, and none comes.
 pub data CommentsStay : List Mark → List Operation → List Mark → Type 0 where
   all_stay : {x : List Mark} → CommentsStay x [] x
-  others_stay : (front gone back : List Mark) {x y : List Mark} {e : Operation} {es : List Operation} → x ≡ front ++ (gone ++ back) → CommentsStay (front ++ back) es y
-      → CommentsStay x (e ∷ es) y
+  others_stay : (front gone back : List Mark) {x y : List Mark} {e : Operation} {es : List Operation} → x ≡ front ++ (gone ++ back)
+      → CommentsStay (front ++ back) es y → CommentsStay x (e ∷ es) y
 
 -- The first text is a document of these options, and so is the second, whose value is what the edits, one after another, make of the first one's. Of the
 -- literals and comments, as they are written, each edit changes what it names alone; and all comments stay but for those in what was replaced or removed.
@@ -47,5 +47,6 @@ pub record IsEditedText (o : Options) (text : List ℕ) (es : List Operation) (e
 -- what the edits write may be written. The bytes that a document prints, and its tree, are those of its first node.
 abbrev pub KeepsThePromise : Options → List ℕ → List Node → List Operation → List Node → Type 0
 KeepsThePromise o text old es new =
-    printed (ordered_tree old 0) ≡ text → DocumentShaped o (ordered_tree old 0) → DocumentLinesEnd (ordered_tree old 0) → WriteAll o old es new → MarkAll o old es new → All (MayBeMade o) es
+    printed (ordered_tree old 0) ≡ text → DocumentShaped o (ordered_tree old 0) → DocumentLinesEnd (ordered_tree old 0)
+    → WriteAll o old es new → MarkAll o old es new → All (MayBeMade o) es
     → IsEditedText o (chars text) es (chars (printed (ordered_tree new 0)))

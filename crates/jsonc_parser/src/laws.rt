@@ -15,5 +15,6 @@ ghost use Rattle.jsonc_parser.specs.Promise.{KeepsThePromise};
 /// nodes of the document, and asks that each number that an edit writes is, whole, one that the options
 /// allow.
 pub fn edited_texts()
-    ensures { (o : Options) (text : List ℕ) (old : List Node) (es : List Operation) (new : List Node) → KeepsThePromise o text old es new }
+    ensures { (o : Options) (text : List ℕ) (old : List Node) (es : List Operation) (new : List Node)
+        → KeepsThePromise o text old es new }
 {}
