@@ -1,4 +1,4 @@
-//! The calls that `crates/jsonc_bench` times, made of the Rust crate: the same words, the same answers.
+//! The calls of `crates/jsonc_speed`, made of the Rust crate: the same words, the same answers.
 
 use jsonc_parser::cst::CstRootNode;
 use jsonc_parser::{

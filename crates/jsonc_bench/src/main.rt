@@ -1,11 +1,9 @@
 //! Answers cases: what this repository's calls say of a text, one case a line in and one answer a line out.
 //!
-//! `docs/BENCH.md` has the forms of cases and answers, and which cases are answered `not yet`. With two words,
-//! the name of a call and how often to make it, that call is made on the input, to be timed: `docs/SPEED.md`.
+//! `docs/BENCH.md` has the forms of cases and answers, and which cases are answered `not yet`.
 #![tactic(auto)]
 
 mod answer;
-mod call;
 mod comments;
 mod decoded;
 mod document;
@@ -21,7 +19,6 @@ mod refusal;
 mod scanned;
 mod show;
 mod syntax;
-mod timing;
 mod value;
 
 use jsonc_cases::case::Case;
@@ -86,12 +83,6 @@ fn run<R: AllocGlobal + Input + Print>(rt: &R) -> io::Result<bool> {
 }
 
 fn main(rt: HostRuntime) -> io::Result<ExitCode> {
-    let Ok(words) = timing::words(&rt) else {
-        return Ok(ExitCode::FAILURE);
-    };
-    if !words.is_empty() {
-        return Ok(timing::run(&rt, words.as_slice()));
-    }
     if run(&rt)? {
         return Ok(ExitCode::SUCCESS);
     }

@@ -79,6 +79,13 @@ module _ (o : Options) (text : List ℕ) (old : List Node) (es : List Operation)
         has = has;
         marked = m;
         comments = comments_stay m;
+        old_tree = was;
+        new_tree = now;
+        old_sound = sound;
+        new_sound = w.sound;
+        old_prints = refl;
+        new_prints = refl;
+        around = w.around;
       }
 
   pub keeps_the_promise : printed was ≡ text → DocumentShaped o was → DocumentLinesEnd was → WriteAll o old es new → MarkAll o old es new → All (MayBeMade o) es

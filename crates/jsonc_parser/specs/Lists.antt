@@ -15,7 +15,8 @@ use Rattle.jsonc_cst.specs.Document.{nodes_of, Holds}
 
 -- a comparison may be asked with any document and two nodes of it
 abbrev pub MayBeAsked : {C D A : Type 0} → Shared C (Bor D × (CstNode × (CstNode × Unit {0}))) Ordering → C → (CstRootNode A → D) → Type 0
-MayBeAsked {C} {D} {A} call compare same = (doc : CstRootNode A) (d : Bor D) (x y : CstNode) → d.now ≡ same doc → Holds doc x → Holds doc y → call.pre compare (d, (x, (y, tt)))
+MayBeAsked {C} {D} {A} call compare same =
+    (doc : CstRootNode A) (d : Bor D) (x y : CstNode) → d.now ≡ same doc → Holds doc x → Holds doc y → call.pre compare (d, (x, (y, tt)))
 
 module _ {A : Type 0} (old new : CstRootNode A) where
   -- the edits have been made in order, each in the document that the one before it made
@@ -26,7 +27,8 @@ module _ {A : Type 0} (old new : CstRootNode A) where
   abbrev pub HasStopped : List Operation → ℕ → EditError → Type 0
   HasStopped es k why = StopsAt (nodes_of old) es k why (nodes_of new)
 
-  -- if the old document is sound, and what the edits write may be written, then the new text is a document of these options, its value is what the edits make of the old one's, all leaves around them stay, and it is sound
+  -- if the old document is sound, and what the edits write may be written, then the new text is a document of these options,
+  -- its value is what the edits make of the old one's, all leaves around them stay, and it is sound
   abbrev pub HaveWritten : Options → List Operation → Type 0
   HaveWritten o es = WriteAll o (nodes_of old) es (nodes_of new)
 

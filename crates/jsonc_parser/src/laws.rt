@@ -9,11 +9,12 @@ ghost use Rattle.jsonc_parser.specs.Promise.{KeepsThePromise};
 /// Where a text was parsed, and a list of edits made in its document, the text that this prints is in the
 /// grammar, under the same options; its value is what the edits, one after another, make of the value of
 /// the text; and of the comments of the text all stay, in order, but for those in what was replaced or
-/// removed.
+/// removed. In the trees of the two texts each edit is made at its place, and all around it stays.
 ///
 /// It goes from what [`parse`](crate::cst::CstRootNode::parse) and [`run`](crate::cst::run) say of the
 /// nodes of the document, and asks that each number that an edit writes is, whole, one that the options
 /// allow.
 pub fn edited_texts()
-    ensures { (o : Options) (text : List ℕ) (old : List Node) (es : List Operation) (new : List Node) → KeepsThePromise o text old es new }
+    ensures { (o : Options) (text : List ℕ) (old : List Node) (es : List Operation) (new : List Node)
+        → KeepsThePromise o text old es new }
 {}

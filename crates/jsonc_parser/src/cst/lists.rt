@@ -35,9 +35,11 @@ pub fn run<A: Allocator + Copy, D: IsDocument<A>, C: Fn(&D, CstNode, CstNode) ->
     ensures made { OnOk result (HaveBeenMade doc.old doc.new (operations_of edits.items)) }
     ensures stopped { IfErr result (λ e. HasStopped doc.old doc.new (operations_of edits.items) e.0 e.1) }
     ensures written { (o : Options) → OnOk result (HaveWritten doc.old doc.new o (operations_of edits.items)) }
-    ensures written_so_far { (o : Options) → IfErr result (λ e. HaveWritten doc.old doc.new o (take e.0 (operations_of edits.items))) }
+    ensures written_so_far { (o : Options)
+        → IfErr result (λ e. HaveWritten doc.old doc.new o (take e.0 (operations_of edits.items))) }
     ensures marked { (o : Options) → OnOk result (HaveMarked doc.old doc.new o (operations_of edits.items)) }
-    ensures marked_so_far { (o : Options) → IfErr result (λ e. HaveMarked doc.old doc.new o (take e.0 (operations_of edits.items))) }
+    ensures marked_so_far { (o : Options)
+        → IfErr result (λ e. HaveMarked doc.old doc.new o (take e.0 (operations_of edits.items))) }
     ensures tree { NodesAreTree doc.new }
 {
     let _ = compare;

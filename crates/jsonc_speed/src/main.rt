@@ -1,23 +1,25 @@
-//! Timing: one call on one text, made again and again, for whoever times the process (`docs/SPEED.md`).
+//! Makes one call on a text again and again, for whoever times the process: `docs/SPEED.md`.
+//!
+//! The words are the name of the call and how often to make it, the text is standard input, and the
+//! sum of what the calls answered is written.
+#![tactic(auto)]
 
-use crate::call::Call;
+mod call;
+
+use call::Call;
 use jsonc_engine::fault::Fault;
-use std::env;
 use std::env::Env;
 use std::io::Read;
 use std::process::ExitCode;
+use std::{env, io};
 
-/// The words that the process was given.
-pub fn words<R: Env + AllocGlobal>(rt: &R) -> Result<Vec<String>, Fault> {
+/// The call, and how often to make it, that the process's arguments name.
+fn asked<R: Env + AllocGlobal>(rt: &R) -> Result<(Call, u64), Fault> {
     let Ok(arguments) = env::args(rt) else {
         return Err(Fault::Usage);
     };
-    Ok(arguments.skip(1).collect(rt.alloc())?)
-}
-
-/// The call, and how often to make it, that the words name.
-fn asked(words: &[String]) -> Result<(Call, u64), Fault> {
-    let [call, count] = words else {
+    let words: Vec<String> = arguments.skip(1).collect(rt.alloc())?;
+    let [call, count] = words.as_slice() else {
         return Err(Fault::Usage);
     };
     let Some(call) = Call::from_word(call.as_str()) else {
@@ -29,10 +31,8 @@ fn asked(words: &[String]) -> Result<(Call, u64), Fault> {
     Ok((call, count))
 }
 
-/// Makes the call that the words name on the text of standard input as often as they say, and writes the sum
-/// of what came.
-fn timed<R: AllocGlobal + Input + Print>(rt: &R, words: &[String]) -> Result<(), Fault> {
-    let (call, count) = asked(words)?;
+fn run<R: Env + AllocGlobal + Input + Print>(rt: &R) -> Result<(), Fault> {
+    let (call, count) = asked(rt)?;
     let mut input = Vec::new(rt.alloc());
     let Ok(_) = rt.reader().read_to_end(&mut input) else {
         return Err(Fault::Read);
@@ -45,9 +45,8 @@ fn timed<R: AllocGlobal + Input + Print>(rt: &R, words: &[String]) -> Result<(),
     Ok(())
 }
 
-/// Does so, and tells of a fault.
-pub fn run<R: AllocGlobal + Input + Print>(rt: &R, words: &[String]) -> ExitCode {
-    match timed(rt, words) {
+fn main(rt: HostRuntime) -> ExitCode {
+    match run(&rt) {
         Ok(()) => ExitCode::SUCCESS,
         Err(fault) => {
             // Where standard error fails too, the status alone tells.
