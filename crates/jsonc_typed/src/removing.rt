@@ -13,7 +13,8 @@ ghost use Rattle.jsonc_cst.specs.Tree.{NodesAreTree};
 ghost use Rattle.jsonc_typed.specs.Edits.{IsUntouched, StillHolds, StillNodes};
 ghost use Rattle.jsonc_typed.specs.declared.removing.Removal.{Removal};
 ghost use Rattle.jsonc_typed.specs.Removing.{removal_of, IsCleared, IsKeptBy, IsLooseFor, IsTakenBy, IsWrittenBy, LeavesAlone};
-ghost use Rattle.jsonc_typed.specs.Removing.{WantsMemoryAlone, HasLeft, HasLeftAlone, IsKeptForMemory, IsKeptIn, IsLoose, LeavesWritten};
+ghost use Rattle.jsonc_typed.specs.Removing.{HasLeft, HasLeftAlone, IsKeptForMemory, IsKeptIn, IsLoose};
+ghost use Rattle.jsonc_typed.specs.Removing.{LeavesWritten, WantsMemoryAlone};
 
 use jsonc_cst::cst::{
     CstArray, CstBooleanLit, CstComment, CstContainerNode, CstLeafNode, CstNewline, CstNode,
