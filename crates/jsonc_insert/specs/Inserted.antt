@@ -1,5 +1,5 @@
 -- An element that has come into a container.
-use Rattle.std.specs.Prelude.{◌≡◌, ◌≤◌, ℕ, Bool, true, false, List, [], ◌∷◌, ◌++◌, length, map, take, drop, Option, Some, None}
+use Rattle.std.specs.Prelude.{◌≡◌, ◌≤◌, ℕ, Bool, true, false, List, [], ◌∷◌, ◌++◌, length, map, Option, Some, None}
 use Rattle.jsonc_text.specs.Plain.{Plain}
 use Rattle.jsonc_tree.specs.Changes.{CanJoin, Splices}
 use Rattle.jsonc_tree.specs.Content.{Content, newline, token, whitespace}
@@ -9,7 +9,7 @@ use Rattle.jsonc_edit.specs.Changes.{top_at}
 use Rattle.jsonc_edit.specs.Put.{Prepared}
 use Rattle.jsonc_from_input.specs.Laid.{laid}
 use Rattle.jsonc_from_input.specs.Layout.{Layout}
-use Rattle.jsonc_insert.specs.Trimmed.{trimmed}
+use Rattle.jsonc_insert.specs.Trimmed.{trimmed, with_at}
 use Rattle.jsonc_insert.specs.Planned.{planned}
 use Rattle.jsonc_insert.specs.Settings.{indents_of, layout_inside, on_several_lines}
 use Rattle.jsonc_insert.specs.declared.plan.Gap.{Gap}
@@ -30,10 +30,6 @@ comma_leaf false = []
 abbrev pub comma_at : Option ℕ → List Content
 comma_at None = []
 comma_at (Some place) = token 0x2C ∷ []
-
--- a row with others at a place
-abbrev pub with_at : {A : Type 0} → ℕ → List A → List A → List A
-with_at place xs row = take place row ++ xs ++ drop place row
 
 -- where such a place is told
 abbrev pub with_comma : {A : Type 0} → Option ℕ → List A → List A → List A

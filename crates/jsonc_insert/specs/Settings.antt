@@ -1,9 +1,9 @@
 -- What a document tells of an element that is put into an array: read in the array's row as it is when blank lines inside its brackets have left.
-use Rattle.std.specs.Prelude.{ℕ, ◌++◌, ◌==◌, Bool, true, false, not, ◌&&◌, ◌||◌, List, [], ◌∷◌, length, reverse, Option, Some, None, is_some, option_and_then, unwrap_or, if◌then◌else◌}
+use Rattle.std.specs.Prelude.{ℕ, ◌++◌, ◌==◌, Bool, true, false, not, ◌&&◌, ◌||◌, List, [], ◌∷◌, length, reverse, Option, Some, None, is_some, option_and_then, slice_get, unwrap_or, if◌then◌else◌}
 use Rattle.std.specs.Option.{option_or}
 use Rattle.std.specs.List.{find, list_any, list_all, take_while}
 use Rattle.jsonc_text.specs.Plain.{Plain, Items, member}
-use Rattle.jsonc_tree.specs.Tree.{Node, children_at, is_in}
+use Rattle.jsonc_tree.specs.Tree.{Node, children_at, is_in, parent_at}
 use Rattle.jsonc_tree.specs.Siblings.{first}
 use Rattle.jsonc_tree.specs.declared.node.CstNewlineKind.{CstNewlineKind}
 use Rattle.jsonc_tree.specs.declared.node.CstNewlineKind.TheVariants.{LineFeed}
@@ -18,16 +18,23 @@ use Rattle.jsonc_lines.specs.Lines as lines
 use Rattle.jsonc_lines.specs.Siblings.{trailing_comma_at}
 use Rattle.jsonc_from_input.specs.Laid.{holds_filled}
 use Rattle.jsonc_from_input.specs.Layout.{Layout}
-use Rattle.jsonc_insert.specs.Trimmed.{gone, trimmed}
+use Rattle.jsonc_insert.specs.Trimmed.{trimmed}
 use Rattle.jsonc_insert.specs.Planned.{elements}
 
--- a line's end that stays
-abbrev pub ends_line_still : List Node → List ℕ → ℕ → Bool
-ends_line_still ns gone n = is_newline_at ns n && not (is_in n gone)
+-- a line's end that stays where the container's row becomes this
+abbrev pub is_child : Option ℕ → ℕ → Bool
+is_child None c = false
+is_child (Some p) c = p == c
 
--- how lines end beside a container of a document: as the first that stays, breadth first, or by LF; and by LF in what stands apart from the document
-abbrev pub newline_kind_without : List Node → List ℕ → ℕ → CstNewlineKind
-newline_kind_without ns gone c = if is_in_document ns c then line_end_at ns (find (ends_line_still ns gone) (breadth_first ns 0)) else LineFeed
+abbrev pub stays_in : List Node → ℕ → List ℕ → ℕ → Bool
+stays_in ns c row n = is_in n row || not (is_child (parent_at ns n) c)
+
+abbrev pub ends_line_still : List Node → ℕ → List ℕ → ℕ → Bool
+ends_line_still ns c row n = is_newline_at ns n && stays_in ns c row n
+
+-- how lines end beside it: as the first that stays, breadth first, or by LF; and by LF in what stands apart from the document
+abbrev pub newline_kind_with : List Node → ℕ → List ℕ → CstNewlineKind
+newline_kind_with ns c row = if is_in_document ns c then line_end_at ns (find (ends_line_still ns c row) (breadth_first ns 0)) else LineFeed
 
 -- a row with whitespace and an element
 abbrev pub is_spaced_row : List Node → List ℕ → Bool
@@ -81,7 +88,7 @@ indents_at_first ns c row None = one_deeper (indents_of ns c row)
 indents_at_first ns c row (Some n) = if is_document_value ns c && not (is_some (indent_at ns n)) then one_deeper (indents_of ns c row) else indents_at ns n
 
 abbrev pub indents_inside : List Node → ℕ → List ℕ → IndentTexts
-indents_inside ns c row = indents_at_first ns c row (first (elements ns row))
+indents_inside ns c row = indents_at_first ns c row (slice_get (elements ns row) 0)
 
 -- a value that is laid out on several lines
 abbrev pub is_spread : Plain → Bool
@@ -94,9 +101,9 @@ abbrev pub on_several_lines : List Node → List ℕ → Plain → Bool
 on_several_lines ns row v = list_any (is_newline_at ns) row || is_spread v
 
 -- how an element of a container is laid out
-abbrev pub layout_in : List Node → ℕ → List ℕ → List ℕ → Layout
-layout_in ns c gone row =
-    record { current = (indents_inside ns c row).current; single = (indents_inside ns c row).single; trailing_commas = uses_commas_in ns row; newline = newline_kind_without ns gone c }
+abbrev pub layout_in : List Node → ℕ → List ℕ → Layout
+layout_in ns c row =
+    record { current = (indents_inside ns c row).current; single = (indents_inside ns c row).single; trailing_commas = uses_commas_in ns row; newline = newline_kind_with ns c row }
 
 abbrev pub layout_inside : List Node → ℕ → Layout
-layout_inside ns c = layout_in ns c (gone ns (children_at ns c)) (trimmed ns (children_at ns c))
+layout_inside ns c = layout_in ns c (trimmed ns (children_at ns c))

@@ -1,8 +1,9 @@
 -- Blank lines directly inside the brackets of a container, and its row without them. A row is a list of nodes by their numbers, the brackets among them.
-use Rattle.std.specs.Prelude.{ℕ, ◌+◌, ◌-◌, Bool, ◌||◌, List, ◌++◌, length, take, drop, reverse, nat_lt, if◌then◌else◌}
+use Rattle.std.specs.Prelude.{ℕ, ◌+◌, ◌-◌, Bool, ◌||◌, List, ◌++◌, length, take, drop, reverse, slice_range, nat_lt, if◌then◌else◌}
 use Rattle.std.specs.List.{take_while}
 use Rattle.jsonc_tree.specs.Tree.{Node}
 use Rattle.jsonc_nodes.specs.Kinds.{is_newline_at, is_whitespace_at}
+use Rattle.jsonc_insert.specs.declared.trim.Stretch.{Stretch}
 
 -- whitespace or a line's end
 abbrev pub is_blank_at : List Node → ℕ → Bool
@@ -22,11 +23,7 @@ last_blanks ns row = blanks ns (reverse row)
 abbrev pub last_spaces : List Node → List ℕ → ℕ
 last_spaces ns row = spaces ns (reverse row)
 
--- a stretch of a row, from one place up to another
-pub record Stretch : Type 0 where
-  pub from : ℕ
-  pub to : ℕ
-
+-- a stretch of a row of which nothing leaves
 abbrev pub nothing_at : ℕ → Stretch
 nothing_at place = record { from = place; to = place }
 
@@ -42,19 +39,19 @@ before_last_line ns place run =
 
 -- what stands between the brackets of a row
 abbrev pub inside : List ℕ → List ℕ
-inside row = take (length row - 2) (drop 1 row)
+inside row = slice_range row 1 (length row - 1)
 
 -- the blank lines that leave behind the first bracket
 abbrev pub first_gone : List Node → List ℕ → Stretch
-first_gone ns row = behind_first_line ns 1 (take (blanks ns (inside row)) (inside row))
+first_gone ns row = behind_first_line ns 1 (slice_range (inside row) 0 (blanks ns (inside row)))
 
 -- and those before the last one, unless nothing else stands between the brackets
-abbrev pub last_gone_by : List Node → List ℕ → ℕ → Stretch
-last_gone_by ns row place = before_last_line ns place (drop (place - 1) (inside row))
+abbrev pub last_gone_from : List Node → List ℕ → ℕ → Stretch
+last_gone_from ns row place = before_last_line ns place (slice_range row place (length row - 1))
 
 abbrev pub last_gone : List Node → List ℕ → Stretch
 last_gone ns row =
-    if nat_lt (blanks ns (inside row)) (length (inside row)) then last_gone_by ns row (length row - 1 - last_blanks ns (inside row)) else nothing_at (length row - 1)
+    if nat_lt (blanks ns (inside row)) (length (inside row)) then last_gone_from ns row (length row - 1 - last_blanks ns (inside row)) else nothing_at (length row - 1)
 
 -- a row without a stretch
 abbrev pub without : Stretch → List ℕ → List ℕ
@@ -64,9 +61,6 @@ without s row = take s.from row ++ drop s.to row
 abbrev pub trimmed : List Node → List ℕ → List ℕ
 trimmed ns row = without (first_gone ns row) (without (last_gone ns row) row)
 
--- what has left
-abbrev pub within : Stretch → List ℕ → List ℕ
-within s row = take (s.to - s.from) (drop s.from row)
-
-abbrev pub gone : List Node → List ℕ → List ℕ
-gone ns row = within (first_gone ns row) row ++ within (last_gone ns row) row
+-- a row with others at a place
+abbrev pub with_at : {A : Type 0} → ℕ → List A → List A → List A
+with_at place xs row = take place row ++ xs ++ drop place row

@@ -3,3 +3,4 @@
 
 pub mod laws;
 mod plan;
+mod trim;
