@@ -1,6 +1,5 @@
 -- Where an element stands in a row that has its brackets: before the last of them.
 use Rattle.std.proofs.Common.{◌≡◌, ◌<◌, ◌≤◌, ◌+◌, ◌-◌, ◌&&◌, ◌⊎◌, inl, inr, ℕ, zero, suc, Bool, true, false, cond, List, [], ◌∷◌, All, length, reverse, filter, get_or, slice_get, slice_index, nat_lt, Option, Some, None, IfSome, unwrap_or, refl, sym, ap, subst, ◌∙◌, arith, rules}
-use Rattle.std.specs.Prelude.{◌==◌}
 use Rattle.std.specs.List.{find, take_while}
 use Rattle.std.specs.Option.{option_or}
 use Rattle.std.proofs.lemmas.List.Elements.{All-filter, filter_passes}
@@ -13,11 +12,8 @@ use Rattle.jsonc_nodes.specs.Kinds.{is_element, is_element_at}
 use Rattle.jsonc_nodes.proofs.There.{All-reverse}
 use Rattle.jsonc_insert.specs.Planned.{element_before, elements, has_brackets, is_other, is_token, place_in}
 
-same_number : (m : ℕ) → (m == m) ≡ true
-same_number m = search rules
-
 not_other : (m : ℕ) → is_other m m ≡ false
-not_other m = ap (λ b. cond b false true) (same_number m)
+not_other m = search rules
 
 first_by : (n : ℕ) (xs : List ℕ) (b : Bool) → b ≡ false → length (cond b (n ∷ take_while (is_other n) xs) []) ≤ 0
 first_by n xs false e = omega arith
