@@ -1,12 +1,12 @@
 -- A row is planned node by node.
-use Rattle.std.proofs.Common.{◌≡◌, ◌==◌, false, append-nil, Bool, true, ◌≢◌, ℕ, zero, suc, ◌+◌, ◌-◌, ◌<◌, ◌≤◌, ◌⊎◌, inl, inr, List, [], ◌∷◌, ◌++◌, length, slice_index, Some, None, Result, Ok, Err, OnOk, refl, sym, ap, subst, ◌∙◌, arith, length-append, append_assoc}
+use Rattle.std.proofs.Common.{◌≡◌, ◌==◌, false, append-nil, Bool, true, ◌≢◌, ℕ, ◌+◌, ◌<◌, ◌≤◌, inl, inr, List, [], ◌∷◌, ◌++◌, length, slice_index, Some, None, Result, Ok, Err, OnOk, refl, sym, ap, subst, ◌∙◌, arith, length-append, append_assoc}
 use Rattle.std.proofs.lemmas.Bool.{cases_lt, ne_eqb}
 use Rattle.std.proofs.lemmas.List.{get_or_append_left}
 use Rattle.std.proofs.Math.Seq.{get_or-append_seam}
 use Rattle.jsonc_tree.specs.Building.{Keeps}
 use Rattle.jsonc_tree.specs.Changes.{Adds, EachOnce}
 use Rattle.jsonc_tree.specs.Content.{Content, whitespace}
-use Rattle.jsonc_tree.specs.Tree.{Node, content_at, parent_at, children_at, place_at, IsTree}
+use Rattle.jsonc_tree.specs.Tree.{Node, content_at, parent_at, place_at, IsTree}
 use Rattle.jsonc_tree.proofs.Builder.{Keeps-same, Keeps-then, Keeps-fewer, Keeps-adds}
 use Rattle.jsonc_tree.proofs.Order.{parent_there}
 use Rattle.jsonc_multiline.specs.Slots.{Slot, stays, comes, AreFilled, no_more, stayed, came}

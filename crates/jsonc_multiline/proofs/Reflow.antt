@@ -1,5 +1,5 @@
 -- A row whose blanks give way to ends of lines: what it means, and that it stays sound.
-use Rattle.std.proofs.Common.{◌≡◌, ◌⊎◌, ◌∙◌, ℕ, sym, ap, subst, refl, rules, Bool, true, false, ◌&&◌, inl, inr, List, [], ◌∷◌, ◌++◌, Option, Some, None, IsTrue, append_assoc, append-nil}
+use Rattle.std.proofs.Common.{◌≡◌, ◌⊎◌, ◌∙◌, ℕ, sym, ap, subst, refl, rules, Bool, true, false, inl, inr, List, [], ◌∷◌, ◌++◌, Option, Some, None, IsTrue, append_assoc, append-nil}
 use Rattle.std.proofs.lemmas.Str.{chars-IsAscii}
 use Rattle.jsonc_text.specs.Options.{Options}
 use Rattle.jsonc_text.specs.Plain.{Items, Members}
@@ -7,16 +7,16 @@ use Rattle.jsonc_text.specs.Text.{next}
 use Rattle.jsonc_tree.specs.Content.{Content, whitespace, newline}
 use Rattle.jsonc_tree.specs.declared.node.CstNewlineKind.{CstNewlineKind}
 use Rattle.jsonc_tree.specs.declared.node.CstNewlineKind.TheVariants.{LineFeed, CarriageReturnLineFeed, CarriageReturn}
-use Rattle.jsonc_tree.specs.OrderedTree.{OrderedTree, none, more, own_leaf, leaves, followed_by}
+use Rattle.jsonc_tree.specs.OrderedTree.{OrderedTree, none, more, own_leaf, leaves}
 use Rattle.jsonc_tree.specs.Values as values
 use Rattle.jsonc_tree.specs.Values.{ItemsOf, MembersOf}
-use Rattle.jsonc_build.specs.Lines.{is_line_comment, is_loose, ends_loosely, LinesEndLoosely}
+use Rattle.jsonc_build.specs.Lines.{ends_loosely, LinesEndLoosely}
 use Rattle.jsonc_build.specs.Shape.{IsTrivia}
 use Rattle.jsonc_laws.specs.Adjacent.{first_char, or_else, follower, LeavesEnd, last_printed}
 use Rattle.jsonc_laws.specs.Alone as alone
 use Rattle.jsonc_laws.specs.Alone.{StretchAlone}
-use Rattle.jsonc_laws.specs.Marks.{Mark, marks_of}
-use Rattle.jsonc_laws.specs.Rows.{RowKind, Last, last_behind}
+use Rattle.jsonc_laws.specs.Marks.{marks_of}
+use Rattle.jsonc_laws.specs.Rows.{RowKind, Last}
 use Rattle.jsonc_laws.proofs.Leaves.{follower_append, joined_leaves, parted_leaves, last_serves}
 use Rattle.jsonc_laws.proofs.SeamStretches.{parted_stretch, joined_stretch, last_is}
 use Rattle.jsonc_laws.proofs.Spaces.{Ends, NoWord, last_of, serves_unless, stretch_no_word}

@@ -1,5 +1,5 @@
 -- A row on lines, node by node.
-use Rattle.std.proofs.Common.{◌≡◌, ◌==◌, ℕ, suc, ◌+◌, ◌-◌, ◌<◌, ◌≤◌, Bool, true, false, cond, inl, inr, List, [], ◌∷◌, ◌++◌, length, map, take, drop, slice_index, if◌then◌else◌, refl, sym, ap, subst, ◌∙◌, arith, append_assoc, append-nil, length-take}
+use Rattle.std.proofs.Common.{◌≡◌, ℕ, suc, ◌-◌, ◌<◌, ◌≤◌, Bool, true, false, inl, inr, List, [], ◌∷◌, ◌++◌, length, map, take, drop, slice_index, refl, ap, ◌∙◌, arith, length-take}
 use Rattle.std.specs.List.{flat_map, onto_first, prefix_len, suffix_len}
 use Rattle.std.proofs.lemmas.List.Sums.{suffix_len_is}
 use Rattle.std.proofs.lemmas.Bool.{cases_Bool}
@@ -8,7 +8,7 @@ use Rattle.jsonc_tree.specs.Tree.{Node, content_at}
 use Rattle.jsonc_nodes.specs.Kinds.{is_whitespace, is_whitespace_at}
 use Rattle.jsonc_lines.specs.Kinds.{is_comma}
 use Rattle.jsonc_multiline.specs.Slots.{Slot, stays}
-use Rattle.jsonc_multiline.specs.Lines.{Lines, is_comma_at, parts, without_front, without_back, new_line, on_line}
+use Rattle.jsonc_multiline.specs.Lines.{Lines, is_comma_at, parts, without_front, new_line, on_line}
 use Rattle.jsonc_multiline.specs.Plans.{child_slots, begins_behind}
 
 -- how long a row is without the whitespace at its end

@@ -1,9 +1,8 @@
 -- A whole row is planned, and takes its place.
-use Rattle.std.proofs.Common.{◌≡◌, ◌≢◌, ℕ, suc, ◌+◌, ◌-◌, ◌<◌, ◌≤◌, Bool, true, false, inl, inr, List, [], ◌∷◌, ◌++◌, length, take, drop, slice_index, Some, None, IsTrue, refl, sym, ap, subst, ◌∙◌, arith, append_assoc, append-nil, length-take, length-drop, get_or-take, get_or-drop}
+use Rattle.std.proofs.Common.{◌≡◌, ◌≢◌, ℕ, ◌+◌, ◌-◌, ◌<◌, ◌≤◌, Bool, true, false, inl, inr, List, [], ◌∷◌, ◌++◌, length, take, drop, slice_index, Some, None, IsTrue, refl, sym, ap, subst, ◌∙◌, arith, append_assoc, append-nil, length-take, length-drop, get_or-take, get_or-drop}
 use Rattle.std.specs.Prelude.{slice_range}
 use Rattle.std.specs.List.{flat_map, suffix_len}
 use Rattle.std.proofs.lemmas.List.{drop_all, drop_more}
-
 use Rattle.jsonc_tree.specs.Building.{Keeps}
 use Rattle.jsonc_tree.specs.Changes.{CanJoin, Splices, MakesRoom, IsFree}
 use Rattle.jsonc_tree.specs.Tree.{Node, content_at, parent_at, children_at, place_at, is_in, IsTree, IsOver}
@@ -13,7 +12,6 @@ use Rattle.jsonc_tree.proofs.Splicing.{in_at}
 use Rattle.jsonc_nodes.specs.Kinds.{is_whitespace, is_whitespace_at}
 use Rattle.jsonc_lines.specs.Kinds.{is_comma}
 use Rattle.jsonc_laws.proofs.RowParts.{first_and}
-use Rattle.jsonc_edit.specs.Put.{Prepared}
 use Rattle.jsonc_edit.proofs.Kept.{over_no_old}
 use Rattle.jsonc_remove.specs.Removed.{has_brackets, has_two}
 use Rattle.jsonc_multiline.specs.Slots.{Slot}
@@ -71,7 +69,7 @@ module _ (old now : List Node) (c : ℕ) (lines : Lines) (items : List ℕ) (ind
         let comma : is_comma_at now n ≡ is_comma_at old n = ap is_comma same in
         let new : List Slot = child_slots lines begins (is_whitespace_at old n) n in
         let planned : Planned old later c (place_at old n + 1) (s.done ++ new) next =
-            subst (λ w. Planned old later c (place_at old n + 1) (s.done ++ child_slots lines begins w n) next) blank (gains old c (index + 1) s.done s.tree s.planned said (omega (arith, placed)) (omega (arith, placed))) in
+        subst (λ w. Planned old later c (place_at old n + 1) (s.done ++ child_slots lines begins w n) next) blank (gains old c (index + 1) s.done s.tree s.planned said (omega (arith, placed)) (omega (arith, placed))) in
         let parts : drop index items ≡ n ∷ drop (index + 1) items = drop_more items index 0 h ∙ ap (λ m. m ∷ drop (index + 1) items) (sym is) in
         let after : b ≡ begins_behind begins (is_whitespace_at old n) (is_comma_at old n) = behind ∙ ap (λ w. begins_behind begins w (is_comma_at now n)) blank ∙ ap (begins_behind begins (is_whitespace_at old n)) comma in
         record {
@@ -89,7 +87,7 @@ module _ (old now : List Node) (c : ℕ) (lines : Lines) (items : List ℕ) (ind
   row_planned h later next gains =
       let all : s.done ≡ woven lines old true items = sym (append-nil s.done) ∙ ap (λ l. s.done ++ woven lines old begins l) (sym (drop_all index items h)) ∙ s.rest in
       let same : s.done ++ last_line lines ≡ on_lines lines old (between (children_at old c)) =
-          ap (λ l. l ++ last_line lines) (all ∙ sym (both_woven lines old items).0 ∙ ap (λ l. flat_map (λ part. on_line lines (without_front old part)) (parts old l)) s.are) in
+      ap (λ l. l ++ last_line lines) (all ∙ sym (both_woven lines old items).0 ∙ ap (λ l. flat_map (λ part. on_line lines (without_front old part)) (parts old l)) s.are) in
       let planned : Planned old later c (index + 1) (s.done ++ last_line lines) next = gains old c (index + 1) s.done s.tree s.planned in
       subst (λ l. Planned old later c (length (children_at old c) - 1) l next) same (planned_later old later c (index + 1) (s.done ++ last_line lines) next planned later (length (children_at old c) - 1) planned.tree (Keeps-same (length later) later) (omega (arith, s.far)))
 

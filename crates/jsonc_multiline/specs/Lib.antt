@@ -3,3 +3,4 @@ pub mod Lines
 pub mod LineViews
 pub mod Multiline
 pub mod Plans
+pub mod Worked

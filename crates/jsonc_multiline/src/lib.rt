@@ -5,9 +5,14 @@
 //! row is planned before anything changes: its places, and the nodes that fill them, children that stay
 //! and leaves that were made (`specs/Plans.antt`). Then all take their places at once, so a refusal
 //! leaves the document as it was (`specs/Multiline.antt`).
+//!
+//! [`plan_lines`] serves whoever puts more into such a row: it answers the numbers of the row on several
+//! lines and changes no child. What a row that is laid so means, and that its nodes, leaves and line comments
+//! stay what they were, is proved row by row (`proofs/Reflow.antt`).
 #![tactic(auto)]
 
 mod brackets;
+pub mod laws;
 mod lines;
 mod multiline;
 mod plan;

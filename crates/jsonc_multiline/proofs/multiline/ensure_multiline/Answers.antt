@@ -1,7 +1,5 @@
-use Rattle.std.proofs.Common.{◌-◌, true, false, length, not, sym, ap, subst, ◌∙◌}
-use Rattle.jsonc_tree.specs.Changes.{CanJoin, Splices}
+use Rattle.std.proofs.Common.{sym, ap, ◌∙◌}
 use Rattle.jsonc_tree.specs.Tree.{children_at}
-use Rattle.jsonc_tree.proofs.Builder.{Keeps-room}
 use Rattle.jsonc_edit.proofs.GivingWay.{where_refused}
 use Rattle.jsonc_edit.proofs.Kept.{tree_stays}
 use Rattle.jsonc_multiline.specs.Lines.{between, on_lines}

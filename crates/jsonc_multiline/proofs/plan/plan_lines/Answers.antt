@@ -1,6 +1,5 @@
-use Rattle.std.proofs.Common.{◌≡◌, ◌+◌, ◌<◌, ◌≤◌, [], true, length, refl, sym, ap, subst, ◌∙◌, arith}
+use Rattle.std.proofs.Common.{true, length, refl, sym, ap, subst, ◌∙◌}
 use Rattle.jsonc_tree.specs.Tree.{children_at}
-use Rattle.jsonc_multiline.specs.Lines.{between, without_back}
 use Rattle.jsonc_multiline.specs.LineViews.{lines_of}
 use Rattle.jsonc_multiline.proofs.Whole.{SoFar, items_are, item_there, so_far_more, so_far_none, row_planned, two_there}
 use Rattle.jsonc_multiline.proofs.plan.plan_lines.Goals as goal

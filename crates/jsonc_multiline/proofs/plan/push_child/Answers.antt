@@ -1,8 +1,8 @@
-use Rattle.std.proofs.Common.{◌++◌, [], ◌∷◌, sym, ◌∙◌, subst}
+use Rattle.std.proofs.Common.{sym, ◌∙◌, subst}
 use Rattle.jsonc_nodes.specs.Kinds.{is_whitespace_at}
 use Rattle.jsonc_multiline.specs.LineViews.{lines_of}
 use Rattle.jsonc_multiline.specs.Plans.{GainsChild, child_slots}
-use Rattle.jsonc_multiline.proofs.Planning.{line_gained, kept_gained, left_gained}
+use Rattle.jsonc_multiline.proofs.Planning.{line_gained, kept_gained}
 use Rattle.jsonc_multiline.proofs.plan.push_child.Goals as goal
 use Rattle.jsonc_multiline.proofs.plan.push_child.Goals.{then-begins+else-blank+in_ok-push_line, else-begins}
 

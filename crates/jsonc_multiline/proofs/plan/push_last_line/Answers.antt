@@ -1,7 +1,7 @@
 use Rattle.std.proofs.Common.{[], ◌∷◌, ◌==◌, length, sym, ap, subst, ◌∙◌}
 use Rattle.jsonc_tree.specs.Content.{newline, whitespace}
 use Rattle.jsonc_multiline.specs.LineViews.{lines_of}
-use Rattle.jsonc_multiline.specs.Lines.{last_line, indent_if_any}
+use Rattle.jsonc_multiline.specs.Lines.{last_line}
 use Rattle.jsonc_multiline.specs.Plans.{Gains}
 use Rattle.jsonc_multiline.specs.Slots.{comes}
 use Rattle.jsonc_multiline.proofs.Planning.{gains_where, no_indent, one_indent}
