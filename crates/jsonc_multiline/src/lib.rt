@@ -7,8 +7,9 @@
 //! leaves the document as it was (`specs/Multiline.antt`).
 //!
 //! [`plan_lines`] serves whoever puts more into such a row: it answers the numbers of the row on several
-//! lines and changes no child. What a row that is laid so means, and that its nodes, leaves and line comments
-//! stay what they were, is proved row by row (`proofs/Reflow.antt`).
+//! lines and changes no child. Of rows in which blanks give way to ends of lines `proofs/Reflow.antt` has
+//! that they keep values and marks, and that nodes, leaves and line comments stay what they may be. That a
+//! row on several lines is such a row, and what follows for documents, is still to be proved.
 #![tactic(auto)]
 
 mod brackets;
