@@ -179,3 +179,9 @@ push_value-attach-requires g t c = can_append c.requires c.in_ok-node.ensures.bu
 pub push_value-returns-clause-added : goal.push_value-returns-clause-added
 push_value-returns-clause-added g t c =
     on_ok c.attach.result (λ appends. extends_appends c.requires c.in_ok-node.ensures.built appends c.attach.ensures.tree) c.attach.ensures.appends
+
+pub lay_out_object-returns-in_err-push_properties-clause-kept : goal.lay_out_object-returns-in_err-push_properties-clause-kept
+lay_out_object-returns-in_err-push_properties-clause-kept g t c = keeps_old c.in_ok-object.ensures.built c.in_err-push_properties.ensures.kept
+
+pub lay_out_object-returns-in_err-push_leaf-clause-kept : goal.lay_out_object-returns-in_err-push_leaf-clause-kept
+lay_out_object-returns-in_err-push_leaf-clause-kept g t c = keeps_old c.in_ok-object.ensures.built (keeps_both c.in_ok-push_properties.ensures.kept c.in_err-push_leaf.ensures.kept)
