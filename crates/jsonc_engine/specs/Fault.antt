@@ -29,8 +29,15 @@ IsFaultOn o input other = ⊥
 abbrev pub EndsRun : Fault → Type 0
 EndsRun (Input error) = Unit {0}
 EndsRun (Edit OutOfMemory) = Unit {0}
+EndsRun NotObject = Unit {0}
 EndsRun NotUtf8 = Unit {0}
 EndsRun Read = Unit {0}
 EndsRun Write = Unit {0}
 EndsRun Usage = Unit {0}
 EndsRun other = ⊥
+
+-- taking a property out can end with the fault
+abbrev pub EndsRemoval : Fault → Type 0
+EndsRemoval NotObject = Unit {0}
+EndsRemoval (Edit OutOfMemory) = Unit {0}
+EndsRemoval other = ⊥

@@ -4,3 +4,4 @@ pub mod Fault
 pub mod Input
 pub mod Output
 pub mod Parser
+pub mod Removal

@@ -6,10 +6,11 @@ ghost use Rattle.jsonc_engine.specs.Command.{Name};
 ghost use Rattle.jsonc_engine.specs.Fault.{EndsRun, IsFaultOn};
 ghost use Rattle.jsonc_engine.specs.Input.{IsInput, IsInputOf, IsRefusal};
 ghost use Rattle.jsonc_engine.specs.Output.{IsOutput};
-ghost use Rattle.jsonc_engine.specs.Parser.{ParseError, all_on, parse_options};
+ghost use Rattle.jsonc_engine.specs.Parser.{ParseError, all_on, parse_options, printed_of};
 
 use crate::calls::{Sink, Source};
 use crate::command::Command;
+use crate::edit::remove_property;
 use crate::fault::Fault;
 use jsonc_parser::ParseOptions;
 use jsonc_parser::cst::{CstRootNode, EditError};
@@ -66,6 +67,17 @@ fn write_whole<K: Sink>(sink: &mut K, bytes: &[u8]) -> Result<(), Fault>
     Ok(())
 }
 
+/// What a document prints.
+fn text_of<A: Allocator + Copy>(document: &CstRootNode<A>) -> Result<Option<String<A>>, Fault>
+    ensures printed { IfOk result (λ output. IsOutput output (printed_of document.now)) }
+    ensures memory { IfErr result (λ fault. fault ≡ Fault.Edit EditError.OutOfMemory) }
+{
+    match document.text() {
+        Ok(output) => Ok(Some(output)),
+        Err(_) => Err(Fault::Edit(EditError::OutOfMemory)),
+    }
+}
+
 /// What the command writes, given the bytes of the input and what their text may hold beyond JSON, or `None` where
 /// it writes nothing.
 ///
@@ -76,8 +88,8 @@ pub fn run_with<A: Allocator + Copy>(
     command: Command,
     input: &[u8],
 ) -> Result<Option<String<A>>, Fault>
-    ensures printed { IfOk result (λ output. command ≡ Command.Print → IsOutput output input.now) }
-    ensures checked { IfOk result (λ output. command ≡ Command.Check → output ≡ None) }
+    ensures printed { IfOk result (λ output. command.entry ≡ Command.Print → IsOutput output input.now) }
+    ensures checked { IfOk result (λ output. command.entry ≡ Command.Check → output ≡ None) }
     ensures accepted { OnOk result (IsInputOf (parse_options options.now) input.now) }
     ensures not_utf8 { IsErrOf result Fault.NotUtf8 ↔ ¬ (IsUtf8 input.now) }
     ensures refused { IfErr result (IsFaultOn (parse_options options.now) input.now) }
@@ -85,16 +97,17 @@ pub fn run_with<A: Allocator + Copy>(
     let Ok(text) = str::from_utf8(input) else {
         return Err(Fault::NotUtf8);
     };
-    let document = match CstRootNode::parse(alloc, text, options) {
+    let mut document = match CstRootNode::parse(alloc, text, options) {
         Ok(document) => document,
         Err(error) => return Err(Fault::Input(error)),
     };
     match command {
         Command::Check => Ok(None),
-        Command::Print => match document.text() {
-            Ok(output) => Ok(Some(output)),
-            Err(_) => Err(Fault::Edit(EditError::OutOfMemory)),
-        },
+        Command::Print => text_of(&document),
+        Command::Remove(name) => {
+            remove_property(&mut document, name)?;
+            text_of(&document)
+        }
     }
 }
 
@@ -104,8 +117,8 @@ pub fn run_on<A: Allocator + Copy>(
     command: Command,
     input: &[u8],
 ) -> Result<Option<String<A>>, Fault>
-    ensures printed { IfOk result (λ output. command ≡ Command.Print → IsOutput output input.now) }
-    ensures checked { IfOk result (λ output. command ≡ Command.Check → output ≡ None) }
+    ensures printed { IfOk result (λ output. command.entry ≡ Command.Print → IsOutput output input.now) }
+    ensures checked { IfOk result (λ output. command.entry ≡ Command.Check → output ≡ None) }
     ensures accepted { OnOk result (IsInput input.now) }
     ensures not_utf8 { IsErrOf result Fault.NotUtf8 ↔ ¬ (IsUtf8 input.now) }
     ensures refused { IfErr result (IsFaultOn all_on input.now) }

@@ -98,3 +98,11 @@ impl From<AllocError> for Fault {
         Fault::Edit(EditError::OutOfMemory)
     }
 }
+
+impl From<EditError> for Fault {
+    ghost from_gives = { λ error fault. fault ≡ Edit error };
+
+    fn from(error: EditError) -> Fault {
+        Fault::Edit(error)
+    }
+}

@@ -4,5 +4,6 @@
 
 pub mod calls;
 pub mod command;
+mod edit;
 pub mod engine;
 pub mod fault;

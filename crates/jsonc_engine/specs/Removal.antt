@@ -1,0 +1,52 @@
+-- What `remove` makes of a document.
+use Rattle.std.specs.Prelude.{◌≡◌, ℕ, List, [], Option, Some, None, chars}
+use Rattle.jsonc_text.specs.Grammar.{IsDocument}
+use Rattle.jsonc_text.specs.Options.{Options}
+use Rattle.jsonc_text.specs.Plain as plain
+use Rattle.jsonc_text.specs.Plain.{Members}
+use Rattle.jsonc_tree.specs.Content.{object}
+use Rattle.jsonc_tree.specs.OrderedTree.{OrderedTree, ordered_tree, printed}
+use Rattle.jsonc_tree.specs.Tree.{Node, content_at}
+use Rattle.jsonc_build.specs.Shape.{printed_text}
+use Rattle.jsonc_nodes.specs.Names.{FirstInObject}
+use Rattle.jsonc_nodes.specs.Properties.{value_at}
+use Rattle.jsonc_laws.specs.SoundTrees.{SoundTree}
+use Rattle.jsonc_edit.specs.Changes.{top_at}
+use Rattle.jsonc_edit.specs.Paths.{IsElementOf}
+use Rattle.jsonc_remove.specs.Laws.{IsEntryRemoved}
+
+-- nothing has changed where no property was found; else what was found has left the object, and what is left is a document without that entry
+abbrev pub HasLeft : Options → List Node → List Node → ℕ → Option ℕ → Type 0
+HasLeft o old new c None = new ≡ old
+HasLeft o old new c (Some n) =
+    (i : ℕ) × IsElementOf old c i n × IsEntryRemoved o [] i (top_at old n) (ordered_tree old 0) (ordered_tree new 0)
+
+-- the document's value is an object, whose first property of this name has left, if it has one
+pub record LosesFirst (o : Options) (name : List ℕ) (old new : List Node) : Type 0 where
+  pub c : ℕ
+  pub value : value_at old 0 ≡ Some c
+  pub is_object : content_at old c ≡ object
+  pub found : Option ℕ
+  pub first : FirstInObject old c name found
+  pub left : HasLeft o old new c found
+
+-- so it is if the document was sound
+abbrev pub LosesIfSound : Options → List ℕ → List Node → List Node → Type 0
+LosesIfSound o name old new = SoundTree o (ordered_tree old 0) → LosesFirst o name old new
+
+-- what is printed is no document whose value is an object
+abbrev pub HasNoObject : Options → OrderedTree → Type 0
+HasNoObject o tree = (ms : Members) → IsDocument o (printed_text tree) (Some (plain.object ms)) → ⊥
+
+-- the input is a document, and the output what is left of it without its first property of this name
+pub record IsWithoutFirst (o : Options) (name input output : List ℕ) : Type 0 where
+  pub old : List Node
+  pub new : List Node
+  pub reads : printed (ordered_tree old 0) ≡ input
+  pub sound : SoundTree o (ordered_tree old 0)
+  pub loses : LosesFirst o name old new
+  pub prints : printed (ordered_tree new 0) ≡ output
+
+-- the text of these bytes is no document whose value is an object
+abbrev pub IsNoObject : Options → List ℕ → Type 0
+IsNoObject o input = (ms : Members) → IsDocument o (chars input) (Some (plain.object ms)) → ⊥
