@@ -1,0 +1,4 @@
+pub mod Planning
+pub mod Weaving
+pub mod Whole
+pub mod Reflow

@@ -1,0 +1,6 @@
+pub mod Slots
+pub mod Lines
+pub mod LineViews
+pub mod Multiline
+pub mod Plans
+pub mod Worked
