@@ -1,4 +1,4 @@
--- A row whose blanks give way to ends of lines: what it means, and that it stays sound.
+-- A row in which ends of lines come and whitespace leaves: what stays, and that it stays sound.
 use Rattle.std.proofs.Common.{◌≡◌, ◌⊎◌, ◌∙◌, ℕ, sym, ap, subst, refl, rules, Bool, true, false, inl, inr, List, [], ◌∷◌, ◌++◌, Option, Some, None, IsTrue, append_assoc, append-nil}
 use Rattle.std.proofs.lemmas.Str.{chars-IsAscii}
 use Rattle.jsonc_text.specs.Options.{Options}
@@ -21,19 +21,7 @@ use Rattle.jsonc_laws.proofs.Leaves.{follower_append, joined_leaves, parted_leav
 use Rattle.jsonc_laws.proofs.SeamStretches.{parted_stretch, joined_stretch, last_is}
 use Rattle.jsonc_laws.proofs.Spaces.{Ends, NoWord, last_of, serves_unless, stretch_no_word}
 use Rattle.jsonc_laws.proofs.GivingWay.{marks_join}
-
--- a newline is first in the row
-abbrev pub starts_line : OrderedTree → Bool
-starts_line (more (Content.newline k) below after) = true
-starts_line row = false
-
--- the second row is the first, but that ends of lines have come, with their indents, and whitespace has left where one stands now
-pub data Reflows (o : Options) : OrderedTree → OrderedTree → Type 0 where
-  ended : Reflows o none none
-  kept : {content : Content} {below x y : OrderedTree} → Reflows o x y → Reflows o (more content below x) (more content below y)
-  gone : {s : List ℕ} {x y : OrderedTree} → IsTrue (starts_line y) → Reflows o x y → Reflows o (more (whitespace s) none x) y
-  line : {k : CstNewlineKind} {s : List ℕ} {x y : OrderedTree} → IsTrivia o (whitespace s) → Reflows o x y → Reflows o x (more (newline k) none (more (whitespace s) none y))
-  line_end : {k : CstNewlineKind} {x y : OrderedTree} → Reflows o x y → Reflows o x (more (newline k) none y)
+use Rattle.jsonc_multiline.specs.Reflows.{starts_line, Reflows, ended, kept, gone, line, line_end}
 
 newline_ends : (k : CstNewlineKind) (n : Option ℕ) → Ends (or_else (first_char (Content.newline k)) n)
 newline_ends LineFeed n = subst (λ t. Ends (or_else (next t) n)) (sym (chars-IsAscii (10 ∷ []) (search rules))) refl
@@ -42,7 +30,7 @@ newline_ends CarriageReturn n = subst (λ t. Ends (or_else (next t) n)) (sym (ch
 
 module _ (o : Options) where
   -- the values stay
-  pub items_reflow : {x y : OrderedTree} {vs : Items} → Reflows o x y → ItemsOf o x vs → ItemsOf o y vs
+  pub items_reflow : {x y : OrderedTree} {vs : Items} → Reflows x y → ItemsOf o x vs → ItemsOf o y vs
   items_reflow ended h = h
   items_reflow (kept r) (values.pass_to_items p h) = values.pass_to_items p (items_reflow r h)
   items_reflow (kept r) (values.one_item p h) = values.one_item p (items_reflow r h)
@@ -51,7 +39,7 @@ module _ (o : Options) where
   items_reflow (line t r) h = values.pass_to_items refl (values.pass_to_items refl (items_reflow r h))
   items_reflow (line_end r) h = values.pass_to_items refl (items_reflow r h)
 
-  pub members_reflow : {x y : OrderedTree} {ms : Members} → Reflows o x y → MembersOf o x ms → MembersOf o y ms
+  pub members_reflow : {x y : OrderedTree} {ms : Members} → Reflows x y → MembersOf o x ms → MembersOf o y ms
   members_reflow ended h = h
   members_reflow (kept r) (values.pass_to_members p h) = values.pass_to_members p (members_reflow r h)
   members_reflow (kept r) (values.one_member p h) = values.one_member p (members_reflow r h)
@@ -60,7 +48,7 @@ module _ (o : Options) where
   members_reflow (line_end r) h = values.pass_to_members refl (members_reflow r h)
 
   -- and the marks
-  pub marks_reflow : {x y : OrderedTree} → Reflows o x y → marks_of (leaves y) ≡ marks_of (leaves x)
+  pub marks_reflow : {x y : OrderedTree} → Reflows x y → marks_of (leaves y) ≡ marks_of (leaves x)
   marks_reflow ended = refl
   marks_reflow (kept {content = content} {below = below} {x = x} {y = y} r) =
       marks_join (own_leaf content) (leaves below ++ leaves y) ∙ ap (λ ms. marks_of (own_leaf content) ++ ms) (marks_join (leaves below) (leaves y) ∙ ap (λ ms. marks_of (leaves below) ++ ms) (marks_reflow r) ∙ sym (marks_join (leaves below) (leaves x)))
@@ -75,7 +63,7 @@ module _ (o : Options) where
   starts_ends e none h = cc
   starts_ends e (more content below after) h = cc
 
-  ends_reflow : (e : Bool) {x y : OrderedTree} → Reflows o x y → IsTrue (ends_loosely true e x) → IsTrue (ends_loosely true e y)
+  ends_reflow : (e : Bool) {x y : OrderedTree} → Reflows x y → IsTrue (ends_loosely true e x) → IsTrue (ends_loosely true e y)
   ends_reflow e ended h = h
   ends_reflow e (kept {content = Content.newline k} r) h = refl
   ends_reflow e (kept {content = Content.whitespace s} r) h = ends_reflow e r h
@@ -84,7 +72,7 @@ module _ (o : Options) where
   ends_reflow e (line t r) h = refl
   ends_reflow e (line_end r) h = refl
 
-  pub lines_reflow : (e : Bool) {x y : OrderedTree} → Reflows o x y → LinesEndLoosely true e x → LinesEndLoosely true e y
+  pub lines_reflow : (e : Bool) {x y : OrderedTree} → Reflows x y → LinesEndLoosely true e x → LinesEndLoosely true e y
   lines_reflow e ended l = tt
   lines_reflow e (kept r) l = (λ c. ends_reflow e r (l.0 c), l.1, lines_reflow e r l.2)
   lines_reflow e (gone s r) l = lines_reflow e r l.2
@@ -92,7 +80,7 @@ module _ (o : Options) where
   lines_reflow e (line_end r) l = (λ c. cc, tt, lines_reflow e r l)
 
   -- each node is what it was alone
-  pub stretch_reflow : {kind : RowKind} {x y : OrderedTree} → Reflows o x y → (last to : Last) → StretchAlone o kind last x to → StretchAlone o kind last y to
+  pub stretch_reflow : {kind : RowKind} {x y : OrderedTree} → Reflows x y → (last to : Last) → StretchAlone o kind last x to → StretchAlone o kind last y to
   stretch_reflow ended last to s = s
   stretch_reflow {kind} (kept {content = content} {below = below} {x = x} r) last to s =
       let parts = parted_stretch o kind (more content below none) x s in joined_stretch o kind parts.1 (stretch_reflow r parts.0 to parts.2)
@@ -119,7 +107,7 @@ module _ (o : Options) where
   starts_serves none n m h = cc
   starts_serves (more content below after) n m h = cc
 
-  serves_reflow : {x y : OrderedTree} → Reflows o x y → (n : Option ℕ) → Serves (follower (leaves x) n) (follower (leaves y) n)
+  serves_reflow : {x y : OrderedTree} → Reflows x y → (n : Option ℕ) → Serves (follower (leaves x) n) (follower (leaves y) n)
   serves_reflow ended n = inl refl
   serves_reflow (kept {content = content} {below = below} {x = x} {y = y} r) n =
       let same = λ (t : OrderedTree). follower_append (own_leaf content) (leaves below ++ leaves t) n ∙ ap (follower (own_leaf content)) (follower_append (leaves below) (leaves t) n) in
@@ -135,7 +123,7 @@ module _ (o : Options) where
   served ls n m w (inl e) h = subst (LeavesEnd o ls) (sym e) h
   served ls n m w (inr e) h = last_serves o ls n m h (serves_unless o (last_printed ls) n m w (λ b. e) (last_of o ls n h))
 
-  pub leaves_reflow : {kind : RowKind} {x y : OrderedTree} → Reflows o x y → (last to : Last) → StretchAlone o kind last x to → (n : Option ℕ) → LeavesEnd o (leaves x) n → LeavesEnd o (leaves y) n
+  pub leaves_reflow : {kind : RowKind} {x y : OrderedTree} → Reflows x y → (last to : Last) → StretchAlone o kind last x to → (n : Option ℕ) → LeavesEnd o (leaves x) n → LeavesEnd o (leaves y) n
   leaves_reflow ended last to s n h = tt
   leaves_reflow {kind} (kept {content = content} {below = below} {x = x} {y = y} r) last to s n h =
       let parts = parted_stretch o kind (more content below none) x s in

@@ -185,8 +185,9 @@ module _ (old now ready : List Node) (c : ℕ) (slots : List Slot) (row : List �
       let q : PlannedRow old ready c slots row = planned_later old now c (length (children_at old c) - 1) slots row p ready (length (children_at old c) - 1) after (Keeps-room (length now) now ready room) (omega arith) in
       subst (λ l. CanJoin ready c 1 (count - 1) l) (sym e) (subst (λ k. CanJoin ready c 1 (k - 1) row) (sym same_count) (may_join old ready c slots row tree there q))
 
-  pub made_multiline : (new : List Node) → IsTree new → (xs : List ℕ) → xs ≡ row → Splices ready new c 1 (count - 1) xs → slots ≡ on_lines (lines_for old c) old (between (children_at old c)) → has_line_end old c ≡ false → MadeMultiline old new c
-  made_multiline new done xs e put told none = record {
+  pub made_multiline : (new : List Node) → IsTree new → (xs : List ℕ) → xs ≡ row → Splices ready new c 1 (count - 1) xs → slots ≡ on_lines (lines_for old c) old (between (children_at old c)) → IsTrue (has_brackets old c) → has_line_end old c ≡ false → MadeMultiline old new c
+  made_multiline new done xs e put told whole none = record {
+    brackets = whole;
     was = λ h. absurd (let wrong : false ≡ true = sym none ∙ h in cc);
     is = λ h. subst (TakesRow old new c) told (takes_row old now ready new c slots row tree there p room after done (subst (λ k. Splices ready new c 1 (k - 1) row) same_count (subst (λ l. Splices ready new c 1 (count - 1) l) e put)));
   }

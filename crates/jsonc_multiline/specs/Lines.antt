@@ -2,7 +2,7 @@
 use Rattle.std.specs.Prelude.{ℕ, ◌-◌, Bool, ◌++◌, List, [], ◌∷◌, length, map, take, drop, slice_range, if◌then◌else◌}
 use Rattle.std.specs.List.{flat_map, onto_first, prefix_len, suffix_len}
 use Rattle.jsonc_tree.specs.Content.{newline, whitespace}
-use Rattle.jsonc_tree.specs.Tree.{Node, content_at}
+use Rattle.jsonc_tree.specs.Tree.{Node, children_at, content_at}
 use Rattle.jsonc_tree.specs.declared.node.CstNewlineKind.{CstNewlineKind}
 use Rattle.jsonc_nodes.specs.Kinds.{is_whitespace_at}
 use Rattle.jsonc_lines.specs.Breadth.{newline_kind_at}
@@ -59,3 +59,7 @@ on_lines lines ns row = flat_map (λ part. on_line lines (without_front ns part)
 -- what stands between the first and the last of a row
 abbrev pub between : List ℕ → List ℕ
 between row = slice_range row 1 (length row - 1)
+
+-- what stands between the brackets of c, on several lines
+abbrev pub spread_row : Lines → List Node → ℕ → List Slot
+spread_row lines ns c = on_lines lines ns (between (children_at ns c))

@@ -9,7 +9,7 @@ use Rattle.jsonc_edit.specs.declared.error.EditError.{EditError}
 use Rattle.jsonc_edit.specs.declared.error.EditError.TheVariants.{OutOfMemory, MissingBrackets, MissingName, NoSuchPlace}
 use Rattle.jsonc_remove.specs.Removed.{has_brackets}
 use Rattle.jsonc_multiline.specs.Slots.{Slot, AreFilled}
-use Rattle.jsonc_multiline.specs.Lines.{between, lines_for, on_lines}
+use Rattle.jsonc_multiline.specs.Lines.{lines_for, spread_row}
 
 -- a line ends among the children of a container
 abbrev pub has_line_end : List Node → ℕ → Bool
@@ -25,10 +25,11 @@ pub record TakesRow (old new : List Node) (c : ℕ) (slots : List Slot) : Type 0
   pub put : Splices ready new c 1 (length (children_at old c) - 1) row
   pub tree : IsTree new
 
--- c has been put on several lines, or was on several
+-- c, which has its brackets, has been put on several lines, or was on several
 pub record MadeMultiline (old new : List Node) (c : ℕ) : Type 0 where
+  pub brackets : IsTrue (has_brackets old c)
   pub was : IsTrue (has_line_end old c) → new ≡ old
-  pub is : IsTrue (not (has_line_end old c)) → TakesRow old new c (on_lines (lines_for old c) old (between (children_at old c)))
+  pub is : IsTrue (not (has_line_end old c)) → TakesRow old new c (spread_row (lines_for old c) old c)
 
 -- why it has not been: it lacks brackets; or it has them, its lines were still to be made, and memory was wanted
 abbrev pub IsUnspread : List Node → ℕ → EditError → Type 0

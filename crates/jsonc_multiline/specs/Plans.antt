@@ -3,8 +3,9 @@ use Rattle.std.specs.Prelude.{◌≡◌, ◌<◌, ◌≤◌, ◌+◌, ◌-◌, �
 use Rattle.jsonc_tree.specs.Building.{Keeps}
 use Rattle.jsonc_tree.specs.Changes.{EachOnce}
 use Rattle.jsonc_tree.specs.Tree.{Node, children_at, parent_at, place_at, IsTree}
+use Rattle.jsonc_nodes.specs.Kinds.{is_whitespace_at}
 use Rattle.jsonc_multiline.specs.Slots.{Slot, stays, AreFilled}
-use Rattle.jsonc_multiline.specs.Lines.{Lines, new_line}
+use Rattle.jsonc_multiline.specs.Lines.{Lines, is_comma_at, new_line, spread_row}
 
 -- a child of c between its first and this place, or a node made since
 abbrev pub IsFrom : List Node → List Node → ℕ → ℕ → ℕ → Type 0
@@ -39,6 +40,16 @@ abbrev pub begins_behind : Bool → Bool → Bool → Bool
 begins_behind true true comma = true
 begins_behind begins blank comma = comma
 
--- a whole row
+-- the same of the node by its number
+abbrev pub PutsChild : List Node → List ℕ → List Node → List ℕ → Lines → Bool → ℕ → Type 0
+PutsChild now row later next lines begins n = GainsChild now row later next n (child_slots lines begins (is_whitespace_at now n) n)
+
+abbrev pub begins_after : List Node → Bool → ℕ → Bool
+begins_after ns begins n = begins_behind begins (is_whitespace_at ns n) (is_comma_at ns n)
+
+-- a whole row, and that of c on several lines
 abbrev pub PlannedRow : List Node → List Node → ℕ → List Slot → List ℕ → Type 0
 PlannedRow old now c slots row = Planned old now c (length (children_at old c) - 1) slots row
+
+abbrev pub PlansLines : List Node → List Node → ℕ → Lines → List ℕ → Type 0
+PlansLines old now c lines row = PlannedRow old now c (spread_row lines old c) row

@@ -1,7 +1,7 @@
 -- What the row of a container becomes: which children stay, and which leaves come among them.
 use Rattle.std.specs.Prelude.{◌≡◌, ◌<◌, ◌≤◌, ℕ, List, [], ◌∷◌, length, None}
 use Rattle.jsonc_tree.specs.Content.{Content}
-use Rattle.jsonc_tree.specs.OrderedTree.{Top, none}
+use Rattle.jsonc_tree.specs.OrderedTree.{OrderedTree, Top, none, more}
 use Rattle.jsonc_tree.specs.Tree.{Node, content_at, parent_at}
 use Rattle.jsonc_edit.specs.Changes.{top_at}
 
@@ -14,6 +14,11 @@ pub data Slot : Type 0 where
 abbrev pub top_in : List Node → Slot → Top
 top_in ns (stays n) = top_at ns n
 top_in ns (comes content) = record { content = content; below = none }
+
+-- the row of trees that stand in these places
+abbrev pub row_in : List Node → List Slot → OrderedTree
+row_in ns [] = none
+row_in ns (slot ∷ rest) = more (top_in ns slot).content (top_in ns slot).below (row_in ns rest)
 
 -- These nodes fill the places of a row: a child that stays its own, and each leaf that comes is a new node of this content, nobody's child yet.
 pub data AreFilled (old ready : List Node) : List Slot → List ℕ → Type 0 where

@@ -6,10 +6,13 @@
 //! and leaves that were made (`specs/Plans.antt`). Then all take their places at once, so a refusal
 //! leaves the document as it was (`specs/Multiline.antt`).
 //!
+//! Where this is done in a sound document, the row is what it was, but that ends of lines have come and
+//! whitespace beside them has left (`specs/Reflows.antt`). So the text is a document again, of the same
+//! value and with the same literals and comments, the document is sound, and a second time nothing
+//! changes ([`laws`], `specs/Laws.antt`).
+//!
 //! [`plan_lines`] serves whoever puts more into such a row: it answers the numbers of the row on several
-//! lines and changes no child. Of rows in which blanks give way to ends of lines `proofs/Reflow.antt` has
-//! that they keep values and marks, and that nodes, leaves and line comments stay what they may be. That a
-//! row on several lines is such a row, and what follows for documents, is still to be proved.
+//! lines and changes no child.
 #![tactic(auto)]
 
 mod brackets;

@@ -1,17 +1,14 @@
 //! A container's row, planned before it changes.
 
 ghost use Rattle.std.specs.Prelude.{◌≡◌, ◌==◌, ◌<◌, ◌≤◌, ◌∷◌, [], IfOk, IsTrue, OnOk, false, length};
-ghost use Rattle.jsonc_tree.specs.Building.{Keeps};
-ghost use Rattle.jsonc_tree.specs.Content.{is_container, newline, whitespace};
+ghost use Rattle.jsonc_tree.specs.Content.{is_container};
 ghost use Rattle.jsonc_tree.specs.Stored.{content_of};
-ghost use Rattle.jsonc_tree.specs.Tree.{children_at, IsTree};
 ghost use Rattle.jsonc_edit.specs.Put.{Prepared};
-ghost use Rattle.jsonc_nodes.specs.Kinds.{is_whitespace_at};
 ghost use Rattle.jsonc_lines.specs.Kinds.{is_comma};
 ghost use Rattle.jsonc_remove.specs.Removed.{has_brackets};
-ghost use Rattle.jsonc_multiline.specs.Lines.{between, is_comma_at, last_line, new_line, on_lines, without_back};
+ghost use Rattle.jsonc_multiline.specs.Lines.{last_line, new_line, without_back};
 ghost use Rattle.jsonc_multiline.specs.LineViews.{lines_of};
-ghost use Rattle.jsonc_multiline.specs.Plans.{begins_behind, child_slots, Gains, GainsChild, PlannedRow};
+ghost use Rattle.jsonc_multiline.specs.Plans.{begins_after, Gains, PlansLines, PutsChild};
 ghost use Rattle.jsonc_multiline.specs.Slots.{comes};
 
 use crate::lines::Lines;
@@ -96,8 +93,8 @@ fn push_child<A: Allocator + Copy>(
     child: usize,
 ) -> Result<bool, AllocError>
     requires { child < length tree.old.nodes }
-    ensures gains { OnOk result (GainsChild tree.old.nodes row.old.items tree.new.nodes row.new.items child (child_slots (lines_of lines.now) begins (is_whitespace_at tree.old.nodes child) child)) }
-    ensures begins { IfOk result (λ b. b ≡ begins_behind begins (is_whitespace_at tree.old.nodes child) (is_comma_at tree.old.nodes child)) }
+    ensures gains { OnOk result (PutsChild tree.old.nodes row.old.items tree.new.nodes row.new.items (lines_of lines.now) begins child) }
+    ensures begins { IfOk result (λ b. b ≡ begins_after tree.old.nodes begins child) }
     ensures prepared { Prepared tree.old.nodes tree.new.nodes }
 {
     let _ = tree.len();
@@ -138,7 +135,7 @@ pub fn plan_lines<A: Allocator + Copy>(
 ) -> Result<Vec<usize, A>, AllocError>
     requires there { container < length tree.old.nodes }
     requires brackets { IsTrue (has_brackets tree.old.nodes container) }
-    ensures planned { IfOk result (λ row. PlannedRow tree.old.nodes tree.new.nodes container (on_lines (lines_of lines.now) tree.old.nodes (between (children_at tree.old.nodes container))) row.items) }
+    ensures planned { IfOk result (λ row. PlansLines tree.old.nodes tree.new.nodes container (lines_of lines.now) row.items) }
     ensures prepared { Prepared tree.old.nodes tree.new.nodes }
 {
     let _ = tree.len();

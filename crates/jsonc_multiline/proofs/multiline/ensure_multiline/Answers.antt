@@ -24,4 +24,4 @@ returns-in_err-reserve-clause-document g c =
 pub returns-clause-made : goal.returns-clause-made
 returns-clause-made g c =
     made_multiline c.args.tree.now.nodes c.plan_lines.new.tree.nodes c.reserve.new.self.nodes c.args.container _ c.in_ok-row.row.items c.len.ensures.tree c.requires.there c.in_ok-row.ensures.planned c.reserve.ensures.kept c.reserve.ensures.tree c.child_count-count.result c.child_count-count.ensures
-    c.splice.new.self.nodes c.splice.ensures.tree c.deref.result.now c.deref.ensures.value c.splice.ensures.splices (ap (λ l. on_lines l c.args.tree.now.nodes (between (children_at c.args.tree.now.nodes c.args.container))) c.in_ok-lines.ensures) (sym c.has_line_end.ensures ∙ c.if-has_line_end.false)
+    c.splice.new.self.nodes c.splice.ensures.tree c.deref.result.now c.deref.ensures.value c.splice.ensures.splices (ap (λ l. on_lines l c.args.tree.now.nodes (between (children_at c.args.tree.now.nodes c.args.container))) c.in_ok-lines.ensures) (sym c.has_brackets.ensures ∙ c.if-not-has_brackets.false) (sym c.has_line_end.ensures ∙ c.if-has_line_end.false)
