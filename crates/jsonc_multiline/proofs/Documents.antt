@@ -1,5 +1,5 @@
 -- An array or object at a path of a sound document is put on several lines.
-use Rattle.std.proofs.Common.{◌≡◌, ◌∙◌, ℕ, ◌+◌, ◌-◌, ◌<◌, Bool, true, false, ◌||◌, inl, inr, List, [], ◌∷◌, ◌++◌, All, length, take, drop, not, IsTrue, refl, sym, ap, subst, arith, length-append}
+use Rattle.std.proofs.Common.{◌≡◌, ◌∙◌, ℕ, ◌-◌, ◌<◌, Bool, true, false, ◌||◌, inl, inr, List, [], ◌∷◌, ◌++◌, All, length, take, drop, not, IsTrue, refl, sym, ap, subst, arith, length-append}
 use Rattle.std.specs.List.{flat_map, list_any}
 use Rattle.std.proofs.lemmas.Bool.{cases_Bool}
 use Rattle.std.proofs.lemmas.List.{drop_at, take_at}
@@ -21,7 +21,7 @@ use Rattle.jsonc_lines.specs.Indents.{indents_at}
 use Rattle.jsonc_lines.specs.Kinds.{holds_values}
 use Rattle.jsonc_build.specs.Leaves.{is_inner_blank}
 use Rattle.jsonc_build.specs.Shape.{token_then}
-use Rattle.jsonc_laws.specs.Rows.{RowKind, holder, opening, closing, container_of}
+use Rattle.jsonc_laws.specs.Rows.{holder, opening, closing}
 use Rattle.jsonc_laws.specs.SoundTrees.{SoundTree}
 use Rattle.jsonc_laws.specs.TreeChanges.{DocumentChanged}
 use Rattle.jsonc_edit.specs.Changes.{row_below, top_at, Respliced}
@@ -35,11 +35,11 @@ use Rattle.jsonc_edit.proofs.Splices.{respliced_over, respliced_row}
 use Rattle.jsonc_edit.proofs.Uniqueness.{element_parent, leads_over}
 use Rattle.jsonc_edit.proofs.Walk.{ChangedIn, Shows-row_below, changed_over}
 use Rattle.jsonc_remove.proofs.Containers.{Held, held_at, Brackets, brackets}
-use Rattle.jsonc_multiline.specs.Laws.{bracketed, SpreadAt, SpreadsAt}
-use Rattle.jsonc_multiline.specs.Lines.{Lines, between, indent_if_any, last_line, lines_for, on_line, on_lines, parts, without_back, without_front}
+use Rattle.jsonc_multiline.specs.Laws.{bracketed, SpreadAt}
+use Rattle.jsonc_multiline.specs.Lines.{Lines, between, indent_if_any, lines_for, on_line, on_lines, parts, without_back, without_front}
 use Rattle.jsonc_multiline.specs.Multiline.{has_line_end, TakesRow, MadeMultiline}
 use Rattle.jsonc_multiline.specs.Reflows.{has_newline, Reflows, SpreadsOut, reflows}
-use Rattle.jsonc_multiline.specs.Slots.{Slot, comes, AreFilled, no_more, stayed, came, row_in}
+use Rattle.jsonc_multiline.specs.Slots.{Slot, AreFilled, no_more, stayed, came, row_in}
 use Rattle.jsonc_multiline.proofs.OnLines.{standing, bare_below, standing_newline, row_newline, row_reflows, AllFit, on_lines_fit}
 
 -- one indent after another

@@ -1,5 +1,5 @@
 -- An array or object that was put on several lines has the end of a line among its children, and has its brackets where its document is sound.
-use Rattle.std.proofs.Common.{◌≡◌, ◌∙◌, ℕ, ◌-◌, Bool, true, false, ◌||◌, ◌&&◌, not, inl, inr, List, [], ◌∷◌, ◌++◌, length, take, drop, reverse, IsTrue, refl, sym, ap, subst}
+use Rattle.std.proofs.Common.{◌≡◌, ◌∙◌, ℕ, ◌-◌, Bool, true, ◌||◌, ◌&&◌, not, inl, inr, List, [], ◌∷◌, ◌++◌, length, take, drop, reverse, IsTrue, refl, sym, ap, subst}
 use Rattle.std.specs.List.{flat_map, list_any}
 use Rattle.std.proofs.lemmas.Bool.{cases_Bool}
 use Rattle.std.proofs.lemmas.List.{reverse-append}
@@ -7,16 +7,16 @@ use Rattle.std.proofs.lemmas.List.Folds.{list_any-append}
 use Rattle.jsonc_text.specs.Options.{Options}
 use Rattle.jsonc_tree.specs.Content.{newline}
 use Rattle.jsonc_tree.specs.Siblings.{first}
-use Rattle.jsonc_tree.specs.Tree.{Node, content_at, children_at, IsTree}
+use Rattle.jsonc_tree.specs.Tree.{Node, content_at, children_at}
 use Rattle.jsonc_tree.specs.declared.node.CstNewlineKind.{CstNewlineKind}
 use Rattle.jsonc_nodes.specs.Kinds.{is_newline, is_newline_at}
-use Rattle.jsonc_remove.specs.Removed.{has_brackets, has_two, is_token, is_token_at}
+use Rattle.jsonc_remove.specs.Removed.{has_two, is_token, is_token_at}
 use Rattle.jsonc_multiline.specs.Laws.{HasLineEnd, StaysSpread, HasItsBrackets}
-use Rattle.jsonc_multiline.specs.Lines.{Lines, between, indent_if_any, last_line, lines_for, on_line, on_lines, parts, without_back, without_front}
-use Rattle.jsonc_multiline.specs.Multiline.{has_line_end, TakesRow, MadeMultiline}
-use Rattle.jsonc_multiline.specs.Slots.{Slot, stays, comes, AreFilled, no_more, stayed, came}
+use Rattle.jsonc_multiline.specs.Lines.{Lines, between, indent_if_any, lines_for, on_line, on_lines, parts, without_back, without_front}
+use Rattle.jsonc_multiline.specs.Multiline.{has_line_end, TakesRow}
+use Rattle.jsonc_multiline.specs.Slots.{Slot, stays, comes, AreFilled, stayed, came}
 use Rattle.jsonc_edit.proofs.FittingNodes.{over_there}
-use Rattle.jsonc_remove.proofs.Containers.{Brackets, brackets, held_at}
+use Rattle.jsonc_remove.proofs.Containers.{brackets, held_at}
 use Rattle.jsonc_multiline.proofs.Documents.{over_at}
 use Rattle.jsonc_multiline.proofs.OnLines.{or_right}
 

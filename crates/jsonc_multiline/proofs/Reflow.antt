@@ -1,5 +1,5 @@
 -- A row in which ends of lines come and whitespace leaves: what stays, and that it stays sound.
-use Rattle.std.proofs.Common.{◌≡◌, ◌⊎◌, ◌∙◌, ℕ, sym, ap, subst, refl, rules, Bool, true, false, inl, inr, List, [], ◌∷◌, ◌++◌, Option, Some, None, IsTrue, append_assoc, append-nil}
+use Rattle.std.proofs.Common.{◌≡◌, ◌⊎◌, ◌∙◌, ℕ, sym, ap, subst, refl, rules, Bool, true, inl, inr, List, [], ◌∷◌, ◌++◌, Option, Some, None, IsTrue, append_assoc, append-nil}
 use Rattle.std.proofs.lemmas.Str.{chars-IsAscii}
 use Rattle.jsonc_text.specs.Options.{Options}
 use Rattle.jsonc_text.specs.Plain.{Items, Members}
@@ -11,7 +11,6 @@ use Rattle.jsonc_tree.specs.OrderedTree.{OrderedTree, none, more, own_leaf, leav
 use Rattle.jsonc_tree.specs.Values as values
 use Rattle.jsonc_tree.specs.Values.{ItemsOf, MembersOf}
 use Rattle.jsonc_build.specs.Lines.{ends_loosely, LinesEndLoosely}
-use Rattle.jsonc_build.specs.Shape.{IsTrivia}
 use Rattle.jsonc_laws.specs.Adjacent.{first_char, or_else, follower, LeavesEnd, last_printed}
 use Rattle.jsonc_laws.specs.Alone as alone
 use Rattle.jsonc_laws.specs.Alone.{StretchAlone}

@@ -1,10 +1,10 @@
 -- A sound document in which an array or object has been spread out says the same.
-use Rattle.std.proofs.Common.{◌≡◌, ◌∙◌, ℕ, Bool, true, false, ◌&&◌, List, [], ◌∷◌, ◌++◌, filter, Option, Some, None, IsTrue, refl, sym, ap, subst, if◌then◌else◌}
+use Rattle.std.proofs.Common.{◌≡◌, ◌∙◌, ℕ, Bool, true, false, ◌&&◌, List, ◌++◌, filter, Option, Some, None, IsTrue, refl, sym, ap, subst, if◌then◌else◌}
 use Rattle.std.proofs.lemmas.List.Elements.{filter-append}
 use Rattle.jsonc_text.specs.Options.{Options}
 use Rattle.jsonc_text.specs.Plain.{Plain, Items, item, Members, member}
 use Rattle.jsonc_text.specs.Text.{next, starts}
-use Rattle.jsonc_tree.specs.Content.{Content, newline, token}
+use Rattle.jsonc_tree.specs.Content.{Content, token}
 use Rattle.jsonc_tree.specs.OrderedTree.{OrderedTree, Top, none, more, followed_by, leaves, own_leaf}
 use Rattle.jsonc_tree.specs.Values as values
 use Rattle.jsonc_tree.specs.Values.{HasNoValue, DocumentValueOf}
@@ -17,7 +17,6 @@ use Rattle.jsonc_laws.specs.Adjacent.{first_char, follower, LeavesEnd, last_prin
 use Rattle.jsonc_laws.specs.Alone.{RowAlone, StretchAlone}
 use Rattle.jsonc_laws.specs.Changes as changes
 use Rattle.jsonc_laws.specs.Changes.{ItemChanged, MemberChanged, Changed}
-use Rattle.jsonc_laws.specs.ChangeLaws.{DiffersIn}
 use Rattle.jsonc_laws.specs.Marks.{marks}
 use Rattle.jsonc_laws.specs.MarkChanges.{marks_under}
 use Rattle.jsonc_laws.specs.Rows as rows
