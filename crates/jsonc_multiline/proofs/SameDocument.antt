@@ -1,16 +1,16 @@
 -- A sound document in which an array or object has been spread out says the same.
-use Rattle.std.proofs.Common.{◌≡◌, ◌∙◌, ℕ, Bool, true, false, ◌&&◌, List, ◌++◌, filter, Option, Some, None, IsTrue, refl, sym, ap, subst, if◌then◌else◌}
-use Rattle.std.proofs.lemmas.List.Elements.{filter-append}
+use Rattle.std.proofs.Common.{◌≡◌, ◌∙◌, ℕ, Bool, true, false, ◌&&◌, ◌||◌, List, ◌∷◌, ◌++◌, Option, Some, None, IsTrue, refl, sym, ap, subst, if◌then◌else◌}
 use Rattle.jsonc_text.specs.Options.{Options}
+use Rattle.jsonc_text.specs.Grammar.{IsDocument}
 use Rattle.jsonc_text.specs.Plain.{Plain, Items, item, Members, member}
 use Rattle.jsonc_text.specs.Text.{next, starts}
 use Rattle.jsonc_tree.specs.Content.{Content, token}
-use Rattle.jsonc_tree.specs.OrderedTree.{OrderedTree, Top, none, more, followed_by, leaves, own_leaf}
+use Rattle.jsonc_tree.specs.OrderedTree.{OrderedTree, Top, none, more, followed_by, leaves}
 use Rattle.jsonc_tree.specs.Values as values
 use Rattle.jsonc_tree.specs.Values.{HasNoValue, DocumentValueOf}
 use Rattle.jsonc_tree.proofs.OrderedTrees.{leaves-followed_by}
+use Rattle.jsonc_nodes.specs.Kinds.{is_newline, is_whitespace}
 use Rattle.jsonc_build.specs.Lines.{LinesEndLoosely}
-use Rattle.jsonc_text.specs.Grammar.{IsDocument}
 use Rattle.jsonc_build.specs.Shape.{printed_text, token_then}
 use Rattle.jsonc_build.proofs.ShapeValues.{document_printed}
 use Rattle.jsonc_laws.specs.Adjacent.{first_char, follower, LeavesEnd, last_printed}
@@ -40,7 +40,7 @@ use Rattle.jsonc_laws.proofs.SeamStretches.{parted_row}
 use Rattle.jsonc_laws.proofs.SoundTrees.{kept_where_none_meet}
 use Rattle.jsonc_laws.proofs.Spaces.{last_of, serves_unless, stretch_no_word}
 use Rattle.jsonc_edit.proofs.OneValue.{document_once}
-use Rattle.jsonc_multiline.specs.Laws.{bracketed, is_solid, SpreadAt, SaysTheSame, KeepsDocument, KeepsLeavesOutside, KeepsSolidLeaves}
+use Rattle.jsonc_multiline.specs.Laws.{bracketed, solid_nodes, SpreadAt, SaysTheSame, KeepsDocument, KeepsLeavesOutside, KeepsNodesInside}
 use Rattle.jsonc_multiline.specs.Reflows.{starts_line, Reflows, ended, kept, gone, line, line_end, SpreadsOut, stays, reflows}
 use Rattle.jsonc_multiline.proofs.Reflow.{items_reflow, members_reflow, marks_reflow, lines_reflow, stretch_reflow, leaves_reflow}
 
@@ -174,29 +174,13 @@ keeps_document o t u path s at = says_the_same o at.kind at.row at.new (all_refl
 pub keeps_outside : {path : List ℕ} {t u : OrderedTree} (s : SpreadAt path t u) → KeepsLeavesOutside s
 keeps_outside s = document_differs s.changed
 
--- all leaves but whitespace and ends of lines
-solid_parts : (content : Content) (below after : OrderedTree) → filter is_solid (leaves (more content below after)) ≡ filter is_solid (own_leaf content) ++ (filter is_solid (leaves below) ++ filter is_solid (leaves after))
-solid_parts content below after =
-    filter-append is_solid (own_leaf content) (leaves below ++ leaves after) ∙ ap (λ ls. filter is_solid (own_leaf content) ++ ls) (filter-append is_solid (leaves below) (leaves after))
-
-solid_reflow : {x y : OrderedTree} → Reflows x y → filter is_solid (leaves y) ≡ filter is_solid (leaves x)
+-- the nodes inside but for whitespace and ends of lines
+solid_reflow : {x y : OrderedTree} → Reflows x y → solid_nodes y ≡ solid_nodes x
 solid_reflow ended = refl
-solid_reflow (kept {content = content} {below = below} {x = x} {y = y} r) =
-    solid_parts content below y ∙ ap (λ ls. filter is_solid (own_leaf content) ++ (filter is_solid (leaves below) ++ ls)) (solid_reflow r) ∙ sym (solid_parts content below x)
+solid_reflow (kept {content = content} {below = below} r) = ap (λ (l : List Top). if is_whitespace content || is_newline content then l else (record { content = content; below = below }) ∷ l) (solid_reflow r)
 solid_reflow (gone h r) = solid_reflow r
 solid_reflow (line t r) = solid_reflow r
 solid_reflow (line_end r) = solid_reflow r
 
-solid_around : (front was back : List Content) → filter is_solid (front ++ (was ++ back)) ≡ filter is_solid front ++ (filter is_solid was ++ filter is_solid back)
-solid_around front was back = filter-append is_solid front (was ++ back) ∙ ap (λ ls. filter is_solid front ++ ls) (filter-append is_solid was back)
-
-solid_inside : (kind : RowKind) (row new : OrderedTree) → Reflows row new → filter is_solid (leaves_of (bracketed kind new)) ≡ filter is_solid (leaves_of (bracketed kind row))
-solid_inside rows.of_values row new r = solid_reflow (kept {content = token 0x5B} {below = none} (reflows_then (token_then 0x5D none) r))
-solid_inside rows.of_properties row new r = solid_reflow (kept {content = token 0x7B} {below = none} (reflows_then (token_then 0x7D none) r))
-
-pub keeps_solid : (path : List ℕ) (t u : OrderedTree) → KeepsSolidLeaves path t u
-keeps_solid path t u s =
-    let d = document_differs s.changed in
-    ap (filter is_solid) d.after ∙ solid_around d.front (leaves_of (bracketed s.kind s.new)) d.back
-    ∙ ap (λ ls. filter is_solid d.front ++ (ls ++ filter is_solid d.back)) (solid_inside s.kind s.row s.new (all_reflows s.spreads))
-    ∙ sym (solid_around d.front (leaves_of (bracketed s.kind s.row)) d.back) ∙ ap (filter is_solid) (sym d.before)
+pub keeps_inside : {path : List ℕ} {t u : OrderedTree} (s : SpreadAt path t u) → KeepsNodesInside s
+keeps_inside s = solid_reflow (all_reflows s.spreads)

@@ -1,10 +1,9 @@
 -- Laws of arrays and objects that are put on several lines: what becomes of the document.
-use Rattle.std.specs.Prelude.{◌≡◌, ℕ, Bool, ◌||◌, not, List, filter, Option, IsTrue}
+use Rattle.std.specs.Prelude.{◌≡◌, ℕ, ◌||◌, List, [], ◌∷◌, Option, IsTrue, if◌then◌else◌}
 use Rattle.jsonc_text.specs.Options.{Options}
 use Rattle.jsonc_text.specs.Plain.{Plain}
 use Rattle.jsonc_text.specs.Grammar.{IsDocument}
-use Rattle.jsonc_tree.specs.Content.{Content}
-use Rattle.jsonc_tree.specs.OrderedTree.{OrderedTree, Top, none, followed_by, leaves, ordered_tree}
+use Rattle.jsonc_tree.specs.OrderedTree.{OrderedTree, Top, none, more, followed_by, leaves, ordered_tree}
 use Rattle.jsonc_tree.specs.Tree.{Node, content_at, IsTree}
 use Rattle.jsonc_nodes.specs.Kinds.{is_newline, is_whitespace}
 use Rattle.jsonc_lines.specs.Kinds.{holds_values}
@@ -52,12 +51,14 @@ KeepsDocument o t u path = SoundTree o t → SpreadAt path t u → SaysTheSame o
 abbrev pub KeepsLeavesOutside : {path : List ℕ} {t u : OrderedTree} → SpreadAt path t u → Type 0
 KeepsLeavesOutside {path} {t} {u} s = DiffersIn (leaves_of (bracketed s.kind s.row)) (leaves_of (bracketed s.kind s.new)) (leaves t) (leaves u)
 
--- and in it all but whitespace and ends of lines
-abbrev pub is_solid : Content → Bool
-is_solid content = not (is_whitespace content || is_newline content)
+-- the nodes of a row but for whitespace and ends of lines, each with what is below it
+abbrev pub solid_nodes : OrderedTree → List Top
+solid_nodes none = []
+solid_nodes (more content below after) = if is_whitespace content || is_newline content then solid_nodes after else (record { content = content; below = below }) ∷ solid_nodes after
 
-abbrev pub KeepsSolidLeaves : List ℕ → OrderedTree → OrderedTree → Type 0
-KeepsSolidLeaves path t u = SpreadAt path t u → filter is_solid (leaves u) ≡ filter is_solid (leaves t)
+-- and in it all of these
+abbrev pub KeepsNodesInside : {path : List ℕ} {t u : OrderedTree} → SpreadAt path t u → Type 0
+KeepsNodesInside s = solid_nodes s.new ≡ solid_nodes s.row
 
 -- c, where it has been put on several lines, has the end of a line among its children, and a second time nothing changes
 abbrev pub HasLineEnd : List Node → List Node → ℕ → Type 0

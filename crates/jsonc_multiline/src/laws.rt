@@ -4,7 +4,7 @@ ghost use Rattle.jsonc_text.specs.Options.{Options};
 ghost use Rattle.jsonc_tree.specs.OrderedTree.{OrderedTree};
 ghost use Rattle.jsonc_tree.specs.Tree.{Node};
 ghost use Rattle.jsonc_edit.specs.declared.error.EditError.TheVariants.{MissingBrackets};
-ghost use Rattle.jsonc_multiline.specs.Laws.{HasItsBrackets, HasLineEnd, KeepsDocument, KeepsLeavesOutside, KeepsSolidLeaves};
+ghost use Rattle.jsonc_multiline.specs.Laws.{HasItsBrackets, HasLineEnd, KeepsDocument, KeepsLeavesOutside, KeepsNodesInside};
 ghost use Rattle.jsonc_multiline.specs.Laws.{SpreadAt, SpreadsAt, StaysSpread};
 ghost use Rattle.jsonc_multiline.specs.Lines.{lines_for};
 ghost use Rattle.jsonc_multiline.specs.Multiline.{IsUnspread};
@@ -20,11 +20,11 @@ pub fn containers_are_spread_out()
 
 /// The text is a document again, of the same value and with the same literals and comments, and the
 /// document is sound. It is so under all options. All leaves outside of the array or object stay, and in
-/// it all but whitespace and ends of lines.
+/// its row all nodes but whitespace and ends of lines, each with what is below it.
 pub fn spread_documents_say_the_same()
     ensures document { (o : Options) (t u : OrderedTree) (path : List ℕ) → KeepsDocument o t u path }
     ensures outside { (path : List ℕ) (t u : OrderedTree) (s : SpreadAt path t u) → KeepsLeavesOutside s }
-    ensures inside { (path : List ℕ) (t u : OrderedTree) → KeepsSolidLeaves path t u }
+    ensures inside { (path : List ℕ) (t u : OrderedTree) (s : SpreadAt path t u) → KeepsNodesInside s }
 {}
 
 /// What was put on several lines has the end of a line among its children, so a second time nothing

@@ -1,4 +1,4 @@
-use Rattle.jsonc_multiline.proofs.SameDocument.{keeps_document, keeps_outside, keeps_solid}
+use Rattle.jsonc_multiline.proofs.SameDocument.{keeps_document, keeps_outside, keeps_inside}
 use Rattle.jsonc_multiline.proofs.laws.spread_documents_say_the_same.Goals as goal
 
 pub returns-clause-document : goal.returns-clause-document
@@ -8,4 +8,4 @@ pub returns-clause-outside : goal.returns-clause-outside
 returns-clause-outside c = λ path t u s. keeps_outside s
 
 pub returns-clause-inside : goal.returns-clause-inside
-returns-clause-inside c = keeps_solid
+returns-clause-inside c = λ path t u s. keeps_inside s
