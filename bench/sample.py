@@ -45,6 +45,7 @@ NO_CASES = [
     ('bad-way\tedit\t1111111111\t1\tEnsureRoot obj away', EDIT),
     ('bad-new-name\tedit\t1111111111\t{}\tReplaceProperty /0 a N', EDIT),
     ('bad-truth-value\tedit\t1111111111\t[true]\tSetBoolean /0 N', EDIT),
+    ('bad-lines\tedit\t1111111111\t[]\tEnsureMultiline /a', EDIT),
     ('bad-leaf\tedit\t1111111111\t1\tRawRemove x', EDIT),
     ('bad-text\tedit\t1111111111\t1\tRawSet 0 1', EDIT),
     ("bad-call\tjobj\t1111111111\t{}\thas 'a", LOOKUP),

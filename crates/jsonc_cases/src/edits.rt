@@ -100,6 +100,7 @@ fn read_edit(alloc: Global, words: &[&str]) -> Result<Option<Edit<Global>>, Case
             read_path(alloc, path)?,
             read_boolean(value)?,
         ))),
+        ["EnsureMultiline", path] => Ok(Some(Edit::EnsureMultiline(read_path(alloc, path)?))),
         _ => Ok(None),
     }
 }

@@ -6,6 +6,7 @@ pub mod PathValues
 pub mod PropertyValues
 pub mod ValueMade
 pub mod Booleans
+pub mod OnLines
 pub mod Ensured
 pub mod Written
 pub mod Numbered

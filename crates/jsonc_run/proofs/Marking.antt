@@ -22,6 +22,7 @@ use Rattle.jsonc_laws.proofs.FirstValue.{marks_with_first}
 use Rattle.jsonc_laws.proofs.RootRows.{root_marks}
 use Rattle.jsonc_edit.specs.Spaced.{SpacesPut}
 use Rattle.jsonc_edit.specs.Writing.{IsWritable}
+use Rattle.jsonc_multiline.proofs.SameDocument.{keeps_document}
 use Rattle.jsonc_remove.proofs.Lost.{removes_entry}
 use Rattle.jsonc_remove.proofs.LostValue.{removes_value}
 use Rattle.jsonc_set.proofs.PropertyRows.{spaces_marks}
@@ -29,7 +30,7 @@ use Rattle.jsonc_run.specs.declared.edit.Over.{Over}
 use Rattle.jsonc_run.specs.declared.edit.Shape.{Shape}
 use Rattle.jsonc_run.specs.declared.edit.Shape.TheVariants.{Object, Array}
 use Rattle.jsonc_run.specs.Shapes.{empty_of}
-use Rattle.jsonc_run.specs.Edits.{Operation, replace, remove, remove_comment, set_root, clear_root, replace_property, ensure_root, set_value, ensure_value, set_boolean, AreMade, none_made, first_made}
+use Rattle.jsonc_run.specs.Edits.{Operation, replace, remove, remove_comment, set_root, clear_root, replace_property, ensure_root, set_value, ensure_value, set_boolean, ensure_multiline, AreMade, none_made, first_made}
 use Rattle.jsonc_run.specs.Written.{MayBeMade, EntryLeft, entry_left, value_left, ValueGivesWay, RootValueSet, given_way, has_come, RootValueEnsured, all_kept, empty_set, PropertyGivenWay, property_given, ValueEnsured, all_stays, empty_given, StayAround}
 use Rattle.jsonc_run.specs.Marked.{IsMarked, AreMarked, none_marked, first_marked, MarkAll}
 use Rattle.jsonc_run.proofs.Ensured.{empty_writable}
@@ -90,6 +91,7 @@ one_marked o t u (ensure_root shape how) may s set = ensured_marked o t u shape 
 one_marked o t u (set_value path v) may s g = value_marked o t u path v may (g o s)
 one_marked o t u (ensure_value path shape) may s g = held_marked o t u path shape (g o s)
 one_marked o t u (set_boolean path b) may s (was, g, is) = (was, subst (λ (w : Top). MarksDifferIn (marks_under w) (written (Plain.boolean b)) (marks t) (marks u)) is (marks_given g.was (laid g.layout (Plain.boolean b)) t g.spaced u g.spaces g.around))
+one_marked o t u (ensure_multiline path) may s g = (keeps_document o t u path s (g o s)).marks
 
 all_marked : (o : Options) (old new : List Node) (es : List Operation) → IsTree old → AreMade old es new → SoundTree o (ordered_tree old 0) → All (MayBeMade o) es → AreMarked (marks (ordered_tree old 0)) es (marks (ordered_tree new 0))
 all_marked o old _ [] tree none_made s may = none_marked

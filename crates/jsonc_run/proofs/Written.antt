@@ -22,6 +22,8 @@ use Rattle.jsonc_edit.specs.Paths.{IsAt, IsElementOf, LeadsTo, itself}
 use Rattle.jsonc_edit.specs.Reading.{IsReplaced}
 use Rattle.jsonc_lines.specs.Kinds.{holds_values}
 use Rattle.jsonc_remove.specs.Removed.{TakesElement}
+use Rattle.jsonc_multiline.proofs.Documents.{spread_at}
+use Rattle.jsonc_multiline.proofs.SameDocument.{keeps_document}
 use Rattle.jsonc_remove.proofs.Entries.{entry_taken}
 use Rattle.jsonc_remove.proofs.Lost.{removes_entry}
 use Rattle.jsonc_remove.proofs.LostValue.{removes_value}
@@ -33,8 +35,8 @@ use Rattle.jsonc_set.proofs.PropertyRows.{some_value_of, prints_value}
 use Rattle.jsonc_set.proofs.WrittenBoolean.{writes_boolean}
 use Rattle.jsonc_set.proofs.WrittenProperty.{writes_property}
 use Rattle.jsonc_run.specs.Places.{IsEntryAt, the_value, an_entry, IsEntryOf, in_array, in_object, IsBooleanAt, IsPropertyAt, a_property}
-use Rattle.jsonc_run.specs.Edits.{Operation, replace, remove, remove_comment, set_root, clear_root, replace_property, ensure_root, set_value, ensure_value, set_boolean, AreMade, none_made, first_made, RootSet, IsMade}
-use Rattle.jsonc_run.specs.Written.{MayBeMade, IsChanged, by_value, by_entry, by_all, by_comment, by_root, by_clearing, by_property, by_ensuring, by_setting, by_ensuring_held, by_boolean, AreChanged, unchanged, first_changed}
+use Rattle.jsonc_run.specs.Edits.{Operation, replace, remove, remove_comment, set_root, clear_root, replace_property, ensure_root, set_value, ensure_value, set_boolean, ensure_multiline, AreMade, none_made, first_made, RootSet, IsMade}
+use Rattle.jsonc_run.specs.Written.{MayBeMade, IsChanged, by_value, by_entry, by_all, by_comment, by_root, by_clearing, by_property, by_ensuring, by_setting, by_ensuring_held, by_boolean, by_lines, AreChanged, unchanged, first_changed}
 use Rattle.jsonc_run.specs.declared.edit.Over.{Over}
 use Rattle.jsonc_run.specs.declared.edit.Over.TheVariants as over
 use Rattle.jsonc_run.specs.declared.edit.Shape.{Shape}
@@ -79,6 +81,7 @@ stays_around old new (set_value path v) tree after (r, at, set) = λ o sound.
     value_gives_way old new path given.0 given.1 v tree given.2 given.3
 stays_around old new (ensure_value path shape) tree after (r, at, ensured) = λ o sound. stays_ensured old new path shape tree (property_values.value_ensured o old new tree sound path r at shape ensured)
 stays_around old new (set_boolean path b) tree after (n, at, set) = boolean_given old new path n b tree at set
+stays_around old new (ensure_multiline path) tree after (n, at, made) = λ o sound. spread_at o old new path n tree after sound at.0 at.1 made
 
 -- under all options the leaves around stay
 pub stay_around : (old new : List Node) (es : List Operation) → IsTree old → AreMade old es new → AllStayAround (ordered_tree old 0) es (ordered_tree new 0)
@@ -226,6 +229,9 @@ module _ (o : Options) where
       value_written old new path r v tree s at given.0 given.1 given.2 may given.3
   is_written old new (ensure_value path shape) tree after (r, at, ensured) s may = shape_written old new path r shape tree s at (property_values.value_ensured o old new tree s path r at shape ensured)
   is_written old new (set_boolean path b) tree after (n, at, set) s may = boolean_written old new path n b tree s at set
+  is_written old new (ensure_multiline path) tree after (n, at, made) s may =
+      let w = keeps_document o (ordered_tree old 0) (ordered_tree new 0) path s (spread_at o old new path n tree after s at.0 at.1 made) in
+      record { before = w.value; after = w.value; old_text = w.old_text; new_text = w.new_text; changed = by_lines; sound = w.sound }
 
   all_written : (old new : List Node) (es : List Operation) → IsTree old → AreMade old es new → SoundTree o (ordered_tree old 0) → All (MayBeMade o) es → AreWritten o es (ordered_tree old 0) (ordered_tree new 0)
   all_written old _ [] tree none_made s may =

@@ -8,6 +8,7 @@ use Rattle.jsonc_nodes.specs.Properties.{lacks_name_at, value_at}
 use Rattle.jsonc_edit.specs.Comments.{CommentTaken}
 use Rattle.jsonc_edit.specs.Paths.{IsAt}
 use Rattle.jsonc_edit.specs.Reading.{IsReplaced}
+use Rattle.jsonc_multiline.specs.Multiline.{MadeMultiline}
 use Rattle.jsonc_remove.specs.Removed.{TakesElement}
 use Rattle.jsonc_set.specs.Booleans.{BooleanSet}
 use Rattle.jsonc_set.specs.Giving.{IsPropertyReplaced}
@@ -15,16 +16,17 @@ use Rattle.jsonc_set.specs.Kinds.{FoundOrCreated, FoundOrSet}
 use Rattle.jsonc_set.specs.PropertyValues.{HeldOrSet, LastValue}
 use Rattle.jsonc_set.specs.RootSet.{FirstValue}
 use Rattle.jsonc_run.specs.declared.edit.Edit.{Edit}
-use Rattle.jsonc_run.specs.declared.edit.Edit.TheVariants.{Replace, Remove, RemoveComment, SetRoot, ClearRoot, ReplaceProperty, EnsureRoot, SetValue, EnsureValue, SetBoolean}
+use Rattle.jsonc_run.specs.declared.edit.Edit.TheVariants.{Replace, Remove, RemoveComment, SetRoot, ClearRoot, ReplaceProperty, EnsureRoot, SetValue, EnsureValue, SetBoolean, EnsureMultiline}
 use Rattle.jsonc_run.specs.declared.edit.Over.{Over}
 use Rattle.jsonc_run.specs.declared.edit.Over.TheVariants as over
 use Rattle.jsonc_run.specs.declared.edit.Shape.{Shape}
-use Rattle.jsonc_run.specs.Places.{comment_at, IsBooleanAt, IsEntryAt, IsPropertyAt}
+use Rattle.jsonc_run.specs.Places.{comment_at, IsBooleanAt, IsContainerAt, IsEntryAt, IsPropertyAt}
 use Rattle.jsonc_run.specs.Shapes.{is_of, empty_of}
 
 -- What an edit asks for: that the value at the path gives way to this one, that the entry at the path leaves, or the comment of this number; that the
 -- document's value is this one, or that all leaves the document; that the property at the path gives way to one of this name and value; that the document has
--- a value of a shape; that the value of the property at the path is this one, or is of a shape; that the truth value at the path becomes this one.
+-- a value of a shape; that the value of the property at the path is this one, or is of a shape; that the truth value at the path becomes this one;
+-- that the array or object at the path is on several lines.
 pub data Operation : Type 0 where
   replace : List ℕ → Plain → Operation
   remove : List ℕ → Operation
@@ -36,6 +38,7 @@ pub data Operation : Type 0 where
   set_value : List ℕ → Plain → Operation
   ensure_value : List ℕ → Shape → Operation
   set_boolean : List ℕ → Bool → Operation
+  ensure_multiline : List ℕ → Operation
 
 module _ {A : Type 0} where
   abbrev pub operation_of : Edit A → Operation
@@ -49,6 +52,7 @@ module _ {A : Type 0} where
   operation_of (SetValue path value) = set_value path.items (plain value)
   operation_of (EnsureValue path shape) = ensure_value path.items shape
   operation_of (SetBoolean path value) = set_boolean path.items value
+  operation_of (EnsureMultiline path) = ensure_multiline path.items
 
   abbrev pub operations_of : List (Edit A) → List Operation
   operations_of edits = map operation_of edits
@@ -78,7 +82,7 @@ PropertyValueEnsured shape old new r = (lacks_name_at old r ≡ false) × (m : �
 -- has been taken out with what leaves with it; or n, the comment of this number, has been taken out of the document; or the document's value has been set; or
 -- all the root's children have been taken out; or n, the property at the path, has given way to m; or the document has a value of
 -- the shape, if it had none of another that was to stay; or the value of r, the property at the path, has been set, or is of the shape; or n, the truth value at
--- the path, has become this one.
+-- the path, has become this one; or the array or object at the path has been put on several lines, or was on several.
 abbrev pub IsMade : List Node → Operation → List Node → Type 0
 IsMade old (replace path v) new = (n m : ℕ) × IsAt old path n × IsReplaced old new n v m
 IsMade old (remove path) new = (n : ℕ) × IsEntryAt old path n × TakesElement old new n
@@ -90,6 +94,7 @@ IsMade old (ensure_root shape how) new = RootEnsured shape how old new
 IsMade old (set_value path v) new = (r : ℕ) × IsPropertyAt old path r × PropertyValueSet old new r v (value_at old r)
 IsMade old (ensure_value path shape) new = (r : ℕ) × IsPropertyAt old path r × PropertyValueEnsured shape old new r
 IsMade old (set_boolean path b) new = (n : ℕ) × IsBooleanAt old path n × BooleanSet old new n b
+IsMade old (ensure_multiline path) new = (n : ℕ) × IsContainerAt old path n × MadeMultiline old new n
 
 -- the edits were made in order, each in the tree that the one before it made
 pub data AreMade : List Node → List Operation → List Node → Type 0 where

@@ -1,11 +1,12 @@
 -- What the path or the number of an edit leads to.
-use Rattle.std.specs.Prelude.{◌≡◌, ℕ, true, List, [], ◌∷◌, ◌++◌, Option, filter}
+use Rattle.std.specs.Prelude.{◌≡◌, ℕ, true, List, [], ◌∷◌, ◌++◌, Option, filter, IsTrue}
 use Rattle.std.specs.List.{slice_get}
 use Rattle.jsonc_tree.specs.Content.{array, object, property}
 use Rattle.jsonc_tree.specs.Tree.{Node, content_at}
 use Rattle.jsonc_tree.specs.Order.{in_order}
 use Rattle.jsonc_nodes.specs.Kinds.{is_comment_at}
 use Rattle.jsonc_edit.specs.Paths.{IsAt, IsElementOf}
+use Rattle.jsonc_lines.specs.Kinds.{holds_values}
 use Rattle.jsonc_set.specs.Booleans.{is_boolean}
 
 -- the comment of this number, counted from 0 in the order of the document
@@ -15,6 +16,10 @@ comment_at ns number = slice_get (filter (is_comment_at ns) (in_order ns 0)) num
 -- the truth value that a path leads to
 abbrev pub IsBooleanAt : List Node → List ℕ → ℕ → Type 0
 IsBooleanAt ns path n = IsAt ns path n × (is_boolean (content_at ns n) ≡ true)
+
+-- the array or object that a path leads to
+abbrev pub IsContainerAt : List Node → List ℕ → ℕ → Type 0
+IsContainerAt ns path n = IsAt ns path n × IsTrue (holds_values (content_at ns n))
 
 -- the property at this place in an object; what it holds may be missing
 pub record IsPropertyOf (ns : List Node) (c i r : ℕ) : Type 0 where

@@ -21,12 +21,13 @@ use Rattle.jsonc_edit.specs.Writing.{IsWritable}
 use Rattle.jsonc_laws.specs.Coming.{ValueComes}
 use Rattle.jsonc_laws.specs.EntryLaws.{LosesEntry, root_with}
 use Rattle.jsonc_laws.specs.Properties.{PropertyChanged, ReplacesMember}
+use Rattle.jsonc_multiline.specs.Laws.{SpreadAt}
 use Rattle.jsonc_remove.specs.Laws.{EntryTaken, ValueTaken}
 use Rattle.jsonc_run.specs.declared.edit.Over.{Over}
 use Rattle.jsonc_run.specs.declared.edit.Over.TheVariants as over
 use Rattle.jsonc_run.specs.declared.edit.Shape.{Shape}
 use Rattle.jsonc_run.specs.Shapes.{has_shape, empty_of}
-use Rattle.jsonc_run.specs.Edits.{Operation, replace, remove, remove_comment, set_root, clear_root, replace_property, ensure_root, set_value, ensure_value, set_boolean}
+use Rattle.jsonc_run.specs.Edits.{Operation, replace, remove, remove_comment, set_root, clear_root, replace_property, ensure_root, set_value, ensure_value, set_boolean, ensure_multiline}
 
 -- documents of these options can hold what the edit writes: its value, and the name of its property
 abbrev pub MayBeMade : Options → Operation → Type 0
@@ -40,6 +41,7 @@ MayBeMade o (ensure_root shape how) = Unit {0}
 MayBeMade o (set_value path v) = IsWritable o v
 MayBeMade o (ensure_value path shape) = Unit {0}
 MayBeMade o (set_boolean path b) = Unit {0}
+MayBeMade o (ensure_multiline path) = Unit {0}
 
 -- the second value is the empty one of the shape, where there was none, or one of another shape that was to give way; any other has stayed
 pub data EnsuredValue (shape : Shape) : Over → Option Plain → Option Plain → Type 0 where
@@ -60,7 +62,7 @@ pub record ReplacesHeld (path : List ℕ) (i : ℕ) (was now x y : Plain) : Type
 -- document's value is set, it is that, and where the root is cleared there is none; where a property gives way, it is the first, but for that entry; where
 -- a value of a shape is to be there, it is the first or an empty one; where the value of a property is set, or is to be of a shape, it is the first, but that
 -- the property has this value, or, if it had none of the shape, an empty one; where a truth value is set, it is the first, but that at the path, where one
--- stood, this one stands.
+-- stood, this one stands; lines change nothing.
 pub data IsChanged : Option Plain → Operation → Option Plain → Type 0 where
   by_value : {given_up v x y : Plain} {path : List ℕ} → Changed given_up v path x y → IsChanged (Some x) (replace path v) (Some y)
   by_entry : (path : List ℕ) (i : ℕ) {x y : Plain} → LosesEntry path i x y → IsChanged (Some x) (remove (path ++ i ∷ [])) (Some y)
@@ -75,6 +77,7 @@ pub data IsChanged : Option Plain → Operation → Option Plain → Type 0 wher
   by_ensuring_held : (path : List ℕ) (i : ℕ) {shape : Shape} {was now x y : Plain} → EnsuredValue shape over.Replace (Some was) (Some now) → ReplacesHeld path i was now x y
       → IsChanged (Some x) (ensure_value (path ++ i ∷ []) shape) (Some y)
   by_boolean : {was b : Bool} {x y : Plain} {path : List ℕ} → Changed (boolean was) (boolean b) path x y → IsChanged (Some x) (set_boolean path b) (Some y)
+  by_lines : {w : Option Plain} {path : List ℕ} → IsChanged w (ensure_multiline path) w
 
 -- the edits, one after another, make the second value of the first
 pub data AreChanged : Option Plain → List Operation → Option Plain → Type 0 where
@@ -121,7 +124,8 @@ pub data PropertyGivenWay (name : List ℕ) (v : Plain) (t u : OrderedTree) : Li
 
 -- What stays where an edit is made: all leaves around a value that gives way, or a truth value that becomes another, and around a comment with the blanks
 -- before it; in a sound document all around an entry with what leaves with it, around the document's value, around a property that gives way to one that may
--- be written, and around a property's value. Of a cleared root nothing stays.
+-- be written, and around a property's value; and of an array or object
+-- that is put on several lines all but blanks. Of a cleared root nothing stays.
 abbrev pub StayAround : OrderedTree → Operation → OrderedTree → Type 0
 StayAround t (replace path v) u = ValueGivesWay path v t u
 StayAround t (remove path) u = (o : Options) → SoundTree o t → EntryLeft t u path
@@ -133,6 +137,7 @@ StayAround t (ensure_root shape how) u = (o : Options) → SoundTree o t → Roo
 StayAround t (set_value path v) u = (o : Options) → SoundTree o t → ValueGivesWay path v t u
 StayAround t (ensure_value path shape) u = (o : Options) → SoundTree o t → ValueEnsured path shape t u
 StayAround t (set_boolean path b) u = (was : Bool) × (given : ValueGivesWay path (boolean b) t u) × (given.was ≡ boolean_leaf was)
+StayAround t (ensure_multiline path) u = (o : Options) → SoundTree o t → SpreadAt path t u
 
 -- so it is for each of the edits, one after another
 pub data AllStayAround : OrderedTree → List Operation → OrderedTree → Type 0 where

@@ -56,4 +56,7 @@ pub enum Edit<A: Allocator> {
     /// The truth value at a path becomes this one. Memory is wanted only where `false` would come to stand
     /// directly behind a hexadecimal number, and a space has to come between them.
     SetBoolean(Vec<usize, A>, bool),
+    /// The array or object at a path is put on several lines, where no line ends among its children yet:
+    /// each of its elements or properties, and its last bracket, comes on a line of its own.
+    EnsureMultiline(Vec<usize, A>),
 }

@@ -5,7 +5,8 @@
 //! property at a path out, or the document's value ([`find_entry`]), or the comment of a number
 //! ([`find_comment`]); it sets the document's value, takes all out of the document, lets the property at a
 //! path give way to another ([`find_property`]), sets the value of that property or the truth value at a
-//! path, or sees that the document or a property has an array or an object. One that is refused leaves
+//! path, sees that the document or a property has an array or an object, or puts the array or object at a
+//! path on several lines. One that is refused leaves
 //! the document as the ones before it left it (`specs/Refusals.antt`).
 //! In a sound document the text that a list of edits makes is a document again, whose value is what the
 //! same edits make of the old one's, and which is sound (`specs/Written.antt`). Where two literals
@@ -16,6 +17,7 @@ mod comments;
 mod edit;
 mod entries;
 pub mod laws;
+mod lines;
 mod making;
 mod values;
 

@@ -18,6 +18,7 @@ ghost use Rattle.jsonc_run.specs.Written.{WriteAll};
 use crate::comments::find_comment;
 use crate::edit::{Edit, Over, Shape};
 use crate::entries::{find_entry, find_property};
+use crate::lines::ensure_multiline_at;
 use crate::values::{ensure_value_at, set_boolean_at, set_value_at};
 use jsonc_edit::{EditError, find, remove_comment, replace};
 use jsonc_input::CstInputValue;
@@ -75,6 +76,7 @@ fn make_by_kind<A: Allocator + Copy>(
         Edit::SetValue(path, value) => set_value_at(alloc, tree, path, value),
         Edit::EnsureValue(path, shape) => ensure_value_at(alloc, tree, path, *shape),
         Edit::SetBoolean(path, value) => set_boolean_at(alloc, tree, path, *value),
+        Edit::EnsureMultiline(path) => ensure_multiline_at(alloc, tree, path),
     }
 }
 

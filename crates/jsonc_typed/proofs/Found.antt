@@ -32,7 +32,7 @@ use Rattle.jsonc_typed.proofs.Roots.{first_content}
 
 module _ (test : ℕ → Bool) where
   -- what is found is the first of all that pass
-  first_is : (xs : List ℕ) → slice_get (filter test xs) 0 ≡ find test xs
+  pub first_is : (xs : List ℕ) → slice_get (filter test xs) 0 ≡ find test xs
   first_is [] = refl
   first_is (x ∷ xs) =
       elim (cases_Bool (test x)) [
@@ -63,7 +63,7 @@ no_element ns true k (x ∷ []) e = let h : content_at ns x ≡ newline k = cc i
 no_element ns true k (x ∷ y ∷ xs) e = absurd (omega (arith, ap length e))
 no_element ns false k (x ∷ xs) e = absurd (omega (arith, ap length e))
 
-value_root : (ns : List Node) → IsTree ns → value_at ns 0 ≡ find (is_element_at ns) (children_at ns 0)
+pub value_root : (ns : List Node) → IsTree ns → value_at ns 0 ≡ find (is_element_at ns) (children_at ns 0)
 value_root ns tree = ap (λ w. value_by w ns 0) tree.root_first
 
 ends_here : (ns : List Node) (n v : ℕ) → LeadsTo ns n v [] → v ≡ n

@@ -16,14 +16,14 @@ use Rattle.jsonc_laws.specs.SoundTrees.{SoundTree}
 use Rattle.jsonc_laws.specs.ChangeLaws.{DiffersIn}
 use Rattle.jsonc_laws.proofs.GivingWay.{one_mark_leaves}
 use Rattle.jsonc_laws.proofs.TriviaLeaves.{document_differs}
-use Rattle.jsonc_edit.specs.Comments.{due_without, leaves_gone, removed_from, CommentTaken, TakesOut}
+use Rattle.jsonc_edit.specs.Comments.{due_without, leaves_gone, removed_from, CommentTaken, LosesComment, TakesOut}
 use Rattle.jsonc_edit.specs.Due.{listed}
 use Rattle.jsonc_edit.proofs.Kept.{tree_stays}
 use Rattle.jsonc_edit.proofs.OneValue.{document_once}
 use Rattle.jsonc_edit.proofs.Placed.{between_placed}
 use Rattle.jsonc_edit.proofs.Removal.{are_gone_blanks, blanks_and_comment, gone_blanks, gone_text, takes_trivia}
 use Rattle.jsonc_edit.proofs.Spacing.{all_spaced}
-use Rattle.jsonc_edit.proofs.TakingOut.{removed, taken_sound, taken_value}
+use Rattle.jsonc_edit.proofs.TakingOut.{loses_comment, removed, taken_sound, taken_value}
 use Rattle.jsonc_set.proofs.PropertyRows.{spaces_marks}
 use Rattle.jsonc_edit.specs.Changes.{top_at}
 use Rattle.jsonc_remove.specs.Removed.{TakesElement}
@@ -31,7 +31,7 @@ use Rattle.jsonc_remove.proofs.Entries.{entry_taken}
 use Rattle.jsonc_remove.proofs.Lost.{removes_entry}
 use Rattle.jsonc_remove.proofs.LostValue.{removes_value}
 use Rattle.jsonc_remove.proofs.Roots.{value_taken}
-use Rattle.jsonc_typed.specs.Removing.{IsCommentGone, IsElementGone}
+use Rattle.jsonc_typed.specs.Removing.{IsCommentGone, IsElementGone, IsTakenAlone}
 use Rattle.jsonc_typed.proofs.Kept.{Stays, stay_both, stay_kept, stay_spaced}
 
 module _ (o : Options) (old new : List Node) (n : ℕ) (before : IsTree old) (after : IsTree new) where
@@ -40,6 +40,16 @@ module _ (o : Options) (old new : List Node) (n : ℕ) (before : IsTree old) (af
     entry = λ path c i at kind element. removes_entry o (ordered_tree old 0) (ordered_tree new 0) path i (top_at old n) sound (entry_taken o old new path c i n before after sound at kind element taken);
     value = λ element. removes_value o (ordered_tree old 0) (ordered_tree new 0) (top_at old n) sound (value_taken o old new n before after sound element taken);
   }
+
+  element_around : TakesElement old new n → SoundTree o (ordered_tree old 0) → IsTakenAlone old new n
+  element_around taken sound = record {
+    entry = λ path c i at kind element. entry_taken o old new path c i n before after sound at kind element taken;
+    value = λ element. value_taken o old new n before after sound element taken;
+  }
+
+  pub element_alone : {T E : Type 0} (r : Result T E) → OnOk r (TakesElement old new n) → OnOk r (SoundTree o (ordered_tree old 0) → IsTakenAlone old new n)
+  element_alone (Ok x) taken = element_around taken
+  element_alone (Err e) taken = tt
 
   pub element_written : {T E : Type 0} (r : Result T E) → OnOk r (TakesElement old new n) → OnOk r (SoundTree o (ordered_tree old 0) → IsElementGone o old new n)
   element_written (Ok x) taken = element_gone taken
@@ -96,15 +106,19 @@ module _ (old new : List Node) (n : ℕ) (r : CommentTaken old new n) where
       let same : now.0 ≡ was.0 = document_once o (ordered_tree new 0) now.0 was.0 now.2 (taken_value old new n r o was.0 was.2) in
       record { value = was.0; old_text = was.1; new_text = subst (IsDocument o (printed_text (ordered_tree new 0))) same now.1; marked = mark_gone s is; sound = after }
 
-module _ (o : Options) (old new : List Node) (before : IsTree old) (after : IsTree new) where
-  comment_leaves : (n : ℕ) → TakesOut old new n → SoundTree o (ordered_tree old 0) → IsOver old 0 n → (s : List ℕ) → content_at old n ≡ comment s → IsCommentGone o s (ordered_tree old 0) (ordered_tree new 0)
-  comment_leaves _ takes sound IsOver.itself s is = absurd (let wrong : root ≡ comment s = sym before.root_first ∙ is in cc)
-  comment_leaves n takes sound (IsOver.above {c = c} said rest) s is =
-      comment_gone old new n
-      (record { tree = before; after = after; below = IsOver.above said rest; comment = ap is_comment is; container = c; parent = said; taken = takes c said })
-      o s is sound
+-- it is one that was taken out of the document
+comment_is_taken : (old new : List Node) → IsTree old → IsTree new → (n : ℕ) → TakesOut old new n → IsOver old 0 n → (s : List ℕ) → content_at old n ≡ comment s → CommentTaken old new n
+comment_is_taken old new before after _ takes IsOver.itself s is = absurd (let wrong : root ≡ comment s = sym before.root_first ∙ is in cc)
+comment_is_taken old new before after n takes (IsOver.above {c = c} said rest) s is =
+    record { tree = before; after = after; below = IsOver.above said rest; comment = ap is_comment is; container = c; parent = said; taken = takes c said }
 
-  pub comment_written : {T E : Type 0} (n : ℕ) (r : Result T E) → OnOk r (TakesOut old new n)
+module _ (old new : List Node) (before : IsTree old) (after : IsTree new) (n : ℕ) where
+  pub comment_written : {T E : Type 0} (o : Options) (r : Result T E) → OnOk r (TakesOut old new n)
       → OnOk r (SoundTree o (ordered_tree old 0) → IsOver old 0 n → (s : List ℕ) → content_at old n ≡ comment s → IsCommentGone o s (ordered_tree old 0) (ordered_tree new 0))
-  comment_written n (Ok x) takes = λ sound over s is. comment_leaves n takes sound over s is
-  comment_written n (Err e) takes = tt
+  comment_written o (Ok x) takes = λ sound over s is. comment_gone old new n (comment_is_taken old new before after n takes over s is) o s is sound
+  comment_written o (Err e) takes = tt
+
+  pub comment_alone : {T E : Type 0} (r : Result T E) → OnOk r (TakesOut old new n)
+      → OnOk r (IsOver old 0 n → (s : List ℕ) → content_at old n ≡ comment s → LosesComment (ordered_tree old 0) (ordered_tree new 0))
+  comment_alone (Ok x) takes = λ over s is. loses_comment old new n (comment_is_taken old new before after n takes over s is)
+  comment_alone (Err e) takes = tt

@@ -4,7 +4,7 @@ use Rattle.std.proofs.lemmas.List.{reverse-append}
 use Rattle.std.specs.List.{list_any}
 use Rattle.std.proofs.lemmas.Bool.{cases_Bool, false≢true}
 use Rattle.jsonc_text.specs.Options.{Options}
-use Rattle.jsonc_tree.specs.Content.{Content, root, array, object, property, token}
+use Rattle.jsonc_tree.specs.Content.{Content, root, array, object, property}
 use Rattle.jsonc_tree.specs.Siblings.{first}
 use Rattle.jsonc_tree.specs.Tree.{Node, content_at, parent_at, children_at, place_at, IsTree, IsOver}
 use Rattle.jsonc_tree.specs.OrderedTree.{OrderedTree, none, more, Shows, shows_none, shows_more, ordered_tree}

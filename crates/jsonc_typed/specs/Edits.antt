@@ -2,7 +2,8 @@
 use Rattle.std.specs.Prelude.{◌≡◌, ◌==◌, ℕ, Bool, true, false, List, Option, Some, None, if◌then◌else◌}
 use Rattle.jsonc_text.specs.Options.{Options}
 use Rattle.jsonc_text.specs.Plain.{Plain}
-use Rattle.jsonc_tree.specs.Tree.{Node, content_at, parent_at}
+use Rattle.jsonc_tree.specs.OrderedTree.{ordered_tree}
+use Rattle.jsonc_tree.specs.Tree.{Node, content_at, parent_at, place_at, IsOver}
 use Rattle.jsonc_nodes.specs.Kinds.{is_property}
 use Rattle.jsonc_nodes.specs.Properties.{name_at}
 use Rattle.jsonc_edit.specs.Reading.{IsReplaced, IsReplacedRaw}
@@ -11,10 +12,20 @@ use Rattle.jsonc_cst.specs.declared.cst.CstRootNode.{CstRootNode}
 use Rattle.jsonc_cst.specs.declared.cst.node.CstNode.{CstNode}
 use Rattle.jsonc_cst.specs.Document.{nodes_of}
 use Rattle.jsonc_cst.specs.Nodes.{number_of, IsNodeOf}
+use Rattle.jsonc_typed.specs.Around.{StaysAroundValue}
+use Rattle.jsonc_typed.specs.Marked.{IsMarkedFor}
 
 -- every node that is there is there still
 abbrev pub StillNodes : List Node → List Node → Type 0
 StillNodes old new = (node : CstNode) → IsNodeOf old node → IsNodeOf new node
+
+-- the node is nobody's child, and so its place is 0
+abbrev pub IsNobodys : List Node → ℕ → Type 0
+IsNobodys ns n = (parent_at ns n ≡ None) × (place_at ns n ≡ 0)
+
+-- where the node does not stand in the document, as it is part of what was taken out or has given way, the document is what it was
+abbrev pub StaysElsewhere : List Node → List Node → ℕ → Type 0
+StaysElsewhere old new n = (IsOver old 0 n → ⊥) → ordered_tree new 0 ≡ ordered_tree old 0
 
 -- whether the first number is there and is the second
 abbrev pub is_found : Option ℕ → ℕ → Bool
@@ -51,3 +62,19 @@ module _ {A : Type 0} (old new : CstRootNode A) where
   -- if the old document is sound, and the node a value at a path, then with the new value there the text is a document again, whose value has changed there alone
   abbrev pub HasWritten : Options → CstNode → Plain → CstNode → Type 0
   HasWritten o node v now = is_name_in (nodes_of old) (number_of node) ≡ false → Writes o (nodes_of old) (nodes_of new) (number_of node) (number_of now) v
+
+  -- where the node stood at a path, its literals and comments have given way to the literals that are written for the value, and all others stay, in order
+  abbrev pub HasMarked : CstNode → Plain → Type 0
+  HasMarked node v = is_name_in (nodes_of old) (number_of node) ≡ false → IsMarkedFor (nodes_of old) (nodes_of new) (number_of node) v
+
+  -- and all leaves around its own stay, but for the spaces that have come
+  abbrev pub HasStayedAround : CstNode → Plain → Type 0
+  HasStayedAround node v = is_name_in (nodes_of old) (number_of node) ≡ false → StaysAroundValue (nodes_of old) (nodes_of new) (number_of node) v
+
+  -- where the node does not stand in the document, this is what it was
+  abbrev pub KeepsElsewhere : CstNode → Type 0
+  KeepsElsewhere node = StaysElsewhere (nodes_of old) (nodes_of new) (number_of node)
+
+  -- the node is nobody's child
+  abbrev pub HasGone : CstNode → Type 0
+  HasGone node = IsNobodys (nodes_of new) (number_of node)

@@ -1,4 +1,6 @@
+pub mod Around
 pub mod Edits
+pub mod Marked
 pub mod Raw
 pub mod Removing
 pub mod Setting

@@ -15,9 +15,9 @@ use Rattle.jsonc_laws.specs.SoundTrees.{SoundTree}
 use Rattle.jsonc_edit.specs.declared.error.EditError.{EditError}
 use Rattle.jsonc_edit.specs.declared.error.EditError.TheVariants.{OutOfMemory}
 use Rattle.jsonc_edit.specs.Changes.{top_at}
-use Rattle.jsonc_edit.specs.Comments.{TakesOut, WantsSpace}
+use Rattle.jsonc_edit.specs.Comments.{LosesComment, TakesOut, WantsSpace}
 use Rattle.jsonc_edit.specs.Paths.{IsAt, IsElementOf}
-use Rattle.jsonc_remove.specs.Laws.{IsEntryRemoved, IsValueRemoved}
+use Rattle.jsonc_remove.specs.Laws.{EntryTaken, IsEntryRemoved, IsValueRemoved, ValueTaken}
 use Rattle.jsonc_remove.specs.Removed.{IsKeptFor, TakesElement}
 use Rattle.jsonc_set.specs.Laws.{IsBareDocument}
 use Rattle.jsonc_cst.specs.declared.cst.CstRootNode.{CstRootNode}
@@ -27,6 +27,7 @@ use Rattle.jsonc_cst.specs.declared.cst.node.CstLeafNode.TheVariants.{BooleanLit
 use Rattle.jsonc_cst.specs.declared.cst.node.CstNode.TheVariants.{Container, Leaf}
 use Rattle.jsonc_cst.specs.Document.{nodes_of}
 use Rattle.jsonc_cst.specs.Nodes.{number_of}
+use Rattle.jsonc_typed.specs.Edits.{IsNobodys, StaysElsewhere}
 use Rattle.jsonc_typed.specs.declared.removing.Removal.{Removal}
 use Rattle.jsonc_typed.specs.declared.removing.Removal.TheVariants.{Clearing, OfComment, OfElement, OfLeaf}
 
@@ -98,6 +99,34 @@ IsWrittenBy OfComment o old new n =
 IsWrittenBy OfElement o old new n = SoundTree o (ordered_tree old 0) → IsElementGone o old new n
 IsWrittenBy OfLeaf o old new n = Unit {0}
 
+-- Where the node stood in an array or object at a path of a sound document, nothing outside that has changed but for the spaces that have come, and in its row
+-- the entry has left with what leaves with it; where it was the document's value, so in the root's row.
+pub record IsTakenAlone (old new : List Node) (n : ℕ) : Type 0 where
+  pub entry : (path : List ℕ) (c i : ℕ) → IsAt old path c → IsTrue (holds_values (content_at old c)) → IsElementOf old c i n
+      → EntryTaken path i (top_at old n) (ordered_tree old 0) (ordered_tree new 0)
+  pub value : IsElementOf old 0 0 n → ValueTaken (top_at old n) (ordered_tree old 0) (ordered_tree new 0)
+
+-- what stays around the node that was taken out: around a comment of the document all leaves but for the blanks before it that leave with it
+abbrev pub StaysAround : Removal → Options → List Node → List Node → ℕ → Type 0
+StaysAround Clearing o old new n = Unit {0}
+StaysAround OfComment o old new n = IsOver old 0 n → (s : List ℕ) → content_at old n ≡ comment s → LosesComment (ordered_tree old 0) (ordered_tree new 0)
+StaysAround OfElement o old new n = SoundTree o (ordered_tree old 0) → IsTakenAlone old new n
+StaysAround OfLeaf o old new n = Unit {0}
+
+-- where the node does not stand in the document, this is what it was; the root always does
+abbrev pub StaysElsewhereBy : Removal → List Node → List Node → ℕ → Type 0
+StaysElsewhereBy Clearing old new n = Unit {0}
+StaysElsewhereBy OfComment old new n = StaysElsewhere old new n
+StaysElsewhereBy OfElement old new n = StaysElsewhere old new n
+StaysElsewhereBy OfLeaf old new n = StaysElsewhere old new n
+
+-- the node is nobody's child; the root never was one's
+abbrev pub IsNobodysBy : Removal → List Node → ℕ → Type 0
+IsNobodysBy Clearing ns n = Unit {0}
+IsNobodysBy OfComment ns n = IsNobodys ns n
+IsNobodysBy OfElement ns n = IsNobodys ns n
+IsNobodysBy OfLeaf ns n = IsNobodys ns n
+
 -- where the node is one of a sound document, only memory has been wanted: nothing that an edit needs is missing there
 abbrev pub WantsMemoryAlone : Options → List Node → ℕ → EditError → Type 0
 WantsMemoryAlone o ns n e = SoundTree o (ordered_tree ns 0) → IsOver ns 0 n → e ≡ OutOfMemory
@@ -106,6 +135,18 @@ module _ {A : Type 0} where
   -- so it is of the document
   abbrev pub LeavesWritten : CstRootNode A → CstRootNode A → Options → CstNode → Type 0
   LeavesWritten old new o node = IsWrittenBy (removal_of node) o (nodes_of old) (nodes_of new) (number_of node)
+
+  -- and so is what stays around it
+  abbrev pub LeavesAround : CstRootNode A → CstRootNode A → Options → CstNode → Type 0
+  LeavesAround old new o node = StaysAround (removal_of node) o (nodes_of old) (nodes_of new) (number_of node)
+
+  -- and elsewhere nothing changes
+  abbrev pub LeavesElsewhere : CstRootNode A → CstRootNode A → CstNode → Type 0
+  LeavesElsewhere old new node = StaysElsewhereBy (removal_of node) (nodes_of old) (nodes_of new) (number_of node)
+
+  -- the node is nobody's child
+  abbrev pub LeavesToNobody : CstRootNode A → CstNode → Type 0
+  LeavesToNobody d node = IsNobodysBy (removal_of node) (nodes_of d) (number_of node)
 
   -- the node has been taken out of the document, with what leaves with it
   abbrev pub HasLeft : CstRootNode A → CstRootNode A → CstNode → Type 0

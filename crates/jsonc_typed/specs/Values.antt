@@ -19,6 +19,8 @@ use Rattle.jsonc_cst.specs.declared.cst.node.CstNode.{CstNode}
 use Rattle.jsonc_cst.specs.declared.cst.node.CstObject.{CstObject}
 use Rattle.jsonc_cst.specs.Document.{nodes_of}
 use Rattle.jsonc_cst.specs.Nodes.{number_of}
+use Rattle.jsonc_typed.specs.Around.{StaysAroundValue}
+use Rattle.jsonc_typed.specs.Marked.{IsMarkedFor}
 
 -- the value that the property p held, if it held one, has given way to v, and else v has come behind all that it holds: it is the node m now
 abbrev pub HeldBecomes : List Node → List Node → ℕ → Plain → Option ℕ → ℕ → Type 0
@@ -38,6 +40,14 @@ module _ (old new : List Node) where
   abbrev pub HeldIsWritten : Options → ℕ → Plain → CstNode → Type 0
   HeldIsWritten o p v now = (n : ℕ) → value_at old p ≡ Some n → Writes o old new n (number_of now) v
 
+  -- and the old value's literals and comments have given way to the literals that are written for v; all others stay, in order
+  abbrev pub HeldIsMarked : ℕ → Plain → Type 0
+  HeldIsMarked p v = (n : ℕ) → value_at old p ≡ Some n → IsMarkedFor old new n v
+
+  -- and all leaves around stay
+  abbrev pub HeldStaysAround : ℕ → Plain → Type 0
+  HeldStaysAround p v = (n : ℕ) → value_at old p ≡ Some n → StaysAroundValue old new n v
+
   -- the value of the property p, if it is an object; else an empty one has become it
   abbrev pub FindsOrSetsHeldObject : ℕ → CstObject → Type 0
   FindsOrSetsHeldObject p answer = HeldOrSet is_object (object no_members) old new p (value_at old p) answer.number
@@ -46,12 +56,19 @@ module _ (old new : List Node) where
   abbrev pub HeldObjectIsWritten : Options → ℕ → CstObject → Type 0
   HeldObjectIsWritten o p answer = (n : ℕ) → value_at old p ≡ Some n → is_object (content_at old n) ≡ false → Writes o old new n answer.number (object no_members)
 
+  -- and takes the literals and comments of that value along, and no others
+  abbrev pub HeldObjectIsMarked : ℕ → Type 0
+  HeldObjectIsMarked p = (n : ℕ) → value_at old p ≡ Some n → is_object (content_at old n) ≡ false → IsMarkedFor old new n (object no_members)
+
   -- the same of an array
   abbrev pub FindsOrSetsHeldArray : ℕ → CstArray → Type 0
   FindsOrSetsHeldArray p answer = HeldOrSet is_array (array no_items) old new p (value_at old p) answer.number
 
   abbrev pub HeldArrayIsWritten : Options → ℕ → CstArray → Type 0
   HeldArrayIsWritten o p answer = (n : ℕ) → value_at old p ≡ Some n → is_array (content_at old n) ≡ false → Writes o old new n answer.number (array no_items)
+
+  abbrev pub HeldArrayIsMarked : ℕ → Type 0
+  HeldArrayIsMarked p = (n : ℕ) → value_at old p ≡ Some n → is_array (content_at old n) ≡ false → IsMarkedFor old new n (array no_items)
 
   -- if the old document was sound, and the truth value n stood in it at a path, the text is a document again, with this truth value at that path
   abbrev pub BooleanIsWritten : Options → ℕ → Bool → Type 0
@@ -69,17 +86,29 @@ module _ {A : Type 0} (old new : CstRootNode A) where
   abbrev pub HasWrittenValue : Options → CstNode → Plain → CstNode → Type 0
   HasWrittenValue o node v now = HeldIsWritten (nodes_of old) (nodes_of new) o (number_of node) v now
 
+  abbrev pub HasMarkedValue : CstNode → Plain → Type 0
+  HasMarkedValue node v = HeldIsMarked (nodes_of old) (nodes_of new) (number_of node) v
+
+  abbrev pub HasStayedAroundValue : CstNode → Plain → Type 0
+  HasStayedAroundValue node v = HeldStaysAround (nodes_of old) (nodes_of new) (number_of node) v
+
   abbrev pub NowHoldsObject : CstNode → CstObject → Type 0
   NowHoldsObject node answer = FindsOrSetsHeldObject (nodes_of old) (nodes_of new) (number_of node) answer
 
   abbrev pub HasWrittenObject : Options → CstNode → CstObject → Type 0
   HasWrittenObject o node answer = HeldObjectIsWritten (nodes_of old) (nodes_of new) o (number_of node) answer
 
+  abbrev pub HasMarkedObject : CstNode → Type 0
+  HasMarkedObject node = HeldObjectIsMarked (nodes_of old) (nodes_of new) (number_of node)
+
   abbrev pub NowHoldsArray : CstNode → CstArray → Type 0
   NowHoldsArray node answer = FindsOrSetsHeldArray (nodes_of old) (nodes_of new) (number_of node) answer
 
   abbrev pub HasWrittenArray : Options → CstNode → CstArray → Type 0
   HasWrittenArray o node answer = HeldArrayIsWritten (nodes_of old) (nodes_of new) o (number_of node) answer
+
+  abbrev pub HasMarkedArray : CstNode → Type 0
+  HasMarkedArray node = HeldArrayIsMarked (nodes_of old) (nodes_of new) (number_of node)
 
   abbrev pub HasSetBoolean : CstNode → Bool → Type 0
   HasSetBoolean node b = BooleanSet (nodes_of old) (nodes_of new) (number_of node) b

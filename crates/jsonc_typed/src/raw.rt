@@ -6,7 +6,7 @@ ghost use Rattle.jsonc_tree.specs.Stored.{content_of};
 ghost use Rattle.jsonc_cst.specs.Document.{Holds};
 ghost use Rattle.jsonc_cst.specs.Nodes.{number_of, typed};
 ghost use Rattle.jsonc_cst.specs.Tree.{NodesAreTree};
-ghost use Rattle.jsonc_typed.specs.Edits.{StillHolds};
+ghost use Rattle.jsonc_typed.specs.Edits.{KeepsElsewhere, StillHolds};
 ghost use Rattle.jsonc_typed.specs.Raw.{HasBecome};
 
 use jsonc_cst::cst::{
@@ -22,9 +22,11 @@ fn set_leaf<A: Allocator>(doc: &mut CstRootNode<A>, node: CstNode, kind: Kind<A>
     requires leaf { is_container (content_of kind) ≡ false }
     requires same { typed (content_of kind) (number_of node) ≡ node }
     ensures set { HasBecome doc.old doc.new node (content_of kind) }
+    ensures elsewhere { KeepsElsewhere doc.old doc.new node }
     ensures stays { StillHolds doc.old doc.new }
     ensures tree { NodesAreTree doc.new }
 {
+    let _ = doc.tree.len();
     doc.tree.set_leaf(node.number(), kind);
     doc.nodes_are_tree();
 }
@@ -40,6 +42,7 @@ pub trait SetRawValue: IsNode {
     fn set_raw_value<A: Allocator>(self, doc: &mut CstRootNode<A>, value: String<A>)
         requires { Holds doc.old (Self.node_of self) }
         ensures set { HasBecome doc.old doc.new (Self.node_of self) (raw (string_bytes value)) }
+        ensures elsewhere { KeepsElsewhere doc.old doc.new (Self.node_of self) }
         ensures stays { StillHolds doc.old doc.new }
         ensures tree { NodesAreTree doc.new };
 }
@@ -82,6 +85,7 @@ pub trait SetToken: IsNode {
     fn set_value<A: Allocator>(self, doc: &mut CstRootNode<A>, value: char)
         requires { Holds doc.old (Self.node_of self) }
         ensures set { HasBecome doc.old doc.new (Self.node_of self) (Content.token value) }
+        ensures elsewhere { KeepsElsewhere doc.old doc.new (Self.node_of self) }
         ensures stays { StillHolds doc.old doc.new }
         ensures tree { NodesAreTree doc.new };
 }
@@ -98,6 +102,7 @@ pub trait SetWhitespace: IsNode {
     fn set_value<A: Allocator>(self, doc: &mut CstRootNode<A>, value: String<A>)
         requires { Holds doc.old (Self.node_of self) }
         ensures set { HasBecome doc.old doc.new (Self.node_of self) (Content.whitespace (string_bytes value)) }
+        ensures elsewhere { KeepsElsewhere doc.old doc.new (Self.node_of self) }
         ensures stays { StillHolds doc.old doc.new }
         ensures tree { NodesAreTree doc.new };
 }
@@ -114,6 +119,7 @@ pub trait SetNewline: IsNode {
     fn set_kind<A: Allocator>(self, doc: &mut CstRootNode<A>, kind: CstNewlineKind)
         requires { Holds doc.old (Self.node_of self) }
         ensures set { HasBecome doc.old doc.new (Self.node_of self) (Content.newline kind) }
+        ensures elsewhere { KeepsElsewhere doc.old doc.new (Self.node_of self) }
         ensures stays { StillHolds doc.old doc.new }
         ensures tree { NodesAreTree doc.new };
 }

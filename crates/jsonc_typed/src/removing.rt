@@ -10,11 +10,13 @@ ghost use Rattle.jsonc_remove.specs.Removed.{IsKeptFor, TakesElement};
 ghost use Rattle.jsonc_set.specs.Laws.{IsBareDocument};
 ghost use Rattle.jsonc_cst.specs.Document.{parent_of, tree_of, Holds};
 ghost use Rattle.jsonc_cst.specs.Tree.{NodesAreTree};
-ghost use Rattle.jsonc_typed.specs.Edits.{IsUntouched, StillHolds, StillNodes};
+ghost use Rattle.jsonc_typed.specs.Edits.{HasGone, IsNobodys, IsUntouched, KeepsElsewhere, StaysElsewhere};
+ghost use Rattle.jsonc_typed.specs.Edits.{StillHolds, StillNodes};
 ghost use Rattle.jsonc_typed.specs.declared.removing.Removal.{Removal};
 ghost use Rattle.jsonc_typed.specs.Removing.{removal_of, IsCleared, IsKeptBy, IsLooseFor, IsTakenBy, IsWrittenBy, LeavesAlone};
 ghost use Rattle.jsonc_typed.specs.Removing.{HasLeft, HasLeftAlone, IsKeptForMemory, IsKeptIn, IsLoose};
-ghost use Rattle.jsonc_typed.specs.Removing.{LeavesWritten, WantsMemoryAlone};
+ghost use Rattle.jsonc_typed.specs.Removing.{IsNobodysBy, LeavesAround, LeavesElsewhere, LeavesToNobody};
+ghost use Rattle.jsonc_typed.specs.Removing.{LeavesWritten, StaysAround, StaysElsewhereBy, WantsMemoryAlone};
 
 use jsonc_cst::cst::{
     CstArray, CstBooleanLit, CstComment, CstContainerNode, CstLeafNode, CstNewline, CstNode,
@@ -55,6 +57,9 @@ fn remove_element<A: Allocator + Copy>(
     requires { number < length tree.old.nodes }
     ensures taken { OnOk result (TakesElement tree.old.nodes tree.new.nodes number) }
     ensures written { (o : Options) → OnOk result (IsWrittenBy Removal.OfElement o tree.old.nodes tree.new.nodes number) }
+    ensures around { (o : Options) → OnOk result (StaysAround Removal.OfElement o tree.old.nodes tree.new.nodes number) }
+    ensures elsewhere { OnOk result (StaysElsewhereBy Removal.OfElement tree.old.nodes tree.new.nodes number) }
+    ensures gone { OnOk result (IsNobodysBy Removal.OfElement tree.new.nodes number) }
     ensures untouched { parent_at tree.old.nodes number ≡ None → tree.new.nodes ≡ tree.old.nodes }
     ensures stays { StillNodes tree.old.nodes tree.new.nodes }
     ensures told { IfErr result (IsKeptFor tree.old.nodes number) }
@@ -75,6 +80,9 @@ fn remove_comment<A: Allocator + Copy>(
     requires { number < length tree.old.nodes }
     ensures taken { OnOk result (TakesOut tree.old.nodes tree.new.nodes number) }
     ensures written { (o : Options) → OnOk result (IsWrittenBy Removal.OfComment o tree.old.nodes tree.new.nodes number) }
+    ensures around { (o : Options) → OnOk result (StaysAround Removal.OfComment o tree.old.nodes tree.new.nodes number) }
+    ensures elsewhere { OnOk result (StaysElsewhereBy Removal.OfComment tree.old.nodes tree.new.nodes number) }
+    ensures gone { OnOk result (IsNobodysBy Removal.OfComment tree.new.nodes number) }
     ensures untouched { parent_at tree.old.nodes number ≡ None → tree.new.nodes ≡ tree.old.nodes }
     ensures stays { StillNodes tree.old.nodes tree.new.nodes }
     ensures told { IfErr result (λ e. e ≡ EditError.OutOfMemory) }
@@ -104,6 +112,8 @@ fn take_alone<A: Allocator>(tree: &mut Tree<A>, container: usize, number: usize)
 fn remove_alone<A: Allocator>(tree: &mut Tree<A>, number: usize)
     requires { number < length tree.old.nodes }
     ensures taken { LeavesAlone tree.old.nodes tree.new.nodes number }
+    ensures elsewhere { StaysElsewhere tree.old.nodes tree.new.nodes number }
+    ensures gone { IsNobodys tree.new.nodes number }
     ensures untouched { parent_at tree.old.nodes number ≡ None → tree.new.nodes ≡ tree.old.nodes }
     ensures stays { StillNodes tree.old.nodes tree.new.nodes }
     ensures tree { IsTree tree.new.nodes }
@@ -135,6 +145,9 @@ fn remove_by<A: Allocator + Copy>(
     requires { number < length tree.old.nodes }
     ensures taken { OnOk result (IsTakenBy removal tree.old.nodes tree.new.nodes number) }
     ensures written { (o : Options) → OnOk result (IsWrittenBy removal o tree.old.nodes tree.new.nodes number) }
+    ensures around { (o : Options) → OnOk result (StaysAround removal o tree.old.nodes tree.new.nodes number) }
+    ensures elsewhere { OnOk result (StaysElsewhereBy removal tree.old.nodes tree.new.nodes number) }
+    ensures gone { OnOk result (IsNobodysBy removal tree.new.nodes number) }
     ensures untouched { IsLooseFor removal tree.old.nodes number → tree.new.nodes ≡ tree.old.nodes }
     ensures stays { StillNodes tree.old.nodes tree.new.nodes }
     ensures told { IfErr result (IsKeptBy removal tree.old.nodes number) }
@@ -180,6 +193,9 @@ pub trait Remove: IsNode {
         requires { Holds doc.old (Self.node_of self) }
         ensures removed { OnOk result (HasLeft doc.old doc.new (Self.node_of self)) }
         ensures written { (o : Options) → OnOk result (LeavesWritten doc.old doc.new o (Self.node_of self)) }
+        ensures around { (o : Options) → OnOk result (LeavesAround doc.old doc.new o (Self.node_of self)) }
+        ensures elsewhere { OnOk result (LeavesElsewhere doc.old doc.new (Self.node_of self)) }
+        ensures gone { OnOk result (LeavesToNobody doc.new (Self.node_of self)) }
         ensures untouched { IsLoose doc.old (Self.node_of self) → IsUntouched doc.old doc.new }
         ensures stays { StillHolds doc.old doc.new }
         ensures told { IfErr result (IsKeptIn doc.old (Self.node_of self)) }
@@ -201,6 +217,8 @@ pub trait RemoveLeaf: IsNode {
     final fn remove<A: Allocator>(self, doc: &mut CstRootNode<A>)
         requires { Holds doc.old (Self.node_of self) }
         ensures removed { HasLeftAlone doc.old doc.new (Self.node_of self) }
+        ensures elsewhere { KeepsElsewhere doc.old doc.new (Self.node_of self) }
+        ensures gone { HasGone doc.old doc.new (Self.node_of self) }
         ensures untouched { parent_of doc.old (Self.node_of self) ≡ None → IsUntouched doc.old doc.new }
         ensures stays { StillHolds doc.old doc.new }
         ensures tree { NodesAreTree doc.new }

@@ -10,7 +10,10 @@ ghost use Rattle.jsonc_edit.specs.Reading.{IsReplaced, IsReplacedRaw};
 ghost use Rattle.jsonc_edit.specs.Written.{Writes};
 ghost use Rattle.jsonc_cst.specs.Document.{parent_of, tree_of, Holds};
 ghost use Rattle.jsonc_typed.specs.Edits.{is_found, is_name_in, IsReplacedAs};
-ghost use Rattle.jsonc_typed.specs.Edits.{HasGivenWay, HasWritten, IsUntouched, StillHolds, StillNodes};
+ghost use Rattle.jsonc_typed.specs.Edits.{HasGivenWay, HasGone, HasMarked, HasStayedAround, HasWritten, IsUntouched};
+ghost use Rattle.jsonc_typed.specs.Edits.{IsNobodys, KeepsElsewhere, StaysElsewhere, StillHolds, StillNodes};
+ghost use Rattle.jsonc_typed.specs.Around.{StaysAroundValue};
+ghost use Rattle.jsonc_typed.specs.Marked.{IsMarkedFor};
 ghost use Rattle.jsonc_cst.specs.Nodes.{number_of, IsNodeOf};
 ghost use Rattle.jsonc_cst.specs.Tree.{NodesAreTree};
 
@@ -57,6 +60,10 @@ fn replace_value<A: Allocator + Copy>(
     requires { number < length tree.old.nodes }
     ensures replaced { IfOk result (λ o. IfSome o (λ m. IsReplaced tree.old.nodes tree.new.nodes number (plain value.now) (number_of m))) }
     ensures written { (p : Options) → IfOk result (λ o. IfSome o (λ m. Writes p tree.old.nodes tree.new.nodes number (number_of m) (plain value.now))) }
+    ensures marked { IfOk result (λ o. IfSome o (λ m. IsMarkedFor tree.old.nodes tree.new.nodes number (plain value.now))) }
+    ensures around { IfOk result (λ o. IfSome o (λ m. StaysAroundValue tree.old.nodes tree.new.nodes number (plain value.now))) }
+    ensures elsewhere { IfOk result (λ o. IfSome o (λ m. StaysElsewhere tree.old.nodes tree.new.nodes number)) }
+    ensures gone { IfOk result (λ o. IfSome o (λ m. IsNobodys tree.new.nodes number)) }
     ensures none { IfOk result (λ o. IfNone o (parent_at tree.old.nodes number ≡ None)) }
     ensures untouched { IfOk result (λ o. IfNone o (tree.new.nodes ≡ tree.old.nodes)) }
     ensures held { IfOk result (λ o. IfSome o (IsNodeOf tree.new.nodes)) }
@@ -65,6 +72,7 @@ fn replace_value<A: Allocator + Copy>(
     ensures document { OnErr result (ordered_tree tree.new.nodes 0 ≡ ordered_tree tree.old.nodes 0) }
     ensures tree { IsTree tree.new.nodes }
 {
+    let _ = tree.len();
     let Some(new) = jsonc_edit::replace(alloc, tree, number, value)? else {
         return Ok(None);
     };
@@ -80,6 +88,8 @@ fn replace_name<A: Allocator + Copy>(
 ) -> Result<Option<CstNode>, EditError>
     requires { number < length tree.old.nodes }
     ensures replaced { IfOk result (λ o. IfSome o (λ m. IsReplacedRaw tree.old.nodes tree.new.nodes number (plain value.now) (number_of m))) }
+    ensures elsewhere { IfOk result (λ o. IfSome o (λ m. StaysElsewhere tree.old.nodes tree.new.nodes number)) }
+    ensures gone { IfOk result (λ o. IfSome o (λ m. IsNobodys tree.new.nodes number)) }
     ensures none { IfOk result (λ o. IfNone o (parent_at tree.old.nodes number ≡ None)) }
     ensures untouched { IfOk result (λ o. IfNone o (tree.new.nodes ≡ tree.old.nodes)) }
     ensures held { IfOk result (λ o. IfSome o (IsNodeOf tree.new.nodes)) }
@@ -88,6 +98,7 @@ fn replace_name<A: Allocator + Copy>(
     ensures document { OnErr result (ordered_tree tree.new.nodes 0 ≡ ordered_tree tree.old.nodes 0) }
     ensures tree { IsTree tree.new.nodes }
 {
+    let _ = tree.len();
     let Some(raw) = jsonc_edit::replace_name(alloc, tree, number, value)? else {
         return Ok(None);
     };
@@ -104,6 +115,10 @@ fn replace_node<A: Allocator + Copy>(
     requires { number < length tree.old.nodes }
     ensures replaced { IfOk result (λ o. IfSome o (λ m. IsReplacedAs (is_name_in tree.old.nodes number) tree.old.nodes tree.new.nodes number (plain value.now) (number_of m))) }
     ensures written { (p : Options) → IfOk result (λ o. IfSome o (λ m. is_name_in tree.old.nodes number ≡ false → Writes p tree.old.nodes tree.new.nodes number (number_of m) (plain value.now))) }
+    ensures marked { IfOk result (λ o. IfSome o (λ m. is_name_in tree.old.nodes number ≡ false → IsMarkedFor tree.old.nodes tree.new.nodes number (plain value.now))) }
+    ensures around { IfOk result (λ o. IfSome o (λ m. is_name_in tree.old.nodes number ≡ false → StaysAroundValue tree.old.nodes tree.new.nodes number (plain value.now))) }
+    ensures elsewhere { IfOk result (λ o. IfSome o (λ m. StaysElsewhere tree.old.nodes tree.new.nodes number)) }
+    ensures gone { IfOk result (λ o. IfSome o (λ m. IsNobodys tree.new.nodes number)) }
     ensures none { IfOk result (λ o. IfNone o (parent_at tree.old.nodes number ≡ None)) }
     ensures untouched { IfOk result (λ o. IfNone o (tree.new.nodes ≡ tree.old.nodes)) }
     ensures held { IfOk result (λ o. IfSome o (IsNodeOf tree.new.nodes)) }
@@ -140,6 +155,10 @@ pub trait ReplaceWith: IsNode {
         requires { Holds doc.old (Self.node_of self) }
         ensures replaced { IfOk result (λ o. IfSome o (HasGivenWay doc.old doc.new (Self.node_of self) (plain value))) }
         ensures written { (p : Options) → IfOk result (λ o. IfSome o (HasWritten doc.old doc.new p (Self.node_of self) (plain value))) }
+        ensures marked { IfOk result (λ o. IfSome o (λ m. HasMarked doc.old doc.new (Self.node_of self) (plain value))) }
+        ensures around { IfOk result (λ o. IfSome o (λ m. HasStayedAround doc.old doc.new (Self.node_of self) (plain value))) }
+        ensures elsewhere { IfOk result (λ o. IfSome o (λ m. KeepsElsewhere doc.old doc.new (Self.node_of self))) }
+        ensures gone { IfOk result (λ o. IfSome o (λ m. HasGone doc.old doc.new (Self.node_of self))) }
         ensures none { IfOk result (λ o. IfNone o (parent_of doc.old (Self.node_of self) ≡ None)) }
         ensures untouched { IfOk result (λ o. IfNone o (IsUntouched doc.old doc.new)) }
         ensures held { IfOk result (λ o. IfSome o (Holds doc.new)) }

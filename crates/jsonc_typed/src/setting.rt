@@ -1,6 +1,6 @@
 //! A document's value is set, and a property gives way to another.
 
-ghost use Rattle.std.specs.Prelude.{◌≡◌, ◌<◌, IfErr, IfNone, IfOk, IfSome, None, OnErr, Some, chars, length};
+ghost use Rattle.std.specs.Prelude.{◌≡◌, ◌<◌, IfErr, IfNone, IfOk, IfSome, None, OnErr, OnOk, Some, chars, length};
 ghost use Rattle.jsonc_text.specs.Options.{Options};
 ghost use Rattle.jsonc_input.specs.Views.{plain};
 ghost use Rattle.jsonc_tree.specs.Content.{Content};
@@ -10,14 +10,20 @@ ghost use Rattle.jsonc_nodes.specs.Properties.{value_at};
 ghost use Rattle.jsonc_set.specs.Kinds.{is_array, is_object, LacksKind};
 ghost use Rattle.jsonc_set.specs.Laws.{IsBareDocument};
 ghost use Rattle.jsonc_cst.specs.Document.{nodes_of, parent_of, tree_of, Holds};
-ghost use Rattle.jsonc_cst.specs.Nodes.{array_node, object_node, IsNodeOf};
+ghost use Rattle.jsonc_cst.specs.Nodes.{array_node, number_of, object_node, IsNodeOf};
 ghost use Rattle.jsonc_cst.specs.Readings.{value_under};
 ghost use Rattle.jsonc_cst.specs.Tree.{NodesAreTree};
-ghost use Rattle.jsonc_typed.specs.Edits.{IsUntouched, StillHolds, StillNodes};
+ghost use Rattle.jsonc_typed.specs.Around.{IsLaidProperty};
+ghost use Rattle.jsonc_typed.specs.Edits.{HasGone, IsNobodys, IsUntouched, KeepsElsewhere, StaysElsewhere};
+ghost use Rattle.jsonc_typed.specs.Edits.{StillHolds, StillNodes};
+ghost use Rattle.jsonc_typed.specs.Marked.{MarksStay};
 ghost use Rattle.jsonc_typed.specs.Removing.{IsCleared};
+ghost use Rattle.jsonc_typed.specs.Setting.{EmptyArrayMarked, EmptyArrayWritten, EmptyObjectMarked, EmptyObjectWritten};
 ghost use Rattle.jsonc_typed.specs.Setting.{FindsOrCreatesArray, FindsOrCreatesObject, FindsOrSetsArray};
-ghost use Rattle.jsonc_typed.specs.Setting.{FindsOrSetsObject, HasBecomeProperty, HasWrittenProperty, IsRootValue};
-ghost use Rattle.jsonc_typed.specs.Setting.{PropertyBecomes, PropertyIsWritten, RootBecomes, RootIsWritten};
+ghost use Rattle.jsonc_typed.specs.Setting.{FindsOrSetsObject, FirstArrayWritten, FirstObjectWritten};
+ghost use Rattle.jsonc_typed.specs.Setting.{HasBecomeProperty, HasWrittenProperty, IsLaidAsProperty, IsRootValue};
+ghost use Rattle.jsonc_typed.specs.Setting.{PropertyBecomes, PropertyIsWritten, RootBecomes, RootIsMarked};
+ghost use Rattle.jsonc_typed.specs.Setting.{RootIsWritten, RootStaysAround};
 
 use crate::removing::clear;
 use jsonc_cst::cst::{
@@ -59,6 +65,8 @@ fn set_root<A: Allocator + Copy>(
 ) -> Result<CstNode, EditError>
     ensures set { IfOk result (RootBecomes tree.old.nodes tree.new.nodes (plain value.now)) }
     ensures written { (p : Options) → IfOk result (RootIsWritten tree.old.nodes tree.new.nodes p (plain value.now)) }
+    ensures marked { (p : Options) → OnOk result (RootIsMarked tree.old.nodes tree.new.nodes p (plain value.now)) }
+    ensures around { (p : Options) → OnOk result (RootStaysAround tree.old.nodes tree.new.nodes p (plain value.now)) }
     ensures stands { IfOk result (IsRootValue tree.new.nodes) }
     ensures held { IfOk result (IsNodeOf tree.new.nodes) }
     ensures stays { StillNodes tree.old.nodes tree.new.nodes }
@@ -77,6 +85,8 @@ fn object_or_create<A: Allocator + Copy>(
     tree: &mut Tree<A>,
 ) -> Result<Option<CstObject>, EditError>
     ensures value { IfOk result (FindsOrCreatesObject tree.old.nodes tree.new.nodes) }
+    ensures written { (p : Options) → OnOk result (FirstObjectWritten tree.old.nodes tree.new.nodes p) }
+    ensures marked { (p : Options) → OnOk result (MarksStay tree.old.nodes tree.new.nodes p) }
     ensures stands { IfOk result (λ o. IfSome o (λ x. IsRootValue tree.new.nodes (object_node x))) }
     ensures held { IfOk result (λ o. IfSome o (λ x. IsNodeOf tree.new.nodes (object_node x))) }
     ensures stays { StillNodes tree.old.nodes tree.new.nodes }
@@ -98,6 +108,8 @@ fn array_or_create<A: Allocator + Copy>(
     tree: &mut Tree<A>,
 ) -> Result<Option<CstArray>, EditError>
     ensures value { IfOk result (FindsOrCreatesArray tree.old.nodes tree.new.nodes) }
+    ensures written { (p : Options) → OnOk result (FirstArrayWritten tree.old.nodes tree.new.nodes p) }
+    ensures marked { (p : Options) → OnOk result (MarksStay tree.old.nodes tree.new.nodes p) }
     ensures stands { IfOk result (λ o. IfSome o (λ x. IsRootValue tree.new.nodes (array_node x))) }
     ensures held { IfOk result (λ o. IfSome o (λ x. IsNodeOf tree.new.nodes (array_node x))) }
     ensures stays { StillNodes tree.old.nodes tree.new.nodes }
@@ -116,6 +128,8 @@ fn array_or_create<A: Allocator + Copy>(
 // The document's object, or an empty one that is set where its value is none.
 fn object_or_set<A: Allocator + Copy>(alloc: A, tree: &mut Tree<A>) -> Result<CstObject, EditError>
     ensures value { IfOk result (FindsOrSetsObject tree.old.nodes tree.new.nodes) }
+    ensures written { (p : Options) → IfOk result (EmptyObjectWritten tree.old.nodes tree.new.nodes p) }
+    ensures marked { (p : Options) → OnOk result (EmptyObjectMarked tree.old.nodes tree.new.nodes p) }
     ensures stands { IfOk result (λ x. IsRootValue tree.new.nodes (object_node x)) }
     ensures held { IfOk result (λ x. IsNodeOf tree.new.nodes (object_node x)) }
     ensures stays { StillNodes tree.old.nodes tree.new.nodes }
@@ -132,6 +146,8 @@ fn object_or_set<A: Allocator + Copy>(alloc: A, tree: &mut Tree<A>) -> Result<Cs
 // The document's array, or an empty one that is set where its value is none.
 fn array_or_set<A: Allocator + Copy>(alloc: A, tree: &mut Tree<A>) -> Result<CstArray, EditError>
     ensures value { IfOk result (FindsOrSetsArray tree.old.nodes tree.new.nodes) }
+    ensures written { (p : Options) → IfOk result (EmptyArrayWritten tree.old.nodes tree.new.nodes p) }
+    ensures marked { (p : Options) → OnOk result (EmptyArrayMarked tree.old.nodes tree.new.nodes p) }
     ensures stands { IfOk result (λ x. IsRootValue tree.new.nodes (array_node x)) }
     ensures held { IfOk result (λ x. IsNodeOf tree.new.nodes (array_node x)) }
     ensures stays { StillNodes tree.old.nodes tree.new.nodes }
@@ -156,6 +172,9 @@ fn replace_property<A: Allocator + Copy>(
     requires { number < length tree.old.nodes }
     ensures replaced { IfOk result (λ o. IfSome o (PropertyBecomes tree.old.nodes tree.new.nodes number (chars name.now) (plain value.now))) }
     ensures written { (p : Options) → IfOk result (λ o. IfSome o (PropertyIsWritten tree.old.nodes tree.new.nodes p number (chars name.now) (plain value.now))) }
+    ensures laid { IfOk result (λ o. IfSome o (λ m. IsLaidProperty tree.old.nodes tree.new.nodes number (chars name.now) (plain value.now) (number_of m))) }
+    ensures elsewhere { IfOk result (λ o. IfSome o (λ m. StaysElsewhere tree.old.nodes tree.new.nodes number)) }
+    ensures gone { IfOk result (λ o. IfSome o (λ m. IsNobodys tree.new.nodes number)) }
     ensures none { IfOk result (λ o. IfNone o (parent_at tree.old.nodes number ≡ None)) }
     ensures untouched { IfOk result (λ o. IfNone o (tree.new.nodes ≡ tree.old.nodes)) }
     ensures held { IfOk result (λ o. IfSome o (IsNodeOf tree.new.nodes)) }
@@ -213,6 +232,8 @@ impl<A: Allocator + Copy> SetRoot for CstRootNode<A> {
     fn set_value(&mut self, value: CstInputValue<A>) -> Result<CstNode, EditError>
         ensures set { IfOk result (RootBecomes (nodes_of self.old) (nodes_of self.new) (plain value)) }
         ensures written { (p : Options) → IfOk result (RootIsWritten (nodes_of self.old) (nodes_of self.new) p (plain value)) }
+        ensures marked { (p : Options) → OnOk result (RootIsMarked (nodes_of self.old) (nodes_of self.new) p (plain value)) }
+        ensures around { (p : Options) → OnOk result (RootStaysAround (nodes_of self.old) (nodes_of self.new) p (plain value)) }
         ensures stands { IfOk result (λ m. value_under self.new 0 ≡ Some m) }
         ensures held { IfOk result (Holds self.new) }
         ensures stays { StillHolds self.old self.new }
@@ -237,6 +258,8 @@ impl<A: Allocator + Copy> SetRoot for CstRootNode<A> {
 
     fn object_value_or_create(&mut self) -> Result<Option<CstObject>, EditError>
         ensures value { IfOk result (FindsOrCreatesObject (nodes_of self.old) (nodes_of self.new)) }
+        ensures written { (p : Options) → OnOk result (FirstObjectWritten (nodes_of self.old) (nodes_of self.new) p) }
+        ensures marked { (p : Options) → OnOk result (MarksStay (nodes_of self.old) (nodes_of self.new) p) }
         ensures stands { IfOk result (λ o. IfSome o (λ x. value_under self.new 0 ≡ Some (object_node x))) }
         ensures held { IfOk result (λ o. IfSome o (λ x. Holds self.new (object_node x))) }
         ensures stays { StillHolds self.old self.new }
@@ -252,6 +275,8 @@ impl<A: Allocator + Copy> SetRoot for CstRootNode<A> {
 
     fn object_value_or_set(&mut self) -> Result<CstObject, EditError>
         ensures value { IfOk result (FindsOrSetsObject (nodes_of self.old) (nodes_of self.new)) }
+        ensures written { (p : Options) → IfOk result (EmptyObjectWritten (nodes_of self.old) (nodes_of self.new) p) }
+        ensures marked { (p : Options) → OnOk result (EmptyObjectMarked (nodes_of self.old) (nodes_of self.new) p) }
         ensures stands { IfOk result (λ x. value_under self.new 0 ≡ Some (object_node x)) }
         ensures held { IfOk result (λ x. Holds self.new (object_node x)) }
         ensures stays { StillHolds self.old self.new }
@@ -267,6 +292,8 @@ impl<A: Allocator + Copy> SetRoot for CstRootNode<A> {
 
     fn array_value_or_create(&mut self) -> Result<Option<CstArray>, EditError>
         ensures value { IfOk result (FindsOrCreatesArray (nodes_of self.old) (nodes_of self.new)) }
+        ensures written { (p : Options) → OnOk result (FirstArrayWritten (nodes_of self.old) (nodes_of self.new) p) }
+        ensures marked { (p : Options) → OnOk result (MarksStay (nodes_of self.old) (nodes_of self.new) p) }
         ensures stands { IfOk result (λ o. IfSome o (λ x. value_under self.new 0 ≡ Some (array_node x))) }
         ensures held { IfOk result (λ o. IfSome o (λ x. Holds self.new (array_node x))) }
         ensures stays { StillHolds self.old self.new }
@@ -282,6 +309,8 @@ impl<A: Allocator + Copy> SetRoot for CstRootNode<A> {
 
     fn array_value_or_set(&mut self) -> Result<CstArray, EditError>
         ensures value { IfOk result (FindsOrSetsArray (nodes_of self.old) (nodes_of self.new)) }
+        ensures written { (p : Options) → IfOk result (EmptyArrayWritten (nodes_of self.old) (nodes_of self.new) p) }
+        ensures marked { (p : Options) → OnOk result (EmptyArrayMarked (nodes_of self.old) (nodes_of self.new) p) }
         ensures stands { IfOk result (λ x. value_under self.new 0 ≡ Some (array_node x)) }
         ensures held { IfOk result (λ x. Holds self.new (array_node x)) }
         ensures stays { StillHolds self.old self.new }
@@ -314,6 +343,9 @@ pub trait ReplaceProperty: IsNode {
         requires { Holds doc.old (Self.node_of self) }
         ensures replaced { IfOk result (λ o. IfSome o (HasBecomeProperty doc.old doc.new (Self.node_of self) (chars name.now) (plain value))) }
         ensures written { (p : Options) → IfOk result (λ o. IfSome o (HasWrittenProperty doc.old doc.new p (Self.node_of self) (chars name.now) (plain value))) }
+        ensures laid { IfOk result (λ o. IfSome o (IsLaidAsProperty doc.old doc.new (Self.node_of self) (chars name.now) (plain value))) }
+        ensures elsewhere { IfOk result (λ o. IfSome o (λ m. KeepsElsewhere doc.old doc.new (Self.node_of self))) }
+        ensures gone { IfOk result (λ o. IfSome o (λ m. HasGone doc.old doc.new (Self.node_of self))) }
         ensures none { IfOk result (λ o. IfNone o (parent_of doc.old (Self.node_of self) ≡ None)) }
         ensures untouched { IfOk result (λ o. IfNone o (IsUntouched doc.old doc.new)) }
         ensures held { IfOk result (λ o. IfSome o (Holds doc.new)) }

@@ -14,11 +14,13 @@ ghost use Rattle.jsonc_cst.specs.Document.{nodes_of, tree_of, Holds};
 ghost use Rattle.jsonc_cst.specs.Nodes.{array_node, boolean_lit_node, number_of, object_node};
 ghost use Rattle.jsonc_cst.specs.Nodes.{object_prop_node, IsNodeOf};
 ghost use Rattle.jsonc_cst.specs.Tree.{NodesAreTree};
-ghost use Rattle.jsonc_typed.specs.Edits.{StillHolds, StillNodes};
+ghost use Rattle.jsonc_typed.specs.Edits.{KeepsElsewhere, StaysElsewhere, StillHolds, StillNodes};
 ghost use Rattle.jsonc_typed.specs.Removing.{IsKeptForMemory, WantsMemoryAlone};
 ghost use Rattle.jsonc_typed.specs.Values.{BooleanIsWritten, FindsOrSetsHeldArray, FindsOrSetsHeldObject};
-ghost use Rattle.jsonc_typed.specs.Values.{HasSetBoolean, HasWrittenArray, HasWrittenBoolean, HasWrittenObject};
-ghost use Rattle.jsonc_typed.specs.Values.{HasWrittenValue, HeldArrayIsWritten, HeldIsWritten, HeldObjectIsWritten};
+ghost use Rattle.jsonc_typed.specs.Values.{HasMarkedArray, HasMarkedObject, HasMarkedValue, HasSetBoolean};
+ghost use Rattle.jsonc_typed.specs.Values.{HasWrittenArray, HasWrittenBoolean, HasWrittenObject, HasWrittenValue};
+ghost use Rattle.jsonc_typed.specs.Values.{HeldArrayIsMarked, HeldArrayIsWritten, HeldIsMarked, HeldIsWritten};
+ghost use Rattle.jsonc_typed.specs.Values.{HasStayedAroundValue, HeldObjectIsMarked, HeldObjectIsWritten, HeldStaysAround};
 ghost use Rattle.jsonc_typed.specs.Values.{IsChildOf, IsUnder, NowHolds, NowHoldsArray, NowHoldsObject, PropertyHolds};
 
 use crate::setting::{array_at, object_at};
@@ -61,6 +63,9 @@ fn set_property_value<A: Allocator + Copy>(
     requires property { content_at tree.old.nodes property ≡ Content.property }
     ensures set { IfOk result (PropertyHolds tree.old.nodes tree.new.nodes property (plain value.now)) }
     ensures written { (p : Options) → IfOk result (HeldIsWritten tree.old.nodes tree.new.nodes p property (plain value.now)) }
+    ensures marked { OnOk result (HeldIsMarked tree.old.nodes tree.new.nodes property (plain value.now)) }
+    ensures around { OnOk result (HeldStaysAround tree.old.nodes tree.new.nodes property (plain value.now)) }
+    ensures elsewhere { OnOk result (StaysElsewhere tree.old.nodes tree.new.nodes property) }
     ensures child { IfOk result (IsUnder tree.new.nodes property) }
     ensures held { IfOk result (IsNodeOf tree.new.nodes) }
     ensures stays { StillNodes tree.old.nodes tree.new.nodes }
@@ -83,11 +88,14 @@ fn property_object_or_set<A: Allocator + Copy>(
     requires property { content_at tree.old.nodes property ≡ Content.property }
     ensures value { IfOk result (FindsOrSetsHeldObject tree.old.nodes tree.new.nodes property) }
     ensures written { (p : Options) → IfOk result (HeldObjectIsWritten tree.old.nodes tree.new.nodes p property) }
+    ensures marked { OnOk result (HeldObjectIsMarked tree.old.nodes tree.new.nodes property) }
+    ensures elsewhere { OnOk result (StaysElsewhere tree.old.nodes tree.new.nodes property) }
     ensures named { OnOk result (lacks_name_at tree.old.nodes property ≡ false) }
     ensures child { IfOk result (λ x. IsUnder tree.new.nodes property (object_node x)) }
     ensures held { IfOk result (λ x. IsNodeOf tree.new.nodes (object_node x)) }
     ensures stays { StillNodes tree.old.nodes tree.new.nodes }
     ensures told { IfErr result (IsUnset is_object tree.old.nodes property) }
+    ensures missing { IfErr result (λ e. lacks_name_at tree.old.nodes property ≡ true → e ≡ EditError.MissingName) }
     ensures memory { (o : Options) → IfErr result (WantsMemoryAlone o tree.old.nodes property) }
     ensures document { OnErr result (ordered_tree tree.new.nodes 0 ≡ ordered_tree tree.old.nodes 0) }
     ensures tree { IsTree tree.new.nodes }
@@ -107,11 +115,14 @@ fn property_array_or_set<A: Allocator + Copy>(
     requires property { content_at tree.old.nodes property ≡ Content.property }
     ensures value { IfOk result (FindsOrSetsHeldArray tree.old.nodes tree.new.nodes property) }
     ensures written { (p : Options) → IfOk result (HeldArrayIsWritten tree.old.nodes tree.new.nodes p property) }
+    ensures marked { OnOk result (HeldArrayIsMarked tree.old.nodes tree.new.nodes property) }
+    ensures elsewhere { OnOk result (StaysElsewhere tree.old.nodes tree.new.nodes property) }
     ensures named { OnOk result (lacks_name_at tree.old.nodes property ≡ false) }
     ensures child { IfOk result (λ x. IsUnder tree.new.nodes property (array_node x)) }
     ensures held { IfOk result (λ x. IsNodeOf tree.new.nodes (array_node x)) }
     ensures stays { StillNodes tree.old.nodes tree.new.nodes }
     ensures told { IfErr result (IsUnset is_array tree.old.nodes property) }
+    ensures missing { IfErr result (λ e. lacks_name_at tree.old.nodes property ≡ true → e ≡ EditError.MissingName) }
     ensures memory { (o : Options) → IfErr result (WantsMemoryAlone o tree.old.nodes property) }
     ensures document { OnErr result (ordered_tree tree.new.nodes 0 ≡ ordered_tree tree.old.nodes 0) }
     ensures tree { IsTree tree.new.nodes }
@@ -131,6 +142,7 @@ fn set_boolean<A: Allocator + Copy>(
     requires { IsNodeOf tree.old.nodes (boolean_lit_node boolean) }
     ensures set { OnOk result (BooleanSet tree.old.nodes tree.new.nodes boolean.number value) }
     ensures written { (p : Options) → OnOk result (BooleanIsWritten tree.old.nodes tree.new.nodes p boolean.number value) }
+    ensures elsewhere { OnOk result (StaysElsewhere tree.old.nodes tree.new.nodes boolean.number) }
     ensures stays { StillNodes tree.old.nodes tree.new.nodes }
     ensures memory { IfErr result (λ e. e ≡ EditError.OutOfMemory) }
     ensures wanted { OnErr result (WantsSpaceFor tree.old.nodes boolean.number value) }
@@ -159,6 +171,9 @@ pub trait SetProperty: IsNode {
         requires { Holds doc.old (Self.node_of self) }
         ensures set { IfOk result (NowHolds doc.old doc.new (Self.node_of self) (plain value)) }
         ensures written { (p : Options) → IfOk result (HasWrittenValue doc.old doc.new p (Self.node_of self) (plain value)) }
+        ensures marked { OnOk result (HasMarkedValue doc.old doc.new (Self.node_of self) (plain value)) }
+        ensures around { OnOk result (HasStayedAroundValue doc.old doc.new (Self.node_of self) (plain value)) }
+        ensures elsewhere { OnOk result (KeepsElsewhere doc.old doc.new (Self.node_of self)) }
         ensures child { IfOk result (IsChildOf doc.new (Self.node_of self)) }
         ensures held { IfOk result (Holds doc.new) }
         ensures stays { StillHolds doc.old doc.new }
@@ -179,11 +194,14 @@ pub trait SetProperty: IsNode {
         requires { Holds doc.old (Self.node_of self) }
         ensures value { IfOk result (NowHoldsObject doc.old doc.new (Self.node_of self)) }
         ensures written { (p : Options) → IfOk result (HasWrittenObject doc.old doc.new p (Self.node_of self)) }
+        ensures marked { OnOk result (HasMarkedObject doc.old doc.new (Self.node_of self)) }
+        ensures elsewhere { OnOk result (KeepsElsewhere doc.old doc.new (Self.node_of self)) }
         ensures named { OnOk result (lacks_name_at (nodes_of doc.old) (number_of (Self.node_of self)) ≡ false) }
         ensures child { IfOk result (λ x. IsChildOf doc.new (Self.node_of self) (object_node x)) }
         ensures held { IfOk result (λ x. Holds doc.new (object_node x)) }
         ensures stays { StillHolds doc.old doc.new }
         ensures told { IfErr result (IsUnset is_object (nodes_of doc.old) (number_of (Self.node_of self))) }
+        ensures missing { IfErr result (λ e. lacks_name_at (nodes_of doc.old) (number_of (Self.node_of self)) ≡ true → e ≡ EditError.MissingName) }
         ensures memory { (o : Options) → IfErr result (IsKeptForMemory doc.old o (Self.node_of self)) }
         ensures document { OnErr result (tree_of doc.new ≡ tree_of doc.old) }
         ensures tree { NodesAreTree doc.new };
@@ -201,11 +219,14 @@ pub trait SetProperty: IsNode {
         requires { Holds doc.old (Self.node_of self) }
         ensures value { IfOk result (NowHoldsArray doc.old doc.new (Self.node_of self)) }
         ensures written { (p : Options) → IfOk result (HasWrittenArray doc.old doc.new p (Self.node_of self)) }
+        ensures marked { OnOk result (HasMarkedArray doc.old doc.new (Self.node_of self)) }
+        ensures elsewhere { OnOk result (KeepsElsewhere doc.old doc.new (Self.node_of self)) }
         ensures named { OnOk result (lacks_name_at (nodes_of doc.old) (number_of (Self.node_of self)) ≡ false) }
         ensures child { IfOk result (λ x. IsChildOf doc.new (Self.node_of self) (array_node x)) }
         ensures held { IfOk result (λ x. Holds doc.new (array_node x)) }
         ensures stays { StillHolds doc.old doc.new }
         ensures told { IfErr result (IsUnset is_array (nodes_of doc.old) (number_of (Self.node_of self))) }
+        ensures missing { IfErr result (λ e. lacks_name_at (nodes_of doc.old) (number_of (Self.node_of self)) ≡ true → e ≡ EditError.MissingName) }
         ensures memory { (o : Options) → IfErr result (IsKeptForMemory doc.old o (Self.node_of self)) }
         ensures document { OnErr result (tree_of doc.new ≡ tree_of doc.old) }
         ensures tree { NodesAreTree doc.new };
@@ -261,6 +282,7 @@ pub trait SetBoolean: IsNode {
         requires { Holds doc.old (Self.node_of self) }
         ensures set { OnOk result (HasSetBoolean doc.old doc.new (Self.node_of self) value) }
         ensures written { (p : Options) → OnOk result (HasWrittenBoolean doc.old doc.new p (Self.node_of self) value) }
+        ensures elsewhere { OnOk result (KeepsElsewhere doc.old doc.new (Self.node_of self)) }
         ensures stays { StillHolds doc.old doc.new }
         ensures memory { IfErr result (λ e. e ≡ EditError.OutOfMemory) }
         ensures wanted { OnErr result (WantsSpaceFor (nodes_of doc.old) (number_of (Self.node_of self)) value) }

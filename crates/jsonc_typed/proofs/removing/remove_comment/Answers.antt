@@ -1,6 +1,8 @@
 use Rattle.jsonc_typed.proofs.Kept.{nodes_stay, stay_either}
-use Rattle.jsonc_typed.proofs.Gone.{comment_written}
+use Rattle.jsonc_typed.proofs.Gone.{comment_alone, comment_written}
 use Rattle.jsonc_typed.proofs.Whole.{comment_for_memory}
+use Rattle.jsonc_typed.proofs.Elsewhere.{if_comment}
+use Rattle.jsonc_typed.proofs.Nobodys.{if_taken_nobodys}
 use Rattle.jsonc_typed.proofs.removing.remove_comment.Goals as goal
 
 pub returns-clause-stays : goal.returns-clause-stays
@@ -11,8 +13,20 @@ returns-clause-stays g c =
 
 pub returns-clause-written : goal.returns-clause-written
 returns-clause-written g c =
-    λ o. comment_written o c.args.tree.now.nodes c.remove_comment.new.tree.nodes c.len.ensures.tree c.remove_comment.ensures.tree c.args.number c.remove_comment.result c.remove_comment.ensures.removed
+    λ o. comment_written c.args.tree.now.nodes c.remove_comment.new.tree.nodes c.len.ensures.tree c.remove_comment.ensures.tree c.args.number o c.remove_comment.result c.remove_comment.ensures.removed
 
 pub returns-clause-memory : goal.returns-clause-memory
 returns-clause-memory g c = λ o.
     comment_for_memory o c.args.tree.now.nodes c.args.number c.remove_comment.result c.remove_comment.ensures.memory
+
+pub returns-clause-around : goal.returns-clause-around
+returns-clause-around g c =
+    λ o. comment_alone c.args.tree.now.nodes c.remove_comment.new.tree.nodes c.len.ensures.tree c.remove_comment.ensures.tree c.args.number c.remove_comment.result c.remove_comment.ensures.removed
+
+pub returns-clause-elsewhere : goal.returns-clause-elsewhere
+returns-clause-elsewhere g c =
+    if_comment c.args.tree.now.nodes c.remove_comment.new.tree.nodes c.len.ensures.tree c.remove_comment.ensures.tree c.args.number c.remove_comment.result c.remove_comment.ensures.untouched c.remove_comment.ensures.removed
+
+pub returns-clause-gone : goal.returns-clause-gone
+returns-clause-gone g c =
+    if_taken_nobodys c.args.tree.now.nodes c.remove_comment.new.tree.nodes c.args.number c.remove_comment.result c.len.ensures.tree c.remove_comment.ensures.tree c.remove_comment.ensures.untouched c.remove_comment.ensures.removed

@@ -1,6 +1,8 @@
-use Rattle.jsonc_typed.proofs.Gone.{element_written}
+use Rattle.jsonc_typed.proofs.Gone.{element_alone, element_written}
 use Rattle.jsonc_typed.proofs.Kept.{nodes_stay, stay_element}
 use Rattle.jsonc_typed.proofs.Whole.{element_for_memory}
+use Rattle.jsonc_typed.proofs.Elsewhere.{if_element}
+use Rattle.jsonc_typed.proofs.Nobodys.{if_nobodys}
 use Rattle.jsonc_typed.proofs.removing.remove_element.Goals as goal
 
 pub returns-clause-stays : goal.returns-clause-stays
@@ -16,3 +18,14 @@ returns-clause-written g c =
 pub returns-clause-memory : goal.returns-clause-memory
 returns-clause-memory g c = λ o.
     element_for_memory o c.args.tree.now.nodes c.len.ensures.tree c.args.number c.remove.result c.remove.ensures.told
+
+pub returns-clause-around : goal.returns-clause-around
+returns-clause-around g c =
+    λ o. element_alone o c.args.tree.now.nodes c.remove.new.tree.nodes c.args.number c.len.ensures.tree c.remove.ensures.tree c.remove.result c.remove.ensures.taken
+
+pub returns-clause-elsewhere : goal.returns-clause-elsewhere
+returns-clause-elsewhere g c =
+    if_element c.args.tree.now.nodes c.remove.new.tree.nodes c.len.ensures.tree c.remove.ensures.tree c.args.number c.remove.result c.remove.ensures.untouched c.remove.ensures.taken
+
+pub returns-clause-gone : goal.returns-clause-gone
+returns-clause-gone g c = if_nobodys c.remove.new.tree.nodes c.args.number c.remove.result c.remove.ensures.tree c.remove.ensures.alone

@@ -1,6 +1,8 @@
 use Rattle.jsonc_input.specs.Views.{plain}
 use Rattle.jsonc_edit.specs.Reading.{IsReplacedRaw}
 use Rattle.jsonc_typed.proofs.Kept.{as_typed, nodes_stay, of_some, raw_there, stay_raw}
+use Rattle.jsonc_typed.proofs.Elsewhere.{raw_elsewhere}
+use Rattle.jsonc_typed.proofs.Nobodys.{raw_nobodys}
 use Rattle.jsonc_typed.proofs.replacing.replace_name.Goals as goal
 
 pub node_at-requires : goal.node_at-requires
@@ -23,3 +25,17 @@ returns-clause-stays g c =
     let new = c.replace_name.new.tree.nodes in
     nodes_stay old new (stay_raw old new c.args.number (plain c.args.value.now) c.in-Some.raw
     (of_some (IsReplacedRaw old new c.args.number (plain c.args.value.now)) c.in_ok-raw.field-0 c.in-Some.raw c.in-Some.is c.in_ok-raw.ensures.replaced))
+
+pub returns-clause-elsewhere : goal.returns-clause-elsewhere
+returns-clause-elsewhere g c =
+    let old = c.args.tree.now.nodes in
+    let new = c.replace_name.new.tree.nodes in
+    raw_elsewhere old c.len.ensures.tree new c.args.number c.in-Some.raw (plain c.args.value.now) c.replace_name.ensures.tree
+    (of_some (IsReplacedRaw old new c.args.number (plain c.args.value.now)) c.in_ok-raw.field-0 c.in-Some.raw c.in-Some.is c.in_ok-raw.ensures.replaced)
+
+pub returns-clause-gone : goal.returns-clause-gone
+returns-clause-gone g c =
+    let old = c.args.tree.now.nodes in
+    let new = c.replace_name.new.tree.nodes in
+    raw_nobodys old new c.args.number c.in-Some.raw c.len.ensures.tree c.replace_name.ensures.tree (plain c.args.value.now)
+    (of_some (IsReplacedRaw old new c.args.number (plain c.args.value.now)) c.in_ok-raw.field-0 c.in-Some.raw c.in-Some.is c.in_ok-raw.ensures.replaced)

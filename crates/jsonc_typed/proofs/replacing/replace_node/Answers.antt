@@ -4,9 +4,21 @@ use Rattle.jsonc_edit.specs.Written.{Writes}
 use Rattle.jsonc_typed.specs.Edits.{is_name_in}
 use Rattle.jsonc_cst.specs.Nodes.{number_of}
 use Rattle.jsonc_typed.proofs.Kept.{answer_under}
+use Rattle.jsonc_typed.specs.Marked.{IsMarkedFor}
+use Rattle.jsonc_typed.specs.Around.{StaysAroundValue}
 use Rattle.jsonc_typed.proofs.replacing.replace_node.Goals as goal
 
 pub returns-clause-written : goal.returns-clause-written
 returns-clause-written g c = λ p.
     let old = c.args.tree.now.nodes in
     answer_under (is_name_in old c.args.number ≡ false) (λ m. Writes p old c.replace_value.new.tree.nodes c.args.number (number_of m) (plain c.args.value.now)) c.replace_value.result (c.replace_value.ensures.written p)
+
+pub returns-clause-marked : goal.returns-clause-marked
+returns-clause-marked g c =
+    let old = c.args.tree.now.nodes in
+    answer_under (is_name_in old c.args.number ≡ false) (λ m. IsMarkedFor old c.replace_value.new.tree.nodes c.args.number (plain c.args.value.now)) c.replace_value.result c.replace_value.ensures.marked
+
+pub returns-clause-around : goal.returns-clause-around
+returns-clause-around g c =
+    let old = c.args.tree.now.nodes in
+    answer_under (is_name_in old c.args.number ≡ false) (λ m. StaysAroundValue old c.replace_value.new.tree.nodes c.args.number (plain c.args.value.now)) c.replace_value.result c.replace_value.ensures.around

@@ -2,6 +2,10 @@ use Rattle.jsonc_input.specs.Views.{plain}
 use Rattle.jsonc_edit.specs.Reading.{IsReplaced}
 use Rattle.jsonc_edit.specs.Written.{Writes}
 use Rattle.jsonc_typed.proofs.Kept.{as_typed, nodes_stay, of_some, replaced_there, stay_replaced}
+use Rattle.jsonc_typed.proofs.Marked.{replaced_marked}
+use Rattle.jsonc_typed.proofs.Around.{replaced_around}
+use Rattle.jsonc_typed.proofs.Elsewhere.{replaced_elsewhere}
+use Rattle.jsonc_typed.proofs.Nobodys.{replaced_nobodys}
 use Rattle.jsonc_typed.proofs.replacing.replace_value.Goals as goal
 
 pub node_at-requires : goal.node_at-requires
@@ -31,3 +35,31 @@ returns-clause-stays g c =
     let new = c.replace.new.tree.nodes in
     nodes_stay old new (stay_replaced old new c.args.number (plain c.args.value.now) c.in-Some.new
     (of_some (IsReplaced old new c.args.number (plain c.args.value.now)) c.in_ok-new.field-0 c.in-Some.new c.in-Some.is c.in_ok-new.ensures.replaced))
+
+pub returns-clause-marked : goal.returns-clause-marked
+returns-clause-marked g c =
+    let old = c.args.tree.now.nodes in
+    let new = c.replace.new.tree.nodes in
+    replaced_marked old new (plain c.args.value.now) c.len.ensures.tree c.args.number c.in-Some.new
+    (of_some (IsReplaced old new c.args.number (plain c.args.value.now)) c.in_ok-new.field-0 c.in-Some.new c.in-Some.is c.in_ok-new.ensures.replaced)
+
+pub returns-clause-around : goal.returns-clause-around
+returns-clause-around g c =
+    let old = c.args.tree.now.nodes in
+    let new = c.replace.new.tree.nodes in
+    replaced_around old new (plain c.args.value.now) c.len.ensures.tree c.args.number c.in-Some.new
+    (of_some (IsReplaced old new c.args.number (plain c.args.value.now)) c.in_ok-new.field-0 c.in-Some.new c.in-Some.is c.in_ok-new.ensures.replaced)
+
+pub returns-clause-elsewhere : goal.returns-clause-elsewhere
+returns-clause-elsewhere g c =
+    let old = c.args.tree.now.nodes in
+    let new = c.replace.new.tree.nodes in
+    replaced_elsewhere old c.len.ensures.tree new c.args.number c.in-Some.new (plain c.args.value.now) c.replace.ensures.tree
+    (of_some (IsReplaced old new c.args.number (plain c.args.value.now)) c.in_ok-new.field-0 c.in-Some.new c.in-Some.is c.in_ok-new.ensures.replaced)
+
+pub returns-clause-gone : goal.returns-clause-gone
+returns-clause-gone g c =
+    let old = c.args.tree.now.nodes in
+    let new = c.replace.new.tree.nodes in
+    replaced_nobodys old new c.args.number c.in-Some.new c.len.ensures.tree c.replace.ensures.tree (plain c.args.value.now)
+    (of_some (IsReplaced old new c.args.number (plain c.args.value.now)) c.in_ok-new.field-0 c.in-Some.new c.in-Some.is c.in_ok-new.ensures.replaced)

@@ -7,6 +7,7 @@ use Rattle.jsonc_cst.specs.Nodes.{array_node}
 use Rattle.jsonc_typed.proofs.Found.{created_found, stands_as}
 use Rattle.jsonc_typed.proofs.Kept.{nodes_stay}
 use Rattle.jsonc_typed.proofs.Roots.{created_is, created_or_kept, array_is}
+use Rattle.jsonc_typed.proofs.Marked.{created_marked, created_written, empty_array_writable}
 use Rattle.jsonc_typed.proofs.setting.array_or_create.Goals as goal
 
 pub array_at-requires : goal.array_at-requires
@@ -36,3 +37,27 @@ returns-clause-stands g c =
     (created_found is_array (array no_items) old new c.len.ensures.tree c.array_value_or_create.ensures.tree (value_at old 0) c.in-Some.number refl
     (subst (λ o. FoundOrCreated is_array (array no_items) old new (value_at old 0) o) c.in-Some.is c.in_ok-number.ensures.value))
     c.array_at.ensures.number c.array_at.ensures.held
+
+pub returns-clause-written : goal.returns-clause-written
+returns-clause-written g c = λ p.
+    let old = c.args.tree.now.nodes in
+    let new = c.array_value_or_create.new.tree.nodes in
+    created_written p is_array (array no_items) (empty_array_writable p) refl old new c.len.ensures.tree (value_at old 0) c.in_ok-number.field-0 refl c.in_ok-number.ensures.value
+
+pub returns-clause-marked : goal.returns-clause-marked
+returns-clause-marked g c = λ p.
+    let old = c.args.tree.now.nodes in
+    let new = c.array_value_or_create.new.tree.nodes in
+    created_marked p is_array (array no_items) (empty_array_writable p) refl old new c.len.ensures.tree (value_at old 0) c.in_ok-number.field-0 refl c.in_ok-number.ensures.value
+
+pub returns-in_default-clause-written : goal.returns-in_default-clause-written
+returns-in_default-clause-written g c = λ p.
+    let old = c.args.tree.now.nodes in
+    let new = c.array_value_or_create.new.tree.nodes in
+    created_written p is_array (array no_items) (empty_array_writable p) refl old new c.len.ensures.tree (value_at old 0) c.in_ok-number.field-0 refl c.in_ok-number.ensures.value
+
+pub returns-in_default-clause-marked : goal.returns-in_default-clause-marked
+returns-in_default-clause-marked g c = λ p.
+    let old = c.args.tree.now.nodes in
+    let new = c.array_value_or_create.new.tree.nodes in
+    created_marked p is_array (array no_items) (empty_array_writable p) refl old new c.len.ensures.tree (value_at old 0) c.in_ok-number.field-0 refl c.in_ok-number.ensures.value

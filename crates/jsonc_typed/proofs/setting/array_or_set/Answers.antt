@@ -1,4 +1,4 @@
-use Rattle.std.proofs.Common.{refl}
+use Rattle.std.proofs.Common.{refl, subst, sym}
 use Rattle.jsonc_text.specs.Plain.{array, no_items}
 use Rattle.jsonc_tree.specs.Content.{Content}
 use Rattle.jsonc_nodes.specs.Properties.{value_at}
@@ -7,6 +7,8 @@ use Rattle.jsonc_cst.specs.Nodes.{array_node}
 use Rattle.jsonc_typed.proofs.Found.{set_found, stands_as}
 use Rattle.jsonc_typed.proofs.Kept.{nodes_stay}
 use Rattle.jsonc_typed.proofs.Roots.{set_is, set_or_kept, array_is}
+use Rattle.jsonc_typed.specs.Setting.{EmptyWritten}
+use Rattle.jsonc_typed.proofs.Marked.{empty_array_writable, set_marked, set_written}
 use Rattle.jsonc_typed.proofs.setting.array_or_set.Goals as goal
 
 pub array_at-requires : goal.array_at-requires
@@ -28,3 +30,16 @@ returns-clause-stands g c =
     stands_as new c.in_ok-number.number (array_node c.array_at.result)
     (set_found is_array (array no_items) old new c.len.ensures.tree c.array_value_or_set.ensures.tree (value_at old 0) c.in_ok-number.number refl c.in_ok-number.ensures.value)
     c.array_at.ensures.number c.array_at.ensures.held
+
+pub returns-clause-written : goal.returns-clause-written
+returns-clause-written g c = λ p.
+    let old = c.args.tree.now.nodes in
+    let new = c.array_value_or_set.new.tree.nodes in
+    subst (λ m. EmptyWritten old new is_array p (array no_items) (value_at old 0) m) (sym c.array_at.ensures.number)
+    (set_written p is_array (array no_items) (empty_array_writable p) refl old new c.len.ensures.tree (value_at old 0) c.in_ok-number.number refl c.in_ok-number.ensures.value)
+
+pub returns-clause-marked : goal.returns-clause-marked
+returns-clause-marked g c = λ p.
+    let old = c.args.tree.now.nodes in
+    let new = c.array_value_or_set.new.tree.nodes in
+    set_marked p is_array (array no_items) (empty_array_writable p) refl old new c.len.ensures.tree (value_at old 0) c.in_ok-number.number refl c.in_ok-number.ensures.value

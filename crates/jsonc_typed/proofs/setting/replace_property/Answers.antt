@@ -3,6 +3,10 @@ use Rattle.jsonc_input.specs.Views.{plain}
 use Rattle.jsonc_set.specs.Giving.{IsPropertyReplaced}
 use Rattle.jsonc_typed.proofs.Kept.{as_typed, nodes_stay, of_some}
 use Rattle.jsonc_typed.proofs.Roots.{property_is_written, property_there, stay_property}
+use Rattle.jsonc_typed.specs.Around.{IsLaidProperty}
+use Rattle.jsonc_typed.proofs.Around.{property_laid}
+use Rattle.jsonc_typed.proofs.Elsewhere.{property_elsewhere}
+use Rattle.jsonc_typed.proofs.Nobodys.{property_nobodys}
 use Rattle.jsonc_typed.proofs.setting.replace_property.Goals as goal
 
 pub node_at-requires : goal.node_at-requires
@@ -33,3 +37,25 @@ returns-clause-stays g c =
     let new = c.replace_property.new.tree.nodes in
     nodes_stay old new (stay_property old new c.args.number (chars c.args.name.now) (plain c.args.value.now) c.in-Some.new
     (of_some (IsPropertyReplaced old new c.args.number (chars c.args.name.now) (plain c.args.value.now)) c.in_ok-new.field-0 c.in-Some.new c.in-Some.is c.in_ok-new.ensures.replaced))
+
+pub returns-clause-laid : goal.returns-clause-laid
+returns-clause-laid g c =
+    let old = c.args.tree.now.nodes in
+    let new = c.replace_property.new.tree.nodes in
+    as_typed (IsLaidProperty old new c.args.number (chars c.args.name.now) (plain c.args.value.now)) new c.in-Some.new c.node_at.result c.node_at.ensures.node
+    (property_laid old new c.args.number c.in-Some.new (chars c.args.name.now) (plain c.args.value.now)
+    (of_some (IsPropertyReplaced old new c.args.number (chars c.args.name.now) (plain c.args.value.now)) c.in_ok-new.field-0 c.in-Some.new c.in-Some.is c.in_ok-new.ensures.replaced))
+
+pub returns-clause-elsewhere : goal.returns-clause-elsewhere
+returns-clause-elsewhere g c =
+    let old = c.args.tree.now.nodes in
+    let new = c.replace_property.new.tree.nodes in
+    property_elsewhere old c.len.ensures.tree new c.args.number c.in-Some.new (chars c.args.name.now) (plain c.args.value.now) c.replace_property.ensures.tree
+    (of_some (IsPropertyReplaced old new c.args.number (chars c.args.name.now) (plain c.args.value.now)) c.in_ok-new.field-0 c.in-Some.new c.in-Some.is c.in_ok-new.ensures.replaced)
+
+pub returns-clause-gone : goal.returns-clause-gone
+returns-clause-gone g c =
+    let old = c.args.tree.now.nodes in
+    let new = c.replace_property.new.tree.nodes in
+    property_nobodys old new c.args.number c.in-Some.new c.len.ensures.tree c.replace_property.ensures.tree (chars c.args.name.now) (plain c.args.value.now)
+    (of_some (IsPropertyReplaced old new c.args.number (chars c.args.name.now) (plain c.args.value.now)) c.in_ok-new.field-0 c.in-Some.new c.in-Some.is c.in_ok-new.ensures.replaced)

@@ -8,6 +8,8 @@ use Rattle.jsonc_typed.specs.Setting.{ValueBecomes, ValueIsWritten}
 use Rattle.jsonc_typed.proofs.Found.{stands_as, value_found}
 use Rattle.jsonc_typed.proofs.Kept.{as_typed, nodes_stay}
 use Rattle.jsonc_typed.proofs.Roots.{becomes, is_written, set_there, stay_set}
+use Rattle.jsonc_typed.proofs.Marked.{root_marked}
+use Rattle.jsonc_typed.proofs.Around.{root_around}
 use Rattle.jsonc_typed.proofs.setting.set_root.Goals as goal
 
 pub node_at-requires : goal.node_at-requires
@@ -49,3 +51,15 @@ returns-clause-stands g c =
     (value_found old new v (value_at old 0) c.in_ok-number.number c.len.ensures.tree c.set_root.ensures.tree refl
     (becomes old new v (value_at old 0) c.in_ok-number.number c.in_ok-number.ensures.replaced c.in_ok-number.ensures.first))
     (ap number_of c.node_at.ensures.node ∙ number_of-typed (content_at new c.in_ok-number.number) c.in_ok-number.number) c.node_at.ensures.held
+
+pub returns-clause-marked : goal.returns-clause-marked
+returns-clause-marked g c = λ p.
+    let old = c.args.tree.now.nodes in
+    let new = c.set_root.new.tree.nodes in
+    root_marked old new (plain c.args.value.now) c.len.ensures.tree p (value_at old 0) c.in_ok-number.number refl c.in_ok-number.ensures.replaced c.in_ok-number.ensures.first
+
+pub returns-clause-around : goal.returns-clause-around
+returns-clause-around g c = λ p.
+    let old = c.args.tree.now.nodes in
+    let new = c.set_root.new.tree.nodes in
+    root_around old new (plain c.args.value.now) c.len.ensures.tree p (value_at old 0) c.in_ok-number.number refl c.in_ok-number.ensures.replaced c.in_ok-number.ensures.first

@@ -10,6 +10,8 @@ use Rattle.jsonc_typed.proofs.Kept.{nodes_stay}
 use Rattle.jsonc_typed.proofs.Roots.{array_is}
 use Rattle.jsonc_typed.proofs.Held.{found_is, found_is_child, found_is_written, found_or_kept}
 use Rattle.jsonc_typed.proofs.Whole.{value_for_memory}
+use Rattle.jsonc_typed.proofs.Marked.{held_empty_marked}
+use Rattle.jsonc_typed.proofs.Elsewhere.{found_elsewhere}
 use Rattle.jsonc_typed.proofs.values.property_array_or_set.Goals as goal
 
 pub array_at-requires : goal.array_at-requires
@@ -42,3 +44,15 @@ pub returns-in_err-number-clause-memory : goal.returns-in_err-number-clause-memo
 returns-in_err-number-clause-memory g c = λ o.
     let told : IfErr c.from_residual.result (IsUnset is_array c.args.tree.now.nodes c.args.property) = search rules in
     value_for_memory o c.args.tree.now.nodes c.len.ensures.tree is_array c.args.property c.requires.there c.requires.property c.from_residual.result told
+
+pub returns-clause-marked : goal.returns-clause-marked
+returns-clause-marked g c =
+    let old = c.args.tree.now.nodes in
+    let new = c.property_array_or_set.new.tree.nodes in
+    held_empty_marked old new (array no_items) c.len.ensures.tree is_array c.args.property (value_at old c.args.property) c.in_ok-number.number c.in_ok-number.ensures.value
+
+pub returns-clause-elsewhere : goal.returns-clause-elsewhere
+returns-clause-elsewhere g c =
+    let old = c.args.tree.now.nodes in
+    let new = c.property_array_or_set.new.tree.nodes in
+    found_elsewhere old new c.len.ensures.tree c.property_array_or_set.ensures.tree c.args.property c.requires.there c.requires.property (array no_items) is_array (value_at old c.args.property) c.in_ok-number.number refl c.in_ok-number.ensures.value

@@ -1,6 +1,8 @@
 use Rattle.std.proofs.Common.{OnOk, subst}
 use Rattle.jsonc_typed.specs.Values.{BooleanIsWritten}
 use Rattle.jsonc_typed.proofs.Held.{boolean_is_written, boolean_or_kept}
+use Rattle.jsonc_typed.specs.Edits.{StaysElsewhere}
+use Rattle.jsonc_typed.proofs.Elsewhere.{if_boolean}
 use Rattle.jsonc_typed.proofs.values.set_boolean.Goals as goal
 
 pub returns-clause-written : goal.returns-clause-written
@@ -17,3 +19,11 @@ returns-clause-stays g c =
     let new = c.set_boolean.new.tree.nodes in
     let number = c.boolean_number-number in
     boolean_or_kept old new number.result c.args.value number.ensures.there number.ensures.boolean c.set_boolean.result c.set_boolean.ensures.set c.set_boolean.ensures.kept
+
+pub returns-clause-elsewhere : goal.returns-clause-elsewhere
+returns-clause-elsewhere g c =
+    let old = c.args.tree.now.nodes in
+    let new = c.set_boolean.new.tree.nodes in
+    let number = c.boolean_number-number in
+    subst (λ n. OnOk c.set_boolean.result (StaysElsewhere old new n)) number.ensures.number
+    (if_boolean old new c.len.ensures.tree c.set_boolean.ensures.tree number.result c.args.value number.ensures.there c.set_boolean.result c.set_boolean.ensures.set)

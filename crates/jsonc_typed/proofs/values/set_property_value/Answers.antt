@@ -6,6 +6,9 @@ use Rattle.jsonc_edit.specs.Written.{Writes}
 use Rattle.jsonc_typed.specs.Values.{HeldBecomes}
 use Rattle.jsonc_typed.proofs.Kept.{as_typed, nodes_stay}
 use Rattle.jsonc_typed.proofs.Held.{held_becomes, held_is_child, held_is_written, held_there, stay_held}
+use Rattle.jsonc_typed.proofs.Marked.{held_marked}
+use Rattle.jsonc_typed.proofs.Around.{held_around}
+use Rattle.jsonc_typed.proofs.Elsewhere.{held_elsewhere}
 use Rattle.jsonc_typed.proofs.values.set_property_value.Goals as goal
 
 pub node_at-requires : goal.node_at-requires
@@ -51,3 +54,24 @@ returns-clause-child g c =
     as_typed (λ m. parent_at new m ≡ Some p) new c.in_ok-number.number c.node_at.result c.node_at.ensures.node
     (held_is_child old new p v c.len.ensures.tree c.requires.property (value_at old p) c.in_ok-number.number refl
     (held_becomes old new p v (value_at old p) c.in_ok-number.number c.in_ok-number.ensures.replaced c.in_ok-number.ensures.last))
+
+pub returns-clause-marked : goal.returns-clause-marked
+returns-clause-marked g c =
+    let old = c.args.tree.now.nodes in
+    let new = c.set_property_value.new.tree.nodes in
+    held_marked old new (plain c.args.value.now) c.len.ensures.tree (value_at old c.args.property) c.in_ok-number.number c.in_ok-number.ensures.replaced
+
+pub returns-clause-around : goal.returns-clause-around
+returns-clause-around g c =
+    let old = c.args.tree.now.nodes in
+    let new = c.set_property_value.new.tree.nodes in
+    held_around old new (plain c.args.value.now) c.len.ensures.tree (value_at old c.args.property) c.in_ok-number.number c.in_ok-number.ensures.replaced
+
+pub returns-clause-elsewhere : goal.returns-clause-elsewhere
+returns-clause-elsewhere g c =
+    let old = c.args.tree.now.nodes in
+    let new = c.set_property_value.new.tree.nodes in
+    let p = c.args.property in
+    let v = plain c.args.value.now in
+    held_elsewhere old new c.len.ensures.tree c.set_property_value.ensures.tree p c.requires.there c.requires.property v (value_at old p) c.in_ok-number.number refl
+    (held_becomes old new p v (value_at old p) c.in_ok-number.number c.in_ok-number.ensures.replaced c.in_ok-number.ensures.last)

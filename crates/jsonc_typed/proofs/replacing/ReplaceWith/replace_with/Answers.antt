@@ -1,8 +1,10 @@
 use Rattle.std.proofs.Common.{◌≡◌, false, IfOk, IfSome, ap, subst, ◌∙◌}
 use Rattle.jsonc_input.specs.Views.{plain}
 use Rattle.jsonc_edit.specs.Written.{Writes}
-use Rattle.jsonc_typed.specs.Edits.{is_name_in, IsReplacedAs}
+use Rattle.jsonc_typed.specs.Edits.{is_name_in, IsNobodys, IsReplacedAs, StaysElsewhere}
 use Rattle.jsonc_cst.specs.Nodes.{number_of}
+use Rattle.jsonc_typed.specs.Marked.{IsMarkedFor}
+use Rattle.jsonc_typed.specs.Around.{StaysAroundValue}
 use Rattle.jsonc_typed.proofs.replacing.ReplaceWith.replace_with.Goals as goal
 
 pub returns-clause-replaced : goal.returns-clause-replaced
@@ -18,3 +20,30 @@ returns-clause-written g c = λ p.
     let new = c.replace_node-replaced.new.tree.nodes in
     let same : c.number.result ≡ number_of (g.Self.IsNode.node_of c.args.self) = c.number.ensures ∙ ap number_of c.node.ensures in
     subst (λ k. IfOk c.replace_node-replaced.result (λ o. IfSome o (λ m. is_name_in old k ≡ false → Writes p old new k (number_of m) (plain c.args.value)))) same (c.replace_node-replaced.ensures.written p)
+
+pub returns-clause-marked : goal.returns-clause-marked
+returns-clause-marked g c =
+    let old = c.args.doc.now.tree.nodes in
+    let new = c.replace_node-replaced.new.tree.nodes in
+    let same : c.number.result ≡ number_of (g.Self.IsNode.node_of c.args.self) = c.number.ensures ∙ ap number_of c.node.ensures in
+    subst (λ k. IfOk c.replace_node-replaced.result (λ o. IfSome o (λ m. is_name_in old k ≡ false → IsMarkedFor old new k (plain c.args.value)))) same c.replace_node-replaced.ensures.marked
+
+pub returns-clause-around : goal.returns-clause-around
+returns-clause-around g c =
+    let old = c.args.doc.now.tree.nodes in
+    let new = c.replace_node-replaced.new.tree.nodes in
+    let same : c.number.result ≡ number_of (g.Self.IsNode.node_of c.args.self) = c.number.ensures ∙ ap number_of c.node.ensures in
+    subst (λ k. IfOk c.replace_node-replaced.result (λ o. IfSome o (λ m. is_name_in old k ≡ false → StaysAroundValue old new k (plain c.args.value)))) same c.replace_node-replaced.ensures.around
+
+pub returns-clause-elsewhere : goal.returns-clause-elsewhere
+returns-clause-elsewhere g c =
+    let old = c.args.doc.now.tree.nodes in
+    let new = c.replace_node-replaced.new.tree.nodes in
+    let same : c.number.result ≡ number_of (g.Self.IsNode.node_of c.args.self) = c.number.ensures ∙ ap number_of c.node.ensures in
+    subst (λ k. IfOk c.replace_node-replaced.result (λ o. IfSome o (λ m. StaysElsewhere old new k))) same c.replace_node-replaced.ensures.elsewhere
+
+pub returns-clause-gone : goal.returns-clause-gone
+returns-clause-gone g c =
+    let new = c.replace_node-replaced.new.tree.nodes in
+    let same : c.number.result ≡ number_of (g.Self.IsNode.node_of c.args.self) = c.number.ensures ∙ ap number_of c.node.ensures in
+    subst (λ k. IfOk c.replace_node-replaced.result (λ o. IfSome o (λ m. IsNobodys new k))) same c.replace_node-replaced.ensures.gone

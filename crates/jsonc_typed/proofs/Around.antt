@@ -1,0 +1,43 @@
+-- What stays around a value, or a property, that gives way.
+use Rattle.std.proofs.Common.{◌≡◌, ℕ, List, Option, Some, None, IfNone, IfSome, sym, subst, ◌∙◌}
+use Rattle.jsonc_text.specs.Options.{Options}
+use Rattle.jsonc_text.specs.Plain.{Plain}
+use Rattle.jsonc_tree.specs.OrderedTree.{ordered_tree, Top}
+use Rattle.jsonc_tree.specs.Tree.{Node, IsTree}
+use Rattle.jsonc_nodes.specs.Properties.{value_at}
+use Rattle.jsonc_from_input.specs.Laid.{laid}
+use Rattle.jsonc_laws.specs.TreeChanges.{leaves_of}
+use Rattle.jsonc_laws.proofs.LeavesAround.{document_differs}
+use Rattle.jsonc_edit.specs.Changes.{top_at}
+use Rattle.jsonc_edit.specs.Reading.{layout_for, IsReplaced}
+use Rattle.jsonc_edit.proofs.Elements.{Some_same}
+use Rattle.jsonc_edit.proofs.GivingWay.{in_place}
+use Rattle.jsonc_edit.proofs.ReplacedValues.{changed, put}
+use Rattle.jsonc_set.specs.Giving.{property_top, IsPropertyReplaced}
+use Rattle.jsonc_set.specs.RootSet.{FirstValue}
+use Rattle.jsonc_set.proofs.Coming.{comes_among_rows}
+use Rattle.jsonc_typed.specs.Around.{IsLaidProperty, LeavesGiveWay, StaysAroundRoot, StaysAroundValue}
+
+module _ (old new : List Node) (v : Plain) (tree : IsTree old) where
+  pub replaced_around : (n m : ℕ) → IsReplaced old new n v m → StaysAroundValue old new n v
+  replaced_around n m (k, said, g) = λ path c at told.
+      let top : Top = laid (layout_for old k n) v in
+      subst (λ j. LeavesGiveWay (leaves_of (top_at old n)) (leaves_of (laid (layout_for old j n) v)) (ordered_tree old 0) (ordered_tree new 0)) (Some_same k c (sym said ∙ told))
+      (record {
+        spaced = ordered_tree g.spaced 0;
+        spaces = put old new n m top tree g path at;
+        around = document_differs (changed old new n m top tree g path at);
+      })
+
+  pub root_around : (o : Options) (found : Option ℕ) (m : ℕ) → value_at old 0 ≡ found → IfSome found (λ n. IsReplaced old new n v m) → IfNone found (FirstValue old new v m) → StaysAroundRoot old new o v found
+  root_around o None m e r f = λ sound. comes_among_rows o old new v m tree sound e f
+  root_around o (Some n) m e r f = replaced_around n m r
+
+  pub held_around : (found : Option ℕ) (m : ℕ) → IfSome found (λ n. IsReplaced old new n v m) → (n : ℕ) → found ≡ Some n → StaysAroundValue old new n v
+  held_around None m r n e = absurd (let wrong : None ≡ Some n = e in cc)
+  held_around (Some k) m r n e = subst (λ j. StaysAroundValue old new j v) (Some_same k n e) (replaced_around k m r)
+
+pub property_laid : (old new : List Node) (n m : ℕ) (name : List ℕ) (v : Plain) → IsPropertyReplaced old new n name v m → IsLaidProperty old new n name v m
+property_laid old new n m name v (k, said, g) = λ c told.
+    subst (λ j. top_at new m ≡ property_top (layout_for old j n) name v) (Some_same k c (sym said ∙ told))
+    (in_place g.spaced new n m (property_top (layout_for old k n) name v) g.place).put
