@@ -1,5 +1,5 @@
 -- The first property of a name that leaves a document's object.
-use Rattle.std.proofs.Common.{◌≡◌, ◌<◌, ℕ, suc, Bool, true, false, not, List, [], ◌∷◌, length, filter, slice_get, Option, Some, None, option_map, IsTrue, inl, inr, refl, sym, ap, subst, ◌∙◌, Result, Ok, Err, OnOk, IfErr}
+use Rattle.std.proofs.Common.{◌≡◌, ℕ, suc, Bool, true, false, not, List, [], ◌∷◌, filter, slice_get, Option, Some, None, inl, inr, refl, sym, ap, subst, ◌∙◌}
 use Rattle.std.proofs.lemmas.Bool.{cases_Bool}
 use Rattle.std.specs.List.{find}
 use Rattle.jsonc_text.specs.Options.{Options}
@@ -10,7 +10,7 @@ use Rattle.jsonc_text.proofs.UniqueValues.{document_unique}
 use Rattle.jsonc_tree.specs.Content as content
 use Rattle.jsonc_tree.specs.Content.{Content, root, array, object, property}
 use Rattle.jsonc_tree.specs.OrderedTree.{OrderedTree, none, more, Shows, shows_none, shows_more, ordered_tree}
-use Rattle.jsonc_tree.specs.Tree.{Node, content_at, children_at, parent_at, IsTree, IsOver}
+use Rattle.jsonc_tree.specs.Tree.{Node, content_at, children_at, IsTree, IsOver}
 use Rattle.jsonc_tree.specs.Values as values
 use Rattle.jsonc_tree.specs.Values.{HoldsValue, DocumentValueOf}
 use Rattle.jsonc_build.specs.Shape.{printed_text}
@@ -22,7 +22,7 @@ use Rattle.jsonc_nodes.specs.Names as names
 use Rattle.jsonc_nodes.specs.Properties.{value_at, value_by}
 use Rattle.jsonc_laws.proofs.FirstNodes.{value_of_element}
 use Rattle.jsonc_laws.specs.SoundTrees.{SoundTree}
-use Rattle.jsonc_edit.specs.Changes.{row_below, top_at}
+use Rattle.jsonc_edit.specs.Changes.{row_below}
 use Rattle.jsonc_edit.specs.Paths as paths
 use Rattle.jsonc_edit.specs.Paths.{IsAt, IsElementOf, LeadsTo}
 use Rattle.jsonc_edit.specs.declared.error.EditError.{EditError}
@@ -30,8 +30,7 @@ use Rattle.jsonc_edit.specs.declared.error.EditError.TheVariants.{OutOfMemory}
 use Rattle.jsonc_edit.proofs.Elements.{taken, left}
 use Rattle.jsonc_edit.proofs.FittingFinds.{passes, fails, none_is_some}
 use Rattle.jsonc_edit.proofs.Uniqueness.{element_parent}
-use Rattle.jsonc_edit.proofs.Walk.{Shows-row_below, document_is}
-use Rattle.jsonc_remove.specs.Laws.{IsEntryRemoved}
+use Rattle.jsonc_edit.proofs.Walk.{Shows-row_below}
 use Rattle.jsonc_run.specs.Shapes.{is_of}
 use Rattle.jsonc_run.specs.declared.edit.Shape.TheVariants.{Object}
 use Rattle.jsonc_run.proofs.Ensured.{held}

@@ -1,6 +1,7 @@
 -- What a fault prints, and what it says of the input.
 use Rattle.std.specs.Prelude.{ℕ, List, ◌++◌, codes, IsUtf8}
 use Rattle.jsonc_engine.specs.Input.{IsRefusalOf}
+use Rattle.jsonc_engine.specs.Removal.{IsNoObject}
 use Rattle.jsonc_engine.specs.Parser.{Options, OutOfMemory, edit_error_text, error_text}
 use Rattle.jsonc_engine.specs.declared.fault.Fault.{Fault}
 use Rattle.jsonc_engine.specs.declared.fault.Fault.TheVariants.{Argument, Edit, Input, NoValue, NotArray, NotObject, NotUtf8, Read, Usage, Write}
@@ -18,9 +19,10 @@ fault_line Read = codes "jsonc: read failed"
 fault_line Write = codes "jsonc: write failed"
 fault_line Usage = codes "usage: jsonc check|print|set NAME JSON|append JSON|remove NAME|sort"
 
--- the fault is true of the input's bytes, and checking or printing them under the options can end with it
+-- the fault is true of the input's bytes, and a run over them under the options can end with it
 abbrev pub IsFaultOn : Options → List ℕ → Fault → Type 0
 IsFaultOn o input (Input error) = IsRefusalOf o input error
+IsFaultOn o input NotObject = IsNoObject o input
 IsFaultOn o input NotUtf8 = ¬ (IsUtf8 input)
 IsFaultOn o input (Edit OutOfMemory) = Unit {0}
 IsFaultOn o input other = ⊥

@@ -1,11 +1,13 @@
 //! One run of the program, over any source and sink.
-ghost use Rattle.std.specs.Prelude.{◌≡◌, ◌↔◌, ◌<◌, None, vec_len, IfSome, IfOk, IfErr, OnOk, OnErr, IsErrOf, IsUtf8};
+ghost use Rattle.std.specs.Borrow.{Bor};
+ghost use Rattle.std.specs.Prelude.{◌≡◌, ◌↔◌, ◌<◌, ℕ, List, None, chars, vec_len, IfSome, IfOk, IfErr, OnOk, OnErr, IsErrOf, IsUtf8};
 ghost use Rattle.std.specs.Io.KnownBytes.{Appends};
 ghost use Rattle.jsonc_engine.specs.Calls.{one_more};
 ghost use Rattle.jsonc_engine.specs.Command.{Name};
 ghost use Rattle.jsonc_engine.specs.Fault.{EndsRun, IsFaultOn};
 ghost use Rattle.jsonc_engine.specs.Input.{IsInput, IsInputOf, IsRefusal};
-ghost use Rattle.jsonc_engine.specs.Output.{IsOutput};
+ghost use Rattle.jsonc_engine.specs.Output.{IsOutput, IsWritten, PutsWithout};
+ghost use Rattle.jsonc_engine.specs.Removal.{IsNoObject};
 ghost use Rattle.jsonc_engine.specs.Parser.{ParseError, all_on, parse_options, printed_of};
 
 use crate::calls::{Sink, Source};
@@ -88,10 +90,10 @@ pub fn run_with<A: Allocator + Copy>(
     command: Command,
     input: &[u8],
 ) -> Result<Option<String<A>>, Fault>
-    ensures printed { IfOk result (λ output. command.entry ≡ Command.Print → IsOutput output input.now) }
-    ensures checked { IfOk result (λ output. command.entry ≡ Command.Check → output ≡ None) }
+    ensures written { IfOk result (IsWritten (parse_options options.now) command.entry input.now) }
     ensures accepted { OnOk result (IsInputOf (parse_options options.now) input.now) }
     ensures not_utf8 { IsErrOf result Fault.NotUtf8 ↔ ¬ (IsUtf8 input.now) }
+    ensures no_object { IsErrOf result Fault.NotObject → IsNoObject (parse_options options.now) input.now }
     ensures refused { IfErr result (IsFaultOn (parse_options options.now) input.now) }
 {
     let Ok(text) = str::from_utf8(input) else {
@@ -104,10 +106,10 @@ pub fn run_with<A: Allocator + Copy>(
     match command {
         Command::Check => Ok(None),
         Command::Print => text_of(&document),
-        Command::Remove(name) => {
-            remove_property(&mut document, name)?;
-            text_of(&document)
-        }
+        Command::Remove(name) => match remove_property(&mut document, name) {
+            Ok(()) => text_of(&document),
+            Err(fault) => Err(fault),
+        },
     }
 }
 
@@ -117,10 +119,10 @@ pub fn run_on<A: Allocator + Copy>(
     command: Command,
     input: &[u8],
 ) -> Result<Option<String<A>>, Fault>
-    ensures printed { IfOk result (λ output. command.entry ≡ Command.Print → IsOutput output input.now) }
-    ensures checked { IfOk result (λ output. command.entry ≡ Command.Check → output ≡ None) }
+    ensures written { IfOk result (IsWritten all_on command.entry input.now) }
     ensures accepted { OnOk result (IsInput input.now) }
     ensures not_utf8 { IsErrOf result Fault.NotUtf8 ↔ ¬ (IsUtf8 input.now) }
+    ensures no_object { IsErrOf result Fault.NotObject → IsNoObject all_on input.now }
     ensures refused { IfErr result (IsFaultOn all_on input.now) }
 {
     run_with(alloc, &ParseOptions::default(), command, input)
@@ -144,10 +146,15 @@ pub fn engine<A: Allocator + Copy, S: Source, K: Sink>(
     ensures printed { OnOk result (Name words.now Command.Print
         → IfSome (S.remaining source.old) (Appends (K.contents sink.old) (K.contents sink.new))) }
     ensures flushed { OnOk result (Name words.now Command.Print → K.is_flushed sink.new) }
+    ensures removed { (name : Bor (List ℕ)) → OnOk result (Name words.now (Command.Remove name)
+        → IfSome (S.remaining source.old) (PutsWithout (chars name.now) (K.contents sink.old) (K.contents sink.new))) }
+    ensures removal_flushed { (name : Bor (List ℕ)) → OnOk result (Name words.now (Command.Remove name) → K.is_flushed sink.new) }
     ensures checked { OnOk result (Name words.now Command.Check → sink.new ≡ sink.old) }
     ensures accepted { OnOk result (IfSome (S.remaining source.old) IsInput) }
 
     // The cause that a refusal names holds, and it names no other.
+    ensures no_object { IsErrOf result Fault.NotObject
+        → IfSome (S.remaining source.old) (IsNoObject all_on) }
     ensures input { (error : ParseError) → IsErrOf result (Fault.Input error)
         → IfSome (S.remaining source.old) (λ input. IsRefusal input error) }
     ensures not_utf8 { IsErrOf result Fault.NotUtf8
@@ -171,8 +178,9 @@ pub fn engine<A: Allocator + Copy, S: Source, K: Sink>(
         return Err(Fault::Usage);
     };
     let input = read_whole(alloc, source)?;
-    match run_on(alloc, command, input.as_slice())? {
-        Some(output) => write_whole(sink, output.as_bytes()),
-        None => Ok(()),
+    match run_on(alloc, command, input.as_slice()) {
+        Ok(Some(output)) => write_whole(sink, output.as_bytes()),
+        Ok(None) => Ok(()),
+        Err(fault) => Err(fault),
     }
 }

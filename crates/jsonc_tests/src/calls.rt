@@ -40,11 +40,12 @@ pub enum Call {
     MapChanges,
     Layout,
     BytesToBytes,
+    Removal,
     WholeRun,
 }
 
 /// All of them, each with its name.
-pub const CALLS: [(Call, &str); 15] = [
+pub const CALLS: [(Call, &str); 16] = [
     (Call::Decode, "decode"),
     (Call::DecodeProvided, "decode provided"),
     (Call::Scan, "scan"),
@@ -59,12 +60,17 @@ pub const CALLS: [(Call, &str); 15] = [
     (Call::MapChanges, "map changes"),
     (Call::Layout, "layout"),
     (Call::BytesToBytes, "bytes to bytes"),
+    (Call::Removal, "removal"),
     (Call::WholeRun, "whole run"),
 ];
 
 /// A text of plain JSON, with more elements and properties than a list has room for at first.
 const PLAIN: &str =
     "{\"a\": [1, 2.5, -3, true, false, null, []],\r\n \"b\": {}, \"c\": \"d\", \"e\": 0, \"f\": 1 }\n";
+
+/// One without commas, and its text without the first `b`.
+const SETTINGS: &str = "{a: 1 /*c*/ \"b\\u0020\": [] \"\\u0062\": 2 d: 3}";
+const SETTINGS_WITHOUT: &str = "{a: 1 /*c*/ \"b\\u0020\": [] d: 3}";
 
 /// One with comments, an escape and looser spelling.
 const LOOSE: &str = "// one\n[{a: '\\x62', 0x1F: +.5, c: Infinity,}, /* two */ [NaN -1]]";
@@ -97,6 +103,7 @@ pub fn outcome_of<A: Allocator + Copy>(call: Call, alloc: A) -> Outcome {
         Call::MapChanges => changed_map(alloc),
         Call::Layout => laid_out(alloc),
         Call::BytesToBytes => bytes_to_bytes(alloc),
+        Call::Removal => removal(alloc),
         Call::WholeRun => whole_run(alloc),
     }
 }
@@ -229,6 +236,14 @@ fn of_fault(fault: Fault) -> Outcome {
 fn bytes_to_bytes<A: Allocator + Copy>(alloc: A) -> Outcome {
     match run_on(alloc, Command::Print, PLAIN.as_bytes()) {
         Ok(Some(written)) => Outcome::of(written.as_str() == PLAIN),
+        Ok(None) => Outcome::Other,
+        Err(fault) => of_fault(fault),
+    }
+}
+
+fn removal<A: Allocator + Copy>(alloc: A) -> Outcome {
+    match run_on(alloc, Command::Remove("b"), SETTINGS.as_bytes()) {
+        Ok(Some(written)) => Outcome::of(written.as_str() == SETTINGS_WITHOUT),
         Ok(None) => Outcome::Other,
         Err(fault) => of_fault(fault),
     }
