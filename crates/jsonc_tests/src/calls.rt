@@ -70,6 +70,7 @@ const PLAIN: &str =
 
 /// One without commas, and its text without the first `b`.
 const SETTINGS: &str = "{a: 1 /*c*/ \"b\\u0020\": [] \"\\u0062\": 2 d: 3}";
+
 const SETTINGS_WITHOUT: &str = "{a: 1 /*c*/ \"b\\u0020\": [] d: 3}";
 
 /// One with comments, an escape and looser spelling.
