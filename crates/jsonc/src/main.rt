@@ -1,4 +1,5 @@
-//! Checks and prints JSON documents: `jsonc check` and `jsonc print`, from standard input to standard output.
+//! Checks and prints JSON documents, and takes properties out of them: `jsonc check`, `jsonc print` and
+//! `jsonc remove NAME`, from standard input to standard output.
 #![tactic(auto)]
 
 use jsonc_engine::calls::{FromReader, ToWriter};

@@ -5,7 +5,8 @@
 //! It is asked together with its document, and [`CstRootNode::holds`] tells whether that has it; all
 //! nodes that a call answers are nodes of the document that was asked. [`ReplaceWith`],
 //! [`ReplaceProperty`], [`Remove`] and [`RemoveLeaf`] are the edits of nodes, [`SetRoot`] has those of
-//! the document's value, [`SetProperty`] those of a property's, and [`SetBoolean`] that of a truth value.
+//! the document's value, [`SetProperty`] those of a property's, and [`SetBoolean`] that of a truth value;
+//! [`EnsureMultiline`] puts an array or object on several lines.
 //! [`SetRawValue`], [`SetToken`], [`SetWhitespace`] and [`SetNewline`] write a leaf anew as it stands.
 //! [`run`] makes a list of edits, each at its path.
 
@@ -20,7 +21,7 @@ pub use jsonc_cst::cst::{
 };
 pub use jsonc_run::{Edit, Over, Shape};
 pub use jsonc_typed::{
-    IsDocument, Remove, RemoveLeaf, ReplaceProperty, ReplaceWith, SetBoolean, SetNewline,
-    SetProperty, SetRawValue, SetRoot, SetToken, SetWhitespace,
+    EnsureMultiline, IsDocument, Remove, RemoveLeaf, ReplaceProperty, ReplaceWith, SetBoolean,
+    SetNewline, SetProperty, SetRawValue, SetRoot, SetToken, SetWhitespace,
 };
 pub use lists::run;
