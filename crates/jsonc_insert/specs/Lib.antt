@@ -1,0 +1,5 @@
+pub mod Trimmed
+pub mod Planned
+pub mod Settings
+pub mod Inserted
+pub mod Worked
