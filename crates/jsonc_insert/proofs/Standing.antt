@@ -1,8 +1,9 @@
 -- Where an element stands in a row that has its brackets: before the last of them.
 use Rattle.std.proofs.Common.{◌≡◌, ◌<◌, ◌≤◌, ◌+◌, ◌-◌, ◌&&◌, ◌⊎◌, inl, inr, ℕ, zero, suc, Bool, true, false, cond, List, [], ◌∷◌, All, length, reverse, filter, get_or, slice_get, slice_index, nat_lt, Option, Some, None, IfSome, unwrap_or, refl, sym, ap, subst, ◌∙◌, arith, rules}
-use Rattle.std.specs.List.{find, take_while}
+use Rattle.std.specs.List.{find, prefix_len}
 use Rattle.std.specs.Option.{option_or}
 use Rattle.std.proofs.lemmas.List.Elements.{All-filter, filter_passes}
+use Rattle.std.proofs.lemmas.List.Folds.{length-prefix_len}
 use Rattle.std.proofs.lemmas.Option.{slice_get_cases}
 use Rattle.std.proofs.lemmas.List.{get_or_default}
 use Rattle.jsonc_tree.specs.Content as content
@@ -15,22 +16,27 @@ use Rattle.jsonc_insert.specs.Planned.{element_before, elements, has_brackets, i
 not_other : (m : ℕ) → is_other m m ≡ false
 not_other m = search rules
 
-first_by : (n : ℕ) (xs : List ℕ) (b : Bool) → b ≡ false → length (cond b (n ∷ take_while (is_other n) xs) []) ≤ 0
-first_by n xs false e = omega arith
-first_by n xs true e = absurd (let wrong : true ≡ false = e in cc)
+first_by : (r : ℕ) (b : Bool) → b ≡ false → cond b (1 + r) 0 ≤ 0
+first_by r false e = omega arith
+first_by r true e = absurd (let wrong : true ≡ false = e in cc)
 
-later_by : (n x : ℕ) (xs : List ℕ) (k : ℕ) (b : Bool) → length (take_while (is_other n) xs) ≤ k → length (cond b (x ∷ take_while (is_other n) xs) []) ≤ suc k
-later_by n x xs k false h = omega arith
-later_by n x xs k true h = omega (arith, h)
+later_by : (r k : ℕ) (b : Bool) → r ≤ k → cond b (1 + r) 0 ≤ suc k
+later_by r k false h = omega arith
+later_by r k true h = omega (arith, h)
+
+others_at_most : (xs : List ℕ) (k d : ℕ) → k < length xs → prefix_len (is_other (get_or xs k d)) xs ≤ k
+others_at_most [] k d h = absurd (omega arith)
+others_at_most (x ∷ xs) zero d h = first_by (prefix_len (is_other x) xs) (is_other x x) (not_other x)
+others_at_most (x ∷ xs) (suc k) d h =
+    let n = get_or xs k d in
+    later_by (prefix_len (is_other n) xs) k (is_other n x) (others_at_most xs k d (omega arith))
 
 -- a node's place is no later than where it stands
 pub place_at_most : (xs : List ℕ) (k d : ℕ) → k < length xs → place_in (get_or xs k d) xs ≤ k
-place_at_most [] k d h = absurd (omega arith)
-place_at_most (x ∷ xs) zero d h = first_by x xs (is_other x x) (not_other x)
-place_at_most (x ∷ xs) (suc k) d h = later_by (get_or xs k d) x xs k (is_other (get_or xs k d) x) (place_at_most xs k d (omega arith))
+place_at_most xs k d h = subst (λ n. n ≤ k) (sym (length-prefix_len (is_other (get_or xs k d)) xs)) (others_at_most xs k d h)
 
 -- a token is no element
-token_no_element : (c : Content) → is_token c ≡ true → is_element c ≡ true → ⊥
+pub token_no_element : (c : Content) → is_token c ≡ true → is_element c ≡ true → ⊥
 token_no_element (content.token c) e f = let wrong : false ≡ true = f in cc
 token_no_element content.root e f = let wrong : false ≡ true = e in cc
 token_no_element content.array e f = let wrong : false ≡ true = e in cc

@@ -1,37 +1,22 @@
 -- An element that has come into a container.
-use Rattle.std.specs.Prelude.{◌≡◌, ◌≤◌, ℕ, Bool, true, false, List, [], ◌∷◌, ◌++◌, length, map, Option, Some, None}
+use Rattle.std.specs.Prelude.{◌≡◌, ℕ, Bool, List, ◌∷◌, ◌++◌, length, map, Option, Some, None, if◌then◌else◌}
 use Rattle.jsonc_text.specs.Plain.{Plain}
 use Rattle.jsonc_tree.specs.Changes.{CanJoin, Splices}
-use Rattle.jsonc_tree.specs.Content.{Content, newline, token, whitespace}
+use Rattle.jsonc_tree.specs.Content.{Content}
 use Rattle.jsonc_tree.specs.Tree.{Node, content_at, children_at, IsTree}
-use Rattle.jsonc_tree.specs.declared.node.CstNewlineKind.{CstNewlineKind}
 use Rattle.jsonc_edit.specs.Changes.{top_at}
 use Rattle.jsonc_edit.specs.Put.{Prepared}
+use Rattle.jsonc_edit.specs.declared.error.EditError.{EditError}
+use Rattle.jsonc_edit.specs.declared.error.EditError.TheVariants.{MissingBrackets, OutOfMemory}
 use Rattle.jsonc_from_input.specs.Laid.{laid}
 use Rattle.jsonc_from_input.specs.Layout.{Layout}
 use Rattle.jsonc_insert.specs.Trimmed.{trimmed, with_at}
-use Rattle.jsonc_insert.specs.Planned.{planned}
+use Rattle.jsonc_insert.specs.Planned.{has_brackets, planned}
+use Rattle.jsonc_insert.specs.Made.{AreFresh, comma_at, comma_leaf, gap_leaves}
 use Rattle.jsonc_insert.specs.Settings.{indents_of, layout_inside, on_several_lines}
-use Rattle.jsonc_insert.specs.declared.plan.Gap.{Gap}
-use Rattle.jsonc_insert.specs.declared.plan.Gap.TheVariants.{Nothing, Space, Line}
 use Rattle.jsonc_insert.specs.declared.plan.Plan.{Plan}
 
--- what is written for a gap: nothing, one space, or the end of a line and an indent, which is a leaf even where it is empty
-abbrev pub gap_leaves : CstNewlineKind → List ℕ → Gap → List Content
-gap_leaves kind indent Nothing = []
-gap_leaves kind indent Space = whitespace (0x20 ∷ []) ∷ []
-gap_leaves kind indent Line = newline kind ∷ whitespace indent ∷ []
-
--- for a comma that is wanted
-abbrev pub comma_leaf : Bool → List Content
-comma_leaf true = token 0x2C ∷ []
-comma_leaf false = []
-
-abbrev pub comma_at : Option ℕ → List Content
-comma_at None = []
-comma_at (Some place) = token 0x2C ∷ []
-
--- where such a place is told
+-- a row with a comma at this place, where one is told
 abbrev pub with_comma : {A : Type 0} → Option ℕ → List A → List A → List A
 with_comma None xs row = row
 with_comma (Some place) xs row = with_at place xs row
@@ -58,19 +43,37 @@ leaves_behind layout outer plan = comma_leaf plan.comma_behind ++ gap_leaves lay
 abbrev pub outer_indent : List Node → ℕ → List ℕ
 outer_indent ns c = (indents_of ns c (trimmed ns (children_at ns c))).current
 
--- A value has come into the container c, as its element number i or behind the last one, as the node m: its nodes and the leaves beside it were made ready; and then the
--- container's row has become what it was without blank lines inside its brackets, with the new nodes at their places.
-pub record ElementPut (old new : List Node) (c i : ℕ) (v : Plain) (m : ℕ) : Type 0 where
-  pub ready : List Node
+-- The value v was made ready to come in as the node m, and so were the leaves beside it: what comes at these places.
+pub record NodesMade (old ready : List Node) (layout : Layout) (outer : List ℕ) (plan : Plan) (v : Plain) (m : ℕ) (comma before behind : List ℕ) : Type 0 where
+  pub fresh : AreFresh old ready (comma ++ (before ++ m ∷ behind))
+  pub is : top_at ready m ≡ laid layout v
+  pub parts : map (content_at ready) comma ≡ comma_at plan.comma
+  pub leads : map (content_at ready) before ≡ leaves_before layout plan
+  pub ends : map (content_at ready) behind ≡ leaves_behind layout outer plan
+
+-- what the document tells of an insertion into the container c
+abbrev pub NodesMadeFor : List Node → List Node → ℕ → ℕ → Plain → ℕ → List ℕ → List ℕ → List ℕ → Type 0
+NodesMadeFor old ready c i v m comma before behind = NodesMade old ready (layout_inside old c) (outer_indent old c) (plan_of old c i v) v m comma before behind
+
+-- The row that c is to have with the value v as its element number i, or behind the last one, as the node m: the old row without blank lines inside its brackets, with
+-- the new nodes at their places.
+pub record RowMade (old ready : List Node) (c i : ℕ) (v : Plain) (m : ℕ) (row : List ℕ) : Type 0 where
   pub comma : List ℕ
   pub before : List ℕ
   pub behind : List ℕ
-  pub fresh : length old ≤ m
+  pub made : NodesMadeFor old ready c i v m comma before behind
+  pub is : row ≡ put_by (plan_of old c i v) comma (before ++ m ∷ behind) (trimmed old (children_at old c))
+
+-- The value has come in so: all that comes was made ready, and then the row of c gave way to the new one.
+pub record ElementPut (old new : List Node) (c i : ℕ) (v : Plain) (m : ℕ) : Type 0 where
+  pub ready : List Node
+  pub row : List ℕ
   pub prepared : Prepared old ready
-  pub is : top_at ready m ≡ laid (layout_inside old c) v
-  pub parts : map (content_at ready) comma ≡ comma_at (plan_of old c i v).comma
-  pub leads : map (content_at ready) before ≡ leaves_before (layout_inside old c) (plan_of old c i v)
-  pub ends : map (content_at ready) behind ≡ leaves_behind (layout_inside old c) (outer_indent old c) (plan_of old c i v)
-  pub join : CanJoin ready c 0 (length (children_at old c)) (put_by (plan_of old c i v) comma (before ++ m ∷ behind) (trimmed old (children_at old c)))
-  pub put : Splices ready new c 0 (length (children_at old c)) (put_by (plan_of old c i v) comma (before ++ m ∷ behind) (trimmed old (children_at old c)))
+  pub made : RowMade old ready c i v m row
+  pub join : CanJoin ready c 0 (length (children_at old c)) row
+  pub put : Splices ready new c 0 (length (children_at old c)) row
   pub tree : IsTree new
+
+-- why nothing comes in: the container lacks a bracket, or else memory is wanting
+abbrev pub refusal : List Node → ℕ → EditError
+refusal ns c = if has_brackets ns (children_at ns c) then OutOfMemory else MissingBrackets

@@ -12,7 +12,8 @@ use Rattle.jsonc_laws.specs.TreeChanges.{leaves_of}
 use Rattle.jsonc_edit.specs.Changes.{top_at}
 use Rattle.jsonc_insert.specs.Trimmed.{trimmed}
 use Rattle.jsonc_insert.specs.Settings.{layout_inside}
-use Rattle.jsonc_insert.specs.Inserted.{comma_at, leaves_before, leaves_behind, outer_indent, plan_of, put_by}
+use Rattle.jsonc_insert.specs.Made.{comma_at}
+use Rattle.jsonc_insert.specs.Inserted.{leaves_before, leaves_behind, outer_indent, plan_of, put_by}
 use Rattle.jsonc_insert.specs.declared.plan.Plan.{Plan}
 
 -- the numbers of these nodes, from one on

@@ -8,6 +8,13 @@
 //! (`specs/Inserted.antt`) what the nodes are afterwards. `specs/Worked.antt` has worked insertions.
 #![tactic(auto)]
 
+mod insert;
 pub mod laws;
+mod lines;
+mod made;
 mod plan;
+mod settings;
 mod trim;
+mod walk;
+
+pub use insert::insert_element;

@@ -3,7 +3,7 @@
 ghost use Rattle.std.specs.Prelude.{◌≡◌, ◌≤◌, ◌<◌, length, slice_get, true};
 ghost use Rattle.std.specs.List.{list_all};
 ghost use Rattle.jsonc_tree.specs.Stored.{content_of};
-ghost use Rattle.jsonc_tree.specs.Tree.{content_at};
+ghost use Rattle.jsonc_tree.specs.Tree.{children_at, content_at};
 ghost use Rattle.jsonc_nodes.specs.Kinds.{is_beside, is_beside_at};
 ghost use Rattle.jsonc_lines.specs.Breadth.{last_element};
 ghost use Rattle.jsonc_lines.specs.Kinds.{is_comma};
@@ -355,12 +355,15 @@ fn is_token<A: Allocator>(tree: &Tree<A>, node: usize) -> bool
     matches!(tree.kind(node), Kind::Token(_))
 }
 
-/// Whether the first and the last node of a row are tokens, and two.
-pub(crate) fn has_brackets<A: Allocator>(tree: &Tree<A>, row: &[usize]) -> bool
-    ensures { result ≡ has_brackets tree.now.nodes row.now }
+/// Whether the first and the last child of a container are tokens, and two.
+pub(crate) fn has_brackets<A: Allocator>(tree: &Tree<A>, container: usize) -> bool
+    requires { container < length tree.now.nodes }
+    ensures { result ≡ has_brackets tree.now.nodes (children_at tree.now.nodes container) }
 {
-    if row.len() < 2 {
+    let count = tree.child_count(container);
+    if count < 2 {
         return false;
     }
-    is_token(tree, row[0]) && is_token(tree, row[row.len() - 1])
+    let last = tree.child_at(container, count - 1);
+    is_token(tree, tree.child_at(container, 0)) && is_token(tree, last)
 }
