@@ -1,5 +1,5 @@
 -- How many elements stand before the place where a new one comes.
-use Rattle.std.proofs.Common.{◌≡◌, ◌≢◌, ◌<◌, ◌≤◌, ◌+◌, ◌-◌, ◌&&◌, ◌⊎◌, ⊥, inl, inr, ℕ, zero, suc, min, Bool, true, false, not, cond, List, [], ◌∷◌, ◌++◌, All, length, filter, reverse, take, drop, get_or, slice_get, slice_index, slice_range, Option, Some, None, is_some, refl, sym, ap, subst, ◌∙◌, arith, length-append, length-drop, length-take}
+use Rattle.std.proofs.Common.{◌≡◌, ◌≢◌, ◌<◌, ◌≤◌, ◌+◌, ◌-◌, ◌&&◌, ◌⊎◌, inl, inr, ℕ, zero, suc, min, Bool, true, false, not, cond, List, [], ◌∷◌, ◌++◌, All, length, filter, reverse, take, drop, get_or, slice_get, slice_index, slice_range, Option, Some, None, is_some, refl, sym, ap, subst, ◌∙◌, arith, length-append, length-drop, length-take}
 use Rattle.std.specs.List.{find, list_all, prefix_len, take_while}
 use Rattle.std.specs.Option.{option_or}
 use Rattle.std.proofs.Math.Seq.{take-add}
@@ -63,16 +63,16 @@ module _ (ns : List Node) where
 
   pub no_last : (row : List ℕ) → last_element ns row ≡ None → count row ≡ 0
   no_last [] e = refl
-  no_last (x ∷ xs) e = by (last_element ns xs) refl (is_element_at ns x) refl (sym (turned x xs) ∙ e)
+  no_last (x ∷ xs) e = by (no_last xs) (last_element ns xs) refl (is_element_at ns x) refl (sym (turned x xs) ∙ e)
     where
-      by : (o : Option ℕ) → last_element ns xs ≡ o → (b : Bool) → is_element_at ns x ≡ b → option_or o (cond b (Some x) None) ≡ None → count (x ∷ xs) ≡ 0
-      by (Some y) f b g h = absurd (let wrong : Some y ≡ None = h in cc)
-      by None f true g h = absurd (let wrong : Some x ≡ None = h in cc)
-      by None f false g h = ap (λ b. length (cond b (x ∷ elements ns xs) (elements ns xs))) g ∙ no_last xs f
+      by : (last_element ns xs ≡ None → count xs ≡ 0) → (o : Option ℕ) → last_element ns xs ≡ o → (b : Bool) → is_element_at ns x ≡ b → option_or o (cond b (Some x) None) ≡ None → count (x ∷ xs) ≡ 0
+      by rest (Some y) f b g h = absurd (let wrong : Some y ≡ None = h in cc)
+      by rest None f true g h = absurd (let wrong : Some x ≡ None = h in cc)
+      by rest None f false g h = ap (λ b. length (cond b (x ∷ elements ns xs) (elements ns xs))) g ∙ rest f
 
   pub found_last : (row : List ℕ) (n : ℕ) → last_element ns row ≡ Some n → (0 < count row) × (slice_get (elements ns row) (count row - 1) ≡ Some n)
   found_last [] n e = absurd (let wrong : None ≡ Some n = e in cc)
-  found_last (x ∷ xs) n e = by (last_element ns xs) refl (is_element_at ns x) refl (sym (turned x xs) ∙ e)
+  found_last (x ∷ xs) n e = by (found_last xs n) (last_element ns xs) refl (is_element_at ns x) refl (sym (turned x xs) ∙ e)
     where
       LastIs : List ℕ → Type 0
       LastIs els = (0 < length els) × (slice_get els (length els - 1) ≡ Some n)
@@ -82,11 +82,11 @@ module _ (ns : List Node) where
           let at : suc (length (elements ns xs) - 1) ≡ length (x ∷ elements ns xs) - 1 = omega (arith, l.0) in
           (omega arith, ap (slice_get (x ∷ elements ns xs)) (sym at) ∙ l.1)
 
-      by : (o : Option ℕ) → last_element ns xs ≡ o → (b : Bool) → is_element_at ns x ≡ b → option_or o (cond b (Some x) None) ≡ Some n → LastIs (elements ns (x ∷ xs))
-      by (Some y) f true g h = subst (λ b. LastIs (cond b (x ∷ elements ns xs) (elements ns xs))) (sym g) (longer (found_last xs n (f ∙ h)))
-      by (Some y) f false g h = subst (λ b. LastIs (cond b (x ∷ elements ns xs) (elements ns xs))) (sym g) (found_last xs n (f ∙ h))
-      by None f false g h = absurd (let wrong : None ≡ Some n = h in cc)
-      by None f true g h =
+      by : (last_element ns xs ≡ Some n → LastIs (elements ns xs)) → (o : Option ℕ) → last_element ns xs ≡ o → (b : Bool) → is_element_at ns x ≡ b → option_or o (cond b (Some x) None) ≡ Some n → LastIs (elements ns (x ∷ xs))
+      by rest (Some y) f true g h = subst (λ b. LastIs (cond b (x ∷ elements ns xs) (elements ns xs))) (sym g) (longer (rest (f ∙ h)))
+      by rest (Some y) f false g h = subst (λ b. LastIs (cond b (x ∷ elements ns xs) (elements ns xs))) (sym g) (rest (f ∙ h))
+      by rest None f false g h = absurd (let wrong : None ≡ Some n = h in cc)
+      by rest None f true g h =
           let none : length (elements ns xs) ≡ 0 = no_last xs f in
           let at : length (x ∷ elements ns xs) - 1 ≡ 0 = omega (arith, none) in
           subst (λ b. LastIs (cond b (x ∷ elements ns xs) (elements ns xs))) (sym g) (omega arith, ap (slice_get (x ∷ elements ns xs)) at ∙ h)
@@ -114,8 +114,9 @@ module _ (ns : List Node) where
         elim (cases_eq x n) [
           | inl same ↦ ap (λ r. count (take (r + 1) (x ∷ xs))) (ap (λ b. cond (not b) (1 + prefix_len (is_other n) xs) 0) (eq-eqb x n same)) ∙ first same (cases_Bool (is_element_at ns x)) k e
           | inr ne ↦
-              ap (λ r. count (take r (x ∷ xs))) (ap (λ b. cond (not b) (1 + prefix_len (is_other n) xs) 0 + 1) (ne_eqb x n ne) ∙ omega arith)
-              ∙ later ne (cases_Bool (is_element_at ns x)) k e
+              let more : 1 + prefix_len (is_other n) xs + 1 ≡ suc (prefix_len (is_other n) xs + 1) = omega arith in
+              ap (λ r. count (take r (x ∷ xs))) (ap (λ b. cond (not b) (1 + prefix_len (is_other n) xs) 0 + 1) (ne_eqb x n ne) ∙ more)
+              ∙ later (λ j f. in_row xs j (once_right (x ∷ []) xs once) f) ne (cases_Bool (is_element_at ns x)) k e
         ]
       where
         out : All (λ m. x ≡ m → ⊥) xs
@@ -136,35 +137,29 @@ module _ (ns : List Node) where
         first same (inl el) (suc j) f =
             let g : slice_get (elements ns xs) j ≡ Some n = sym (ap (λ b. slice_get (cond b (x ∷ elements ns xs) (elements ns xs)) (suc j)) el) ∙ f in
             absurd (not_again j (g ∙ ap Some (sym same)))
-        first same (inr no) k f =
-            let g : slice_get (elements ns xs) k ≡ Some n = sym (ap (λ b. slice_get (cond b (x ∷ elements ns xs) (elements ns xs)) k) no) ∙ f in
+        first same (inr off) k f =
+            let g : slice_get (elements ns xs) k ≡ Some n = sym (ap (λ b. slice_get (cond b (x ∷ elements ns xs) (elements ns xs)) k) off) ∙ f in
             absurd (not_again k (g ∙ ap Some (sym same)))
 
-        tail : (j : ℕ) → slice_get (elements ns xs) j ≡ Some n → count (take (prefix_len (is_other n) xs + 1) xs) ≡ j + 1
-        tail j f = in_row xs j (once_right (x ∷ []) xs once) f
-
-        later : x ≢ n → (is_element_at ns x ≡ true) ⊎ (is_element_at ns x ≡ false) → (k : ℕ) → slice_get (elements ns (x ∷ xs)) k ≡ Some n → count (take (suc (prefix_len (is_other n) xs + 1)) (x ∷ xs)) ≡ k + 1
-        later ne (inl el) zero f =
+        later : ((j : ℕ) → slice_get (elements ns xs) j ≡ Some n → count (take (prefix_len (is_other n) xs + 1) xs) ≡ j + 1) → x ≢ n → (is_element_at ns x ≡ true) ⊎ (is_element_at ns x ≡ false) → (k : ℕ) → slice_get (elements ns (x ∷ xs)) k ≡ Some n → count (take (suc (prefix_len (is_other n) xs + 1)) (x ∷ xs)) ≡ k + 1
+        later tail ne (inl el) zero f =
             let g : Some x ≡ Some n = sym (ap (λ b. slice_get (cond b (x ∷ elements ns xs) (elements ns xs)) 0) el) ∙ f in
             let same : x ≡ n = cc in
             absurd (ne same)
-        later ne (inl el) (suc j) f =
+        later tail ne (inl el) (suc j) f =
             let g : slice_get (elements ns xs) j ≡ Some n = sym (ap (λ b. slice_get (cond b (x ∷ elements ns xs) (elements ns xs)) (suc j)) el) ∙ f in
             let rest = elements ns (take (prefix_len (is_other n) xs + 1) xs) in
             ap (λ b. length (cond b (x ∷ rest) rest)) el ∙ omega (arith, tail j g)
-        later ne (inr no) k f =
-            let g : slice_get (elements ns xs) k ≡ Some n = sym (ap (λ b. slice_get (cond b (x ∷ elements ns xs) (elements ns xs)) k) no) ∙ f in
+        later tail ne (inr off) k f =
+            let g : slice_get (elements ns xs) k ≡ Some n = sym (ap (λ b. slice_get (cond b (x ∷ elements ns xs) (elements ns xs)) k) off) ∙ f in
             let rest = elements ns (take (prefix_len (is_other n) xs + 1) xs) in
-            ap (λ b. length (cond b (x ∷ rest) rest)) no ∙ tail k g
+            ap (λ b. length (cond b (x ∷ rest) rest)) off ∙ tail k g
 
     pub through : (row : List ℕ) (k : ℕ) → EachOnce row → slice_get (elements ns row) k ≡ Some n → count (take (place_in n row + 1) row) ≡ k + 1
     through row k once e = ap (λ p. count (take (p + 1) row)) (length-prefix_len (is_other n) row) ∙ in_row row k once e
 
   -- behind a comma, and past comments, no other element has been passed
   module _ (row : List ℕ) (p : ℕ) where
-    inner : List ℕ
-    inner = slice_range row p (length row - 1)
-
     inner_at : (q : ℕ) → p ≤ q → q - p < length (slice_range row p (length row - 1)) → slice_index (slice_range row p (length row - 1)) (q - p) ≡ slice_index row q
     inner_at q low high =
         let long : length (slice_range row p (length row - 1)) ≡ length row - 1 - p = length-between row p (length row - 1) (omega arith) in
@@ -187,15 +182,12 @@ module _ (ns : List Node) where
     passes_comma : count (take (behind_comma ns row p) row) ≡ count (take p row)
     passes_comma = by (cases_Bool (has_comma ns row p))
       where
-        t : ℕ
-        t = trivia ns (slice_range row p (length row - 1))
-
         by : (has_comma ns row p ≡ true) ⊎ (has_comma ns row p ≡ false) → count (take (behind_comma ns row p) row) ≡ count (take p row)
-        by (inr no) = ap (λ b. count (take (cond b (p + trivia ns (slice_range row p (length row - 1)) + 1) p) row)) no
-        by (inl yes) =
-            let there = comma_there (slice_range row p (length row - 1)) (trivia ns (slice_range row p (length row - 1))) yes in
+        by (inr off) = ap (λ b. count (take (cond b (p + trivia ns (slice_range row p (length row - 1)) + 1) p) row)) off
+        by (inl so) =
+            let there = comma_there (slice_range row p (length row - 1)) (trivia ns (slice_range row p (length row - 1))) so in
             let one : p + trivia ns (slice_range row p (length row - 1)) + 1 ≡ p + (trivia ns (slice_range row p (length row - 1)) + 1) = omega arith in
-            ap (λ b. count (take (cond b (p + trivia ns (slice_range row p (length row - 1)) + 1) p) row)) yes
+            ap (λ b. count (take (cond b (p + trivia ns (slice_range row p (length row - 1)) + 1) p) row)) so
             ∙ ap (λ k. count (take k row)) one
             ∙ count_skip row p (trivia ns (slice_range row p (length row - 1)) + 1) (λ q low high within. none q low high there (cases_lt (q - p) (trivia ns (slice_range row p (length row - 1)))))
           where
@@ -209,9 +201,6 @@ module _ (ns : List Node) where
                 let at : trivia ns (slice_range row p (length row - 1)) ≡ q - p = omega (arith, more, high, low) in
                 let comma : is_comma_at ns (slice_index (slice_range row p (length row - 1)) (q - p)) ≡ true = subst (λ k. is_comma_at ns (slice_index (slice_range row p (length row - 1)) k) ≡ true) at there.1 in
                 comma_none (content_at ns (slice_index row q)) (sym (ap (is_comma_at ns) (inner_at q low (omega (arith, at, there.0)))) ∙ comma)
-
-    after : List ℕ
-    after = slice_range row p (length row)
 
     line_short : length (line ns (slice_range row p (length row))) ≤ length row - p
     line_short =
@@ -227,21 +216,21 @@ module _ (ns : List Node) where
     beside_at all k h = by (cases_Bool (is_beside_at ns (slice_index (line ns (slice_range row p (length row))) k)))
       where
         by : (is_beside_at ns (slice_index (line ns (slice_range row p (length row))) k) ≡ true) ⊎ (is_beside_at ns (slice_index (line ns (slice_range row p (length row))) k) ≡ false) → is_element_at ns (slice_index row (p + k)) ≡ false
-        by (inl yes) = beside_none (content_at ns (slice_index row (p + k))) (sym (ap (is_beside_at ns) (line_at k h)) ∙ yes)
-        by (inr no) = absurd (false≢true (sym (list_all_at (is_beside_at ns) (line ns (slice_range row p (length row))) k 0 h no) ∙ all))
+        by (inl so) = beside_none (content_at ns (slice_index row (p + k))) (sym (ap (is_beside_at ns) (line_at k h)) ∙ so)
+        by (inr off) = absurd (false≢true (sym (list_all_at (is_beside_at ns) (line ns (slice_range row p (length row))) k 0 h off) ∙ all))
 
     passes_comments : count (take (past_comments ns row p) row) ≡ count (take p row)
     passes_comments = by (cases_Bool (list_all (is_beside_at ns) (line ns (slice_range row p (length row)))))
       where
         by : (list_all (is_beside_at ns) (line ns (slice_range row p (length row))) ≡ true) ⊎ (list_all (is_beside_at ns) (line ns (slice_range row p (length row))) ≡ false) → count (take (past_comments ns row p) row) ≡ count (take p row)
-        by (inr no) = ap (λ b. count (take (p + cond b (length (line ns (slice_range row p (length row))) - last_spaces ns (line ns (slice_range row p (length row)))) 0) row)) no ∙ ap (λ n. count (take n row)) (omega arith)
-        by (inl yes) =
+        by (inr off) = ap (λ b. count (take (p + cond b (length (line ns (slice_range row p (length row))) - last_spaces ns (line ns (slice_range row p (length row)))) 0) row)) off ∙ ap (λ n. count (take n row)) (omega arith)
+        by (inl so) =
             let many : ℕ = length (line ns (slice_range row p (length row))) - last_spaces ns (line ns (slice_range row p (length row))) in
-            ap (λ b. count (take (p + cond b (length (line ns (slice_range row p (length row))) - last_spaces ns (line ns (slice_range row p (length row)))) 0) row)) yes
+            ap (λ b. count (take (p + cond b (length (line ns (slice_range row p (length row))) - last_spaces ns (line ns (slice_range row p (length row)))) 0) row)) so
             ∙ count_skip row p many
             (λ q low high within.
               let at : p + (q - p) ≡ q = omega (arith, low) in
-              subst (λ k. is_element_at ns (slice_index row k) ≡ false) at (beside_at yes (q - p) (omega (arith, low, high))))
+              subst (λ k. is_element_at ns (slice_index row k) ≡ false) at (beside_at so (q - p) (omega (arith, low, high))))
 
   -- where a plan puts a new element
   module _ (several commas : Bool) (row : List ℕ) (once : EachOnce row) where
@@ -266,8 +255,8 @@ module _ (ns : List Node) where
             first = subst (λ (l : List ℕ). is_token (content_at ns (slice_index l 0)) ≡ true) f (front_token ns row brackets)
 
             no_element : (is_element_at ns x ≡ true) ⊎ (is_element_at ns x ≡ false) → is_element_at ns x ≡ false
-            no_element (inl yes) = absurd (token_no_element (content_at ns x) first yes)
-            no_element (inr no) = no
+            no_element (inl so) = absurd (token_no_element (content_at ns x) first so)
+            no_element (inr off) = off
 
     -- none stands in the row
     alone_place : count row ≡ 0 → (p : ℕ) → count (take p row) ≡ 0
@@ -284,8 +273,8 @@ module _ (ns : List Node) where
     none_before brackets i = by (cases_Bool (is_some (slice_get (elements ns row) 0)))
       where
         by : (is_some (slice_get (elements ns row) 0) ≡ true) ⊎ (is_some (slice_get (elements ns row) 0) ≡ false) → count (take (plan_by ns several commas row i None).place row) ≡ 0
-        by (inl yes) = ap (λ b. count (take (cond b (plan_first ns several row) (plan_alone ns several row)).place row)) yes ∙ none_front brackets
-        by (inr no) = alone_place (no_first no) (plan_by ns several commas row i None).place
+        by (inl so) = ap (λ b. count (take (cond b (plan_first ns several row) (plan_alone ns several row)).place row)) so ∙ none_front brackets
+        by (inr off) = alone_place (no_first off) (plan_by ns several commas row i None).place
 
     last_place : (n : ℕ) → last_element ns row ≡ Some n → (0 < count row) × (slice_get (elements ns row) (count row - 1) ≡ Some n)
     last_place n e = found_last row n e

@@ -1,20 +1,25 @@
 -- A new row may take the place of the old one, and has.
-use Rattle.std.proofs.Common.{◌≡◌, ◌≢◌, ◌<◌, ◌≤◌, ◌+◌, ◌-◌, ◌⊎◌, ⊥, inl, inr, ℕ, true, List, [], ◌∷◌, ◌++◌, All, length, take, drop, get_or, slice_index, slice_range, Option, Some, None, refl, sym, ap, subst, ◌∙◌, arith}
+use Rattle.std.proofs.Common.{◌≡◌, ◌≢◌, ◌<◌, ◌≤◌, ◌+◌, ◌-◌, ◌⊎◌, inl, inr, ℕ, true, List, [], ◌∷◌, ◌++◌, All, length, take, drop, get_or, slice_index, slice_range, Option, Some, None, refl, sym, ap, subst, ◌∙◌, arith}
 use Rattle.std.proofs.lemmas.List.{take_all}
 use Rattle.std.proofs.lemmas.List.Elements.{All-from_get_or}
 use Rattle.jsonc_text.specs.Plain.{Plain}
-use Rattle.jsonc_tree.specs.Changes.{CanJoin, EachOnce, IsFree}
+use Rattle.jsonc_tree.specs.Changes.{CanJoin, EachOnce, IsFree, MakesRoom, Splices}
 use Rattle.jsonc_tree.specs.Tree.{Node, parent_at, children_at, place_at, is_in, IsTree, IsOver}
+use Rattle.jsonc_tree.specs.Building.{Keeps}
+use Rattle.jsonc_tree.proofs.Builder.{Keeps-room}
 use Rattle.jsonc_tree.proofs.Order.{not_over_parent, parent_there}
 use Rattle.jsonc_tree.proofs.Splicing.{in_at}
 use Rattle.jsonc_edit.specs.Put.{Prepared}
 use Rattle.jsonc_edit.proofs.Kept.{over_no_old}
-use Rattle.jsonc_insert.specs.Inserted.{plan_of, put_by, with_comma, RowMade}
+use Rattle.jsonc_insert.specs.Inserted.{outer_indent, plan_of, put_by, with_comma, ElementPut, RowMade}
 use Rattle.jsonc_insert.specs.Made.{AreFresh, IsFresh}
+use Rattle.jsonc_insert.specs.Planned.{has_brackets}
+use Rattle.jsonc_insert.specs.Settings.{layout_inside}
 use Rattle.jsonc_insert.specs.Trimmed.{trimmed, with_at}
 use Rattle.jsonc_insert.specs.declared.plan.Plan.{Plan}
 use Rattle.jsonc_insert.proofs.Once.{all_parts, all_with_at, once_left, once_right, once_with_at, parts_apart}
-use Rattle.jsonc_insert.proofs.Trimming.{trimmed_all, trimmed_once}
+use Rattle.jsonc_insert.proofs.Making.{keeps_then, made_later}
+use Rattle.jsonc_insert.proofs.Trimming.{has_two, trimmed_all, trimmed_once}
 
 module _ (old ready : List Node) (tree : IsTree old) (p : Prepared old ready) (c : ℕ) (there : c < length old) where
   abbrev pub InRow : ℕ → Type 0
@@ -28,9 +33,6 @@ module _ (old ready : List Node) (tree : IsTree old) (p : Prepared old ready) (c
 
   apart : (n : ℕ) → Fresh n → InRow n → ⊥
   apart n f said = omega (arith, f.later, (parent_there old tree n c said).0)
-
-  kids : List ℕ
-  kids = children_at old c
 
   all_kids : All InRow (children_at old c)
   all_kids = All-from_get_or InRow (children_at old c) 0 (λ k h. tree.named c k h)
@@ -52,9 +54,6 @@ module _ (old ready : List Node) (tree : IsTree old) (p : Prepared old ready) (c
       all_written : All Fresh written
       all_written = (all_parts comma written fresh.once Fresh fresh.each).1
 
-      wide : List ℕ
-      wide = with_at place written (trimmed old (children_at old c))
-
       once_wide : EachOnce (with_at place written (trimmed old (children_at old c)))
       once_wide = once_with_at Fresh InRow apart place written (trimmed old (children_at old c)) all_written all_kept (once_right comma written fresh.once) once_kept
 
@@ -75,7 +74,7 @@ module _ (old ready : List Node) (tree : IsTree old) (p : Prepared old ready) (c
 
       with_comma_once : (o : Option ℕ) → EachOnce (with_comma o comma (with_at place written (trimmed old (children_at old c))))
       with_comma_once None = once_wide
-      with_comma_once (Some at) = once_with_at InComma (λ n. InComma n → ⊥) (λ n w no. no w) at comma (with_at place written (trimmed old (children_at old c))) comma_in comma_out (once_left comma written fresh.once) once_wide
+      with_comma_once (Some at) = once_with_at InComma (λ n. InComma n → ⊥) (λ n w never. never w) at comma (with_at place written (trimmed old (children_at old c))) comma_in comma_out (once_left comma written fresh.once) once_wide
 
       with_comma_all : (o : Option ℕ) → All Stands (with_comma o comma (with_at place written (trimmed old (children_at old c))))
       with_comma_all None = all_wide
@@ -124,3 +123,41 @@ module _ (old ready : List Node) (tree : IsTree old) (p : Prepared old ready) (c
   made_stands two i v m row r =
       let plan = plan_of old c i v in
       subst (All Stands) (sym r.is) (with_comma_all two plan.place r.comma (r.before ++ m ∷ r.behind) r.made.fresh plan.comma)
+
+-- all that was made stays ready while there is more room, and then takes its place
+module _ (old made ready : List Node) (tree : IsTree old) (p : Prepared old made) (room : MakesRoom made ready) (after : IsTree ready) (c i : ℕ) (v : Plain) (m : ℕ) (row : List ℕ) (there : c < length old) (brackets : has_brackets old (children_at old c) ≡ true) (r : RowMade old made c i v m row)
+    (count : ℕ) (all : count ≡ length (children_at old c)) (given : List ℕ) (same : given ≡ row) where
+  keeps : Keeps (length made) made ready
+  keeps = Keeps-room (length made) made ready room
+
+  pub prepared : Prepared old ready
+  prepared = record { keeps = keeps_then old made ready p.keeps keeps; tree = after }
+
+  row_made : RowMade old ready c i v m row
+  row_made = record {
+    comma = r.comma;
+    before = r.before;
+    behind = r.behind;
+    made = made_later old made ready (layout_inside old c) (outer_indent old c) (plan_of old c i v) v m r.comma r.before r.behind p.tree keeps after r.made;
+    is = r.is;
+  }
+
+  joins : CanJoin ready c 0 (length (children_at old c)) row
+  joins = made_joins old ready tree prepared c there (has_two old (children_at old c) brackets) i v m row row_made
+
+  pub within : count ≤ length (children_at ready c)
+  within = omega (arith, all, ap length (prepared.keeps.children c there))
+
+  pub can_join : CanJoin ready c 0 count given
+  can_join = subst (λ k. CanJoin ready c 0 k given) (sym all) (subst (CanJoin ready c 0 (length (children_at old c))) (sym same) joins)
+
+  pub put_so : (new : List Node) → IsTree new → Splices ready new c 0 count given → ElementPut old new c i v m
+  put_so new done put = record {
+    ready = ready;
+    row = row;
+    prepared = prepared;
+    made = row_made;
+    join = joins;
+    put = subst (λ k. Splices ready new c 0 k row) all (subst (Splices ready new c 0 count) same put);
+    tree = done;
+  }

@@ -1,5 +1,5 @@
 -- New leaves, made one behind the other, and a new element between them.
-use Rattle.std.proofs.Common.{◌≡◌, ◌≢◌, ◌<◌, ◌≤◌, ◌+◌, ◌-◌, ℕ, suc, zero, inl, inr, List, [], ◌∷◌, ◌++◌, length, map, slice_index, Some, None, Result, Ok, Err, OnOk, Unit, refl, sym, ap, subst, ◌∙◌, arith, append_assoc, append-nil, length-append}
+use Rattle.std.proofs.Common.{◌≡◌, ◌≢◌, ◌<◌, ◌≤◌, ◌+◌, ◌-◌, ℕ, suc, zero, inl, inr, List, [], ◌∷◌, ◌++◌, length, map, slice_index, Some, None, Result, Ok, Err, OnOk, All, refl, sym, ap, subst, ◌∙◌, arith, append_assoc, append-nil, length-append}
 use Rattle.std.proofs.lemmas.Bool.{cases_lt}
 use Rattle.std.proofs.lemmas.List.{get_or-append_right, get_or_append_left}
 use Rattle.jsonc_text.specs.Plain.{Plain}
@@ -15,7 +15,7 @@ use Rattle.jsonc_from_input.specs.Layout.{Layout}
 use Rattle.jsonc_insert.specs.Made.{comma_at, AreFresh, Gains, IsFresh, LeavesMade}
 use Rattle.jsonc_insert.specs.Inserted.{leaves_before, leaves_behind, NodesMade}
 use Rattle.jsonc_insert.specs.declared.plan.Plan.{Plan}
-use Rattle.jsonc_insert.proofs.Once.{once_append}
+use Rattle.jsonc_insert.proofs.Once.{all_parts, once_append, once_right}
 
 pub keeps_then : (a b d : List Node) → Keeps (length a) a b → Keeps (length b) b d → Keeps (length a) a d
 keeps_then a b d first second = Keeps-then (length a) a b d first (Keeps-fewer (length a) (length b) b d first.len second)
@@ -99,6 +99,9 @@ pub gained_where : {E : Type 0} (a b d : List Node) (r s t : List ℕ) (first se
 gained_where a b d r s t first second (Ok x) f g = gained_then a b d r s t first second f g
 gained_where a b d r s t first second (Err x) f g = tt
 
+pub made_from : (old now : List Node) (r s : List ℕ) (contents : List Content) → r ≡ [] → Gains old r now s contents → LeavesMade old now contents s
+made_from old now r s contents e g = g old [] (subst (LeavesMade old old []) (sym e) (none_made old))
+
 -- a comma, the leaves before, the element and the leaves behind were made in turn
 module _ (old a b d ready : List Node) (layout : Layout) (outer : List ℕ) (plan : Plan) (v : Plain) (m : ℕ) (comma before behind : List ℕ)
     (one : LeavesMade old a (comma_at plan.comma) comma) (two : LeavesMade a b (leaves_before layout plan) before)
@@ -122,4 +125,24 @@ module _ (old a b d ready : List Node) (layout : Layout) (outer : List ℕ) (pla
     parts = contents_kept a ready from_a comma (λ k h. (one.fresh.each k h).there) ∙ one.are;
     leads = contents_kept b ready from_b before (λ k h. (two.fresh.each k h).there) ∙ two.are;
     ends = last.are;
+  }
+
+-- they stay ready while there is more room
+module _ (old a b : List Node) (layout : Layout) (outer : List ℕ) (plan : Plan) (v : Plain) (m : ℕ) (comma before behind : List ℕ) (tree : IsTree a) (keeps : Keeps (length a) a b) (after : IsTree b) (made : NodesMade old a layout outer plan v m comma before behind) where
+  pub fresh_later : (n : ℕ) → IsFresh old a n → IsFresh old b n
+  fresh_later n f = record { later = f.later; there = omega (arith, f.there, keeps.len); alone = keeps.parent n f.there ∙ f.alone }
+
+  parts : All (IsFresh old a) comma × All (IsFresh old a) (before ++ m ∷ behind)
+  parts = all_parts comma (before ++ m ∷ behind) made.fresh.once (IsFresh old a) made.fresh.each
+
+  beside : All (IsFresh old a) before × All (IsFresh old a) (m ∷ behind)
+  beside = all_parts before (m ∷ behind) (once_right comma (before ++ m ∷ behind) made.fresh.once) (IsFresh old a) (λ k h. parts.1 k 0 h)
+
+  pub made_later : NodesMade old b layout outer plan v m comma before behind
+  made_later = record {
+    fresh = record { each = λ k h. fresh_later (slice_index (comma ++ (before ++ m ∷ behind)) k) (made.fresh.each k h); once = made.fresh.once };
+    is = top_stays a b tree keeps after m (beside.1 0 0 (omega arith)).there ∙ made.is;
+    parts = contents_kept a b keeps comma (λ k h. (parts.0 k 0 h).there) ∙ made.parts;
+    leads = contents_kept a b keeps before (λ k h. (beside.0 k 0 h).there) ∙ made.leads;
+    ends = contents_kept a b keeps behind (λ k h. (beside.1 (suc k) 0 (omega (arith, h))).there) ∙ made.ends;
   }

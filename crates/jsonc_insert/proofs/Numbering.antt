@@ -1,5 +1,5 @@
 -- Where the new element stands, and which nodes are what they were.
-use Rattle.std.proofs.Common.{◌≡◌, ◌≢◌, ◌<◌, ◌≤◌, ◌+◌, ◌-◌, ◌⊎◌, ⊥, inl, inr, ℕ, zero, suc, min, Bool, true, false, cond, List, [], ◌∷◌, ◌++◌, All, length, filter, map, take, drop, slice_get, slice_index, slice_range, Option, Some, None, refl, sym, ap, subst, ◌∙◌, arith, append_assoc, append-nil, length-append}
+use Rattle.std.proofs.Common.{◌≡◌, ◌≢◌, ◌<◌, ◌≤◌, ◌+◌, ◌-◌, ◌⊎◌, inl, inr, ℕ, zero, suc, min, Bool, true, false, cond, List, [], ◌∷◌, ◌++◌, All, length, filter, map, take, drop, slice_get, slice_index, slice_range, Option, Some, None, refl, sym, ap, subst, ◌∙◌, arith, append_assoc, append-nil, length-append}
 use Rattle.std.proofs.lemmas.List.{drop_all, nil_from_length, take-append-drop, take_all}
 use Rattle.std.proofs.lemmas.List.Elements.{All-take, filter-append}
 use Rattle.jsonc_text.specs.Plain.{Plain}
@@ -46,11 +46,11 @@ laid_element l (Plain.object ms) = refl
 
 same_count : (ns : List Node) (xs : List ℕ) → length (filter (is_element_at ns) xs) ≡ length (filter is_element (map (content_at ns) xs))
 same_count ns [] = refl
-same_count ns (x ∷ xs) = by (is_element (content_at ns x))
+same_count ns (x ∷ xs) = by (is_element (content_at ns x)) (same_count ns xs)
   where
-    by : (b : Bool) → length (cond b (x ∷ filter (is_element_at ns) xs) (filter (is_element_at ns) xs)) ≡ length (cond b (content_at ns x ∷ filter is_element (map (content_at ns) xs)) (filter is_element (map (content_at ns) xs)))
-    by true = ap suc (same_count ns xs)
-    by false = same_count ns xs
+    by : (b : Bool) → length (filter (is_element_at ns) xs) ≡ length (filter is_element (map (content_at ns) xs)) → length (cond b (x ∷ filter (is_element_at ns) xs) (filter (is_element_at ns) xs)) ≡ length (cond b (content_at ns x ∷ filter is_element (map (content_at ns) xs)) (filter is_element (map (content_at ns) xs)))
+    by true rest = ap suc rest
+    by false rest = rest
 
 none_of : (ns : List Node) (xs : List ℕ) (contents : List Content) → map (content_at ns) xs ≡ contents → length (filter is_element contents) ≡ 0 → filter (is_element_at ns) xs ≡ []
 none_of ns xs contents e h = nil_from_length (filter (is_element_at ns) xs) (same_count ns xs ∙ ap (λ l. length (filter is_element l)) e ∙ h)
@@ -60,17 +60,11 @@ at_seam [] ys m = refl
 at_seam (x ∷ xs) ys m = at_seam xs ys m
 
 module _ (old new : List Node) (c i : ℕ) (v : Plain) (m : ℕ) (tree : IsTree old) (there : c < length old) (brackets : has_brackets old (children_at old c) ≡ true) (e : ElementPut old new c i v m) where
-  plan : Plan
-  plan = plan_of old c i v
-
   abbrev kept : List ℕ
   kept = trimmed old (children_at old c)
 
   abbrev Element : ℕ → Bool
   Element n = is_element_at e.ready n
-
-  written : List ℕ
-  written = e.made.before ++ m ∷ e.made.behind
 
   row_is : children_at new c ≡ e.row
   row_is =
@@ -98,9 +92,6 @@ module _ (old new : List Node) (c i : ℕ) (v : Plain) (m : ℕ) (tree : IsTree 
       filter-append Element e.made.before (m ∷ e.made.behind) ∙ ap (λ l. l ++ filter Element (m ∷ e.made.behind)) before_out
       ∙ ap (λ b. cond b (m ∷ filter Element e.made.behind) (filter Element e.made.behind)) element_in ∙ ap (λ l. m ∷ l) behind_out
 
-  wide : List ℕ
-  wide = with_at (plan_of old c i v).place (e.made.before ++ m ∷ e.made.behind) kept
-
   -- a comma further in front changes no element
   comma_no_matter : (o : Option ℕ) (xs row : List ℕ) → filter Element xs ≡ [] → filter Element (with_comma o xs row) ≡ filter Element row
   comma_no_matter None xs row none = refl
@@ -108,9 +99,6 @@ module _ (old new : List Node) (c i : ℕ) (v : Plain) (m : ℕ) (tree : IsTree 
       filter-append Element (take at row ++ xs) (drop at row)
       ∙ ap (λ l. l ++ filter Element (drop at row)) (filter-append Element (take at row) xs ∙ ap (λ l. filter Element (take at row) ++ l) none ∙ append-nil (filter Element (take at row)))
       ∙ sym (filter-append Element (take at row) (drop at row)) ∙ ap (filter Element) (take-append-drop at row)
-
-  front : List ℕ
-  front = filter Element (take (plan_of old c i v).place kept)
 
   split : filter Element (put_by (plan_of old c i v) e.made.comma (e.made.before ++ m ∷ e.made.behind) kept) ≡ filter Element (take (plan_of old c i v).place kept) ++ m ∷ filter Element (drop (plan_of old c i v).place kept)
   split =

@@ -1,5 +1,5 @@
 -- Lists in which no number stands twice.
-use Rattle.std.proofs.Common.{◌≡◌, ◌≢◌, ◌<◌, ◌≤◌, ◌+◌, ◌-◌, ⊥, inl, inr, ℕ, List, [], ◌∷◌, ◌++◌, All, length, take, drop, get_or, slice_index, refl, sym, ap, subst, ◌∙◌, arith, length-append, length-drop}
+use Rattle.std.proofs.Common.{◌≡◌, ◌≢◌, ◌<◌, ◌≤◌, ◌+◌, ◌-◌, inl, inr, ℕ, List, [], ◌∷◌, ◌++◌, All, length, take, drop, get_or, slice_index, refl, sym, ap, subst, ◌∙◌, arith, length-append, length-drop}
 use Rattle.std.proofs.lemmas.Bool.{cases_lt}
 use Rattle.std.proofs.lemmas.List.{get_or-append-add, get_or-append_right, get_or-drop, get_or-take, get_or_append_left, length-take}
 use Rattle.std.proofs.lemmas.List.Elements.{All-append, All-drop, All-from_get_or, All-take}
@@ -63,22 +63,22 @@ front_apart xs i j h once a b ha hb e =
 
 -- lists of which one passes what the other doesn't
 pub apart_by : (P Q : ℕ → Type 0) → ((n : ℕ) → P n → Q n → ⊥) → (xs ys : List ℕ) → All P xs → All Q ys → Apart xs ys
-apart_by P Q no xs ys all none a b ha hb e = no (slice_index ys b) (subst P e (all a 0 ha)) (none b 0 hb)
+apart_by P Q never xs ys all none a b ha hb e = never (slice_index ys b) (subst P e (all a 0 ha)) (none b 0 hb)
 
 -- a list without a stretch
 pub once_without : (xs : List ℕ) (i j : ℕ) → i ≤ j → EachOnce xs → EachOnce (take i xs ++ drop j xs)
 once_without xs i j h once = once_append (take i xs) (drop j xs) (once_take xs i once) (once_drop xs j once) (front_apart xs i j h once)
 
 -- others that come into such a list
-module _ (P Q : ℕ → Type 0) (no : (n : ℕ) → P n → Q n → ⊥) (place : ℕ) (xs row : List ℕ) (new : All P xs) (old : All Q row) where
+module _ (P Q : ℕ → Type 0) (never : (n : ℕ) → P n → Q n → ⊥) (place : ℕ) (xs row : List ℕ) (new : All P xs) (old : All Q row) where
   front_new : Apart (take place row) xs
-  front_new a b ha hb e = apart_by P Q no xs (take place row) new (All-take Q place row old) b a hb ha (sym e)
+  front_new a b ha hb e = apart_by P Q never xs (take place row) new (All-take Q place row old) b a hb ha (sym e)
 
   behind_apart : EachOnce row → Apart (take place row ++ xs) (drop place row)
   behind_apart once a b ha hb e =
       elim (cases_lt a (length (take place row))) [
         | inl la ↦ front_apart row place place (omega arith) once a b la hb (sym (left_at (take place row) xs a la) ∙ e)
-        | inr ra ↦ apart_by P Q no xs (drop place row) new (All-drop Q place row old) (a - length (take place row)) b (right_in (take place row) xs a ra ha) hb (sym (right_at (take place row) xs a ra) ∙ e)
+        | inr ra ↦ apart_by P Q never xs (drop place row) new (All-drop Q place row old) (a - length (take place row)) b (right_in (take place row) xs a ra ha) hb (sym (right_at (take place row) xs a ra) ∙ e)
       ]
 
   pub once_with_at : EachOnce xs → EachOnce row → EachOnce (with_at place xs row)

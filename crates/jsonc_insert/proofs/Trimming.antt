@@ -111,7 +111,7 @@ module _ (ns : List Node) (row : List ℕ) (two : 2 ≤ length row) where
   first_within : Within 1 (1 + blanks ns (inside row)) (first_gone ns row)
   first_within = subst (λ k. Within 1 (1 + k) (first_gone ns row)) run_long (behind_within ns 1 (slice_range (inside row) 0 (blanks ns (inside row))))
 
-  place : ℕ
+  abbrev place : ℕ
   place = length row - 1 - last_blanks ns (inside row)
 
   -- where it begins: behind the blanks at the front, unless nothing but blanks is inside
@@ -136,7 +136,7 @@ module _ (ns : List Node) (row : List ℕ) (two : 2 ≤ length row) where
         (omega (arith, last_in.from, apart, long, two), last_in.order, omega (arith, last_in.to, two)))
       (let w = blanks_within ns (inside row) in (omega (arith, w, long, two), omega arith, omega (arith, two)))
 
-  shorter : List ℕ
+  abbrev shorter : List ℕ
   shorter = without (last_gone ns row) row
 
   shorter_count : length shorter ≡ (last_gone ns row).from + (length row - (last_gone ns row).to)

@@ -83,7 +83,7 @@ pub(crate) fn has_whitespace<A: Allocator>(tree: &Tree<A>, row: &[usize]) -> boo
 }
 
 // The indent that a line begins with.
-fn indent_of_line<A: Allocator>(
+fn indent_of_line<A: Allocator + Copy>(
     alloc: A,
     tree: &Tree<A>,
     line: &[usize],
@@ -114,7 +114,7 @@ fn line_start<A: Allocator>(tree: &Tree<A>, row: &[usize], start: usize, place: 
 }
 
 // The first indent in a row.
-fn first_indent<A: Allocator>(
+fn first_indent<A: Allocator + Copy>(
     alloc: A,
     tree: &Tree<A>,
     row: &[usize],
@@ -133,7 +133,7 @@ fn first_indent<A: Allocator>(
 }
 
 /// What one level adds in a document whose value has this row.
-pub(crate) fn single_in<A: Allocator>(
+pub(crate) fn single_in<A: Allocator + Copy>(
     alloc: A,
     tree: &Tree<A>,
     row: &[usize],

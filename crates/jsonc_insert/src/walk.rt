@@ -186,7 +186,8 @@ pub(crate) fn first_sought<A: Allocator + Copy>(
     ensures first { IfOk result (λ o. o ≡ first_sought tree.now.nodes container row.now sought start.now) }
     ensures there { IfOk result (λ o. IfSome o (λ m. m < length tree.now.nodes)) }
 {
-    let mut level = copied(alloc, start)?;
+    let first = copied(alloc, start)?;
+    let mut level = first;
     for _depth in 0..tree.len() {
         if level.is_empty() {
             return Ok(None);
