@@ -1,12 +1,11 @@
 -- How many elements stand before the place where a new one comes.
-use Rattle.std.proofs.Common.{◌≡◌, ◌≢◌, ◌<◌, ◌≤◌, ◌+◌, ◌-◌, ◌&&◌, ◌⊎◌, inl, inr, ℕ, zero, suc, min, Bool, true, false, not, cond, List, [], ◌∷◌, ◌++◌, All, length, filter, reverse, take, drop, get_or, slice_get, slice_index, slice_range, Option, Some, None, is_some, refl, sym, ap, subst, ◌∙◌, arith, length-append, length-drop, length-take}
-use Rattle.std.specs.List.{find, list_all, prefix_len, take_while}
+use Rattle.std.proofs.Common.{◌≡◌, ◌≢◌, ◌<◌, ◌≤◌, ◌+◌, ◌-◌, ◌⊎◌, inl, inr, ℕ, zero, suc, min, Bool, true, false, not, cond, List, [], ◌∷◌, ◌++◌, All, length, reverse, take, drop, get_or, slice_get, slice_index, slice_range, Option, Some, None, is_some, refl, sym, ap, subst, ◌∙◌, arith, length-append, length-drop}
+use Rattle.std.specs.List.{find, list_all, prefix_len}
 use Rattle.std.specs.Option.{option_or}
-use Rattle.std.proofs.Math.Seq.{take-add}
 use Rattle.std.proofs.lemmas.Bool.{cases_Bool, cases_eq, cases_lt, eq-eqb, false≢true, ne_eqb}
 use Rattle.std.proofs.lemmas.List.{get_or-drop, get_or-take, reverse-append, take-append-drop, take_all, take_more}
 use Rattle.std.proofs.lemmas.List.Edits.{get_or-between, length-between}
-use Rattle.std.proofs.lemmas.List.Elements.{All-filter, All-from_get_or, filter-append, filter_passes}
+use Rattle.std.proofs.lemmas.List.Elements.{All-filter, All-from_get_or, filter-append}
 use Rattle.std.proofs.lemmas.List.Folds.{find-append, length-prefix_len, list_all_at}
 use Rattle.std.proofs.lemmas.List.Sums.{prefix_len_passes, prefix_len-le-length}
 use Rattle.std.proofs.lemmas.Option.{slice_get_cases}
@@ -229,8 +228,8 @@ module _ (ns : List Node) where
             ap (λ b. count (take (p + cond b (length (line ns (slice_range row p (length row))) - last_spaces ns (line ns (slice_range row p (length row)))) 0) row)) so
             ∙ count_skip row p many
             (λ q low high within.
-              let at : p + (q - p) ≡ q = omega (arith, low) in
-              subst (λ k. is_element_at ns (slice_index row k) ≡ false) at (beside_at so (q - p) (omega (arith, low, high))))
+            let at : p + (q - p) ≡ q = omega (arith, low) in
+            subst (λ k. is_element_at ns (slice_index row k) ≡ false) at (beside_at so (q - p) (omega (arith, low, high))))
 
   -- where a plan puts a new element
   module _ (several commas : Bool) (row : List ℕ) (once : EachOnce row) where

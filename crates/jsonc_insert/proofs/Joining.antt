@@ -1,5 +1,5 @@
 -- A new row may take the place of the old one, and has.
-use Rattle.std.proofs.Common.{◌≡◌, ◌≢◌, ◌<◌, ◌≤◌, ◌+◌, ◌-◌, ◌⊎◌, inl, inr, ℕ, true, List, [], ◌∷◌, ◌++◌, All, length, take, drop, get_or, slice_index, slice_range, Option, Some, None, refl, sym, ap, subst, ◌∙◌, arith}
+use Rattle.std.proofs.Common.{◌≡◌, ◌≢◌, ◌<◌, ◌≤◌, ◌-◌, ◌⊎◌, inl, inr, ℕ, true, List, ◌∷◌, ◌++◌, All, length, take, drop, get_or, slice_index, slice_range, Option, Some, None, refl, sym, ap, subst, ◌∙◌, arith}
 use Rattle.std.proofs.lemmas.List.{take_all}
 use Rattle.std.proofs.lemmas.List.Elements.{All-from_get_or}
 use Rattle.jsonc_text.specs.Plain.{Plain}
@@ -16,7 +16,6 @@ use Rattle.jsonc_insert.specs.Made.{AreFresh, IsFresh}
 use Rattle.jsonc_insert.specs.Planned.{has_brackets}
 use Rattle.jsonc_insert.specs.Settings.{layout_inside}
 use Rattle.jsonc_insert.specs.Trimmed.{trimmed, with_at}
-use Rattle.jsonc_insert.specs.declared.plan.Plan.{Plan}
 use Rattle.jsonc_insert.proofs.Once.{all_parts, all_with_at, once_left, once_right, once_with_at, parts_apart}
 use Rattle.jsonc_insert.proofs.Making.{keeps_then, made_later}
 use Rattle.jsonc_insert.proofs.Trimming.{has_two, trimmed_all, trimmed_once}

@@ -1,14 +1,13 @@
 -- New leaves, made one behind the other, and a new element between them.
-use Rattle.std.proofs.Common.{◌≡◌, ◌≢◌, ◌<◌, ◌≤◌, ◌+◌, ◌-◌, ℕ, suc, zero, inl, inr, List, [], ◌∷◌, ◌++◌, length, map, slice_index, Some, None, Result, Ok, Err, OnOk, All, refl, sym, ap, subst, ◌∙◌, arith, append_assoc, append-nil, length-append}
+use Rattle.std.proofs.Common.{◌≡◌, ◌<◌, ◌≤◌, ◌-◌, ℕ, suc, inl, inr, List, [], ◌∷◌, ◌++◌, length, map, slice_index, Result, Ok, Err, OnOk, All, refl, sym, ap, subst, ◌∙◌, arith, append_assoc, append-nil, length-append}
 use Rattle.std.proofs.lemmas.Bool.{cases_lt}
 use Rattle.std.proofs.lemmas.List.{get_or-append_right, get_or_append_left}
 use Rattle.jsonc_text.specs.Plain.{Plain}
 use Rattle.jsonc_tree.specs.Building.{Builds, Keeps}
-use Rattle.jsonc_tree.specs.Changes.{Adds, EachOnce}
+use Rattle.jsonc_tree.specs.Changes.{Adds}
 use Rattle.jsonc_tree.specs.Content.{Content}
 use Rattle.jsonc_tree.specs.Tree.{Node, content_at, IsTree}
 use Rattle.jsonc_tree.proofs.Builder.{Keeps-adds, Keeps-fewer, Keeps-same, Keeps-then}
-use Rattle.jsonc_edit.specs.Changes.{top_at}
 use Rattle.jsonc_edit.proofs.Kept.{built_top, top_stays}
 use Rattle.jsonc_from_input.specs.Laid.{laid}
 use Rattle.jsonc_from_input.specs.Layout.{Layout}

@@ -1,5 +1,5 @@
 -- Where the new element stands, and which nodes are what they were.
-use Rattle.std.proofs.Common.{◌≡◌, ◌≢◌, ◌<◌, ◌≤◌, ◌+◌, ◌-◌, ◌⊎◌, inl, inr, ℕ, zero, suc, min, Bool, true, false, cond, List, [], ◌∷◌, ◌++◌, All, length, filter, map, take, drop, slice_get, slice_index, slice_range, Option, Some, None, refl, sym, ap, subst, ◌∙◌, arith, append_assoc, append-nil, length-append}
+use Rattle.std.proofs.Common.{◌≡◌, ◌≢◌, ◌<◌, ◌≤◌, ◌-◌, ◌⊎◌, inl, inr, ℕ, suc, min, Bool, true, false, cond, List, [], ◌∷◌, ◌++◌, All, length, filter, map, take, drop, slice_get, slice_index, slice_range, Option, Some, None, refl, sym, ap, ◌∙◌, arith, append_assoc, append-nil, length-append}
 use Rattle.std.proofs.lemmas.List.{drop_all, nil_from_length, take-append-drop, take_all}
 use Rattle.std.proofs.lemmas.List.Elements.{All-take, filter-append}
 use Rattle.jsonc_text.specs.Plain.{Plain}
@@ -13,7 +13,7 @@ use Rattle.jsonc_nodes.specs.Kinds.{is_element, is_element_at}
 use Rattle.jsonc_edit.proofs.Kept.{filter_same}
 use Rattle.jsonc_from_input.specs.Laid.{laid}
 use Rattle.jsonc_from_input.specs.Layout.{Layout}
-use Rattle.jsonc_insert.specs.Inserted.{leaves_before, leaves_behind, outer_indent, plan_of, put_by, with_comma, ElementPut}
+use Rattle.jsonc_insert.specs.Inserted.{leaves_before, outer_indent, plan_of, put_by, with_comma, ElementPut}
 use Rattle.jsonc_insert.specs.Made.{comma_at, comma_leaf, gap_leaves, IsFresh}
 use Rattle.jsonc_insert.specs.Planned.{elements, has_brackets}
 use Rattle.jsonc_insert.specs.Settings.{layout_inside, on_several_lines}
@@ -21,7 +21,6 @@ use Rattle.jsonc_insert.specs.Trimmed.{trimmed, with_at}
 use Rattle.jsonc_insert.specs.Laws.{ChangesOneRow, KeepsNodesBut, TakesItsNumber}
 use Rattle.jsonc_insert.specs.declared.plan.Gap.{Gap}
 use Rattle.jsonc_insert.specs.declared.plan.Gap.TheVariants.{Nothing, Space, Line}
-use Rattle.jsonc_insert.specs.declared.plan.Plan.{Plan}
 use Rattle.jsonc_insert.proofs.Counting.{planned_count}
 use Rattle.jsonc_insert.proofs.Joining.{all_kept, made_stands, once_kept}
 use Rattle.jsonc_insert.proofs.Trimming.{has_two, trimmed_brackets, trimmed_elements}
@@ -154,10 +153,10 @@ module _ (old new : List Node) (c i : ℕ) (v : Plain) (m : ℕ) (tree : IsTree 
     content = λ n h. e.put.content n ∙ e.prepared.keeps.content n h;
     children = λ n h ne. (e.put.others n ne).0 ∙ e.prepared.keeps.children n h;
     parent = λ n h ne.
-      e.put.parents n
-      ∙ ap (λ b. cond b (Some c) (cond (is_in n (slice_range (children_at e.ready c) 0 (length (children_at old c)))) None (parent_at e.ready n))) (not_in_row n h ne)
-      ∙ ap (λ b. cond b None (parent_at e.ready n)) (not_gone n ne)
-      ∙ e.prepared.keeps.parent n h;
+        e.put.parents n
+        ∙ ap (λ b. cond b (Some c) (cond (is_in n (slice_range (children_at e.ready c) 0 (length (children_at old c)))) None (parent_at e.ready n))) (not_in_row n h ne)
+        ∙ ap (λ b. cond b None (parent_at e.ready n)) (not_gone n ne)
+        ∙ e.prepared.keeps.parent n h;
   }
 
 pub takes_number : (old new : List Node) (c i : ℕ) (v : Plain) (m : ℕ) → TakesItsNumber old new c i v m

@@ -1,5 +1,5 @@
 -- Lists in which no number stands twice.
-use Rattle.std.proofs.Common.{◌≡◌, ◌≢◌, ◌<◌, ◌≤◌, ◌+◌, ◌-◌, inl, inr, ℕ, List, [], ◌∷◌, ◌++◌, All, length, take, drop, get_or, slice_index, refl, sym, ap, subst, ◌∙◌, arith, length-append, length-drop}
+use Rattle.std.proofs.Common.{◌≡◌, ◌<◌, ◌≤◌, ◌+◌, ◌-◌, inl, inr, ℕ, List, ◌++◌, All, length, take, drop, slice_index, refl, sym, subst, ◌∙◌, arith, length-append, length-drop}
 use Rattle.std.proofs.lemmas.Bool.{cases_lt}
 use Rattle.std.proofs.lemmas.List.{get_or-append-add, get_or-append_right, get_or-drop, get_or-take, get_or_append_left, length-take}
 use Rattle.std.proofs.lemmas.List.Elements.{All-append, All-drop, All-from_get_or, All-take}
@@ -115,5 +115,5 @@ module _ (xs ys : List ℕ) (once : EachOnce (xs ++ ys)) where
   pub all_parts : (P : ℕ → Type 0) → ((k : ℕ) → k < length (xs ++ ys) → P (slice_index (xs ++ ys) k)) → All P xs × All P ys
   all_parts P each = (
     All-from_get_or P xs 0 (λ k h. subst P (left_at xs ys k h) (each k (in_left k h))),
-    All-from_get_or P ys 0 (λ k h. subst P (at_right k) (each (length xs + k) (in_right k h)))
+    All-from_get_or P ys 0 (λ k h. subst P (at_right k) (each (length xs + k) (in_right k h))),
   )

@@ -1,5 +1,5 @@
 -- Where an element stands in a row that has its brackets: before the last of them.
-use Rattle.std.proofs.Common.{◌≡◌, ◌<◌, ◌≤◌, ◌+◌, ◌-◌, ◌&&◌, ◌⊎◌, inl, inr, ℕ, zero, suc, Bool, true, false, cond, List, [], ◌∷◌, All, length, reverse, filter, get_or, slice_get, slice_index, nat_lt, Option, Some, None, IfSome, unwrap_or, refl, sym, ap, subst, ◌∙◌, arith, rules}
+use Rattle.std.proofs.Common.{◌≡◌, ◌<◌, ◌≤◌, ◌+◌, ◌-◌, ◌&&◌, ◌⊎◌, inl, inr, ℕ, zero, suc, Bool, true, false, cond, List, [], ◌∷◌, length, reverse, get_or, slice_get, slice_index, nat_lt, Some, None, unwrap_or, refl, sym, ap, subst, ◌∙◌, arith, rules}
 use Rattle.std.specs.List.{find, prefix_len}
 use Rattle.std.specs.Option.{option_or}
 use Rattle.std.proofs.lemmas.List.Elements.{All-filter, filter_passes}
@@ -87,7 +87,7 @@ module _ (ns : List Node) (row : List ℕ) (brackets : has_brackets ns row ≡ t
       by_end (inr (ge, e)) =
           let last : length row - 1 ≡ k = omega (arith, h, ge) in
           let token : is_token (content_at ns (get_or row k d)) ≡ true =
-              ap (λ m. is_token (content_at ns m)) (get_or_default row k d 0 h) ∙ ap (λ i. is_token (content_at ns (slice_index row i))) (sym last) ∙ last_token in
+          ap (λ m. is_token (content_at ns m)) (get_or_default row k d 0 h) ∙ ap (λ i. is_token (content_at ns (slice_index row i))) (sym last) ∙ last_token in
           absurd (token_no_element (content_at ns (get_or row k d)) token el)
 
   by_found : (i n : ℕ) → ((x : ℕ) × (i < length (elements ns row)) × (slice_get (elements ns row) i ≡ Some x) × (get_or (elements ns row) i x ≡ x)) ⊎ ((length (elements ns row) ≤ i) × (slice_get (elements ns row) i ≡ None))

@@ -1,5 +1,5 @@
 -- Elements of a row whose nodes are there are there.
-use Rattle.std.proofs.Common.{◌≡◌, ◌<◌, ◌≤◌, ◌⊎◌, inl, inr, ℕ, List, All, length, reverse, filter, get_or, slice_get, Option, None, Some, sym, subst}
+use Rattle.std.proofs.Common.{◌≡◌, ◌<◌, ◌≤◌, ◌⊎◌, inl, inr, ℕ, List, length, reverse, get_or, slice_get, None, Some, sym, subst}
 use Rattle.std.proofs.lemmas.List.Elements.{All-filter}
 use Rattle.std.proofs.lemmas.Option.{slice_get_cases}
 use Rattle.jsonc_tree.specs.Tree.{Node}

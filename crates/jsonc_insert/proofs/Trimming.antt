@@ -1,6 +1,6 @@
 -- A row without blank lines inside its brackets still has its brackets, and holds nothing else than before.
 use Rattle.std.proofs.Common.{◌≡◌, ◌<◌, ◌≤◌, ◌+◌, ◌-◌, ◌&&◌, ◌||◌, inl, inr, ℕ, suc, Bool, true, false, cond, List, [], ◌∷◌, ◌++◌, All, length, filter, reverse, take, drop, get_or, slice_index, slice_range, nat_lt, refl, sym, ap, subst, ◌∙◌, arith, length-append, length-drop}
-use Rattle.std.specs.List.{prefix_len, take_while}
+use Rattle.std.specs.List.{prefix_len}
 use Rattle.std.proofs.lemmas.Bool.{cases_Bool, cases_lt, ltb-false, ltb-true, false≢true}
 use Rattle.std.proofs.lemmas.List.{get_or-append-add, get_or-drop, get_or-reverse, get_or-take, get_or_append_left, length-reverse, length-take}
 use Rattle.std.proofs.lemmas.List.Edits.{get_or-between, length-between, split_between}
@@ -131,9 +131,9 @@ module _ (ns : List Node) (row : List ℕ) (two : 2 ≤ length row) where
   last_behind =
       either Behind (nat_lt (blanks ns (inside row)) (length (inside row))) (last_gone_from ns row place) (nothing_at (length row - 1))
       (λ b.
-        let some = ltb-true (blanks ns (inside row)) (length (inside row)) b in
-        let apart = blanks_apart ns (inside row) some in
-        (omega (arith, last_in.from, apart, long, two), last_in.order, omega (arith, last_in.to, two)))
+      let some = ltb-true (blanks ns (inside row)) (length (inside row)) b in
+      let apart = blanks_apart ns (inside row) some in
+      (omega (arith, last_in.from, apart, long, two), last_in.order, omega (arith, last_in.to, two)))
       (let w = blanks_within ns (inside row) in (omega (arith, w, long, two), omega arith, omega (arith, two)))
 
   abbrev shorter : List ℕ
@@ -188,7 +188,7 @@ same_brackets ns row other h k first last =
     ∙ sym (ap (λ b. cond b false (is_token (content_at ns (slice_index row 0)) && is_token (content_at ns (slice_index row (length row - 1))))) (not_less row h))
   where
     not_less : (xs : List ℕ) → 2 ≤ length xs → nat_lt (length xs) 2 ≡ false
-    not_less xs l = elim (cases_Bool (nat_lt (length xs) 2)) [ | inl e ↦ absurd (let less = ltb-true (length xs) 2 e in omega (arith, less, l)) | inr e ↦ e ]
+    not_less xs l = elim (cases_Bool (nat_lt (length xs) 2)) [ inl e ↦ absurd (let less = ltb-true (length xs) 2 e in omega (arith, less, l)) | inr e ↦ e ]
 
 pub trimmed_brackets : (ns : List Node) (row : List ℕ) → has_brackets ns row ≡ true → has_brackets ns (trimmed ns row) ≡ true
 trimmed_brackets ns row e =
@@ -213,8 +213,8 @@ module _ (ns : List Node) where
       let out : filter E (slice_range row s.from s.to) ≡ [] =
       none_in (slice_range row s.from s.to)
       (λ k h.
-        let long : length (slice_range row s.from s.to) ≡ s.to - s.from = length-between row s.from s.to high in
-        ap E (get_or-between row s.from s.to k 0 (omega (arith, h, long))) ∙ none (s.from + k) (omega arith) (omega (arith, h, long))) in
+      let long : length (slice_range row s.from s.to) ≡ s.to - s.from = length-between row s.from s.to high in
+      ap E (get_or-between row s.from s.to k 0 (omega (arith, h, long))) ∙ none (s.from + k) (omega arith) (omega (arith, h, long))) in
       filter-append E (take s.from row) (drop s.to row)
       ∙ ap (λ l. filter E (take s.from row) ++ l) (sym (ap (λ l. l ++ filter E (drop s.to row)) out) ∙ sym (filter-append E (slice_range row s.from s.to) (drop s.to row)))
       ∙ sym (filter-append E (take s.from row) (slice_range row s.from s.to ++ drop s.to row))

@@ -3,7 +3,7 @@ use Rattle.std.specs.Prelude.{◌≡◌, ◌≤◌, ◌<◌, ℕ, Bool, true, fa
 use Rattle.jsonc_tree.specs.Building.{Keeps}
 use Rattle.jsonc_tree.specs.Changes.{EachOnce}
 use Rattle.jsonc_tree.specs.Content.{Content, newline, token, whitespace}
-use Rattle.jsonc_tree.specs.Tree.{Node, content_at, parent_at, IsTree}
+use Rattle.jsonc_tree.specs.Tree.{Node, content_at, parent_at}
 use Rattle.jsonc_tree.specs.declared.node.CstNewlineKind.{CstNewlineKind}
 use Rattle.jsonc_insert.specs.declared.plan.Gap.{Gap}
 use Rattle.jsonc_insert.specs.declared.plan.Gap.TheVariants.{Nothing, Space, Line}

@@ -1,5 +1,5 @@
 -- Where a new element comes into a row, and what is written beside it.
-use Rattle.std.specs.Prelude.{ℕ, zero, suc, ◌+◌, ◌-◌, ◌==◌, Bool, true, false, not, ◌&&◌, ◌||◌, List, [], ◌∷◌, filter, length, drop, Option, Some, None, is_some, slice_get, slice_index, slice_range, nat_lt, if◌then◌else◌}
+use Rattle.std.specs.Prelude.{ℕ, zero, suc, ◌+◌, ◌-◌, ◌==◌, Bool, true, false, not, ◌&&◌, List, [], ◌∷◌, filter, length, drop, Option, Some, None, is_some, slice_get, slice_index, slice_range, nat_lt, if◌then◌else◌}
 use Rattle.std.specs.Option.{option_or}
 use Rattle.std.specs.List.{list_any, list_all, take_while}
 use Rattle.jsonc_tree.specs.Content.{Content, token}

@@ -1,5 +1,5 @@
 -- Worked insertions: arrays of leaves, and what they print with one more element.
-use Rattle.std.specs.Prelude.{◌≡◌, ℕ, suc, ◌+◌, List, [], ◌∷◌, ◌++◌, length, map, Some, None, codes}
+use Rattle.std.specs.Prelude.{◌≡◌, ℕ, suc, List, [], ◌∷◌, ◌++◌, map, Some, None, codes}
 use Rattle.std.specs.List.{flat_map}
 use Rattle.jsonc_text.specs.Plain.{Plain, no_items, item, no_members, member}
 use Rattle.jsonc_tree.specs.Content as content

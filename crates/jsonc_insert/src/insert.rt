@@ -149,7 +149,14 @@ fn make_row<A: Allocator + Copy>(
 {
     let _ = tree.len();
     let told = read(alloc, tree, container, index, value)?;
-    let made = make(alloc, tree, value, &told.layout, told.outer.as_str(), told.plan)?;
+    let made = make(
+        alloc,
+        tree,
+        value,
+        &told.layout,
+        told.outer.as_str(),
+        told.plan,
+    )?;
     let row = with_made(alloc, told.plan, &made, &told.kept)?;
     Ok(NewRow {
         row,

@@ -135,7 +135,14 @@ fn make_before<A: Allocator + Copy>(
 {
     let mut leaves = Vec::new(alloc);
     let indent = layout.current.as_str();
-    push_gap(alloc, tree, &mut leaves, plan.before, layout.newline, indent)?;
+    push_gap(
+        alloc,
+        tree,
+        &mut leaves,
+        plan.before,
+        layout.newline,
+        indent,
+    )?;
     Ok(leaves)
 }
 

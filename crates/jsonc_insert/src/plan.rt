@@ -122,7 +122,9 @@ fn trivia<A: Allocator>(tree: &Tree<A>, row: &[usize]) -> usize
     ensures count { result ≡ trivia tree.now.nodes row.now }
     ensures within { result ≤ length row.now }
 {
-    row.iter().take_while(|node| is_trivia(tree, **node)).count()
+    row.iter()
+        .take_while(|node| is_trivia(tree, **node))
+        .count()
 }
 
 // The element of this number in a row, or none where there are fewer.

@@ -5,7 +5,7 @@ use Rattle.jsonc_insert.proofs.lines.first_indent.Goals as goal
 pub returns-then-is_some : goal.returns-then-is_some
 returns-then-is_some g c = record {
   indent = sym (c.loop-place.invariant.same
-  ∙ indent_here c.args.tree.now.nodes c.args.row.now c.loop-place.start c.loop-place.place c.in_ok-text.text c.loop-place-test.true c.in_ok-text.ensures.indent (sym c.is_some.ensures ∙ c.if-is_some.true));
+      ∙ indent_here c.args.tree.now.nodes c.args.row.now c.loop-place.start c.loop-place.place c.in_ok-text.text c.loop-place-test.true c.in_ok-text.ensures.indent (sym c.is_some.ensures ∙ c.if-is_some.true));
 }
 
 pub loop-place-preserved : goal.loop-place-preserved
