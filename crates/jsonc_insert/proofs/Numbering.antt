@@ -141,7 +141,7 @@ module _ (old new : List Node) (c i : ℕ) (v : Plain) (m : ℕ) (tree : IsTree 
       by k l f (inl said) = ne (sym (ap (parent_at old) f) ∙ said)
       by k l f (inr fresh) = omega (arith, fresh.later, h, f)
 
-  whole : slice_range (children_at e.ready c) 0 (length (children_at old c)) ≡ children_at old c
+  pub whole : slice_range (children_at e.ready c) 0 (length (children_at old c)) ≡ children_at old c
   whole = ap (λ (l : List ℕ). take (length (children_at old c) - 0) (drop 0 l)) (e.prepared.keeps.children c there) ∙ take_all (length (children_at old c) - 0) (children_at old c) (omega arith)
 
   not_gone : (n : ℕ) → parent_at old n ≢ Some c → is_in n (slice_range (children_at e.ready c) 0 (length (children_at old c))) ≡ false

@@ -60,10 +60,10 @@ module _ (ns : List Node) where
       omega (arith, apart, front, back)
 
 -- a stretch from one place on, and up to another
-record Within (low high : ℕ) (s : Stretch) : Type 0 where
-  from : low ≤ s.from
-  order : s.from ≤ s.to
-  to : s.to ≤ high
+pub record Within (low high : ℕ) (s : Stretch) : Type 0 where
+  pub from : low ≤ s.from
+  pub order : s.from ≤ s.to
+  pub to : s.to ≤ high
 
 either : (P : Stretch → Type 0) (b : Bool) (s t : Stretch) → (b ≡ true → P s) → P t → P (cond b s t)
 either P true s t f g = f refl
@@ -108,14 +108,14 @@ module _ (ns : List Node) (row : List ℕ) (two : 2 ≤ length row) where
   run_long : length (slice_range (inside row) 0 (blanks ns (inside row))) ≡ blanks ns (inside row)
   run_long = let l = length-between (inside row) 0 (blanks ns (inside row)) (blanks_within ns (inside row)) in omega (arith, l)
 
-  first_within : Within 1 (1 + blanks ns (inside row)) (first_gone ns row)
+  pub first_within : Within 1 (1 + blanks ns (inside row)) (first_gone ns row)
   first_within = subst (λ k. Within 1 (1 + k) (first_gone ns row)) run_long (behind_within ns 1 (slice_range (inside row) 0 (blanks ns (inside row))))
 
   abbrev place : ℕ
   place = length row - 1 - last_blanks ns (inside row)
 
   -- where it begins: behind the blanks at the front, unless nothing but blanks is inside
-  abbrev Behind : Stretch → Type 0
+  abbrev pub Behind : Stretch → Type 0
   Behind s = (1 + blanks ns (inside row) ≤ s.from) × (s.from ≤ s.to) × (s.to < length row)
 
   tail_long : length (slice_range row place (length row - 1)) ≡ length row - 1 - place
@@ -127,7 +127,7 @@ module _ (ns : List Node) (row : List ℕ) (two : 2 ≤ length row) where
       let e : place + length (slice_range row place (length row - 1)) ≡ length row - 1 = omega (arith, tail_long) in
       subst (λ k. Within place k (last_gone_from ns row place)) e w
 
-  last_behind : Behind (last_gone ns row)
+  pub last_behind : Behind (last_gone ns row)
   last_behind =
       either Behind (nat_lt (blanks ns (inside row)) (length (inside row))) (last_gone_from ns row place) (nothing_at (length row - 1))
       (λ b.
@@ -142,7 +142,7 @@ module _ (ns : List Node) (row : List ℕ) (two : 2 ≤ length row) where
   shorter_count : length shorter ≡ (last_gone ns row).from + (length row - (last_gone ns row).to)
   shorter_count = count row (last_gone ns row) (omega (arith, last_behind.0)) last_behind.1 last_behind.2
 
-  first_high : (first_gone ns row).to < length shorter
+  pub first_high : (first_gone ns row).to < length shorter
   first_high = omega (arith, first_within.to, last_behind.0, last_behind.2, shorter_count)
 
   pub trimmed_two : 2 ≤ length (trimmed ns row)
@@ -232,13 +232,13 @@ module _ (ns : List Node) where
     inside_at : (q : ℕ) → 1 ≤ q → q < length row - 1 → slice_index (inside row) (q - 1) ≡ slice_index row q
     inside_at q low high = let at : 1 + (q - 1) ≡ q = omega (arith, low) in get_or-between row 1 (length row - 1) (q - 1) 0 (omega (arith, low, high)) ∙ ap (slice_index row) at
 
-    front_blank : (q : ℕ) → 1 ≤ q → q < 1 + blanks ns (inside row) → is_element_at ns (slice_index row q) ≡ false
+    pub front_blank : (q : ℕ) → 1 ≤ q → q < 1 + blanks ns (inside row) → is_blank_at ns (slice_index row q) ≡ true
     front_blank q low high =
         let within = blanks_within ns (inside row) in
         let passes : is_blank_at ns (slice_index (inside row) (q - 1)) ≡ true = prefix_len_passes (is_blank_at ns) (inside row) (q - 1) 0 (omega (arith, low, high, blanks_are ns (inside row))) in
-        blank_none (slice_index row q) (sym (ap (is_blank_at ns) (inside_at q low (omega (arith, high, within, long ns row two)))) ∙ passes)
+        sym (ap (is_blank_at ns) (inside_at q low (omega (arith, high, within, long ns row two)))) ∙ passes
 
-    back_blank : (q : ℕ) → length row - 1 - last_blanks ns (inside row) ≤ q → q < length row - 1 → is_element_at ns (slice_index row q) ≡ false
+    pub back_blank : (q : ℕ) → length row - 1 - last_blanks ns (inside row) ≤ q → q < length row - 1 → is_blank_at ns (slice_index row q) ≡ true
     back_blank q low high =
         let l = long ns row two in
         let w = last_within ns (inside row) in
@@ -248,17 +248,17 @@ module _ (ns : List Node) where
         let back : length (inside row) - 1 - k ≡ q - 1 = omega (arith, l, high, some) in
         let passes : is_blank_at ns (slice_index (reverse (inside row)) k) ≡ true = prefix_len_passes (is_blank_at ns) (reverse (inside row)) k 0 (omega (arith, low, high, l, w, some, blanks_are ns (reverse (inside row)))) in
         let same : slice_index (reverse (inside row)) k ≡ slice_index row q = get_or-reverse (inside row) k 0 there ∙ ap (slice_index (inside row)) back ∙ inside_at q some high in
-        blank_none (slice_index row q) (sym (ap (is_blank_at ns) same) ∙ passes)
+        sym (ap (is_blank_at ns) same) ∙ passes
 
-    last_low : length row - 1 - last_blanks ns (inside row) ≤ (last_gone ns row).from
+    pub last_low : length row - 1 - last_blanks ns (inside row) ≤ (last_gone ns row).from
     last_low =
         either (λ s. length row - 1 - last_blanks ns (inside row) ≤ s.from) (nat_lt (blanks ns (inside row)) (length (inside row))) (last_gone_from ns row (place ns row two)) (nothing_at (length row - 1))
         (λ b. (last_in ns row two).from) (omega arith)
 
-    last_high : (last_gone ns row).to ≤ length row - 1
+    pub last_high : (last_gone ns row).to ≤ length row - 1
     last_high = let l = last_behind ns row two in omega (arith, l.2)
 
-    shorter_at : (q : ℕ) → q < 1 + blanks ns (inside row) → slice_index (without (last_gone ns row) row) q ≡ slice_index row q
+    pub shorter_at : (q : ℕ) → q < 1 + blanks ns (inside row) → slice_index (without (last_gone ns row) row) q ≡ slice_index row q
     shorter_at q high =
         let l = last_behind ns row two in
         get_or_append_left (take (last_gone ns row).from row) (drop (last_gone ns row).to row) 0 q (omega (arith, high, l.0, l.1, l.2, length-take (last_gone ns row).from row))
@@ -270,5 +270,5 @@ module _ (ns : List Node) where
         let l = last_behind ns row two in
         let h = first_high ns row two in
         elements_without (without (last_gone ns row) row) (first_gone ns row) first.order (omega (arith, h))
-        (λ q low high. ap (is_element_at ns) (shorter_at q (omega (arith, high, first.to))) ∙ front_blank q (omega (arith, low, first.from)) (omega (arith, high, first.to)))
-        ∙ elements_without row (last_gone ns row) l.1 (omega (arith, l.2)) (λ q low high. back_blank q (omega (arith, low, last_low)) (omega (arith, high, last_high)))
+        (λ q low high. ap (is_element_at ns) (shorter_at q (omega (arith, high, first.to))) ∙ blank_none (slice_index row q) (front_blank q (omega (arith, low, first.from)) (omega (arith, high, first.to))))
+        ∙ elements_without row (last_gone ns row) l.1 (omega (arith, l.2)) (λ q low high. blank_none (slice_index row q) (back_blank q (omega (arith, low, last_low)) (omega (arith, high, last_high))))

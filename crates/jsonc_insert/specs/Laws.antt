@@ -1,11 +1,12 @@
 -- Laws of elements that come in: which nodes change, and where the new one stands.
-use Rattle.std.specs.Prelude.{◌≡◌, ◌≢◌, ◌≤◌, ◌<◌, ℕ, true, List, length, min, Some}
+use Rattle.std.specs.Prelude.{◌≡◌, ◌≢◌, ◌≤◌, ◌<◌, ◌⊎◌, ℕ, true, List, length, min, Some, None}
 use Rattle.jsonc_text.specs.Plain.{Plain}
 use Rattle.jsonc_tree.specs.Tree.{Node, content_at, parent_at, children_at, IsTree}
 use Rattle.jsonc_nodes.specs.Siblings.{elements_at}
 use Rattle.jsonc_edit.specs.Paths.{IsElementOf}
 use Rattle.jsonc_insert.specs.Planned.{has_brackets}
 use Rattle.jsonc_insert.specs.Inserted.{ElementPut}
+use Rattle.jsonc_insert.specs.Trimmed.{is_blank_at}
 
 -- the new node is the element of this number, or the last where there were fewer
 abbrev pub TakesItsNumber : List Node → List Node → ℕ → ℕ → Plain → ℕ → Type 0
@@ -27,3 +28,9 @@ ChangesOneRow old new c i v m =
 -- no more than the last place is asked for: past the end all numbers do the same
 abbrev pub PastTheEnd : List Node → List Node → ℕ → ℕ → ℕ → Plain → ℕ → Type 0
 PastTheEnd old new c i j v m = has_brackets old (children_at old c) ≡ true → length (elements_at old c) ≤ i → length (elements_at old c) ≤ j → ElementPut old new c i v m → ElementPut old new c j v m
+
+-- a child of the container is one still, or it is whitespace or the end of a line, and is nobody's child now
+abbrev pub LosesBlanksAlone : List Node → List Node → ℕ → ℕ → Plain → ℕ → Type 0
+LosesBlanksAlone old new c i v m =
+    IsTree old → c < length old → has_brackets old (children_at old c) ≡ true → ElementPut old new c i v m
+    → (n : ℕ) → parent_at old n ≡ Some c → (parent_at new n ≡ Some c) ⊎ ((is_blank_at old n ≡ true) × (parent_at new n ≡ None))

@@ -2,7 +2,7 @@
 ghost use Rattle.std.specs.Prelude.{List, ℕ};
 ghost use Rattle.jsonc_text.specs.Plain.{Plain};
 ghost use Rattle.jsonc_tree.specs.Tree.{Node};
-ghost use Rattle.jsonc_insert.specs.Laws.{ChangesOneRow, PastTheEnd, TakesItsNumber};
+ghost use Rattle.jsonc_insert.specs.Laws.{ChangesOneRow, LosesBlanksAlone, PastTheEnd, TakesItsNumber};
 ghost use Rattle.jsonc_insert.specs.Worked.{WorkedInsertions};
 
 /// Worked insertions: what arrays print with one more element.
@@ -21,4 +21,9 @@ pub fn elements_come_in()
 /// Behind the last element all numbers do the same, so that each of them appends.
 pub fn numbers_past_the_end_append()
     ensures { (old new : List Node) (c i j : ℕ) (v : Plain) (m : ℕ) → PastTheEnd old new c i j v m }
+{}
+
+/// Of the container's children only whitespace and ends of lines leave; what leaves is nobody's child then.
+pub fn blanks_alone_leave()
+    ensures { (old new : List Node) (c i : ℕ) (v : Plain) (m : ℕ) → LosesBlanksAlone old new c i v m }
 {}
