@@ -1,14 +1,12 @@
 -- Of a row nothing but whitespace and ends of lines leaves.
-use Rattle.std.proofs.Common.{◌≡◌, ◌<◌, ◌≤◌, ◌+◌, ◌-◌, ◌||◌, ◌⊎◌, inl, inr, ℕ, Bool, true, false, cond, List, ◌∷◌, ◌++◌, length, reverse, take, drop, slice_index, slice_range, Option, Some, None, eqb, refl, sym, ap, subst, ◌∙◌, arith, length-drop, length-take, get_or-drop, get_or-take}
-use Rattle.std.specs.List.{list_any}
+use Rattle.std.proofs.Common.{◌≡◌, ◌<◌, ◌≤◌, ◌+◌, ◌-◌, ◌||◌, ◌⊎◌, inl, inr, ℕ, Bool, true, false, cond, List, ◌∷◌, ◌++◌, length, take, drop, slice_index, slice_range, Option, Some, None, eqb, refl, sym, ap, subst, ◌∙◌, arith, length-drop, length-take, get_or-drop, get_or-take}
 use Rattle.std.proofs.lemmas.Bool.{cases_Bool, cases_lt}
-use Rattle.std.proofs.lemmas.List.{get_or-reverse, get_or_append_left, take-append-drop}
+use Rattle.std.proofs.lemmas.List.{take-append-drop}
 use Rattle.std.proofs.lemmas.List.Folds.{list_any-append}
-use Rattle.std.proofs.lemmas.List.Sums.{prefix_len_passes}
 use Rattle.jsonc_text.specs.Plain.{Plain}
-use Rattle.jsonc_tree.specs.Tree.{Node, children_at, content_at, parent_at, is_in, IsTree, place_at}
+use Rattle.jsonc_tree.specs.Tree.{Node, children_at, parent_at, is_in, place_at}
 use Rattle.jsonc_tree.proofs.Splicing.{in_at, in_where}
-use Rattle.jsonc_insert.specs.Inserted.{plan_of, with_comma, ElementPut}
+use Rattle.jsonc_insert.specs.Inserted.{plan_of, with_comma}
 use Rattle.jsonc_insert.specs.Laws.{LosesBlanksAlone}
 use Rattle.jsonc_insert.specs.Trimmed.{first_gone, is_blank_at, last_gone, trimmed, with_at, without}
 use Rattle.jsonc_insert.specs.declared.trim.Stretch.{Stretch}

@@ -9,8 +9,9 @@
 //! (`specs/Inserted.antt`), so a refusal leaves the document as it was.
 //!
 //! [`insert_element`] does so with a value and a number; a number past the end means the end
-//! (`specs/Laws.antt`). `specs/Worked.antt` has worked insertions. That the text is a document again, with
-//! the value in its place, is still to be proved.
+//! (`specs/Laws.antt`, which also says what stays and that blanks alone leave). `specs/Worked.antt` has
+//! worked insertions. That the text is a document again, with the value in its place, is still to be
+//! proved.
 #![tactic(auto)]
 
 mod insert;
