@@ -1,0 +1,13 @@
+use Rattle.std.proofs.Common.{◌≡◌, ◌-◌, ◌<◌, All, length}
+use Rattle.std.specs.List.{find}
+use Rattle.jsonc_lines.specs.Breadth.{levels}
+use Rattle.jsonc_insert.specs.Settings.{first_sought, is_sought}
+use Rattle.jsonc_insert.proofs.walk.first_sought.Given as goal
+
+abbrev pub invariant-loop-depth : goal.invariant-loop-depth
+invariant-loop-depth g l =
+    let ns = l.tree.nodes in
+    record {
+      there : All (λ m. m < length ns) l.level.items;
+      same : first_sought ns l.container l.row l.sought l.start ≡ find (is_sought ns l.container l.row l.sought) (levels (length ns - l._depth) ns l.level.items);
+    }

@@ -1,0 +1,203 @@
+//! Elements that come into arrays.
+
+ghost use Rattle.std.specs.Prelude.{◌≡◌, ◌<◌, ◌∷◌, ◌++◌, IfErr, IfOk, OnErr, OnOk, All, length, string_bytes, true};
+ghost use Rattle.jsonc_tree.specs.Building.{Keeps};
+ghost use Rattle.jsonc_tree.specs.Content.{Content};
+ghost use Rattle.jsonc_tree.specs.OrderedTree.{ordered_tree};
+ghost use Rattle.jsonc_tree.specs.Tree.{children_at, content_at, IsTree};
+ghost use Rattle.jsonc_input.specs.Views.{plain};
+ghost use Rattle.jsonc_from_input.specs.Layout.{layout_of};
+ghost use Rattle.jsonc_edit.specs.Put.{Prepared};
+ghost use Rattle.jsonc_insert.specs.Inserted.{outer_indent, plan_of, put_by, refusal, with_comma, ElementPut, RowMade};
+ghost use Rattle.jsonc_insert.specs.Planned.{has_brackets};
+ghost use Rattle.jsonc_insert.specs.Settings.{layout_inside};
+ghost use Rattle.jsonc_insert.specs.Trimmed.{trimmed};
+
+use crate::made::{Made, make};
+use crate::plan::{Plan, has_brackets, planned};
+use crate::settings::{layout_in, on_several_lines, outer_indent};
+use crate::trim::{trimmed, with_at};
+use jsonc_edit::EditError;
+use jsonc_from_input::Layout;
+use jsonc_input::CstInputValue;
+use jsonc_nodes::children;
+use jsonc_tree::Tree;
+use std::alloc::{AllocError, Allocator};
+
+// What the document tells of an element that comes in.
+#[derive(Drop)]
+struct Reading<A: Allocator> {
+    // The row without blank lines inside its brackets.
+    kept: Vec<usize, A>,
+    // How the element is laid out.
+    layout: Layout<A>,
+    // The indent of the container's own line.
+    outer: String<A>,
+    // Where the element comes.
+    plan: Plan,
+}
+
+// A row that a container is to have.
+#[derive(Drop)]
+struct NewRow<A: Allocator> {
+    row: Vec<usize, A>,
+    // The new element, which stands in it.
+    element: usize,
+}
+
+// Reads what the document tells of a value that comes into a container as its element of this number.
+fn read<A: Allocator + Copy>(
+    alloc: A,
+    tree: &Tree<A>,
+    container: usize,
+    index: usize,
+    value: &CstInputValue<A>,
+) -> Result<Reading<A>, AllocError>
+    requires there { container < length tree.now.nodes }
+    requires brackets { has_brackets tree.now.nodes (children_at tree.now.nodes container) ≡ true }
+    ensures kept { IfOk result (λ r. r.kept.items ≡ trimmed tree.now.nodes (children_at tree.now.nodes container)) }
+    ensures layout { IfOk result (λ r. layout_of r.layout ≡ layout_inside tree.now.nodes container) }
+    ensures outer { IfOk result (λ r. string_bytes r.outer ≡ outer_indent tree.now.nodes container) }
+    ensures plan { IfOk result (λ r. r.plan ≡ plan_of tree.now.nodes container index (plain value.now)) }
+{
+    let _ = tree.len();
+    let row = children(alloc, tree, container)?;
+    let kept = trimmed(alloc, tree, &row)?;
+    let layout = layout_in(alloc, tree, container, &kept)?;
+    let outer = outer_indent(alloc, tree, container, &kept)?;
+    let several = on_several_lines(tree, &kept, value);
+    let plan = planned(tree, several, layout.trailing_commas, &kept, index);
+    Ok(Reading {
+        kept,
+        layout,
+        outer,
+        plan,
+    })
+}
+
+// The new element with what comes directly before and behind it.
+fn written<A: Allocator>(
+    alloc: A,
+    before: &[usize],
+    element: usize,
+    behind: &[usize],
+) -> Result<Vec<usize, A>, AllocError>
+    ensures { IfOk result (λ v. v.items ≡ before.now ++ element ∷ behind.now) }
+{
+    before
+        .iter()
+        .chain([element].iter())
+        .chain(behind.iter())
+        .copied()
+        .collect(alloc)
+}
+
+// A row with a comma at a place, where one is told.
+fn with_comma<A: Allocator>(
+    alloc: A,
+    place: Option<usize>,
+    comma: &[usize],
+    row: Vec<usize, A>,
+) -> Result<Vec<usize, A>, AllocError>
+    ensures { IfOk result (λ v. v.items ≡ with_comma place comma.now row.items) }
+{
+    match place {
+        Some(place) => with_at(alloc, place, comma, &row),
+        None => Ok(row),
+    }
+}
+
+// A row with what a plan puts into it.
+fn put_by<A: Allocator + Copy>(
+    alloc: A,
+    plan: Plan,
+    comma: &[usize],
+    written: &[usize],
+    row: &[usize],
+) -> Result<Vec<usize, A>, AllocError>
+    ensures { IfOk result (λ v. v.items ≡ put_by plan comma.now written.now row.now) }
+{
+    let wider = with_at(alloc, plan.place, written, row)?;
+    with_comma(alloc, plan.comma, comma, wider)
+}
+
+// The row with all that was made.
+fn with_made<A: Allocator + Copy>(
+    alloc: A,
+    plan: Plan,
+    made: &Made<A>,
+    row: &[usize],
+) -> Result<Vec<usize, A>, AllocError>
+    ensures { IfOk result (λ v. v.items ≡ put_by plan made.now.comma.items (made.now.before.items ++ made.now.element ∷ made.now.behind.items) row.now) }
+{
+    let written = written(alloc, &made.before, made.element, &made.behind)?;
+    put_by(alloc, plan, &made.comma, &written, row)
+}
+
+// The row that a container is to have with a value as its element of this number; its nodes are made.
+fn make_row<A: Allocator + Copy>(
+    alloc: A,
+    tree: &mut Tree<A>,
+    container: usize,
+    index: usize,
+    value: &CstInputValue<A>,
+) -> Result<NewRow<A>, AllocError>
+    requires there { container < length tree.old.nodes }
+    requires brackets { has_brackets tree.old.nodes (children_at tree.old.nodes container) ≡ true }
+    ensures made { IfOk result (λ r. RowMade tree.old.nodes tree.new.nodes container index (plain value.now) r.element r.row.items) }
+    ensures prepared { Prepared tree.old.nodes tree.new.nodes }
+{
+    let _ = tree.len();
+    let told = read(alloc, tree, container, index, value)?;
+    let made = make(
+        alloc,
+        tree,
+        value,
+        &told.layout,
+        told.outer.as_str(),
+        told.plan,
+    )?;
+    let row = with_made(alloc, told.plan, &made, &told.kept)?;
+    Ok(NewRow {
+        row,
+        element: made.element,
+    })
+}
+
+/// Lets a value come into an array as its element of this number, or behind the last one where there are
+/// fewer, and answers the number of its node.
+///
+/// Blank lines directly inside the brackets leave: behind the first bracket all but the first line's end,
+/// before the last all but the last. The element comes behind the one before it, its comma and the
+/// comments on that line; a comma comes where one is wanted. Where the array has the end of a line between
+/// its brackets, or the value is laid out on several lines, the element gets a line of its own. The
+/// document tells its indent, how lines end and whether the last element has a comma.
+///
+/// An array that lacks a bracket answers `MissingBrackets`. A refusal leaves the document, and every node
+/// that was there, as it was.
+pub fn insert_element<A: Allocator + Copy>(
+    alloc: A,
+    tree: &mut Tree<A>,
+    array: usize,
+    index: usize,
+    value: &CstInputValue<A>,
+) -> Result<usize, EditError>
+    requires there { array < length tree.old.nodes }
+    requires array { content_at tree.old.nodes array ≡ Content.array }
+    ensures put { IfOk result (ElementPut tree.old.nodes tree.new.nodes array index (plain value.now)) }
+    ensures brackets { OnOk result (has_brackets tree.old.nodes (children_at tree.old.nodes array) ≡ true) }
+    ensures told { IfErr result (λ e. e ≡ refusal tree.old.nodes array) }
+    ensures kept { OnErr result (Keeps (length tree.old.nodes) tree.old.nodes tree.new.nodes) }
+    ensures document { OnErr result (ordered_tree tree.new.nodes 0 ≡ ordered_tree tree.old.nodes 0) }
+    ensures tree { IsTree tree.new.nodes }
+{
+    let _ = tree.len();
+    if !has_brackets(tree, array) {
+        return Err(EditError::MissingBrackets);
+    }
+    let count = tree.child_count(array);
+    let made = make_row(alloc, tree, array, index, value)?;
+    tree.reserve(array, made.row.len())?;
+    tree.splice(array, 0, count, &made.row);
+    Ok(made.element)
+}

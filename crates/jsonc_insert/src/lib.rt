@@ -1,0 +1,26 @@
+//! Elements that come into arrays, by the numbers of nodes.
+//!
+//! A row is a container's list of children, brackets among them. When an element comes in, blank lines
+//! directly inside the brackets leave (`specs/Trimmed.antt`: behind the first bracket all but the first
+//! line's end, before the last all but the last). Of the row that is left, which is never built, the
+//! document tells how lines end, the indents and the trailing commas (`specs/Settings.antt`); a plan says
+//! where the element comes and what is written beside it (`specs/Planned.antt`). The element and the leaves
+//! beside it are made, nobody's children yet (`specs/Made.antt`), and then all take their places at once
+//! (`specs/Inserted.antt`), so a refusal leaves the document as it was.
+//!
+//! [`insert_element`] does so with a value and a number; a number past the end means the end
+//! (`specs/Laws.antt`, which also says what stays and that blanks alone leave). `specs/Worked.antt` has
+//! worked insertions. That the text is a document again, with the value in its place, is still to be
+//! proved.
+#![tactic(auto)]
+
+mod insert;
+pub mod laws;
+mod lines;
+mod made;
+mod plan;
+mod settings;
+mod trim;
+mod walk;
+
+pub use insert::insert_element;

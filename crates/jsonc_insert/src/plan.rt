@@ -1,0 +1,371 @@
+//! Where an element is put into a row, and what is written beside it.
+
+ghost use Rattle.std.specs.Prelude.{◌≡◌, ◌≤◌, ◌<◌, length, slice_get, true};
+ghost use Rattle.std.specs.List.{list_all};
+ghost use Rattle.jsonc_tree.specs.Stored.{content_of};
+ghost use Rattle.jsonc_tree.specs.Tree.{children_at, content_at};
+ghost use Rattle.jsonc_nodes.specs.Kinds.{is_beside, is_beside_at};
+ghost use Rattle.jsonc_lines.specs.Breadth.{last_element};
+ghost use Rattle.jsonc_lines.specs.Kinds.{is_comma};
+ghost use Rattle.jsonc_insert.specs.Planned.{before_next, behind_comma, comma_comes, comma_wanted, element_before};
+ghost use Rattle.jsonc_insert.specs.Planned.{elements, has_brackets, has_comma, is_comma_at, is_token, line, line_ends};
+ghost use Rattle.jsonc_insert.specs.Planned.{line_if, line_unless, parting, past_comments, place_in, plan_alone, plan_behind};
+ghost use Rattle.jsonc_insert.specs.Planned.{plan_first, planned, through_comments, trivia};
+
+use crate::trim::{last_blanks, last_spaces};
+use jsonc_nodes::{is_element, is_newline, is_trivia};
+use jsonc_tree::{Kind, Tree};
+use std::alloc::Allocator;
+
+/// What stands between two nodes: nothing, a space, or the end of a line and the next one's indent.
+#[derive(Clone, Copy)]
+pub(crate) enum Gap {
+    Nothing,
+    Space,
+    Line,
+}
+
+/// Where a new element comes into a row, and what comes with it.
+#[derive(Clone, Copy)]
+pub(crate) struct Plan {
+    /// Where a comma comes behind the element before it, if one is wanted there.
+    pub(crate) comma: Option<usize>,
+    /// Where the element comes, before that comma has come.
+    pub(crate) place: usize,
+    /// What comes before it.
+    pub(crate) before: Gap,
+    /// Whether a comma comes behind it.
+    pub(crate) comma_behind: bool,
+    /// What comes behind that.
+    pub(crate) behind: Gap,
+}
+
+fn is_comma_kind<A: Allocator>(kind: &Kind<A>) -> bool
+    ensures { result ≡ is_comma (content_of kind.now) }
+{
+    match kind {
+        Kind::Token(c) => *c == ',',
+        _ => false,
+    }
+}
+
+// Whether a node is a comma.
+fn is_comma<A: Allocator>(tree: &Tree<A>, node: usize) -> bool
+    ensures { result ≡ is_comma_at tree.now.nodes node }
+{
+    if node >= tree.len() {
+        return false;
+    }
+    is_comma_kind(tree.kind(node))
+}
+
+fn is_beside_kind<A: Allocator>(kind: &Kind<A>) -> bool
+    ensures { result ≡ is_beside (content_of kind.now) }
+{
+    matches!(
+        kind,
+        Kind::Whitespace(_) | Kind::WhitespacePart(_) | Kind::Comment(_) | Kind::CommentPart(_)
+    )
+}
+
+// Whether a node is whitespace or a comment.
+fn is_beside<A: Allocator>(tree: &Tree<A>, node: usize) -> bool
+    ensures { result ≡ is_beside_at tree.now.nodes node }
+{
+    if node >= tree.len() {
+        return false;
+    }
+    is_beside_kind(tree.kind(node))
+}
+
+fn line_if(several: bool) -> Gap
+    ensures { result ≡ line_if several }
+{
+    if several { Gap::Line } else { Gap::Nothing }
+}
+
+fn parting(several: bool) -> Gap
+    ensures { result ≡ parting several }
+{
+    if several { Gap::Line } else { Gap::Space }
+}
+
+// Whether a line ends in the trivia that a row begins with.
+fn line_ends<A: Allocator>(tree: &Tree<A>, after: &[usize]) -> bool
+    ensures { result ≡ line_ends tree.now.nodes after.now }
+{
+    after
+        .iter()
+        .take_while(|node| is_trivia(tree, **node))
+        .any(|node| is_newline(tree, *node))
+}
+
+// The end of an element's own line, unless a line ends there already.
+fn line_unless<A: Allocator>(tree: &Tree<A>, several: bool, after: &[usize]) -> Gap
+    ensures { result ≡ line_unless tree.now.nodes several after.now }
+{
+    line_if(several && !line_ends(tree, after))
+}
+
+// What parts a comma from the element that follows.
+fn before_next<A: Allocator>(tree: &Tree<A>, several: bool, after: &[usize]) -> Gap
+    ensures { result ≡ before_next tree.now.nodes several after.now }
+{
+    if several {
+        return line_unless(tree, several, after);
+    }
+    Gap::Space
+}
+
+// How many nodes at the front of a row are trivia.
+fn trivia<A: Allocator>(tree: &Tree<A>, row: &[usize]) -> usize
+    ensures count { result ≡ trivia tree.now.nodes row.now }
+    ensures within { result ≤ length row.now }
+{
+    row.iter()
+        .take_while(|node| is_trivia(tree, **node))
+        .count()
+}
+
+// The element of this number in a row, or none where there are fewer.
+pub(crate) fn nth_element<A: Allocator>(
+    tree: &Tree<A>,
+    row: &[usize],
+    index: usize,
+) -> Option<usize>
+    ensures element { result ≡ slice_get (elements tree.now.nodes row.now) index }
+{
+    row.iter()
+        .copied()
+        .filter(|node| is_element(tree, *node))
+        .nth(index)
+}
+
+// The last element of a row.
+pub(crate) fn last_element<A: Allocator>(tree: &Tree<A>, row: &[usize]) -> Option<usize>
+    ensures element { result ≡ last_element tree.now.nodes row.now }
+{
+    row.iter()
+        .rev()
+        .copied()
+        .find(|node| is_element(tree, *node))
+}
+
+// The element behind which another comes that is to have this number.
+fn element_before<A: Allocator>(tree: &Tree<A>, row: &[usize], index: usize) -> Option<usize>
+    ensures { result ≡ element_before tree.now.nodes row.now index }
+{
+    if index == 0 {
+        return None;
+    }
+    match nth_element(tree, row, index - 1) {
+        Some(node) => Some(node),
+        None => last_element(tree, row),
+    }
+}
+
+// The place of a node in a row, or the row's length.
+fn place_in(row: &[usize], node: usize) -> usize
+    ensures place { result ≡ place_in node row.now }
+    ensures within { result ≤ length row.now }
+{
+    row.iter().take_while(|other| **other != node).count()
+}
+
+// Whether a comma comes past the trivia that a row begins with.
+fn comma_comes<A: Allocator>(tree: &Tree<A>, after: &[usize]) -> bool
+    ensures { result ≡ comma_comes tree.now.nodes after.now }
+{
+    let place = trivia(tree, after);
+    if place >= after.len() {
+        return false;
+    }
+    is_comma(tree, after[place])
+}
+
+// Whether a comma follows a place of a row, before the last bracket.
+fn has_comma<A: Allocator>(tree: &Tree<A>, row: &[usize], place: usize) -> bool
+    requires { place < length row.now }
+    ensures { result ≡ has_comma tree.now.nodes row.now place }
+{
+    comma_comes(tree, &row[place..row.len() - 1])
+}
+
+// The place behind that comma, if there is one; else the place itself.
+fn behind_comma<A: Allocator>(tree: &Tree<A>, row: &[usize], place: usize) -> usize
+    requires { place < length row.now }
+    ensures place { result ≡ behind_comma tree.now.nodes row.now place }
+    ensures within { result ≤ length row.now }
+{
+    let inner = &row[place..row.len() - 1];
+    let count = trivia(tree, inner);
+    if count >= inner.len() {
+        return place;
+    }
+    if is_comma(tree, inner[count]) {
+        return place + count + 1;
+    }
+    place
+}
+
+// Where a comma is wanted behind the element that ends at a place.
+fn comma_wanted<A: Allocator>(tree: &Tree<A>, row: &[usize], place: usize) -> Option<usize>
+    requires { place < length row.now }
+    ensures { result ≡ comma_wanted tree.now.nodes row.now place }
+{
+    if has_comma(tree, row, place) {
+        return None;
+    }
+    Some(place)
+}
+
+// How many nodes stand on the line that a row begins with.
+fn line_length<A: Allocator>(tree: &Tree<A>, after: &[usize]) -> usize
+    ensures count { result ≡ length (line tree.now.nodes after.now) }
+    ensures within { result ≤ length after.now }
+{
+    after
+        .iter()
+        .take_while(|node| !is_newline(tree, **node))
+        .count()
+}
+
+// Whether nothing but whitespace and comments stands in a row.
+fn all_beside<A: Allocator>(tree: &Tree<A>, row: &[usize]) -> bool
+    ensures { result ≡ list_all (is_beside_at tree.now.nodes) row.now }
+{
+    row.iter().all(|node| is_beside(tree, *node))
+}
+
+// How many nodes it is through the last comment of a line of nothing but whitespace and comments.
+fn through_comments<A: Allocator>(tree: &Tree<A>, line: &[usize]) -> usize
+    ensures count { result ≡ through_comments tree.now.nodes line.now }
+    ensures within { result ≤ length line.now }
+{
+    if all_beside(tree, line) {
+        return line.len() - last_spaces(tree, line);
+    }
+    0
+}
+
+// The place behind the last comment on the line behind a place of a row.
+fn past_comments<A: Allocator>(tree: &Tree<A>, row: &[usize], place: usize) -> usize
+    requires { place ≤ length row.now }
+    ensures place { result ≡ past_comments tree.now.nodes row.now place }
+    ensures within { result ≤ length row.now }
+{
+    let end = place + line_length(tree, &row[place..row.len()]);
+    place + through_comments(tree, &row[place..end])
+}
+
+// The plan where no element stands.
+fn plan_alone<A: Allocator>(tree: &Tree<A>, several: bool, row: &[usize]) -> Plan
+    requires { 2 ≤ length row.now }
+    ensures plan { result ≡ plan_alone tree.now.nodes several row.now }
+    ensures within { result.place ≤ length row.now }
+{
+    let end = row.len() - 1;
+    let place = end - last_blanks(tree, &row[0..end]);
+    Plan {
+        comma: None,
+        place,
+        before: line_if(several),
+        comma_behind: false,
+        behind: line_unless(tree, several, &row[place..row.len()]),
+    }
+}
+
+// The plan before the first element.
+fn plan_first<A: Allocator>(tree: &Tree<A>, several: bool, row: &[usize]) -> Plan
+    requires { 2 ≤ length row.now }
+    ensures plan { result ≡ plan_first tree.now.nodes several row.now }
+    ensures within { result.place ≤ length row.now }
+{
+    Plan {
+        comma: None,
+        place: 1,
+        before: line_if(several),
+        comma_behind: true,
+        behind: before_next(tree, several, &row[1..row.len()]),
+    }
+}
+
+// The plan behind the element that ends at a place.
+fn plan_behind<A: Allocator>(
+    tree: &Tree<A>,
+    several: bool,
+    commas: bool,
+    row: &[usize],
+    more: bool,
+    ended: usize,
+) -> Plan
+    requires { ended < length row.now }
+    ensures plan { result ≡ plan_behind tree.now.nodes several commas row.now more ended }
+    ensures within { result.place ≤ length row.now }
+{
+    let comma = comma_wanted(tree, row, ended);
+    let place = past_comments(tree, row, behind_comma(tree, row, ended));
+    let before = parting(several);
+    if more {
+        return Plan {
+            comma,
+            place,
+            before,
+            comma_behind: true,
+            behind: before_next(tree, several, &row[place..row.len()]),
+        };
+    }
+    Plan {
+        comma,
+        place,
+        before,
+        comma_behind: several && commas,
+        behind: Gap::Nothing,
+    }
+}
+
+/// Where a new element comes into a row that has its brackets, and what comes with it.
+pub(crate) fn planned<A: Allocator>(
+    tree: &Tree<A>,
+    several: bool,
+    commas: bool,
+    row: &[usize],
+    index: usize,
+) -> Plan
+    requires { has_brackets tree.now.nodes row.now ≡ true }
+    ensures plan { result ≡ planned tree.now.nodes several commas row.now index }
+    ensures within { result.place ≤ length row.now }
+{
+    let Some(node) = element_before(tree, row, index) else {
+        if nth_element(tree, row, 0).is_some() {
+            return plan_first(tree, several, row);
+        }
+        return plan_alone(tree, several, row);
+    };
+    let more = nth_element(tree, row, index).is_some();
+    let ended = place_in(row, node) + 1;
+    plan_behind(tree, several, commas, row, more, ended)
+}
+
+// Whether a node is a token.
+fn is_token<A: Allocator>(tree: &Tree<A>, node: usize) -> bool
+    ensures { result ≡ is_token (content_at tree.now.nodes node) }
+{
+    if node >= tree.len() {
+        return false;
+    }
+    matches!(tree.kind(node), Kind::Token(_))
+}
+
+/// Whether the first and the last child of a container are tokens, and two.
+pub(crate) fn has_brackets<A: Allocator>(tree: &Tree<A>, container: usize) -> bool
+    requires { container < length tree.now.nodes }
+    ensures { result ≡ has_brackets tree.now.nodes (children_at tree.now.nodes container) }
+{
+    let count = tree.child_count(container);
+    if count < 2 {
+        return false;
+    }
+    let last = tree.child_at(container, count - 1);
+    is_token(tree, tree.child_at(container, 0)) && is_token(tree, last)
+}

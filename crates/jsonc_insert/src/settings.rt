@@ -1,0 +1,269 @@
+//! What a document tells of an element that is put into an array, read in the row that the array has
+//! when blank lines have left.
+
+ghost use Rattle.std.specs.Prelude.{◌≡◌, ◌<◌, All, IfOk, length, string_bytes};
+ghost use Rattle.jsonc_input.specs.Views.{items_plain, plain};
+ghost use Rattle.jsonc_nodes.specs.Siblings.{IsThere};
+ghost use Rattle.jsonc_lines.specs.Breadth.{is_in_document};
+ghost use Rattle.jsonc_lines.specs.IndentViews.{texts_of};
+ghost use Rattle.jsonc_from_input.specs.Laid.{holds_filled, is_filled};
+ghost use Rattle.jsonc_from_input.specs.Layout.{layout_of};
+ghost use Rattle.jsonc_insert.specs.Settings.{indents_at_first, indents_of, is_document_value, is_spaced_row, is_spread, has_last_comma};
+ghost use Rattle.jsonc_insert.specs.Settings.{layout_in, newline_kind_with, on_several_lines, one_deeper, told_by_row, uses_commas_in};
+
+use crate::lines::{has_newline, has_whitespace, single_in};
+use crate::plan::{last_element, nth_element};
+use crate::walk::{Sought, first_sought, last_child_element};
+use jsonc_from_input::Layout;
+use jsonc_input::CstInputValue;
+use jsonc_lines::{Indents, indent_text, indents_at, trailing_comma};
+use jsonc_nodes::{first_element_from, root_node};
+use jsonc_tree::{CstNewlineKind, Kind, Tree};
+use std::alloc::{AllocError, Allocator};
+
+// Whether an array or an object has something in it.
+fn is_filled<A: Allocator>(value: &CstInputValue<A>) -> bool
+    ensures { result ≡ is_filled (plain value.now) }
+{
+    match value {
+        CstInputValue::Array(elements) => !elements.is_empty(),
+        CstInputValue::Object(properties) => !properties.is_empty(),
+        _ => false,
+    }
+}
+
+// Whether one of the elements is an array or an object with something in it.
+fn holds_filled<A: Allocator>(elements: &[CstInputValue<A>]) -> bool
+    ensures { result ≡ holds_filled (items_plain elements.now) }
+{
+    for element in elements {
+        if is_filled(element) {
+            return true;
+        }
+    }
+    false
+}
+
+// Whether a value is laid out on several lines.
+fn is_spread<A: Allocator>(value: &CstInputValue<A>) -> bool
+    ensures { result ≡ is_spread (plain value.now) }
+{
+    match value {
+        CstInputValue::Array(elements) => holds_filled(elements.as_slice()),
+        CstInputValue::Object(_) => is_filled(value),
+        _ => false,
+    }
+}
+
+/// Whether a value comes on a line of its own into a row.
+pub(crate) fn on_several_lines<A: Allocator>(
+    tree: &Tree<A>,
+    row: &[usize],
+    value: &CstInputValue<A>,
+) -> bool
+    ensures { result ≡ on_several_lines tree.now.nodes row.now (plain value.now) }
+{
+    has_newline(tree, row) || is_spread(value)
+}
+
+// Whether a node is the root or stands below it.
+fn is_in_document<A: Allocator>(tree: &Tree<A>, node: usize) -> bool
+    requires { node < length tree.now.nodes }
+    ensures { result ≡ is_in_document tree.now.nodes node }
+{
+    if node == 0 {
+        return true;
+    }
+    root_node(tree, node).is_some()
+}
+
+// How lines end beside a row that a container is to have.
+fn newline_kind_with<A: Allocator + Copy>(
+    alloc: A,
+    tree: &Tree<A>,
+    container: usize,
+    row: &[usize],
+) -> Result<CstNewlineKind, AllocError>
+    requires there { container < length tree.now.nodes }
+    ensures kind { IfOk result (λ kind. kind ≡ newline_kind_with tree.now.nodes container row.now) }
+{
+    if !is_in_document(tree, container) {
+        return Ok(CstNewlineKind::LineFeed);
+    }
+    let Some(node) = first_sought(alloc, tree, container, row, Sought::LineEnd, &[0])? else {
+        return Ok(CstNewlineKind::LineFeed);
+    };
+    match tree.kind(node) {
+        Kind::Newline(kind) => Ok(*kind),
+        _ => Ok(CstNewlineKind::LineFeed),
+    }
+}
+
+// Whether a row has whitespace and an element.
+fn is_spaced_row<A: Allocator>(tree: &Tree<A>, row: &[usize]) -> bool
+    ensures { result ≡ is_spaced_row tree.now.nodes row.now }
+{
+    has_whitespace(tree, row) && last_element(tree, row).is_some()
+}
+
+// Whether a comma stands behind the last element of a row, if there is one.
+fn ends_with_comma<A: Allocator>(tree: &Tree<A>, last: Option<usize>) -> bool
+    requires there { IsThere tree.now.nodes last }
+    ensures { result ≡ has_last_comma tree.now.nodes last }
+{
+    match last {
+        Some(node) => trailing_comma(tree, node).is_some(),
+        None => false,
+    }
+}
+
+// Whether commas stand behind last elements, in a container that is to have this row or below it.
+fn uses_commas_in<A: Allocator + Copy>(
+    alloc: A,
+    tree: &Tree<A>,
+    container: usize,
+    row: &[usize],
+) -> Result<bool, AllocError>
+    requires there { All (λ m. m < length tree.now.nodes) row.now }
+    ensures uses { IfOk result (λ uses. uses ≡ uses_commas_in tree.now.nodes container row.now) }
+{
+    if is_spaced_row(tree, row) {
+        return Ok(ends_with_comma(tree, last_element(tree, row)));
+    }
+    let found = first_sought(alloc, tree, container, row, Sought::SpacedElements, row)?;
+    let Some(spaced) = found else {
+        return Ok(false);
+    };
+    Ok(ends_with_comma(tree, last_child_element(tree, spaced)))
+}
+
+// Whether a node is the document's value.
+fn is_document_value<A: Allocator>(tree: &Tree<A>, node: usize) -> bool
+    ensures { result ≡ is_document_value tree.now.nodes node }
+{
+    let _ = tree.len();
+    match first_element_from(tree, 0, 0) {
+        Some(value) => value == node,
+        None => false,
+    }
+}
+
+/// The indents at a container that is to have this row.
+pub(crate) fn indents_of<A: Allocator + Copy>(
+    alloc: A,
+    tree: &Tree<A>,
+    container: usize,
+    row: &[usize],
+) -> Result<Indents<A>, AllocError>
+    requires there { container < length tree.now.nodes }
+    ensures indents { IfOk result (λ i. texts_of i ≡ indents_of tree.now.nodes container row.now) }
+{
+    if !is_document_value(tree, container) {
+        return indents_at(alloc, tree, container);
+    }
+    let single = single_in(alloc, tree, row)?;
+    Ok(Indents {
+        current: String::new(alloc),
+        single,
+    })
+}
+
+// The indents one level deeper.
+fn one_deeper<A: Allocator + Copy>(indents: Indents<A>) -> Result<Indents<A>, AllocError>
+    ensures { IfOk result (λ i. texts_of i ≡ one_deeper (texts_of indents)) }
+{
+    let mut current = indents.current;
+    current.push_str(indents.single.as_str())?;
+    Ok(Indents {
+        current,
+        single: indents.single,
+    })
+}
+
+// The indents of what stands in it, where it has no element that tells.
+fn indents_deeper<A: Allocator + Copy>(
+    alloc: A,
+    tree: &Tree<A>,
+    container: usize,
+    row: &[usize],
+) -> Result<Indents<A>, AllocError>
+    requires there { container < length tree.now.nodes }
+    ensures indents { IfOk result (λ i. texts_of i ≡ one_deeper (indents_of tree.now.nodes container row.now)) }
+{
+    let outer = indents_of(alloc, tree, container, row)?;
+    one_deeper(outer)
+}
+
+// Whether the row tells the indent of an element, and not the element itself.
+fn told_by_row<A: Allocator + Copy>(
+    alloc: A,
+    tree: &Tree<A>,
+    container: usize,
+    element: usize,
+) -> Result<bool, AllocError>
+    requires { element < length tree.now.nodes }
+    ensures { IfOk result (λ b. b ≡ told_by_row tree.now.nodes container element) }
+{
+    if !is_document_value(tree, container) {
+        return Ok(false);
+    }
+    let indent = indent_text(alloc, tree, element)?;
+    Ok(indent.is_none())
+}
+
+// The indents of the elements of a container that is to have this row.
+fn indents_at_first<A: Allocator + Copy>(
+    alloc: A,
+    tree: &Tree<A>,
+    container: usize,
+    row: &[usize],
+    first: Option<usize>,
+) -> Result<Indents<A>, AllocError>
+    requires container { container < length tree.now.nodes }
+    requires first { IsThere tree.now.nodes first }
+    ensures indents { IfOk result (λ i. texts_of i ≡ indents_at_first tree.now.nodes container row.now first) }
+{
+    let Some(element) = first else {
+        return indents_deeper(alloc, tree, container, row);
+    };
+    if told_by_row(alloc, tree, container, element)? {
+        return indents_deeper(alloc, tree, container, row);
+    }
+    indents_at(alloc, tree, element)
+}
+
+/// How an element is laid out in a container that is to have this row.
+pub(crate) fn layout_in<A: Allocator + Copy>(
+    alloc: A,
+    tree: &Tree<A>,
+    container: usize,
+    row: &[usize],
+) -> Result<Layout<A>, AllocError>
+    requires container { container < length tree.now.nodes }
+    requires there { All (λ m. m < length tree.now.nodes) row.now }
+    ensures layout { IfOk result (λ l. layout_of l ≡ layout_in tree.now.nodes container row.now) }
+{
+    let indents = indents_at_first(alloc, tree, container, row, nth_element(tree, row, 0))?;
+    let trailing_commas = uses_commas_in(alloc, tree, container, row)?;
+    let newline = newline_kind_with(alloc, tree, container, row)?;
+    Ok(Layout {
+        current: indents.current,
+        single: indents.single,
+        trailing_commas,
+        newline,
+    })
+}
+
+/// The indent of a container's own line, where it is to have this row.
+pub(crate) fn outer_indent<A: Allocator + Copy>(
+    alloc: A,
+    tree: &Tree<A>,
+    container: usize,
+    row: &[usize],
+) -> Result<String<A>, AllocError>
+    requires { container < length tree.now.nodes }
+    ensures { IfOk result (λ s. string_bytes s ≡ (indents_of tree.now.nodes container row.now).current) }
+{
+    let indents = indents_of(alloc, tree, container, row)?;
+    Ok(indents.current)
+}
