@@ -1,23 +1,24 @@
 -- Laws of sorted rows: what a row keeps, and what becomes of the document. `top` tells what each child is, with what is below it.
-use Rattle.std.specs.Prelude.{◌≡◌, ℕ, zero, suc, Bool, true, false, ◌||◌, List, [], ◌∷◌, count_by, filter, length, IsPermutation, IsTrue, Some}
+use Rattle.std.specs.Prelude.{◌≡◌, ℕ, zero, suc, Bool, true, false, ◌||◌, List, [], ◌∷◌, count_by, filter, length, IsPermutation, IsTrue, Option, Some}
 use Rattle.std.specs.List.{range_with_len}
 use Rattle.jsonc_text.specs.Options.{Options}
 use Rattle.jsonc_text.specs.Plain.{Plain, Items, no_items, item, Members, no_members, member, null, array, object}
 use Rattle.jsonc_tree.specs.Content.{Content}
-use Rattle.jsonc_tree.specs.OrderedTree.{OrderedTree, Top, none}
+use Rattle.jsonc_tree.specs.OrderedTree.{OrderedTree, Top, none, leaves}
 use Rattle.jsonc_tree.specs.Values.{DocumentValueOf, ItemsOf, MembersOf}
 use Rattle.jsonc_tree.specs.declared.node.CstNewlineKind.{CstNewlineKind}
 use Rattle.jsonc_nodes.specs.Kinds.{is_element, is_newline, is_whitespace}
 use Rattle.jsonc_lines.specs.Kinds.{is_comma}
 use Rattle.jsonc_build.specs.Lines.{LinesEndLoosely}
 use Rattle.jsonc_build.specs.Shape.{token_then}
+use Rattle.jsonc_laws.specs.Adjacent.{LeavesEnd}
 use Rattle.jsonc_laws.specs.Alone.{RowAlone}
 use Rattle.jsonc_laws.specs.Changes.{Changed}
 use Rattle.jsonc_laws.specs.Marks.{Mark, marks}
 use Rattle.jsonc_laws.specs.Rows.{RowKind, closing, container_of, nothing_yet}
 use Rattle.jsonc_laws.specs.SoundTrees.{SoundTree}
 use Rattle.jsonc_laws.specs.TreeChanges.{DocumentChanged}
-use Rattle.jsonc_sort.specs.Slots.{Slot, all_stay, content_in, row_in, row_then, top_in}
+use Rattle.jsonc_sort.specs.Slots.{Slot, all_stay, row_in, row_then, top_in}
 use Rattle.jsonc_sort.specs.Sorting.{Headers, sorted}
 
 -- what each child is
@@ -70,9 +71,9 @@ PassesFilling test = (top : Top) → IsTrue (is_filling top.content) → test to
 abbrev pub KeepsNodes : (ℕ → Top) → Sort → (Top → Bool) → Type 0
 KeepsNodes top s test = IsOrderOf top s.row s.order → PassesFilling test → count_by (λ slot. test (top_in top slot)) (slots_of top s) ≡ count_by (λ n. test (top n)) s.row
 
--- and so is each mark
+-- and so is each mark, where nothing is below whitespace, ends of lines and commas
 abbrev pub KeepsMarks : (ℕ → Top) → Sort → (Mark → Bool) → Type 0
-KeepsMarks top s test = IsOrderOf top s.row s.order → count_by test (marks (row_after top s)) ≡ count_by test (marks (row_before top s))
+KeepsMarks top s test = ((n : ℕ) → IsTrue (is_filling (content_of top n)) → (top n).below ≡ none) → IsOrderOf top s.row s.order → count_by test (marks (row_after top s)) ≡ count_by test (marks (row_before top s))
 
 -- the values of a list in an order, which names each by its number
 abbrev pub item_at : ℕ → Items → Plain
@@ -106,9 +107,9 @@ SortsItems o top s vs = IsOrderOf top s.row s.order → ItemsOf o (row_before to
 abbrev pub SortsMembers : Options → (ℕ → Top) → Sort → Members → Type 0
 SortsMembers o top s ms = IsOrderOf top s.row s.order → MembersOf o (row_before top s) ms → MembersOf o (row_after top s) (members_in s.order ms)
 
--- where the row is one of the container, node by node, the sorted row is
-abbrev pub KeepsRow : Options → RowKind → (ℕ → Top) → Sort → Type 0
-KeepsRow o kind top s = IsOrderOf top s.row s.order → RowAlone o kind nothing_yet (closed kind top (all_stay s.row)) → RowAlone o kind nothing_yet (closed kind top (slots_of top s))
+-- where the row is one of the container, node by node, and its leaves end, the sorted row is
+abbrev pub KeepsRow : Options → RowKind → (ℕ → Top) → Sort → Option ℕ → Type 0
+KeepsRow o kind top s n = IsOrderOf top s.row s.order → RowAlone o kind nothing_yet (closed kind top (all_stay s.row)) → LeavesEnd o (leaves (closed kind top (all_stay s.row))) n → RowAlone o kind nothing_yet (closed kind top (slots_of top s))
 
 -- where the line comments of the row end with their lines, those of the sorted row do
 abbrev pub KeepsLines : RowKind → (ℕ → Top) → Sort → Type 0
@@ -129,7 +130,7 @@ SortsValue o t x = DocumentValueOf o t (Some x) → (kind : RowKind) (top : ℕ 
     → DocumentChanged (container_before kind top s) (container_after kind top s) path t u → IsOrderOf top s.row s.order
     → (y : Plain) × DocumentValueOf o u (Some y) × SortsEntries path s.order x y
 
--- and it has each mark as often as before
-abbrev pub KeepsAllMarks : OrderedTree → (Mark → Bool) → Type 0
-KeepsAllMarks t test = (kind : RowKind) (top : ℕ → Top) (s : Sort) (path : List ℕ) (u : OrderedTree)
+-- and where it is sound it has each mark as often as before
+abbrev pub KeepsAllMarks : Options → OrderedTree → (Mark → Bool) → Type 0
+KeepsAllMarks o t test = SoundTree o t → (kind : RowKind) (top : ℕ → Top) (s : Sort) (path : List ℕ) (u : OrderedTree)
     → DocumentChanged (container_before kind top s) (container_after kind top s) path t u → IsOrderOf top s.row s.order → count_by test (marks u) ≡ count_by test (marks t)

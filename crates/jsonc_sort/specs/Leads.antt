@@ -1,5 +1,5 @@
 -- What stands before an element, its lead: what of it stays in its place, and what goes where the element goes.
-use Rattle.std.specs.Prelude.{ℕ, zero, suc, ◌-◌, ◌+◌, ◌==◌, Bool, true, false, ◌&&◌, ◌||◌, List, [], ◌∷◌, ◌++◌, count_by, drop, length, max, nat_le, take, Option, Some, None, if◌then◌else◌}
+use Rattle.std.specs.Prelude.{ℕ, zero, suc, ◌-◌, ◌+◌, Bool, false, ◌&&◌, ◌||◌, List, [], ◌∷◌, ◌++◌, count_by, drop, length, max, nat_le, take, Option, Some, None, if◌then◌else◌}
 use Rattle.std.specs.List.{list_any, prefix_len, suffix_len, take_while, position_or_len}
 use Rattle.jsonc_tree.specs.Content.{Content}
 use Rattle.jsonc_nodes.specs.Kinds.{is_comment}

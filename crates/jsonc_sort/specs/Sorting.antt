@@ -6,7 +6,7 @@ use Rattle.jsonc_tree.specs.declared.node.CstNewlineKind.{CstNewlineKind}
 use Rattle.jsonc_build.specs.Lines.{is_line_comment}
 use Rattle.jsonc_nodes.specs.Kinds.{is_newline, is_whitespace}
 use Rattle.jsonc_sort.specs.Slots.{Slot, stays, comes, all_stay}
-use Rattle.jsonc_sort.specs.Parts.{Part, Parts, has_comma, is_comma_at, is_whitespace_at, parts}
+use Rattle.jsonc_sort.specs.Parts.{Part, has_comma, is_comma_at, is_whitespace_at, parts}
 use Rattle.jsonc_sort.specs.Leads.{LeadParts, blank_lines, lead_parts}
 
 -- how a sort treats what stands before elements: how many comments are pinned before each, or none where no rule asks; and whether blank lines part the elements

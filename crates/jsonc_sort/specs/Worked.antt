@@ -1,5 +1,5 @@
 -- Worked rows: what arrays and objects print once their elements come in another order. The children between the brackets have the numbers 0, 1 and so on.
-use Rattle.std.specs.Prelude.{◌≡◌, ℕ, Bool, true, false, List, [], ◌∷◌, ◌++◌, length, map, Option, Some, None, codes, slice_index_or}
+use Rattle.std.specs.Prelude.{◌≡◌, ℕ, Bool, true, false, List, [], ◌∷◌, length, Some, codes, slice_index_or}
 use Rattle.std.specs.List.{range_with_len}
 use Rattle.jsonc_tree.specs.Content as content
 use Rattle.jsonc_tree.specs.Content.{Content, null}
