@@ -1,0 +1,11 @@
+pub mod Choosing
+pub mod Weights
+pub mod Held
+pub mod Lines
+pub mod Runs
+pub mod Entries
+pub mod OldRows
+pub mod Values
+pub mod Same
+pub mod Documents
+pub mod KeptMarks

@@ -1,0 +1,51 @@
+//! Laws of sorted rows: each is the contract of a function that does nothing.
+ghost use Rattle.std.specs.Prelude.{Bool, Option, ℕ};
+ghost use Rattle.jsonc_text.specs.Options.{Options};
+ghost use Rattle.jsonc_text.specs.Plain.{Plain, Items, Members};
+ghost use Rattle.jsonc_tree.specs.OrderedTree.{OrderedTree, Top};
+ghost use Rattle.jsonc_laws.specs.Marks.{Mark};
+ghost use Rattle.jsonc_laws.specs.Rows.{RowKind};
+ghost use Rattle.jsonc_sort.specs.Laws.{KeepsAllMarks, KeepsLines, KeepsMarks, KeepsNodes, KeepsRow};
+ghost use Rattle.jsonc_sort.specs.Laws.{Sort, SortsItems, SortsMembers, SortsValue, StaysSound};
+ghost use Rattle.jsonc_sort.specs.Worked.{WorkedHeaders, WorkedSorts};
+
+/// Worked rows: a comment goes with the element that it stands behind, blank lines are left behind the
+/// first bracket, and where blanks stand before the end of a line they stay behind the comment that
+/// comes there. Where commas are missing, each element but the last gets one.
+pub fn worked_rows()
+    ensures { WorkedSorts }
+{}
+
+/// Comments above an element go with it, or stay where a rule pins them.
+pub fn worked_headers()
+    ensures { WorkedHeaders }
+{}
+
+/// A sorted row has each node of the row as often, with what is below it, but for whitespace, ends of
+/// lines and commas; so it has each comment and each element once, and each mark as often.
+pub fn sorted_rows_keep_their_nodes()
+    ensures nodes { (top : ℕ → Top) (s : Sort) (test : Top → Bool) → KeepsNodes top s test }
+    ensures marks { (top : ℕ → Top) (s : Sort) (test : Mark → Bool) → KeepsMarks top s test }
+{}
+
+/// Its values, or its properties, are those of the row in the order of the sort.
+pub fn sorted_rows_move_their_values()
+    ensures items { (o : Options) (top : ℕ → Top) (s : Sort) (vs : Items) → SortsItems o top s vs }
+    ensures members { (o : Options) (top : ℕ → Top) (s : Sort) (ms : Members) → SortsMembers o top s ms }
+{}
+
+/// It is a row of the container, node by node, and its line comments end with their lines. A comma
+/// stands behind each element but the last, so no two literals without quotes meet in it.
+pub fn sorted_rows_stay_rows()
+    ensures alone { (o : Options) (kind : RowKind) (top : ℕ → Top) (s : Sort) (n : Option ℕ) → KeepsRow o kind top s n }
+    ensures lines { (kind : RowKind) (top : ℕ → Top) (s : Sort) → KeepsLines kind top s }
+{}
+
+/// A sound document stays sound where an array or object is sorted, under all options; its plain value
+/// has the entries there in the order of the sort, and nothing else of it changes; and it has each mark
+/// as often as before.
+pub fn sorted_documents()
+    ensures sound { (o : Options) (t : OrderedTree) → StaysSound o t }
+    ensures value { (o : Options) (t : OrderedTree) (x : Plain) → SortsValue o t x }
+    ensures marks { (o : Options) (t : OrderedTree) (test : Mark → Bool) → KeepsAllMarks o t test }
+{}

@@ -1,0 +1,14 @@
+//! Arrays and objects whose elements come in another order.
+//!
+//! What stands between the brackets is read in parts: each element, what belongs to it behind it, and
+//! what is between (`specs/Parts.antt`). What stands before an element stays in its place or goes with
+//! it (`specs/Leads.antt`). The row in another order is a function of the row, of the order and of the
+//! comments that are pinned (`specs/Sorting.antt`): which children stand where, and which commas and
+//! ends of lines come. Each node but whitespace, ends of lines and commas is there as often as before,
+//! values come in the order of the sort, and a sound document stays sound (`specs/Laws.antt`).
+//!
+//! There is no code here yet: the call that gives a container's row its sorted one is still to be
+//! written.
+#![tactic(auto)]
+
+pub mod laws;
