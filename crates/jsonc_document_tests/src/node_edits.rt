@@ -132,11 +132,11 @@ fn put_on_lines<A: Allocator + Copy>(doc: &mut CstRootNode<A>, node: CstNode) ->
     requires { Holds doc.old node }
 {
     match node {
-        CstNode::Container(CstContainerNode::Array(array)) => {
-            of_answered(array.ensure_multiline(doc))
+        CstNode::Container(CstContainerNode::Array(row)) => {
+            of_answered(row.ensure_multiline(doc))
         }
-        CstNode::Container(CstContainerNode::Object(object)) => {
-            of_answered(object.ensure_multiline(doc))
+        CstNode::Container(CstContainerNode::Object(settings)) => {
+            of_answered(settings.ensure_multiline(doc))
         }
         _ => Outcome::Other,
     }
