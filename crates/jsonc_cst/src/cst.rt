@@ -75,7 +75,9 @@ impl<A: Allocator + Copy> CstRootNode<A> {
         ensures lines { IfOk result (λ d. DocumentLinesEnd (tree_of d)) }
         ensures laid { IfOk result (λ d. LiesIn (parse_options options.now) text.now (tree_of d)) }
         ensures within { OnOk result (HasNoDeeperValue (parse_options options.now) text.now) }
-        ensures value { IfOk result (λ d. (w : Option Plain) × IsDocument (parse_options options.now) (chars text.now) w × DocumentValueOf (parse_options options.now) (tree_of d) w) }
+        ensures value { IfOk result (λ d. (w : Option Plain)
+            × IsDocument (parse_options options.now) (chars text.now) w
+            × DocumentValueOf (parse_options options.now) (tree_of d) w) }
         ensures tree { IfOk result NodesAreTree }
         ensures refused { IfErr result (RefusesText (parse_options options.now) text.now) }
         ensures fault { IfErr result (IsFault text.now) }

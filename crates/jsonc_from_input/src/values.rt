@@ -210,7 +210,8 @@ fn push_property<A: Allocator + Copy>(
     layout: &Layout<A>,
 ) -> Result<(), AllocError>
     requires { IsUnfinished tree.old.nodes object }
-    ensures added { OnOk result (Gains tree.old tree.new object (node_then (property_node layout.now name.now value.now))) }
+    ensures added { OnOk result
+        (Gains tree.old tree.new object (node_then (property_node layout.now name.now value.now))) }
     ensures kept { KeepsBefore object tree.old tree.new }
     ensures tree { IsTree tree.new.nodes }
 {

@@ -47,7 +47,8 @@ fn write_below<A: Allocator, W: fmt::Write>(
     requires stored { IsStored nodes.now.items }
     requires there { end < vec_len nodes.now }
     ensures writes { WritesOnOk W.write_str_gives f.old result (printed (ordered_tree (nodes_in nodes.now) end)) f.new }
-    ensures styled { WritesStyledOnOk W.write_str_gives f.old result (printed (ordered_tree (nodes_in nodes.now) end)) f.new }
+    ensures styled { WritesStyledOnOk W.write_str_gives f.old result
+        (printed (ordered_tree (nodes_in nodes.now) end)) f.new }
 {
     let mut next = Some(end);
     while let Some(n) = next {
