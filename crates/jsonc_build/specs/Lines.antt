@@ -41,8 +41,8 @@ ends_loosely loose at_end (more _ below after) = false
 abbrev pub LinesEndLoosely : Bool → Bool → OrderedTree → Type 0
 LinesEndLoosely loose at_end none = Unit {0}
 LinesEndLoosely loose at_end (more content below after)
-  = (IsTrue (is_line_comment content) → IsTrue (ends_loosely loose at_end after))
-  × LinesEndLoosely (is_loose content) false below × LinesEndLoosely loose at_end after
+    = (IsTrue (is_line_comment content) → IsTrue (ends_loosely loose at_end after))
+    × LinesEndLoosely (is_loose content) false below × LinesEndLoosely loose at_end after
 
 -- in a document the root's row is not loose, and its end serves
 abbrev pub DocumentLinesEndLoosely : OrderedTree → Type 0

@@ -33,7 +33,7 @@ newline_from ns row (suc place) = if is_newline_at ns (slice_index row place) th
 -- leaf before the whitespace leaves before n
 abbrev pub removed_from : List Node → ℕ → ℕ → ℕ
 removed_from ns c n = if is_line_comment (content_at ns n) then newline_from ns (children_at ns c)
-  (blanks_from ns (children_at ns c) (place_at ns n)) else place_at ns n
+    (blanks_from ns (children_at ns c) (place_at ns n)) else place_at ns n
 
 -- the children from there up to the comment have left the row
 abbrev pub IsRemoved : List Node → List Node → ℕ → Type 0
@@ -113,6 +113,6 @@ HasValueWithout o old new n w = CommentTaken old new n → DocumentValueOf o (or
 abbrev pub commented : List ℕ → List Node
 commented text =
     node root None (1 ∷ []) ∷ node array (Some 0) (2 ∷ 3 ∷ 4 ∷ 5 ∷ 6 ∷ 7 ∷ 8 ∷ 9 ∷ []) ∷ node (token 0x5B) (Some 1) []
-      ∷ node (newline LineFeed) (Some 1) [] ∷ node (newline LineFeed) (Some 1) []
+    ∷ node (newline LineFeed) (Some 1) [] ∷ node (newline LineFeed) (Some 1) []
     ∷ node (whitespace (codes " ")) (Some 1) [] ∷ node (whitespace (codes " ")) (Some 1) []
-      ∷ node (comment text) (Some 1) [] ∷ node (newline LineFeed) (Some 1) [] ∷ node (token 0x5D) (Some 1) [] ∷ []
+    ∷ node (comment text) (Some 1) [] ∷ node (newline LineFeed) (Some 1) [] ∷ node (token 0x5D) (Some 1) [] ∷ []

@@ -64,7 +64,7 @@ KeepsOthers old new c = (n : ℕ) → n < length old → (IsOver old n c → ⊥
 abbrev pub HasNewRow : {old new : List Node} {c : ℕ} → Respliced old new c → Type 0
 HasNewRow {old} {new} {c} s =
     (front inner back : OrderedTree) → Shows old (take s.from (children_at old c)) front → Shows old s.put inner
-      → Shows old (drop s.to (children_at old c)) back → row_below new c ≡ followed_by front (followed_by inner back)
+    → Shows old (drop s.to (children_at old c)) back → row_below new c ≡ followed_by front (followed_by inner back)
 
 -- the leaf is what it became, over what was below it
 abbrev pub HasNewContent : {old new : List Node} {leaf : ℕ} → LeafChanged old new leaf → Type 0
@@ -79,14 +79,14 @@ IsApart ns n = (ends_bare ns (seen_before ns n) ≡ false) × (begins_bare ns (s
 abbrev pub StaysSoundAt : Options → List Node → List Node → List ℕ → ℕ → ℕ → Type 0
 StaysSoundAt o old new path n m =
     IsTree old → SoundTree o (ordered_tree old 0) → IsAt old path n → (now : Top) (v : Plain) → Replaces old new n m
-      → top_at old m ≡ now → IsNewValue o now v → (IsTrue (is_bare now.content) → IsApart old n)
-      → SoundTree o (ordered_tree new 0)
+    → top_at old m ≡ now → IsNewValue o now v → (IsTrue (is_bare now.content) → IsApart old n)
+    → SoundTree o (ordered_tree new 0)
 
 -- where n stands at the path in a document of value x, and gives way to a node of value v, so does its value there
 abbrev pub ChangesValueAt : Options → List Node → List Node → List ℕ → ℕ → Plain → Type 0
 ChangesValueAt o old new path n x =
     DocumentValueOf o (ordered_tree old 0) (Some x) → IsAt old path n → (now : Top) (v : Plain)
-      → ChangesAt old new n now → HasValue o now v → HasChangedValue o (top_at old n) path (ordered_tree new 0) x v
+    → ChangesAt old new n now → HasValue o now v → HasChangedValue o (top_at old n) path (ordered_tree new 0) x v
 
 -- in a layout that fits, a value that may be written is laid out as a whole value
 abbrev pub LaysOutWhole : Options → Layout → Plain → Type 0

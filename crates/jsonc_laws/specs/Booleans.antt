@@ -33,4 +33,4 @@ boolean_leaf b = record { content = Content.boolean b; below = none }
 abbrev pub StaysSoundWithBoolean : Options → OrderedTree → Type 0
 StaysSoundWithBoolean o t = Sound o t → (was now : Bool) (path : List ℕ) (u : OrderedTree) → DocumentChanged (boolean_leaf was) (boolean_leaf now) path t u
     → (d : DiffersIn (leaves_of (boolean_leaf was)) (leaves_of (boolean_leaf now)) (leaves t) (leaves u))
-      → (now ≡ false → is_hex_leaf (last_printed d.front) ≡ false) → Sound o u
+    → (now ≡ false → is_hex_leaf (last_printed d.front) ≡ false) → Sound o u

@@ -13,7 +13,7 @@ use Rattle.jsonc_laws.specs.Spaces.{meet, space_then}
 -- the second row is the first, but that in it, or in a row further below, a space has come directly before an element, behind another node
 pub data SpaceCome : OrderedTree → OrderedTree → Type 0 where
   before_element : {first content : Content} {below under after : OrderedTree} → IsElement content
-    → SpaceCome (more first below (more content under after)) (more first below (space_then (more content under after)))
+      → SpaceCome (more first below (more content under after)) (more first below (space_then (more content under after)))
   later : {content : Content} {below x y : OrderedTree} → SpaceCome x y → SpaceCome (more content below x) (more content below y)
   deeper : {content : Content} {x y after : OrderedTree} → SpaceCome x y → SpaceCome (more content x after) (more content y after)
 
@@ -30,7 +30,7 @@ KeptWithSpace o t = SoundTree o t → (u : OrderedTree) → SpacePut t u → Sou
 abbrev pub KeptWithoutCommentInRow : Options → OrderedTree → Type 0
 KeptWithoutCommentInRow o t = SoundTree o t → (front back : OrderedTree) (gone : List Content) (u : OrderedTree)
     → Replaced (followed_by front (leaves_then gone back)) (followed_by front back) t u → AreTrivia gone
-      → EndsInComment gone → meet (leaves front) (leaves back) ≡ false
+    → EndsInComment gone → meet (leaves front) (leaves back) ≡ false
     → SoundTree o u
 
 -- a row with this node in it
@@ -41,7 +41,7 @@ row_around front top back = followed_by front (more top.content top.below back)
 -- quotes meet beside it, the document stays sound
 abbrev pub KeptByValueInRow : Options → OrderedTree → Type 0
 KeptByValueInRow o t = SoundTree o t → (was now : Top) (path : List ℕ) (u : OrderedTree)
-  → DocumentChanged was now path t u → IsValueBefore o now [] → LinesEndLoosely (is_loose now.content) false now.below
+    → DocumentChanged was now path t u → IsValueBefore o now [] → LinesEndLoosely (is_loose now.content) false now.below
     → (front back : OrderedTree) → Replaced (row_around front was back) (row_around front now back) t u → front ≢ none → back ≢ none
     → meet (leaves front) (leaves_of now ++ leaves back) ≡ false → meet (leaves_of now) (leaves back) ≡ false
     → SoundTree o u
@@ -50,7 +50,7 @@ KeptByValueInRow o t = SoundTree o t → (was now : Top) (path : List ℕ) (u : 
 abbrev pub KeptByValueInRoot : Options → Top → Top → OrderedTree → OrderedTree → Type 0
 KeptByValueInRoot o was now front back = SoundTree o (more root (row_around front was back) none) → (path : List ℕ)
     → DocumentChanged was now path (more root (row_around front was back) none) (more root (row_around front now back) none) → IsValueBefore o now []
-      → LinesEndLoosely (is_loose now.content) false now.below
+    → LinesEndLoosely (is_loose now.content) false now.below
     → meet (leaves front) (leaves_of now ++ leaves back) ≡ false → meet (leaves_of now) (leaves back) ≡ false
     → SoundTree o (more root (row_around front now back) none)
 
@@ -62,9 +62,9 @@ holding front top = property_of (row_around front top none)
 -- before it in the property, nor behind it in the object, the document stays sound
 abbrev pub KeptByValueInProperty : Options → OrderedTree → Type 0
 KeptByValueInProperty o t = SoundTree o t → (was now : Top) (path : List ℕ) (u : OrderedTree)
-  → DocumentChanged was now path t u → IsValueBefore o now [] → LinesEndLoosely (is_loose now.content) false now.below
+    → DocumentChanged was now path t u → IsValueBefore o now [] → LinesEndLoosely (is_loose now.content) false now.below
     → (front before behind : OrderedTree)
-      → Replaced (row_around before (holding front was) behind) (row_around before (holding front now) behind) t u
-      → front ≢ none → behind ≢ none
+    → Replaced (row_around before (holding front was) behind) (row_around before (holding front now) behind) t u
+    → front ≢ none → behind ≢ none
     → meet (leaves front) (leaves_of now ++ leaves behind) ≡ false → meet (leaves_of now) (leaves behind) ≡ false
     → SoundTree o u

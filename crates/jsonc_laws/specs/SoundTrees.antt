@@ -36,7 +36,7 @@ SoundTreesPrint o tree = SoundTree o tree → PrintsDocument o tree
 abbrev pub KeptByStretches : Options → OrderedTree → Type 0
 KeptByStretches o t = SoundTree o t → (kind : RowKind) (front was now back : OrderedTree) (path : List ℕ) (u : OrderedTree)
     → DocumentChanged (container_of kind (followed_by front (followed_by was back)))
-      (container_of kind (followed_by front (followed_by (spaced (leaves front) now (leaves back)) back))) path t u
+    (container_of kind (followed_by front (followed_by (spaced (leaves front) now (leaves back)) back))) path t u
     → (to : Last) → StretchAlone o kind (last_behind nothing_yet front) now to → IsTrue (may_come o to back)
     → LinesEndLoosely true false (followed_by front (followed_by now back)) → LeavesEnd o (leaves now) None
     → SoundTree o u
@@ -53,9 +53,9 @@ KeptWhereNoneMeet o t = SoundTree o t → (kind : RowKind) (front was now back :
 -- and where a value gives way to a whole value
 abbrev pub KeptByValues : Options → OrderedTree → Type 0
 KeptByValues o t = SoundTree o t → (was now : Top) (path : List ℕ) (u : OrderedTree) → DocumentChanged was now path t u
-  → IsValueBefore o now [] → LinesEndLoosely (is_loose now.content) false now.below
+    → IsValueBefore o now [] → LinesEndLoosely (is_loose now.content) false now.below
     → (d : DiffersIn (leaves_of was) (leaves_of now) (leaves t) (leaves u))
-      → meet d.front (leaves_of now ++ d.back) ≡ false → meet (leaves_of now) d.back ≡ false
+    → meet d.front (leaves_of now ++ d.back) ≡ false → meet (leaves_of now) d.back ≡ false
     → SoundTree o u
 
 -- and where a comment leaves, alone or as a line comment with trivia before it, and no two literals without quotes meet that it held apart
@@ -67,4 +67,4 @@ KeptWithoutComment o t = SoundTree o t → (was : List Content) (u : OrderedTree
 abbrev pub KeptByBooleans : Options → OrderedTree → Type 0
 KeptByBooleans o t = SoundTree o t → (was now : Bool) (path : List ℕ) (u : OrderedTree) → DocumentChanged (boolean_leaf was) (boolean_leaf now) path t u
     → (d : DiffersIn (leaves_of (boolean_leaf was)) (leaves_of (boolean_leaf now)) (leaves t) (leaves u))
-      → (now ≡ false → is_hex_leaf (last_printed d.front) ≡ false) → SoundTree o u
+    → (now ≡ false → is_hex_leaf (last_printed d.front) ≡ false) → SoundTree o u

@@ -58,4 +58,4 @@ WritesBoolean o old new path n b =
 -- it stands where it stood
 abbrev pub StaysAtPath : List Node → List Node → List ℕ → ℕ → Bool → Type 0
 StaysAtPath old new path n b = IsTree old → IsAt old path n → is_boolean (content_at old n) ≡ true
-  → BooleanSet old new n b → IsAt new path n × (top_at new n ≡ boolean_leaf b)
+    → BooleanSet old new n b → IsAt new path n × (top_at new n ≡ boolean_leaf b)

@@ -107,7 +107,7 @@ module _ {A : Type 0} where
   pub record Collects (old new : Context A) : Type 0 where
     pub passed : List Placed
     pub stand : (ts : List Placed) → AreTokens (options_in old) (token_end new) (rest (text_in old) (token_end new)) ts
-      → AreTokens (options_in old) (token_end old) (rest (text_in old) (token_end old)) (passed ++ ts)
+        → AreTokens (options_in old) (token_end old) (rest (text_in old) (token_end old)) (passed ++ ts)
     pub more : CollectsMore old new (taken old.comments_are_tokens passed)
     pub lent : StaysLent old new
     pub noted : NotesMore old new passed

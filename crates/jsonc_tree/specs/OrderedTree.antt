@@ -36,7 +36,7 @@ followed_by (more content below after) next = more content below (followed_by af
 pub data Shows (ns : List Node) : List ℕ → OrderedTree → Type 0 where
   shows_none : Shows ns [] none
   shows_more : {n : ℕ} {rest : List ℕ} {below after : OrderedTree} → Shows ns (children_at ns n) below
-    → Shows ns rest after → Shows ns (n ∷ rest) (more (content_at ns n) below after)
+      → Shows ns rest after → Shows ns (n ∷ rest) (more (content_at ns n) below after)
 
 -- the second row is the first, but that in one place below a node one row has given way to another
 pub data Replaced (was now : OrderedTree) : OrderedTree → OrderedTree → Type 0 where

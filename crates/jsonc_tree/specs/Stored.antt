@@ -52,8 +52,12 @@ module _ {A : Type 0} where
 
   -- a node as it is shown
   abbrev pub shown : List (Node A) → Node A → tree.Node
-  shown ls n = record { content = content_of n.kind; parent = n.parent; children = chain (length ls) ls n.first;
-    room = room_over (chain (length ls) ls n.first) }
+  shown ls n = record {
+    content = content_of n.kind;
+    parent = n.parent;
+    children = chain (length ls) ls n.first;
+    room = room_over (chain (length ls) ls n.first);
+  }
 
   abbrev pub nodes_of : List (Node A) → List tree.Node
   nodes_of ls = map (shown ls) ls
