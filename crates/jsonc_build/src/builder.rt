@@ -110,18 +110,18 @@ fn build_value<A: Allocator + Copy>(
         }
         Value::Array(array) => {
             let node = tree.push_child(container, Kind::Array)?;
-            tree.push_child(node, Kind::Token('['))?;
+            tree.push_child(node, Kind::token('['))?;
             let range = inside(array.range);
             build_elements(tree, node, whole, text, &array.elements, range)?;
-            tree.push_child(node, Kind::Token(']'))?;
+            tree.push_child(node, Kind::token(']'))?;
             Ok(())
         }
         Value::Object(object) => {
             let node = tree.push_child(container, Kind::Object)?;
-            tree.push_child(node, Kind::Token('{'))?;
+            tree.push_child(node, Kind::token('{'))?;
             let range = inside(object.range);
             build_properties(tree, node, whole, text, &object.properties, range)?;
-            tree.push_child(node, Kind::Token('}'))?;
+            tree.push_child(node, Kind::token('}'))?;
             Ok(())
         }
     }

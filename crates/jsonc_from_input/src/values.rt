@@ -157,9 +157,9 @@ fn lay_out_array<A: Allocator + Copy>(
     ensures kept { KeepsAll tree.old tree.new }
     ensures tree { IsTree tree.new.nodes }
 {
-    let array = begin_node(tree, Kind::Array, Kind::Token('['))?;
+    let array = begin_node(tree, Kind::Array, Kind::token('['))?;
     push_elements(alloc, tree, array, elements, layout)?;
-    push_leaf(tree, array, Kind::Token(']'))?;
+    push_leaf(tree, array, Kind::token(']'))?;
     Ok(array)
 }
 
@@ -175,9 +175,9 @@ fn lay_out_object<A: Allocator + Copy>(
     ensures kept { KeepsAll tree.old tree.new }
     ensures tree { IsTree tree.new.nodes }
 {
-    let object = begin_node(tree, Kind::Object, Kind::Token('{'))?;
+    let object = begin_node(tree, Kind::Object, Kind::token('{'))?;
     push_properties(alloc, tree, object, properties, layout)?;
-    push_leaf(tree, object, Kind::Token('}'))?;
+    push_leaf(tree, object, Kind::token('}'))?;
     Ok(object)
 }
 

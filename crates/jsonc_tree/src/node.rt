@@ -6,6 +6,7 @@ ghost use Rattle.jsonc_tree.specs.Stored.{bare, content_of};
 
 use crate::link::Link;
 use crate::part::Part;
+use crate::token::TokenChar;
 use std::alloc::Allocator;
 
 /// How a line ends.
@@ -39,7 +40,7 @@ pub enum Kind<A: Allocator> {
     Number(String<A>),
     Boolean(bool),
     Null,
-    Token(char),
+    Token(TokenChar),
     Whitespace(String<A>),
     Newline(CstNewlineKind),
     Comment(String<A>),
@@ -51,6 +52,13 @@ pub enum Kind<A: Allocator> {
 }
 
 impl<A: Allocator> Kind<A> {
+    /// A token of one character.
+    pub fn token(c: char) -> Kind<A>
+        ensures { result ≡ Kind.Token c }
+    {
+        Kind::Token(TokenChar::new(c))
+    }
+
     /// Whether a node of this kind may have children: the root, an object, an array or a property.
     pub fn is_container(&self) -> bool
         ensures { result ≡ is_container (content_of self.now) }

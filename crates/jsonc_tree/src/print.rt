@@ -24,7 +24,7 @@ fn write_own<A: Allocator, W: fmt::Write>(kind: &Kind<A>, f: &mut fmt::Formatter
         Kind::Boolean(true) => f.write_str("true"),
         Kind::Boolean(false) => f.write_str("false"),
         Kind::Null => f.write_str("null"),
-        Kind::Token(c) => f.write_char(*c),
+        Kind::Token(c) => f.write_char(c.get()),
         Kind::Whitespace(s) => f.write_str(s.as_str()),
         Kind::Newline(CstNewlineKind::LineFeed) => f.write_str("\n"),
         Kind::Newline(CstNewlineKind::CarriageReturnLineFeed) => f.write_str("\r\n"),

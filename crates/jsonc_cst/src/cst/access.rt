@@ -146,7 +146,7 @@ impl CstNode {
         ensures { IsAs Content.token (content_of doc.now self) result }
     {
         match doc.tree.kind(self.number()) {
-            Kind::Token(c) => Some(*c),
+            Kind::Token(c) => Some(c.get()),
             _ => None,
         }
     }
@@ -156,7 +156,10 @@ impl CstNode {
         requires { Holds doc.now self }
         ensures { IsTrue result ↔ (content_of doc.now self ≡ Content.token 44) }
     {
-        matches!(doc.tree.kind(self.number()), Kind::Token(','))
+        match doc.tree.kind(self.number()) {
+            Kind::Token(c) => c.get() == ',',
+            _ => false,
+        }
     }
 }
 
