@@ -1,9 +1,7 @@
 //! The pieces of documents, one for each leaf.
 
 use crate::reading::{child_at, read};
-use jsonc_parser::cst::{
-    CstInputValue, CstLeafNode, CstNode, CstRootNode, Edit, SetToken, run,
-};
+use jsonc_parser::cst::{CstInputValue, CstLeafNode, CstNode, CstRootNode, Edit, SetToken, run};
 use refusing::awaited::prints;
 use refusing::outcome::Outcome;
 use std::alloc::{AllocError, Allocator, Global};

@@ -20,7 +20,7 @@ fn own_bytes<A: Allocator>(kind: &Kind<A>) -> &[u8]
     ensures { result.now ≡ text_of (content_of kind.now) }
 {
     match kind {
-        Kind::Root | Kind::Object | Kind::Array | Kind::Property => "".as_bytes(),
+        Kind::Root(_) | Kind::Object(_) | Kind::Array(_) | Kind::Property(_) => "".as_bytes(),
         Kind::String(s) => s.as_str().as_bytes(),
         Kind::Word(s) => s.as_str().as_bytes(),
         Kind::Number(s) => s.as_str().as_bytes(),
