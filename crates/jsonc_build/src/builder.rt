@@ -19,7 +19,7 @@ use crate::fill::fill_between;
 use jsonc_ast::ast::{ObjectProp, Value};
 use jsonc_text::chars::char_at;
 use jsonc_text::common::{Range, Ranged};
-use jsonc_tree::{Kind, Part, Tree};
+use jsonc_tree::{Ends, Kind, Part, Tree};
 use std::alloc::{AllocError, Allocator};
 use std::rc::RcStr;
 
@@ -113,19 +113,19 @@ fn build_value<A: Allocator + Copy>(
             Ok(())
         }
         Value::Array(array) => {
-            let node = tree.push_child(container, Kind::Array)?;
-            tree.push_child(node, Kind::Token('['))?;
+            let node = tree.push_child(container, Kind::Array(Ends::none()))?;
+            tree.push_child(node, Kind::token('['))?;
             let range = inside(array.range);
             build_elements(tree, node, whole, text, &array.elements, range)?;
-            tree.push_child(node, Kind::Token(']'))?;
+            tree.push_child(node, Kind::token(']'))?;
             Ok(())
         }
         Value::Object(object) => {
-            let node = tree.push_child(container, Kind::Object)?;
-            tree.push_child(node, Kind::Token('{'))?;
+            let node = tree.push_child(container, Kind::Object(Ends::none()))?;
+            tree.push_child(node, Kind::token('{'))?;
             let range = inside(object.range);
             build_properties(tree, node, whole, text, &object.properties, range)?;
-            tree.push_child(node, Kind::Token('}'))?;
+            tree.push_child(node, Kind::token('}'))?;
             Ok(())
         }
     }
@@ -179,7 +179,7 @@ fn build_properties<A: Allocator + Copy>(
     for property in properties {
         let range = property.range();
         fill_between(tree, container, whole, text, from, range.start)?;
-        let node = tree.push_child(container, Kind::Property)?;
+        let node = tree.push_child(container, Kind::Property(Ends::none()))?;
         build_property(tree, node, whole, text, property)?;
         from = range.end;
     }

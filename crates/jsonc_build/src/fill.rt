@@ -186,7 +186,7 @@ fn leaf_at<A: Allocator>(
     }
     let after = place + c.len_utf8();
     if is_separator(c) {
-        return Ok((Kind::Token(c), after));
+        return Ok((Kind::token(c), after));
     }
     if c == '\n' {
         return Ok((Kind::Newline(CstNewlineKind::LineFeed), after));

@@ -6,7 +6,7 @@ ghost use Rattle.jsonc_engine.specs.Command.{Name};
 ghost use Rattle.jsonc_engine.specs.Fault.{EndsRun, IsFaultOn};
 ghost use Rattle.jsonc_engine.specs.Input.{IsInput, IsInputOf, IsRefusal};
 ghost use Rattle.jsonc_engine.specs.Output.{IsOutput};
-ghost use Rattle.jsonc_engine.specs.Parser.{ParseError, all_on, parse_options};
+ghost use Rattle.jsonc_engine.specs.Parser.{ParseError, all_on, parse_options, printed_of};
 
 use crate::calls::{Sink, Source};
 use crate::command::Command;
@@ -49,21 +49,48 @@ fn read_whole<A: Allocator + Copy, S: Source>(alloc: A, source: &mut S) -> Resul
     Err(Fault::Edit(EditError::OutOfMemory))
 }
 
-/// Writes all the bytes, and sees that they have left.
-fn write_whole<K: Sink>(sink: &mut K, bytes: &[u8]) -> Result<(), Fault>
-    ensures written { OnOk result (Appends (K.contents sink.old) (K.contents sink.new) bytes.now) }
+/// Writes the document piece by piece, and sees that it has left.
+fn write_document<A: Allocator, K: Sink>(
+    sink: &mut K,
+    document: &CstRootNode<A>,
+) -> Result<(), Fault>
+    ensures written { OnOk result (Appends (K.contents sink.old) (K.contents sink.new) (printed_of document.now)) }
     ensures flushed { OnOk result (K.is_flushed sink.new) }
     ensures kept { OnOk result (K.failed_writes sink.new ≡ K.failed_writes sink.old) }
     ensures cause { OnErr result (IsErrOf result Fault.Write) }
     ensures failed { OnErr result (K.failed_writes sink.new ≡ one_more (K.failed_writes sink.old)) }
 {
-    let Ok(()) = sink.write(bytes) else {
-        return Err(Fault::Write);
-    };
+    for piece in document.pieces() {
+        let Ok(()) = sink.write(piece) else {
+            return Err(Fault::Write);
+        };
+    }
     let Ok(()) = sink.flush() else {
         return Err(Fault::Write);
     };
     Ok(())
+}
+
+/// The document of the input's bytes, given what their text may hold beyond JSON.
+///
+/// The bytes may be refused as `Fault::NotUtf8` or `Fault::Input`.
+fn read_document<A: Allocator + Copy>(
+    alloc: A,
+    options: &ParseOptions,
+    input: &[u8],
+) -> Result<CstRootNode<A>, Fault>
+    ensures printed { IfOk result (λ document. printed_of document ≡ input.now) }
+    ensures accepted { OnOk result (IsInputOf (parse_options options.now) input.now) }
+    ensures not_utf8 { IsErrOf result Fault.NotUtf8 ↔ ¬ (IsUtf8 input.now) }
+    ensures refused { IfErr result (IsFaultOn (parse_options options.now) input.now) }
+{
+    let Ok(text) = str::from_utf8(input) else {
+        return Err(Fault::NotUtf8);
+    };
+    match CstRootNode::parse(alloc, text, options) {
+        Ok(document) => Ok(document),
+        Err(error) => Err(Fault::Input(error)),
+    }
 }
 
 /// What the command writes, given the bytes of the input and what their text may hold beyond JSON, or `None` where
@@ -82,13 +109,7 @@ pub fn run_with<A: Allocator + Copy>(
     ensures not_utf8 { IsErrOf result Fault.NotUtf8 ↔ ¬ (IsUtf8 input.now) }
     ensures refused { IfErr result (IsFaultOn (parse_options options.now) input.now) }
 {
-    let Ok(text) = str::from_utf8(input) else {
-        return Err(Fault::NotUtf8);
-    };
-    let document = match CstRootNode::parse(alloc, text, options) {
-        Ok(document) => document,
-        Err(error) => return Err(Fault::Input(error)),
-    };
+    let document = read_document(alloc, options, input)?;
     match command {
         Command::Check => Ok(None),
         Command::Print => match document.text() {
@@ -116,7 +137,7 @@ pub fn run_on<A: Allocator + Copy>(
 /// Does what the words ask: reads the source to its end, and writes what the command makes of it to the sink.
 ///
 /// Words that name no command are `Fault::Usage`, failed calls `Fault::Read` and `Fault::Write`; else the faults
-/// are those of `run_on`.
+/// are those of `run_on`. The document is written piece by piece, which wants no memory.
 pub fn engine<A: Allocator + Copy, S: Source, K: Sink>(
     alloc: A,
     words: &[&str],
@@ -158,8 +179,9 @@ pub fn engine<A: Allocator + Copy, S: Source, K: Sink>(
         return Err(Fault::Usage);
     };
     let input = read_whole(alloc, source)?;
-    match run_on(alloc, command, input.as_slice())? {
-        Some(output) => write_whole(sink, output.as_bytes()),
-        None => Ok(()),
+    let document = read_document(alloc, &ParseOptions::default(), input.as_slice())?;
+    match command {
+        Command::Check => Ok(()),
+        Command::Print => write_document(sink, &document),
     }
 }

@@ -25,7 +25,7 @@ use std::alloc::Allocator;
 fn holds_values<A: Allocator>(kind: &Kind<A>) -> bool
     ensures { result ≡ holds_values (content_of kind.now) }
 {
-    matches!(kind, Kind::Array | Kind::Object)
+    matches!(kind, Kind::Array(_) | Kind::Object(_))
 }
 
 // Whether a node is there and is a token.
@@ -131,7 +131,7 @@ fn due_behind_gap<A: Allocator>(
         (content_at tree.now.nodes container) then None else due_at_stretch tree.now.nodes from to comma) }
 {
     match tree.kind(container) {
-        Kind::Property => None,
+        Kind::Property(_) => None,
         _ => due_at_stretch(tree, from, to, comma),
     }
 }
@@ -219,8 +219,8 @@ fn is_hollow<A: Allocator>(tree: &Tree<A>, container: usize) -> bool
 {
     let _ = tree.len();
     match tree.kind(container) {
-        Kind::Array | Kind::Object => is_blank_between(tree, container),
-        Kind::Root => comes_to(tree, container, 0, None),
+        Kind::Array(_) | Kind::Object(_) => is_blank_between(tree, container),
+        Kind::Root(_) => comes_to(tree, container, 0, None),
         _ => false,
     }
 }

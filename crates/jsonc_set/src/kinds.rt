@@ -20,13 +20,13 @@ use std::alloc::Allocator;
 pub(crate) fn is_object<A: Allocator>(kind: &Kind<A>) -> bool
     ensures { result ≡ is_object (content_of kind.now) }
 {
-    matches!(kind, Kind::Object)
+    matches!(kind, Kind::Object(_))
 }
 
 pub(crate) fn is_array<A: Allocator>(kind: &Kind<A>) -> bool
     ensures { result ≡ is_array (content_of kind.now) }
 {
-    matches!(kind, Kind::Array)
+    matches!(kind, Kind::Array(_))
 }
 
 pub(crate) fn empty_object<A: Allocator>(alloc: A) -> CstInputValue<A>

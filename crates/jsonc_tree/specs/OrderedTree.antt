@@ -1,5 +1,5 @@
 -- The document as an ordered tree, with no numbers: what values, printed text and soundness are defined on.
-use Rattle.std.specs.Prelude.{ℕ, zero, suc, List, [], ◌∷◌, ◌++◌, length, if◌then◌else◌}
+use Rattle.std.specs.Prelude.{ℕ, zero, suc, List, [], ◌∷◌, ◌++◌, length, map, if◌then◌else◌}
 use Rattle.std.specs.List.{flat_map}
 use Rattle.jsonc_tree.specs.Content.{Content, is_container, text_of}
 use Rattle.jsonc_tree.specs.Tree.{Node, children_at, content_at}
@@ -22,6 +22,10 @@ own_leaf content = if is_container content then [] else content ∷ []
 abbrev pub leaves : OrderedTree → List Content
 leaves none = []
 leaves (more content below after) = own_leaf content ++ (leaves below ++ leaves after)
+
+-- the texts of its leaves, a piece for each, in order
+abbrev pub pieces : OrderedTree → List (List ℕ)
+pieces t = map text_of (leaves t)
 
 -- the bytes that it prints: the texts of its leaves, joined
 abbrev pub printed : OrderedTree → List ℕ
