@@ -44,6 +44,9 @@ lay_out_array-returns-clause-built g t c =
 pub lay_out_array-returns-clause-kept : goal.lay_out_array-returns-clause-kept
 lay_out_array-returns-clause-kept g t c = keeps_old c.in_ok-array.ensures.built (keeps_both c.in_ok-push_elements.ensures.kept c.in_ok-push_leaf.ensures.kept)
 
+pub lay_out_array-returns-in_err-push_leaf-clause-kept : goal.lay_out_array-returns-in_err-push_leaf-clause-kept
+lay_out_array-returns-in_err-push_leaf-clause-kept g t c = keeps_old c.in_ok-array.ensures.built (keeps_both c.in_ok-push_elements.ensures.kept c.in_err-push_leaf.ensures.kept)
+
 pub lay_out_object-returns-clause-built : goal.lay_out_object-returns-clause-built
 lay_out_object-returns-clause-built g t c =
     subst (λ row. Builds c.args.tree.now.nodes c.push_leaf.new.tree.nodes c.in_ok-object.object content.object (leaf_then (content.token 0x7B) row))
