@@ -2,6 +2,10 @@
 import random
 
 SIZES = {'1 KB': 1_000, '100 KB': 100_000, '1 MB': 1_000_000, '10 MB': 10_000_000}
+# An array of so many numbers, beside those of a size.
+COUNT = 100_000
+# What is an array of numbers.
+ARRAYS = ('numbers', 'array')
 
 
 def settings(pick, size):
@@ -49,7 +53,15 @@ def strings(pick, size):
     return '[\n' + ',\n'.join(parts) + '\n]\n'
 
 
+def array(pick, count):
+    """An array of so many numbers, ten a line."""
+    lines = ['  ' + ', '.join(str(pick.randrange(10**6)) for _ in range(10)) for _ in range(count // 10)]
+    return '[\n' + ',\n'.join(lines) + '\n]\n'
+
+
 def make():
-    """Each document by its kind and the name of its size, in bytes."""
-    return {(make.__name__, name): make(random.Random(7), size).encode()
-            for make in (settings, numbers, strings) for name, size in SIZES.items()}
+    """Each document by its kind and the name of its size."""
+    texts = {(make.__name__, name): make(random.Random(7), size).encode()
+             for make in (settings, numbers, strings) for name, size in SIZES.items()}
+    texts['array', '100,000 numbers'] = array(random.Random(7), COUNT).encode()
+    return texts

@@ -1,6 +1,6 @@
 //! The calls of `crates/jsonc_speed`, made of the Rust crate: the same words, the same answers.
 
-use jsonc_parser::cst::CstRootNode;
+use jsonc_parser::cst::{CstArray, CstInputValue, CstRootNode};
 use jsonc_parser::{
     CollectOptions, CommentCollectionStrategy, ParseOptions, Scanner, ScannerOptions,
     parse_to_ast, parse_to_value,
@@ -60,10 +60,39 @@ fn print(text: &str, count: u64) -> Answer {
     Ok(sum)
 }
 
+fn array(document: &CstRootNode) -> Result<CstArray, Box<dyn Error>> {
+    document.array_value().ok_or_else(|| "no array".into())
+}
+
+fn siblings(text: &str, count: u64) -> Answer {
+    let document = CstRootNode::parse(text, &ParseOptions::default())?;
+    let elements = array(&document)?.elements();
+    let mut sum = 0;
+    for _ in 0..count {
+        sum += elements.iter().filter(|element| black_box(element.next_sibling()).is_some()).count();
+    }
+    Ok(sum)
+}
+
+fn replaced(text: &str, count: u64) -> Answer {
+    let document = CstRootNode::parse(text, &ParseOptions::default())?;
+    let mut last = array(&document)?.elements().pop().ok_or("no element")?;
+    let mut sum = 0;
+    for _ in 0..count {
+        let number = last.as_number_lit().ok_or("no number")?;
+        last = number.replace_with(CstInputValue::Number("7".to_string())).ok_or("no parent")?;
+        sum += 1;
+    }
+    Ok(sum)
+}
+
 fn repeat(call: &str, input: &[u8], count: u64) -> Answer {
     let text = std::str::from_utf8(input)?;
-    if call == "print" {
-        return print(text, count);
+    match call {
+        "print" => return print(text, count),
+        "replaced" => return replaced(text, count),
+        "siblings" => return siblings(text, count),
+        _ => {}
     }
     let mut sum = 0;
     for _ in 0..count {

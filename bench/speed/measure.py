@@ -16,8 +16,10 @@ import documents
 
 HERE = os.path.dirname(os.path.abspath(__file__))
 REPORT = os.path.join(HERE, '..', '..', 'docs', 'SPEED.md')
-CALLS = ['scan', 'ast', 'tokens', 'value', 'document', 'print', 'program']
-TARGETS = {'scan': 1, 'ast': 1, 'tokens': 1, 'value': 1, 'document': 3, 'print': 1.5}
+CALLS = ['scan', 'ast', 'tokens', 'value', 'document', 'print', 'program', 'replaced', 'siblings']
+# Those that are made of an array of numbers.
+OF_ARRAYS = ('replaced', 'siblings')
+TARGETS = {'scan': 1, 'ast': 1, 'tokens': 1, 'value': 1, 'document': 4, 'print': 2}
 # Seconds that the N calls of one process take at least.
 LONG_ENOUGH = 0.1
 
@@ -82,18 +84,21 @@ def marked(ratio, target, most=False):
 
 def measured(programs, preload, folder, rounds):
     """Seconds of both by kind, size and call, and the bytes of memory of both by kind and size."""
-    times, memory = {}, {}
+    times, memory, lengths = {}, {}, {}
     for (kind, size), text in documents.make().items():
         path = os.path.join(folder, '%s-%s' % (kind, size.replace(' ', '')))
         with open(path, 'wb') as file:
             file.write(text)
+        lengths[kind, size] = len(text)
         for call in CALLS:
             if call == 'value' and not all(has_value(program, path) for program in programs):
+                continue
+            if call in OF_ARRAYS and kind not in documents.ARRAYS:
                 continue
             times[kind, size, call] = timed(programs, call, path, rounds)
             print('%-9s %-7s %-9s %6.2f' % (kind, size, call, times[kind, size, call][1] / times[kind, size, call][0]), flush=True)
         memory[kind, size] = [peak(program, path, preload) for program in programs]
-    return times, memory
+    return times, memory, lengths
 
 
 def ratio_rows(times, memory):
@@ -108,14 +113,19 @@ def ratio_rows(times, memory):
     return rows
 
 
-def speed_rows(times, memory):
+def amount(call, seconds, length):
+    """The microseconds of one replacement, and of any other call the megabytes a second."""
+    return '%.1f' % (seconds * 1e6) if call == 'replaced' else '%.0f' % (length / 1e6 / seconds)
+
+
+def speed_rows(times, memory, lengths):
     rows = []
     for kind, size in memory:
         row = ['%s, %s' % (kind, size)]
         for call in CALLS:
             pair = times.get((kind, size, call))
-            row.append(' / '.join('%.0f' % (documents.SIZES[size] / 1e6 / one) for one in pair) if pair else '–')
-        rows.append(row + [' / '.join('%.1f' % (bytes / documents.SIZES[size]) for bytes in memory[kind, size])])
+            row.append(' / '.join(amount(call, one, lengths[kind, size]) for one in pair) if pair else '–')
+        rows.append(row + [' / '.join('%.1f' % (bytes / lengths[kind, size]) for bytes in memory[kind, size])])
     return rows
 
 
@@ -125,8 +135,9 @@ def growth_rows(times, memory):
         row = [kind]
         for call in CALLS:
             small, large = times.get((kind, '1 MB', call)), times.get((kind, '10 MB', call))
-            row.append(marked(large[0] / small[0], 12, most=True) if small else '–')
-        rows.append(row)
+            row.append(marked(large[0] / small[0], 12, most=True) if small and large else '–')
+        if any(cell != '–' for cell in row[1:]):
+            rows.append(row)
     return rows
 
 
@@ -136,7 +147,7 @@ def machine():
     return '%s, %d processors' % (model, os.cpu_count())
 
 
-def figures(times, memory):
+def figures(times, memory, lengths):
     return '\n'.join([
         '## Figures',
         '',
@@ -146,9 +157,9 @@ def figures(times, memory):
         '',
         table(['Document'] + CALLS + ['memory'], ratio_rows(times, memory)),
         '',
-        'Megabytes a second, ours / theirs, and bytes of memory a byte of text.',
+        'Megabytes a second, ours / theirs, of `replaced` the microseconds, and bytes of memory a byte of text.',
         '',
-        table(['Document'] + CALLS + ['memory'], speed_rows(times, memory)),
+        table(['Document'] + CALLS + ['memory'], speed_rows(times, memory, lengths)),
         '',
         'How many times as long as 1 MB our call on 10 MB takes.',
         '',
@@ -158,8 +169,8 @@ def figures(times, memory):
 
 
 def main(ours, theirs, preload, folder, rounds='5'):
-    times, memory = measured([ours, theirs], preload, folder, int(rounds))
-    written = figures(times, memory)
+    times, memory, lengths = measured([ours, theirs], preload, folder, int(rounds))
+    written = figures(times, memory, lengths)
     print(written)
     with open(REPORT) as report:
         text = report.read()

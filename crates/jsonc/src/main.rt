@@ -7,7 +7,7 @@ use jsonc_engine::engine::engine;
 use jsonc_engine::fault::Fault;
 use std::alloc::AllocError;
 use std::env::Env;
-use std::io::ErrorKind;
+use std::io::{BufWriter, ErrorKind};
 use std::process::ExitCode;
 use std::{env, io};
 
@@ -26,7 +26,11 @@ fn run<R: Env + AllocGlobal + Input + Print>(rt: &R) -> Result<(), Fault> {
         words.push(argument.as_str())?;
     }
     let mut source = FromReader::new(rt.reader());
-    let mut sink = ToWriter::new(io::writer(rt));
+    // The document is written piece by piece.
+    let Ok(writer) = BufWriter::new(rt.alloc(), io::writer(rt)) else {
+        return Err(Fault::from(AllocError));
+    };
+    let mut sink = ToWriter::new(writer);
     engine(rt.alloc(), words.as_slice(), &mut source, &mut sink)
 }
 

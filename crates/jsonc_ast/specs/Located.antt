@@ -107,16 +107,22 @@ abbrev mutual
   -- from the place after an element to the place after the `]` of its array
   pub AreFurtherItems : Options → List ℕ → ℕ → LocatedItems → ℕ → Type 0
   AreFurtherItems o bytes i no_items_at j = Between bytes (Closes o 0x5D) i j
-  AreFurtherItems o bytes i (item_at x xs) j = Between bytes (Separates o) i (range_at x).start × IsLocated o bytes x × AreFurtherItems o bytes (range_at x).end xs j
+  AreFurtherItems o bytes i (item_at x xs) j
+      = Between bytes (Separates o) i (range_at x).start × IsLocated o bytes x
+      × AreFurtherItems o bytes (range_at x).end xs j
 
   -- the same of an object's properties, between `{` and `}`
   pub AreMembers : Options → List ℕ → ℕ → LocatedMembers → ℕ → Type 0
   AreMembers o bytes i no_members_at j = Between bytes (Ends o 0x7D) i j
-  AreMembers o bytes i (member_at r n x ms) j = Between bytes (Gap o) i r.start × IsNamed o bytes n r (range_at x) × IsLocated o bytes x × AreFurtherMembers o bytes r.end ms j
+  AreMembers o bytes i (member_at r n x ms) j
+      = Between bytes (Gap o) i r.start × IsNamed o bytes n r (range_at x) × IsLocated o bytes x
+      × AreFurtherMembers o bytes r.end ms j
 
   pub AreFurtherMembers : Options → List ℕ → ℕ → LocatedMembers → ℕ → Type 0
   AreFurtherMembers o bytes i no_members_at j = Between bytes (Closes o 0x7D) i j
-  AreFurtherMembers o bytes i (member_at r n x ms) j = Between bytes (Separates o) i r.start × IsNamed o bytes n r (range_at x) × IsLocated o bytes x × AreFurtherMembers o bytes r.end ms j
+  AreFurtherMembers o bytes i (member_at r n x ms) j
+      = Between bytes (Separates o) i r.start × IsNamed o bytes n r (range_at x) × IsLocated o bytes x
+      × AreFurtherMembers o bytes r.end ms j
 
 -- the text is a gap, and has no value; or a gap, the value and a gap
 abbrev pub IsLocatedDocument : Options → List ℕ → Option Located → Type 0

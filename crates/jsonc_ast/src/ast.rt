@@ -126,7 +126,8 @@ pub fn property_of<'a, A: Allocator>(
     name: ObjectPropName<'a, A>,
     value: Value<'a, A>,
 ) -> ObjectProp<'a, A>
-    ensures located { member_of result ≡ record { range = range; name = name_at name.entry; value = located value.entry } }
+    ensures located { member_of result
+        ≡ record { range = range; name = name_at name.entry; value = located value.entry } }
     ensures spelled { spelled_in_property result ≡ name.entry ∷ spelled value.entry }
 {
     ObjectProp { range, name, value }

@@ -87,6 +87,10 @@ grows_below {a} {b} {d} {c} {content} {row} there push grown =
 pub grows_leaf : {a b : List Node} {c : ℕ} {content : Content} → c < length a → Pushes a b c content → Grows a b c (ordered.more content ordered.none ordered.none)
 grows_leaf {a} {b} there push = grows_below there push (grows_none b (length a))
 
+-- a leaf of the same content
+pub pushes_same : {a b : List Node} {c : ℕ} {x y : Content} → x ≡ y → Pushes a b c x → Pushes a b c y
+pushes_same {a} {b} {c} same push = subst (λ x. Pushes a b c x) same push
+
 -- the container stays one
 pub container_kept : {a b : List Node} {c : ℕ} {row : OrderedTree} → c < length a → IsTrue (is_container_at a c) → Grows a b c row → IsTrue (is_container_at b c)
 container_kept {a} {b} {c} there h grown = ap is_container (grown.contents c there) ∙ h

@@ -1,4 +1,5 @@
--- How a text and its syntax tree lie in an ordered tree: each value and name is a leaf with the text as written or a container, and what stands between them is leaves of its own.
+-- How a text and its syntax tree lie in an ordered tree: each value and name is a leaf with the text as written or a
+-- container, and what stands between them is leaves of its own.
 use Rattle.std.specs.Prelude.{ℕ, ◌+◌, ◌-◌, ◌≡◌, Bool, true, false, ◌||◌, ◌==◌, List, Option, Some, None, length, slice_range}
 use Rattle.jsonc_text.specs.declared.common.Range.{Range}
 use Rattle.jsonc_text.specs.Options.{Options}
@@ -38,26 +39,39 @@ bracketed opening row closing = more (token opening) none (followed_by row (more
 mutual
   -- a located value is a node of this content, with these below it
   pub data Laid (bytes : List ℕ) : Located → Content → OrderedTree → Type 0 where
-    string_leaf : {r : Range} {v s : List ℕ} → Spans bytes r.start r.end → s ≡ bytes_in bytes r → Laid bytes (leaf_at r (Plain.string v)) (Content.string s) none
-    number_leaf : {r : Range} {v s : List ℕ} → Spans bytes r.start r.end → s ≡ bytes_in bytes r → Laid bytes (leaf_at r (Plain.number v)) (Content.number s) none
+    string_leaf : {r : Range} {v s : List ℕ} → Spans bytes r.start r.end → s ≡ bytes_in bytes r
+        → Laid bytes (leaf_at r (Plain.string v)) (Content.string s) none
+    number_leaf : {r : Range} {v s : List ℕ} → Spans bytes r.start r.end → s ≡ bytes_in bytes r
+        → Laid bytes (leaf_at r (Plain.number v)) (Content.number s) none
     boolean_leaf : {r : Range} {b : Bool} → Spans bytes r.start r.end → Laid bytes (leaf_at r (Plain.boolean b)) (Content.boolean b) none
     null_leaf : {r : Range} → Spans bytes r.start r.end → Laid bytes (leaf_at r Plain.null) Content.null none
-    array_node : {r : Range} {xs : LocatedItems} {row : OrderedTree} → ItemsLaid bytes (r.start + 1) xs (r.end - 1) row → Laid bytes (array_at r xs) Content.array (bracketed 0x5B row 0x5D)
-    object_node : {r : Range} {ms : LocatedMembers} {row : OrderedTree} → MembersLaid bytes (r.start + 1) ms (r.end - 1) row → Laid bytes (object_at r ms) Content.object (bracketed 0x7B row 0x7D)
+    array_node : {r : Range} {xs : LocatedItems} {row : OrderedTree} → ItemsLaid bytes (r.start + 1) xs (r.end - 1) row
+        → Laid bytes (array_at r xs) Content.array (bracketed 0x5B row 0x5D)
+    object_node : {r : Range} {ms : LocatedMembers} {row : OrderedTree}
+        → MembersLaid bytes (r.start + 1) ms (r.end - 1) row
+        → Laid bytes (object_at r ms) Content.object (bracketed 0x7B row 0x7D)
 
   -- elements, from the place i up to the place j, and the leaves before, between and after them
   pub data ItemsLaid (bytes : List ℕ) : ℕ → LocatedItems → ℕ → OrderedTree → Type 0 where
     no_element : {i j : ℕ} {row : OrderedTree} → FillsBetween bytes i j row → ItemsLaid bytes i no_items_at j row
-    an_element : {i j : ℕ} {x : Located} {xs : LocatedItems} {row below after : OrderedTree} {content : Content} → FillsBetween bytes i (range_at x).start row → Laid bytes x content below → ItemsLaid bytes (range_at x).end xs j after → ItemsLaid bytes i (item_at x xs) j (followed_by row (more content below after))
+    an_element : {i j : ℕ} {x : Located} {xs : LocatedItems} {row below after : OrderedTree} {content : Content}
+        → FillsBetween bytes i (range_at x).start row → Laid bytes x content below
+        → ItemsLaid bytes (range_at x).end xs j after
+        → ItemsLaid bytes i (item_at x xs) j (followed_by row (more content below after))
 
   -- properties, in the same way
   pub data MembersLaid (bytes : List ℕ) : ℕ → LocatedMembers → ℕ → OrderedTree → Type 0 where
     no_property : {i j : ℕ} {row : OrderedTree} → FillsBetween bytes i j row → MembersLaid bytes i no_members_at j row
-    a_property : {i j : ℕ} {r : Range} {n : LocatedName} {x : Located} {ms : LocatedMembers} {row below after : OrderedTree} → FillsBetween bytes i r.start row → PropertyLaid bytes n x below → MembersLaid bytes r.end ms j after → MembersLaid bytes i (member_at r n x ms) j (followed_by row (more Content.property below after))
+    a_property : {i j : ℕ} {r : Range} {n : LocatedName} {x : Located} {ms : LocatedMembers} {row below after : OrderedTree} → FillsBetween bytes i r.start row
+        → PropertyLaid bytes n x below → MembersLaid bytes r.end ms j after
+        → MembersLaid bytes i (member_at r n x ms) j (followed_by row (more Content.property below after))
 
   -- a name, the leaves between it and its value, and the value
   pub data PropertyLaid (bytes : List ℕ) : LocatedName → Located → OrderedTree → Type 0 where
-    name_and_value : {n : LocatedName} {x : Located} {row below : OrderedTree} {name content : Content} → Spans bytes n.range.start n.range.end → NameLaid bytes n.range name → FillsBetween bytes n.range.end (range_at x).start row → Laid bytes x content below → PropertyLaid bytes n x (more name none (followed_by row (more content below none)))
+    name_and_value : {n : LocatedName} {x : Located} {row below : OrderedTree} {name content : Content}
+        → Spans bytes n.range.start n.range.end → NameLaid bytes n.range name
+        → FillsBetween bytes n.range.end (range_at x).start row → Laid bytes x content below
+        → PropertyLaid bytes n x (more name none (followed_by row (more content below none)))
 
 -- the leaves of a text without a value; or those before the value, the value, and those after it
 abbrev pub RootLaid : List ℕ → Option Located → OrderedTree → Type 0
@@ -83,7 +97,9 @@ abbrev mutual
 
   pub CanLayMembers : List ℕ → ℕ → LocatedMembers → ℕ → Type 0
   CanLayMembers bytes i no_members_at j = IsFillable bytes i j
-  CanLayMembers bytes i (member_at r n x ms) j = IsFillable bytes i r.start × Spans bytes n.range.start n.range.end × IsFillable bytes n.range.end (range_at x).start × CanLay bytes x × CanLayMembers bytes r.end ms j
+  CanLayMembers bytes i (member_at r n x ms) j
+      = IsFillable bytes i r.start × Spans bytes n.range.start n.range.end
+      × IsFillable bytes n.range.end (range_at x).start × CanLay bytes x × CanLayMembers bytes r.end ms j
 
 -- the same of a property's name and value
 abbrev pub CanLayProperty : List ℕ → LocatedName → Located → Type 0

@@ -1,4 +1,5 @@
--- Line comments end with their lines: directly, or in an array or object perhaps behind whitespace. The blanks there belong to the comment when the text is read again.
+-- Line comments end with their lines: directly, or in an array or object perhaps behind whitespace. The blanks there
+-- belong to the comment when the text is read again.
 use Rattle.std.specs.Prelude.{◌≡◌, Bool, true, false, ◌&&◌, ◌==◌, ◌∷◌, IsTrue}
 use Rattle.jsonc_tree.specs.Content.{Content, root, array, object, newline, comment, whitespace}
 use Rattle.jsonc_tree.specs.OrderedTree.{OrderedTree, none, more}
@@ -39,7 +40,9 @@ ends_loosely loose at_end (more _ below after) = false
 -- each line comment of a row is followed by such an end; in the rows below the row's own end does not serve
 abbrev pub LinesEndLoosely : Bool → Bool → OrderedTree → Type 0
 LinesEndLoosely loose at_end none = Unit {0}
-LinesEndLoosely loose at_end (more content below after) = (IsTrue (is_line_comment content) → IsTrue (ends_loosely loose at_end after)) × LinesEndLoosely (is_loose content) false below × LinesEndLoosely loose at_end after
+LinesEndLoosely loose at_end (more content below after)
+    = (IsTrue (is_line_comment content) → IsTrue (ends_loosely loose at_end after))
+    × LinesEndLoosely (is_loose content) false below × LinesEndLoosely loose at_end after
 
 -- in a document the root's row is not loose, and its end serves
 abbrev pub DocumentLinesEndLoosely : OrderedTree → Type 0

@@ -75,23 +75,31 @@ mutual
 
   -- the row is one or more elements, what stands between them, and the `]`
   pub data ElementsShaped (o : Options) : OrderedTree → Type 0 where
-    last_element : {content : Content} {below after : OrderedTree} → ValueShaped o content below (printed_text after) → Closed o 0x5D after → ElementsShaped o (more content below after)
-    element : {content : Content} {below after u : OrderedTree} → ValueShaped o content below (printed_text after) → Separated o after u → ElementsShaped o u → ElementsShaped o (more content below after)
+    last_element : {content : Content} {below after : OrderedTree} → ValueShaped o content below (printed_text after)
+        → Closed o 0x5D after → ElementsShaped o (more content below after)
+    element : {content : Content} {below after u : OrderedTree} → ValueShaped o content below (printed_text after)
+        → Separated o after u → ElementsShaped o u → ElementsShaped o (more content below after)
 
   -- the row is one or more properties, what stands between them, and the `}`
   pub data PropertiesShaped (o : Options) : OrderedTree → Type 0 where
-    last_property : {below after : OrderedTree} → PropertyShaped o below (printed_text after) → Closed o 0x7D after → PropertiesShaped o (more Content.property below after)
-    property : {below after u : OrderedTree} → PropertyShaped o below (printed_text after) → Separated o after u → PropertiesShaped o u → PropertiesShaped o (more Content.property below after)
+    last_property : {below after : OrderedTree} → PropertyShaped o below (printed_text after) → Closed o 0x7D after
+        → PropertiesShaped o (more Content.property below after)
+    property : {below after u : OrderedTree} → PropertyShaped o below (printed_text after) → Separated o after u
+        → PropertiesShaped o u → PropertiesShaped o (more Content.property below after)
 
   -- the row, where the text r follows, is a name, trivia, a colon, trivia and a value
   pub data PropertyShaped (o : Options) : OrderedTree → List ℕ → Type 0 where
-    named : {name content : Content} {below after u : OrderedTree} {r : List ℕ} → IsNameBefore o name (printed_text after) → Trivia o after (token_then 0x3A u) → Trivia o u (more content below none) → ValueShaped o content below r
+    named : {name content : Content} {below after u : OrderedTree} {r : List ℕ}
+        → IsNameBefore o name (printed_text after) → Trivia o after (token_then 0x3A u)
+        → Trivia o u (more content below none) → ValueShaped o content below r
         → PropertyShaped o (more name none after) r
 
 -- a root, and below it trivia; or trivia, a value and trivia
 pub data DocumentShaped (o : Options) : OrderedTree → Type 0 where
   no_value : {row : OrderedTree} → Trivia o row none → DocumentShaped o (more Content.root row none)
-  a_value : {content : Content} {row below after : OrderedTree} → Trivia o row (more content below after) → ValueShaped o content below (printed_text after) → Trivia o after none → DocumentShaped o (more Content.root row none)
+  a_value : {content : Content} {row below after : OrderedTree} → Trivia o row (more content below after)
+      → ValueShaped o content below (printed_text after) → Trivia o after none
+      → DocumentShaped o (more Content.root row none)
 
 -- the tree prints a text of the grammar, and has the value of that text
 abbrev pub PrintsDocument : Options → OrderedTree → Type 0

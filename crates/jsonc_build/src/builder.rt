@@ -19,7 +19,7 @@ use crate::fill::fill_between;
 use jsonc_ast::ast::{ObjectProp, Value};
 use jsonc_text::chars::char_at;
 use jsonc_text::common::{Range, Ranged};
-use jsonc_tree::{Kind, Part, Tree};
+use jsonc_tree::{Ends, Kind, Part, Tree};
 use std::alloc::{AllocError, Allocator};
 use std::rc::RcStr;
 
@@ -54,7 +54,9 @@ fn build_name<A: Allocator + Copy>(
     requires there { container < length tree.old.nodes }
     requires container { IsTrue (is_container_at tree.old.nodes container) }
     requires spans { Spans text.now range.start range.end }
-    ensures { OnOk result ((content : Content) × Grows tree.old.nodes tree.new.nodes container (more content none none) × NameLaid text.now range content) }
+    ensures { OnOk result ((content : Content)
+        × Grows tree.old.nodes tree.new.nodes container (more content none none)
+        × NameLaid text.now range content) }
 {
     let name = written(whole, range)?;
     if is_quote_at(text, range.start) {
@@ -87,7 +89,9 @@ fn build_value<A: Allocator + Copy>(
     requires there { container < length tree.old.nodes }
     requires container { IsTrue (is_container_at tree.old.nodes container) }
     requires lies { CanLay text.now (located value.now) }
-    ensures { OnOk result ((content : Content) × (below : OrderedTree) × Grows tree.old.nodes tree.new.nodes container (more content below none) × Laid text.now (located value.now) content below) }
+    ensures { OnOk result ((content : Content) × (below : OrderedTree)
+        × Grows tree.old.nodes tree.new.nodes container (more content below none)
+        × Laid text.now (located value.now) content below) }
 {
     match value {
         Value::StringLit(value) => {
@@ -109,19 +113,19 @@ fn build_value<A: Allocator + Copy>(
             Ok(())
         }
         Value::Array(array) => {
-            let node = tree.push_child(container, Kind::Array)?;
-            tree.push_child(node, Kind::Token('['))?;
+            let node = tree.push_child(container, Kind::Array(Ends::none()))?;
+            tree.push_child(node, Kind::token('['))?;
             let range = inside(array.range);
             build_elements(tree, node, whole, text, &array.elements, range)?;
-            tree.push_child(node, Kind::Token(']'))?;
+            tree.push_child(node, Kind::token(']'))?;
             Ok(())
         }
         Value::Object(object) => {
-            let node = tree.push_child(container, Kind::Object)?;
-            tree.push_child(node, Kind::Token('{'))?;
+            let node = tree.push_child(container, Kind::Object(Ends::none()))?;
+            tree.push_child(node, Kind::token('{'))?;
             let range = inside(object.range);
             build_properties(tree, node, whole, text, &object.properties, range)?;
-            tree.push_child(node, Kind::Token('}'))?;
+            tree.push_child(node, Kind::token('}'))?;
             Ok(())
         }
     }
@@ -141,7 +145,8 @@ fn build_elements<A: Allocator + Copy>(
     requires there { container < length tree.old.nodes }
     requires container { IsTrue (is_container_at tree.old.nodes container) }
     requires lie { CanLayItems text.now range.start (items_located elements.now) range.end }
-    ensures { OnOk result ((row : OrderedTree) × Grows tree.old.nodes tree.new.nodes container row × ItemsLaid text.now range.start (items_located elements.now) range.end row) }
+    ensures { OnOk result ((row : OrderedTree) × Grows tree.old.nodes tree.new.nodes container row
+        × ItemsLaid text.now range.start (items_located elements.now) range.end row) }
 {
     let mut from = range.start;
     for element in elements {
@@ -167,13 +172,14 @@ fn build_properties<A: Allocator + Copy>(
     requires there { container < length tree.old.nodes }
     requires container { IsTrue (is_container_at tree.old.nodes container) }
     requires lie { CanLayMembers text.now range.start (members_located properties.now) range.end }
-    ensures { OnOk result ((row : OrderedTree) × Grows tree.old.nodes tree.new.nodes container row × MembersLaid text.now range.start (members_located properties.now) range.end row) }
+    ensures { OnOk result ((row : OrderedTree) × Grows tree.old.nodes tree.new.nodes container row
+        × MembersLaid text.now range.start (members_located properties.now) range.end row) }
 {
     let mut from = range.start;
     for property in properties {
         let range = property.range();
         fill_between(tree, container, whole, text, from, range.start)?;
-        let node = tree.push_child(container, Kind::Property)?;
+        let node = tree.push_child(container, Kind::Property(Ends::none()))?;
         build_property(tree, node, whole, text, property)?;
         from = range.end;
     }
@@ -193,7 +199,8 @@ fn build_property<A: Allocator + Copy>(
     requires there { container < length tree.old.nodes }
     requires container { IsTrue (is_container_at tree.old.nodes container) }
     requires lies { CanLayProperty text.now (member_of property.now).name (member_of property.now).value }
-    ensures { OnOk result ((row : OrderedTree) × Grows tree.old.nodes tree.new.nodes container row × PropertyLaid text.now (member_of property.now).name (member_of property.now).value row) }
+    ensures { OnOk result ((row : OrderedTree) × Grows tree.old.nodes tree.new.nodes container row
+        × PropertyLaid text.now (member_of property.now).name (member_of property.now).value row) }
 {
     let name = property.name.range();
     let value = property.value.range();
@@ -213,7 +220,8 @@ fn build_root<A: Allocator + Copy>(
     requires there { 0 < length tree.old.nodes }
     requires container { IsTrue (is_container_at tree.old.nodes 0) }
     requires lies { CanLayDocument text.now (located_in value) }
-    ensures { OnOk result ((row : OrderedTree) × Grows tree.old.nodes tree.new.nodes 0 row × RootLaid text.now (located_in value.entry) row) }
+    ensures { OnOk result ((row : OrderedTree) × Grows tree.old.nodes tree.new.nodes 0 row
+        × RootLaid text.now (located_in value.entry) row) }
 {
     let Some(value) = value else {
         fill_between(tree, 0, whole, text, 0, text.len())?;
@@ -241,8 +249,11 @@ pub fn build<A: Allocator + Copy>(
     requires { HasLocatedValue text.now (located_in value) }
     ensures laid { IfOk result (λ tree. DocumentLaid text.now (located_in value.entry) (ordered_tree tree.nodes 0)) }
     ensures printed { IfOk result (λ tree. printed (ordered_tree tree.nodes 0) ≡ text.now) }
-    ensures value { (o : Options) → IsLocatedDocument o text.now (located_in value.entry) → IfOk result (λ tree. DocumentValueOf o (ordered_tree tree.nodes 0) (option_map value_at (located_in value.entry))) }
-    ensures shaped { (o : Options) → IsLocatedDocument o text.now (located_in value.entry) → IfOk result (λ tree. DocumentShaped o (ordered_tree tree.nodes 0)) }
+    ensures value { (o : Options) → IsLocatedDocument o text.now (located_in value.entry)
+        → IfOk result (λ tree. DocumentValueOf o (ordered_tree tree.nodes 0)
+        (option_map value_at (located_in value.entry))) }
+    ensures shaped { (o : Options) → IsLocatedDocument o text.now (located_in value.entry)
+        → IfOk result (λ tree. DocumentShaped o (ordered_tree tree.nodes 0)) }
     ensures lines { IfOk result (λ tree. DocumentLinesEnd (ordered_tree tree.nodes 0)) }
     ensures tree { IfOk result (λ tree. IsTree tree.nodes) }
 {

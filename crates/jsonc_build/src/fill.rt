@@ -186,7 +186,7 @@ fn leaf_at<A: Allocator>(
     }
     let after = place + c.len_utf8();
     if is_separator(c) {
-        return Ok((Kind::Token(c), after));
+        return Ok((Kind::token(c), after));
     }
     if c == '\n' {
         return Ok((Kind::Newline(CstNewlineKind::LineFeed), after));
@@ -213,7 +213,8 @@ fn fill_gap<A: Allocator + Copy>(
     requires there { container < length tree.old.nodes }
     requires container { IsTrue (is_container_at tree.old.nodes container) }
     requires fillable { IsFillable text.now from to }
-    ensures { OnOk result ((row : OrderedTree) × Grows tree.old.nodes tree.new.nodes container row × FillsBetween text.now from to row) }
+    ensures { OnOk result ((row : OrderedTree) × Grows tree.old.nodes tree.new.nodes container row
+        × FillsBetween text.now from to row) }
 {
     let mut place = from;
     'leaves: while place < to {
@@ -240,7 +241,8 @@ pub(crate) fn fill_between<A: Allocator + Copy>(
     requires there { container < length tree.old.nodes }
     requires container { IsTrue (is_container_at tree.old.nodes container) }
     requires fillable { IsFillable text.now from to }
-    ensures { OnOk result ((row : OrderedTree) × Grows tree.old.nodes tree.new.nodes container row × FillsBetween text.now from to row) }
+    ensures { OnOk result ((row : OrderedTree) × Grows tree.old.nodes tree.new.nodes container row
+        × FillsBetween text.now from to row) }
 {
     make_room(tree, from, text.len())?;
     fill_gap(tree, container, whole, text, from, to)

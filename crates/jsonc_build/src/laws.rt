@@ -8,7 +8,8 @@ ghost use Rattle.jsonc_build.specs.Shape.{DocumentShaped, PrintsDocument};
 /// perhaps behind whitespace, prints a text of the grammar, and has the value of that text, whatever
 /// the options. So does one whose line comments end directly with their lines: they end so too.
 pub fn shaped_trees_print_documents()
-    ensures loosely { (o : Options) (t : OrderedTree) → DocumentShaped o t → DocumentLinesEndLoosely t → PrintsDocument o t }
+    ensures loosely { (o : Options) (t : OrderedTree) → DocumentShaped o t
+        → DocumentLinesEndLoosely t → PrintsDocument o t }
     ensures directly { (o : Options) (t : OrderedTree) → DocumentShaped o t → DocumentLinesEnd t → PrintsDocument o t }
     ensures strict { (t : OrderedTree) → DocumentLinesEnd t → DocumentLinesEndLoosely t }
 {}

@@ -1,4 +1,5 @@
-//! The tree of a text: from the text and its syntax tree, a [`Tree`](jsonc_tree::Tree) whose leaves are every byte of the text.
+//! The tree of a text: from the text and its syntax tree, a [`Tree`](jsonc_tree::Tree) whose leaves
+//! are every byte of the text.
 #![tactic(auto)]
 
 mod builder;

@@ -115,7 +115,8 @@ module _ {A : Type 0} where
 
   -- the place of a property among those of its object, or 0 where it is in none
   abbrev pub property_index_of : CstRootNode A → CstObjectProp → ℕ
-  property_index_of d property = index_in_object (parent_of d (object_prop_node property)) (length (filter (is_property_at (nodes_of d)) (siblings_before (nodes_of d) property.number)))
+  property_index_of d property
+      = index_in_object (parent_of d (object_prop_node property)) (length (filter (is_property_at (nodes_of d)) (siblings_before (nodes_of d) property.number)))
 
   -- the value of the root or of a property
   abbrev pub value_under : CstRootNode A → ℕ → Option CstNode

@@ -4,11 +4,13 @@
 //! node of one kind as [`CstObject`]: a number that says what it is the number of, and can be copied.
 //! It is asked together with its document, and [`CstRootNode::holds`] tells whether that has it; all
 //! nodes that a call answers are nodes of the document that was asked.
-ghost use Rattle.std.specs.Prelude.{◌≡◌, IfErr, IfOk, OnOk, Option, Some, true, chars, string_bytes};
+ghost use Rattle.std.specs.List.{concat};
+ghost use Rattle.std.specs.Prelude.{◌≡◌, length, IfErr, IfOk, OnOk, Option, Some, true, chars, string_bytes};
 ghost use Rattle.jsonc_text.specs.Faults.{IsFault};
 ghost use Rattle.jsonc_text.specs.Grammar.{IsDocument};
 ghost use Rattle.jsonc_text.specs.OptionsOf.{parse_options};
 ghost use Rattle.jsonc_text.specs.Plain.{Plain};
+ghost use Rattle.jsonc_tree.specs.OrderedTree.{leaves, pieces};
 ghost use Rattle.jsonc_tree.specs.Values.{DocumentValueOf};
 ghost use Rattle.jsonc_to_ast.specs.Refusals.{RefusesText};
 ghost use Rattle.jsonc_to_ast.specs.Told.{IsTold};
@@ -39,7 +41,7 @@ use jsonc_text::options::ParseOptions;
 use jsonc_to_ast::collect::CollectOptions;
 use jsonc_to_ast::parse_to_ast;
 use jsonc_tree::Tree;
-pub use jsonc_tree::{CstNewlineKind, Shown};
+pub use jsonc_tree::{CstNewlineKind, Pieces, Shown};
 pub use layout::Readings;
 pub use navigation::{HasChildren, IsNode};
 pub use node::{
@@ -75,7 +77,9 @@ impl<A: Allocator + Copy> CstRootNode<A> {
         ensures lines { IfOk result (λ d. DocumentLinesEnd (tree_of d)) }
         ensures laid { IfOk result (λ d. LiesIn (parse_options options.now) text.now (tree_of d)) }
         ensures within { OnOk result (HasNoDeeperValue (parse_options options.now) text.now) }
-        ensures value { IfOk result (λ d. (w : Option Plain) × IsDocument (parse_options options.now) (chars text.now) w × DocumentValueOf (parse_options options.now) (tree_of d) w) }
+        ensures value { IfOk result (λ d. (w : Option Plain)
+            × IsDocument (parse_options options.now) (chars text.now) w
+            × DocumentValueOf (parse_options options.now) (tree_of d) w) }
         ensures tree { IfOk result NodesAreTree }
         ensures refused { IfErr result (RefusesText (parse_options options.now) text.now) }
         ensures fault { IfErr result (IsFault text.now) }
@@ -100,6 +104,19 @@ impl<A: Allocator + Copy> CstRootNode<A> {
             return Err(EditError::OutOfMemory);
         };
         Ok(text)
+    }
+}
+
+impl<A: Allocator> CstRootNode<A> {
+    /// The bytes that each leaf of the document prints, in order; a leaf that prints nothing has an empty piece.
+    ///
+    /// They are lent, and no memory is wanted.
+    pub fn pieces(&self) -> Pieces<'_, A>
+        ensures pieces { result ≡ pieces (tree_of self.now) }
+        ensures joined { concat result ≡ printed_of self.now }
+        ensures count { length result ≡ length (leaves (tree_of self.now)) }
+    {
+        self.tree.pieces()
     }
 }
 

@@ -2,7 +2,7 @@
 ghost use Rattle.std.specs.Prelude.{◌<◌, IsTrue, length};
 ghost use Rattle.jsonc_tree.specs.Tree.{is_container_at};
 
-use jsonc_tree::{Kind, Tree};
+use jsonc_tree::{Ends, Kind, Tree};
 use refusing::outcome::Outcome;
 use std::alloc::Allocator;
 
@@ -73,17 +73,17 @@ fn set<A: Allocator + Copy>(tree: &mut Tree<A>, leaf: usize, kind: Kind<A>) -> R
 
 /// Fills the tree by pushing and attaching, and answers its array and the number in it.
 fn fill<A: Allocator + Copy>(alloc: A, tree: &mut Tree<A>) -> Result<(usize, usize), Outcome> {
-    let array = push(tree, 0, Kind::Array)?;
-    push(tree, array, Kind::Token('['))?;
+    let array = push(tree, 0, Kind::Array(Ends::none()))?;
+    push(tree, array, Kind::token('['))?;
     let number = push(tree, array, Kind::Number(String::from_str(alloc, "1")?))?;
-    attach(tree, array, Kind::Token(']'))?;
+    attach(tree, array, Kind::token(']'))?;
     Ok((array, number))
 }
 
 /// Puts a comma behind the number, blanks in the place of the comma, and a word in the number's.
 fn change<A: Allocator + Copy>(alloc: A, tree: &mut Tree<A>) -> Result<(), Outcome> {
     let (array, number) = fill(alloc, tree)?;
-    put(tree, array, 2, 2, Kind::Token(','))?;
+    put(tree, array, 2, 2, Kind::token(','))?;
     put(
         tree,
         array,

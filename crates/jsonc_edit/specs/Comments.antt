@@ -29,9 +29,11 @@ abbrev pub newline_from : List Node → List ℕ → ℕ → ℕ
 newline_from ns row zero = zero
 newline_from ns row (suc place) = if is_newline_at ns (slice_index row place) then place else suc place
 
--- among the children of c, where what leaves with the comment n begins: at n, or if n is a line comment, at the newline leaf before the whitespace leaves before n
+-- among the children of c, where what leaves with the comment n begins: at n, or if n is a line comment, at the newline
+-- leaf before the whitespace leaves before n
 abbrev pub removed_from : List Node → ℕ → ℕ → ℕ
-removed_from ns c n = if is_line_comment (content_at ns n) then newline_from ns (children_at ns c) (blanks_from ns (children_at ns c) (place_at ns n)) else place_at ns n
+removed_from ns c n = if is_line_comment (content_at ns n) then newline_from ns (children_at ns c)
+    (blanks_from ns (children_at ns c) (place_at ns n)) else place_at ns n
 
 -- the children from there up to the comment have left the row
 abbrev pub IsRemoved : List Node → List Node → ℕ → Type 0
@@ -110,5 +112,7 @@ HasValueWithout o old new n w = CommentTaken old new n → DocumentValueOf o (or
 -- a worked document: in an array on lines of their own a comment behind two whitespace leaves, which is node 7
 abbrev pub commented : List ℕ → List Node
 commented text =
-    node root None (1 ∷ []) ∷ node array (Some 0) (2 ∷ 3 ∷ 4 ∷ 5 ∷ 6 ∷ 7 ∷ 8 ∷ 9 ∷ []) ∷ node (token 0x5B) (Some 1) [] ∷ node (newline LineFeed) (Some 1) [] ∷ node (newline LineFeed) (Some 1) []
-    ∷ node (whitespace (codes " ")) (Some 1) [] ∷ node (whitespace (codes " ")) (Some 1) [] ∷ node (comment text) (Some 1) [] ∷ node (newline LineFeed) (Some 1) [] ∷ node (token 0x5D) (Some 1) [] ∷ []
+    node root None (1 ∷ []) ∷ node array (Some 0) (2 ∷ 3 ∷ 4 ∷ 5 ∷ 6 ∷ 7 ∷ 8 ∷ 9 ∷ []) ∷ node (token 0x5B) (Some 1) []
+    ∷ node (newline LineFeed) (Some 1) [] ∷ node (newline LineFeed) (Some 1) []
+    ∷ node (whitespace (codes " ")) (Some 1) [] ∷ node (whitespace (codes " ")) (Some 1) []
+    ∷ node (comment text) (Some 1) [] ∷ node (newline LineFeed) (Some 1) [] ∷ node (token 0x5D) (Some 1) [] ∷ []

@@ -63,7 +63,8 @@ KeepsOthers old new c = (n : ℕ) → n < length old → (IsOver old n c → ⊥
 -- the row below c is now what the children before the stretch stood for, what those stand for that were put in, and what those after it stood for
 abbrev pub HasNewRow : {old new : List Node} {c : ℕ} → Respliced old new c → Type 0
 HasNewRow {old} {new} {c} s =
-    (front inner back : OrderedTree) → Shows old (take s.from (children_at old c)) front → Shows old s.put inner → Shows old (drop s.to (children_at old c)) back → row_below new c ≡ followed_by front (followed_by inner back)
+    (front inner back : OrderedTree) → Shows old (take s.from (children_at old c)) front → Shows old s.put inner
+    → Shows old (drop s.to (children_at old c)) back → row_below new c ≡ followed_by front (followed_by inner back)
 
 -- the leaf is what it became, over what was below it
 abbrev pub HasNewContent : {old new : List Node} {leaf : ℕ} → LeafChanged old new leaf → Type 0
@@ -73,15 +74,19 @@ HasNewContent {old} {new} {leaf} r = top_at new leaf ≡ record { content = r.co
 abbrev pub IsApart : List Node → ℕ → Type 0
 IsApart ns n = (ends_bare ns (seen_before ns n) ≡ false) × (begins_bare ns (seen_behind ns n) ≡ false)
 
--- where n stands at the path in a sound document, and a node that may stand there takes its place, the document that this makes is sound, if no literal without quotes comes to stand beside another
+-- where n stands at the path in a sound document, and a node that may stand there takes its place, the document that
+-- this makes is sound, if no literal without quotes comes to stand beside another
 abbrev pub StaysSoundAt : Options → List Node → List Node → List ℕ → ℕ → ℕ → Type 0
 StaysSoundAt o old new path n m =
-    IsTree old → SoundTree o (ordered_tree old 0) → IsAt old path n → (now : Top) (v : Plain) → Replaces old new n m → top_at old m ≡ now → IsNewValue o now v → (IsTrue (is_bare now.content) → IsApart old n) → SoundTree o (ordered_tree new 0)
+    IsTree old → SoundTree o (ordered_tree old 0) → IsAt old path n → (now : Top) (v : Plain) → Replaces old new n m
+    → top_at old m ≡ now → IsNewValue o now v → (IsTrue (is_bare now.content) → IsApart old n)
+    → SoundTree o (ordered_tree new 0)
 
 -- where n stands at the path in a document of value x, and gives way to a node of value v, so does its value there
 abbrev pub ChangesValueAt : Options → List Node → List Node → List ℕ → ℕ → Plain → Type 0
 ChangesValueAt o old new path n x =
-    DocumentValueOf o (ordered_tree old 0) (Some x) → IsAt old path n → (now : Top) (v : Plain) → ChangesAt old new n now → HasValue o now v → HasChangedValue o (top_at old n) path (ordered_tree new 0) x v
+    DocumentValueOf o (ordered_tree old 0) (Some x) → IsAt old path n → (now : Top) (v : Plain)
+    → ChangesAt old new n now → HasValue o now v → HasChangedValue o (top_at old n) path (ordered_tree new 0) x v
 
 -- in a layout that fits, a value that may be written is laid out as a whole value
 abbrev pub LaysOutWhole : Options → Layout → Plain → Type 0

@@ -11,10 +11,13 @@ use Rattle.jsonc_edit.specs.Due.{nearest, ends_bare, begins_bare, due_between}
 
 -- they meet between a stretch of a row and the rest of it where the nearest children that print something are such literals
 abbrev pub NearestTell : Options → List Node → Type 0
-NearestTell o ns = (kind : RowKind) (last mid : Last) (xs ys : List ℕ) (stretch rest : OrderedTree) → Shows ns xs stretch → StretchAlone o kind last stretch mid → Shows ns ys rest → RowAlone o kind mid rest
+NearestTell o ns = (kind : RowKind) (last mid : Last) (xs ys : List ℕ) (stretch rest : OrderedTree)
+    → Shows ns xs stretch → StretchAlone o kind last stretch mid → Shows ns ys rest → RowAlone o kind mid rest
     → meet (leaves stretch) (leaves rest) ≡ (ends_bare ns (nearest ns (reverse xs)) && begins_bare ns (nearest ns ys))
 
 -- where commas may not be missing and the row goes on without the children from one to another, no space is due
 abbrev pub NoneDueWithCommas : Options → List Node → Type 0
-NoneDueWithCommas o ns = (kind : RowKind) (last mid : Last) (from to : ℕ) (front back : OrderedTree) → Shows ns (take (place_at ns from) (row_of ns from)) front → StretchAlone o kind last front mid → Shows ns (siblings_after ns to) back → RowAlone o kind mid back
+NoneDueWithCommas o ns = (kind : RowKind) (last mid : Last) (from to : ℕ) (front back : OrderedTree)
+    → Shows ns (take (place_at ns from) (row_of ns from)) front → StretchAlone o kind last front mid
+    → Shows ns (siblings_after ns to) back → RowAlone o kind mid back
     → due_between ns from to ≡ None

@@ -16,7 +16,12 @@ commas_told_by ns c n = if is_property (content_at ns c) then n else c
 -- the layout for what replaces the child n of c: the indents and the lines' ends at c
 abbrev pub layout_for : List Node → ℕ → ℕ → Layout
 layout_for ns c n =
-    record { current = (indents_at ns c).current; single = (indents_at ns c).single; trailing_commas = uses_trailing_commas_at ns (commas_told_by ns c n); newline = newline_kind_at ns c }
+    record {
+      current = (indents_at ns c).current;
+      single = (indents_at ns c).single;
+      trailing_commas = uses_trailing_commas_at ns (commas_told_by ns c n);
+      newline = newline_kind_at ns c;
+    }
 
 -- the child n has given way to m, which is the value, laid out as the old nodes tell
 abbrev pub IsReplaced : List Node → List Node → ℕ → Plain → ℕ → Type 0

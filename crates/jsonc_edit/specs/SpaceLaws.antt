@@ -13,7 +13,8 @@ use Rattle.jsonc_edit.specs.Put.{StandsBefore, AreSpaced}
 -- before an element of the document, behind another child, the space has come into the document, and nothing else has
 abbrev pub PutsSpace : List Node → List Node → ℕ → ℕ → Type 0
 PutsSpace old new n space =
-    IsTree old → StandsBefore old new n space → IsOver old 0 n → IsElement (content_at old n) → 0 < place_at old n → SpacePut (ordered_tree old 0) (ordered_tree new 0)
+    IsTree old → StandsBefore old new n space → IsOver old 0 n → IsElement (content_at old n) → 0 < place_at old n
+    → SpacePut (ordered_tree old 0) (ordered_tree new 0)
 
 -- each node has the elements that it had
 abbrev pub KeepsElements : List Node → List Node → ℕ → ℕ → Type 0
@@ -22,4 +23,5 @@ KeepsElements old new n space = IsTree old → StandsBefore old new n space → 
 -- where the spaces have come that are due around n, none is due any more
 abbrev pub NoneDueAround : List Node → List Node → ℕ → Content → Type 0
 NoneDueAround old new n content =
-    IsTree old → AreSpaced old (due_around old n content) new → IsTrue (is_bare content) → (ends_bare new (seen_before new n) ≡ false) × (begins_bare new (seen_behind new n) ≡ false)
+    IsTree old → AreSpaced old (due_around old n content) new → IsTrue (is_bare content)
+    → (ends_bare new (seen_before new n) ≡ false) × (begins_bare new (seen_behind new n) ≡ false)

@@ -10,9 +10,13 @@ node content parent children = record { content = content; parent = parent; chil
 -- the array `[1,2]`, which is node 6, and its leaves
 abbrev pub array_nodes : List Node
 array_nodes =
-    node array (Some 3) (7 ∷ 8 ∷ 9 ∷ 10 ∷ 11 ∷ []) ∷ node (token 0x5B) (Some 6) [] ∷ node (number (codes "1")) (Some 6) [] ∷ node (token 0x2C) (Some 6) [] ∷ node (number (codes "2")) (Some 6) [] ∷ node (token 0x5D) (Some 6) [] ∷ []
+    node array (Some 3) (7 ∷ 8 ∷ 9 ∷ 10 ∷ 11 ∷ []) ∷ node (token 0x5B) (Some 6) []
+    ∷ node (number (codes "1")) (Some 6) [] ∷ node (token 0x2C) (Some 6) [] ∷ node (number (codes "2")) (Some 6) []
+    ∷ node (token 0x5D) (Some 6) [] ∷ []
 
 -- the whole
 abbrev pub worked_nodes : List Node
 worked_nodes =
-    node root None (1 ∷ []) ∷ node object (Some 0) (2 ∷ 3 ∷ 12 ∷ []) ∷ node (token 0x7B) (Some 1) [] ∷ node property (Some 1) (4 ∷ 5 ∷ 6 ∷ []) ∷ node (word (codes "a")) (Some 3) [] ∷ node (token 0x3A) (Some 3) [] ∷ (array_nodes ++ node (token 0x7D) (Some 1) [] ∷ [])
+    node root None (1 ∷ []) ∷ node object (Some 0) (2 ∷ 3 ∷ 12 ∷ []) ∷ node (token 0x7B) (Some 1) []
+    ∷ node property (Some 1) (4 ∷ 5 ∷ 6 ∷ []) ∷ node (word (codes "a")) (Some 3) [] ∷ node (token 0x3A) (Some 3) []
+    ∷ (array_nodes ++ node (token 0x7D) (Some 1) [] ∷ [])

@@ -84,7 +84,8 @@ fn removed_from<A: Allocator>(tree: &Tree<A>, container: usize, comment: usize) 
 // The first node that leaves with a comment.
 fn first_removed<A: Allocator>(tree: &Tree<A>, container: usize, comment: usize) -> usize
     requires { parent_at tree.now.nodes comment ≡ Some container }
-    ensures first { result ≡ slice_index (children_at tree.now.nodes container) (removed_from tree.now.nodes container comment) }
+    ensures first { result
+        ≡ slice_index (children_at tree.now.nodes container) (removed_from tree.now.nodes container comment) }
     ensures there { result < length tree.now.nodes }
 {
     let _ = tree.len();

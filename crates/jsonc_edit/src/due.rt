@@ -61,7 +61,7 @@ fn beginning_of<A: Allocator>(tree: &Tree<A>, node: usize) -> Option<usize>
 {
     let _ = tree.len();
     match tree.kind(node) {
-        Kind::Property => tree.first_child(node),
+        Kind::Property(_) => tree.first_child(node),
         _ => Some(node),
     }
 }
@@ -74,7 +74,7 @@ fn end_of<A: Allocator>(tree: &Tree<A>, node: usize) -> Option<usize>
 {
     let _ = tree.len();
     match tree.kind(node) {
-        Kind::Property => tree.last_child(node),
+        Kind::Property(_) => tree.last_child(node),
         _ => Some(node),
     }
 }
@@ -139,7 +139,7 @@ fn behind_property<A: Allocator>(tree: &Tree<A>, node: usize) -> Option<usize>
     let _ = tree.len();
     let container = tree.parent(node)?;
     match tree.kind(container) {
-        Kind::Property => nearest_behind(tree, container),
+        Kind::Property(_) => nearest_behind(tree, container),
         _ => None,
     }
 }

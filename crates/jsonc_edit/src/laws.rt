@@ -83,7 +83,8 @@ pub fn documents_stay_sound()
 /// Where a value of a document gives way to another, so does its plain value at the same path, and
 /// nothing else does.
 pub fn documents_have_changed_values()
-    ensures { (o : Options) (old new : List Node) (path : List ℕ) (n : ℕ) (x : Plain) → ChangesValueAt o old new path n x }
+    ensures { (o : Options) (old new : List Node) (path : List ℕ) (n : ℕ) (x : Plain)
+        → ChangesValueAt o old new path n x }
 {}
 
 /// What a value is laid out as is a whole value, which may stand in a document where another stood,
@@ -125,8 +126,10 @@ pub fn documents_have_one_value()
 /// document's value is what it was, but that at the path the new value stands. It is so under all
 /// options.
 pub fn replaced_values_change_the_document()
-    ensures laid_out { (o : Options) (old new : List Node) (n m : ℕ) (l : Layout) (v : Plain) → ChangesValueLaidOut o old new n m l v }
-    ensures replaced { (o : Options) (old new : List Node) (n m : ℕ) (v : Plain) → ChangesValueReplaced o old new n m v }
+    ensures laid_out { (o : Options) (old new : List Node) (n m : ℕ) (l : Layout) (v : Plain)
+        → ChangesValueLaidOut o old new n m l v }
+    ensures replaced { (o : Options) (old new : List Node) (n m : ℕ) (v : Plain)
+        → ChangesValueReplaced o old new n m v }
 {}
 
 /// The node that a value is laid out as, by `replace` or `replace_with`, stands at the path of the node
@@ -141,7 +144,8 @@ pub fn replaced_values_take_the_path()
 /// stands. Spaces have come where two literals without quotes would have met; all other leaves before
 /// and after are what they were, comments among them. And the document is sound again.
 pub fn replaced_values_are_written()
-    ensures laid_out { (o : Options) (old new : List Node) (n m : ℕ) (l : Layout) (v : Plain) → WritesLaidOut o old new n m l v }
+    ensures laid_out { (o : Options) (old new : List Node) (n m : ℕ) (l : Layout) (v : Plain)
+        → WritesLaidOut o old new n m l v }
     ensures replaced { (o : Options) (old new : List Node) (n m : ℕ) (v : Plain) → WritesReplaced o old new n m v }
 {}
 

@@ -26,7 +26,7 @@ fn held_by<A: Allocator>(tree: &Tree<A>, property: usize) -> Option<usize>
     ensures there { IsThere tree.now.nodes result }
 {
     match tree.kind(property) {
-        Kind::Property => if_same(element_at(tree, property, 1), value_of(tree, property)),
+        Kind::Property(_) => if_same(element_at(tree, property, 1), value_of(tree, property)),
         _ => None,
     }
 }
@@ -38,8 +38,8 @@ fn step<A: Allocator>(tree: &Tree<A>, value: usize, place: usize) -> Option<usiz
     ensures there { IsThere tree.now.nodes result }
 {
     match tree.kind(value) {
-        Kind::Array => element_at(tree, value, place),
-        Kind::Object => held_by(tree, element_at(tree, value, place)?),
+        Kind::Array(_) => element_at(tree, value, place),
+        Kind::Object(_) => held_by(tree, element_at(tree, value, place)?),
         _ => None,
     }
 }

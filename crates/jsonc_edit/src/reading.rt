@@ -15,7 +15,7 @@ fn commas_told_by<A: Allocator>(tree: &Tree<A>, container: usize, node: usize) -
     ensures { result ≡ commas_told_by tree.now.nodes container node }
 {
     match tree.kind(container) {
-        Kind::Property => node,
+        Kind::Property(_) => node,
         _ => container,
     }
 }

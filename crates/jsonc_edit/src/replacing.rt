@@ -28,8 +28,10 @@ use std::alloc::{AllocError, Allocator};
 /// Puts a node that is nobody's child in the place of a child. No memory is wanted.
 pub fn put_in_place<A: Allocator>(tree: &mut Tree<A>, container: usize, node: usize, new: usize)
     requires child { parent_at tree.old.nodes node ≡ Some container }
-    requires join { CanJoin tree.old.nodes container (place_at tree.old.nodes node) (place_at tree.old.nodes node + 1) (new ∷ []) }
-    ensures put { Splices tree.old.nodes tree.new.nodes container (place_at tree.old.nodes node) (place_at tree.old.nodes node + 1) (new ∷ []) }
+    requires join { CanJoin tree.old.nodes container (place_at tree.old.nodes node)
+        (place_at tree.old.nodes node + 1) (new ∷ []) }
+    ensures put { Splices tree.old.nodes tree.new.nodes container (place_at tree.old.nodes node)
+        (place_at tree.old.nodes node + 1) (new ∷ []) }
     ensures tree { IsTree tree.new.nodes }
 {
     let _ = tree.len();
@@ -48,7 +50,10 @@ fn spaces_for<A: Allocator + Copy>(
     behind: Option<usize>,
 ) -> Result<Spaces, AllocError>
     requires { new < length tree.old.nodes }
-    ensures hand { IfOk result (λ s. AreAtHand tree.new.nodes (if is_bare (content_at tree.old.nodes new) then listed before ++ listed behind else []) s) }
+    ensures hand { IfOk result
+        (λ s. AreAtHand tree.new.nodes
+        (if is_bare (content_at tree.old.nodes new) then listed before
+        ++ listed behind else []) s) }
     ensures prepared { Prepared tree.old.nodes tree.new.nodes }
 {
     let _ = tree.len();
@@ -71,7 +76,9 @@ pub fn replace_with<A: Allocator + Copy>(
     layout: &Layout<A>,
 ) -> Result<Option<usize>, EditError>
     requires { node < length tree.old.nodes }
-    ensures replaced { IfOk result (λ o. IfSome o (λ m. GivesWay tree.old.nodes tree.new.nodes node m (laid (layout_of layout.now) (plain value.now)))) }
+    ensures replaced { IfOk result
+        (λ o. IfSome o (λ m. GivesWay tree.old.nodes tree.new.nodes node m
+        (laid (layout_of layout.now) (plain value.now)))) }
     ensures none { IfOk result (λ o. IfNone o (parent_at tree.old.nodes node ≡ None)) }
     ensures untouched { IfOk result (λ o. IfNone o (tree.new.nodes ≡ tree.old.nodes)) }
     ensures memory { IfErr result (λ e. e ≡ EditError.OutOfMemory) }
@@ -110,7 +117,8 @@ pub fn replace<A: Allocator + Copy>(
 ) -> Result<Option<usize>, EditError>
     requires { node < length tree.old.nodes }
     ensures replaced { IfOk result (λ o. IfSome o (IsReplaced tree.old.nodes tree.new.nodes node (plain value.now))) }
-    ensures written { (p : Options) → IfOk result (λ o. IfSome o (λ m. Writes p tree.old.nodes tree.new.nodes node m (plain value.now))) }
+    ensures written { (p : Options)
+        → IfOk result (λ o. IfSome o (λ m. Writes p tree.old.nodes tree.new.nodes node m (plain value.now))) }
     ensures none { IfOk result (λ o. IfNone o (parent_at tree.old.nodes node ≡ None)) }
     ensures untouched { IfOk result (λ o. IfNone o (tree.new.nodes ≡ tree.old.nodes)) }
     ensures memory { IfErr result (λ e. e ≡ EditError.OutOfMemory) }
@@ -136,7 +144,9 @@ fn replace_raw<A: Allocator + Copy>(
     layout: &Layout<A>,
 ) -> Result<usize, EditError>
     requires { parent_at tree.old.nodes node ≡ Some container }
-    ensures replaced { IfOk result (λ m. GivesWayRaw tree.old.nodes tree.new.nodes node m (laid (layout_of layout.now) (plain value.now))) }
+    ensures replaced { IfOk result
+        (λ m. GivesWayRaw tree.old.nodes tree.new.nodes node m
+        (laid (layout_of layout.now) (plain value.now))) }
     ensures memory { IfErr result (λ e. e ≡ EditError.OutOfMemory) }
     ensures kept { OnErr result (Keeps (length tree.old.nodes) tree.old.nodes tree.new.nodes) }
     ensures document { OnErr result (ordered_tree tree.new.nodes 0 ≡ ordered_tree tree.old.nodes 0) }
@@ -161,7 +171,8 @@ pub fn replace_name<A: Allocator + Copy>(
     value: &CstInputValue<A>,
 ) -> Result<Option<usize>, EditError>
     requires { node < length tree.old.nodes }
-    ensures replaced { IfOk result (λ o. IfSome o (IsReplacedRaw tree.old.nodes tree.new.nodes node (plain value.now))) }
+    ensures replaced { IfOk result
+        (λ o. IfSome o (IsReplacedRaw tree.old.nodes tree.new.nodes node (plain value.now))) }
     ensures none { IfOk result (λ o. IfNone o (parent_at tree.old.nodes node ≡ None)) }
     ensures untouched { IfOk result (λ o. IfNone o (tree.new.nodes ≡ tree.old.nodes)) }
     ensures memory { IfErr result (λ e. e ≡ EditError.OutOfMemory) }

@@ -12,7 +12,8 @@ pub record IsInputOf (o : Options) (bytes : List ℕ) : Type 0 where
 abbrev pub IsInput : List ℕ → Type 0
 IsInput = IsInputOf all_on
 
--- the fault is told of a place in the bytes, but for want of memory their text is no document of the options within the nesting, and what the fault tells of the text is what a parse tells of it
+-- the fault is told of a place in the bytes, but for want of memory their text is no document of the options within the
+-- nesting, and what the fault tells of the text is what a parse tells of it
 pub record IsRefusalOf (o : Options) (bytes : List ℕ) (e : ParseError) : Type 0 where
   pub fault : IsFault bytes e
   pub refused : RefusesText o bytes e

@@ -16,6 +16,12 @@ abbrev pub IsOutputWithout : {A : Type 0} → Options → List ℕ → List ℕ 
 IsOutputWithout o name input None = ⊥
 IsOutputWithout o name input (Some text) = IsWithoutFirst o name input (string_bytes text)
 
+-- so the document of these bytes prints, as a command leaves it
+abbrev pub IsLeft : Options → Command → List ℕ → List ℕ → Type 0
+IsLeft o Check input text = text ≡ input
+IsLeft o Print input text = text ≡ input
+IsLeft o (Remove name) input text = IsWithoutFirst o (chars name.now) input text
+
 -- what is written for a command, of these bytes of input
 abbrev pub IsWritten : {A : Type 0} → Options → Command → List ℕ → Option (String A) → Type 0
 IsWritten o Check input output = output ≡ None

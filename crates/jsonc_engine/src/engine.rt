@@ -6,7 +6,7 @@ ghost use Rattle.jsonc_engine.specs.Calls.{one_more};
 ghost use Rattle.jsonc_engine.specs.Command.{Name};
 ghost use Rattle.jsonc_engine.specs.Fault.{EndsRun, IsFaultOn};
 ghost use Rattle.jsonc_engine.specs.Input.{IsInput, IsInputOf, IsRefusal};
-ghost use Rattle.jsonc_engine.specs.Output.{IsOutput, IsWritten, PutsWithout};
+ghost use Rattle.jsonc_engine.specs.Output.{IsLeft, IsOutput, IsWritten, PutsWithout};
 ghost use Rattle.jsonc_engine.specs.Removal.{IsNoObject};
 ghost use Rattle.jsonc_engine.specs.Parser.{ParseError, all_on, parse_options, printed_of};
 
@@ -52,17 +52,22 @@ fn read_whole<A: Allocator + Copy, S: Source>(alloc: A, source: &mut S) -> Resul
     Err(Fault::Edit(EditError::OutOfMemory))
 }
 
-/// Writes all the bytes, and sees that they have left.
-fn write_whole<K: Sink>(sink: &mut K, bytes: &[u8]) -> Result<(), Fault>
-    ensures written { OnOk result (Appends (K.contents sink.old) (K.contents sink.new) bytes.now) }
+/// Writes the document piece by piece, and sees that it has left.
+fn write_document<A: Allocator, K: Sink>(
+    sink: &mut K,
+    document: &CstRootNode<A>,
+) -> Result<(), Fault>
+    ensures written { OnOk result (Appends (K.contents sink.old) (K.contents sink.new) (printed_of document.now)) }
     ensures flushed { OnOk result (K.is_flushed sink.new) }
     ensures kept { OnOk result (K.failed_writes sink.new ≡ K.failed_writes sink.old) }
     ensures cause { OnErr result (IsErrOf result Fault.Write) }
     ensures failed { OnErr result (K.failed_writes sink.new ≡ one_more (K.failed_writes sink.old)) }
 {
-    let Ok(()) = sink.write(bytes) else {
-        return Err(Fault::Write);
-    };
+    for piece in document.pieces() {
+        let Ok(()) = sink.write(piece) else {
+            return Err(Fault::Write);
+        };
+    }
     let Ok(()) = sink.flush() else {
         return Err(Fault::Write);
     };
@@ -77,6 +82,39 @@ fn text_of<A: Allocator + Copy>(document: &CstRootNode<A>) -> Result<Option<Stri
     match document.text() {
         Ok(output) => Ok(Some(output)),
         Err(_) => Err(Fault::Edit(EditError::OutOfMemory)),
+    }
+}
+
+/// The document of the input's bytes, as the command leaves it, given what their text may hold beyond JSON.
+///
+/// The bytes may be refused as `Fault::NotUtf8` or `Fault::Input`, and what the command changes as its page says.
+fn document_after<A: Allocator + Copy>(
+    alloc: A,
+    options: &ParseOptions,
+    command: Command,
+    input: &[u8],
+) -> Result<CstRootNode<A>, Fault>
+    ensures left { IfOk result (λ document.
+        IsLeft (parse_options options.now) command.entry input.now (printed_of document)) }
+    ensures accepted { OnOk result (IsInputOf (parse_options options.now) input.now) }
+    ensures not_utf8 { IsErrOf result Fault.NotUtf8 ↔ ¬ (IsUtf8 input.now) }
+    ensures no_object { IsErrOf result Fault.NotObject → IsNoObject (parse_options options.now) input.now }
+    ensures refused { IfErr result (IsFaultOn (parse_options options.now) input.now) }
+{
+    let Ok(text) = str::from_utf8(input) else {
+        return Err(Fault::NotUtf8);
+    };
+    let mut document = match CstRootNode::parse(alloc, text, options) {
+        Ok(document) => document,
+        Err(error) => return Err(Fault::Input(error)),
+    };
+    match command {
+        Command::Check => Ok(document),
+        Command::Print => Ok(document),
+        Command::Remove(name) => match remove_property(&mut document, name) {
+            Ok(()) => Ok(document),
+            Err(fault) => Err(fault),
+        },
     }
 }
 
@@ -96,20 +134,14 @@ pub fn run_with<A: Allocator + Copy>(
     ensures no_object { IsErrOf result Fault.NotObject → IsNoObject (parse_options options.now) input.now }
     ensures refused { IfErr result (IsFaultOn (parse_options options.now) input.now) }
 {
-    let Ok(text) = str::from_utf8(input) else {
-        return Err(Fault::NotUtf8);
-    };
-    let mut document = match CstRootNode::parse(alloc, text, options) {
+    let document = match document_after(alloc, options, command, input) {
         Ok(document) => document,
-        Err(error) => return Err(Fault::Input(error)),
+        Err(fault) => return Err(fault),
     };
     match command {
         Command::Check => Ok(None),
         Command::Print => text_of(&document),
-        Command::Remove(name) => match remove_property(&mut document, name) {
-            Ok(()) => text_of(&document),
-            Err(fault) => Err(fault),
-        },
+        Command::Remove(_) => text_of(&document),
     }
 }
 
@@ -131,7 +163,7 @@ pub fn run_on<A: Allocator + Copy>(
 /// Does what the words ask: reads the source to its end, and writes what the command makes of it to the sink.
 ///
 /// Words that name no command are `Fault::Usage`, failed calls `Fault::Read` and `Fault::Write`; else the faults
-/// are those of `run_on`.
+/// are those of `run_on`. The document is written piece by piece, which wants no memory.
 pub fn engine<A: Allocator + Copy, S: Source, K: Sink>(
     alloc: A,
     words: &[&str],
@@ -178,9 +210,13 @@ pub fn engine<A: Allocator + Copy, S: Source, K: Sink>(
         return Err(Fault::Usage);
     };
     let input = read_whole(alloc, source)?;
-    match run_on(alloc, command, input.as_slice()) {
-        Ok(Some(output)) => write_whole(sink, output.as_bytes()),
-        Ok(None) => Ok(()),
-        Err(fault) => Err(fault),
+    let document = match document_after(alloc, &ParseOptions::default(), command, input.as_slice()) {
+        Ok(document) => document,
+        Err(fault) => return Err(fault),
+    };
+    match command {
+        Command::Check => Ok(()),
+        Command::Print => write_document(sink, &document),
+        Command::Remove(_) => write_document(sink, &document),
     }
 }

@@ -1,5 +1,5 @@
 -- A node that stands alone is built on, step by step.
-use Rattle.std.proofs.Common.{ℕ, List, length, Result, Ok, Err, OnOk, OnErr, IsTrue, sym, ap, subst, ◌∙◌, arith}
+use Rattle.std.proofs.Common.{ℕ, ◌≡◌, List, length, Result, Ok, Err, OnOk, OnErr, IsTrue, sym, ap, subst, ◌∙◌, arith}
 use Rattle.jsonc_tree.specs.Content.{Content, is_container}
 use Rattle.jsonc_tree.specs.Tree.{Node, IsTree}
 use Rattle.jsonc_tree.specs.Changes.{Appends, CanAppend, MakesRoom, Pushes}
@@ -94,3 +94,10 @@ keeps_attached (Err e) u part appends room = keeps_more_room u part.keeps room
 -- a container that was begun with a leaf, then a row, then a last leaf
 pub built_on : {a b d : List Node} {n : ℕ} {content : Content} {below row : OrderedTree} → Builds a b n content below → Extends b d n row → Builds a d n content (followed_by below row)
 built_on {a} {content = content} {below = below} built extends = extends.builds a content below built
+
+-- what a row has more, or a node begins with, is a leaf of the same content
+pub extends_same : {a b : List Node} {c : ℕ} {x y : Content} → x ≡ y → Extends a b c (more x none none) → Extends a b c (more y none none)
+extends_same {a} {b} {c} same extends = subst (λ x. Extends a b c (more x none none)) same extends
+
+pub begun_same : {a b : List Node} {n : ℕ} {content x y : Content} → x ≡ y → Builds a b n content (more x none none) → Builds a b n content (more y none none)
+begun_same {a} {b} {n} {content} same built = subst (λ x. Builds a b n content (more x none none)) same built

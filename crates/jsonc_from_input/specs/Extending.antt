@@ -15,7 +15,8 @@ pub record IsUnfinished (ns : List Node) (container : ℕ) : Type 0 where
 -- the container still is one, and what was built of it is so with this row after it
 pub record Extends (old new : List Node) (container : ℕ) (row : OrderedTree) : Type 0 where
   pub unfinished : IsUnfinished new container
-  pub builds : (first : List Node) (content : Content) (below : OrderedTree) → Builds first old container content below → Builds first new container content (followed_by below row)
+  pub builds : (first : List Node) (content : Content) (below : OrderedTree) → Builds first old container content below
+      → Builds first new container content (followed_by below row)
 
 -- this node is built
 abbrev pub BuildsNode : List Node → List Node → ℕ → Top → Type 0

@@ -97,8 +97,18 @@ abbrev mutual
   laid layout (Plain.boolean b) = leaf (Content.boolean b)
   laid layout (Plain.number s) = leaf (number_leaf s)
   laid layout (Plain.string s) = leaf (string_leaf s)
-  laid layout (Plain.array vs) = record { content = Content.array; below = leaf_then (token 0x5B) (if holds_filled vs then spread layout (laid_items (deeper layout) vs) (closed 0x5D) else on_one_line (laid_items layout vs) (closed 0x5D)) }
-  laid layout (Plain.object ms) = record { content = Content.object; below = leaf_then (token 0x7B) (spread layout (laid_members (deeper layout) ms) (closed 0x7D)) }
+  laid layout (Plain.array vs)
+      = record {
+        content = Content.array;
+        below = leaf_then (token 0x5B)
+            (if holds_filled vs then spread layout (laid_items (deeper layout) vs) (closed 0x5D) else on_one_line
+            (laid_items layout vs) (closed 0x5D));
+      }
+  laid layout (Plain.object ms)
+      = record {
+        content = Content.object;
+        below = leaf_then (token 0x7B) (spread layout (laid_members (deeper layout) ms) (closed 0x7D));
+      }
 
   -- the nodes of elements
   pub laid_items : Layout → Items → List Top

@@ -71,7 +71,7 @@ pub(crate) fn push_spaced<A: Allocator + Copy>(
     ensures kept { KeepsBefore container tree.old tree.new }
     ensures tree { IsTree tree.new.nodes }
 {
-    push_leaf(tree, container, Kind::Token(mark))?;
+    push_leaf(tree, container, Kind::token(mark))?;
     push_blanks(alloc, tree, container, " ")
 }
 
@@ -107,7 +107,7 @@ pub(crate) fn push_comma_if<A: Allocator + Copy>(
     if !wanted {
         return Ok(());
     }
-    push_leaf(tree, container, Kind::Token(','))
+    push_leaf(tree, container, Kind::token(','))
 }
 
 // Ends a line, and begins the next one with its indent.

@@ -16,7 +16,7 @@ use crate::layout::Layout;
 use crate::lines::{begin_line, begin_node, push_comma_if, push_gap_if, push_leaf, push_spaced};
 use jsonc_input::CstInputValue;
 use jsonc_input::spelling::spell;
-use jsonc_tree::{Kind, Tree};
+use jsonc_tree::{Ends, Kind, Tree};
 use std::alloc::{AllocError, Allocator};
 
 // Makes a number's leaf.
@@ -61,7 +61,7 @@ fn begin_property<A: Allocator + Copy>(
 {
     let _ = tree.len();
     let literal = spell(alloc, name)?;
-    begin_node(tree, Kind::Property, Kind::String(literal))
+    begin_node(tree, Kind::Property(Ends::none()), Kind::String(literal))
 }
 
 // Whether an array or an object has something in it.
@@ -157,9 +157,9 @@ fn lay_out_array<A: Allocator + Copy>(
     ensures kept { KeepsAll tree.old tree.new }
     ensures tree { IsTree tree.new.nodes }
 {
-    let array = begin_node(tree, Kind::Array, Kind::Token('['))?;
+    let array = begin_node(tree, Kind::Array(Ends::none()), Kind::token('['))?;
     push_elements(alloc, tree, array, elements, layout)?;
-    push_leaf(tree, array, Kind::Token(']'))?;
+    push_leaf(tree, array, Kind::token(']'))?;
     Ok(array)
 }
 
@@ -175,9 +175,9 @@ fn lay_out_object<A: Allocator + Copy>(
     ensures kept { KeepsAll tree.old tree.new }
     ensures tree { IsTree tree.new.nodes }
 {
-    let object = begin_node(tree, Kind::Object, Kind::Token('{'))?;
+    let object = begin_node(tree, Kind::Object(Ends::none()), Kind::token('{'))?;
     push_properties(alloc, tree, object, properties, layout)?;
-    push_leaf(tree, object, Kind::Token('}'))?;
+    push_leaf(tree, object, Kind::token('}'))?;
     Ok(object)
 }
 
@@ -210,7 +210,8 @@ fn push_property<A: Allocator + Copy>(
     layout: &Layout<A>,
 ) -> Result<(), AllocError>
     requires { IsUnfinished tree.old.nodes object }
-    ensures added { OnOk result (Gains tree.old tree.new object (node_then (property_node layout.now name.now value.now))) }
+    ensures added { OnOk result
+        (Gains tree.old tree.new object (node_then (property_node layout.now name.now value.now))) }
     ensures kept { KeepsBefore object tree.old tree.new }
     ensures tree { IsTree tree.new.nodes }
 {

@@ -25,7 +25,8 @@ pub fn spell<A: Allocator>(alloc: A, text: &str) -> Result<String<A>, AllocError
 
 /// Appends what is written for a character.
 fn push_spelled<A: Allocator>(literal: &mut String<A>, character: char) -> Result<(), AllocError>
-    ensures { IfOk result (λ _. string_bytes literal.new ≡ string_bytes literal.old ++ encode_utf8_all (spelled_char character)) }
+    ensures { IfOk result (λ _. string_bytes literal.new
+        ≡ string_bytes literal.old ++ encode_utf8_all (spelled_char character)) }
 {
     if let Some(escape) = short_escape(character) {
         literal.push('\\')?;

@@ -106,7 +106,7 @@ fn push_comma_if<A: Allocator + Copy>(
     if !wanted {
         return Ok(());
     }
-    push_leaf(tree, leaves, Kind::Token(','))
+    push_leaf(tree, leaves, Kind::token(','))
 }
 
 // Makes a comma, where one is wanted.

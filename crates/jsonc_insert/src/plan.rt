@@ -44,7 +44,7 @@ fn is_comma_kind<A: Allocator>(kind: &Kind<A>) -> bool
     ensures { result ≡ is_comma (content_of kind.now) }
 {
     match kind {
-        Kind::Token(c) => *c == ',',
+        Kind::Token(c) => c.get() == ',',
         _ => false,
     }
 }

@@ -62,7 +62,7 @@ fn ends_line_still<A: Allocator>(
 fn holds_values<A: Allocator>(kind: &Kind<A>) -> bool
     ensures { result ≡ holds_values (content_of kind.now) }
 {
-    matches!(kind, Kind::Array | Kind::Object)
+    matches!(kind, Kind::Array(_) | Kind::Object(_))
 }
 
 // Whether a node has whitespace among its children.

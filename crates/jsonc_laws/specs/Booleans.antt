@@ -32,4 +32,5 @@ boolean_leaf b = record { content = Content.boolean b; below = none }
 -- a sound document stays sound
 abbrev pub StaysSoundWithBoolean : Options → OrderedTree → Type 0
 StaysSoundWithBoolean o t = Sound o t → (was now : Bool) (path : List ℕ) (u : OrderedTree) → DocumentChanged (boolean_leaf was) (boolean_leaf now) path t u
-    → (d : DiffersIn (leaves_of (boolean_leaf was)) (leaves_of (boolean_leaf now)) (leaves t) (leaves u)) → (now ≡ false → is_hex_leaf (last_printed d.front) ≡ false) → Sound o u
+    → (d : DiffersIn (leaves_of (boolean_leaf was)) (leaves_of (boolean_leaf now)) (leaves t) (leaves u))
+    → (now ≡ false → is_hex_leaf (last_printed d.front) ≡ false) → Sound o u

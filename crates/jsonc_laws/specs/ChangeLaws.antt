@@ -26,7 +26,8 @@ HasChangedValue o was path u x v = (old y : Plain) × HasValue o was old × Chan
 
 -- where a node of the document, if this has the value x, gives way to one of value v, so does its value
 abbrev pub ChangesValue : Options → OrderedTree → Plain → Type 0
-ChangesValue o t x = DocumentValueOf o t (Some x) → (was now : Top) (path : List ℕ) (u : OrderedTree) (v : Plain) → DocumentChanged was now path t u → HasValue o now v → HasChangedValue o was path u x v
+ChangesValue o t x = DocumentValueOf o t (Some x) → (was now : Top) (path : List ℕ) (u : OrderedTree) (v : Plain)
+    → DocumentChanged was now path t u → HasValue o now v → HasChangedValue o was path u x v
 
 -- the leaves y are the leaves x, but that a stretch of them has given way to another
 pub record DiffersIn (was now x y : List Content) : Type 0 where
@@ -37,4 +38,5 @@ pub record DiffersIn (was now x y : List Content) : Type 0 where
 
 -- where a node of the document gives way to another, its leaves give way to those of the other
 abbrev pub KeepsLeavesAround : OrderedTree → Type 0
-KeepsLeavesAround t = (was now : Top) (path : List ℕ) (u : OrderedTree) → DocumentChanged was now path t u → DiffersIn (leaves_of was) (leaves_of now) (leaves t) (leaves u)
+KeepsLeavesAround t = (was now : Top) (path : List ℕ) (u : OrderedTree) → DocumentChanged was now path t u
+    → DiffersIn (leaves_of was) (leaves_of now) (leaves t) (leaves u)

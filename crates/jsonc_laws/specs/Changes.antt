@@ -10,10 +10,13 @@ pub data ItemChanged (was now : Plain) : ℕ → Items → Items → Type 0 wher
 -- the second list is the first, but that the value of the property at this place has given way to another
 pub data MemberChanged (was now : Plain) : ℕ → Members → Members → Type 0 where
   this_member : {name : List ℕ} {ms : Members} → MemberChanged was now 0 (member name was ms) (member name now ms)
-  later_member : {i : ℕ} {name : List ℕ} {v : Plain} {ms ns : Members} → MemberChanged was now i ms ns → MemberChanged was now (suc i) (member name v ms) (member name v ns)
+  later_member : {i : ℕ} {name : List ℕ} {v : Plain} {ms ns : Members} → MemberChanged was now i ms ns
+      → MemberChanged was now (suc i) (member name v ms) (member name v ns)
 
 -- the second value is the first, but that the value at the path has given way to another
 pub data Changed (was now : Plain) : List ℕ → Plain → Plain → Type 0 where
   itself : Changed was now [] was now
-  in_array : {i : ℕ} {path : List ℕ} {x y : Plain} {vs ws : Items} → ItemChanged x y i vs ws → Changed was now path x y → Changed was now (i ∷ path) (array vs) (array ws)
-  in_object : {i : ℕ} {path : List ℕ} {x y : Plain} {ms ns : Members} → MemberChanged x y i ms ns → Changed was now path x y → Changed was now (i ∷ path) (object ms) (object ns)
+  in_array : {i : ℕ} {path : List ℕ} {x y : Plain} {vs ws : Items} → ItemChanged x y i vs ws → Changed was now path x y
+      → Changed was now (i ∷ path) (array vs) (array ws)
+  in_object : {i : ℕ} {path : List ℕ} {x y : Plain} {ms ns : Members} → MemberChanged x y i ms ns
+      → Changed was now path x y → Changed was now (i ∷ path) (object ms) (object ns)

@@ -23,7 +23,8 @@ abbrev pub begins_in_line_end : List Content → Bool
 begins_in_line_end [] = false
 begins_in_line_end (content ∷ rest) = is_newline content
 
--- the second row is the first, of trivia alone, but that somewhere in it the value has come, with ends of lines before and behind it: it stands behind no comment, and a line ends behind it
+-- the second row is the first, of trivia alone, but that somewhere in it the value has come, with ends of lines before
+-- and behind it: it stands behind no comment, and a line ends behind it
 pub data ValueComes (top : Top) : OrderedTree → OrderedTree → Type 0 where
   value_comes : (front back before behind : List Content) → AreTrivia front → AreTrivia back → AreLineEnds before → AreLineEnds behind
       → IsTrue (not (ends_in_comment (front ++ before))) → IsTrue (begins_in_line_end (behind ++ back))

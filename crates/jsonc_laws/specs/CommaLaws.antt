@@ -12,11 +12,13 @@ use Rattle.jsonc_laws.specs.Spaces.{meet}
 
 -- where commas may not be missing, no two literals without quotes meet in a row
 abbrev pub NoneMeetInRows : Options → RowKind → OrderedTree → OrderedTree → Type 0
-NoneMeetInRows o kind stretch rest = (last mid : Last) → StretchAlone o kind last stretch mid → RowAlone o kind mid rest → meet (leaves stretch) (leaves rest) ≡ false
+NoneMeetInRows o kind stretch rest = (last mid : Last) → StretchAlone o kind last stretch mid → RowAlone o kind mid rest
+    → meet (leaves stretch) (leaves rest) ≡ false
 
 -- two stretches whose leaves end make one whose leaves end, where no two literals without quotes meet
 abbrev pub StretchesJoin : Options → RowKind → OrderedTree → OrderedTree → Type 0
-StretchesJoin o kind first second = (last mid other to : Last) → StretchAlone o kind last first mid → StretchAlone o kind other second to → LeavesEnd o (leaves first) None → LeavesEnd o (leaves second) None
+StretchesJoin o kind first second = (last mid other to : Last) → StretchAlone o kind last first mid
+    → StretchAlone o kind other second to → LeavesEnd o (leaves first) None → LeavesEnd o (leaves second) None
     → meet (leaves first) (leaves second) ≡ false → LeavesEnd o (leaves (followed_by first second)) None
 
 -- a whole value is one alone whose leaves end, and so with a property

@@ -40,16 +40,25 @@ element_count (more content below after) = if is_element content then suc (eleme
 abbrev pub among : List Content → Top → List Content → OrderedTree → OrderedTree
 among before top behind row = leaves_then before (more top.content top.below (leaves_then behind row))
 
--- The second row is the first without its element of this number, `top`. With it go whitespace and comments directly before it, trivia directly behind it, and one comma: the
--- one behind it with what stands between, or where none comes there, the nearest one before it, if there is one. And no two literals without quotes meet where these have left.
+-- The second row is the first without its element of this number, `top`. With it go whitespace and comments directly
+-- before it, trivia directly behind it, and one comma: the one behind it with what stands between, or where none comes
+-- there, the nearest one before it, if there is one. And no two literals without quotes meet where these have left.
 pub data ElementLeaves (top : Top) : ℕ → OrderedTree → OrderedTree → Type 0 where
-  with_comma_behind : (front back : OrderedTree) (before between line : List Content) → IsTrue (ends_apart front) → AreBeside before → AreTrivia between → AreTrivia line
+  with_comma_behind : (front back : OrderedTree) (before between line : List Content) → IsTrue (ends_apart front)
+      → AreBeside before → AreTrivia between → AreTrivia line
       → meet (leaves front) (leaves back) ≡ false
-      → ElementLeaves top (element_count front) (followed_by front (among before top between (token_then 0x2C (leaves_then line back)))) (followed_by front back)
-  with_comma_before : (front mid back : OrderedTree) (before line : List Content) → IsTrue (ends_apart (token_then 0x2C mid)) → IsTrue (has_no_comma mid) → AreBeside before → AreTrivia line → IsTrue (not (comma_comes back))
+      → ElementLeaves top (element_count front)
+      (followed_by front (among before top between (token_then 0x2C (leaves_then line back))))
+      (followed_by front back)
+  with_comma_before : (front mid back : OrderedTree) (before line : List Content)
+      → IsTrue (ends_apart (token_then 0x2C mid)) → IsTrue (has_no_comma mid) → AreBeside before → AreTrivia line
+      → IsTrue (not (comma_comes back))
       → meet (leaves front) (leaves (followed_by mid back)) ≡ false → meet (leaves mid) (leaves back) ≡ false
-      → ElementLeaves top (element_count front + element_count mid) (followed_by front (token_then 0x2C (followed_by mid (among before top line back)))) (followed_by front (followed_by mid back))
-  with_no_comma : (front back : OrderedTree) (before line : List Content) → IsTrue (ends_apart front) → IsTrue (has_no_comma front) → AreBeside before → AreTrivia line → IsTrue (not (comma_comes back))
+      → ElementLeaves top (element_count front + element_count mid)
+      (followed_by front (token_then 0x2C (followed_by mid (among before top line back))))
+      (followed_by front (followed_by mid back))
+  with_no_comma : (front back : OrderedTree) (before line : List Content) → IsTrue (ends_apart front)
+      → IsTrue (has_no_comma front) → AreBeside before → AreTrivia line → IsTrue (not (comma_comes back))
       → meet (leaves front) (leaves back) ≡ false
       → ElementLeaves top (element_count front) (followed_by front (among before top line back)) (followed_by front back)
 

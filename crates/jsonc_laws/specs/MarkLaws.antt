@@ -46,7 +46,9 @@ MarksJoin first second = marks_of (first ++ second) ≡ marks_of first ++ marks_
 
 -- where a stretch of leaves gives way to another, its marks give way to those of the other, and before and behind them stand the marks of the leaves there
 abbrev pub MarksGiveWay : List Content → List Content → List Content → List Content → Type 0
-MarksGiveWay was now x y = (d : DiffersIn was now x y) → (m : MarksDifferIn (marks_of was) (marks_of now) (marks_of x) (marks_of y)) × (m.front ≡ marks_of d.front) × (m.back ≡ marks_of d.back)
+MarksGiveWay was now x y = (d : DiffersIn was now x y)
+    → (m : MarksDifferIn (marks_of was) (marks_of now) (marks_of x) (marks_of y)) × (m.front ≡ marks_of d.front)
+    × (m.back ≡ marks_of d.back)
 
 -- so it is with what two sound trees print
 abbrev pub PrintedMarksGiveWay : Options → OrderedTree → OrderedTree → Type 0
@@ -55,11 +57,13 @@ PrintedMarksGiveWay o t u = SoundTree o t → SoundTree o u → (was now : List 
 
 -- where a value of a document gives way to another, its marks do
 abbrev pub ValuesMarksGiveWay : OrderedTree → Type 0
-ValuesMarksGiveWay t = (was now : Top) (path : List ℕ) (u : OrderedTree) → DocumentChanged was now path t u → MarksDifferIn (marks_under was) (marks_under now) (marks t) (marks u)
+ValuesMarksGiveWay t = (was now : Top) (path : List ℕ) (u : OrderedTree) → DocumentChanged was now path t u
+    → MarksDifferIn (marks_under was) (marks_under now) (marks t) (marks u)
 
 -- and where trivia gives way to trivia, its marks do
 abbrev pub TriviasMarksGiveWay : OrderedTree → Type 0
-TriviasMarksGiveWay t = (was now : List Content) (u : OrderedTree) → StretchChanged was now t u → AreTrivia was → AreTrivia now → MarksDifferIn (marks_of was) (marks_of now) (marks t) (marks u)
+TriviasMarksGiveWay t = (was now : List Content) (u : OrderedTree) → StretchChanged was now t u → AreTrivia was
+    → AreTrivia now → MarksDifferIn (marks_of was) (marks_of now) (marks t) (marks u)
 
 -- all marks of trivia are comments, and of trivia that ends in a comment the last mark is one
 abbrev pub TriviaHasComments : List Content → Type 0
@@ -96,7 +100,8 @@ WritesNoComments v = comments_of (written v) ≡ []
 -- where a stretch of marks gives way to another, the comments outside of it stay, in order
 abbrev pub KeepsOtherComments : List Mark → List Mark → List Mark → List Mark → Type 0
 KeepsOtherComments was now x y = (d : MarksDifferIn was now x y)
-    → (comments_of x ≡ comments_of d.front ++ (comments_of was ++ comments_of d.back)) × (comments_of y ≡ comments_of d.front ++ (comments_of now ++ comments_of d.back))
+    → (comments_of x ≡ comments_of d.front ++ (comments_of was ++ comments_of d.back))
+    × (comments_of y ≡ comments_of d.front ++ (comments_of now ++ comments_of d.back))
 
 -- and where none comes, no others are there
 abbrev pub HasOtherCommentsAlone : List Mark → List Mark → List Mark → List Mark → Type 0

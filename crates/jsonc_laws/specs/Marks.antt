@@ -31,7 +31,8 @@ mark_of scanned s = Some (comment_mark s)
 pub data AreMarks (o : Options) : List ℕ → List Mark → Type 0 where
   no_more : AreMarks o [] []
   blank : {c : ℕ} {t : List ℕ} {ms : List Mark} → IsTrue (is_blank c) → AreMarks o t ms → AreMarks o (c ∷ t) ms
-  one : (w : Scanned) (s : List ℕ) {t r : List ℕ} {ms : List Mark} → IsScanned o w t r → t ≡ s ++ r → AreMarks o r ms → AreMarks o t (cons_option (mark_of w s) ms)
+  one : (w : Scanned) (s : List ℕ) {t r : List ℕ} {ms : List Mark} → IsScanned o w t r → t ≡ s ++ r → AreMarks o r ms
+      → AreMarks o t (cons_option (mark_of w s) ms)
 
 -- the mark of a leaf; brackets, commas, colons, blanks and line ends have none
 abbrev pub mark_of_leaf : Content → Option Mark

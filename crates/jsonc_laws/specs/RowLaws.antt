@@ -18,11 +18,15 @@ members_then (member name v ms) ns = member name v (members_then ms ns)
 
 -- two stretches have these values exactly where the first has the front ones and the second the others
 abbrev pub ItemsComeApart : Options → OrderedTree → OrderedTree → Items → Type 0
-ItemsComeApart o first second us = ItemsOf o (followed_by first second) us ↔ ((vs ws : Items) × ItemsOf o first vs × ItemsOf o second ws × (us ≡ items_then vs ws))
+ItemsComeApart o first second us
+    = ItemsOf o (followed_by first second) us
+    ↔ ((vs ws : Items) × ItemsOf o first vs × ItemsOf o second ws × (us ≡ items_then vs ws))
 
 -- and so with properties
 abbrev pub MembersComeApart : Options → OrderedTree → OrderedTree → Members → Type 0
-MembersComeApart o first second ls = MembersOf o (followed_by first second) ls ↔ ((ms ns : Members) × MembersOf o first ms × MembersOf o second ns × (ls ≡ members_then ms ns))
+MembersComeApart o first second ls
+    = MembersOf o (followed_by first second) ls
+    ↔ ((ms ns : Members) × MembersOf o first ms × MembersOf o second ns × (ls ≡ members_then ms ns))
 
 -- the line comments of two stretches end with their lines exactly where those of each do, where a newline first in the second serves the first
 abbrev pub LinesComeApart : Bool → OrderedTree → OrderedTree → Type 0

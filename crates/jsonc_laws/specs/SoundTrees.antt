@@ -1,4 +1,5 @@
--- Soundness: the shape of the grammar, and line comments that end with their lines, in an array or object perhaps behind whitespace. No law of it asks for commas.
+-- Soundness: the shape of the grammar, and line comments that end with their lines, in an array or object perhaps
+-- behind whitespace. No law of it asks for commas.
 use Rattle.std.specs.Prelude.{◌≡◌, Bool, ◌↔◌, ℕ, true, false, List, [], ◌++◌, None, IsTrue}
 use Rattle.jsonc_text.specs.Options.{Options}
 use Rattle.jsonc_tree.specs.Content.{Content}
@@ -30,10 +31,12 @@ ParsedAreSound o tree = DocumentShaped o tree → DocumentLinesEnd tree → Soun
 abbrev pub SoundTreesPrint : Options → OrderedTree → Type 0
 SoundTreesPrint o tree = SoundTree o tree → PrintsDocument o tree
 
--- where in the row of a container a stretch gives way to one that leads to where the rest may come, whose leaves and lines end, with a space wherever two literals without quotes would meet, the document keeps it
+-- where in the row of a container a stretch gives way to one that leads to where the rest may come, whose leaves and
+-- lines end, with a space wherever two literals without quotes would meet, the document keeps it
 abbrev pub KeptByStretches : Options → OrderedTree → Type 0
 KeptByStretches o t = SoundTree o t → (kind : RowKind) (front was now back : OrderedTree) (path : List ℕ) (u : OrderedTree)
-    → DocumentChanged (container_of kind (followed_by front (followed_by was back))) (container_of kind (followed_by front (followed_by (spaced (leaves front) now (leaves back)) back))) path t u
+    → DocumentChanged (container_of kind (followed_by front (followed_by was back)))
+    (container_of kind (followed_by front (followed_by (spaced (leaves front) now (leaves back)) back))) path t u
     → (to : Last) → StretchAlone o kind (last_behind nothing_yet front) now to → IsTrue (may_come o to back)
     → LinesEndLoosely true false (followed_by front (followed_by now back)) → LeavesEnd o (leaves now) None
     → SoundTree o u
@@ -49,8 +52,10 @@ KeptWhereNoneMeet o t = SoundTree o t → (kind : RowKind) (front was now back :
 
 -- and where a value gives way to a whole value
 abbrev pub KeptByValues : Options → OrderedTree → Type 0
-KeptByValues o t = SoundTree o t → (was now : Top) (path : List ℕ) (u : OrderedTree) → DocumentChanged was now path t u → IsValueBefore o now [] → LinesEndLoosely (is_loose now.content) false now.below
-    → (d : DiffersIn (leaves_of was) (leaves_of now) (leaves t) (leaves u)) → meet d.front (leaves_of now ++ d.back) ≡ false → meet (leaves_of now) d.back ≡ false
+KeptByValues o t = SoundTree o t → (was now : Top) (path : List ℕ) (u : OrderedTree) → DocumentChanged was now path t u
+    → IsValueBefore o now [] → LinesEndLoosely (is_loose now.content) false now.below
+    → (d : DiffersIn (leaves_of was) (leaves_of now) (leaves t) (leaves u))
+    → meet d.front (leaves_of now ++ d.back) ≡ false → meet (leaves_of now) d.back ≡ false
     → SoundTree o u
 
 -- and where a comment leaves, alone or as a line comment with trivia before it, and no two literals without quotes meet that it held apart
@@ -61,4 +66,5 @@ KeptWithoutComment o t = SoundTree o t → (was : List Content) (u : OrderedTree
 -- and where a truth value gives way to the other in its place, but for `false` directly behind a hexadecimal number
 abbrev pub KeptByBooleans : Options → OrderedTree → Type 0
 KeptByBooleans o t = SoundTree o t → (was now : Bool) (path : List ℕ) (u : OrderedTree) → DocumentChanged (boolean_leaf was) (boolean_leaf now) path t u
-    → (d : DiffersIn (leaves_of (boolean_leaf was)) (leaves_of (boolean_leaf now)) (leaves t) (leaves u)) → (now ≡ false → is_hex_leaf (last_printed d.front) ≡ false) → SoundTree o u
+    → (d : DiffersIn (leaves_of (boolean_leaf was)) (leaves_of (boolean_leaf now)) (leaves t) (leaves u))
+    → (now ≡ false → is_hex_leaf (last_printed d.front) ≡ false) → SoundTree o u

@@ -18,10 +18,12 @@ SpaceServes o ls = (n : Option ℕ) → LeavesEnd o ls n → LeavesEnd o ls (Som
 
 -- a stretch ends before the rest of a row, where it ends before something, and no two literals without quotes meet
 abbrev pub StretchEnds : Options → RowKind → OrderedTree → OrderedTree → Type 0
-StretchEnds o kind stretch rest = (last mid other : Last) (n m : Option ℕ) → StretchAlone o kind last stretch mid → RowAlone o kind other rest → LeavesEnd o (leaves stretch) n → meet (leaves stretch) (leaves rest) ≡ false
+StretchEnds o kind stretch rest = (last mid other : Last) (n m : Option ℕ) → StretchAlone o kind last stretch mid
+    → RowAlone o kind other rest → LeavesEnd o (leaves stretch) n → meet (leaves stretch) (leaves rest) ≡ false
     → LastEnds o (leaves stretch) (follower (leaves rest) m)
 
--- where a stretch of a container's row gives way to one that leads to where the rest may come, and no two literals without quotes meet at the seams, the document stays sound
+-- where a stretch of a container's row gives way to one that leads to where the rest may come, and no two literals
+-- without quotes meet at the seams, the document stays sound
 abbrev pub StaysSoundWhereNoneMeet : Options → OrderedTree → Type 0
 StaysSoundWhereNoneMeet o t = Sound o t → (kind : RowKind) (front was now back : OrderedTree) (path : List ℕ) (u : OrderedTree)
     → DocumentChanged (container_of kind (followed_by front (followed_by was back))) (container_of kind (followed_by front (followed_by now back))) path t u
@@ -32,14 +34,18 @@ StaysSoundWhereNoneMeet o t = Sound o t → (kind : RowKind) (front was now back
 
 -- where a value of a sound document gives way to a whole value, and no two literals without quotes meet at the seams, the document stays sound
 abbrev pub StaysSoundWithValue : Options → OrderedTree → Type 0
-StaysSoundWithValue o t = Sound o t → (was now : Top) (path : List ℕ) (u : OrderedTree) → DocumentChanged was now path t u → IsValueBefore o now [] → LinesEnd false now.below
-    → (d : DiffersIn (leaves_of was) (leaves_of now) (leaves t) (leaves u)) → meet d.front (leaves_of now ++ d.back) ≡ false → meet (leaves_of now) d.back ≡ false
+StaysSoundWithValue o t = Sound o t → (was now : Top) (path : List ℕ) (u : OrderedTree)
+    → DocumentChanged was now path t u → IsValueBefore o now [] → LinesEnd false now.below
+    → (d : DiffersIn (leaves_of was) (leaves_of now) (leaves t) (leaves u))
+    → meet d.front (leaves_of now ++ d.back) ≡ false → meet (leaves_of now) d.back ≡ false
     → Sound o u
 
--- where a stretch of a container's row gives way to one that leads to where the rest may come, with a space wherever two literals without quotes would meet at the seams, the document stays sound
+-- where a stretch of a container's row gives way to one that leads to where the rest may come, with a space wherever
+-- two literals without quotes would meet at the seams, the document stays sound
 abbrev pub StaysSoundWithSpaces : Options → OrderedTree → Type 0
 StaysSoundWithSpaces o t = Sound o t → (kind : RowKind) (front was now back : OrderedTree) (path : List ℕ) (u : OrderedTree)
-    → DocumentChanged (container_of kind (followed_by front (followed_by was back))) (container_of kind (followed_by front (followed_by (spaced (leaves front) now (leaves back)) back))) path t u
+    → DocumentChanged (container_of kind (followed_by front (followed_by was back)))
+    (container_of kind (followed_by front (followed_by (spaced (leaves front) now (leaves back)) back))) path t u
     → (to : Last) → StretchAlone o kind (last_behind nothing_yet front) now to → IsTrue (may_come o to back)
     → LinesEnd false (followed_by front (followed_by now back)) → LeavesEnd o (leaves now) None
     → Sound o u

@@ -14,9 +14,12 @@ leaves_of top = own_leaf top.content ++ leaves top.below
 
 -- the second row is the first, but that the element at this place among its elements has given way to another
 pub data ElementChanged (was now : Top) : ℕ → OrderedTree → OrderedTree → Type 0 where
-  this_element : {after : OrderedTree} → IsElement was.content → IsElement now.content → ElementChanged was now 0 (more was.content was.below after) (more now.content now.below after)
-  passed : {i : ℕ} {content : Content} {below x y : OrderedTree} → IsTrue (is_passed_over content) → ElementChanged was now i x y → ElementChanged was now i (more content below x) (more content below y)
-  later_element : {i : ℕ} {content : Content} {below x y : OrderedTree} → IsElement content → ElementChanged was now i x y → ElementChanged was now (suc i) (more content below x) (more content below y)
+  this_element : {after : OrderedTree} → IsElement was.content → IsElement now.content
+      → ElementChanged was now 0 (more was.content was.below after) (more now.content now.below after)
+  passed : {i : ℕ} {content : Content} {below x y : OrderedTree} → IsTrue (is_passed_over content)
+      → ElementChanged was now i x y → ElementChanged was now i (more content below x) (more content below y)
+  later_element : {i : ℕ} {content : Content} {below x y : OrderedTree} → IsElement content
+      → ElementChanged was now i x y → ElementChanged was now (suc i) (more content below x) (more content below y)
 
 -- the property of these rows holds a name, its element 0, and a value, its element 1; this has given way to another
 abbrev pub HeldChanged : Top → Top → OrderedTree → OrderedTree → Type 0
@@ -31,9 +34,12 @@ pub data ValueChanged (was now : Top) : List ℕ → Top → Top → Type 0 wher
   itself : ValueChanged was now [] was now
   in_array : {i : ℕ} {path : List ℕ} {x y : Top} {row new : OrderedTree} → ElementChanged x y i row new → ValueChanged was now path x y
       → ValueChanged was now (i ∷ path) (record { content = array; below = row }) (record { content = array; below = new })
-  in_object : {i : ℕ} {path : List ℕ} {x y : Top} {held given row new : OrderedTree} → ElementChanged (property_of held) (property_of given) i row new → HeldChanged x y held given → ValueChanged was now path x y
+  in_object : {i : ℕ} {path : List ℕ} {x y : Top} {held given row new : OrderedTree}
+      → ElementChanged (property_of held) (property_of given) i row new → HeldChanged x y held given
+      → ValueChanged was now path x y
       → ValueChanged was now (i ∷ path) (record { content = object; below = row }) (record { content = object; below = new })
 
 -- the second document is the first, but that the value at the path from the root's value has given way to another
 pub data DocumentChanged (was now : Top) (path : List ℕ) : OrderedTree → OrderedTree → Type 0 where
-  in_root : {x y : Top} {row new : OrderedTree} → ElementChanged x y 0 row new → ValueChanged was now path x y → DocumentChanged was now path (more root row none) (more root new none)
+  in_root : {x y : Top} {row new : OrderedTree} → ElementChanged x y 0 row new → ValueChanged was now path x y
+      → DocumentChanged was now path (more root row none) (more root new none)

@@ -22,16 +22,19 @@ abbrev pub leaves_then : List Content → OrderedTree → OrderedTree
 leaves_then [] row = row
 leaves_then (content ∷ rest) row = more content none (leaves_then rest row)
 
--- the second row is the first, but that in it, or in a row further below, these leaves have given way to those; where there were none, those have come between two nodes
+-- the second row is the first, but that in it, or in a row further below, these leaves have given way to those; where
+-- there were none, those have come between two nodes
 pub data LeavesChanged (was now : List Content) : OrderedTree → OrderedTree → Type 0 where
   given_way : (back : OrderedTree) → was ≢ [] → LeavesChanged was now (leaves_then was back) (leaves_then now back)
-  come : {first : Content} {below : OrderedTree} (last : Content) (under back : OrderedTree) → was ≡ [] → LeavesChanged was now (more first below (more last under back)) (more first below (leaves_then now (more last under back)))
+  come : {first : Content} {below : OrderedTree} (last : Content) (under back : OrderedTree) → was ≡ []
+      → LeavesChanged was now (more first below (more last under back)) (more first below (leaves_then now (more last under back)))
   later : {content : Content} {below x y : OrderedTree} → LeavesChanged was now x y → LeavesChanged was now (more content below x) (more content below y)
   deeper : {content : Content} {x y after : OrderedTree} → LeavesChanged was now x y → LeavesChanged was now (more content x after) (more content y after)
 
 -- the second document is the first, but that in the root's row, wherever, or in a row further below these leaves have given way to those
 pub data StretchChanged (was now : List Content) : OrderedTree → OrderedTree → Type 0 where
-  in_root : (front back : OrderedTree) → StretchChanged was now (more root (followed_by front (leaves_then was back)) none) (more root (followed_by front (leaves_then now back)) none)
+  in_root : (front back : OrderedTree)
+      → StretchChanged was now (more root (followed_by front (leaves_then was back)) none) (more root (followed_by front (leaves_then now back)) none)
   inside : {row new : OrderedTree} → LeavesChanged was now row new → StretchChanged was now (more root row none) (more root new none)
 
 -- these leaves are one comment, or the last of them is a line comment

@@ -10,8 +10,10 @@ use Rattle.jsonc_laws.specs.TriviaChanges.{AreTrivia, StretchChanged}
 
 -- where trivia gives way to trivia, the document has the value that it had, or none as before
 abbrev pub KeepsValue : Options → OrderedTree → Option Plain → Type 0
-KeepsValue o t w = DocumentValueOf o t w → (was now : List Content) (u : OrderedTree) → StretchChanged was now t u → AreTrivia was → AreTrivia now → DocumentValueOf o u w
+KeepsValue o t w = DocumentValueOf o t w → (was now : List Content) (u : OrderedTree) → StretchChanged was now t u
+    → AreTrivia was → AreTrivia now → DocumentValueOf o u w
 
 -- where trivia gives way to trivia, all other leaves stay, in order
 abbrev pub KeepsOtherLeaves : OrderedTree → Type 0
-KeepsOtherLeaves t = (was now : List Content) (u : OrderedTree) → StretchChanged was now t u → AreTrivia was → AreTrivia now → DiffersIn was now (leaves t) (leaves u)
+KeepsOtherLeaves t = (was now : List Content) (u : OrderedTree) → StretchChanged was now t u → AreTrivia was
+    → AreTrivia now → DiffersIn was now (leaves t) (leaves u)

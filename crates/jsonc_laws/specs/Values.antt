@@ -15,4 +15,5 @@ pub data MemberRemoved : ℕ → Members → Members → Type 0 where
 -- or with a property of this name and value in its place
 pub data MemberReplaced (name : List ℕ) (v : Plain) : ℕ → Members → Members → Type 0 where
   this_member : {n : List ℕ} {w : Plain} {ms : Members} → MemberReplaced name v 0 (member n w ms) (member name v ms)
-  later_member : {i : ℕ} {n : List ℕ} {w : Plain} {ms ns : Members} → MemberReplaced name v i ms ns → MemberReplaced name v (suc i) (member n w ms) (member n w ns)
+  later_member : {i : ℕ} {n : List ℕ} {w : Plain} {ms ns : Members} → MemberReplaced name v i ms ns
+      → MemberReplaced name v (suc i) (member n w ms) (member n w ns)

@@ -13,7 +13,8 @@ worked_text = codes "{a:1, // x \n \"b\":[null]}"
 
 -- its marks: the comment's is without the blank
 abbrev pub worked_marks : List Mark
-worked_marks = Mark.literal (codes "a") ∷ Mark.literal (codes "1") ∷ Mark.comment (codes "// x") ∷ Mark.literal (codes "\"b\"") ∷ Mark.literal (codes "null") ∷ []
+worked_marks = Mark.literal (codes "a") ∷ Mark.literal (codes "1") ∷ Mark.comment (codes "// x")
+    ∷ Mark.literal (codes "\"b\"") ∷ Mark.literal (codes "null") ∷ []
 
 -- a leaf, and then the row
 abbrev pub leaf_then : Content → OrderedTree → OrderedTree
@@ -23,11 +24,16 @@ leaf_then content row = more content none row
 abbrev pub last_line : OrderedTree
 last_line =
     leaf_then (Content.newline LineFeed) (leaf_then (Content.whitespace (codes " "))
-    (more property (leaf_then (Content.string (codes "\"b\"")) (token_then 0x3A (more array (token_then 0x5B (leaf_then Content.null (token_then 0x5D none))) none))) (token_then 0x7D none)))
+    (more property (leaf_then (Content.string (codes "\"b\""))
+    (token_then 0x3A (more array (token_then 0x5B (leaf_then Content.null (token_then 0x5D none))) none)))
+    (token_then 0x7D none)))
 
 -- the tree whose first line ends with these leaves
 abbrev pub tree_with : (OrderedTree → OrderedTree) → OrderedTree
-tree_with end = more root (more object (token_then 0x7B (more property (leaf_then (Content.word (codes "a")) (token_then 0x3A (leaf_then (Content.number (codes "1")) none))) (token_then 0x2C (leaf_then (Content.whitespace (codes " ")) (end last_line))))) none) none
+tree_with end = more root
+    (more object (token_then 0x7B
+    (more property (leaf_then (Content.word (codes "a")) (token_then 0x3A (leaf_then (Content.number (codes "1")) none)))
+    (token_then 0x2C (leaf_then (Content.whitespace (codes " ")) (end last_line))))) none) none
 
 -- the blank is the comment's, or a leaf of its own
 abbrev pub worked_tree : OrderedTree

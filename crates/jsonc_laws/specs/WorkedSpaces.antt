@@ -21,5 +21,6 @@ true_and_end = more (Content.boolean true) none (token_then 0x5D none)
 abbrev pub WorkedSpaces : Type 0
 WorkedSpaces =
     (spaced (leaves one) none (leaves three_and_end) ≡ space_then none)
-    × (spaced (leaves one) (more (Content.number (codes "9")) none none) (leaves three_and_end) ≡ space_then (more (Content.number (codes "9")) none (space_then none)))
+    × (spaced (leaves one) (more (Content.number (codes "9")) none none) (leaves three_and_end)
+    ≡ space_then (more (Content.number (codes "9")) none (space_then none)))
     × (spaced (leaves quoted_a) none (leaves true_and_end) ≡ none)

@@ -18,7 +18,8 @@ pub fn documents_without_an_element_are_sound()
 /// The plain value loses that entry, and nothing else of it changes.
 pub fn values_without_an_element()
     ensures items { (o : Options) (top : Top) (row left new : OrderedTree) → ItemsWithoutElement o top row left new }
-    ensures members { (o : Options) (top : Top) (row left new : OrderedTree) → MembersWithoutElement o top row left new }
+    ensures members { (o : Options) (top : Top) (row left new : OrderedTree)
+        → MembersWithoutElement o top row left new }
     ensures document { (o : Options) (t : OrderedTree) (x : Plain) → ValueWithoutElement o t x }
 {}
 
@@ -38,7 +39,8 @@ pub fn documents_without_a_value()
 /// Where a whole value comes into a sound document that had none, this is sound and has the value, and
 /// the value's marks have come.
 pub fn documents_with_a_first_value()
-    ensures sound { (o : Options) (top : Top) (v : Plain) (row new : OrderedTree) → SoundWithFirstValue o top v row new }
+    ensures sound { (o : Options) (top : Top) (v : Plain) (row new : OrderedTree)
+        → SoundWithFirstValue o top v row new }
     ensures value { (o : Options) (top : Top) (v : Plain) (row new : OrderedTree) → HasFirstValue o top v row new }
     ensures marks { (top : Top) (row new : OrderedTree) → MarksWithFirstValue top row new }
 {}

@@ -53,7 +53,8 @@ pub fn literals_meet_across_spaces()
 /// Where commas may not be missing no two literals without quotes meet. Stretches whose leaves end, and
 /// in which none meet, make one; and a value or a property of the grammar's shape stands alone.
 pub fn rows_with_commas()
-    ensures none { (o : Options) (kind : RowKind) (stretch rest : OrderedTree) → o.missing_commas ≡ false → NoneMeetInRows o kind stretch rest }
+    ensures none { (o : Options) (kind : RowKind) (stretch rest : OrderedTree)
+        → o.missing_commas ≡ false → NoneMeetInRows o kind stretch rest }
     ensures join { (o : Options) (kind : RowKind) (first second : OrderedTree) → StretchesJoin o kind first second }
     ensures values { (o : Options) (top : Top) → ValuesStandAlone o top × WholeValuesEnd o top }
     ensures properties { (o : Options) (row : OrderedTree) → PropertiesStandAlone o row }

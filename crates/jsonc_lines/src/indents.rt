@@ -28,7 +28,7 @@ fn is_property<A: Allocator>(kind: &Kind<A>) -> bool
     ensures { result ≡ is_property (content_of kind.now) }
 {
     match kind {
-        Kind::Property => true,
+        Kind::Property(_) => true,
         _ => false,
     }
 }

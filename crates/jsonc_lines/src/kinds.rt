@@ -31,7 +31,7 @@ pub(crate) fn is_comma<A: Allocator>(kind: &Kind<A>) -> bool
     ensures { result ≡ is_comma (content_of kind.now) }
 {
     match kind {
-        Kind::Token(c) => *c == ',',
+        Kind::Token(c) => c.get() == ',',
         _ => false,
     }
 }
@@ -41,7 +41,7 @@ pub(crate) fn holds_values<A: Allocator>(kind: &Kind<A>) -> bool
     ensures { result ≡ holds_values (content_of kind.now) }
 {
     match kind {
-        Kind::Array | Kind::Object => true,
+        Kind::Array(_) | Kind::Object(_) => true,
         _ => false,
     }
 }

@@ -21,7 +21,7 @@ fn is_comma<A: Allocator>(kind: &Kind<A>) -> bool
     ensures { result ≡ is_comma (content_of kind.now) }
 {
     match kind {
-        Kind::Token(c) => *c == ',',
+        Kind::Token(c) => c.get() == ',',
         _ => false,
     }
 }

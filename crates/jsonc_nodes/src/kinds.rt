@@ -47,7 +47,7 @@ fn is_colon_kind<A: Allocator>(kind: &Kind<A>) -> bool
     ensures { result ≡ is_colon (content_of kind.now) }
 {
     match kind {
-        Kind::Token(c) => *c == ':',
+        Kind::Token(c) => c.get() == ':',
         _ => false,
     }
 }

@@ -155,7 +155,7 @@ fn is_named<A: Allocator, B: Allocator>(
     ensures { IfOk result (λ b. Decides b (IsNamed tree.now.nodes (chars name.now) node)) }
 {
     match tree.kind(node) {
-        Kind::Property => has_name(alloc, tree, node, name),
+        Kind::Property(_) => has_name(alloc, tree, node, name),
         _ => Ok(false),
     }
 }

@@ -76,8 +76,8 @@ pub fn value_of<A: Allocator>(tree: &Tree<A>, node: usize) -> Option<usize>
     ensures there { IsThere tree.now.nodes result }
 {
     match tree.kind(node) {
-        Kind::Root => first_element_from(tree, node, 0),
-        Kind::Property => after_colon(tree, node),
+        Kind::Root(_) => first_element_from(tree, node, 0),
+        Kind::Property(_) => after_colon(tree, node),
         _ => None,
     }
 }

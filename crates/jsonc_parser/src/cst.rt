@@ -16,8 +16,8 @@ pub use jsonc_cst::cst::{
     AncestorIterator, CstArray, CstBooleanLit, CstComment, CstContainerNode, CstInputValue,
     CstLeafNode, CstNewline, CstNewlineKind, CstNode, CstNullKeyword, CstNumberLit, CstObject,
     CstObjectProp, CstRoot, CstRootNode, CstStringLit, CstToken, CstWhitespace, CstWordLit,
-    EditError, HasChildren, IsNode, NextSiblingIterator, ObjectPropName, PreviousSiblingIterator,
-    Readings, Shown, TrailingCommaMode, input,
+    EditError, HasChildren, IsNode, NextSiblingIterator, ObjectPropName, Pieces,
+    PreviousSiblingIterator, Readings, Shown, TrailingCommaMode, input,
 };
 pub use jsonc_run::{Edit, Over, Shape};
 pub use jsonc_typed::{

@@ -35,7 +35,8 @@ pub record EntryTaken (path : List ℕ) (i : ℕ) (top : Top) (t u : OrderedTree
 -- so it is where element number i of an array or object at a path of a sound document is taken out
 abbrev pub TakesEntry : Options → List Node → List Node → List ℕ → ℕ → ℕ → ℕ → Type 0
 TakesEntry o old new path c i n =
-    IsTree old → IsTree new → SoundTree o (ordered_tree old 0) → IsAt old path c → IsTrue (holds_values (content_at old c)) → IsElementOf old c i n → TakesElement old new n
+    IsTree old → IsTree new → SoundTree o (ordered_tree old 0) → IsAt old path c
+    → IsTrue (holds_values (content_at old c)) → IsElementOf old c i n → TakesElement old new n
     → EntryTaken path i (top_at old n) (ordered_tree old 0) (ordered_tree new 0)
 
 -- the root's value has left, and blanks that were left alone
@@ -50,7 +51,8 @@ pub record ValueTaken (top : Top) (t u : OrderedTree) : Type 0 where
   pub empties : Empties left new
 
 abbrev pub TakesValue : Options → List Node → List Node → ℕ → Type 0
-TakesValue o old new n = IsTree old → IsTree new → SoundTree o (ordered_tree old 0) → IsElementOf old 0 0 n → TakesElement old new n → ValueTaken (top_at old n) (ordered_tree old 0) (ordered_tree new 0)
+TakesValue o old new n = IsTree old → IsTree new → SoundTree o (ordered_tree old 0) → IsElementOf old 0 0 n
+    → TakesElement old new n → ValueTaken (top_at old n) (ordered_tree old 0) (ordered_tree new 0)
 
 -- The text was a document, and is one again, without that entry; of its marks those of the entry have left, and comments beside it; and the document is sound.
 pub record IsEntryRemoved (o : Options) (path : List ℕ) (i : ℕ) (top : Top) (t u : OrderedTree) : Type 0 where

@@ -26,7 +26,8 @@ begins_other ns (m ∷ rest) = not (is_trivia_at ns m)
 abbrev pub trails : List Node → ℕ → List ℕ → Bool
 trails ns m rest = is_beside_at ns m && not (is_whitespace_at ns m && begins_other ns rest)
 
--- where the line of n ends in the row behind it: at its newline; without one at the last of its whitespace and comments, but for whitespace that something else follows
+-- where the line of n ends in the row behind it: at its newline; without one at the last of its whitespace and
+-- comments, but for whitespace that something else follows
 abbrev pub line_end : List Node → ℕ → List ℕ → ℕ
 line_end ns n [] = n
 line_end ns n (m ∷ rest) = if is_newline_at ns m then m else (if trails ns m rest then line_end ns m rest else n)
@@ -61,7 +62,8 @@ is_comma_at ns m = is_comma (content_at ns m)
 abbrev pub comma_before : List Node → ℕ → Option ℕ
 comma_before ns n = if_inner ns (find (is_comma_at ns) (siblings_before ns n))
 
--- the last that leaves: the comma behind n, with the rest of its line if nothing else stands on that and n's line has not ended before; or without that comma the end of n's line
+-- the last that leaves: the comma behind n, with the rest of its line if nothing else stands on that and n's line has
+-- not ended before; or without that comma the end of n's line
 abbrev pub last_past : List Node → ℕ → Option ℕ → ℕ
 last_past ns n None = line_end_at ns n
 last_past ns n (Some k) = if ends_line_at ns n || not (ends_line_at ns k) then k else line_end_at ns k

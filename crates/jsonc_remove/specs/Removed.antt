@@ -32,8 +32,9 @@ has_brackets ns c = has_two (children_at ns c) && (is_token_at ns (first (childr
 abbrev pub comma_in : List Node → ℕ → ℕ → Option ℕ
 comma_in ns c n = if holds_values (content_at ns c) then comma_gone ns n else None
 
--- Before which nodes spaces are due where the siblings from one to another leave, and this comma before them: where the comma stood, and where they stood. Where nothing that prints
--- stands between, these are one place. What leaves a property leaves no space.
+-- Before which nodes spaces are due where the siblings from one to another leave, and this comma before them: where the
+-- comma stood, and where they stood. Where nothing that prints stands between, these are one place. What leaves a
+-- property leaves no space.
 abbrev pub is_next : Option ℕ → Option ℕ → Bool
 is_next (Some m) (Some n) = bytes_eq (m ∷ []) (n ∷ [])
 is_next m n = false
@@ -91,8 +92,8 @@ hollow_to ns c = length (children_at ns c) - hollow_from ns c
 abbrev pub IsClosedUp : List Node → List Node → ℕ → Type 0
 IsClosedUp old new c = (IsTrue (is_hollow old c) → Splices old new c (hollow_from old c) (hollow_to old c) []) × (IsTrue (not (is_hollow old c)) → new ≡ old)
 
--- The element n has been taken out of its container, c: the spaces that are due were made, and have come; what leaves with n has left, and the comma before it, if that leaves; and then
--- blanks that were left alone.
+-- The element n has been taken out of its container, c: the spaces that are due were made, and have come; what leaves
+-- with n has left, and the comma before it, if that leaves; and then blanks that were left alone.
 pub record IsTakenFrom (old new : List Node) (n c : ℕ) : Type 0 where
   pub ready : List Node
   pub spaced : List Node

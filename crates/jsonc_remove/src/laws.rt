@@ -17,6 +17,7 @@ pub fn elements_are_taken_out()
 /// The text is a document again, without that entry, and of its literals and comments those of the entry
 /// have left, and comments beside it; and the document is sound. It is so under all options.
 pub fn removed_elements_are_gone()
-    ensures entry { (o : Options) (t u : OrderedTree) (path : List ℕ) (i : ℕ) (top : Top) → RemovesEntry o t u path i top }
+    ensures entry { (o : Options) (t u : OrderedTree) (path : List ℕ) (i : ℕ) (top : Top)
+        → RemovesEntry o t u path i top }
     ensures value { (o : Options) (t u : OrderedTree) (top : Top) → RemovesValue o t u top }
 {}

@@ -25,7 +25,7 @@ use std::alloc::Allocator;
 fn holds_values<A: Allocator>(kind: &Kind<A>) -> bool
     ensures { result ≡ holds_values (content_of kind.now) }
 {
-    matches!(kind, Kind::Array | Kind::Object)
+    matches!(kind, Kind::Array(_) | Kind::Object(_))
 }
 
 // Whether a node is there and is a token.
@@ -126,10 +126,12 @@ fn due_behind_gap<A: Allocator>(
     requires from { from < length tree.now.nodes }
     requires to { to < length tree.now.nodes }
     requires comma { IsThere tree.now.nodes comma }
-    ensures due { result ≡ (if is_property (content_at tree.now.nodes container) then None else due_at_stretch tree.now.nodes from to comma) }
+    ensures due { result
+        ≡ (if is_property
+        (content_at tree.now.nodes container) then None else due_at_stretch tree.now.nodes from to comma) }
 {
     match tree.kind(container) {
-        Kind::Property => None,
+        Kind::Property(_) => None,
         _ => due_at_stretch(tree, from, to, comma),
     }
 }
@@ -139,7 +141,8 @@ fn take_stretch<A: Allocator>(tree: &mut Tree<A>, container: usize, first: usize
     requires first { parent_at tree.old.nodes first ≡ Some container }
     requires last { parent_at tree.old.nodes last ≡ Some container }
     requires order { place_at tree.old.nodes first ≤ place_at tree.old.nodes last }
-    ensures taken { Splices tree.old.nodes tree.new.nodes container (place_at tree.old.nodes first) (place_at tree.old.nodes last + 1) [] }
+    ensures taken { Splices tree.old.nodes tree.new.nodes container (place_at tree.old.nodes first)
+        (place_at tree.old.nodes last + 1) [] }
     ensures tree { IsTree tree.new.nodes }
 {
     let _ = tree.len();
@@ -216,8 +219,8 @@ fn is_hollow<A: Allocator>(tree: &Tree<A>, container: usize) -> bool
 {
     let _ = tree.len();
     match tree.kind(container) {
-        Kind::Array | Kind::Object => is_blank_between(tree, container),
-        Kind::Root => comes_to(tree, container, 0, None),
+        Kind::Array(_) | Kind::Object(_) => is_blank_between(tree, container),
+        Kind::Root(_) => comes_to(tree, container, 0, None),
         _ => false,
     }
 }
@@ -226,8 +229,10 @@ fn is_hollow<A: Allocator>(tree: &Tree<A>, container: usize) -> bool
 fn empty<A: Allocator>(tree: &mut Tree<A>, container: usize)
     requires there { container < length tree.old.nodes }
     requires container { IsTrue (is_container_at tree.old.nodes container) }
-    requires two { IsTrue (holds_values (content_at tree.old.nodes container)) → 2 ≤ length (children_at tree.old.nodes container) }
-    ensures emptied { Splices tree.old.nodes tree.new.nodes container (hollow_from tree.old.nodes container) (hollow_to tree.old.nodes container) [] }
+    requires two { IsTrue (holds_values (content_at tree.old.nodes container))
+        → 2 ≤ length (children_at tree.old.nodes container) }
+    ensures emptied { Splices tree.old.nodes tree.new.nodes container
+        (hollow_from tree.old.nodes container) (hollow_to tree.old.nodes container) [] }
     ensures tree { IsTree tree.new.nodes }
 {
     let _ = tree.len();

@@ -78,11 +78,13 @@ PropertyValueSet old new r v (Some n) = (m : ℕ) × IsReplaced old new n v m
 abbrev pub PropertyValueEnsured : Shape → List Node → List Node → ℕ → Type 0
 PropertyValueEnsured shape old new r = (lacks_name_at old r ≡ false) × (m : ℕ) × HeldOrSet (is_of shape) (empty_of shape) old new r (value_at old r) m
 
--- The edit was made: the node n, which stood at the path, has given way to m, which is the value, laid out as the old nodes tell; or n, the entry at the path,
--- has been taken out with what leaves with it; or n, the comment of this number, has been taken out of the document; or the document's value has been set; or
--- all the root's children have been taken out; or n, the property at the path, has given way to m; or the document has a value of
--- the shape, if it had none of another that was to stay; or the value of r, the property at the path, has been set, or is of the shape; or n, the truth value at
--- the path, has become this one; or the array or object at the path has been put on several lines, or was on several.
+-- The edit was made: the node n, which stood at the path, has given way to m, which is the value, laid out as the old
+-- nodes tell; or n, the entry at the path, has been taken out with what leaves with it; or n, the comment of this
+-- number, has been taken out of the document; or the document's value has been set; or all the root's children have
+-- been taken out; or n, the property at the path, has given way to m; or the document has a value of the shape, if it
+-- had none of another that was to stay; or the value of r, the property at the path, has been set, or is of the shape;
+-- or n, the truth value at the path, has become this one; or the array or object at the path has been put on several
+-- lines, or was on several.
 abbrev pub IsMade : List Node → Operation → List Node → Type 0
 IsMade old (replace path v) new = (n m : ℕ) × IsAt old path n × IsReplaced old new n v m
 IsMade old (remove path) new = (n : ℕ) × IsEntryAt old path n × TakesElement old new n

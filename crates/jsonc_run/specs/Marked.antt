@@ -40,4 +40,6 @@ pub data AreMarked : List Mark → List Operation → List Mark → Type 0 where
 -- so the edits change the marks of the text of a sound document, if what they write may be written
 abbrev pub MarkAll : Options → List Node → List Operation → List Node → Type 0
 MarkAll o old es new =
-    SoundTree o (ordered_tree old 0) → All (MayBeMade o) es → (x y : List Mark) → AreMarks o (printed_text (ordered_tree old 0)) x → AreMarks o (printed_text (ordered_tree new 0)) y → AreMarked x es y
+    SoundTree o (ordered_tree old 0) → All (MayBeMade o) es → (x y : List Mark)
+    → AreMarks o (printed_text (ordered_tree old 0)) x → AreMarks o (printed_text (ordered_tree new 0)) y
+    → AreMarked x es y

@@ -74,7 +74,8 @@ pub data IsChanged : Option Plain → Operation → Option Plain → Type 0 wher
       → IsChanged (Some x) (replace_property (path ++ i ∷ []) name v) (Some y)
   by_ensuring : {shape : Shape} {how : Over} {w x : Option Plain} → EnsuredValue shape how w x → IsChanged w (ensure_root shape how) x
   by_setting : (path : List ℕ) (i : ℕ) {was v x y : Plain} → ReplacesHeld path i was v x y → IsChanged (Some x) (set_value (path ++ i ∷ []) v) (Some y)
-  by_ensuring_held : (path : List ℕ) (i : ℕ) {shape : Shape} {was now x y : Plain} → EnsuredValue shape over.Replace (Some was) (Some now) → ReplacesHeld path i was now x y
+  by_ensuring_held : (path : List ℕ) (i : ℕ) {shape : Shape} {was now x y : Plain}
+      → EnsuredValue shape over.Replace (Some was) (Some now) → ReplacesHeld path i was now x y
       → IsChanged (Some x) (ensure_value (path ++ i ∷ []) shape) (Some y)
   by_boolean : {was b : Bool} {x y : Plain} {path : List ℕ} → Changed (boolean was) (boolean b) path x y → IsChanged (Some x) (set_boolean path b) (Some y)
   by_lines : {w : Option Plain} {path : List ℕ} → IsChanged w (ensure_multiline path) w

@@ -20,7 +20,7 @@ fn if_property<A: Allocator>(tree: &Tree<A>, found: Option<usize>) -> Option<usi
 {
     let node = found?;
     match tree.kind(node) {
-        Kind::Property => Some(node),
+        Kind::Property(_) => Some(node),
         _ => None,
     }
 }
@@ -32,7 +32,7 @@ fn property_of<A: Allocator>(tree: &Tree<A>, container: usize, place: usize) -> 
     ensures there { IsThere tree.now.nodes result }
 {
     match tree.kind(container) {
-        Kind::Object => if_property(tree, element_at(tree, container, place)),
+        Kind::Object(_) => if_property(tree, element_at(tree, container, place)),
         _ => None,
     }
 }
@@ -44,7 +44,7 @@ fn entry_of<A: Allocator>(tree: &Tree<A>, container: usize, place: usize) -> Opt
     ensures there { IsThere tree.now.nodes result }
 {
     match tree.kind(container) {
-        Kind::Array => element_at(tree, container, place),
+        Kind::Array(_) => element_at(tree, container, place),
         _ => property_of(tree, container, place),
     }
 }

@@ -21,7 +21,7 @@ use std::alloc::Allocator;
 fn holds_values<A: Allocator>(kind: &Kind<A>) -> bool
     ensures { result ≡ holds_values (content_of kind.now) }
 {
-    matches!(kind, Kind::Array | Kind::Object)
+    matches!(kind, Kind::Array(_) | Kind::Object(_))
 }
 
 // The node, if there is one and it is an array or an object.

@@ -38,7 +38,8 @@ pub fn make<A: Allocator + Copy>(
 ) -> Result<(), EditError>
     ensures made { OnOk result (IsMade tree.old.nodes (operation_of edit.now) tree.new.nodes) }
     ensures told { IfErr result (IsToldBy tree.old.nodes (operation_of edit.now)) }
-    ensures written { (o : Options) → OnOk result (WriteAll o tree.old.nodes (operation_of edit.now ∷ []) tree.new.nodes) }
+    ensures written { (o : Options)
+        → OnOk result (WriteAll o tree.old.nodes (operation_of edit.now ∷ []) tree.new.nodes) }
     ensures kept { OnErr result (Keeps (length tree.old.nodes) tree.old.nodes tree.new.nodes) }
     ensures document { OnErr result (ordered_tree tree.new.nodes 0 ≡ ordered_tree tree.old.nodes 0) }
     ensures tree { IsTree tree.new.nodes }
@@ -168,8 +169,11 @@ fn replace_property_at<A: Allocator + Copy>(
     name: &str,
     value: &CstInputValue<A>,
 ) -> Result<(), EditError>
-    ensures made { OnOk result (IsMade tree.old.nodes (asked_of_property path.now (chars name.now) (plain value.now)) tree.new.nodes) }
-    ensures told { IfErr result (IsToldBy tree.old.nodes (asked_of_property path.now (chars name.now) (plain value.now))) }
+    ensures made { OnOk result
+        (IsMade tree.old.nodes
+        (asked_of_property path.now (chars name.now) (plain value.now)) tree.new.nodes) }
+    ensures told { IfErr result
+        (IsToldBy tree.old.nodes (asked_of_property path.now (chars name.now) (plain value.now))) }
     ensures kept { OnErr result (Keeps (length tree.old.nodes) tree.old.nodes tree.new.nodes) }
     ensures document { OnErr result (ordered_tree tree.new.nodes 0 ≡ ordered_tree tree.old.nodes 0) }
     ensures tree { IsTree tree.new.nodes }
@@ -217,7 +221,9 @@ fn found_or_created<A: Allocator + Copy>(
     tree: &mut Tree<A>,
     shape: Shape,
 ) -> Result<Option<usize>, EditError>
-    ensures value { IfOk result (FoundOrCreated (is_of shape) (empty_of shape) tree.old.nodes tree.new.nodes (value_at tree.old.nodes 0)) }
+    ensures value { IfOk result
+        (FoundOrCreated (is_of shape) (empty_of shape) tree.old.nodes tree.new.nodes
+        (value_at tree.old.nodes 0)) }
     ensures memory { IfErr result (λ e. e ≡ EditError.OutOfMemory) }
     ensures wanted { OnErr result (value_at tree.old.nodes 0 ≡ None) }
     ensures kept { OnErr result (Keeps (length tree.old.nodes) tree.old.nodes tree.new.nodes) }
@@ -236,7 +242,9 @@ fn found_or_set<A: Allocator + Copy>(
     tree: &mut Tree<A>,
     shape: Shape,
 ) -> Result<usize, EditError>
-    ensures value { IfOk result (FoundOrSet (is_of shape) (empty_of shape) tree.old.nodes tree.new.nodes (value_at tree.old.nodes 0)) }
+    ensures value { IfOk result
+        (FoundOrSet (is_of shape) (empty_of shape) tree.old.nodes tree.new.nodes
+        (value_at tree.old.nodes 0)) }
     ensures memory { IfErr result (λ e. e ≡ EditError.OutOfMemory) }
     ensures wanted { OnErr result (LacksKind (is_of shape) tree.old.nodes (value_at tree.old.nodes 0)) }
     ensures kept { OnErr result (Keeps (length tree.old.nodes) tree.old.nodes tree.new.nodes) }
@@ -262,7 +270,8 @@ pub fn run<A: Allocator + Copy>(
     ensures made { OnOk result (AreMade tree.old.nodes (operations_of edits.now) tree.new.nodes) }
     ensures stopped { IfErr result (λ e. StopsAt tree.old.nodes (operations_of edits.now) e.0 e.1 tree.new.nodes) }
     ensures written { (o : Options) → OnOk result (WriteAll o tree.old.nodes (operations_of edits.now) tree.new.nodes) }
-    ensures written_so_far { (o : Options) → IfErr result (λ e. WriteAll o tree.old.nodes (take e.0 (operations_of edits.now)) tree.new.nodes) }
+    ensures written_so_far { (o : Options)
+        → IfErr result (λ e. WriteAll o tree.old.nodes (take e.0 (operations_of edits.now)) tree.new.nodes) }
     ensures tree { IsTree tree.new.nodes }
 {
     let _ = tree.len();

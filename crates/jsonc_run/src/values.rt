@@ -76,7 +76,9 @@ fn held_or_set<A: Allocator + Copy>(
 ) -> Result<usize, EditError>
     requires there { property < length tree.old.nodes }
     requires property { content_at tree.old.nodes property ≡ Content.property }
-    ensures value { IfOk result (HeldOrSet (is_of shape) (empty_of shape) tree.old.nodes tree.new.nodes property (value_at tree.old.nodes property)) }
+    ensures value { IfOk result
+        (HeldOrSet (is_of shape) (empty_of shape) tree.old.nodes tree.new.nodes property
+        (value_at tree.old.nodes property)) }
     ensures named { OnOk result (lacks_name_at tree.old.nodes property ≡ false) }
     ensures told { IfErr result (IsUnset (is_of shape) tree.old.nodes property) }
     ensures kept { OnErr result (Keeps (length tree.old.nodes) tree.old.nodes tree.new.nodes) }

@@ -50,7 +50,8 @@ pub data BarePoint (o : Options) : List ℕ → List ℕ → Type 0 where
 -- u is an exponent that breaks off before t, with the kind that is told then: after `e` and a sign, or after `e`
 pub data BreaksExponent : ParseErrorKind → List ℕ → List ℕ → Type 0 where
   after_sign : {e c : ℕ} {t : List ℕ} → IsTrue (is_e e) → IsTrue (is_sign c) → IsTrue (no is_digit (next t)) → BreaksExponent ExpectedDigit (e ∷ c ∷ t) t
-  after_e : {e : ℕ} {t : List ℕ} → IsTrue (is_e e) → IsTrue (no (λ c. is_sign c || is_digit c) (next t)) → BreaksExponent ExpectedPlusMinusOrDigitInNumberLiteral (e ∷ t) t
+  after_e : {e : ℕ} {t : List ℕ} → IsTrue (is_e e) → IsTrue (no (λ c. is_sign c || is_digit c) (next t))
+      → BreaksExponent ExpectedPlusMinusOrDigitInNumberLiteral (e ∷ t) t
 
 -- t is all the characters of a word, which neither a keyword nor a number begins, and then r, before which no word may end
 pub record BreaksWord (o : Options) (t r : List ℕ) : Type 0 where
@@ -72,22 +73,27 @@ pub data Tells (o : Options) : ParseErrorKind → List ℕ → List ℕ → List
   -- after a sign
   lone_sign : {s t r : List ℕ} → Sign o true s t → GoesOnNoNumber t → IsNext t r → Tells o ExpectedDigitFollowingNegativeSign s t r
   -- after `0x`
-  hex_digits : {signed : Bool} {x : ℕ} {s t r : List ℕ} → IsTrue o.hexadecimal_numbers → Sign o signed s (0x30 ∷ x ∷ t) → IsTrue (is_x x) → IsTrue (no is_hex_digit (next t)) → IsNext t r → Tells o ExpectedDigit s t r
+  hex_digits : {signed : Bool} {x : ℕ} {s t r : List ℕ} → IsTrue o.hexadecimal_numbers → Sign o signed s (0x30 ∷ x ∷ t)
+      → IsTrue (is_x x) → IsTrue (no is_hex_digit (next t)) → IsNext t r → Tells o ExpectedDigit s t r
   -- in an exponent
-  exponent : {kind : ParseErrorKind} {signed : Bool} {s m u t r : List ℕ} → Sign o signed s m → Mantissa o m u → BreaksExponent kind u t → IsNext t r → Tells o kind s t r
+  exponent : {kind : ParseErrorKind} {signed : Bool} {s m u t r : List ℕ} → Sign o signed s m → Mantissa o m u
+      → BreaksExponent kind u t → IsNext t r → Tells o kind s t r
   -- a sign, if any, and the `0` of `0x`
-  hexadecimal : {signed : Bool} {t r : List ℕ} → o.hexadecimal_numbers ≡ false → Sign o signed t (0x30 ∷ r) → IsTrue (starts is_x (next r)) → Tells o HexadecimalNumbersNotAllowed t t r
+  hexadecimal : {signed : Bool} {t r : List ℕ} → o.hexadecimal_numbers ≡ false → Sign o signed t (0x30 ∷ r)
+      → IsTrue (starts is_x (next r)) → Tells o HexadecimalNumbersNotAllowed t t r
   -- a sign and a name
   non_finite : {t u r : List ℕ} → o.non_finite_numbers ≡ false → Sign o true t u → IsName u r → Tells o NonFiniteNumbersNotAllowed t t r
   unary_plus : {r : List ℕ} → o.unary_plus_numbers ≡ false → Tells o UnaryPlusNumbersNotAllowed (0x2B ∷ r) (0x2B ∷ r) r
   single_quote : {r : List ℕ} → o.single_quoted_strings ≡ false → Tells o SingleQuotedStringsNotAllowed (0x27 ∷ r) (0x27 ∷ r) r
   broken_word : {t r : List ℕ} → BreaksWord o t r → Tells o UnexpectedToken t t r
   -- one character, no blank, with which nothing begins
-  lone_character : {c : ℕ} {r : List ℕ} → IsTrue (not (is_blank c)) → IsTrue (not (begins_word c)) → IsTrue (not (begins_other (c ∷ r))) → Tells o UnexpectedToken (c ∷ r) (c ∷ r) r
+  lone_character : {c : ℕ} {r : List ℕ} → IsTrue (not (is_blank c)) → IsTrue (not (begins_word c))
+      → IsTrue (not (begins_other (c ∷ r))) → Tells o UnexpectedToken (c ∷ r) (c ∷ r) r
   -- `/*` and all that follows, where no `*/` begins after it
   open_block : {t : List ℕ} → ((r : List ℕ) → UpToBlockEnd t r → ⊥) → Tells o UnterminatedCommentBlock (0x2F ∷ 0x2A ∷ t) (0x2F ∷ 0x2A ∷ t) []
   -- the fault of a string
-  string_fault : {q : ℕ} {kind : ParseStringErrorKind} {s t r : List ℕ} → IsQuote o q → TellsOfString o.extended_escapes q kind s t r → Tells o (String kind) s t r
+  string_fault : {q : ℕ} {kind : ParseStringErrorKind} {s t r : List ℕ} → IsQuote o q
+      → TellsOfString o.extended_escapes q kind s t r → Tells o (String kind) s t r
 
 -- what the fault's kind says of its range is true of the lexeme at a place
 abbrev pub IsTrueOf : Options → List ℕ → ℕ → ParseError → Type 0

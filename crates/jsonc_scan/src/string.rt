@@ -35,7 +35,8 @@ pub(crate) fn read_string<'a, A: Allocator + Copy>(
     requires boundary { IsCharBoundary text.now start }
     requires quote { OpensString (parse_options options.now) text.now start quote }
     ensures found { IfOk result (IsStringRead (parse_options options.now) text.now start) }
-    ensures none { IfErr result (λ e. kind_of e ≢ ParseErrorKind.OutOfMemory → NothingAt (parse_options options.now) text.now start) }
+    ensures none { IfErr result (λ e. kind_of e ≢ ParseErrorKind.OutOfMemory
+        → NothingAt (parse_options options.now) text.now start) }
     ensures fault { IfErr result (IsFault text.now) }
     ensures told { IfErr result (IsFaultOfString (parse_options options.now) text.now start) }
     ensures memory { IfErr result (λ e. kind_of e ≡ ParseErrorKind.OutOfMemory → StringHoldsBackslash text.now start) }
@@ -62,7 +63,8 @@ pub(crate) fn read_string_twice<'a, A: Allocator + Copy>(
     requires boundary { IsCharBoundary text.now start }
     requires quote { OpensString (parse_options options.now) text.now start quote }
     ensures found { IfOk result (IsStringTwice (parse_options options.now) text.now start) }
-    ensures none { IfErr result (λ e. kind_of e ≢ ParseErrorKind.OutOfMemory → NothingAt (parse_options options.now) text.now start) }
+    ensures none { IfErr result (λ e. kind_of e ≢ ParseErrorKind.OutOfMemory
+        → NothingAt (parse_options options.now) text.now start) }
     ensures fault { IfErr result (IsFault text.now) }
     ensures told { IfErr result (IsFaultOfString (parse_options options.now) text.now start) }
     ensures memory { IfErr result (λ e. kind_of e ≡ ParseErrorKind.OutOfMemory → StringHoldsBackslash text.now start) }

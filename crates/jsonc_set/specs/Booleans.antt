@@ -25,8 +25,9 @@ is_boolean content = false
 abbrev pub is_hex_at : List Node → Option ℕ → Bool
 is_hex_at ns o = is_hex_leaf (option_map (content_at ns) o)
 
--- Before which node a space is due where the leaf n becomes this truth value: before n, where `false` would stand directly behind a hexadecimal number, whose digits
--- would read on into it. All else that ended before the one truth value ends before the other.
+-- Before which node a space is due where the leaf n becomes this truth value: before n, where `false` would stand
+-- directly behind a hexadecimal number, whose digits would read on into it. All else that ended before the one truth
+-- value ends before the other.
 abbrev pub due_for : List Node → ℕ → Bool → Option ℕ
 due_for ns n b = if not b && is_hex_at ns (seen_before ns n) then Some n else None
 
@@ -56,4 +57,5 @@ WritesBoolean o old new path n b =
 
 -- it stands where it stood
 abbrev pub StaysAtPath : List Node → List Node → List ℕ → ℕ → Bool → Type 0
-StaysAtPath old new path n b = IsTree old → IsAt old path n → is_boolean (content_at old n) ≡ true → BooleanSet old new n b → IsAt new path n × (top_at new n ≡ boolean_leaf b)
+StaysAtPath old new path n b = IsTree old → IsAt old path n → is_boolean (content_at old n) ≡ true
+    → BooleanSet old new n b → IsAt new path n × (top_at new n ≡ boolean_leaf b)

@@ -26,7 +26,8 @@ due_after ns n v = if is_bare_value v then due_behind ns n else None
 abbrev pub property_top : Layout → List ℕ → Plain → Top
 property_top layout name v = record { content = property; below = (laid_property layout name v).below }
 
--- The child n has given way to a new node, m, that is the property: what is needed was made ready, the space has come that is due behind it, and m has taken its place.
+-- The child n has given way to a new node, m, that is the property: what is needed was made ready, the space has come
+-- that is due behind it, and m has taken its place.
 pub record PropertyGivesWay (old new : List Node) (n m : ℕ) (layout : Layout) (name : List ℕ) (v : Plain) : Type 0 where
   pub ready : List Node
   pub spaced : List Node

@@ -21,9 +21,11 @@ use Rattle.jsonc_edit.specs.Spaced.{SpacesPut}
 use Rattle.jsonc_edit.specs.Writing.{IsWritable}
 use Rattle.jsonc_set.specs.Giving.{IsPropertyReplaced}
 
--- The property number i of the object at the path has given way to one of this name and value: the old text is a document, the new text is one, and its value is the
--- old one's, but for that entry; spaces have come in, and then in the object's row one property has given way to another: all leaves before and after stay. Of the
--- literals and comments those of the old property have given way to the literals of the new one. The new document is sound, so it may be edited again.
+-- The property number i of the object at the path has given way to one of this name and value: the old text is a
+-- document, the new text is one, and its value is the old one's, but for that entry; spaces have come in, and then in
+-- the object's row one property has given way to another: all leaves before and after stay. Of the literals and
+-- comments those of the old property have given way to the literals of the new one. The new document is sound, so it
+-- may be edited again.
 pub record IsPropertyWritten (o : Options) (path : List ℕ) (i : ℕ) (name : List ℕ) (v : Plain) (was now : Top) (old new : OrderedTree) : Type 0 where
   pub before : Plain
   pub after : Plain

@@ -52,8 +52,8 @@ pub record LineEndMade (old new : List Node) (wanted : Bool) (kind : CstNewlineK
   pub is : map (content_at new) (listed o) ≡ line_end_if wanted kind
   pub fresh : IsFresh old new o
 
--- A first value has come into the root's row, as the node m: its nodes and the newlines were made ready, and then it came to its place, with a newline before it and
--- one behind it where they are wanted.
+-- A first value has come into the root's row, as the node m: its nodes and the newlines were made ready, and then it
+-- came to its place, with a newline before it and one behind it where they are wanted.
 pub record FirstValue (old new : List Node) (v : Plain) (m : ℕ) : Type 0 where
   pub ready : List Node
   pub before : List ℕ

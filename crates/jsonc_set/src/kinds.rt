@@ -20,13 +20,13 @@ use std::alloc::Allocator;
 pub(crate) fn is_object<A: Allocator>(kind: &Kind<A>) -> bool
     ensures { result ≡ is_object (content_of kind.now) }
 {
-    matches!(kind, Kind::Object)
+    matches!(kind, Kind::Object(_))
 }
 
 pub(crate) fn is_array<A: Allocator>(kind: &Kind<A>) -> bool
     ensures { result ≡ is_array (content_of kind.now) }
 {
-    matches!(kind, Kind::Array)
+    matches!(kind, Kind::Array(_))
 }
 
 pub(crate) fn empty_object<A: Allocator>(alloc: A) -> CstInputValue<A>
@@ -49,7 +49,9 @@ pub fn object_value_or_create<A: Allocator + Copy>(
     alloc: A,
     tree: &mut Tree<A>,
 ) -> Result<Option<usize>, EditError>
-    ensures value { IfOk result (FoundOrCreated is_object (object no_members) tree.old.nodes tree.new.nodes (value_at tree.old.nodes 0)) }
+    ensures value { IfOk result
+        (FoundOrCreated is_object (object no_members) tree.old.nodes tree.new.nodes
+        (value_at tree.old.nodes 0)) }
     ensures memory { IfErr result (λ e. e ≡ EditError.OutOfMemory) }
     ensures wanted { OnErr result (value_at tree.old.nodes 0 ≡ None) }
     ensures kept { OnErr result (Keeps (length tree.old.nodes) tree.old.nodes tree.new.nodes) }
@@ -72,7 +74,9 @@ pub fn array_value_or_create<A: Allocator + Copy>(
     alloc: A,
     tree: &mut Tree<A>,
 ) -> Result<Option<usize>, EditError>
-    ensures value { IfOk result (FoundOrCreated is_array (array no_items) tree.old.nodes tree.new.nodes (value_at tree.old.nodes 0)) }
+    ensures value { IfOk result
+        (FoundOrCreated is_array (array no_items) tree.old.nodes tree.new.nodes
+        (value_at tree.old.nodes 0)) }
     ensures memory { IfErr result (λ e. e ≡ EditError.OutOfMemory) }
     ensures wanted { OnErr result (value_at tree.old.nodes 0 ≡ None) }
     ensures kept { OnErr result (Keeps (length tree.old.nodes) tree.old.nodes tree.new.nodes) }
@@ -95,7 +99,9 @@ pub fn object_value_or_set<A: Allocator + Copy>(
     alloc: A,
     tree: &mut Tree<A>,
 ) -> Result<usize, EditError>
-    ensures value { IfOk result (FoundOrSet is_object (object no_members) tree.old.nodes tree.new.nodes (value_at tree.old.nodes 0)) }
+    ensures value { IfOk result
+        (FoundOrSet is_object (object no_members) tree.old.nodes tree.new.nodes
+        (value_at tree.old.nodes 0)) }
     ensures memory { IfErr result (λ e. e ≡ EditError.OutOfMemory) }
     ensures wanted { OnErr result (LacksKind is_object tree.old.nodes (value_at tree.old.nodes 0)) }
     ensures kept { OnErr result (Keeps (length tree.old.nodes) tree.old.nodes tree.new.nodes) }
@@ -118,7 +124,9 @@ pub fn array_value_or_set<A: Allocator + Copy>(
     alloc: A,
     tree: &mut Tree<A>,
 ) -> Result<usize, EditError>
-    ensures value { IfOk result (FoundOrSet is_array (array no_items) tree.old.nodes tree.new.nodes (value_at tree.old.nodes 0)) }
+    ensures value { IfOk result
+        (FoundOrSet is_array (array no_items) tree.old.nodes tree.new.nodes
+        (value_at tree.old.nodes 0)) }
     ensures memory { IfErr result (λ e. e ≡ EditError.OutOfMemory) }
     ensures wanted { OnErr result (LacksKind is_array tree.old.nodes (value_at tree.old.nodes 0)) }
     ensures kept { OnErr result (Keeps (length tree.old.nodes) tree.old.nodes tree.new.nodes) }

@@ -29,8 +29,10 @@ pub fn cleared_documents_are_bare()
 /// the literals of the new one; and the document is sound. It is so under all options. The object stands
 /// where it stood, and the new property is the element that the old one was.
 pub fn replaced_properties_are_written()
-    ensures written { (o : Options) (old new : List Node) (path : List ℕ) (c i n m : ℕ) (name : List ℕ) (v : Plain) → WritesProperty o old new path c i n m name v }
-    ensures place { (old new : List Node) (path : List ℕ) (c i n m : ℕ) (name : List ℕ) (v : Plain) → TakesPropertysPlace old new path c i n m name v }
+    ensures written { (o : Options) (old new : List Node) (path : List ℕ) (c i n m : ℕ) (name : List ℕ) (v : Plain)
+        → WritesProperty o old new path c i n m name v }
+    ensures place { (old new : List Node) (path : List ℕ) (c i n m : ℕ) (name : List ℕ) (v : Plain)
+        → TakesPropertysPlace old new path c i n m name v }
 {}
 
 /// Where a truth value at a path of a sound document was set, the text is a document again, and at the
@@ -39,6 +41,7 @@ pub fn replaced_properties_are_written()
 /// truth value has given way; and the document is sound. It is so under all options. The leaf stands
 /// where it stood.
 pub fn set_booleans_are_written()
-    ensures written { (o : Options) (old new : List Node) (path : List ℕ) (n : ℕ) (b : Bool) → WritesBoolean o old new path n b }
+    ensures written { (o : Options) (old new : List Node) (path : List ℕ) (n : ℕ) (b : Bool)
+        → WritesBoolean o old new path n b }
     ensures place { (old new : List Node) (path : List ℕ) (n : ℕ) (b : Bool) → StaysAtPath old new path n b }
 {}

@@ -57,7 +57,9 @@ pub fn replace_property<A: Allocator + Copy>(
     value: &CstInputValue<A>,
 ) -> Result<Option<usize>, EditError>
     requires { property < length tree.old.nodes }
-    ensures replaced { IfOk result (λ o. IfSome o (IsPropertyReplaced tree.old.nodes tree.new.nodes property (chars name.now) (plain value.now))) }
+    ensures replaced { IfOk result
+        (λ o. IfSome o (IsPropertyReplaced tree.old.nodes tree.new.nodes property (chars name.now)
+        (plain value.now))) }
     ensures none { IfOk result (λ o. IfNone o (parent_at tree.old.nodes property ≡ None)) }
     ensures untouched { IfOk result (λ o. IfNone o (tree.new.nodes ≡ tree.old.nodes)) }
     ensures memory { IfErr result (λ e. e ≡ EditError.OutOfMemory) }

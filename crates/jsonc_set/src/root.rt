@@ -28,7 +28,8 @@ pub(crate) fn replace_child<A: Allocator + Copy>(
 ) -> Result<usize, EditError>
     requires { parent_at tree.old.nodes node ≢ None }
     ensures replaced { IfOk result (IsReplaced tree.old.nodes tree.new.nodes node (plain value.now)) }
-    ensures written { (p : Options) → IfOk result (λ m. Writes p tree.old.nodes tree.new.nodes node m (plain value.now)) }
+    ensures written { (p : Options)
+        → IfOk result (λ m. Writes p tree.old.nodes tree.new.nodes node m (plain value.now)) }
     ensures memory { IfErr result (λ e. e ≡ EditError.OutOfMemory) }
     ensures kept { OnErr result (Keeps (length tree.old.nodes) tree.old.nodes tree.new.nodes) }
     ensures document { OnErr result (ordered_tree tree.new.nodes 0 ≡ ordered_tree tree.old.nodes 0) }
@@ -54,9 +55,15 @@ pub fn set_root<A: Allocator + Copy>(
     tree: &mut Tree<A>,
     value: &CstInputValue<A>,
 ) -> Result<usize, EditError>
-    ensures replaced { IfOk result (λ m. IfSome (value_at tree.old.nodes 0) (λ n. IsReplaced tree.old.nodes tree.new.nodes n (plain value.now) m)) }
-    ensures written { (p : Options) → IfOk result (λ m. IfSome (value_at tree.old.nodes 0) (λ n. Writes p tree.old.nodes tree.new.nodes n m (plain value.now))) }
-    ensures first { IfOk result (λ m. IfNone (value_at tree.old.nodes 0) (FirstValue tree.old.nodes tree.new.nodes (plain value.now) m)) }
+    ensures replaced { IfOk result
+        (λ m. IfSome (value_at tree.old.nodes 0)
+        (λ n. IsReplaced tree.old.nodes tree.new.nodes n (plain value.now) m)) }
+    ensures written { (p : Options)
+        → IfOk result (λ m. IfSome (value_at tree.old.nodes 0)
+        (λ n. Writes p tree.old.nodes tree.new.nodes n m (plain value.now))) }
+    ensures first { IfOk result
+        (λ m. IfNone (value_at tree.old.nodes 0)
+        (FirstValue tree.old.nodes tree.new.nodes (plain value.now) m)) }
     ensures others { OnOk result (IfNone (value_at tree.old.nodes 0) (KeepsNodes tree.old.nodes tree.new.nodes)) }
     ensures memory { IfErr result (λ e. e ≡ EditError.OutOfMemory) }
     ensures kept { OnErr result (Keeps (length tree.old.nodes) tree.old.nodes tree.new.nodes) }

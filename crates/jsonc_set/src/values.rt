@@ -26,7 +26,8 @@ use std::alloc::Allocator;
 // Takes a child out of its container.
 fn take_child<A: Allocator>(tree: &mut Tree<A>, container: usize, child: usize)
     requires { parent_at tree.old.nodes child ≡ Some container }
-    ensures taken { Splices tree.old.nodes tree.new.nodes container (place_at tree.old.nodes child) (place_at tree.old.nodes child + 1) [] }
+    ensures taken { Splices tree.old.nodes tree.new.nodes container (place_at tree.old.nodes child)
+        (place_at tree.old.nodes child + 1) [] }
     ensures tree { IsTree tree.new.nodes }
 {
     let _ = tree.len();
@@ -79,9 +80,15 @@ pub fn set_property_value<A: Allocator + Copy>(
 ) -> Result<usize, EditError>
     requires there { property < length tree.old.nodes }
     requires property { content_at tree.old.nodes property ≡ Content.property }
-    ensures replaced { IfOk result (λ m. IfSome (value_at tree.old.nodes property) (λ n. IsReplaced tree.old.nodes tree.new.nodes n (plain value.now) m)) }
-    ensures written { (p : Options) → IfOk result (λ m. IfSome (value_at tree.old.nodes property) (λ n. Writes p tree.old.nodes tree.new.nodes n m (plain value.now))) }
-    ensures last { IfOk result (λ m. IfNone (value_at tree.old.nodes property) (LastValue tree.old.nodes tree.new.nodes property (plain value.now) m)) }
+    ensures replaced { IfOk result
+        (λ m. IfSome (value_at tree.old.nodes property)
+        (λ n. IsReplaced tree.old.nodes tree.new.nodes n (plain value.now) m)) }
+    ensures written { (p : Options)
+        → IfOk result (λ m. IfSome (value_at tree.old.nodes property)
+        (λ n. Writes p tree.old.nodes tree.new.nodes n m (plain value.now))) }
+    ensures last { IfOk result
+        (λ m. IfNone (value_at tree.old.nodes property)
+        (LastValue tree.old.nodes tree.new.nodes property (plain value.now) m)) }
     ensures memory { IfErr result (λ e. e ≡ EditError.OutOfMemory) }
     ensures kept { OnErr result (Keeps (length tree.old.nodes) tree.old.nodes tree.new.nodes) }
     ensures document { OnErr result (ordered_tree tree.new.nodes 0 ≡ ordered_tree tree.old.nodes 0) }
@@ -104,7 +111,9 @@ pub fn property_object_or_set<A: Allocator + Copy>(
 ) -> Result<usize, EditError>
     requires there { property < length tree.old.nodes }
     requires property { content_at tree.old.nodes property ≡ Content.property }
-    ensures value { IfOk result (HeldOrSet is_object (object no_members) tree.old.nodes tree.new.nodes property (value_at tree.old.nodes property)) }
+    ensures value { IfOk result
+        (HeldOrSet is_object (object no_members) tree.old.nodes tree.new.nodes property
+        (value_at tree.old.nodes property)) }
     ensures named { OnOk result (lacks_name_at tree.old.nodes property ≡ false) }
     ensures told { IfErr result (IsUnset is_object tree.old.nodes property) }
     ensures missing { IfErr result (λ e. lacks_name_at tree.old.nodes property ≡ true → e ≡ EditError.MissingName) }
@@ -135,7 +144,9 @@ pub fn property_array_or_set<A: Allocator + Copy>(
 ) -> Result<usize, EditError>
     requires there { property < length tree.old.nodes }
     requires property { content_at tree.old.nodes property ≡ Content.property }
-    ensures value { IfOk result (HeldOrSet is_array (array no_items) tree.old.nodes tree.new.nodes property (value_at tree.old.nodes property)) }
+    ensures value { IfOk result
+        (HeldOrSet is_array (array no_items) tree.old.nodes tree.new.nodes property
+        (value_at tree.old.nodes property)) }
     ensures named { OnOk result (lacks_name_at tree.old.nodes property ≡ false) }
     ensures told { IfErr result (IsUnset is_array tree.old.nodes property) }
     ensures missing { IfErr result (λ e. lacks_name_at tree.old.nodes property ≡ true → e ≡ EditError.MissingName) }

@@ -1,9 +1,15 @@
 //! The calls that are timed. Each answers a number of its result, so that no result goes unused.
+ghost use Rattle.std.specs.Prelude.{All, IfOk};
+ghost use Rattle.jsonc_cst.specs.Document.{Holds};
+ghost use Rattle.jsonc_cst.specs.Nodes.{number_lit_node};
 
 use jsonc_engine::command::Command;
 use jsonc_engine::engine::run_on;
 use jsonc_engine::fault::Fault;
-use jsonc_parser::cst::{CstRootNode, EditError};
+use jsonc_parser::cst::{
+    CstContainerNode, CstInputValue, CstLeafNode, CstNode, CstNumberLit, CstRootNode, EditError,
+    IsNode, ReplaceWith,
+};
 use jsonc_parser::{
     CollectOptions, CommentCollectionStrategy, ParseOptions, Scanner, ScannerOptions, parse_to_ast,
     parse_to_value,
@@ -29,6 +35,10 @@ pub enum Call {
     Print,
     /// The program's `print`, from bytes to bytes.
     Program,
+    /// `replace_with` of the last element of an array of numbers that is parsed once.
+    Replaced,
+    /// `next_sibling` of each element of an array that is parsed once.
+    Siblings,
 }
 
 impl Call {
@@ -43,6 +53,8 @@ impl Call {
             "document" => Some(Call::Document),
             "print" => Some(Call::Print),
             "program" => Some(Call::Program),
+            "replaced" => Some(Call::Replaced),
+            "siblings" => Some(Call::Siblings),
             _ => None,
         }
     }
@@ -52,9 +64,15 @@ impl Call {
         let Ok(text) = str::from_utf8(input) else {
             return Err(Fault::NotUtf8);
         };
-        if let Call::Print = self {
-            return print(alloc, text, count);
+        match self {
+            Call::Print => print(alloc, text, count),
+            Call::Replaced => replaced(alloc, text, count),
+            Call::Siblings => siblings(alloc, text, count),
+            _ => self.each(alloc, text, count),
         }
+    }
+
+    fn each(self, alloc: Global, text: &str, count: u64) -> Result<usize, Fault> {
         let mut sum = 0usize;
         for _ in 0..count {
             sum = sum.saturating_add(self.once(alloc, text)?);
@@ -64,7 +82,7 @@ impl Call {
 
     fn once(self, alloc: Global, text: &str) -> Result<usize, Fault> {
         match self {
-            Call::Nothing | Call::Print => Ok(0),
+            Call::Nothing | Call::Print | Call::Replaced | Call::Siblings => Ok(0),
             Call::Scan => scan(alloc, text),
             Call::Ast => ast(alloc, text),
             Call::Tokens => tokens(alloc, text),
@@ -168,4 +186,81 @@ fn program(alloc: Global, text: &str) -> Result<usize, Fault> {
         Some(output) => Ok(output.len()),
         None => Ok(0),
     }
+}
+
+/// The elements of a document that is an array.
+fn elements(document: &CstRootNode<Global>) -> Result<Vec<CstNode>, Fault>
+    ensures { IfOk result (λ v. All (Holds document.now) v.items) }
+{
+    match document.value() {
+        Some(CstNode::Container(CstContainerNode::Array(array))) => match array.elements(document) {
+            Ok(elements) => Ok(elements),
+            Err(error) => Err(Fault::Edit(error)),
+        },
+        _ => Err(Fault::NotArray),
+    }
+}
+
+/// How many of the elements have a next sibling.
+fn followed(document: &CstRootNode<Global>, elements: &[CstNode]) -> usize
+    requires { All (Holds document.now) elements.now }
+{
+    let mut count = 0usize;
+    for element in elements {
+        if element.next_sibling(document).is_some() {
+            count = count.saturating_add(1);
+        }
+    }
+    count
+}
+
+/// How many of the elements of one document have a next sibling, so many times.
+fn siblings(alloc: Global, text: &str, count: u64) -> Result<usize, Fault> {
+    let document = parsed(alloc, text)?;
+    let elements = elements(&document)?;
+    let mut sum = 0usize;
+    for _ in 0..count {
+        sum = sum.saturating_add(followed(&document, elements.as_slice()));
+    }
+    Ok(sum)
+}
+
+/// The last element of an array, where it is a number.
+fn last_number(document: &CstRootNode<Global>) -> Result<CstNumberLit, Fault>
+    ensures { IfOk result (λ n. Holds document.now (number_lit_node n)) }
+{
+    let elements = elements(document)?;
+    match elements.last() {
+        Some(CstNode::Leaf(CstLeafNode::NumberLit(number))) => Ok(*number),
+        _ => Err(Fault::NotArray),
+    }
+}
+
+/// Lets a number give way to another.
+fn replace(
+    alloc: Global,
+    document: &mut CstRootNode<Global>,
+    number: CstNumberLit,
+) -> Result<CstNumberLit, Fault>
+    requires { Holds document.old (number_lit_node number) }
+    ensures { IfOk result (λ n. Holds document.new (number_lit_node n)) }
+{
+    let digits = String::from_str(alloc, "7")?;
+    match number.replace_with(document, CstInputValue::Number(digits)) {
+        Ok(Some(CstNode::Leaf(CstLeafNode::NumberLit(next)))) => Ok(next),
+        Ok(_) => Err(Fault::NotArray),
+        Err(error) => Err(Fault::Edit(error)),
+    }
+}
+
+/// How often the last number of an array gave way.
+fn replaced(alloc: Global, text: &str, count: u64) -> Result<usize, Fault> {
+    let mut document = parsed(alloc, text)?;
+    let mut last = last_number(&document)?;
+    let mut sum = 0usize;
+    for _ in 0..count {
+        last = replace(alloc, &mut document, last)?;
+        sum = sum.saturating_add(1);
+    }
+    Ok(sum)
 }

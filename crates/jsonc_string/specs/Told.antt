@@ -46,12 +46,14 @@ pub data LacksUnit : List ℕ → List ℕ → Type 0 where
 abbrev pub IsLone : SurrogateFault → List ℕ → List ℕ → List ℕ → Type 0
 IsLone surrogate.UnpairedLowSurrogate ds t r = Writes is_low_surrogate ds t r
 IsLone surrogate.UnpairedHighSurrogate ds t r = (u : List ℕ) × Writes is_high_surrogate ds t u × LacksUnit u r
-IsLone surrogate.HighSurrogateNotFollowedByLowSurrogate ds t r = (u es : List ℕ) × Writes is_high_surrogate ds t u × Writes (λ n. not (is_low_surrogate n)) es u r
+IsLone surrogate.HighSurrogateNotFollowedByLowSurrogate ds t r
+    = (u es : List ℕ) × Writes is_high_surrogate ds t u × Writes (λ n. not (is_low_surrogate n)) es u r
 
 -- a backslash before a character that it may not stand before
 pub data IsNoEscape (taken : Bool) (q : ℕ) : List ℕ → List ℕ → Type 0 where
   -- where extended escapes are not taken: one that JSON has no escape for, and no quote
-  unknown : {c : ℕ} {r : List ℕ} → IsTrue (not taken) → IsTrue (not (is_plain (meaning q c))) → IsTrue (not (c == 0x22 || c == 0x27)) → IsNoEscape taken q (0x5C ∷ c ∷ r) r
+  unknown : {c : ℕ} {r : List ℕ} → IsTrue (not taken) → IsTrue (not (is_plain (meaning q c)))
+      → IsTrue (not (c == 0x22 || c == 0x27)) → IsNoEscape taken q (0x5C ∷ c ∷ r) r
   -- where they are taken: a digit other than `0`, or a `0` that a digit follows
   decimal : {c : ℕ} {r : List ℕ} → IsTrue taken → meaning q c ≡ refused → IsNoEscape taken q (0x5C ∷ c ∷ r) r
   octal : {r : List ℕ} → IsTrue taken → IsTrue (starts is_digit (next r)) → IsNoEscape taken q (0x5C ∷ 0x30 ∷ r) r
@@ -82,7 +84,8 @@ pub data Tells (taken : Bool) (q : ℕ) : ParseStringErrorKind → List ℕ → 
 
 -- the fault of a string in quotes q that begins at a place is told truly, or it is want of memory
 abbrev pub IsTold : Bool → ℕ → List ℕ → ℕ → StringFault → Type 0
-IsTold taken q bytes start fault = fault.kind ≢ kind.OutOfMemory → Tells taken q fault.kind (rest bytes start) (rest bytes fault.range.start) (rest bytes fault.range.end)
+IsTold taken q bytes start fault = fault.kind ≢ kind.OutOfMemory
+    → Tells taken q fault.kind (rest bytes start) (rest bytes fault.range.start) (rest bytes fault.range.end)
 
 -- the string at the front of s has a fault of this kind, told from where t begins; or no quote begins s, and that is told as a string that does not end
 pub data TellsError (taken : Bool) : ParseStringErrorKind → List ℕ → List ℕ → Type 0 where

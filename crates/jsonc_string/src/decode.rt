@@ -34,12 +34,16 @@ pub fn decode_string<'a, A: Allocator>(
     requires boundary { IsCharBoundary text.now literal.start }
     requires opens { Steps text.now literal.start literal.quote (literal.start + 1) }
     requires quote { IsQuote all_on literal.quote }
-    ensures found { IfOk result (λ d. Between (IsQuoted literal.extended literal.quote (chars (cow_str_bytes d.string))) text.now literal.start d.end) }
+    ensures found { IfOk result
+        (λ d. Between (IsQuoted literal.extended literal.quote
+        (chars (cow_str_bytes d.string))) text.now literal.start d.end) }
     ensures lent { IfOk result (λ d. IsLentUnescaped text.now literal.start d.end d.string) }
-    ensures none { IfErr result (λ f. f.kind ≢ ParseStringErrorKind.OutOfMemory → NoQuoted literal.extended literal.quote text.now literal.start) }
+    ensures none { IfErr result (λ f. f.kind ≢ ParseStringErrorKind.OutOfMemory
+        → NoQuoted literal.extended literal.quote text.now literal.start) }
     ensures places { IfErr result (IsStringRefusal text.now literal.start) }
     ensures told { IfErr result (IsTold literal.extended literal.quote text.now literal.start) }
-    ensures memory { IfErr result (λ f. f.kind ≡ ParseStringErrorKind.OutOfMemory → StringHoldsBackslash text.now literal.start) }
+    ensures memory { IfErr result (λ f. f.kind ≡ ParseStringErrorKind.OutOfMemory
+        → StringHoldsBackslash text.now literal.start) }
     ensures escaped { IfOk result (λ d. IsOwnedStr d.string → StringHoldsBackslash text.now literal.start) }
 {
     let first = literal.start + 1;
@@ -62,7 +66,8 @@ fn append<A: Allocator>(
     front: &str,
     character: Option<char>,
 ) -> Result<(), AllocError>
-    ensures { IfOk result (λ _. chars (string_bytes copy.new) ≡ (chars (string_bytes copy.old) ++ chars front.now) ++ given character) }
+    ensures { IfOk result (λ _. chars (string_bytes copy.new)
+        ≡ (chars (string_bytes copy.old) ++ chars front.now) ++ given character) }
 {
     copy.push_str(front)?;
     let Some(c) = character else {
@@ -84,9 +89,12 @@ fn decode_escaped<'a, A: Allocator>(
     requires quote { IsQuote all_on literal.quote }
     requires run { Reaches (Many (is_neither literal.quote 0x5C)) text.now (literal.start + 1) first_stop }
     requires backslash { Steps text.now first_stop 0x5C (first_stop + 1) }
-    ensures found { IfOk result (λ d. Between (IsQuoted literal.extended literal.quote (chars (cow_str_bytes d.string))) text.now literal.start d.end) }
+    ensures found { IfOk result
+        (λ d. Between (IsQuoted literal.extended literal.quote
+        (chars (cow_str_bytes d.string))) text.now literal.start d.end) }
     ensures lent { IfOk result (λ d. IsLentUnescaped text.now literal.start d.end d.string) }
-    ensures none { IfErr result (λ f. f.kind ≢ ParseStringErrorKind.OutOfMemory → NoQuoted literal.extended literal.quote text.now literal.start) }
+    ensures none { IfErr result (λ f. f.kind ≢ ParseStringErrorKind.OutOfMemory
+        → NoQuoted literal.extended literal.quote text.now literal.start) }
     ensures places { IfErr result (IsStringRefusal text.now literal.start) }
     ensures told { IfErr result (IsTold literal.extended literal.quote text.now literal.start) }
 {

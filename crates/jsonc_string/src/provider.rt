@@ -78,9 +78,12 @@ pub fn parse_string_with_char_provider<'a, A: Allocator, T: CharProvider<'a>>(
 ) -> Result<CowStr<'a, A>, ParseStringError>
     requires { BeginsString (T.bytes chars.old) (T.place chars.old) }
     ensures text { T.bytes chars.new ≡ T.bytes chars.old }
-    ensures found { IfOk result (Parses allow_extended_escapes (T.bytes chars.old) (T.place chars.old) (T.place chars.new)) }
+    ensures found { IfOk result
+        (Parses allow_extended_escapes (T.bytes chars.old) (T.place chars.old)
+        (T.place chars.new)) }
     ensures fault { IfErr result (IsStringError allow_extended_escapes (T.bytes chars.old) (T.place chars.old)) }
-    ensures memory { IfErr result (λ e. e.kind ≡ ParseStringErrorKind.OutOfMemory → StringHoldsBackslash (T.bytes chars.old) (T.place chars.old)) }
+    ensures memory { IfErr result (λ e. e.kind ≡ ParseStringErrorKind.OutOfMemory
+        → StringHoldsBackslash (T.bytes chars.old) (T.place chars.old)) }
     ensures stays { OnErr result (T.place chars.new ≡ T.place chars.old) }
 {
     let text = chars.text();
@@ -144,7 +147,8 @@ fn decode_at<'a, A: Allocator>(
     requires quote { OpensString all_on text.now start quote }
     ensures found { IfOk result (λ d. Parses extended text.now start d.end d.string) }
     ensures fault { IfErr result (IsStringError extended text.now start) }
-    ensures memory { IfErr result (λ e. e.kind ≡ ParseStringErrorKind.OutOfMemory → StringHoldsBackslash text.now start) }
+    ensures memory { IfErr result (λ e. e.kind ≡ ParseStringErrorKind.OutOfMemory
+        → StringHoldsBackslash text.now start) }
 {
     let literal = Literal {
         start,

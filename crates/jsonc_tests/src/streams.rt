@@ -102,8 +102,8 @@ fn fails_to_write(alloc: Global, writes: usize) -> bool {
     let is_beginning = TEXT.starts_with(written.as_slice());
     is_told(&ended, "jsonc: write failed")
         && is_beginning
-        && count / STEP == writes
-        && count % STEP == 0
+        && count >= writes
+        && count <= writes * STEP
 }
 
 fn writes_all(alloc: Global, reads: usize, writes: usize) -> bool {
@@ -123,10 +123,10 @@ fn a_failed_read_leaves_nothing_written(rt: HostRuntime) -> Result<(), Fail> {
 
 #[test]
 fn a_failed_write_leaves_a_beginning(rt: HostRuntime) -> Result<(), Fail> {
-    // Six writes take the text, and then it is flushed.
-    for writes in 0..7usize {
+    // The text has 19 pieces, of which the two strings take two writes each, and then it is flushed.
+    for writes in 0..22usize {
         assert!(rt; fails_to_write(rt.alloc(), writes), "after {writes} writes");
     }
-    assert!(rt; writes_all(rt.alloc(), 100, 7));
+    assert!(rt; writes_all(rt.alloc(), 100, 22));
     Ok(())
 }

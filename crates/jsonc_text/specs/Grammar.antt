@@ -58,7 +58,8 @@ mutual
   -- t is one or more properties, what stands between them, the `}`, and then r
   pub data AreProperties (o : Options) : List ℕ → Members → List ℕ → Type 0 where
     last_property : {name : List ℕ} {v : Plain} {t u r : List ℕ} → IsProperty o t name v u → Closes o 0x7D u r → AreProperties o t (member name v no_members) r
-    property : {name : List ℕ} {v : Plain} {ms : Members} {t u w r : List ℕ} → IsProperty o t name v u → Separates o u w → AreProperties o w ms r → AreProperties o t (member name v ms) r
+    property : {name : List ℕ} {v : Plain} {ms : Members} {t u w r : List ℕ} → IsProperty o t name v u → Separates o u w
+        → AreProperties o w ms r → AreProperties o t (member name v ms) r
 
   -- t is a name, a gap, `:`, a gap and a value, and then r
   pub data IsProperty (o : Options) : List ℕ → List ℕ → Plain → List ℕ → Type 0 where

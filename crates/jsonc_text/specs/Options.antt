@@ -15,11 +15,33 @@ pub record Options : Type 0 where
 
 -- all of it
 abbrev pub all_on : Options
-all_on = record { single_quoted_strings = true; hexadecimal_numbers = true; unary_plus_numbers = true; bare_decimal_points = true; non_finite_numbers = true; extended_escapes = true; comments = true; loose_names = true; trailing_commas = true; missing_commas = true }
+all_on = record {
+  single_quoted_strings = true;
+  hexadecimal_numbers = true;
+  unary_plus_numbers = true;
+  bare_decimal_points = true;
+  non_finite_numbers = true;
+  extended_escapes = true;
+  comments = true;
+  loose_names = true;
+  trailing_commas = true;
+  missing_commas = true;
+}
 
 -- nothing of it: JSON, save that the blanks are more and a string may hold control characters
 abbrev pub plain_json : Options
-plain_json = record { single_quoted_strings = false; hexadecimal_numbers = false; unary_plus_numbers = false; bare_decimal_points = false; non_finite_numbers = false; extended_escapes = false; comments = false; loose_names = false; trailing_commas = false; missing_commas = false }
+plain_json = record {
+  single_quoted_strings = false;
+  hexadecimal_numbers = false;
+  unary_plus_numbers = false;
+  bare_decimal_points = false;
+  non_finite_numbers = false;
+  extended_escapes = false;
+  comments = false;
+  loose_names = false;
+  trailing_commas = false;
+  missing_commas = false;
+}
 
 -- o without missing commas
 abbrev pub with_commas : Options → Options

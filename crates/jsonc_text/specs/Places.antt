@@ -36,7 +36,8 @@ placed_at w at s = record { what = w; start = at; end = at + byte_length s }
 pub data AreTokens (o : Options) : ℕ → List ℕ → List Placed → Type 0 where
   no_more : {at : ℕ} → AreTokens o at [] []
   blank : {at c : ℕ} {t : List ℕ} {ts : List Placed} → IsTrue (is_blank c) → AreTokens o (at + byte_length (c ∷ [])) t ts → AreTokens o at (c ∷ t) ts
-  one : (w : Scanned) (s : List ℕ) {at : ℕ} {t r : List ℕ} {ts : List Placed} → IsScanned o w t r → t ≡ s ++ r → AreTokens o (at + byte_length s) r ts → AreTokens o at t (placed_at w at s ∷ ts)
+  one : (w : Scanned) (s : List ℕ) {at : ℕ} {t r : List ℕ} {ts : List Placed} → IsScanned o w t r → t ≡ s ++ r
+      → AreTokens o (at + byte_length s) r ts → AreTokens o at t (placed_at w at s ∷ ts)
 
 -- it is no lexeme
 abbrev pub is_comment : Scanned → Bool

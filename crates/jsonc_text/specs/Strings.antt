@@ -64,8 +64,10 @@ pub data Piece (o : Options) (q : ℕ) : List ℕ → List ℕ → List ℕ → 
   itself : {c : ℕ} {r : List ℕ} → c ≢ q → c ≢ 0x5C → Piece o q (c ∷ r) (c ∷ []) r
   plain : {c d : ℕ} {r : List ℕ} → meaning q c ≡ gives d → Piece o q (0x5C ∷ c ∷ r) (d ∷ []) r
   -- `\u` and four hex digits, of no surrogate or of a pair
-  unit : {a b c d : ℕ} {r : List ℕ} → AreHex4 a b c d → IsTrue (not (is_surrogate (hex4 a b c d))) → Piece o q (0x5C ∷ 0x75 ∷ a ∷ b ∷ c ∷ d ∷ r) (hex4 a b c d ∷ []) r
-  pair : {a b c d e f g h : ℕ} {r : List ℕ} → AreHex4 a b c d → IsTrue (is_high_surrogate (hex4 a b c d)) → AreHex4 e f g h → IsTrue (is_low_surrogate (hex4 e f g h))
+  unit : {a b c d : ℕ} {r : List ℕ} → AreHex4 a b c d → IsTrue (not (is_surrogate (hex4 a b c d)))
+      → Piece o q (0x5C ∷ 0x75 ∷ a ∷ b ∷ c ∷ d ∷ r) (hex4 a b c d ∷ []) r
+  pair : {a b c d e f g h : ℕ} {r : List ℕ} → AreHex4 a b c d → IsTrue (is_high_surrogate (hex4 a b c d))
+      → AreHex4 e f g h → IsTrue (is_low_surrogate (hex4 e f g h))
       → Piece o q (0x5C ∷ 0x75 ∷ a ∷ b ∷ c ∷ d ∷ 0x5C ∷ 0x75 ∷ e ∷ f ∷ g ∷ h ∷ r) (pair_char (hex4 a b c d) (hex4 e f g h) ∷ []) r
   -- the extended escapes
   other : {c d : ℕ} {r : List ℕ} → IsTrue o.extended_escapes → meaning q c ≡ extended d → Piece o q (0x5C ∷ c ∷ r) (d ∷ []) r

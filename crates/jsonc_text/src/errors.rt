@@ -1,4 +1,5 @@
-//! What can be wrong with a text, and where. Each fault is told of a range of bytes and prints as one line, as `Expected comma on line 3 column 7`.
+//! What can be wrong with a text, and where. Each fault is told of a range of bytes and prints as
+//! one line, as `Expected comma on line 3 column 7`.
 ghost use Rattle.std.specs.Prelude.{◌≡◌, ◌≢◌, ◌++◌, Some};
 ghost use Rattle.std.specs.Fmt.{decimal, WritesOnOk, WritesStyledOnOk};
 ghost use Rattle.std.specs.Prelude.{codes};

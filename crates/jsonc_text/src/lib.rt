@@ -1,6 +1,7 @@
 //! The texts of JSON with comments: ranges, faults, tokens, and what they are.
 //!
-//! The definitions of `specs/` say what the lexemes of a text are, which texts are documents, and which values they have; every crate of this repository speaks of texts by them.
+//! The definitions of `specs/` say what the lexemes of a text are, which texts are documents, and
+//! which values they have; every crate of this repository speaks of texts by them.
 #![tactic(auto)]
 
 pub mod chars;

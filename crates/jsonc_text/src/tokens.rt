@@ -43,7 +43,8 @@ pub enum Token<'a, A: Allocator> {
 }
 
 impl<'a, A: Allocator> Token<'a, A> {
-    /// Its text: of a string the characters that it stands for, of a comment those inside its marks, and of any other token as it is written.
+    /// Its text: of a string the characters that it stands for, of a comment those inside its
+    /// marks, and of any other token as it is written.
     #[tactic(auto, using(crate::proofs::TokenTexts::fixed_texts))]
     pub fn as_str(&self) -> &str
         ensures { chars result.now ≡ scanned_text (scanned_of self.now) }

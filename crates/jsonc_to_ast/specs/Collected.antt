@@ -106,7 +106,8 @@ module _ {A : Type 0} where
   -- the lexemes and comments between two states of a parser are passed, and those that are asked for collected
   pub record Collects (old new : Context A) : Type 0 where
     pub passed : List Placed
-    pub stand : (ts : List Placed) → AreTokens (options_in old) (token_end new) (rest (text_in old) (token_end new)) ts → AreTokens (options_in old) (token_end old) (rest (text_in old) (token_end old)) (passed ++ ts)
+    pub stand : (ts : List Placed) → AreTokens (options_in old) (token_end new) (rest (text_in old) (token_end new)) ts
+        → AreTokens (options_in old) (token_end old) (rest (text_in old) (token_end old)) (passed ++ ts)
     pub more : CollectsMore old new (taken old.comments_are_tokens passed)
     pub lent : StaysLent old new
     pub noted : NotesMore old new passed

@@ -40,7 +40,8 @@ HasValue o whole s = (v : Option Plain) × IsDocument o s v × IsWithin whole v
 
 -- where reading has come to the end of the text and nothing is wrong there, it is the document of a value that is within
 abbrev pub ReadsToDocument : Options → Bool → List ℕ → Type 0
-ReadsToDocument o whole s = (q : List Opened) (d : Due) (t : List ℕ) → Reached o whole s (at q d t) → Gap o t [] → wrong_end whole q d ≡ None → HasValue o whole s
+ReadsToDocument o whole s = (q : List Opened) (d : Due) (t : List ℕ) → Reached o whole s (at q d t) → Gap o t []
+    → wrong_end whole q d ≡ None → HasValue o whole s
 
 -- the only fault that is told
 abbrev pub IsOnlyFault : Options → Bool → List ℕ → Fault → Type 0

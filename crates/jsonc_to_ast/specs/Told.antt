@@ -47,7 +47,8 @@ deep whole q u r = fault NestingDepthExceeded (cond whole (innermost q u) u) r
 
 -- what is wrong with the lexeme where a value must begin, if anything
 abbrev pub wrong_value : Bool → List Opened → LexemeKind → List ℕ → List ℕ → Option Fault
-wrong_value whole q l u r = cond (is_deep whole q l) (Some (deep whole q u r)) (cond (begins_value (lexeme l)) None (Some (fault (unexpected_kind (lexeme l)) u r)))
+wrong_value whole q l u r
+    = cond (is_deep whole q l) (Some (deep whole q u r)) (cond (begins_value (lexeme l)) None (Some (fault (unexpected_kind (lexeme l)) u r)))
 
 -- where a name must stand
 abbrev pub wrong_name : Options → LexemeKind → List ℕ → List ℕ → Option Fault
@@ -69,8 +70,10 @@ abbrev pub wrong : Options → Bool → List Opened → Due → LexemeKind → L
 wrong o whole q document l u r = wrong_value whole q l u r
 wrong o whole q end l u r = Some (fault MultipleRootJsonValues u r)
 wrong o whole q (first k) l u r = cond (is_mark (closing k) l) None (wrong_item o whole k q l u r)
-wrong o whole q (further k c) l u r = cond (is_mark (closing k) l) (cond o.trailing_commas None (Some (fault TrailingCommasNotAllowed c (past_one c)))) (wrong_item o whole k q l u r)
-wrong o whole q (comma k e) l u r = cond (is_mark (closing k) l || is_mark 0x2C l) None (cond o.missing_commas (wrong_item o whole k q l u r) (Some (wrong_comma k e l u r)))
+wrong o whole q (further k c) l u r
+    = cond (is_mark (closing k) l) (cond o.trailing_commas None (Some (fault TrailingCommasNotAllowed c (past_one c)))) (wrong_item o whole k q l u r)
+wrong o whole q (comma k e) l u r
+    = cond (is_mark (closing k) l || is_mark 0x2C l) None (cond o.missing_commas (wrong_item o whole k q l u r) (Some (wrong_comma k e l u r)))
 wrong o whole q colon l u r = cond (is_mark 0x3A l) None (Some (fault ExpectedColonAfterObjectKey u r))
 wrong o whole q value l u r = wrong_value whole q l u r
 
@@ -90,9 +93,12 @@ wrong_end whole q value = Some (cond (whole && nat_lt 512 (length q)) (deep whol
 
 -- reading stops at the place with this fault: past a gap a lexeme is refused, a comment is not allowed, a lexeme is wrong there, or the end is
 pub data Stops (o : Options) (whole : Bool) : Place → Fault → Type 0 where
-  no_lexeme : {q : List Opened} {d : Due} {kind : ParseErrorKind} {t u a b : List ℕ} → Gap o t u → Tells o kind u a b → Stops o whole (at q d t) (fault kind a b)
-  comment : {q : List Opened} {d : Due} {t u : List ℕ} (r : List ℕ) → o.comments ≡ false → Gap o t u → IsComment u r → Stops o whole (at q d t) (fault CommentsNotAllowed u r)
-  wrong_lexeme : {q : List Opened} {d : Due} {f : Fault} {t u : List ℕ} (l : LexemeKind) (r : List ℕ) → Gap o t u → Lexeme o l u r → wrong o whole q d l u r ≡ Some f → Stops o whole (at q d t) f
+  no_lexeme : {q : List Opened} {d : Due} {kind : ParseErrorKind} {t u a b : List ℕ} → Gap o t u → Tells o kind u a b
+      → Stops o whole (at q d t) (fault kind a b)
+  comment : {q : List Opened} {d : Due} {t u : List ℕ} (r : List ℕ) → o.comments ≡ false → Gap o t u → IsComment u r
+      → Stops o whole (at q d t) (fault CommentsNotAllowed u r)
+  wrong_lexeme : {q : List Opened} {d : Due} {f : Fault} {t u : List ℕ} (l : LexemeKind) (r : List ℕ) → Gap o t u
+      → Lexeme o l u r → wrong o whole q d l u r ≡ Some f → Stops o whole (at q d t) f
   wrong_ending : {q : List Opened} {d : Due} {f : Fault} {t : List ℕ} → Gap o t [] → wrong_end whole q d ≡ Some f → Stops o whole (at q d t) f
 
 -- reading on from the place stops with this fault
@@ -142,7 +148,9 @@ module _ {A : Type 0} where
 
   -- no value begins with the last token, and the fault says so
   abbrev pub IsUnexpected : Context A → Token A → ParseError → Type 0
-  IsUnexpected c t e = (l : LexemeKind) → scanned_of t ≡ lexeme l → (begins_value (lexeme l) ≡ false) × (fault (unexpected_kind (lexeme l)) (here c) (after c) ≡ fault_in (text_in c) e)
+  IsUnexpected c t e = (l : LexemeKind) → scanned_of t ≡ lexeme l
+      → (begins_value (lexeme l) ≡ false)
+      × (fault (unexpected_kind (lexeme l)) (here c) (after c) ≡ fault_in (text_in c) e)
 
   -- from there past a gap the last token stands, a lexeme, and an element or a property must begin with it
   pub record ItemStarts (k : Container) (c : Context A) (t : Token A) (whole : Bool) (q : List Opened) (d : Due) (s : List ℕ) : Type 0 where

@@ -17,7 +17,8 @@ use Rattle.jsonc_to_ast.specs.Context.{text_in, options_in}
 use Rattle.jsonc_to_ast.specs.Scanned.{loose_text}
 
 module _ {A : Type 0} where
-  -- a string stands in its range in quotes, and is lent by the text exactly where no backslash is in it; what has no quotes is a word, a number, or `true`, `false` or `null`
+  -- a string stands in its range in quotes, and is lent by the text exactly where no backslash is in it; what has no
+  -- quotes is a word, a number, or `true`, `false` or `null`
   abbrev pub IsWritten : Options → List ℕ → ObjectPropName A → Type 0
   IsWritten o bytes (String s) = In bytes (Lexeme o (string (chars (cow_str_bytes s.value)))) s.range × IsLentUnescaped bytes s.range.start s.range.end s.value
   IsWritten o bytes (Word w) = (k : LexemeKind) × In bytes (Lexeme o k) w.range × (loose_text (lexeme k) ≡ Some (chars w.value.now))

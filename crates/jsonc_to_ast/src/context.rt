@@ -400,7 +400,8 @@ impl<'a, A: Allocator + Copy> Context<'a, A> {
         ensures collects { OnOk result (Collects self.old self.new) }
         ensures refused { IfErr result (Tells (NothingAfterComma container self.old)) }
         ensures fault { IfErr result (IsFault (text_in self.old)) }
-        ensures told { IfErr result (λ e. IsBracket 0x2C self.old → StopsInside container start (Due.further container (here self.old)) self.old e) }
+        ensures told { IfErr result (λ e. IsBracket 0x2C self.old
+            → StopsInside container start (Due.further container (here self.old)) self.old e) }
         ensures stands { IfOk result (λ f. IfSome f (ClosesNone container)) }
     {
         let comma = self.range();
@@ -421,8 +422,10 @@ impl<'a, A: Allocator + Copy> Context<'a, A> {
     fn missing_comma(&self, container: Container, token: &Token<'a, A>, end: usize) -> ParseError
         requires { Spans (text_in self.now) end (token_end self.now) }
         ensures fault { IsFault (text_in self.now) result }
-        ensures comma { IsTrue (begins container (scanned_of token.now)) → IsFaultOf ParseErrorKind.ExpectedComma (record { start = end; end = end }) result }
-        ensures misplaced { begins container (scanned_of token.now) ≡ false → IsFaultOf (misplaced_kind container (scanned_of token.now)) (token_range self.now) result }
+        ensures comma { IsTrue (begins container (scanned_of token.now))
+            → IsFaultOf ParseErrorKind.ExpectedComma (record { start = end; end = end }) result }
+        ensures misplaced { begins container (scanned_of token.now) ≡ false
+            → IsFaultOf (misplaced_kind container (scanned_of token.now)) (token_range self.now) result }
     {
         if container.begins_with(token) {
             return self.fault(Range::from_byte_index(end), ParseErrorKind::ExpectedComma);
@@ -476,7 +479,8 @@ impl<'a, A: Allocator + Copy> Context<'a, A> {
         requires { IsToken self.now token }
         ensures name { IfOk result (λ n. IsNameHere self.now (name_at n)) }
         ensures range { IfOk result (λ n. (name_at n).range ≡ token_range self.now) }
-        ensures written { IfOk result (λ n. IsLentHere self.now (Some token.entry) → IsWritten (options_in self.now) (text_in self.now) n) }
+        ensures written { IfOk result (λ n. IsLentHere self.now (Some token.entry)
+            → IsWritten (options_in self.now) (text_in self.now) n) }
         ensures refused { IfErr result (λ _. NoName self.now) }
         ensures fault { IfErr result (IsFault (text_in self.now)) }
         ensures told { IfErr result (IsWrongName self.now token.entry) }

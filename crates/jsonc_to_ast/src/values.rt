@@ -55,7 +55,8 @@ fn parse_leaf<'a, A: Allocator + Copy>(
 ) -> Result<Value<'a, A>, ParseError>
     requires { IsToken context.now token }
     ensures found { IfOk result (λ v. Reads context.now context.now (located v)) }
-    ensures written { IfOk result (λ v. IsLentHere context.now (Some token.entry) → AreWrittenIn context.now (spelled v)) }
+    ensures written { IfOk result (λ v. IsLentHere context.now (Some token.entry)
+        → AreWrittenIn context.now (spelled v)) }
     ensures within { IfOk result (λ v. around (plain v) ≡ 0) }
     ensures refused { IfErr result (λ _. NoLiteral context.now) }
     ensures fault { IfErr result (IsFault (text_in context.now)) }
@@ -81,7 +82,8 @@ fn parse_value<'a, A: Allocator + Copy>(
     ensures kept { OnOk result (Keeps context.old context.new) }
     ensures collects { OnOk result (Collects context.old context.new) }
     ensures found { IfOk result (λ v. Reads context.old context.new (located v)) }
-    ensures written { IfOk result (λ v. IsLentHere context.old (Some token.entry) → AreWrittenIn context.old (spelled v)) }
+    ensures written { IfOk result (λ v. IsLentHere context.old (Some token.entry)
+        → AreWrittenIn context.old (spelled v)) }
     ensures within { IfOk result (λ v. around (plain v) + count ≤ 512) }
     ensures refused { IfErr result (Tells (NoValueHere context.old count)) }
     ensures fault { IfErr result (IsFault (text_in context.old)) }
@@ -170,7 +172,8 @@ fn parse_property<'a, A: Allocator + Copy>(
     ensures kept { OnOk result (Keeps context.old context.new) }
     ensures collects { OnOk result (Collects context.old context.new) }
     ensures found { IfOk result (λ p. ReadsMember context.old context.new (member_of p)) }
-    ensures written { IfOk result (λ p. IsLentHere context.old (Some token.entry) → AreWrittenIn context.old (spelled_in_property p)) }
+    ensures written { IfOk result (λ p. IsLentHere context.old (Some token.entry)
+        → AreWrittenIn context.old (spelled_in_property p)) }
     ensures within { IfOk result (λ p. around (value_at (member_of p).value) + (count + 1) ≤ 512) }
     ensures refused { IfErr result (Tells (NoPropertyHere context.old count)) }
     ensures fault { IfErr result (IsFault (text_in context.old)) }
@@ -196,7 +199,9 @@ fn parse_whole<'a, A: Allocator + Copy>(
     ensures kept { OnOk result (Keeps context.old context.new) }
     ensures collects { OnOk result (Collects context.old context.new) }
     ensures end { OnOk result (AtEnd context.new) }
-    ensures located { IfOk result (λ v. IsLocatedDocument (options_in context.old) (text_in context.old) (option_map located v)) }
+    ensures located { IfOk result
+        (λ v. IsLocatedDocument (options_in context.old) (text_in context.old)
+        (option_map located v)) }
     ensures written { IfOk result (λ f. IfSome f (λ v. AreWrittenIn context.old (spelled v))) }
     ensures within { IfOk result (λ f. IfSome f (λ v. around (plain v) ≤ 512)) }
     ensures refused { IfErr result (RefusesText (options_in context.old) (text_in context.old)) }
@@ -247,7 +252,8 @@ pub fn parse_to_ast<'a, A: Allocator + Copy>(
 ) -> Result<ParseResult<'a, A>, ParseError>
     ensures accepted { IfOk result (λ r. IsDocument (parse_options options.now) (chars text.now) (plain_in r)) }
     ensures located { IfOk result (λ r. IsLocatedDocument (parse_options options.now) text.now (located_in r)) }
-    ensures written { IfOk result (λ r. IfSome r.value (λ v. AreWritten (parse_options options.now) text.now (spelled v))) }
+    ensures written { IfOk result
+        (λ r. IfSome r.value (λ v. AreWritten (parse_options options.now) text.now (spelled v))) }
     ensures within { IfOk result (λ r. IfSome r.value (λ v. around (plain v) ≤ 512)) }
     ensures refused { IfErr result (RefusesText (parse_options options.now) text.now) }
     ensures tokens { IfOk result (λ r. is_some r.tokens ≡ collect.now.tokens) }

@@ -55,10 +55,10 @@ module _ {A : Type 0} where
   -- another kind of leaf gives nothing
   pub other_leaf : (k : Kind A) → ((s : _) → k ≡ kind.String s → ⊥) → ((s : _) → k ≡ kind.Number s → ⊥) → ((b : _) → k ≡ kind.Boolean b → ⊥) → (k ≡ kind.Null → ⊥) → ((s : _) → k ≡ kind.StringPart s → ⊥) → ((s : _) → k ≡ kind.NumberPart s → ⊥)
       → is_container (content_of k) ≡ false → IsTrue (gives_nothing (content_of k))
-  other_leaf kind.Root a b c d e f h = not_so (sym h)
-  other_leaf kind.Object a b c d e f h = not_so (sym h)
-  other_leaf kind.Array a b c d e f h = not_so (sym h)
-  other_leaf kind.Property a b c d e f h = not_so (sym h)
+  other_leaf (kind.Root ends) a b c d e f h = not_so (sym h)
+  other_leaf (kind.Object ends) a b c d e f h = not_so (sym h)
+  other_leaf (kind.Array ends) a b c d e f h = not_so (sym h)
+  other_leaf (kind.Property ends) a b c d e f h = not_so (sym h)
   other_leaf (kind.String s) a b c d e f h = absurd (a s refl)
   other_leaf (kind.Word s) a b c d e f h = refl
   other_leaf (kind.Number s) a b c d e f h = absurd (b s refl)
@@ -75,11 +75,11 @@ module _ {A : Type 0} where
   other_leaf (kind.CommentPart s) a b c d e f h = refl
 
   -- a node of another kind is no property
-  pub not_property : (k : Kind A) → (k ≡ kind.Property → ⊥) → is_property (content_of k) ≡ false
-  not_property kind.Property h = absurd (h refl)
-  not_property kind.Root h = refl
-  not_property kind.Object h = refl
-  not_property kind.Array h = refl
+  pub not_property : (k : Kind A) → ((ends : _) → k ≡ kind.Property ends → ⊥) → is_property (content_of k) ≡ false
+  not_property (kind.Property ends) h = absurd (h ends refl)
+  not_property (kind.Root ends) h = refl
+  not_property (kind.Object ends) h = refl
+  not_property (kind.Array ends) h = refl
   not_property (kind.String s) h = refl
   not_property (kind.Word s) h = refl
   not_property (kind.Number s) h = refl

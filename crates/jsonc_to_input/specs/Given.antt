@@ -54,24 +54,32 @@ mutual
   -- the first element of the row gives the value, or none
   pub data FirstGives : OrderedTree → Option Plain → Type 0 where
     no_element : FirstGives none None
-    pass_to_element : {content : Content} {below after : OrderedTree} {found : Option Plain} → IsTrue (is_passed_over content) → FirstGives after found → FirstGives (more content below after) found
-    first_element : {content : Content} {below after : OrderedTree} {found : Option Plain} → IsTrue (is_element content) → Gives content below found → FirstGives (more content below after) found
+    pass_to_element : {content : Content} {below after : OrderedTree} {found : Option Plain}
+        → IsTrue (is_passed_over content) → FirstGives after found → FirstGives (more content below after) found
+    first_element : {content : Content} {below after : OrderedTree} {found : Option Plain} → IsTrue (is_element content)
+        → Gives content below found → FirstGives (more content below after) found
 
   -- the values that the row gives, in order
   pub data GivesItems : OrderedTree → Items → Type 0 where
     no_more_items : GivesItems none no_items
-    pass_to_items : {content : Content} {below after : OrderedTree} {vs : Items} → Gives content below None → GivesItems after vs → GivesItems (more content below after) vs
-    one_item : {content : Content} {below after : OrderedTree} {v : Plain} {vs : Items} → Gives content below (Some v) → GivesItems after vs → GivesItems (more content below after) (item v vs)
+    pass_to_items : {content : Content} {below after : OrderedTree} {vs : Items} → Gives content below None
+        → GivesItems after vs → GivesItems (more content below after) vs
+    one_item : {content : Content} {below after : OrderedTree} {v : Plain} {vs : Items} → Gives content below (Some v)
+        → GivesItems after vs → GivesItems (more content below after) (item v vs)
 
   -- the names and values that the row gives, in order
   pub data GivesMembers : OrderedTree → Members → Type 0 where
     no_more_members : GivesMembers none no_members
-    pass_to_members : {content : Content} {below after : OrderedTree} {ms : Members} → GivesMember content below None → GivesMembers after ms → GivesMembers (more content below after) ms
-    one_member : {content : Content} {below after : OrderedTree} {name : List ℕ} {v : Plain} {ms : Members} → GivesMember content below (Some (name, v)) → GivesMembers after ms → GivesMembers (more content below after) (member name v ms)
+    pass_to_members : {content : Content} {below after : OrderedTree} {ms : Members} → GivesMember content below None
+        → GivesMembers after ms → GivesMembers (more content below after) ms
+    one_member : {content : Content} {below after : OrderedTree} {name : List ℕ} {v : Plain} {ms : Members}
+        → GivesMember content below (Some (name, v)) → GivesMembers after ms
+        → GivesMembers (more content below after) (member name v ms)
 
   -- a child of an object gives a name with a value, or nothing: where it is no property, or has no name that decodes, or no value
   pub data GivesMember : Content → OrderedTree → Option (List ℕ × Plain) → Type 0 where
-    named_value : {below : OrderedTree} {name : List ℕ} {v : Plain} → RowHasName below name → Gives Content.property below (Some v) → GivesMember Content.property below (Some (name, v))
+    named_value : {below : OrderedTree} {name : List ℕ} {v : Plain} → RowHasName below name
+        → Gives Content.property below (Some v) → GivesMember Content.property below (Some (name, v))
     nameless : {below : OrderedTree} → ((name : List ℕ) → RowHasName below name → ⊥) → GivesMember Content.property below None
     valueless : {below : OrderedTree} → Gives Content.property below None → GivesMember Content.property below None
     no_property : {content : Content} {below : OrderedTree} → is_property content ≡ false → GivesMember content below None

@@ -79,9 +79,9 @@ fn take<A: Allocator, B: Allocator + Copy>(
     ensures { IfOk result (IsTakenAt tree.now.nodes node) }
 {
     match tree.kind(node) {
-        Kind::Root | Kind::Property => take_held(alloc, tree, node),
-        Kind::Array => Ok(Some(CstInputValue::from(take_elements(alloc, tree, node)?))),
-        Kind::Object => Ok(Some(CstInputValue::from(take_properties(alloc, tree, node)?))),
+        Kind::Root(_) | Kind::Property(_) => take_held(alloc, tree, node),
+        Kind::Array(_) => Ok(Some(CstInputValue::from(take_elements(alloc, tree, node)?))),
+        Kind::Object(_) => Ok(Some(CstInputValue::from(take_properties(alloc, tree, node)?))),
         _ => leaf_value(alloc, tree, node),
     }
 }
@@ -183,7 +183,7 @@ fn take_property<A: Allocator, B: Allocator + Copy>(
     requires tree { IsTree tree.now.nodes }
     ensures { IfOk result (IsMemberTaken tree.now.nodes child) }
 {
-    let Kind::Property = tree.kind(child) else {
+    let Kind::Property(_) = tree.kind(child) else {
         return Ok(None);
     };
     let Some(name) = decoded_name(alloc, tree, child)? else {

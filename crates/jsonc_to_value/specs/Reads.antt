@@ -16,7 +16,8 @@ use Rattle.jsonc_to_value.specs.Views.{plain, name_of, inserted}
 use Rattle.jsonc_to_value.specs.Refusals.{IsWithin}
 
 module _ {A : Type 0} where
-  -- from the start of the token at hand before to the end of the one after stands a value that may stand inside of so many containers, and v is that value collapsed
+  -- from the start of the token at hand before to the end of the one after stands a value that may stand inside of so
+  -- many containers, and v is that value collapsed
   pub record Reads (old new : Context A) (count : ℕ) (v : JsonValue A) : Type 0 where
     pub value : Plain
     pub stands : IsValue (options_in old) (here old) value (rest (text_in old) (token_end new))

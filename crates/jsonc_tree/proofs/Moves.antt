@@ -12,8 +12,7 @@ use Rattle.jsonc_tree.specs.Changes.{Splices, CanJoin, CanAppend}
 use Rattle.jsonc_tree.proofs.SameLinks.{IsTreeBy-same, IsTree-from}
 use Rattle.jsonc_tree.proofs.Splicing.{spliced_nodes, spliced_places, spliced_tree, spliced_facts, spliced-container, in_at, out_from}
 use Rattle.jsonc_tree.proofs.Appending.{CanJoin-one}
-use Rattle.jsonc_tree.specs.declared.node.Node as stored
-use Rattle.jsonc_tree.specs.Stored.{link_at, nodes_of, room_over, ahead_at, back_at, ahead_set, back_set, place_set, IsStored}
+use Rattle.jsonc_tree.specs.Stored.{link_at, nodes_of, room_over, ahead_at, back_at, ahead_set, back_set, place_set, IsStored, LinkedNode}
 use Rattle.jsonc_tree.specs.Siblings.{before, IsGap}
 use Rattle.jsonc_tree.proofs.Gaps.{length_came, length_went}
 use Rattle.jsonc_tree.proofs.Written.{relinked}
@@ -111,12 +110,12 @@ in_row ns t x c said =
       slice_get-get_or (children_at ns c) (place_at ns x) 0 inn ∙ ap Some (t.found x c said),
     )
 
-module _ {A : Type 0} (l0 l1 l2 l3 : List (stored.Node A)) (c x : ℕ) (b a s t p q r : Option ℕ) where
+module _ (l0 l1 l2 l3 : List LinkedNode) (c x : ℕ) (b a s t p q r : Option ℕ) where
   -- the three steps make the whole
   pub three : l1 ≡ ahead_set l0 c b s → l2 ≡ back_set l1 c a t → l3 ≡ place_set l2 x p q r → l3 ≡ relinked l0 c b a s t x p q r
   three e f g = g ∙ ap (λ l. place_set l x p q r) (f ∙ ap (λ l. back_set l c a t) e)
 
-module _ {A : Type 0} (ls : List (stored.Node A)) (ok : IsStored ls) where
+module _ (ls : List LinkedNode) (ok : IsStored ls) where
   -- the neighbours of a node
   pub next_is : (x c : ℕ) → parent_at (nodes_of ls) x ≡ Some c → (link_at ls x).next ≡ slice_get (children_at (nodes_of ls) c) (suc (place_at (nodes_of ls) x))
   next_is x c said =
@@ -172,14 +171,14 @@ module _ {A : Type 0} (ls : List (stored.Node A)) (ok : IsStored ls) where
       )
 
   -- by the three steps
-  pub comes_by : (l1 l2 l3 : List (stored.Node A)) (c g x : ℕ) (b a : Option ℕ) → l1 ≡ ahead_set ls c b (Some x) → l2 ≡ back_set l1 c a (Some x) → l3 ≡ place_set l2 x (Some c) b a → CanAppend (nodes_of ls) c x → IsGap (nodes_of ls) c g b a → Splices (nodes_of ls) (nodes_of l3) c g g (x ∷ []) × IsStored l3
+  pub comes_by : (l1 l2 l3 : List LinkedNode) (c g x : ℕ) (b a : Option ℕ) → l1 ≡ ahead_set ls c b (Some x) → l2 ≡ back_set l1 c a (Some x) → l3 ≡ place_set l2 x (Some c) b a → CanAppend (nodes_of ls) c x → IsGap (nodes_of ls) c g b a → Splices (nodes_of ls) (nodes_of l3) c g g (x ∷ []) × IsStored l3
   comes_by l1 l2 l3 c g x b a e1 e2 e3 can gap =
-      subst (λ (l : List (stored.Node A)). Splices (nodes_of ls) (nodes_of l) c g g (x ∷ []) × IsStored l) (sym (three ls l1 l2 l3 c x b a (Some x) (Some x) (Some c) b a e1 e2 e3)) (comes c g x b a can gap)
+      subst (λ (l : List LinkedNode). Splices (nodes_of ls) (nodes_of l) c g g (x ∷ []) × IsStored l) (sym (three ls l1 l2 l3 c x b a (Some x) (Some x) (Some c) b a e1 e2 e3)) (comes c g x b a can gap)
 
-  pub goes_by : (l1 l2 l3 : List (stored.Node A)) (c x : ℕ) (b a : Option ℕ) → l1 ≡ ahead_set ls c b a → l2 ≡ back_set l1 c a b → l3 ≡ place_set l2 x None None None → length ls ≤ 2 ^ 64 → parent_at (nodes_of ls) x ≡ Some c → b ≡ (link_at ls x).previous → a ≡ (link_at ls x).next → Splices (nodes_of ls) (nodes_of l3) c (place_at (nodes_of ls) x) (suc (place_at (nodes_of ls) x)) [] × IsStored l3
+  pub goes_by : (l1 l2 l3 : List LinkedNode) (c x : ℕ) (b a : Option ℕ) → l1 ≡ ahead_set ls c b a → l2 ≡ back_set l1 c a b → l3 ≡ place_set l2 x None None None → length ls ≤ 2 ^ 64 → parent_at (nodes_of ls) x ≡ Some c → b ≡ (link_at ls x).previous → a ≡ (link_at ls x).next → Splices (nodes_of ls) (nodes_of l3) c (place_at (nodes_of ls) x) (suc (place_at (nodes_of ls) x)) [] × IsStored l3
   goes_by l1 l2 l3 c x b a e1 e2 e3 size said front back =
       let r = in_row (nodes_of ls) ok.tree x c said in
-      subst (λ (l : List (stored.Node A)). Splices (nodes_of ls) (nodes_of l) c (place_at (nodes_of ls) x) (suc (place_at (nodes_of ls) x)) [] × IsStored l) (sym (three ls l1 l2 l3 c x b a a b None None None e1 e2 e3)) (goes c (place_at (nodes_of ls) x) x b a size r.0 r.1 r.2 (front ∙ previous_is x c said) (back ∙ next_is x c said))
+      subst (λ (l : List LinkedNode). Splices (nodes_of ls) (nodes_of l) c (place_at (nodes_of ls) x) (suc (place_at (nodes_of ls) x)) [] × IsStored l) (sym (three ls l1 l2 l3 c x b a a b None None None e1 e2 e3)) (goes c (place_at (nodes_of ls) x) x b a size r.0 r.1 r.2 (front ∙ previous_is x c said) (back ∙ next_is x c said))
 
   -- the neighbours are there
   pub previous_there : (x c size : ℕ) (b : Option ℕ) → parent_at (nodes_of ls) x ≡ Some c → b ≡ (link_at ls x).previous → size ≡ length (nodes_of ls) → IfSome b (λ n. n < size)

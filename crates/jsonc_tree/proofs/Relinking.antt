@@ -4,12 +4,10 @@ use Rattle.std.specs.List.{splice}
 use Rattle.std.proofs.lemmas.Bool.{cases_lt, cases_eq}
 use Rattle.jsonc_tree.specs.Tree as tree
 use Rattle.jsonc_tree.specs.Tree.{children_at, parent_at, content_at, room_at, IsTree, place_at}
-use Rattle.jsonc_tree.specs.Stored.{content_of}
-use Rattle.jsonc_tree.specs.declared.node.Node.{Node}
-use Rattle.jsonc_tree.specs.Stored.{link_at, room_over, ahead_at, back_at, IsLinked}
+use Rattle.jsonc_tree.specs.Stored.{LinkedNode, link_at, room_over, ahead_at, back_at, IsLinked}
 use Rattle.jsonc_tree.specs.Siblings.{before}
 use Rattle.jsonc_tree.proofs.Gaps.{came_low, came_here, came_high, length_came, went_low, went_high, length_went, before_same, at_named, at_there, at_once, before_named, before_once}
-use Rattle.jsonc_tree.proofs.Written.{Apart, relinked, length-relinked, kind_kept, parent_here, parent_kept, next_here, previous_here, ahead_hit, back_hit, ahead_miss, back_miss}
+use Rattle.jsonc_tree.proofs.Written.{Apart, relinked, length-relinked, content_kept, parent_here, parent_kept, next_here, previous_here, ahead_hit, back_hit, ahead_miss, back_miss}
 use Rattle.jsonc_tree.proofs.Agreeing.{Agrees}
 
 if_some : {P : ℕ → Type 0} (o : Option ℕ) → ((n : ℕ) → o ≡ Some n → P n) → IfSome o P
@@ -43,9 +41,9 @@ module _ (ns : List tree.Node) (t : IsTree ns) where
       apart_from d c (slice_get (children_at ns d) k) (slice_get (children_at ns c) g) ne (λ n e f.
       let both : Some d ≡ Some c = sym (at_named ns t d k n e) ∙ at_named ns t c g n f in ne (cc))
 
-module _ {A : Type 0} (ls : List (Node A)) (ns new : List tree.Node) (t : IsTree ns) (same : Agrees ls ns) (c g x : ℕ) (at : c < length ns) (there : x < length ns) (len : length new ≡ length ns) (contents : (n : ℕ) → content_at new n ≡ content_at ns n) (others : (n : ℕ) → n ≢ c → children_at new n ≡ children_at ns n) (parents : (n : ℕ) → n ≢ x → parent_at new n ≡ parent_at ns n) (rooms : (n : ℕ) → n < length new → room_at new n ≡ room_over (children_at new n)) where
+module _ (ls : List LinkedNode) (ns new : List tree.Node) (t : IsTree ns) (same : Agrees ls ns) (c g x : ℕ) (at : c < length ns) (there : x < length ns) (len : length new ≡ length ns) (contents : (n : ℕ) → content_at new n ≡ content_at ns n) (others : (n : ℕ) → n ≢ c → children_at new n ≡ children_at ns n) (parents : (n : ℕ) → n ≢ x → parent_at new n ≡ parent_at ns n) (rooms : (n : ℕ) → n < length new → room_at new n ≡ room_over (children_at new n)) where
   module _ (inside : g ≤ length (children_at ns c)) (alone : parent_at ns x ≡ None) (row : children_at new c ≡ splice (children_at ns c) g g (x ∷ [])) (parent : parent_at new x ≡ Some c) where
-    abbrev came : List (Node A)
+    abbrev came : List LinkedNode
     came = relinked ls c (before (children_at ns c) g) (slice_get (children_at ns c) g) (Some x) (Some x) x (Some c) (before (children_at ns c) g) (slice_get (children_at ns c) g)
 
     -- x stood in no row
@@ -209,7 +207,7 @@ module _ {A : Type 0} (ls : List (Node A)) (ns new : List tree.Node) (t : IsTree
     pub came_agrees : Agrees came new
     came_agrees = record {
       len = length-relinked ls c (before (children_at ns c) g) (slice_get (children_at ns c) g) (Some x) (Some x) x (Some c) (before (children_at ns c) g) (slice_get (children_at ns c) g) (omega (arith, same.len)) (omega (arith, same.len)) b_there a_there ∙ same.len ∙ sym len;
-      content = λ n h. ap content_of (kind_kept ls c (before (children_at ns c) g) (slice_get (children_at ns c) g) (Some x) (Some x) x (Some c) (before (children_at ns c) g) (slice_get (children_at ns c) g) (omega (arith, same.len)) (omega (arith, same.len)) b_there a_there n) ∙ same.content n (omega (arith, len)) ∙ sym (contents n);
+      content = λ n h. content_kept ls c (before (children_at ns c) g) (slice_get (children_at ns c) g) (Some x) (Some x) x (Some c) (before (children_at ns c) g) (slice_get (children_at ns c) g) (omega (arith, same.len)) (omega (arith, same.len)) b_there a_there n ∙ same.content n (omega (arith, len)) ∙ sym (contents n);
       parent = came_parent;
       room = rooms;
       linked = came_linked;
@@ -217,7 +215,7 @@ module _ {A : Type 0} (ls : List (Node A)) (ns new : List tree.Node) (t : IsTree
 
   -- x stood at g
   module _ (inside : g < length (children_at ns c)) (stood : slice_get (children_at ns c) g ≡ Some x) (row : children_at new c ≡ splice (children_at ns c) g (suc g) []) (parent : parent_at new x ≡ None) where
-    abbrev went : List (Node A)
+    abbrev went : List LinkedNode
     went = relinked ls c (before (children_at ns c) g) (slice_get (children_at ns c) (suc g)) (slice_get (children_at ns c) (suc g)) (before (children_at ns c) g) x None None None
 
     wb_there : IfSome (before (children_at ns c) g) (λ n. n < length ls)
@@ -358,7 +356,7 @@ module _ {A : Type 0} (ls : List (Node A)) (ns new : List tree.Node) (t : IsTree
     pub went_agrees : Agrees went new
     went_agrees = record {
       len = length-relinked ls c (before (children_at ns c) g) (slice_get (children_at ns c) (suc g)) (slice_get (children_at ns c) (suc g)) (before (children_at ns c) g) x None None None (omega (arith, same.len)) (omega (arith, same.len)) wb_there wa_there ∙ same.len ∙ sym len;
-      content = λ n h. ap content_of (kind_kept ls c (before (children_at ns c) g) (slice_get (children_at ns c) (suc g)) (slice_get (children_at ns c) (suc g)) (before (children_at ns c) g) x None None None (omega (arith, same.len)) (omega (arith, same.len)) wb_there wa_there n) ∙ same.content n (omega (arith, len)) ∙ sym (contents n);
+      content = λ n h. content_kept ls c (before (children_at ns c) g) (slice_get (children_at ns c) (suc g)) (slice_get (children_at ns c) (suc g)) (before (children_at ns c) g) x None None None (omega (arith, same.len)) (omega (arith, same.len)) wb_there wa_there n ∙ same.content n (omega (arith, len)) ∙ sym (contents n);
       parent = went_parent;
       room = rooms;
       linked = went_linked;

@@ -5,8 +5,7 @@ use Rattle.std.proofs.lemmas.List.{drop_all, length-reverse, reverse-append, tak
 use Rattle.jsonc_tree.specs.Tree.{Node, IsTree, children_at, parent_at, place_at}
 use Rattle.jsonc_tree.specs.Order.{with_parent}
 use Rattle.jsonc_tree.specs.Siblings.{before, first, siblings_after, siblings_before}
-use Rattle.jsonc_tree.specs.declared.node.Node as stored
-use Rattle.jsonc_tree.specs.Stored.{link_at, nodes_of, chain, chain_back, Stands, StandsBefore, IsStored}
+use Rattle.jsonc_tree.specs.Stored.{link_at, nodes_of, chain, chain_back, Stands, StandsBefore, IsStored, LinkedNode}
 use Rattle.jsonc_tree.proofs.Agreeing.{agrees, chain_from, row_short}
 use Rattle.jsonc_tree.proofs.Gaps.{at_there}
 use Rattle.jsonc_tree.proofs.Moves.{next_is, previous_is}
@@ -48,7 +47,7 @@ module _ (ns : List Node) (t : IsTree ns) (n : ℕ) where
       let row : List ℕ = with_parent (parent_at ns n) (children_at ns) in
       omega (arith, length-reverse (take (place_at ns n) row), length-take (place_at ns n) row, under_short (parent_at ns n))
 
-module _ {A : Type 0} (ls : List (stored.Node A)) (ok : IsStored ls) where
+module _ (ls : List LinkedNode) (ok : IsStored ls) where
   back_none : (steps : ℕ) → chain_back steps ls None ≡ []
   back_none zero = refl
   back_none (suc steps) = refl

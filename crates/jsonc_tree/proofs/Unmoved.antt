@@ -4,14 +4,11 @@ use Rattle.std.proofs.lemmas.Bool.{cases_lt, cases_eq, false≢true}
 use Rattle.std.proofs.lemmas.List.{get_or_append_left, get_or_past, get_or_push, length_push, get_or-set_same, get_or-set_other}
 use Rattle.std.proofs.lemmas.Option.{slice_get_past}
 use Rattle.jsonc_tree.specs.Content.{Content, root, is_container}
-use Rattle.jsonc_tree.specs.declared.node.Kind.{Kind}
 use Rattle.jsonc_tree.specs.Tree as tree
 use Rattle.jsonc_tree.specs.Tree.{children_at, parent_at, content_at, node_at, room_at, place_at, is_container_at, IsTree, IsTreeBy, top}
 use Rattle.jsonc_tree.specs.Changes.{Adds, LeafBecomes}
-use Rattle.jsonc_tree.specs.Stored.{content_of}
 use Rattle.jsonc_tree.proofs.SameLinks.{content_set, IsTreeBy-same, IsTree-from, LeafBecomes-set}
-use Rattle.jsonc_tree.specs.declared.node.Node as stored
-use Rattle.jsonc_tree.specs.Stored.{bare, nowhere, link_at, nodes_of, room_over, ahead_at, back_at, IsStored}
+use Rattle.jsonc_tree.specs.Stored.{LinkedNode, bare, nowhere, link_at, nodes_of, room_over, ahead_at, back_at, IsStored}
 use Rattle.jsonc_tree.specs.Siblings.{IsGap}
 use Rattle.jsonc_tree.proofs.Written.{kept}
 use Rattle.jsonc_tree.proofs.Agreeing.{Agrees, agrees, shown_is, stored_by, length_shown, row_short}
@@ -64,78 +61,78 @@ module _ (ns : List tree.Node) (content : Content) where
     rest = node_pushed;
   }
 
-module _ {A : Type 0} (ls : List (stored.Node A)) (kind : Kind A) (ok : IsStored ls) where
-  ahead_pushed : (c : ℕ) (o : Option ℕ) → ahead_at (ls ++ bare kind ∷ []) c o ≡ ahead_at ls c o
-  ahead_pushed c None = push_same (λ n. n.first) ls (bare kind) nowhere c refl
-  ahead_pushed c (Some n) = push_same (λ n. n.next) ls (bare kind) nowhere n refl
+module _ (ls : List LinkedNode) (content : Content) (ok : IsStored ls) where
+  ahead_pushed : (c : ℕ) (o : Option ℕ) → ahead_at (ls ++ bare content ∷ []) c o ≡ ahead_at ls c o
+  ahead_pushed c None = push_same (λ n. n.first) ls (bare content) nowhere c refl
+  ahead_pushed c (Some n) = push_same (λ n. n.next) ls (bare content) nowhere n refl
 
-  back_pushed : (c : ℕ) (o : Option ℕ) → back_at (ls ++ bare kind ∷ []) c o ≡ back_at ls c o
-  back_pushed c None = push_same (λ n. n.last) ls (bare kind) nowhere c refl
-  back_pushed c (Some n) = push_same (λ n. n.previous) ls (bare kind) nowhere n refl
+  back_pushed : (c : ℕ) (o : Option ℕ) → back_at (ls ++ bare content ∷ []) c o ≡ back_at ls c o
+  back_pushed c None = push_same (λ n. n.last) ls (bare content) nowhere c refl
+  back_pushed c (Some n) = push_same (λ n. n.previous) ls (bare content) nowhere n refl
 
-  content_pushed : (n : ℕ) → n < length (nodes_of ls ++ shown_bare (content_of kind) ∷ []) → content_of (link_at (ls ++ bare kind ∷ []) n).kind ≡ content_at (nodes_of ls ++ shown_bare (content_of kind) ∷ []) n
+  content_pushed : (n : ℕ) → n < length (nodes_of ls ++ shown_bare content ∷ []) → (link_at (ls ++ bare content ∷ []) n).content ≡ content_at (nodes_of ls ++ shown_bare content ∷ []) n
   content_pushed n h =
       let same = agrees ls ok in
       elim (cases_lt n (length ls)) [
         | inl l ↦
-            ap (λ (x : stored.Node A). content_of x.kind) (get_or_append_left ls (bare kind ∷ []) nowhere n l)
+            ap (λ (x : LinkedNode). x.content) (get_or_append_left ls (bare content ∷ []) nowhere n l)
             ∙ same.content n (omega (arith, same.len))
-            ∙ sym (ap (λ (x : tree.Node). x.content) (node_pushed (nodes_of ls) (content_of kind) n (omega (arith, same.len))))
+            ∙ sym (ap (λ (x : tree.Node). x.content) (node_pushed (nodes_of ls) content n (omega (arith, same.len))))
         | inr g ↦
-            let is : n ≡ length ls = omega (arith, length_push (nodes_of ls) (shown_bare (content_of kind)), same.len) in
-            ap (λ (x : stored.Node A). content_of x.kind) (get_or_push ls (bare kind) nowhere n (sym is))
-            ∙ sym (ap (λ (x : tree.Node). x.content) (get_or_push (nodes_of ls) (shown_bare (content_of kind)) tree.nowhere n (sym (is ∙ same.len))))
+            let is : n ≡ length ls = omega (arith, length_push (nodes_of ls) (shown_bare content), same.len) in
+            ap (λ (x : LinkedNode). x.content) (get_or_push ls (bare content) nowhere n (sym is))
+            ∙ sym (ap (λ (x : tree.Node). x.content) (get_or_push (nodes_of ls) (shown_bare content) tree.nowhere n (sym (is ∙ same.len))))
       ]
 
-  room_pushed : (n : ℕ) → n < length (nodes_of ls ++ shown_bare (content_of kind) ∷ []) → room_at (nodes_of ls ++ shown_bare (content_of kind) ∷ []) n ≡ room_over (children_at (nodes_of ls ++ shown_bare (content_of kind) ∷ []) n)
+  room_pushed : (n : ℕ) → n < length (nodes_of ls ++ shown_bare content ∷ []) → room_at (nodes_of ls ++ shown_bare content ∷ []) n ≡ room_over (children_at (nodes_of ls ++ shown_bare content ∷ []) n)
   room_pushed n h =
       let same = agrees ls ok in
       elim (cases_lt n (length (nodes_of ls))) [
         | inl l ↦
-            let is = node_pushed (nodes_of ls) (content_of kind) n l in
+            let is = node_pushed (nodes_of ls) content n l in
             ap (λ (x : tree.Node). x.room) is ∙ same.room n l ∙ ap (λ (x : tree.Node). room_over x.children) (sym is)
         | inr g ↦
-            let is = get_or_push (nodes_of ls) (shown_bare (content_of kind)) tree.nowhere n (omega (arith, length_push (nodes_of ls) (shown_bare (content_of kind)))) in
+            let is = get_or_push (nodes_of ls) (shown_bare content) tree.nowhere n (omega (arith, length_push (nodes_of ls) (shown_bare content))) in
             ap (λ (x : tree.Node). x.room) is ∙ ap (λ (x : tree.Node). room_over x.children) (sym is)
       ]
 
-  pushed_agrees : Agrees (ls ++ bare kind ∷ []) (nodes_of ls ++ shown_bare (content_of kind) ∷ [])
+  pushed_agrees : Agrees (ls ++ bare content ∷ []) (nodes_of ls ++ shown_bare content ∷ [])
   pushed_agrees =
       let same = agrees ls ok in
       record {
-        len = omega (arith, length_push (nodes_of ls) (shown_bare (content_of kind)), length_push ls (bare kind), same.len);
+        len = omega (arith, length_push (nodes_of ls) (shown_bare content), length_push ls (bare content), same.len);
         content = content_pushed;
-        parent = λ n. push_same (λ x. x.parent) ls (bare kind) nowhere n refl ∙ same.parent n ∙ sym (parent_pushed (nodes_of ls) (content_of kind) n);
+        parent = λ n. push_same (λ x. x.parent) ls (bare content) nowhere n refl ∙ same.parent n ∙ sym (parent_pushed (nodes_of ls) content n);
         room = room_pushed;
         linked = record {
-          ahead = λ c k h. let r = children_pushed (nodes_of ls) (content_of kind) c in rw r (ahead_pushed c _ ∙ same.linked.ahead c k (omega (arith, h, ap length r)));
-          back = λ c k h. let r = children_pushed (nodes_of ls) (content_of kind) c in rw r (back_pushed c _ ∙ same.linked.back c k (omega (arith, h, ap length r)));
+          ahead = λ c k h. let r = children_pushed (nodes_of ls) content c in rw r (ahead_pushed c _ ∙ same.linked.ahead c k (omega (arith, h, ap length r)));
+          back = λ c k h. let r = children_pushed (nodes_of ls) content c in rw r (back_pushed c _ ∙ same.linked.back c k (omega (arith, h, ap length r)));
           alone = λ n said.
-              let was : parent_at (nodes_of ls) n ≡ None = sym (parent_pushed (nodes_of ls) (content_of kind) n) ∙ said in
-              (push_same (λ x. x.next) ls (bare kind) nowhere n refl ∙ (same.linked.alone n was).0, push_same (λ x. x.previous) ls (bare kind) nowhere n refl ∙ (same.linked.alone n was).1);
+              let was : parent_at (nodes_of ls) n ≡ None = sym (parent_pushed (nodes_of ls) content n) ∙ said in
+              (push_same (λ x. x.next) ls (bare content) nowhere n refl ∙ (same.linked.alone n was).0, push_same (λ x. x.previous) ls (bare content) nowhere n refl ∙ (same.linked.alone n was).1);
         };
       }
 
-  pub pushed_stored : IsStored (ls ++ bare kind ∷ [])
-  pushed_stored = stored_by _ _ (IsTree-pushed (nodes_of ls) (content_of kind) ok.tree) pushed_agrees
+  pub pushed_stored : IsStored (ls ++ bare content ∷ [])
+  pushed_stored = stored_by _ _ (IsTree-pushed (nodes_of ls) content ok.tree) pushed_agrees
 
-  pub pushed_adds : Adds (nodes_of ls) (nodes_of (ls ++ bare kind ∷ [])) (content_of kind)
-  pushed_adds = subst (λ (l : List tree.Node). Adds (nodes_of ls) l (content_of kind)) (sym (shown_is _ _ (IsTree-pushed (nodes_of ls) (content_of kind) ok.tree) pushed_agrees)) (Adds-pushed (nodes_of ls) (content_of kind))
+  pub pushed_adds : Adds (nodes_of ls) (nodes_of (ls ++ bare content ∷ [])) content
+  pushed_adds = subst (λ (l : List tree.Node). Adds (nodes_of ls) l content) (sym (shown_is _ _ (IsTree-pushed (nodes_of ls) content ok.tree) pushed_agrees)) (Adds-pushed (nodes_of ls) content)
 
 one_bare : {X Y : Type 0} (f : X → Y) (x d : X) (k : ℕ) → f x ≡ f d → f (get_or (x ∷ []) k d) ≡ f d
 one_bare f x d zero e = e
 one_bare f x d (suc k) e = refl
 
 -- one bare root is a tree
-module _ {A : Type 0} (kind : Kind A) (said : content_of kind ≡ root) where
-  abbrev alone : List (stored.Node A)
-  alone = bare kind ∷ []
+module _ (content : Content) (said : content ≡ root) where
+  abbrev alone : List LinkedNode
+  alone = bare content ∷ []
 
   alone_row : (k : ℕ) → children_at (nodes_of alone) k ≡ []
-  alone_row k = one_bare (λ n. n.children) (shown_bare (content_of kind)) tree.nowhere k refl
+  alone_row k = one_bare (λ n. n.children) (shown_bare content) tree.nowhere k refl
 
   alone_parent : (k : ℕ) → parent_at (nodes_of alone) k ≡ None
-  alone_parent k = one_bare (λ n. n.parent) (shown_bare (content_of kind)) tree.nowhere k refl
+  alone_parent k = one_bare (λ n. n.parent) (shown_bare content) tree.nowhere k refl
 
   pub alone_stored : IsStored alone
   alone_stored = record {
@@ -153,22 +150,22 @@ module _ {A : Type 0} (kind : Kind A) (said : content_of kind ≡ root) where
       rooted = λ n. top (alone_parent n);
     });
     linked = record {
-      ahead = λ c k h. let r = alone_row c in let first : k ≡ 0 = omega (arith, h, ap length r) in rw (r, first) (one_bare (λ n. n.first) (bare kind) nowhere c refl);
-      back = λ c k h. let r = alone_row c in let first : k ≡ 0 = omega (arith, h, ap length r) in rw (r, first) (one_bare (λ n. n.last) (bare kind) nowhere c refl);
-      alone = λ n e. (one_bare (λ x. x.next) (bare kind) nowhere n refl, one_bare (λ x. x.previous) (bare kind) nowhere n refl);
+      ahead = λ c k h. let r = alone_row c in let first : k ≡ 0 = omega (arith, h, ap length r) in rw (r, first) (one_bare (λ n. n.first) (bare content) nowhere c refl);
+      back = λ c k h. let r = alone_row c in let first : k ≡ 0 = omega (arith, h, ap length r) in rw (r, first) (one_bare (λ n. n.last) (bare content) nowhere c refl);
+      alone = λ n e. (one_bare (λ x. x.next) (bare content) nowhere n refl, one_bare (λ x. x.previous) (bare content) nowhere n refl);
     };
   }
 
 -- a leaf that becomes another
-module _ {A : Type 0} (ls : List (stored.Node A)) (ok : IsStored ls) (n : ℕ) (e : stored.Node A) (kind : Kind A) (there : n < length ls) (read : e ≡ link_at ls n) (leaf : is_container_at (nodes_of ls) n ≡ false) where
-  abbrev other_leaf : List (stored.Node A)
-  other_leaf = set ls n (record e { kind = kind })
+module _ (ls : List LinkedNode) (ok : IsStored ls) (n : ℕ) (e : LinkedNode) (content : Content) (there : n < length ls) (read : e ≡ link_at ls n) (leaf : is_container_at (nodes_of ls) n ≡ false) where
+  abbrev other_leaf : List LinkedNode
+  other_leaf = set ls n (record e { content = content })
 
   abbrev leaf_set : List tree.Node
-  leaf_set = content_set (nodes_of ls) n (content_of kind)
+  leaf_set = content_set (nodes_of ls) n content
 
-  becomes : LeafBecomes (nodes_of ls) leaf_set n (content_of kind)
-  becomes = LeafBecomes-set (nodes_of ls) leaf_set n (content_of kind) (omega (arith, length_shown ls)) refl
+  becomes : LeafBecomes (nodes_of ls) leaf_set n content
+  becomes = LeafBecomes-set (nodes_of ls) leaf_set n content (omega (arith, length_shown ls)) refl
 
   room_same : (k : ℕ) → room_at leaf_set k ≡ room_at (nodes_of ls) k
   room_same k =
@@ -192,8 +189,8 @@ module _ {A : Type 0} (ls : List (stored.Node A)) (ok : IsStored ls) (n : ℕ) (
       ]))
       ok.tree)
 
-  field_kept : {X : Type 0} (f : stored.Node A → X) (k : ℕ) → f (record e { kind = kind }) ≡ f e → f (link_at other_leaf k) ≡ f (link_at ls k)
-  field_kept f k same = kept f ls n k (record e { kind = kind }) (same ∙ ap f read)
+  field_kept : {X : Type 0} (f : LinkedNode → X) (k : ℕ) → f (record e { content = content }) ≡ f e → f (link_at other_leaf k) ≡ f (link_at ls k)
+  field_kept f k same = kept f ls n k (record e { content = content }) (same ∙ ap f read)
 
   ahead_kept : (c : ℕ) (o : Option ℕ) → ahead_at other_leaf c o ≡ ahead_at ls c o
   ahead_kept c None = field_kept (λ x. x.first) c refl
@@ -210,11 +207,11 @@ module _ {A : Type 0} (ls : List (stored.Node A)) (ok : IsStored ls) (n : ℕ) (
         len = length-set ls n _ ∙ same.len ∙ sym becomes.len;
         content = λ k h. elim (cases_eq k n) [
           | inl is ↦
-              ap (λ m. content_of (link_at other_leaf m).kind) is
-              ∙ ap (λ (x : stored.Node A). content_of x.kind) (get_or-set_same ls n (record e { kind = kind }) nowhere there)
+              ap (λ m. (link_at other_leaf m).content) is
+              ∙ ap (λ (x : LinkedNode). x.content) (get_or-set_same ls n (record e { content = content }) nowhere there)
               ∙ sym becomes.content ∙ ap (content_at leaf_set) (sym is)
           | inr ne ↦
-              ap (λ (x : stored.Node A). content_of x.kind) (get_or-set_other ls n k (record e { kind = kind }) nowhere ne)
+              ap (λ (x : LinkedNode). x.content) (get_or-set_other ls n k (record e { content = content }) nowhere ne)
               ∙ same.content k (omega (arith, becomes.len)) ∙ sym (becomes.others k ne)
         ];
         parent = λ k. field_kept (λ x. x.parent) k refl ∙ same.parent k ∙ sym (becomes.parent k);
@@ -231,11 +228,11 @@ module _ {A : Type 0} (ls : List (stored.Node A)) (ok : IsStored ls) (n : ℕ) (
   pub other_leaf_stored : IsStored other_leaf
   other_leaf_stored = stored_by _ _ leaf_set_tree other_agrees
 
-  pub other_leaf_says : LeafBecomes (nodes_of ls) (nodes_of other_leaf) n (content_of kind)
-  other_leaf_says = subst (λ (l : List tree.Node). LeafBecomes (nodes_of ls) l n (content_of kind)) (sym (shown_is _ _ leaf_set_tree other_agrees)) becomes
+  pub other_leaf_says : LeafBecomes (nodes_of ls) (nodes_of other_leaf) n content
+  other_leaf_says = subst (λ (l : List tree.Node). LeafBecomes (nodes_of ls) l n content) (sym (shown_is _ _ leaf_set_tree other_agrees)) becomes
 
 -- the gap at the end of a row
-module _ {A : Type 0} (ls : List (stored.Node A)) (ok : IsStored ls) where
+module _ (ls : List LinkedNode) (ok : IsStored ls) where
   pub end_gap : (c : ℕ) (last : Option ℕ) → last ≡ (link_at ls c).last → IsGap (nodes_of ls) c (length (children_at (nodes_of ls) c)) last None
   end_gap c last is =
       let row : List ℕ = children_at (nodes_of ls) c in

@@ -8,8 +8,7 @@ use Rattle.std.proofs.lemmas.List.{drop_more}
 use Rattle.jsonc_tree.specs.Tree as tree
 use Rattle.jsonc_tree.specs.Tree.{children_at, parent_at, place_at, place_under, IsTree, is_container_at}
 use Rattle.jsonc_tree.specs.Changes.{Splices, CanJoin, CanAppend}
-use Rattle.jsonc_tree.specs.declared.node.Node as stored
-use Rattle.jsonc_tree.specs.Stored.{link_at, nodes_of, chain, Stands, ahead_at, back_at, IsStored}
+use Rattle.jsonc_tree.specs.Stored.{link_at, nodes_of, chain, Stands, ahead_at, back_at, IsStored, LinkedNode}
 use Rattle.jsonc_tree.specs.Siblings.{before, IsGap}
 use Rattle.jsonc_tree.proofs.Moves.{next_is}
 use Rattle.jsonc_tree.proofs.Gaps.{came_here, came_high, length_came, went_high, at_named, at_placed, at_there}
@@ -31,7 +30,7 @@ abbrev pub row_under : List tree.Node → Option ℕ → List ℕ
 row_under ns None = []
 row_under ns (Some p) = children_at ns p
 
-module _ {A : Type 0} (ls : List (stored.Node A)) (ok : IsStored ls) where
+module _ (ls : List LinkedNode) (ok : IsStored ls) where
   pub first_step : (c : ℕ) → (link_at ls c).first ≡ slice_get (children_at (nodes_of ls) c) 0
   first_step c = ok.linked.ahead c 0 (omega arith)
 
@@ -130,7 +129,7 @@ still_some old cur c from m to le lt h splices e =
     let long : length (splice (children_at old c) from m []) ≡ from + (length (children_at old c) - m) = simp (length-append, length-take, length-drop) (omega arith) in
     some_at (children_at cur c) from (omega (arith, ap length splices.children, long)) e
 
-module _ {A : Type 0} (ls ms : List (stored.Node A)) (ok : IsStored ls) where
+module _ (ls ms : List LinkedNode) (ok : IsStored ls) where
   pub take_step : (old : List tree.Node) (c from m x : ℕ) → from ≤ m → m < length (children_at old c) → Splices old (nodes_of ls) c from m [] → slice_get (children_at (nodes_of ls) c) from ≡ Some x → Splices (nodes_of ls) (nodes_of ms) c (place_at (nodes_of ls) x) (suc (place_at (nodes_of ls) x)) [] → Splices old (nodes_of ms) c from (m + 1) [] × ((link_at ls x).next ≡ slice_get (children_at (nodes_of ms) c) from)
   take_step old c from m x le lt so_far stands step =
       let placed : place_at (nodes_of ls) x ≡ from = at_placed (nodes_of ls) ok.tree c from x stands in

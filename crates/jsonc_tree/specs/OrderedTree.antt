@@ -1,5 +1,5 @@
 -- The document as an ordered tree, with no numbers: what values, printed text and soundness are defined on.
-use Rattle.std.specs.Prelude.{ℕ, zero, suc, List, [], ◌∷◌, ◌++◌, length, if◌then◌else◌}
+use Rattle.std.specs.Prelude.{ℕ, zero, suc, List, [], ◌∷◌, ◌++◌, length, map, if◌then◌else◌}
 use Rattle.std.specs.List.{flat_map}
 use Rattle.jsonc_tree.specs.Content.{Content, is_container, text_of}
 use Rattle.jsonc_tree.specs.Tree.{Node, children_at, content_at}
@@ -23,6 +23,10 @@ abbrev pub leaves : OrderedTree → List Content
 leaves none = []
 leaves (more content below after) = own_leaf content ++ (leaves below ++ leaves after)
 
+-- the texts of its leaves, a piece for each, in order
+abbrev pub pieces : OrderedTree → List (List ℕ)
+pieces t = map text_of (leaves t)
+
 -- the bytes that it prints: the texts of its leaves, joined
 abbrev pub printed : OrderedTree → List ℕ
 printed t = flat_map text_of (leaves t)
@@ -35,7 +39,8 @@ followed_by (more content below after) next = more content below (followed_by af
 -- these numbers of nodes, in this order, stand for this row of trees
 pub data Shows (ns : List Node) : List ℕ → OrderedTree → Type 0 where
   shows_none : Shows ns [] none
-  shows_more : {n : ℕ} {rest : List ℕ} {below after : OrderedTree} → Shows ns (children_at ns n) below → Shows ns rest after → Shows ns (n ∷ rest) (more (content_at ns n) below after)
+  shows_more : {n : ℕ} {rest : List ℕ} {below after : OrderedTree} → Shows ns (children_at ns n) below
+      → Shows ns rest after → Shows ns (n ∷ rest) (more (content_at ns n) below after)
 
 -- the second row is the first, but that in one place below a node one row has given way to another
 pub data Replaced (was now : OrderedTree) : OrderedTree → OrderedTree → Type 0 where

@@ -1,11 +1,12 @@
 -- How the nodes are stored in memory: by links.
 use Rattle.std.specs.Prelude.{◌≡◌, ◌≤◌, ◌^◌, ◌-◌, length, Vec, ℕ, zero, suc, List, [], ◌∷◌, Option, Some, None, string_bytes, map, slice_index_or, slice_get, slice_set}
 use Rattle.jsonc_tree.specs.Content as content
+use Rattle.jsonc_tree.specs.Content.{Content}
 use Rattle.jsonc_tree.specs.Tree as tree
 use Rattle.jsonc_tree.specs.Tree.{children_at, parent_at, IsTree}
 use Rattle.jsonc_tree.specs.Siblings.{before}
+use Rattle.jsonc_tree.specs.declared.node.Ends.{Ends}
 use Rattle.jsonc_tree.specs.declared.node.Kind.{Kind}
-use Rattle.jsonc_tree.specs.declared.node.Node.{Node}
 use Rattle.jsonc_tree.specs.declared.node.Kind.TheVariants.{Root, Object, Array, Property, String, Word, Number, Boolean, Null, Token, Whitespace, Newline, Comment, StringPart, WordPart, NumberPart, WhitespacePart, CommentPart}
 
 -- how many more children a row takes: more than any number in memory
@@ -14,11 +15,11 @@ room_over row = 2 ^ 65 - length row
 
 module _ {A : Type 0} where
   -- what a node of this kind is
-  abbrev pub content_of : Kind A → content.Content
-  content_of Root = content.root
-  content_of Object = content.object
-  content_of Array = content.array
-  content_of Property = content.property
+  abbrev pub content_of : Kind A → Content
+  content_of (Root ends) = content.root
+  content_of (Object ends) = content.object
+  content_of (Array ends) = content.array
+  content_of (Property ends) = content.property
   content_of (String s) = content.string (string_bytes s)
   content_of (Word s) = content.word (string_bytes s)
   content_of (Number s) = content.number (string_bytes s)
@@ -34,77 +35,106 @@ module _ {A : Type 0} where
   content_of (WhitespacePart s) = content.whitespace s
   content_of (CommentPart s) = content.comment s
 
-  -- a node that is nobody's child
-  abbrev pub bare : Kind A → Node A
-  bare kind = record { kind = kind; parent = None; previous = None; next = None; first = None; last = None }
+  -- the first child of a container of this kind
+  abbrev pub first_end : Kind A → Option ℕ
+  first_end (Root ends) = ends.first
+  first_end (Object ends) = ends.first
+  first_end (Array ends) = ends.first
+  first_end (Property ends) = ends.first
+  first_end _ = None
 
-  abbrev pub nowhere : Node A
-  nowhere = record { kind = Null; parent = None; previous = None; next = None; first = None; last = None }
+  -- its last child
+  abbrev pub last_end : Kind A → Option ℕ
+  last_end (Root ends) = ends.last
+  last_end (Object ends) = ends.last
+  last_end (Array ends) = ends.last
+  last_end (Property ends) = ends.last
+  last_end _ = None
 
-  abbrev pub link_at : List (Node A) → ℕ → Node A
-  link_at ls n = slice_index_or ls n nowhere
+-- the ends of a container without children
+abbrev pub no_ends : Ends
+no_ends = record { first = None; last = None }
 
-  -- the nodes from here on along the next links, in at most so many steps
-  abbrev pub chain : ℕ → List (Node A) → Option ℕ → List ℕ
-  chain steps ls None = []
-  chain zero ls (Some n) = []
-  chain (suc steps) ls (Some n) = n ∷ chain steps ls (link_at ls n).next
+-- a node as it is linked: what it is, its parent, its neighbours, and the ends of its row
+pub record LinkedNode : Type 0 where
+  pub content : Content
+  pub parent : Option ℕ
+  pub previous : Option ℕ
+  pub next : Option ℕ
+  pub first : Option ℕ
+  pub last : Option ℕ
 
-  -- a node as it is shown
-  abbrev pub shown : List (Node A) → Node A → tree.Node
-  shown ls n = record { content = content_of n.kind; parent = n.parent; children = chain (length ls) ls n.first; room = room_over (chain (length ls) ls n.first) }
+-- a node that is nobody's child
+abbrev pub bare : Content → LinkedNode
+bare content = record { content = content; parent = None; previous = None; next = None; first = None; last = None }
 
-  abbrev pub nodes_of : List (Node A) → List tree.Node
-  nodes_of ls = map (shown ls) ls
+abbrev pub nowhere : LinkedNode
+nowhere = bare content.null
 
-  abbrev pub nodes_in : Vec (Node A) A → List tree.Node
-  nodes_in v = nodes_of v.items
+abbrev pub link_at : List LinkedNode → ℕ → LinkedNode
+link_at ls n = slice_index_or ls n nowhere
 
-  -- the link from a child of the container to the next, or from the container to its first
-  abbrev pub ahead_at : List (Node A) → ℕ → Option ℕ → Option ℕ
-  ahead_at ls c None = (link_at ls c).first
-  ahead_at ls c (Some n) = (link_at ls n).next
+-- the nodes from here on along the next links, in at most so many steps
+abbrev pub chain : ℕ → List LinkedNode → Option ℕ → List ℕ
+chain steps ls None = []
+chain zero ls (Some n) = []
+chain (suc steps) ls (Some n) = n ∷ chain steps ls (link_at ls n).next
 
-  -- the link from a child of the container to the one before, or from the container to its last
-  abbrev pub back_at : List (Node A) → ℕ → Option ℕ → Option ℕ
-  back_at ls c None = (link_at ls c).last
-  back_at ls c (Some n) = (link_at ls n).previous
+-- a node as it is shown
+abbrev pub shown : List LinkedNode → LinkedNode → tree.Node
+shown ls n = record { content = n.content; parent = n.parent; children = chain (length ls) ls n.first; room = room_over (chain (length ls) ls n.first) }
 
-  -- the nodes, but that this link leads here
-  abbrev pub ahead_set : List (Node A) → ℕ → Option ℕ → Option ℕ → List (Node A)
-  ahead_set ls c None to = slice_set ls c (record (link_at ls c) { first = to })
-  ahead_set ls c (Some n) to = slice_set ls n (record (link_at ls n) { next = to })
+abbrev pub nodes_of : List LinkedNode → List tree.Node
+nodes_of ls = map (shown ls) ls
 
-  abbrev pub back_set : List (Node A) → ℕ → Option ℕ → Option ℕ → List (Node A)
-  back_set ls c None to = slice_set ls c (record (link_at ls c) { last = to })
-  back_set ls c (Some n) to = slice_set ls n (record (link_at ls n) { previous = to })
+abbrev pub nodes_in : {A : Type 0} → Vec LinkedNode A → List tree.Node
+nodes_in v = nodes_of v.items
 
-  -- but that this node has this parent and these neighbours
-  abbrev pub place_set : List (Node A) → ℕ → Option ℕ → Option ℕ → Option ℕ → List (Node A)
-  place_set ls n parent previous next = slice_set ls n (record (link_at ls n) { parent = parent; previous = previous; next = next })
+-- the link from a child of the container to the next, or from the container to its first
+abbrev pub ahead_at : List LinkedNode → ℕ → Option ℕ → Option ℕ
+ahead_at ls c None = (link_at ls c).first
+ahead_at ls c (Some n) = (link_at ls n).next
 
-  -- Over each gap of each row the links lead from what stands before it to what stands behind it, and back; the container stands at both ends of its row. A
-  -- node without a parent has no neighbours.
-  pub record IsLinked (ls : List (Node A)) (ns : List tree.Node) : Type 0 where
-    pub ahead : (c k : ℕ) → k ≤ length (children_at ns c) → ahead_at ls c (before (children_at ns c) k) ≡ slice_get (children_at ns c) k
-    pub back : (c k : ℕ) → k ≤ length (children_at ns c) → back_at ls c (slice_get (children_at ns c) k) ≡ before (children_at ns c) k
-    pub alone : (n : ℕ) → parent_at ns n ≡ None → ((link_at ls n).next ≡ None) × ((link_at ls n).previous ≡ None)
+-- the link from a child of the container to the one before, or from the container to its last
+abbrev pub back_at : List LinkedNode → ℕ → Option ℕ → Option ℕ
+back_at ls c None = (link_at ls c).last
+back_at ls c (Some n) = (link_at ls n).previous
 
-  -- the nodes from here on along the previous links, in at most so many steps
-  abbrev pub chain_back : ℕ → List (Node A) → Option ℕ → List ℕ
-  chain_back steps ls None = []
-  chain_back zero ls (Some n) = []
-  chain_back (suc steps) ls (Some n) = n ∷ chain_back steps ls (link_at ls n).previous
+-- the nodes, but that this link leads here
+abbrev pub ahead_set : List LinkedNode → ℕ → Option ℕ → Option ℕ → List LinkedNode
+ahead_set ls c None to = slice_set ls c (record (link_at ls c) { first = to })
+ahead_set ls c (Some n) to = slice_set ls n (record (link_at ls n) { next = to })
 
-  -- this stands before a gap of a row
-  abbrev pub StandsBefore : List (Node A) → Option ℕ → Type 0
-  StandsBefore ls o = (c : ℕ) × (k : ℕ) × (k ≤ length (children_at (nodes_of ls) c)) × (o ≡ before (children_at (nodes_of ls) c) k)
+abbrev pub back_set : List LinkedNode → ℕ → Option ℕ → Option ℕ → List LinkedNode
+back_set ls c None to = slice_set ls c (record (link_at ls c) { last = to })
+back_set ls c (Some n) to = slice_set ls n (record (link_at ls n) { previous = to })
 
-  -- this stands at a place of a row, or past its end
-  abbrev pub Stands : List (Node A) → Option ℕ → Type 0
-  Stands ls o = (c : ℕ) × (k : ℕ) × (k ≤ length (children_at (nodes_of ls) c)) × (o ≡ slice_get (children_at (nodes_of ls) c) k)
+-- but that this node has this parent and these neighbours
+abbrev pub place_set : List LinkedNode → ℕ → Option ℕ → Option ℕ → Option ℕ → List LinkedNode
+place_set ls n parent previous next = slice_set ls n (record (link_at ls n) { parent = parent; previous = previous; next = next })
 
-  -- what is shown is a tree, and the links are those of its rows
-  pub record IsStored (ls : List (Node A)) : Type 0 where
-    pub tree : IsTree (nodes_of ls)
-    pub linked : IsLinked ls (nodes_of ls)
+-- Over each gap of each row the links lead from what stands before it to what stands behind it, and back; the container stands at both ends of its row. A
+-- node without a parent has no neighbours.
+pub record IsLinked (ls : List LinkedNode) (ns : List tree.Node) : Type 0 where
+  pub ahead : (c k : ℕ) → k ≤ length (children_at ns c) → ahead_at ls c (before (children_at ns c) k) ≡ slice_get (children_at ns c) k
+  pub back : (c k : ℕ) → k ≤ length (children_at ns c) → back_at ls c (slice_get (children_at ns c) k) ≡ before (children_at ns c) k
+  pub alone : (n : ℕ) → parent_at ns n ≡ None → ((link_at ls n).next ≡ None) × ((link_at ls n).previous ≡ None)
+
+-- the nodes from here on along the previous links, in at most so many steps
+abbrev pub chain_back : ℕ → List LinkedNode → Option ℕ → List ℕ
+chain_back steps ls None = []
+chain_back zero ls (Some n) = []
+chain_back (suc steps) ls (Some n) = n ∷ chain_back steps ls (link_at ls n).previous
+
+-- this stands before a gap of a row
+abbrev pub StandsBefore : List LinkedNode → Option ℕ → Type 0
+StandsBefore ls o = (c : ℕ) × (k : ℕ) × (k ≤ length (children_at (nodes_of ls) c)) × (o ≡ before (children_at (nodes_of ls) c) k)
+
+-- this stands at a place of a row, or past its end
+abbrev pub Stands : List LinkedNode → Option ℕ → Type 0
+Stands ls o = (c : ℕ) × (k : ℕ) × (k ≤ length (children_at (nodes_of ls) c)) × (o ≡ slice_get (children_at (nodes_of ls) c) k)
+
+-- what is shown is a tree, and the links are those of its rows
+pub record IsStored (ls : List LinkedNode) : Type 0 where
+  pub tree : IsTree (nodes_of ls)
+  pub linked : IsLinked ls (nodes_of ls)

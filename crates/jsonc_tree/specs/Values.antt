@@ -49,24 +49,32 @@ mutual
   -- the values of a row, in order
   pub data ItemsOf (o : Options) : OrderedTree → Items → Type 0 where
     no_more_items : ItemsOf o none no_items
-    pass_to_items : {content : Content} {below after : OrderedTree} {vs : Items} → IsTrue (is_passed_over content) → ItemsOf o after vs → ItemsOf o (more content below after) vs
-    one_item : {content : Content} {below after : OrderedTree} {v : Plain} {vs : Items} → ValueOf o content below v → ItemsOf o after vs → ItemsOf o (more content below after) (item v vs)
+    pass_to_items : {content : Content} {below after : OrderedTree} {vs : Items} → IsTrue (is_passed_over content)
+        → ItemsOf o after vs → ItemsOf o (more content below after) vs
+    one_item : {content : Content} {below after : OrderedTree} {v : Plain} {vs : Items} → ValueOf o content below v
+        → ItemsOf o after vs → ItemsOf o (more content below after) (item v vs)
 
   -- the properties of a row, in order
   pub data MembersOf (o : Options) : OrderedTree → Members → Type 0 where
     no_more_members : MembersOf o none no_members
-    pass_to_members : {content : Content} {below after : OrderedTree} {ms : Members} → IsTrue (is_passed_over content) → MembersOf o after ms → MembersOf o (more content below after) ms
-    one_member : {below after : OrderedTree} {name : List ℕ} {v : Plain} {ms : Members} → PropertyOf o below name v → MembersOf o after ms → MembersOf o (more Content.property below after) (member name v ms)
+    pass_to_members : {content : Content} {below after : OrderedTree} {ms : Members} → IsTrue (is_passed_over content)
+        → MembersOf o after ms → MembersOf o (more content below after) ms
+    one_member : {below after : OrderedTree} {name : List ℕ} {v : Plain} {ms : Members} → PropertyOf o below name v
+        → MembersOf o after ms → MembersOf o (more Content.property below after) (member name v ms)
 
   -- the row is a name, and then one value
   pub data PropertyOf (o : Options) : OrderedTree → List ℕ → Plain → Type 0 where
-    pass_to_name : {content : Content} {below after : OrderedTree} {name : List ℕ} {v : Plain} → IsTrue (is_passed_over content) → PropertyOf o after name v → PropertyOf o (more content below after) name v
-    name_of : {content : Content} {after : OrderedTree} {name : List ℕ} {v : Plain} → IsNameLeaf o content name → HoldsValue o after v → PropertyOf o (more content none after) name v
+    pass_to_name : {content : Content} {below after : OrderedTree} {name : List ℕ} {v : Plain}
+        → IsTrue (is_passed_over content) → PropertyOf o after name v → PropertyOf o (more content below after) name v
+    name_of : {content : Content} {after : OrderedTree} {name : List ℕ} {v : Plain} → IsNameLeaf o content name
+        → HoldsValue o after v → PropertyOf o (more content none after) name v
 
   -- one value stands in the row
   pub data HoldsValue (o : Options) : OrderedTree → Plain → Type 0 where
-    pass_to_value : {content : Content} {below after : OrderedTree} {v : Plain} → IsTrue (is_passed_over content) → HoldsValue o after v → HoldsValue o (more content below after) v
-    value_of : {content : Content} {below after : OrderedTree} {v : Plain} → ValueOf o content below v → HasNoValue after → HoldsValue o (more content below after) v
+    pass_to_value : {content : Content} {below after : OrderedTree} {v : Plain} → IsTrue (is_passed_over content)
+        → HoldsValue o after v → HoldsValue o (more content below after) v
+    value_of : {content : Content} {below after : OrderedTree} {v : Plain} → ValueOf o content below v
+        → HasNoValue after → HoldsValue o (more content below after) v
 
 -- no value stands in the row, or one
 abbrev pub HoldsAtMostOne : Options → OrderedTree → Option Plain → Type 0

@@ -1,9 +1,9 @@
 //! The links of a row: how they are read and written, one at a time.
 
-ghost use Rattle.std.specs.Prelude.{◌≡◌, ◌<◌, ◌-◌, ◌^◌, vec_len, vec_capacity, IfSome};
+ghost use Rattle.std.specs.Prelude.{◌≡◌, ◌<◌, ◌-◌, ◌^◌, true, vec_len, vec_capacity, IfSome};
+ghost use Rattle.jsonc_tree.specs.Content.{is_container};
 ghost use Rattle.jsonc_tree.specs.Stored.{link_at, ahead_set, back_set, back_at, place_set};
 
-use crate::link::Link;
 use crate::node::Node;
 use std::alloc::Allocator;
 
@@ -15,6 +15,7 @@ pub(crate) fn set_ahead<A: Allocator>(
     to: Option<usize>,
 )
     requires there { c < vec_len nodes.old }
+    requires container { is_container (link_at nodes.old.items c).content ≡ true }
     requires before { IfSome before (λ n. n < vec_len nodes.old) }
     requires to { IfSome to (λ n. n < 2 ^ 64 - 1) }
     ensures nodes { nodes.new.items ≡ ahead_set nodes.old.items c before to }
@@ -24,11 +25,11 @@ pub(crate) fn set_ahead<A: Allocator>(
     match before {
         None => {
             let container = &mut nodes[c];
-            container.first = Link::from_option(to);
+            container.set_first(to);
         }
         Some(n) => {
             let node = &mut nodes[n];
-            node.next = Link::from_option(to);
+            node.set_next(to);
         }
     }
 }
@@ -41,6 +42,7 @@ pub(crate) fn set_back<A: Allocator>(
     to: Option<usize>,
 )
     requires there { c < vec_len nodes.old }
+    requires container { is_container (link_at nodes.old.items c).content ≡ true }
     requires behind { IfSome behind (λ n. n < vec_len nodes.old) }
     requires to { IfSome to (λ n. n < 2 ^ 64 - 1) }
     ensures nodes { nodes.new.items ≡ back_set nodes.old.items c behind to }
@@ -50,11 +52,11 @@ pub(crate) fn set_back<A: Allocator>(
     match behind {
         None => {
             let container = &mut nodes[c];
-            container.last = Link::from_option(to);
+            container.set_last(to);
         }
         Some(n) => {
             let node = &mut nodes[n];
-            node.previous = Link::from_option(to);
+            node.set_previous(to);
         }
     }
 }
@@ -76,44 +78,47 @@ pub(crate) fn set_place<A: Allocator>(
     ensures capacity { vec_capacity nodes.new ≡ vec_capacity nodes.old }
 {
     let node = &mut nodes[n];
-    node.parent = Link::from_option(parent);
-    node.previous = Link::from_option(previous);
-    node.next = Link::from_option(next);
+    node.set_place(parent, previous, next);
 }
 
 pub(crate) fn parent_of<A: Allocator>(nodes: &Vec<Node<A>, A>, n: usize) -> Option<usize>
     requires { n < vec_len nodes.now }
     ensures { result ≡ (link_at nodes.now.items n).parent }
 {
-    nodes[n].parent.get()
+    let node = &nodes[n];
+    node.parent()
 }
 
 pub(crate) fn next_of<A: Allocator>(nodes: &Vec<Node<A>, A>, n: usize) -> Option<usize>
     requires { n < vec_len nodes.now }
     ensures { result ≡ (link_at nodes.now.items n).next }
 {
-    nodes[n].next.get()
+    let node = &nodes[n];
+    node.next()
 }
 
 pub(crate) fn previous_of<A: Allocator>(nodes: &Vec<Node<A>, A>, n: usize) -> Option<usize>
     requires { n < vec_len nodes.now }
     ensures { result ≡ (link_at nodes.now.items n).previous }
 {
-    nodes[n].previous.get()
+    let node = &nodes[n];
+    node.previous()
 }
 
 pub(crate) fn first_of<A: Allocator>(nodes: &Vec<Node<A>, A>, n: usize) -> Option<usize>
     requires { n < vec_len nodes.now }
     ensures { result ≡ (link_at nodes.now.items n).first }
 {
-    nodes[n].first.get()
+    let node = &nodes[n];
+    node.first()
 }
 
 pub(crate) fn last_of<A: Allocator>(nodes: &Vec<Node<A>, A>, n: usize) -> Option<usize>
     requires { n < vec_len nodes.now }
     ensures { result ≡ (link_at nodes.now.items n).last }
 {
-    nodes[n].last.get()
+    let node = &nodes[n];
+    node.last()
 }
 
 pub(crate) fn before_of<A: Allocator>(

@@ -1,12 +1,14 @@
 //! What a node is.
 
-ghost use Rattle.std.specs.Prelude.{◌≡◌, option_map};
+ghost use Rattle.std.specs.Prelude.{◌≡◌, ◌<◌, ◌-◌, ◌^◌, true, false, None, option_map, IfSome};
 ghost use Rattle.jsonc_tree.specs.Content.{is_container, kept_text};
-ghost use Rattle.jsonc_tree.specs.Stored.{bare, content_of};
+ghost use Rattle.jsonc_tree.specs.Stored.{bare, content_of, first_end, last_end, no_ends};
 
 use crate::link::Link;
 use crate::part::Part;
+use crate::token::TokenChar;
 use std::alloc::Allocator;
+use std::marker::Model;
 
 /// How a line ends.
 #[derive(Clone, Copy, PartialEq, Eq, Debug)]
@@ -24,22 +26,57 @@ impl Default for CstNewlineKind {
     }
 }
 
-/// What a node is, a leaf with its text.
+/// The first and the last child of a container, where it has any.
+#[derive(Drop)]
+pub struct Ends {
+    first: Link,
+    last: Link,
+}
+
+impl Ends {
+    /// The ends of a container without children, as every container begins.
+    pub fn none() -> Ends
+        ensures { result ≡ no_ends }
+    {
+        Ends {
+            first: Link::from_option(None),
+            last: Link::from_option(None),
+        }
+    }
+
+    fn set_first(&mut self, to: Option<usize>)
+        requires { IfSome to (λ n. n < 2 ^ 64 - 1) }
+        ensures first { self.new.first ≡ to }
+        ensures last { self.new.last ≡ self.old.last }
+    {
+        self.first = Link::from_option(to);
+    }
+
+    fn set_last(&mut self, to: Option<usize>)
+        requires { IfSome to (λ n. n < 2 ^ 64 - 1) }
+        ensures first { self.new.first ≡ self.old.first }
+        ensures last { self.new.last ≡ to }
+    {
+        self.last = Link::from_option(to);
+    }
+}
+
+/// What a node is, a leaf with its text, a container with its first and last child.
 ///
 /// The text of a string has its quotes, that of a comment its marks. A leaf that was parsed has a part
 /// of the document's text, one that was made anew a text of its own.
 #[derive(Drop)]
 pub enum Kind<A: Allocator> {
-    Root,
-    Object,
-    Array,
-    Property,
+    Root(Ends),
+    Object(Ends),
+    Array(Ends),
+    Property(Ends),
     String(String<A>),
     Word(String<A>),
     Number(String<A>),
     Boolean(bool),
     Null,
-    Token(char),
+    Token(TokenChar),
     Whitespace(String<A>),
     Newline(CstNewlineKind),
     Comment(String<A>),
@@ -51,12 +88,19 @@ pub enum Kind<A: Allocator> {
 }
 
 impl<A: Allocator> Kind<A> {
+    /// A token of one character.
+    pub fn token(c: char) -> Kind<A>
+        ensures { result ≡ Kind.Token c }
+    {
+        Kind::Token(TokenChar::new(c))
+    }
+
     /// Whether a node of this kind may have children: the root, an object, an array or a property.
     pub fn is_container(&self) -> bool
         ensures { result ≡ is_container (content_of self.now) }
     {
         match self {
-            Kind::Root | Kind::Object | Kind::Array | Kind::Property => true,
+            Kind::Root(_) | Kind::Object(_) | Kind::Array(_) | Kind::Property(_) => true,
             _ => false,
         }
     }
@@ -79,29 +123,205 @@ impl<A: Allocator> Kind<A> {
             _ => None,
         }
     }
+
+    fn first(&self) -> Option<usize>
+        ensures { result ≡ first_end self.now }
+    {
+        match self {
+            Kind::Root(ends) | Kind::Object(ends) | Kind::Array(ends) | Kind::Property(ends) => {
+                ends.first.get()
+            }
+            _ => None,
+        }
+    }
+
+    fn last(&self) -> Option<usize>
+        ensures { result ≡ last_end self.now }
+    {
+        match self {
+            Kind::Root(ends) | Kind::Object(ends) | Kind::Array(ends) | Kind::Property(ends) => {
+                ends.last.get()
+            }
+            _ => None,
+        }
+    }
+
+    // A container gets this first child.
+    fn set_first(&mut self, to: Option<usize>)
+        requires container { is_container (content_of self.old) ≡ true }
+        requires to { IfSome to (λ n. n < 2 ^ 64 - 1) }
+        ensures content { content_of self.new ≡ content_of self.old }
+        ensures first { first_end self.new ≡ to }
+        ensures last { last_end self.new ≡ last_end self.old }
+    {
+        match self {
+            Kind::Root(ends) => ends.set_first(to),
+            Kind::Object(ends) => ends.set_first(to),
+            Kind::Array(ends) => ends.set_first(to),
+            Kind::Property(ends) => ends.set_first(to),
+            _ => {}
+        }
+    }
+
+    // A container gets this last child.
+    fn set_last(&mut self, to: Option<usize>)
+        requires container { is_container (content_of self.old) ≡ true }
+        requires to { IfSome to (λ n. n < 2 ^ 64 - 1) }
+        ensures content { content_of self.new ≡ content_of self.old }
+        ensures first { first_end self.new ≡ first_end self.old }
+        ensures last { last_end self.new ≡ to }
+    {
+        match self {
+            Kind::Root(ends) => ends.set_last(to),
+            Kind::Object(ends) => ends.set_last(to),
+            Kind::Array(ends) => ends.set_last(to),
+            Kind::Property(ends) => ends.set_last(to),
+            _ => {}
+        }
+    }
+}
+
+// The same kind, a container without children.
+fn without_children<A: Allocator>(kind: Kind<A>) -> Kind<A>
+    ensures content { content_of result ≡ content_of kind }
+    ensures first { first_end result ≡ None }
+    ensures last { last_end result ≡ None }
+{
+    match kind {
+        Kind::Root(_) => Kind::Root(Ends::none()),
+        Kind::Object(_) => Kind::Object(Ends::none()),
+        Kind::Array(_) => Kind::Array(Ends::none()),
+        Kind::Property(_) => Kind::Property(Ends::none()),
+        leaf => leaf,
+    }
 }
 
 // A node as it is stored: its neighbours are those among its parent's children.
 #[derive(Drop)]
 pub(crate) struct Node<A: Allocator> {
-    pub(crate) kind: Kind<A>,
-    pub(crate) parent: Link,
-    pub(crate) previous: Link,
-    pub(crate) next: Link,
-    pub(crate) first: Link,
-    pub(crate) last: Link,
+    kind: Kind<A>,
+    parent: Link,
+    previous: Link,
+    next: Link,
 }
 
-// A node that is nobody's child.
+impl<A: Allocator> Model for Node<A> {
+    ghost use Rattle.jsonc_tree.specs.Stored.{LinkedNode, content_of, first_end, last_end};
+
+    ghost Value = { LinkedNode };
+
+    ghost view = { λ n. record {
+      content = content_of n.kind;
+      parent = n.parent;
+      previous = n.previous;
+      next = n.next;
+      first = first_end n.kind;
+      last = last_end n.kind;
+    } };
+}
+
+// A node that is nobody's child, and has none.
 pub(crate) fn bare_node<A: Allocator>(kind: Kind<A>) -> Node<A>
-    ensures { result ≡ bare kind }
+    ensures { result ≡ bare (content_of kind) }
 {
     Node {
-        kind,
+        kind: without_children(kind),
         parent: Link::from_option(None),
         previous: Link::from_option(None),
         next: Link::from_option(None),
-        first: Link::from_option(None),
-        last: Link::from_option(None),
+    }
+}
+
+impl<A: Allocator> Node<A> {
+    pub(crate) fn kind(&self) -> &Kind<A>
+        ensures { content_of result.now ≡ self.now.content }
+    {
+        &self.kind
+    }
+
+    pub(crate) fn parent(&self) -> Option<usize>
+        ensures { result ≡ self.now.parent }
+    {
+        self.parent.get()
+    }
+
+    pub(crate) fn previous(&self) -> Option<usize>
+        ensures { result ≡ self.now.previous }
+    {
+        self.previous.get()
+    }
+
+    pub(crate) fn next(&self) -> Option<usize>
+        ensures { result ≡ self.now.next }
+    {
+        self.next.get()
+    }
+
+    pub(crate) fn first(&self) -> Option<usize>
+        ensures { result ≡ self.now.first }
+    {
+        self.kind.first()
+    }
+
+    pub(crate) fn last(&self) -> Option<usize>
+        ensures { result ≡ self.now.last }
+    {
+        self.kind.last()
+    }
+
+    // A leaf becomes another.
+    pub(crate) fn set_leaf(&mut self, kind: Kind<A>)
+        requires leaf { is_container self.old.content ≡ false }
+        requires stays { is_container (content_of kind) ≡ false }
+        ensures { self.new ≡ record self.old { content = content_of kind } }
+    {
+        self.kind = kind;
+    }
+
+    pub(crate) fn set_first(&mut self, to: Option<usize>)
+        requires container { is_container self.old.content ≡ true }
+        requires to { IfSome to (λ n. n < 2 ^ 64 - 1) }
+        ensures { self.new ≡ record self.old { first = to } }
+    {
+        self.kind.set_first(to);
+    }
+
+    pub(crate) fn set_last(&mut self, to: Option<usize>)
+        requires container { is_container self.old.content ≡ true }
+        requires to { IfSome to (λ n. n < 2 ^ 64 - 1) }
+        ensures { self.new ≡ record self.old { last = to } }
+    {
+        self.kind.set_last(to);
+    }
+
+    pub(crate) fn set_previous(&mut self, to: Option<usize>)
+        requires { IfSome to (λ n. n < 2 ^ 64 - 1) }
+        ensures { self.new ≡ record self.old { previous = to } }
+    {
+        self.previous = Link::from_option(to);
+    }
+
+    pub(crate) fn set_next(&mut self, to: Option<usize>)
+        requires { IfSome to (λ n. n < 2 ^ 64 - 1) }
+        ensures { self.new ≡ record self.old { next = to } }
+    {
+        self.next = Link::from_option(to);
+    }
+
+    // Its parent and its neighbours are these.
+    pub(crate) fn set_place(
+        &mut self,
+        parent: Option<usize>,
+        previous: Option<usize>,
+        next: Option<usize>,
+    )
+        requires parent { IfSome parent (λ n. n < 2 ^ 64 - 1) }
+        requires previous { IfSome previous (λ n. n < 2 ^ 64 - 1) }
+        requires next { IfSome next (λ n. n < 2 ^ 64 - 1) }
+        ensures { self.new ≡ record self.old { parent = parent; previous = previous; next = next } }
+    {
+        self.parent = Link::from_option(parent);
+        self.previous = Link::from_option(previous);
+        self.next = Link::from_option(next);
     }
 }

@@ -17,14 +17,14 @@ fn write_own<A: Allocator, W: fmt::Write>(kind: &Kind<A>, f: &mut fmt::Formatter
     ensures { WritesStyledOnOk W.write_str_gives f.old result (text_of (content_of kind.now)) f.new }
 {
     match kind {
-        Kind::Root | Kind::Object | Kind::Array | Kind::Property => Ok(()),
+        Kind::Root(_) | Kind::Object(_) | Kind::Array(_) | Kind::Property(_) => Ok(()),
         Kind::String(s) => f.write_str(s.as_str()),
         Kind::Word(s) => f.write_str(s.as_str()),
         Kind::Number(s) => f.write_str(s.as_str()),
         Kind::Boolean(true) => f.write_str("true"),
         Kind::Boolean(false) => f.write_str("false"),
         Kind::Null => f.write_str("null"),
-        Kind::Token(c) => f.write_char(*c),
+        Kind::Token(c) => f.write_char(c.get()),
         Kind::Whitespace(s) => f.write_str(s.as_str()),
         Kind::Newline(CstNewlineKind::LineFeed) => f.write_str("\n"),
         Kind::Newline(CstNewlineKind::CarriageReturnLineFeed) => f.write_str("\r\n"),
@@ -47,7 +47,8 @@ fn write_below<A: Allocator, W: fmt::Write>(
     requires stored { IsStored nodes.now.items }
     requires there { end < vec_len nodes.now }
     ensures writes { WritesOnOk W.write_str_gives f.old result (printed (ordered_tree (nodes_in nodes.now) end)) f.new }
-    ensures styled { WritesStyledOnOk W.write_str_gives f.old result (printed (ordered_tree (nodes_in nodes.now) end)) f.new }
+    ensures styled { WritesStyledOnOk W.write_str_gives f.old result
+        (printed (ordered_tree (nodes_in nodes.now) end)) f.new }
 {
     let mut next = Some(end);
     while let Some(n) = next {

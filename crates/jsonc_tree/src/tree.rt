@@ -10,7 +10,7 @@ ghost use Rattle.jsonc_tree.specs.Siblings.{Fills, HasGap};
 ghost use Rattle.jsonc_tree.specs.Stored.{content_of, nodes_in, IsStored};
 
 use crate::links::first_of;
-use crate::node::{Kind, Node, bare_node};
+use crate::node::{Ends, Kind, Node, bare_node};
 use crate::splice::{append_node, put_between, splice_nodes};
 use std::alloc::{AllocError, Allocator};
 use std::marker::Model;
@@ -50,7 +50,8 @@ fn set_leaf_at<A: Allocator>(nodes: &mut Vec<Node<A>, A>, leaf: usize, kind: Kin
     ensures len { vec_len nodes.new ≡ vec_len nodes.old }
     ensures capacity { vec_capacity nodes.new ≡ vec_capacity nodes.old }
 {
-    nodes[leaf].kind = kind;
+    let node = &mut nodes[leaf];
+    node.set_leaf(kind);
 }
 
 // There is room for any number of children.
@@ -193,7 +194,7 @@ impl<A: Allocator> Tree<A> {
         ensures tree { IfOk result (λ t. IsTree t.nodes) }
     {
         let mut nodes = Vec::new(alloc);
-        nodes.push(bare_node(Kind::Root))?;
+        nodes.push(bare_node(Kind::Root(Ends::none())))?;
         Ok(Tree { nodes })
     }
 

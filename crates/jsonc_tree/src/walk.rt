@@ -18,7 +18,8 @@ pub(crate) fn kind_of<A: Allocator>(nodes: &Vec<Node<A>, A>, n: usize) -> &Kind<
     requires { n < vec_len nodes.now }
     ensures { content_of result.now ≡ content_at (nodes_in nodes.now) n }
 {
-    &nodes[n].kind
+    let node = &nodes[n];
+    node.kind()
 }
 
 pub(crate) fn parent_in<A: Allocator>(nodes: &Vec<Node<A>, A>, n: usize) -> Option<usize>

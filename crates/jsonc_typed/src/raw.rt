@@ -92,7 +92,7 @@ pub trait SetToken: IsNode {
 
 impl SetToken for CstToken {
     fn set_value<A: Allocator>(self, doc: &mut CstRootNode<A>, value: char) {
-        set_leaf(doc, self.node(), Kind::Token(value));
+        set_leaf(doc, self.node(), Kind::token(value));
     }
 }
 

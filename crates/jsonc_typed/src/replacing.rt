@@ -35,7 +35,7 @@ fn is_name_in<A: Allocator>(tree: &Tree<A>, number: usize) -> bool
         return false;
     };
     match tree.kind(parent) {
-        Kind::Property => is_name_of(tree, parent, number),
+        Kind::Property(_) => is_name_of(tree, parent, number),
         _ => false,
     }
 }

@@ -28,10 +28,10 @@ pub fn node_at<A: Allocator>(tree: &Tree<A>, number: usize) -> CstNode
     ensures held { IsNodeOf tree.now.nodes result }
 {
     match tree.kind(number) {
-        Kind::Root => CstRoot { number }.into(),
-        Kind::Object => CstObject { number }.into(),
-        Kind::Array => CstArray { number }.into(),
-        Kind::Property => CstObjectProp { number }.into(),
+        Kind::Root(_) => CstRoot { number }.into(),
+        Kind::Object(_) => CstObject { number }.into(),
+        Kind::Array(_) => CstArray { number }.into(),
+        Kind::Property(_) => CstObjectProp { number }.into(),
         Kind::String(_) | Kind::StringPart(_) => CstStringLit { number }.into(),
         Kind::Word(_) | Kind::WordPart(_) => CstWordLit { number }.into(),
         Kind::Number(_) | Kind::NumberPart(_) => CstNumberLit { number }.into(),
@@ -52,10 +52,10 @@ fn container_at<A: Allocator>(tree: &Tree<A>, number: usize) -> CstContainerNode
     ensures held { IsNodeOf tree.now.nodes (CstNode.Container result) }
 {
     match tree.kind(number) {
-        Kind::Root => CstRoot { number }.into(),
-        Kind::Object => CstObject { number }.into(),
-        Kind::Array => CstArray { number }.into(),
-        Kind::Property => CstObjectProp { number }.into(),
+        Kind::Root(_) => CstRoot { number }.into(),
+        Kind::Object(_) => CstObject { number }.into(),
+        Kind::Array(_) => CstArray { number }.into(),
+        Kind::Property(_) => CstObjectProp { number }.into(),
         _ => unreachable!(),
     }
 }
@@ -146,7 +146,7 @@ impl CstNode {
         ensures { IsAs Content.token (content_of doc.now self) result }
     {
         match doc.tree.kind(self.number()) {
-            Kind::Token(c) => Some(*c),
+            Kind::Token(c) => Some(c.get()),
             _ => None,
         }
     }
@@ -156,7 +156,10 @@ impl CstNode {
         requires { Holds doc.now self }
         ensures { IsTrue result ↔ (content_of doc.now self ≡ Content.token 44) }
     {
-        matches!(doc.tree.kind(self.number()), Kind::Token(','))
+        match doc.tree.kind(self.number()) {
+            Kind::Token(c) => c.get() == ',',
+            _ => false,
+        }
     }
 }
 

@@ -36,7 +36,7 @@ fn is_property<A: Allocator>(tree: &Tree<A>, number: usize) -> bool
         return false;
     }
     match tree.kind(number) {
-        Kind::Property => true,
+        Kind::Property(_) => true,
         _ => false,
     }
 }

@@ -78,7 +78,7 @@ impl CstToken {
         ensures { content_of doc.now (token_node self) ≡ Content.token result }
     {
         match doc.tree.kind(self.number) {
-            Kind::Token(c) => *c,
+            Kind::Token(c) => c.get(),
             _ => unreachable!(),
         }
     }

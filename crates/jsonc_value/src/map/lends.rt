@@ -21,7 +21,8 @@ impl<K: Eq + Hash, V, A: Allocator> Map<K, V, A> {
 
     /// The value of this key, to write.
     pub fn get_mut(&mut self, key: &K) -> Option<&mut V>
-        ensures* writes_back { sem 𝓛 (lends_value K.row V.row A.row K.Hash A.Allocator self.entry (K.eq key.now) result) }
+        ensures* writes_back { sem 𝓛
+            (lends_value K.row V.row A.row K.Hash A.Allocator self.entry (K.eq key.now) result) }
         ensures value { option_copied_mut result ≡ lookup (K.eq key.now) self.old }
     {
         match self.keys.get_index_of(key) {
@@ -50,7 +51,8 @@ impl<K: Eq + Hash + Drop, V: Drop, A: Allocator> Map<K, V, A> {
     fn place_or_insert(&mut self, key: K, value: V) -> Result<usize, AllocFailed<V>>
         ensures within { IfOk result (λ i. i < length self.new) }
         ensures place { IfOk result (λ i. IsPlaceOf K.eq key self.old self.new i) }
-        ensures value { IfOk result (λ i. slice_get (values_of self.new) i ≡ Some (unwrap_or (lookup (K.eq key) self.old) value)) }
+        ensures value { IfOk result (λ i. slice_get (values_of self.new) i
+            ≡ Some (unwrap_or (lookup (K.eq key) self.old) value)) }
         ensures value_returned { IfErr result (λ y. y.value ≡ value) }
         ensures err { OnErr result (self.new ≡ self.old) }
     {

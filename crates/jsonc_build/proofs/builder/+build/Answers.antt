@@ -1,6 +1,7 @@
 use Rattle.std.proofs.Common.{◌≡◌, ◌<◌, ◌∙◌, sym, ap, subst, refl, arith, length, IsTrue}
 use Rattle.std.specs.Rc.{rc_str_bytes}
 use Rattle.jsonc_tree.specs.Content as content
+use Rattle.jsonc_tree.specs.Stored.{content_of}
 use Rattle.jsonc_tree.specs.Tree.{is_container_at}
 use Rattle.jsonc_ast.specs.Located.{range_at, array_at, object_at}
 use Rattle.jsonc_ast.specs.Views.{located, member_of, items_located, members_located}
@@ -11,7 +12,7 @@ use denote.Param.Weighed.{most}
 use Rattle.jsonc_build.specs.Growth.{Grows}
 use Rattle.jsonc_build.specs.Laid.{CanLay, CanLayItems, CanLayMembers, CanLayProperty, string_leaf, number_leaf, boolean_leaf, null_leaf}
 use Rattle.jsonc_build.specs.Filling.{IsFillable}
-use Rattle.jsonc_build.proofs.Growing.{grows_append, grows_leaf, container_kept}
+use Rattle.jsonc_build.proofs.Growing.{grows_append, grows_leaf, container_kept, pushes_same}
 use Rattle.jsonc_build.proofs.Building.{elements_start, elements_at, elements_more, elements_end, items_none_left, properties_start, properties_at, properties_more, properties_end, members_none_left, property_built, on_ok, pushed_there, pushed_container, still_there, bracketed_into, items_within, members_within, items_inside, members_inside, laid_as, can_lay_as}
 use Rattle.jsonc_build.proofs.Views.{view-Array, view-Object, view-StringLit, view-NumberLit, view-BooleanLit, view-NullKeyword, view-property, size-Array, size-Object, size-element, size-member}
 use Rattle.jsonc_build.proofs.Parts.{part_of_same}
@@ -168,7 +169,7 @@ build_value-returns-in_ok-push_child-in-Array-2 g t c =
     let last = c.in_ok-push_child-in-Array-2.ensures in
     let there : c.args.container < length c.args.tree.now.nodes = assumption c.requires in
     let is : located c.args.value.now ≡ array_at o.range (items_located c.deref.result.now) = ap located c.in-Array.is ∙ view-Array c.in-Array.array ∙ ap (λ xs. array_at o.range (items_located xs)) (sym c.deref.ensures.value) in
-    (content.array, _, bracketed_into c.in_ok-node-in-Array.node there node.number node.pushes bracket.pushes built.1 last.pushes, laid_as is (items_inside o.range c.inside-range.result c.inside-range.ensures.start c.inside-range.ensures.end built.2))
+    (content.array, _, bracketed_into c.in_ok-node-in-Array.node there node.number node.pushes (pushes_same (ap content_of c.token.ensures) bracket.pushes) built.1 (pushes_same (ap content_of c.token-in-Array.ensures) last.pushes), laid_as is (items_inside o.range c.inside-range.result c.inside-range.ensures.start c.inside-range.ensures.end built.2))
 
 pub build_value-inside-range-requires-in-Object : goal.build_value-inside-range-requires-in-Object
 build_value-inside-range-requires-in-Object g t c =
@@ -203,7 +204,7 @@ build_value-returns-in_ok-push_child-in-Object-2 g t c =
     let last = c.in_ok-push_child-in-Object-2.ensures in
     let there : c.args.container < length c.args.tree.now.nodes = assumption c.requires in
     let is : located c.args.value.now ≡ object_at o.range (members_located c.deref-in-Object.result.now) = ap located c.in-Object.is ∙ view-Object c.in-Object.object ∙ ap (λ xs. object_at o.range (members_located xs)) (sym c.deref-in-Object.ensures.value) in
-    (content.object, _, bracketed_into c.in_ok-node-in-Object.node there node.number node.pushes bracket.pushes built.1 last.pushes, laid_as is (members_inside o.range c.inside-range-in-Object.result c.inside-range-in-Object.ensures.start c.inside-range-in-Object.ensures.end built.2))
+    (content.object, _, bracketed_into c.in_ok-node-in-Object.node there node.number node.pushes (pushes_same (ap content_of c.token-in-Object.ensures) bracket.pushes) built.1 (pushes_same (ap content_of c.token-in-Object-2.ensures) last.pushes), laid_as is (members_inside o.range c.inside-range-in-Object.result c.inside-range-in-Object.ensures.start c.inside-range-in-Object.ensures.end built.2))
 
 pub build_value-returns-in_ok-push_child-in-StringLit : goal.build_value-returns-in_ok-push_child-in-StringLit
 build_value-returns-in_ok-push_child-in-StringLit g t c =

@@ -1,5 +1,7 @@
-use Rattle.std.proofs.Common.{sym, ◌∙◌}
+use Rattle.std.proofs.Common.{sym, ap, subst, ◌∙◌, ◌+◌}
 use Rattle.jsonc_tree.specs.Content.{newline}
+use Rattle.jsonc_tree.specs.Stored.{content_of}
+use Rattle.jsonc_build.specs.Leaves.{LeafAt}
 use Rattle.jsonc_build.proofs.GapLeaves.{comment_at, comment_begins_at, mark_at, feed_at, return_at, blanks_at}
 use Rattle.jsonc_build.proofs.Parts.{part_of_same}
 use Rattle.jsonc_build.proofs.fill.leaf_at.Goals as goal
@@ -13,7 +15,9 @@ returns-then-c-eq47 g c =
     comment_at c.args.text.now c.args.place c.comment_end-end.result _ c.utf8.text c.requires.place ends.place ends.order ends.comment (part_of_same _ _ _ c.in_ok-comment.ensures c.requires.whole)
 
 pub returns-then-is_separator : goal.returns-then-is_separator
-returns-then-is_separator g c = mark_at c.args.text.now c.args.place c.args.c c.len_utf8.result c.requires.stands c.len_utf8.ensures.value (sym c.is_separator.ensures ∙ c.if-is_separator.true)
+returns-then-is_separator g c =
+    subst (λ x. LeafAt c.args.text.now x c.args.place (c.args.place + c.len_utf8.result)) (sym (ap content_of c.token.ensures))
+    (mark_at c.args.text.now c.args.place c.args.c c.len_utf8.result c.requires.stands c.len_utf8.ensures.value (sym c.is_separator.ensures ∙ c.if-is_separator.true))
 
 pub returns-then-c-eq10 : goal.returns-then-c-eq10
 returns-then-c-eq10 g c = feed_at c.args.text.now c.args.place c.args.c c.len_utf8.result c.requires.stands c.len_utf8.ensures.value c.if-c-eq10.true

@@ -2,12 +2,13 @@ use Rattle.std.proofs.Common.{◌∙◌, ap, sym, subst, refl, chars, arith}
 use Rattle.jsonc_text.specs.Plain.{array, object}
 use Rattle.jsonc_tree.specs.OrderedTree.{none}
 use Rattle.jsonc_tree.specs.Building.{Builds}
+use Rattle.jsonc_tree.specs.Stored.{content_of}
 use Rattle.jsonc_tree.specs.Content as content
 use Rattle.jsonc_input.specs.Views.{plain, items_plain, members_plain}
 use Rattle.jsonc_from_input.specs.Layout.{layout_of}
 use Rattle.jsonc_from_input.specs.Extending.{Extends, IsUnfinished}
 use Rattle.jsonc_from_input.specs.Laid.{laid, laid_items, laid_members, laid_property, leaf_then, node_then, on_lines, closed}
-use Rattle.jsonc_from_input.proofs.Extending.{on_ok, built_on, can_append, extends_appends, extends_none, extends_then, keeps_both, keeps_old}
+use Rattle.jsonc_from_input.proofs.Extending.{on_ok, begun_same, built_on, can_append, extends_appends, extends_none, extends_same, extends_then, keeps_both, keeps_old}
 use Rattle.jsonc_from_input.proofs.Leaves.{leaf_built, built_as}
 use Rattle.jsonc_from_input.proofs.Rows.{lines_at, line_at, properties_at, lines_none, line_none, properties_past, line_written, among_written, written_start, written_end, pair_laid, elements_then, properties_then, elements_spread, properties_spread, properties_none}
 use Rattle.jsonc_from_input.proofs.Views.{plain-Array, plain-Object, plain-Null, plain-Bool, length_none, length_some, part_smaller}
@@ -38,16 +39,19 @@ pub lay_out_array-returns-clause-built : goal.lay_out_array-returns-clause-built
 lay_out_array-returns-clause-built g t c =
     subst (λ row. Builds c.args.tree.now.nodes c.push_leaf.new.tree.nodes c.in_ok-array.array content.array (leaf_then (content.token 0x5B) row))
     (elements_then (layout_of c.args.layout.now) (items_plain c.args.elements.now) (closed 0x5D))
-    (built_on (built_on c.in_ok-array.ensures.built c.in_ok-push_elements.ensures.added) c.in_ok-push_leaf.ensures.added)
+    (built_on (built_on (begun_same (ap content_of c.token.ensures) c.in_ok-array.ensures.built) c.in_ok-push_elements.ensures.added) (extends_same (ap content_of c.token-2.ensures) c.in_ok-push_leaf.ensures.added))
 
 pub lay_out_array-returns-clause-kept : goal.lay_out_array-returns-clause-kept
 lay_out_array-returns-clause-kept g t c = keeps_old c.in_ok-array.ensures.built (keeps_both c.in_ok-push_elements.ensures.kept c.in_ok-push_leaf.ensures.kept)
+
+pub lay_out_array-returns-in_err-push_leaf-clause-kept : goal.lay_out_array-returns-in_err-push_leaf-clause-kept
+lay_out_array-returns-in_err-push_leaf-clause-kept g t c = keeps_old c.in_ok-array.ensures.built (keeps_both c.in_ok-push_elements.ensures.kept c.in_err-push_leaf.ensures.kept)
 
 pub lay_out_object-returns-clause-built : goal.lay_out_object-returns-clause-built
 lay_out_object-returns-clause-built g t c =
     subst (λ row. Builds c.args.tree.now.nodes c.push_leaf.new.tree.nodes c.in_ok-object.object content.object (leaf_then (content.token 0x7B) row))
     (properties_then (layout_of c.args.layout.now) (members_plain c.args.properties.now) (closed 0x7D))
-    (built_on (built_on c.in_ok-object.ensures.built c.in_ok-push_properties.ensures.added) c.in_ok-push_leaf.ensures.added)
+    (built_on (built_on (begun_same (ap content_of c.token.ensures) c.in_ok-object.ensures.built) c.in_ok-push_properties.ensures.added) (extends_same (ap content_of c.token-2.ensures) c.in_ok-push_leaf.ensures.added))
 
 pub lay_out_object-returns-clause-kept : goal.lay_out_object-returns-clause-kept
 lay_out_object-returns-clause-kept g t c = keeps_old c.in_ok-object.ensures.built (keeps_both c.in_ok-push_properties.ensures.kept c.in_ok-push_leaf.ensures.kept)
@@ -178,3 +182,9 @@ push_value-attach-requires g t c = can_append c.requires c.in_ok-node.ensures.bu
 pub push_value-returns-clause-added : goal.push_value-returns-clause-added
 push_value-returns-clause-added g t c =
     on_ok c.attach.result (λ appends. extends_appends c.requires c.in_ok-node.ensures.built appends c.attach.ensures.tree) c.attach.ensures.appends
+
+pub lay_out_object-returns-in_err-push_properties-clause-kept : goal.lay_out_object-returns-in_err-push_properties-clause-kept
+lay_out_object-returns-in_err-push_properties-clause-kept g t c = keeps_old c.in_ok-object.ensures.built c.in_err-push_properties.ensures.kept
+
+pub lay_out_object-returns-in_err-push_leaf-clause-kept : goal.lay_out_object-returns-in_err-push_leaf-clause-kept
+lay_out_object-returns-in_err-push_leaf-clause-kept g t c = keeps_old c.in_ok-object.ensures.built (keeps_both c.in_ok-push_properties.ensures.kept c.in_err-push_leaf.ensures.kept)

@@ -1,5 +1,6 @@
-use Rattle.std.proofs.Common.{arith, vec_len}
+use Rattle.std.proofs.Common.{Some, arith, vec_len}
 use Rattle.jsonc_tree.proofs.Agreeing.{length_shown}
+use Rattle.jsonc_tree.proofs.Alike.{container_linked, container_ahead}
 use Rattle.jsonc_tree.proofs.Moves.{in_memory, comes_by, gap_front_there, gap_back_there}
 use Rattle.jsonc_tree.proofs.splice.put_between.Goals as goal
 
@@ -28,3 +29,9 @@ set_place-requires-clause-previous g c = in_memory c.args.before (vec_len c.args
 
 pub set_place-requires-clause-next : goal.set_place-requires-clause-next
 set_place-requires-clause-next g c = in_memory c.args.behind (vec_len c.args.nodes.now) (gap_back_there c.args.nodes.now.items c.requires.stored c.args.c c.requires.gap.0 (vec_len c.args.nodes.now) c.args.before c.args.behind c.requires.gap.1 (omega (arith, length_shown c.args.nodes.now.items, c.args.nodes.now.ok.0))) (omega (arith, c.args.nodes.now.ok))
+
+pub set_ahead-requires-clause-container : goal.set_ahead-requires-clause-container
+set_ahead-requires-clause-container g c = container_linked c.args.nodes.now.items c.args.c (omega (arith, c.requires.can.container, length_shown c.args.nodes.now.items)) c.requires.can.holds
+
+pub set_back-requires-clause-container : goal.set_back-requires-clause-container
+set_back-requires-clause-container g c = container_ahead c.args.nodes.now.items c.set_ahead.new.nodes.items c.args.c c.args.before (Some c.args.x) c.set_ahead.ensures.nodes (container_linked c.args.nodes.now.items c.args.c (omega (arith, c.requires.can.container, length_shown c.args.nodes.now.items)) c.requires.can.holds)

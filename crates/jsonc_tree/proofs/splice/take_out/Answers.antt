@@ -1,6 +1,7 @@
 use Rattle.std.proofs.Common.{arith, vec_len}
 use Rattle.jsonc_tree.specs.Stored.{nodes_of}
 use Rattle.jsonc_tree.proofs.Agreeing.{length_shown}
+use Rattle.jsonc_tree.proofs.Alike.{container_linked, container_ahead}
 use Rattle.jsonc_tree.proofs.Moves.{in_memory, in_row, goes_by, previous_there, next_there}
 use Rattle.jsonc_tree.proofs.splice.take_out.Goals as goal
 
@@ -29,3 +30,14 @@ set_ahead-requires-clause-to g c = in_memory c.next_of-behind.result (vec_len c.
 
 pub set_back-requires-clause-to : goal.set_back-requires-clause-to
 set_back-requires-clause-to g c = in_memory c.previous_of-before.result (vec_len c.args.nodes.now) (previous_there c.args.nodes.now.items c.requires.stored c.args.x c.args.c (vec_len c.args.nodes.now) c.previous_of-before.result c.requires.child c.previous_of-before.ensures (omega (arith, length_shown c.args.nodes.now.items, c.args.nodes.now.ok.0))) (omega (arith, c.args.nodes.now.ok))
+
+pub set_ahead-requires-clause-container : goal.set_ahead-requires-clause-container
+set_ahead-requires-clause-container g c =
+    let row = in_row (nodes_of c.args.nodes.now.items) c.requires.stored.tree c.args.x c.args.c c.requires.child in
+    container_linked c.args.nodes.now.items c.args.c (omega (arith, row.0, length_shown c.args.nodes.now.items)) row.1
+
+pub set_back-requires-clause-container : goal.set_back-requires-clause-container
+set_back-requires-clause-container g c =
+    let row = in_row (nodes_of c.args.nodes.now.items) c.requires.stored.tree c.args.x c.args.c c.requires.child in
+    container_ahead c.args.nodes.now.items c.set_ahead.new.nodes.items c.args.c c.previous_of-before.result c.next_of-behind.result c.set_ahead.ensures.nodes
+    (container_linked c.args.nodes.now.items c.args.c (omega (arith, row.0, length_shown c.args.nodes.now.items)) row.1)
