@@ -1,1 +1,1 @@
-
+pub mod Children
