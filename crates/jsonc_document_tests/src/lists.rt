@@ -22,7 +22,6 @@ enum Step {
     SetValue(&'static [usize]),
     EnsureValue(&'static [usize], Shape),
     SetBoolean(&'static [usize], bool),
-    EnsureMultiline(&'static [usize]),
 }
 
 /// Edits, and the texts before, between and after them.
@@ -32,7 +31,7 @@ struct Row {
     texts: &'static [&'static str],
 }
 
-const ROWS: [Row; 12] = [
+const ROWS: [Row; 11] = [
     Row {
         steps: &[Step::RemoveComment(0)],
         texts: &["[1/*c*/2]", "[1 2]"],
@@ -75,14 +74,6 @@ const ROWS: [Row; 12] = [
     Row {
         steps: &[Step::SetBoolean(&[1], false)],
         texts: &["[0x1true]", "[0x1 false]"],
-    },
-    Row {
-        steps: &[Step::EnsureMultiline(&[]), Step::EnsureMultiline(&[1])],
-        texts: &[
-            "{\"a\":1, \"b\":[2]}",
-            "{\n  \"a\":1,\n  \"b\":[2]\n}",
-            "{\n  \"a\":1,\n  \"b\":[\n    2\n  ]\n}",
-        ],
     },
     Row {
         steps: &[
@@ -147,7 +138,6 @@ fn edit_of<A: Allocator + Copy>(alloc: A, step: Step) -> Result<Edit<A>, AllocEr
         Step::SetValue(path) => Ok(Edit::SetValue(path_of(alloc, path)?, number(alloc)?)),
         Step::EnsureValue(path, shape) => Ok(Edit::EnsureValue(path_of(alloc, path)?, shape)),
         Step::SetBoolean(path, value) => Ok(Edit::SetBoolean(path_of(alloc, path)?, value)),
-        Step::EnsureMultiline(path) => Ok(Edit::EnsureMultiline(path_of(alloc, path)?)),
     }
 }
 

@@ -4,8 +4,8 @@ ghost use Rattle.jsonc_cst.specs.Nodes.{object_prop_node};
 
 use jsonc_parser::cst::{
     CstContainerNode, CstInputValue, CstLeafNode, CstNewlineKind, CstNode, CstObjectProp,
-    CstRootNode, EditError, EnsureMultiline, ObjectPropName, Remove, RemoveLeaf, ReplaceProperty,
-    ReplaceWith, SetBoolean, SetNewline, SetProperty, SetRawValue, SetToken, SetWhitespace,
+    CstRootNode, EditError, ObjectPropName, Remove, RemoveLeaf, ReplaceProperty, ReplaceWith,
+    SetBoolean, SetNewline, SetProperty, SetRawValue, SetToken, SetWhitespace,
 };
 use refusing::outcome::Outcome;
 use std::alloc::Allocator;
@@ -28,8 +28,6 @@ pub enum NodeEdit {
     /// A truth value becomes `false`.
     SetFalse,
     Remove,
-    /// An array or object is put on several lines.
-    Lines,
     /// A token, whitespace or a newline leaves alone.
     RemoveLeaf,
     SetRaw,
@@ -128,20 +126,6 @@ fn set_false<A: Allocator + Copy>(doc: &mut CstRootNode<A>, node: CstNode) -> Ou
     }
 }
 
-fn put_on_lines<A: Allocator + Copy>(doc: &mut CstRootNode<A>, node: CstNode) -> Outcome
-    requires { Holds doc.old node }
-{
-    match node {
-        CstNode::Container(CstContainerNode::Array(row)) => {
-            of_answered(row.ensure_multiline(doc))
-        }
-        CstNode::Container(CstContainerNode::Object(settings)) => {
-            of_answered(settings.ensure_multiline(doc))
-        }
-        _ => Outcome::Other,
-    }
-}
-
 fn remove_leaf<A: Allocator>(doc: &mut CstRootNode<A>, node: CstNode) -> Outcome
     requires { Holds doc.old node }
 {
@@ -193,7 +177,6 @@ pub fn edit_node<A: Allocator + Copy>(
         (NodeEdit::Replace, _) => replace(doc, node, word),
         (NodeEdit::SetFalse, _) => set_false(doc, node),
         (NodeEdit::Remove, _) => Outcome::of_answer(node.remove(doc), &()),
-        (NodeEdit::Lines, _) => put_on_lines(doc, node),
         (NodeEdit::RemoveLeaf, _) => remove_leaf(doc, node),
         (NodeEdit::SetRaw, _) => set_raw(doc, node, word),
         (NodeEdit::SetLeaf, _) => set_leaf(doc, node, word),

@@ -26,7 +26,7 @@ type Row = (&'static str, TypedEdit, &'static str, &'static str);
 const TWO: &str = "{ \"a\": 1, \"b\": 2 }";
 
 /// The edits that want memory.
-const WANTING: [Row; 20] = [
+const WANTING: [Row; 18] = [
     ("// c", Root(RootEdit::Set), "1", "// c\n1\n"),
     ("// c\n", Root(RootEdit::Set), "1", "// c\n1\n"),
     ("", Root(RootEdit::ObjectOrCreate), "", "{}\n"),
@@ -75,22 +75,10 @@ const WANTING: [Row; 20] = [
     ("[1/*c*/2]", At(2, NodeEdit::Remove), "", "[1 2]"),
     ("[1[2]3]", At(2, NodeEdit::Remove), "", "[1 3]"),
     ("{a:1\"x\":2b:3}", At(2, NodeEdit::Remove), "", "{a:1 b:3}"),
-    (
-        "[{\"a\":1, \"b\":[2]}]",
-        At(1, NodeEdit::Lines),
-        "",
-        "[{\n    \"a\":1,\n    \"b\":[2]\n  }]",
-    ),
-    (
-        "[[1, 2]]",
-        At(1, NodeEdit::Lines),
-        "",
-        "[[\n    1,\n    2\n  ]]",
-    ),
 ];
 
 /// The edits that want none, though all further requests are refused.
-const UNASKED: [Row; 25] = [
+const UNASKED: [Row; 24] = [
     ("// c\n[1]", Root(RootEdit::Clear), "", ""),
     ("{ } // c", Root(RootEdit::ObjectOrCreate), "", "{ } // c"),
     ("[ ]", Root(RootEdit::ObjectOrCreate), "", "[ ]"),
@@ -110,7 +98,6 @@ const UNASKED: [Row; 25] = [
         "",
         "[/*a*/1, 2]",
     ),
-    ("[[\n1]]", At(1, NodeEdit::Lines), "", "[[\n1]]"),
     ("[1,2]", At(2, NodeEdit::RemoveLeaf), "", "[12]"),
     ("[1, 2]", At(3, NodeEdit::RemoveLeaf), "", "[1,2]"),
     ("[\n1]", At(1, NodeEdit::RemoveLeaf), "", "[1]"),
