@@ -19,8 +19,10 @@ pub(crate) fn remove_property<A: Allocator + Copy>(
     document: &mut CstRootNode<A>,
     name: &str,
 ) -> Result<(), Fault>
-    ensures removed { (o : Options) → OnOk result (LosesIfSound o (chars name.now) (nodes_of document.old) (nodes_of document.new)) }
-    ensures no_object { (o : Options) → IsErrOf result Fault.NotObject → SoundTree o (tree_of document.old) → HasNoObject o (tree_of document.old) }
+    ensures removed { (o : Options)
+        → OnOk result (LosesIfSound o (chars name.now) (nodes_of document.old) (nodes_of document.new)) }
+    ensures no_object { (o : Options) → IsErrOf result Fault.NotObject → SoundTree o (tree_of document.old)
+        → HasNoObject o (tree_of document.old) }
     ensures told { (o : Options) → SoundTree o (tree_of document.old) → IfErr result EndsRemoval }
     ensures document { OnErr result (tree_of document.new ≡ tree_of document.old) }
 {

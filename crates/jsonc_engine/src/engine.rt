@@ -180,7 +180,8 @@ pub fn engine<A: Allocator + Copy, S: Source, K: Sink>(
     ensures flushed { OnOk result (Name words.now Command.Print → K.is_flushed sink.new) }
     ensures removed { (name : Bor (List ℕ)) → OnOk result (Name words.now (Command.Remove name)
         → IfSome (S.remaining source.old) (PutsWithout (chars name.now) (K.contents sink.old) (K.contents sink.new))) }
-    ensures removal_flushed { (name : Bor (List ℕ)) → OnOk result (Name words.now (Command.Remove name) → K.is_flushed sink.new) }
+    ensures removal_flushed { (name : Bor (List ℕ))
+        → OnOk result (Name words.now (Command.Remove name) → K.is_flushed sink.new) }
     ensures checked { OnOk result (Name words.now Command.Check → sink.new ≡ sink.old) }
     ensures accepted { OnOk result (IfSome (S.remaining source.old) IsInput) }
 
@@ -210,7 +211,12 @@ pub fn engine<A: Allocator + Copy, S: Source, K: Sink>(
         return Err(Fault::Usage);
     };
     let input = read_whole(alloc, source)?;
-    let document = match document_after(alloc, &ParseOptions::default(), command, input.as_slice()) {
+    let document = match document_after(
+        alloc,
+        &ParseOptions::default(),
+        command,
+        input.as_slice(),
+    ) {
         Ok(document) => document,
         Err(fault) => return Err(fault),
     };

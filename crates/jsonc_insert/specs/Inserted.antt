@@ -55,8 +55,8 @@ pub record NodesMade (old ready : List Node) (layout : Layout) (outer : List ℕ
 abbrev pub NodesMadeFor : List Node → List Node → ℕ → ℕ → Plain → ℕ → List ℕ → List ℕ → List ℕ → Type 0
 NodesMadeFor old ready c i v m comma before behind = NodesMade old ready (layout_inside old c) (outer_indent old c) (plan_of old c i v) v m comma before behind
 
--- The row that c is to have with the value v as its element number i, or behind the last one, as the node m: the old row without blank lines inside its brackets, with
--- the new nodes at their places.
+-- The row that c is to have with the value v as its element number i, or behind the last one, as the node m: the old
+-- row without blank lines inside its brackets, with the new nodes at their places.
 pub record RowMade (old ready : List Node) (c i : ℕ) (v : Plain) (m : ℕ) (row : List ℕ) : Type 0 where
   pub comma : List ℕ
   pub before : List ℕ

@@ -11,7 +11,8 @@ use Rattle.jsonc_insert.specs.Trimmed.{is_blank_at}
 -- the new node is the element of this number, or the last where there were fewer
 abbrev pub TakesItsNumber : List Node → List Node → ℕ → ℕ → Plain → ℕ → Type 0
 TakesItsNumber old new c i v m =
-    IsTree old → c < length old → has_brackets old (children_at old c) ≡ true → ElementPut old new c i v m → IsElementOf new c (min i (length (elements_at old c))) m
+    IsTree old → c < length old → has_brackets old (children_at old c) ≡ true → ElementPut old new c i v m
+    → IsElementOf new c (min i (length (elements_at old c))) m
 
 -- each node that was there is what it was; but for the container it has the children that it had, and but for those of the container its parent
 pub record KeepsNodesBut (old new : List Node) (c : ℕ) : Type 0 where
@@ -23,11 +24,13 @@ pub record KeepsNodesBut (old new : List Node) (c : ℕ) : Type 0 where
 -- the container's row is the new one, and all other nodes are what they were
 abbrev pub ChangesOneRow : List Node → List Node → ℕ → ℕ → Plain → ℕ → Type 0
 ChangesOneRow old new c i v m =
-    IsTree old → c < length old → has_brackets old (children_at old c) ≡ true → (e : ElementPut old new c i v m) → (children_at new c ≡ e.row) × KeepsNodesBut old new c
+    IsTree old → c < length old → has_brackets old (children_at old c) ≡ true → (e : ElementPut old new c i v m) → (children_at new c ≡ e.row)
+    × KeepsNodesBut old new c
 
 -- no more than the last place is asked for: past the end all numbers do the same
 abbrev pub PastTheEnd : List Node → List Node → ℕ → ℕ → ℕ → Plain → ℕ → Type 0
-PastTheEnd old new c i j v m = has_brackets old (children_at old c) ≡ true → length (elements_at old c) ≤ i → length (elements_at old c) ≤ j → ElementPut old new c i v m → ElementPut old new c j v m
+PastTheEnd old new c i j v m = has_brackets old (children_at old c) ≡ true → length (elements_at old c) ≤ i → length (elements_at old c) ≤ j
+    → ElementPut old new c i v m → ElementPut old new c j v m
 
 -- a child of the container is one still, or it is whitespace or the end of a line, and is nobody's child now
 abbrev pub LosesBlanksAlone : List Node → List Node → ℕ → ℕ → Plain → ℕ → Type 0

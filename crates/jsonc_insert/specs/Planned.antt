@@ -75,14 +75,28 @@ behind_comma ns row place = if has_comma ns row place then place + trivia ns (sl
 
 -- where no element stands: before the blanks that the last bracket stands behind
 abbrev pub plan_alone_at : List Node → Bool → List ℕ → ℕ → Plan
-plan_alone_at ns several row place = record { comma = None; place = place; before = line_if several; comma_behind = false; behind = line_unless ns several (slice_range row place (length row)) }
+plan_alone_at ns several row place = record {
+  comma = None;
+  place = place;
+  before = line_if several;
+  comma_behind = false;
+  behind = line_unless ns several
+      (slice_range row place (length row));
+}
 
 abbrev pub plan_alone : List Node → Bool → List ℕ → Plan
 plan_alone ns several row = plan_alone_at ns several row (length row - 1 - last_blanks ns (slice_range row 0 (length row - 1)))
 
 -- before the first element: directly behind the first bracket
 abbrev pub plan_first : List Node → Bool → List ℕ → Plan
-plan_first ns several row = record { comma = None; place = 1; before = line_if several; comma_behind = true; behind = before_next ns several (slice_range row 1 (length row)) }
+plan_first ns several row = record {
+  comma = None;
+  place = 1;
+  before = line_if several;
+  comma_behind = true;
+  behind = before_next ns several
+      (slice_range row 1 (length row));
+}
 
 -- at this place, behind a comma and the comments on its line, with an element behind it or as the last
 abbrev pub plan_between : List Node → Bool → Bool → List ℕ → Bool → Option ℕ → ℕ → Plan
@@ -97,7 +111,8 @@ abbrev pub past_comments : List Node → List ℕ → ℕ → ℕ
 past_comments ns row place = place + comments_on_line ns (slice_range row place (length row))
 
 abbrev pub plan_behind : List Node → Bool → Bool → List ℕ → Bool → ℕ → Plan
-plan_behind ns several commas row more place = plan_between ns several commas row more (comma_wanted ns row place) (past_comments ns row (behind_comma ns row place))
+plan_behind ns several commas row more place = plan_between ns several commas row more (comma_wanted ns row place)
+    (past_comments ns row (behind_comma ns row place))
 
 -- the place of a node in a row, or the row's length
 abbrev pub is_other : ℕ → ℕ → Bool

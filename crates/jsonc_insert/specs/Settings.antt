@@ -115,7 +115,12 @@ on_several_lines ns row v = list_any (is_newline_at ns) row || is_spread v
 -- how an element of a container is laid out
 abbrev pub layout_in : List Node → ℕ → List ℕ → Layout
 layout_in ns c row =
-    record { current = (indents_inside ns c row).current; single = (indents_inside ns c row).single; trailing_commas = uses_commas_in ns c row; newline = newline_kind_with ns c row }
+    record {
+      current = (indents_inside ns c row).current;
+      single = (indents_inside ns c row).single;
+      trailing_commas = uses_commas_in ns c row;
+      newline = newline_kind_with ns c row;
+    }
 
 abbrev pub layout_inside : List Node → ℕ → Layout
 layout_inside ns c = layout_in ns c (trimmed ns (children_at ns c))

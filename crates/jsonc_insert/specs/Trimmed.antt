@@ -51,7 +51,8 @@ last_gone_from ns row place = before_last_line ns place (slice_range row place (
 
 abbrev pub last_gone : List Node → List ℕ → Stretch
 last_gone ns row =
-    if nat_lt (blanks ns (inside row)) (length (inside row)) then last_gone_from ns row (length row - 1 - last_blanks ns (inside row)) else nothing_at (length row - 1)
+    if nat_lt (blanks ns (inside row)) (length (inside row)) then last_gone_from ns row (length row - 1 - last_blanks ns (inside row))
+    else nothing_at (length row - 1)
 
 -- a row without a stretch
 abbrev pub without : Stretch → List ℕ → List ℕ

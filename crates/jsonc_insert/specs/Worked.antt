@@ -27,7 +27,8 @@ leaf_node content = record { content = content; parent = Some 1; children = []; 
 
 abbrev pub array_of : List Content → List Node
 array_of row =
-    record { content = root; parent = None; children = 1 ∷ []; room = 0 } ∷ record { content = content.array; parent = Some 0; children = numbers 2 row; room = 0 } ∷ map leaf_node row
+    record { content = root; parent = None; children = 1 ∷ []; room = 0 }
+    ∷ record { content = content.array; parent = Some 0; children = numbers 2 row; room = 0 } ∷ map leaf_node row
 
 -- what its row prints with this value as element number i
 abbrev pub leaf_top : Content → Top
@@ -36,7 +37,8 @@ leaf_top content = record { content = content; below = none }
 abbrev pub tops_put : List Node → Plan → ℕ → Plain → List Top
 tops_put ns plan i v =
     put_by plan (map leaf_top (comma_at plan.comma))
-    (map leaf_top (leaves_before (layout_inside ns 1) plan) ++ laid (layout_inside ns 1) v ∷ map leaf_top (leaves_behind (layout_inside ns 1) (outer_indent ns 1) plan))
+    (map leaf_top (leaves_before (layout_inside ns 1) plan) ++ laid (layout_inside ns 1) v
+    ∷ map leaf_top (leaves_behind (layout_inside ns 1) (outer_indent ns 1) plan))
     (map (top_at ns) (trimmed ns (children_at ns 1)))
 
 abbrev pub top_text : Top → List ℕ
@@ -70,12 +72,14 @@ AppendsOnOneLine = text_with (mark 0x5B ∷ a_number (codes "1") ∷ mark 0x5D �
 
 abbrev pub InsertsOnOneLine : Type 0
 InsertsOnOneLine =
-    text_with (mark 0x5B ∷ a_number (codes "1") ∷ mark 0x2C ∷ blank (codes " ") ∷ a_number (codes "2") ∷ mark 0x5D ∷ []) 1 (Plain.number (codes "9")) ≡ codes "[1, 9,  2]"
+    text_with (mark 0x5B ∷ a_number (codes "1") ∷ mark 0x2C ∷ blank (codes " ") ∷ a_number (codes "2") ∷ mark 0x5D ∷ []) 1 (Plain.number (codes "9"))
+    ≡ codes "[1, 9,  2]"
 
 -- `[1 //c` and on the next line `]`, with 2 behind the comment
 abbrev pub AppendsBehindComment : Type 0
 AppendsBehindComment =
-    text_with (mark 0x5B ∷ a_number (codes "1") ∷ blank (codes " ") ∷ content.comment (codes "//c") ∷ lf ∷ mark 0x5D ∷ []) 1 two ≡ codes "[1, //c" ++ 10 ∷ codes "  2" ++ 10 ∷ codes "]"
+    text_with (mark 0x5B ∷ a_number (codes "1") ∷ blank (codes " ") ∷ content.comment (codes "//c") ∷ lf ∷ mark 0x5D ∷ []) 1 two
+    ≡ codes "[1, //c" ++ 10 ∷ codes "  2" ++ 10 ∷ codes "]"
 
 -- with a trailing comma, which the new element has too
 abbrev pub AppendsWithTrailingComma : Type 0
@@ -86,7 +90,8 @@ AppendsWithTrailingComma =
 -- before a comment that stands before the first element
 abbrev pub InsertsFirst : Type 0
 InsertsFirst =
-    text_with (mark 0x5B ∷ lf ∷ blank (codes "  ") ∷ content.comment (codes "// x") ∷ lf ∷ blank (codes "  ") ∷ a_number (codes "1") ∷ lf ∷ mark 0x5D ∷ []) 0 (Plain.number (codes "0"))
+    text_with (mark 0x5B ∷ lf ∷ blank (codes "  ") ∷ content.comment (codes "// x") ∷ lf ∷ blank (codes "  ") ∷ a_number (codes "1") ∷ lf ∷ mark 0x5D
+    ∷ []) 0 (Plain.number (codes "0"))
     ≡ codes "[" ++ 10 ∷ codes "  0," ++ 10 ∷ codes "  // x" ++ 10 ∷ codes "  1" ++ 10 ∷ codes "]"
 
 -- into an empty array of two lines, whose line's end tells how lines end

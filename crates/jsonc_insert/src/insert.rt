@@ -128,7 +128,9 @@ fn with_made<A: Allocator + Copy>(
     made: &Made<A>,
     row: &[usize],
 ) -> Result<Vec<usize, A>, AllocError>
-    ensures { IfOk result (λ v. v.items ≡ put_by plan made.now.comma.items (made.now.before.items ++ made.now.element ∷ made.now.behind.items) row.now) }
+    ensures { IfOk result (λ v. v.items
+        ≡ put_by plan made.now.comma.items
+        (made.now.before.items ++ made.now.element ∷ made.now.behind.items) row.now) }
 {
     let written = written(alloc, &made.before, made.element, &made.behind)?;
     put_by(alloc, plan, &made.comma, &written, row)
@@ -144,7 +146,8 @@ fn make_row<A: Allocator + Copy>(
 ) -> Result<NewRow<A>, AllocError>
     requires there { container < length tree.old.nodes }
     requires brackets { has_brackets tree.old.nodes (children_at tree.old.nodes container) ≡ true }
-    ensures made { IfOk result (λ r. RowMade tree.old.nodes tree.new.nodes container index (plain value.now) r.element r.row.items) }
+    ensures made { IfOk result
+        (λ r. RowMade tree.old.nodes tree.new.nodes container index (plain value.now) r.element r.row.items) }
     ensures prepared { Prepared tree.old.nodes tree.new.nodes }
 {
     let _ = tree.len();

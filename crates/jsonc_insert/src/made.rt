@@ -34,7 +34,8 @@ fn push_leaf<A: Allocator + Copy>(
     leaves: &mut Vec<usize, A>,
     kind: Kind<A>,
 ) -> Result<(), AllocError>
-    ensures gains { OnOk result (Gains tree.old.nodes leaves.old.items tree.new.nodes leaves.new.items (content_of kind ∷ [])) }
+    ensures gains { OnOk result
+        (Gains tree.old.nodes leaves.old.items tree.new.nodes leaves.new.items (content_of kind ∷ [])) }
     ensures prepared { Prepared tree.old.nodes tree.new.nodes }
 {
     let _ = tree.len();
@@ -50,7 +51,8 @@ fn push_blanks<A: Allocator + Copy>(
     leaves: &mut Vec<usize, A>,
     text: &str,
 ) -> Result<(), AllocError>
-    ensures gains { OnOk result (Gains tree.old.nodes leaves.old.items tree.new.nodes leaves.new.items (whitespace text.now ∷ [])) }
+    ensures gains { OnOk result
+        (Gains tree.old.nodes leaves.old.items tree.new.nodes leaves.new.items (whitespace text.now ∷ [])) }
     ensures prepared { Prepared tree.old.nodes tree.new.nodes }
 {
     let _ = tree.len();
@@ -66,7 +68,8 @@ fn push_line<A: Allocator + Copy>(
     kind: CstNewlineKind,
     indent: &str,
 ) -> Result<(), AllocError>
-    ensures gains { OnOk result (Gains tree.old.nodes leaves.old.items tree.new.nodes leaves.new.items (newline kind ∷ whitespace indent.now ∷ [])) }
+    ensures gains { OnOk result (Gains tree.old.nodes leaves.old.items tree.new.nodes leaves.new.items
+        (newline kind ∷ whitespace indent.now ∷ [])) }
     ensures prepared { Prepared tree.old.nodes tree.new.nodes }
 {
     push_leaf(tree, leaves, Kind::Newline(kind))?;
@@ -82,7 +85,8 @@ fn push_gap<A: Allocator + Copy>(
     kind: CstNewlineKind,
     indent: &str,
 ) -> Result<(), AllocError>
-    ensures gains { OnOk result (Gains tree.old.nodes leaves.old.items tree.new.nodes leaves.new.items (gap_leaves kind indent.now gap)) }
+    ensures gains { OnOk result
+        (Gains tree.old.nodes leaves.old.items tree.new.nodes leaves.new.items (gap_leaves kind indent.now gap)) }
     ensures prepared { Prepared tree.old.nodes tree.new.nodes }
 {
     let _ = tree.len();
@@ -99,7 +103,8 @@ fn push_comma_if<A: Allocator + Copy>(
     leaves: &mut Vec<usize, A>,
     wanted: bool,
 ) -> Result<(), AllocError>
-    ensures gains { OnOk result (Gains tree.old.nodes leaves.old.items tree.new.nodes leaves.new.items (comma_leaf wanted)) }
+    ensures gains { OnOk result
+        (Gains tree.old.nodes leaves.old.items tree.new.nodes leaves.new.items (comma_leaf wanted)) }
     ensures prepared { Prepared tree.old.nodes tree.new.nodes }
 {
     let _ = tree.len();
@@ -130,7 +135,8 @@ fn make_before<A: Allocator + Copy>(
     layout: &Layout<A>,
     plan: Plan,
 ) -> Result<Vec<usize, A>, AllocError>
-    ensures made { IfOk result (λ v. LeavesMade tree.old.nodes tree.new.nodes (leaves_before (layout_of layout.now) plan) v.items) }
+    ensures made { IfOk result
+        (λ v. LeavesMade tree.old.nodes tree.new.nodes (leaves_before (layout_of layout.now) plan) v.items) }
     ensures prepared { Prepared tree.old.nodes tree.new.nodes }
 {
     let mut leaves = Vec::new(alloc);
@@ -154,7 +160,9 @@ fn make_behind<A: Allocator + Copy>(
     outer: &str,
     plan: Plan,
 ) -> Result<Vec<usize, A>, AllocError>
-    ensures made { IfOk result (λ v. LeavesMade tree.old.nodes tree.new.nodes (leaves_behind (layout_of layout.now) outer.now plan) v.items) }
+    ensures made { IfOk result
+        (λ v. LeavesMade tree.old.nodes tree.new.nodes
+        (leaves_behind (layout_of layout.now) outer.now plan) v.items) }
     ensures prepared { Prepared tree.old.nodes tree.new.nodes }
 {
     let mut leaves = Vec::new(alloc);
@@ -172,7 +180,9 @@ pub(crate) fn make<A: Allocator + Copy>(
     outer: &str,
     plan: Plan,
 ) -> Result<Made<A>, AllocError>
-    ensures made { IfOk result (λ m. NodesMade tree.old.nodes tree.new.nodes (layout_of layout.now) outer.now plan (plain value.now) m.element m.comma.items m.before.items m.behind.items) }
+    ensures made { IfOk result
+        (λ m. NodesMade tree.old.nodes tree.new.nodes (layout_of layout.now) outer.now plan
+        (plain value.now) m.element m.comma.items m.before.items m.behind.items) }
     ensures prepared { Prepared tree.old.nodes tree.new.nodes }
 {
     let _ = tree.len();

@@ -54,7 +54,8 @@ KeepsLeavesOutside {path} {t} {u} s = DiffersIn (leaves_of (bracketed s.kind s.r
 -- the nodes of a row but for whitespace and ends of lines, each with what is below it
 abbrev pub solid_nodes : OrderedTree → List Top
 solid_nodes none = []
-solid_nodes (more content below after) = if is_whitespace content || is_newline content then solid_nodes after else (record { content = content; below = below }) ∷ solid_nodes after
+solid_nodes (more content below after) = if is_whitespace content || is_newline content then solid_nodes after
+    else (record { content = content; below = below }) ∷ solid_nodes after
 
 -- and in it all of these
 abbrev pub KeepsNodesInside : {path : List ℕ} {t u : OrderedTree} → SpreadAt path t u → Type 0

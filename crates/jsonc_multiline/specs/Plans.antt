@@ -9,7 +9,8 @@ use Rattle.jsonc_multiline.specs.Lines.{Lines, is_comma_at, new_line, spread_row
 
 -- a child of c between its first and this place, or a node made since
 abbrev pub IsFrom : List Node → List Node → ℕ → ℕ → ℕ → Type 0
-IsFrom old now c place n = ((parent_at old n ≡ Some c) × (0 < place_at old n) × (place_at old n < place)) ⊎ ((length old ≤ n) × (n < length now) × (parent_at now n ≡ None))
+IsFrom old now c place n = ((parent_at old n ≡ Some c) × (0 < place_at old n) × (place_at old n < place)) ⊎ ((length old ≤ n) × (n < length now)
+    × (parent_at now n ≡ None))
 
 -- The row of c has been planned up to this place of it. Nothing that was there has changed.
 pub record Planned (old now : List Node) (c place : ℕ) (slots : List Slot) (row : List ℕ) : Type 0 where
@@ -27,7 +28,8 @@ Gains now row later next more =
 -- or with a further child of c behind these
 abbrev pub GainsChild : List Node → List ℕ → List Node → List ℕ → ℕ → List Slot → Type 0
 GainsChild now row later next n more =
-    (old : List Node) (c place : ℕ) (slots : List Slot) → IsTree old → Planned old now c place slots row → parent_at old n ≡ Some c → 0 < place_at old n → place ≤ place_at old n → Planned old later c (place_at old n + 1) (slots ++ more) next
+    (old : List Node) (c place : ℕ) (slots : List Slot) → IsTree old → Planned old now c place slots row → parent_at old n ≡ Some c → 0 < place_at old n
+    → place ≤ place_at old n → Planned old later c (place_at old n + 1) (slots ++ more) next
 
 -- what a child of the row makes of it, where a part begins or goes on: whitespace that it begins with leaves, and its first node begins a line
 abbrev pub child_slots : Lines → Bool → Bool → ℕ → List Slot

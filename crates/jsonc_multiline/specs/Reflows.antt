@@ -16,8 +16,8 @@ abbrev pub has_newline : OrderedTree → Bool
 has_newline none = false
 has_newline (more content below after) = is_newline content || has_newline after
 
--- The second row is the first, but that ends of lines have come, each with an indent or none, and whitespace has left where the end of a line stands now. All other nodes stay as they are, with
--- what is below them.
+-- The second row is the first, but that ends of lines have come, each with an indent or none, and whitespace has left
+-- where the end of a line stands now. All other nodes stay as they are, with what is below them.
 pub data Reflows : OrderedTree → OrderedTree → Type 0 where
   ended : Reflows none none
   kept : {content : Content} {below x y : OrderedTree} → Reflows x y → Reflows (more content below x) (more content below y)

@@ -24,4 +24,5 @@ row_in ns (slot ∷ rest) = more (top_in ns slot).content (top_in ns slot).below
 pub data AreFilled (old ready : List Node) : List Slot → List ℕ → Type 0 where
   no_more : AreFilled old ready [] []
   stayed : {n : ℕ} {slots : List Slot} {row : List ℕ} → AreFilled old ready slots row → AreFilled old ready (stays n ∷ slots) (n ∷ row)
-  came : {n : ℕ} {content : Content} {slots : List Slot} {row : List ℕ} → length old ≤ n → n < length ready → content_at ready n ≡ content → parent_at ready n ≡ None → AreFilled old ready slots row → AreFilled old ready (comes content ∷ slots) (n ∷ row)
+  came : {n : ℕ} {content : Content} {slots : List Slot} {row : List ℕ} → length old ≤ n → n < length ready → content_at ready n ≡ content
+      → parent_at ready n ≡ None → AreFilled old ready slots row → AreFilled old ready (comes content ∷ slots) (n ∷ row)

@@ -40,7 +40,8 @@ fn push_leaf<A: Allocator + Copy>(
     kind: Kind<A>,
 ) -> Result<(), AllocError>
     requires { is_container (content_of kind) ≡ false }
-    ensures gains { OnOk result (Gains tree.old.nodes row.old.items tree.new.nodes row.new.items (comes (content_of kind) ∷ [])) }
+    ensures gains { OnOk result
+        (Gains tree.old.nodes row.old.items tree.new.nodes row.new.items (comes (content_of kind) ∷ [])) }
     ensures prepared { Prepared tree.old.nodes tree.new.nodes }
 {
     let _ = tree.len();
@@ -56,7 +57,8 @@ fn push_line<A: Allocator + Copy>(
     row: &mut Vec<usize, A>,
     lines: &Lines<A>,
 ) -> Result<(), AllocError>
-    ensures gains { OnOk result (Gains tree.old.nodes row.old.items tree.new.nodes row.new.items (new_line (lines_of lines.now))) }
+    ensures gains { OnOk result
+        (Gains tree.old.nodes row.old.items tree.new.nodes row.new.items (new_line (lines_of lines.now))) }
     ensures prepared { Prepared tree.old.nodes tree.new.nodes }
 {
     push_leaf(tree, row, Kind::Newline(lines.newline))?;
@@ -71,7 +73,8 @@ fn push_last_line<A: Allocator + Copy>(
     row: &mut Vec<usize, A>,
     lines: &Lines<A>,
 ) -> Result<(), AllocError>
-    ensures gains { OnOk result (Gains tree.old.nodes row.old.items tree.new.nodes row.new.items (last_line (lines_of lines.now))) }
+    ensures gains { OnOk result
+        (Gains tree.old.nodes row.old.items tree.new.nodes row.new.items (last_line (lines_of lines.now))) }
     ensures prepared { Prepared tree.old.nodes tree.new.nodes }
 {
     push_leaf(tree, row, Kind::Newline(lines.newline))?;
@@ -93,7 +96,8 @@ fn push_child<A: Allocator + Copy>(
     child: usize,
 ) -> Result<bool, AllocError>
     requires { child < length tree.old.nodes }
-    ensures gains { OnOk result (PutsChild tree.old.nodes row.old.items tree.new.nodes row.new.items (lines_of lines.now) begins child) }
+    ensures gains { OnOk result
+        (PutsChild tree.old.nodes row.old.items tree.new.nodes row.new.items (lines_of lines.now) begins child) }
     ensures begins { IfOk result (λ b. b ≡ begins_after tree.old.nodes begins child) }
     ensures prepared { Prepared tree.old.nodes tree.new.nodes }
 {
@@ -135,7 +139,8 @@ pub fn plan_lines<A: Allocator + Copy>(
 ) -> Result<Vec<usize, A>, AllocError>
     requires there { container < length tree.old.nodes }
     requires brackets { IsTrue (has_brackets tree.old.nodes container) }
-    ensures planned { IfOk result (λ row. PlansLines tree.old.nodes tree.new.nodes container (lines_of lines.now) row.items) }
+    ensures planned { IfOk result
+        (λ row. PlansLines tree.old.nodes tree.new.nodes container (lines_of lines.now) row.items) }
     ensures prepared { Prepared tree.old.nodes tree.new.nodes }
 {
     let _ = tree.len();

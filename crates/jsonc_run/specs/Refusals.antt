@@ -19,7 +19,8 @@ use Rattle.jsonc_run.specs.Shapes.{is_of}
 use Rattle.jsonc_run.specs.Places.{comment_at, IsBooleanAt, IsContainerAt, IsEntryAt, IsPropertyAt}
 use Rattle.jsonc_run.specs.Edits.{Operation, replace, remove, remove_comment, set_root, clear_root, replace_property, ensure_root, set_value, ensure_value, set_boolean, ensure_multiline, AreMade}
 
--- a node stands where the edit is to be made, an entry, a property, a truth value, an array or object, or there is the comment; edits of the root always have their place
+-- a node stands where the edit is to be made, an entry, a property, a truth value, an array or object, or there is
+-- the comment; edits of the root always have their place
 abbrev pub HasItsPlace : List Node → Operation → Type 0
 HasItsPlace ns (replace path v) = (n : ℕ) × IsAt ns path n
 HasItsPlace ns (remove path) = (n : ℕ) × IsEntryAt ns path n

@@ -29,7 +29,8 @@ module _ (old new : List Node) where
       (path : List ℕ) (c : ℕ) → IsAt old path n → parent_at old n ≡ Some c
       → LeavesGiveWay (leaves_of (top_at old n)) (leaves_of (laid (layout_for old c n) v)) (ordered_tree old 0) (ordered_tree new 0)
 
-  -- where the document was set to v: so it is of its old value, and where it had none, and was sound, v has come into the root's row, with newlines where they are due
+  -- where the document was set to v: so it is of its old value, and where it had none, and was sound, v has come into
+  -- the root's row, with newlines where they are due
   abbrev pub StaysAroundRoot : Options → Plain → Option ℕ → Type 0
   StaysAroundRoot o v None = SoundTree o (ordered_tree old 0) → ValueComes (laid (layout_for old 0 0) v) (row_below old 0) (row_below new 0)
   StaysAroundRoot o v (Some n) = StaysAroundValue n v

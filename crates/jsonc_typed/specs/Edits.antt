@@ -59,7 +59,8 @@ module _ {A : Type 0} (old new : CstRootNode A) where
   abbrev pub HasGivenWay : CstNode → Plain → CstNode → Type 0
   HasGivenWay node v now = IsReplacedAs (is_name_in (nodes_of old) (number_of node)) (nodes_of old) (nodes_of new) (number_of node) v (number_of now)
 
-  -- if the old document is sound, and the node a value at a path, then with the new value there the text is a document again, whose value has changed there alone
+  -- if the old document is sound, and the node a value at a path, then with the new value there the text is a
+  -- document again, whose value has changed there alone
   abbrev pub HasWritten : Options → CstNode → Plain → CstNode → Type 0
   HasWritten o node v now = is_name_in (nodes_of old) (number_of node) ≡ false → Writes o (nodes_of old) (nodes_of new) (number_of node) (number_of now) v
 

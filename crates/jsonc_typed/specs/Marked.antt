@@ -27,7 +27,8 @@ module _ (old new : List Node) where
   abbrev pub MarksStay : Options → Type 0
   MarksStay o = SoundTree o (ordered_tree old 0) → marks (ordered_tree new 0) ≡ marks (ordered_tree old 0)
 
-  -- where the document was set to v: the marks of its old value have given way to the literals that are written for v, and where it was sound and had none these have come
+  -- where the document was set to v: the marks of its old value have given way to the literals that are written for
+  -- v, and where it was sound and had none these have come
   abbrev pub RootMarkedFor : Options → Plain → Option ℕ → Type 0
   RootMarkedFor o v None = SoundTree o (ordered_tree old 0) → IsWritable o v → MarksGiveWay [] (written v)
   RootMarkedFor o v (Some n) = IsMarkedFor n v

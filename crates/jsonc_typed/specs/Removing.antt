@@ -95,7 +95,8 @@ pub record IsCommentGone (o : Options) (s : List ℕ) (t u : OrderedTree) : Type
 abbrev pub IsWrittenBy : Removal → Options → List Node → List Node → ℕ → Type 0
 IsWrittenBy Clearing o old new n = IsBareDocument o (ordered_tree new 0)
 IsWrittenBy OfComment o old new n =
-    SoundTree o (ordered_tree old 0) → IsOver old 0 n → (s : List ℕ) → content_at old n ≡ comment s → IsCommentGone o s (ordered_tree old 0) (ordered_tree new 0)
+    SoundTree o (ordered_tree old 0) → IsOver old 0 n → (s : List ℕ) → content_at old n ≡ comment s
+    → IsCommentGone o s (ordered_tree old 0) (ordered_tree new 0)
 IsWrittenBy OfElement o old new n = SoundTree o (ordered_tree old 0) → IsElementGone o old new n
 IsWrittenBy OfLeaf o old new n = Unit {0}
 

@@ -54,7 +54,8 @@ module _ (old new : List Node) where
 
   -- where another value was there, the empty one is written as any new value is
   abbrev pub HeldObjectIsWritten : Options → ℕ → CstObject → Type 0
-  HeldObjectIsWritten o p answer = (n : ℕ) → value_at old p ≡ Some n → is_object (content_at old n) ≡ false → Writes o old new n answer.number (object no_members)
+  HeldObjectIsWritten o p answer = (n : ℕ) → value_at old p ≡ Some n → is_object (content_at old n) ≡ false
+      → Writes o old new n answer.number (object no_members)
 
   -- and takes the literals and comments of that value along, and no others
   abbrev pub HeldObjectIsMarked : ℕ → Type 0

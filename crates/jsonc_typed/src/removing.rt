@@ -56,8 +56,10 @@ fn remove_element<A: Allocator + Copy>(
 ) -> Result<(), EditError>
     requires { number < length tree.old.nodes }
     ensures taken { OnOk result (TakesElement tree.old.nodes tree.new.nodes number) }
-    ensures written { (o : Options) → OnOk result (IsWrittenBy Removal.OfElement o tree.old.nodes tree.new.nodes number) }
-    ensures around { (o : Options) → OnOk result (StaysAround Removal.OfElement o tree.old.nodes tree.new.nodes number) }
+    ensures written { (o : Options)
+        → OnOk result (IsWrittenBy Removal.OfElement o tree.old.nodes tree.new.nodes number) }
+    ensures around { (o : Options)
+        → OnOk result (StaysAround Removal.OfElement o tree.old.nodes tree.new.nodes number) }
     ensures elsewhere { OnOk result (StaysElsewhereBy Removal.OfElement tree.old.nodes tree.new.nodes number) }
     ensures gone { OnOk result (IsNobodysBy Removal.OfElement tree.new.nodes number) }
     ensures untouched { parent_at tree.old.nodes number ≡ None → tree.new.nodes ≡ tree.old.nodes }
@@ -79,8 +81,10 @@ fn remove_comment<A: Allocator + Copy>(
 ) -> Result<(), EditError>
     requires { number < length tree.old.nodes }
     ensures taken { OnOk result (TakesOut tree.old.nodes tree.new.nodes number) }
-    ensures written { (o : Options) → OnOk result (IsWrittenBy Removal.OfComment o tree.old.nodes tree.new.nodes number) }
-    ensures around { (o : Options) → OnOk result (StaysAround Removal.OfComment o tree.old.nodes tree.new.nodes number) }
+    ensures written { (o : Options)
+        → OnOk result (IsWrittenBy Removal.OfComment o tree.old.nodes tree.new.nodes number) }
+    ensures around { (o : Options)
+        → OnOk result (StaysAround Removal.OfComment o tree.old.nodes tree.new.nodes number) }
     ensures elsewhere { OnOk result (StaysElsewhereBy Removal.OfComment tree.old.nodes tree.new.nodes number) }
     ensures gone { OnOk result (IsNobodysBy Removal.OfComment tree.new.nodes number) }
     ensures untouched { parent_at tree.old.nodes number ≡ None → tree.new.nodes ≡ tree.old.nodes }
@@ -98,7 +102,8 @@ fn remove_comment<A: Allocator + Copy>(
 // Takes a child, and nothing else, out of its container.
 fn take_alone<A: Allocator>(tree: &mut Tree<A>, container: usize, number: usize)
     requires { parent_at tree.old.nodes number ≡ Some container }
-    ensures taken { Splices tree.old.nodes tree.new.nodes container (place_at tree.old.nodes number) (place_at tree.old.nodes number + 1) [] }
+    ensures taken { Splices tree.old.nodes tree.new.nodes container (place_at tree.old.nodes number)
+        (place_at tree.old.nodes number + 1) [] }
     ensures tree { IsTree tree.new.nodes }
 {
     let _ = tree.len();

@@ -58,10 +58,15 @@ fn replace_value<A: Allocator + Copy>(
     value: &CstInputValue<A>,
 ) -> Result<Option<CstNode>, EditError>
     requires { number < length tree.old.nodes }
-    ensures replaced { IfOk result (λ o. IfSome o (λ m. IsReplaced tree.old.nodes tree.new.nodes number (plain value.now) (number_of m))) }
-    ensures written { (p : Options) → IfOk result (λ o. IfSome o (λ m. Writes p tree.old.nodes tree.new.nodes number (number_of m) (plain value.now))) }
-    ensures marked { IfOk result (λ o. IfSome o (λ m. IsMarkedFor tree.old.nodes tree.new.nodes number (plain value.now))) }
-    ensures around { IfOk result (λ o. IfSome o (λ m. StaysAroundValue tree.old.nodes tree.new.nodes number (plain value.now))) }
+    ensures replaced { IfOk result
+        (λ o. IfSome o (λ m. IsReplaced tree.old.nodes tree.new.nodes number (plain value.now) (number_of m))) }
+    ensures written { (p : Options)
+        → IfOk result (λ o. IfSome o
+        (λ m. Writes p tree.old.nodes tree.new.nodes number (number_of m) (plain value.now))) }
+    ensures marked { IfOk result
+        (λ o. IfSome o (λ m. IsMarkedFor tree.old.nodes tree.new.nodes number (plain value.now))) }
+    ensures around { IfOk result
+        (λ o. IfSome o (λ m. StaysAroundValue tree.old.nodes tree.new.nodes number (plain value.now))) }
     ensures elsewhere { IfOk result (λ o. IfSome o (λ m. StaysElsewhere tree.old.nodes tree.new.nodes number)) }
     ensures gone { IfOk result (λ o. IfSome o (λ m. IsNobodys tree.new.nodes number)) }
     ensures none { IfOk result (λ o. IfNone o (parent_at tree.old.nodes number ≡ None)) }
@@ -87,7 +92,8 @@ fn replace_name<A: Allocator + Copy>(
     value: &CstInputValue<A>,
 ) -> Result<Option<CstNode>, EditError>
     requires { number < length tree.old.nodes }
-    ensures replaced { IfOk result (λ o. IfSome o (λ m. IsReplacedRaw tree.old.nodes tree.new.nodes number (plain value.now) (number_of m))) }
+    ensures replaced { IfOk result
+        (λ o. IfSome o (λ m. IsReplacedRaw tree.old.nodes tree.new.nodes number (plain value.now) (number_of m))) }
     ensures elsewhere { IfOk result (λ o. IfSome o (λ m. StaysElsewhere tree.old.nodes tree.new.nodes number)) }
     ensures gone { IfOk result (λ o. IfSome o (λ m. IsNobodys tree.new.nodes number)) }
     ensures none { IfOk result (λ o. IfNone o (parent_at tree.old.nodes number ≡ None)) }
@@ -113,10 +119,16 @@ fn replace_node<A: Allocator + Copy>(
     value: &CstInputValue<A>,
 ) -> Result<Option<CstNode>, EditError>
     requires { number < length tree.old.nodes }
-    ensures replaced { IfOk result (λ o. IfSome o (λ m. IsReplacedAs (is_name_in tree.old.nodes number) tree.old.nodes tree.new.nodes number (plain value.now) (number_of m))) }
-    ensures written { (p : Options) → IfOk result (λ o. IfSome o (λ m. is_name_in tree.old.nodes number ≡ false → Writes p tree.old.nodes tree.new.nodes number (number_of m) (plain value.now))) }
-    ensures marked { IfOk result (λ o. IfSome o (λ m. is_name_in tree.old.nodes number ≡ false → IsMarkedFor tree.old.nodes tree.new.nodes number (plain value.now))) }
-    ensures around { IfOk result (λ o. IfSome o (λ m. is_name_in tree.old.nodes number ≡ false → StaysAroundValue tree.old.nodes tree.new.nodes number (plain value.now))) }
+    ensures replaced { IfOk result
+        (λ o. IfSome o (λ m. IsReplacedAs (is_name_in tree.old.nodes number) tree.old.nodes tree.new.nodes number
+        (plain value.now) (number_of m))) }
+    ensures written { (p : Options)
+        → IfOk result (λ o. IfSome o (λ m. is_name_in tree.old.nodes number ≡ false
+        → Writes p tree.old.nodes tree.new.nodes number (number_of m) (plain value.now))) }
+    ensures marked { IfOk result (λ o. IfSome o (λ m. is_name_in tree.old.nodes number ≡ false
+        → IsMarkedFor tree.old.nodes tree.new.nodes number (plain value.now))) }
+    ensures around { IfOk result (λ o. IfSome o (λ m. is_name_in tree.old.nodes number ≡ false
+        → StaysAroundValue tree.old.nodes tree.new.nodes number (plain value.now))) }
     ensures elsewhere { IfOk result (λ o. IfSome o (λ m. StaysElsewhere tree.old.nodes tree.new.nodes number)) }
     ensures gone { IfOk result (λ o. IfSome o (λ m. IsNobodys tree.new.nodes number)) }
     ensures none { IfOk result (λ o. IfNone o (parent_at tree.old.nodes number ≡ None)) }
@@ -154,9 +166,12 @@ pub trait ReplaceWith: IsNode {
     ) -> Result<Option<CstNode>, EditError>
         requires { Holds doc.old (Self.node_of self) }
         ensures replaced { IfOk result (λ o. IfSome o (HasGivenWay doc.old doc.new (Self.node_of self) (plain value))) }
-        ensures written { (p : Options) → IfOk result (λ o. IfSome o (HasWritten doc.old doc.new p (Self.node_of self) (plain value))) }
-        ensures marked { IfOk result (λ o. IfSome o (λ m. HasMarked doc.old doc.new (Self.node_of self) (plain value))) }
-        ensures around { IfOk result (λ o. IfSome o (λ m. HasStayedAround doc.old doc.new (Self.node_of self) (plain value))) }
+        ensures written { (p : Options)
+            → IfOk result (λ o. IfSome o (HasWritten doc.old doc.new p (Self.node_of self) (plain value))) }
+        ensures marked { IfOk result
+            (λ o. IfSome o (λ m. HasMarked doc.old doc.new (Self.node_of self) (plain value))) }
+        ensures around { IfOk result
+            (λ o. IfSome o (λ m. HasStayedAround doc.old doc.new (Self.node_of self) (plain value))) }
         ensures elsewhere { IfOk result (λ o. IfSome o (λ m. KeepsElsewhere doc.old doc.new (Self.node_of self))) }
         ensures gone { IfOk result (λ o. IfSome o (λ m. HasGone doc.old doc.new (Self.node_of self))) }
         ensures none { IfOk result (λ o. IfNone o (parent_of doc.old (Self.node_of self) ≡ None)) }

@@ -170,9 +170,14 @@ fn replace_property<A: Allocator + Copy>(
     value: &CstInputValue<A>,
 ) -> Result<Option<CstNode>, EditError>
     requires { number < length tree.old.nodes }
-    ensures replaced { IfOk result (λ o. IfSome o (PropertyBecomes tree.old.nodes tree.new.nodes number (chars name.now) (plain value.now))) }
-    ensures written { (p : Options) → IfOk result (λ o. IfSome o (PropertyIsWritten tree.old.nodes tree.new.nodes p number (chars name.now) (plain value.now))) }
-    ensures laid { IfOk result (λ o. IfSome o (λ m. IsLaidProperty tree.old.nodes tree.new.nodes number (chars name.now) (plain value.now) (number_of m))) }
+    ensures replaced { IfOk result
+        (λ o. IfSome o (PropertyBecomes tree.old.nodes tree.new.nodes number (chars name.now) (plain value.now))) }
+    ensures written { (p : Options)
+        → IfOk result (λ o. IfSome o
+        (PropertyIsWritten tree.old.nodes tree.new.nodes p number (chars name.now) (plain value.now))) }
+    ensures laid { IfOk result
+        (λ o. IfSome o (λ m. IsLaidProperty tree.old.nodes tree.new.nodes number (chars name.now) (plain value.now)
+        (number_of m))) }
     ensures elsewhere { IfOk result (λ o. IfSome o (λ m. StaysElsewhere tree.old.nodes tree.new.nodes number)) }
     ensures gone { IfOk result (λ o. IfSome o (λ m. IsNobodys tree.new.nodes number)) }
     ensures none { IfOk result (λ o. IfNone o (parent_at tree.old.nodes number ≡ None)) }
@@ -231,9 +236,12 @@ impl<A: Allocator + Copy> SetRoot for CstRootNode<A> {
 
     fn set_value(&mut self, value: CstInputValue<A>) -> Result<CstNode, EditError>
         ensures set { IfOk result (RootBecomes (nodes_of self.old) (nodes_of self.new) (plain value)) }
-        ensures written { (p : Options) → IfOk result (RootIsWritten (nodes_of self.old) (nodes_of self.new) p (plain value)) }
-        ensures marked { (p : Options) → OnOk result (RootIsMarked (nodes_of self.old) (nodes_of self.new) p (plain value)) }
-        ensures around { (p : Options) → OnOk result (RootStaysAround (nodes_of self.old) (nodes_of self.new) p (plain value)) }
+        ensures written { (p : Options)
+            → IfOk result (RootIsWritten (nodes_of self.old) (nodes_of self.new) p (plain value)) }
+        ensures marked { (p : Options)
+            → OnOk result (RootIsMarked (nodes_of self.old) (nodes_of self.new) p (plain value)) }
+        ensures around { (p : Options)
+            → OnOk result (RootStaysAround (nodes_of self.old) (nodes_of self.new) p (plain value)) }
         ensures stands { IfOk result (λ m. value_under self.new 0 ≡ Some m) }
         ensures held { IfOk result (Holds self.new) }
         ensures stays { StillHolds self.old self.new }
@@ -341,9 +349,13 @@ pub trait ReplaceProperty: IsNode {
         value: CstInputValue<A>,
     ) -> Result<Option<CstNode>, EditError>
         requires { Holds doc.old (Self.node_of self) }
-        ensures replaced { IfOk result (λ o. IfSome o (HasBecomeProperty doc.old doc.new (Self.node_of self) (chars name.now) (plain value))) }
-        ensures written { (p : Options) → IfOk result (λ o. IfSome o (HasWrittenProperty doc.old doc.new p (Self.node_of self) (chars name.now) (plain value))) }
-        ensures laid { IfOk result (λ o. IfSome o (IsLaidAsProperty doc.old doc.new (Self.node_of self) (chars name.now) (plain value))) }
+        ensures replaced { IfOk result
+            (λ o. IfSome o (HasBecomeProperty doc.old doc.new (Self.node_of self) (chars name.now) (plain value))) }
+        ensures written { (p : Options)
+            → IfOk result (λ o. IfSome o
+            (HasWrittenProperty doc.old doc.new p (Self.node_of self) (chars name.now) (plain value))) }
+        ensures laid { IfOk result
+            (λ o. IfSome o (IsLaidAsProperty doc.old doc.new (Self.node_of self) (chars name.now) (plain value))) }
         ensures elsewhere { IfOk result (λ o. IfSome o (λ m. KeepsElsewhere doc.old doc.new (Self.node_of self))) }
         ensures gone { IfOk result (λ o. IfSome o (λ m. HasGone doc.old doc.new (Self.node_of self))) }
         ensures none { IfOk result (λ o. IfNone o (parent_of doc.old (Self.node_of self) ≡ None)) }

@@ -62,7 +62,8 @@ fn set_property_value<A: Allocator + Copy>(
     requires there { property < length tree.old.nodes }
     requires property { content_at tree.old.nodes property ≡ Content.property }
     ensures set { IfOk result (PropertyHolds tree.old.nodes tree.new.nodes property (plain value.now)) }
-    ensures written { (p : Options) → IfOk result (HeldIsWritten tree.old.nodes tree.new.nodes p property (plain value.now)) }
+    ensures written { (p : Options)
+        → IfOk result (HeldIsWritten tree.old.nodes tree.new.nodes p property (plain value.now)) }
     ensures marked { OnOk result (HeldIsMarked tree.old.nodes tree.new.nodes property (plain value.now)) }
     ensures around { OnOk result (HeldStaysAround tree.old.nodes tree.new.nodes property (plain value.now)) }
     ensures elsewhere { OnOk result (StaysElsewhere tree.old.nodes tree.new.nodes property) }
@@ -141,7 +142,8 @@ fn set_boolean<A: Allocator + Copy>(
 ) -> Result<(), EditError>
     requires { IsNodeOf tree.old.nodes (boolean_lit_node boolean) }
     ensures set { OnOk result (BooleanSet tree.old.nodes tree.new.nodes boolean.number value) }
-    ensures written { (p : Options) → OnOk result (BooleanIsWritten tree.old.nodes tree.new.nodes p boolean.number value) }
+    ensures written { (p : Options)
+        → OnOk result (BooleanIsWritten tree.old.nodes tree.new.nodes p boolean.number value) }
     ensures elsewhere { OnOk result (StaysElsewhere tree.old.nodes tree.new.nodes boolean.number) }
     ensures stays { StillNodes tree.old.nodes tree.new.nodes }
     ensures memory { IfErr result (λ e. e ≡ EditError.OutOfMemory) }
@@ -170,7 +172,8 @@ pub trait SetProperty: IsNode {
     ) -> Result<CstNode, EditError>
         requires { Holds doc.old (Self.node_of self) }
         ensures set { IfOk result (NowHolds doc.old doc.new (Self.node_of self) (plain value)) }
-        ensures written { (p : Options) → IfOk result (HasWrittenValue doc.old doc.new p (Self.node_of self) (plain value)) }
+        ensures written { (p : Options)
+            → IfOk result (HasWrittenValue doc.old doc.new p (Self.node_of self) (plain value)) }
         ensures marked { OnOk result (HasMarkedValue doc.old doc.new (Self.node_of self) (plain value)) }
         ensures around { OnOk result (HasStayedAroundValue doc.old doc.new (Self.node_of self) (plain value)) }
         ensures elsewhere { OnOk result (KeepsElsewhere doc.old doc.new (Self.node_of self)) }
@@ -201,7 +204,8 @@ pub trait SetProperty: IsNode {
         ensures held { IfOk result (λ x. Holds doc.new (object_node x)) }
         ensures stays { StillHolds doc.old doc.new }
         ensures told { IfErr result (IsUnset is_object (nodes_of doc.old) (number_of (Self.node_of self))) }
-        ensures missing { IfErr result (λ e. lacks_name_at (nodes_of doc.old) (number_of (Self.node_of self)) ≡ true → e ≡ EditError.MissingName) }
+        ensures missing { IfErr result (λ e. lacks_name_at (nodes_of doc.old) (number_of (Self.node_of self)) ≡ true
+            → e ≡ EditError.MissingName) }
         ensures memory { (o : Options) → IfErr result (IsKeptForMemory doc.old o (Self.node_of self)) }
         ensures document { OnErr result (tree_of doc.new ≡ tree_of doc.old) }
         ensures tree { NodesAreTree doc.new };
@@ -226,7 +230,8 @@ pub trait SetProperty: IsNode {
         ensures held { IfOk result (λ x. Holds doc.new (array_node x)) }
         ensures stays { StillHolds doc.old doc.new }
         ensures told { IfErr result (IsUnset is_array (nodes_of doc.old) (number_of (Self.node_of self))) }
-        ensures missing { IfErr result (λ e. lacks_name_at (nodes_of doc.old) (number_of (Self.node_of self)) ≡ true → e ≡ EditError.MissingName) }
+        ensures missing { IfErr result (λ e. lacks_name_at (nodes_of doc.old) (number_of (Self.node_of self)) ≡ true
+            → e ≡ EditError.MissingName) }
         ensures memory { (o : Options) → IfErr result (IsKeptForMemory doc.old o (Self.node_of self)) }
         ensures document { OnErr result (tree_of doc.new ≡ tree_of doc.old) }
         ensures tree { NodesAreTree doc.new };
