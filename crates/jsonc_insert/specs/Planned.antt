@@ -80,8 +80,7 @@ plan_alone_at ns several row place = record {
   place = place;
   before = line_if several;
   comma_behind = false;
-  behind = line_unless ns several
-      (slice_range row place (length row));
+  behind = line_unless ns several (slice_range row place (length row));
 }
 
 abbrev pub plan_alone : List Node → Bool → List ℕ → Plan
@@ -94,14 +93,25 @@ plan_first ns several row = record {
   place = 1;
   before = line_if several;
   comma_behind = true;
-  behind = before_next ns several
-      (slice_range row 1 (length row));
+  behind = before_next ns several (slice_range row 1 (length row));
 }
 
 -- at this place, behind a comma and the comments on its line, with an element behind it or as the last
 abbrev pub plan_between : List Node → Bool → Bool → List ℕ → Bool → Option ℕ → ℕ → Plan
-plan_between ns several commas row true comma place = record { comma = comma; place = place; before = parting several; comma_behind = true; behind = before_next ns several (slice_range row place (length row)) }
-plan_between ns several commas row false comma place = record { comma = comma; place = place; before = parting several; comma_behind = several && commas; behind = Nothing }
+plan_between ns several commas row true comma place = record {
+  comma = comma;
+  place = place;
+  before = parting several;
+  comma_behind = true;
+  behind = before_next ns several (slice_range row place (length row));
+}
+plan_between ns several commas row false comma place = record {
+  comma = comma;
+  place = place;
+  before = parting several;
+  comma_behind = several && commas;
+  behind = Nothing;
+}
 
 -- behind the element that ends at this place
 abbrev pub comma_wanted : List Node → List ℕ → ℕ → Option ℕ

@@ -6,9 +6,9 @@
 //!
 //! [`ReplaceWith`] and [`ReplaceProperty`] let a node give way to another, [`Remove`] and [`RemoveLeaf`]
 //! take one out, and [`SetRoot`], [`SetProperty`] and [`SetBoolean`] have what sets the document's value,
-//! that of a property, and a truth value; [`EnsureMultiline`] puts an array or object on several lines. [`SetRawValue`], [`SetToken`], [`SetWhitespace`] and
-//! [`SetNewline`] write one leaf anew as it stands, without memory, whatever the document makes of that
-//! (`specs/Raw.antt`). A closure that reads the document is lent one by [`IsDocument`].
+//! that of a property, and a truth value; [`EnsureMultiline`] puts an array or object on several lines.
+//! [`SetRawValue`], [`SetToken`], [`SetWhitespace`] and [`SetNewline`] write one leaf anew as it stands,
+//! without memory, whatever the document makes of that (`specs/Raw.antt`). A closure that reads the document is lent one by [`IsDocument`].
 #![tactic(auto)]
 
 mod document;
