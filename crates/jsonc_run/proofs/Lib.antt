@@ -7,6 +7,7 @@ pub mod PropertyValues
 pub mod ValueMade
 pub mod Booleans
 pub mod OnLines
+pub mod Inserted
 pub mod Ensured
 pub mod Written
 pub mod Refused

@@ -30,9 +30,11 @@ use Rattle.jsonc_run.specs.declared.edit.Over.{Over}
 use Rattle.jsonc_run.specs.declared.edit.Shape.{Shape}
 use Rattle.jsonc_run.specs.declared.edit.Shape.TheVariants.{Object, Array}
 use Rattle.jsonc_run.specs.Shapes.{empty_of}
-use Rattle.jsonc_run.specs.Edits.{Operation, replace, remove, remove_comment, set_root, clear_root, replace_property, ensure_root, set_value, ensure_value, set_boolean, ensure_multiline, AreMade, none_made, first_made}
+use Rattle.jsonc_run.specs.Edits.{Operation, replace, remove, remove_comment, set_root, clear_root, replace_property, ensure_root, set_value, ensure_value, set_boolean, ensure_multiline, insert_element, append_element, AreMade, none_made, first_made}
 use Rattle.jsonc_run.specs.Written.{MayBeMade, EntryLeft, entry_left, value_left, ValueGivesWay, RootValueSet, given_way, has_come, RootValueEnsured, all_kept, empty_set, PropertyGivenWay, property_given, ValueEnsured, all_stays, empty_given, StayAround}
 use Rattle.jsonc_run.specs.Marked.{IsMarked, AreMarked, none_marked, first_marked, MarkAll}
+use Rattle.jsonc_insertion_laws.proofs.TODO.{inserts_element}
+use Rattle.jsonc_run.proofs.Inserted.{gained_marks}
 use Rattle.jsonc_run.proofs.Ensured.{empty_writable}
 use Rattle.jsonc_run.proofs.Written.{is_written, stays_around, write_all}
 
@@ -92,6 +94,10 @@ one_marked o t u (set_value path v) may s g = value_marked o t u path v may (g o
 one_marked o t u (ensure_value path shape) may s g = held_marked o t u path shape (g o s)
 one_marked o t u (set_boolean path b) may s (was, g, is) = (was, subst (λ (w : Top). MarksDifferIn (marks_under w) (written (Plain.boolean b)) (marks t) (marks u)) is (marks_given g.was (laid g.layout (Plain.boolean b)) t g.spaced u g.spaces g.around))
 one_marked o t u (ensure_multiline path) may s g = (keeps_document o t u path s (g o s)).marks
+one_marked o t u (insert_element path i v) may s g = gained_marks (written v) _ _ t u (inserts_element o path i v t u (g o s) s may).marks
+one_marked o t u (append_element path v) may s g =
+    let far = g o s in
+    gained_marks (written v) _ _ t u (inserts_element o path far.0 v t u (far.1 far.0 (omega arith)) s may).marks
 
 all_marked : (o : Options) (old new : List Node) (es : List Operation) → IsTree old → AreMade old es new → SoundTree o (ordered_tree old 0) → All (MayBeMade o) es → AreMarked (marks (ordered_tree old 0)) es (marks (ordered_tree new 0))
 all_marked o old _ [] tree none_made s may = none_marked

@@ -1,5 +1,5 @@
 -- What edits that were made in order make of a document.
-use Rattle.std.proofs.Common.{Result, Ok, Err, OnOk, ◌≡◌, ℕ, Bool, suc, List, [], ◌∷◌, ◌++◌, Option, Some, None, IsTrue, sym, refl, ap, subst, ◌∙◌, arith}
+use Rattle.std.proofs.Common.{Result, Ok, Err, OnOk, ◌≡◌, ℕ, length, Bool, suc, List, [], ◌∷◌, ◌++◌, Option, Some, None, IsTrue, sym, refl, ap, subst, ◌∙◌, arith}
 use Rattle.std.specs.List.{All}
 use Rattle.jsonc_text.specs.Options.{Options}
 use Rattle.jsonc_text.specs.Plain.{Plain}
@@ -35,8 +35,8 @@ use Rattle.jsonc_set.proofs.PropertyRows.{some_value_of, prints_value}
 use Rattle.jsonc_set.proofs.WrittenBoolean.{writes_boolean}
 use Rattle.jsonc_set.proofs.WrittenProperty.{writes_property}
 use Rattle.jsonc_run.specs.Places.{IsEntryAt, the_value, an_entry, IsEntryOf, in_array, in_object, IsBooleanAt, IsPropertyAt, a_property}
-use Rattle.jsonc_run.specs.Edits.{Operation, replace, remove, remove_comment, set_root, clear_root, replace_property, ensure_root, set_value, ensure_value, set_boolean, ensure_multiline, AreMade, none_made, first_made, RootSet, IsMade}
-use Rattle.jsonc_run.specs.Written.{MayBeMade, IsChanged, by_value, by_entry, by_all, by_comment, by_root, by_clearing, by_property, by_ensuring, by_setting, by_ensuring_held, by_boolean, by_lines, AreChanged, unchanged, first_changed}
+use Rattle.jsonc_run.specs.Edits.{Operation, replace, remove, remove_comment, set_root, clear_root, replace_property, ensure_root, set_value, ensure_value, set_boolean, ensure_multiline, insert_element, append_element, AreMade, none_made, first_made, RootSet, IsMade}
+use Rattle.jsonc_run.specs.Written.{MayBeMade, IsChanged, by_value, by_entry, by_all, by_comment, by_root, by_clearing, by_property, by_ensuring, by_setting, by_ensuring_held, by_boolean, by_lines, by_inserting, by_appending, AreChanged, unchanged, first_changed}
 use Rattle.jsonc_run.specs.declared.edit.Over.{Over}
 use Rattle.jsonc_run.specs.declared.edit.Over.TheVariants as over
 use Rattle.jsonc_run.specs.declared.edit.Shape.{Shape}
@@ -44,6 +44,10 @@ use Rattle.jsonc_run.specs.Shapes.{empty_of}
 use Rattle.jsonc_run.specs.Written.{comes_first, has_it, may_stay, must_give_way}
 use Rattle.jsonc_run.specs.Written.{EntryLeft, entry_left, value_left, StayAround, AllStayAround, all_stay, first_stay, AreWritten, WriteAll}
 use Rattle.jsonc_run.proofs.Ensured.{empty_writable, same_shape, held, Ensured, created, stayed, other_stayed, replaced, ensured, value_ensured}
+use Rattle.jsonc_insert.proofs.Past.{past_the_end}
+use Rattle.jsonc_insertion_laws.proofs.TODO.{elements_come_at, has_its_brackets}
+use Rattle.jsonc_nodes.specs.Siblings.{elements_at}
+use Rattle.jsonc_run.proofs.Inserted.{came_in, came_last}
 use Rattle.jsonc_run.proofs.Booleans.{boolean_given, boolean_changed}
 use Rattle.jsonc_run.proofs.PathValues.{gives_way_to_itself, value_of_text, value_at_path, value_once}
 use Rattle.jsonc_run.proofs.PropertyMade.{property_gives_way}
@@ -82,6 +86,10 @@ stays_around old new (set_value path v) tree after (r, at, set) = λ o sound.
 stays_around old new (ensure_value path shape) tree after (r, at, ensured) = λ o sound. stays_ensured old new path shape tree (property_values.value_ensured o old new tree sound path r at shape ensured)
 stays_around old new (set_boolean path b) tree after (n, at, set) = boolean_given old new path n b tree at set
 stays_around old new (ensure_multiline path) tree after (n, at, made) = λ o sound. spread_at o old new path n tree after sound at.0 at.1 made
+stays_around old new (insert_element path i v) tree after (n, m, at, put) = λ o sound. elements_come_at o old new path n i v m tree sound at.0 at.1 put
+stays_around old new (append_element path v) tree after (n, m, at, put) = λ o sound.
+    let brackets = has_its_brackets o old path n tree sound at.0 at.1 in
+    (length (elements_at old n), λ i far. elements_come_at o old new path n i v m tree sound at.0 at.1 (past_the_end old new n (length (elements_at old n)) i v m brackets (omega arith) far put))
 
 -- under all options the leaves around stay
 pub stay_around : (old new : List Node) (es : List Operation) → IsTree old → AreMade old es new → AllStayAround (ordered_tree old 0) es (ordered_tree new 0)
@@ -232,6 +240,13 @@ module _ (o : Options) where
   is_written old new (ensure_multiline path) tree after (n, at, made) s may =
       let w = keeps_document o (ordered_tree old 0) (ordered_tree new 0) path s (spread_at o old new path n tree after s at.0 at.1 made) in
       record { before = w.value; after = w.value; old_text = w.old_text; new_text = w.new_text; changed = by_lines; sound = w.sound }
+  is_written old new (insert_element path i v) tree after (n, m, at, put) s may =
+      let w = (came_in o old new path n m v tree s at may i put).is in
+      record { before = Some w.before; after = Some w.after; old_text = w.old_text; new_text = w.new_text; changed = by_inserting w.gains; sound = w.sound }
+  is_written old new (append_element path v) tree after (n, m, at, put) s may =
+      let last = came_last o old new path n m v tree s at may put in
+      let w = last.came.is in
+      record { before = Some w.before; after = Some w.after; old_text = w.old_text; new_text = w.new_text; changed = by_appending w.gains last.far; sound = w.sound }
 
   all_written : (old new : List Node) (es : List Operation) → IsTree old → AreMade old es new → SoundTree o (ordered_tree old 0) → All (MayBeMade o) es → AreWritten o es (ordered_tree old 0) (ordered_tree new 0)
   all_written old _ [] tree none_made s may =

@@ -59,4 +59,9 @@ pub enum Edit<A: Allocator> {
     /// The array or object at a path is put on several lines, where no line ends among its children yet:
     /// each of its elements or properties, and its last bracket, comes on a line of its own.
     EnsureMultiline(Vec<usize, A>),
+    /// A value comes into the array at a path, before its element of this number, counted from 0, or behind
+    /// the last where it has fewer.
+    InsertElement(Vec<usize, A>, usize, CstInputValue<A>),
+    /// A value comes into the array at a path, behind its last element.
+    AppendElement(Vec<usize, A>, CstInputValue<A>),
 }

@@ -19,6 +19,7 @@ ghost use Rattle.jsonc_run.specs.Written.{IsRefusedAfter, WriteAll};
 use crate::comments::find_comment;
 use crate::edit::{Edit, Over, Shape};
 use crate::entries::{find_entry, find_property};
+use crate::inserting::{append_element_at, insert_element_at};
 use crate::lines::ensure_multiline_at;
 use crate::values::{ensure_value_at, set_boolean_at, set_value_at};
 use jsonc_edit::{EditError, find, remove_comment, replace};
@@ -81,6 +82,10 @@ fn make_by_kind<A: Allocator + Copy>(
         Edit::EnsureValue(path, shape) => ensure_value_at(alloc, tree, path, *shape),
         Edit::SetBoolean(path, value) => set_boolean_at(alloc, tree, path, *value),
         Edit::EnsureMultiline(path) => ensure_multiline_at(alloc, tree, path),
+        Edit::InsertElement(path, index, value) => {
+            insert_element_at(alloc, tree, path, *index, value)
+        }
+        Edit::AppendElement(path, value) => append_element_at(alloc, tree, path, value),
     }
 }
 

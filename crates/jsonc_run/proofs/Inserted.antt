@@ -1,0 +1,102 @@
+-- Values that come into arrays at paths.
+use Rattle.std.proofs.Common.{◌≡◌, ℕ, ◌≤◌, ◌+◌, Bool, true, false, not, cond, List, [], ◌∷◌, ◌++◌, length, Option, Some, Result, Ok, Err, IfErr, IfOk, OnOk, refl, sym, ap, subst, ◌∙◌, arith, append_assoc}
+use Rattle.std.proofs.lemmas.List.Filters.{length-filter_both}
+use Rattle.jsonc_text.specs.Options.{Options}
+use Rattle.jsonc_text.specs.Plain.{Plain, array}
+use Rattle.jsonc_text.specs.Grammar.{IsDocument}
+use Rattle.jsonc_text.proofs.UniqueValues.{document_unique}
+use Rattle.jsonc_tree.specs.Content as content
+use Rattle.jsonc_tree.specs.OrderedTree.{OrderedTree, ordered_tree}
+use Rattle.jsonc_tree.specs.Tree.{Node, children_at, content_at, IsTree}
+use Rattle.jsonc_build.specs.Shape.{printed_text}
+use Rattle.jsonc_nodes.specs.Kinds.{is_element_at}
+use Rattle.jsonc_nodes.specs.Siblings.{elements_at}
+use Rattle.jsonc_laws.specs.Changes.{Changed}
+use Rattle.jsonc_laws.specs.MarkChanges.{MarksDifferIn}
+use Rattle.jsonc_laws.specs.Marks.{Mark, marks}
+use Rattle.jsonc_laws.specs.SoundTrees.{SoundTree}
+use Rattle.jsonc_edit.specs.Paths.{FindsExactly, IsAt}
+use Rattle.jsonc_edit.specs.Writing.{IsWritable}
+use Rattle.jsonc_edit.specs.declared.error.EditError.{EditError}
+use Rattle.jsonc_edit.specs.declared.error.EditError.TheVariants.{OutOfMemory, MissingBrackets, MissingName, NoSuchPlace}
+use Rattle.jsonc_insert.specs.Inserted.{refusal, ElementPut}
+use Rattle.jsonc_insert.specs.Planned.{has_brackets}
+use Rattle.jsonc_insert.proofs.Past.{past_the_end}
+use Rattle.jsonc_insertion_laws.specs.Laws.{item_count, ElementComesAt, GainsItem, GainsMarks, IsInserted}
+use Rattle.jsonc_insertion_laws.proofs.TODO.{elements_come_at, has_its_brackets, inserts_element}
+use Rattle.jsonc_run.specs.Edits.{append_element, insert_element, IsMade}
+use Rattle.jsonc_run.specs.Places.{IsArrayAt}
+use Rattle.jsonc_run.specs.Refusals.{IsToldBy}
+use Rattle.jsonc_run.proofs.PathValues.{value_once}
+
+-- the array at a path is what stands there, if it is one
+pub array_found : (ns : List Node) (path : List ℕ) (at found : Option ℕ) → FindsExactly at (IsAt ns path) → FindsExactly found (λ n. (at ≡ Some n) × (content_at ns n ≡ content.array)) → FindsExactly found (IsArrayAt ns path)
+array_found ns path at found standing finds = λ n. (
+  λ e. let it = (finds n).0 e in ((standing n).0 it.0, it.1),
+  λ h. (finds n).1 ((standing n).1 h.0, h.1),
+)
+
+-- a container has no more elements than children
+fewer : (ns : List Node) (c : ℕ) → length (elements_at ns c) ≤ length (children_at ns c)
+fewer ns c = omega (arith, length-filter_both (is_element_at ns) (λ n. not (is_element_at ns n)) (λ n. refl) (children_at ns c))
+
+-- what came at the number of the children came behind the last element
+pub comes_last : (old new : List Node) (c : ℕ) (v : Plain) (m : ℕ) → has_brackets old (children_at old c) ≡ true → ElementPut old new c (length (children_at old c)) v m → ElementPut old new c (length (elements_at old c)) v m
+comes_last old new c v m brackets put = past_the_end old new c (length (children_at old c)) (length (elements_at old c)) v m brackets (fewer old c) (omega arith) put
+
+-- why nothing came in
+no_other : (b : Bool) (e : EditError) → e ≡ cond b OutOfMemory MissingBrackets → (e ≡ MissingName → ⊥) × (e ≡ NoSuchPlace → ⊥)
+no_other true e is = (λ other. let wrong : OutOfMemory ≡ MissingName = sym is ∙ other in cc, λ other. let wrong : OutOfMemory ≡ NoSuchPlace = sym is ∙ other in cc)
+no_other false e is = (λ other. let wrong : MissingBrackets ≡ MissingName = sym is ∙ other in cc, λ other. let wrong : MissingBrackets ≡ NoSuchPlace = sym is ∙ other in cc)
+
+module _ (ns : List Node) (path : List ℕ) (n : ℕ) (v : Plain) (at : IsArrayAt ns path n) where
+  pub told_in : (i : ℕ) (e : EditError) → e ≡ refusal ns n → IsToldBy ns (insert_element path i v) e
+  told_in i OutOfMemory is = (n, at, sym is)
+  told_in i MissingBrackets is = (n, at, sym is)
+  told_in i MissingName is = absurd ((no_other (has_brackets ns (children_at ns n)) MissingName is).0 refl)
+  told_in i NoSuchPlace is = absurd ((no_other (has_brackets ns (children_at ns n)) NoSuchPlace is).1 refl)
+
+  pub told_behind : (e : EditError) → e ≡ refusal ns n → IsToldBy ns (append_element path v) e
+  told_behind OutOfMemory is = (n, at, sym is)
+  told_behind MissingBrackets is = (n, at, sym is)
+  told_behind MissingName is = absurd ((no_other (has_brackets ns (children_at ns n)) MissingName is).0 refl)
+  told_behind NoSuchPlace is = absurd ((no_other (has_brackets ns (children_at ns n)) NoSuchPlace is).1 refl)
+
+-- marks that have come in stand in one place
+pub gained_marks : (ms : List Mark) (i : ℕ) (row t u : OrderedTree) → GainsMarks ms i row t u → MarksDifferIn [] ms (marks t) (marks u)
+gained_marks ms i row t u g =
+    record {
+      front = g.before ++ marks g.front;
+      back = marks g.back ++ g.behind;
+      before = g.was ∙ sym (append_assoc g.before (marks g.front) (marks g.back ++ g.behind));
+      after = g.is ∙ sym (append_assoc g.before (marks g.front) (ms ++ (marks g.back ++ g.behind)));
+    }
+
+-- what a value that came into the array at a path of a sound document makes of it
+pub record CameIn (o : Options) (path : List ℕ) (i : ℕ) (v : Plain) (t u : OrderedTree) : Type 0 where
+  pub come : ElementComesAt o path i v t u
+  pub is : IsInserted o path i v t u come
+
+-- and one that came behind all
+pub record CameLast (o : Options) (path : List ℕ) (v : Plain) (t u : OrderedTree) : Type 0 where
+  pub i : ℕ
+  pub came : CameIn o path i v t u
+  pub far : item_count came.is.gains.old ≤ i
+
+module _ (o : Options) (old new : List Node) (path : List ℕ) (n m : ℕ) (v : Plain) (tree : IsTree old) (sound : SoundTree o (ordered_tree old 0)) (at : IsArrayAt old path n) (may : IsWritable o v) where
+  pub came_in : (i : ℕ) → ElementPut old new n i v m → CameIn o path i v (ordered_tree old 0) (ordered_tree new 0)
+  came_in i put =
+      let come = elements_come_at o old new path n i v m tree sound at.0 at.1 put in
+      record { come = come; is = inserts_element o path i v (ordered_tree old 0) (ordered_tree new 0) come sound may }
+
+  pub came_last : ElementPut old new n (length (elements_at old n)) v m → CameLast o path v (ordered_tree old 0) (ordered_tree new 0)
+  came_last put =
+      let len : ℕ = length (elements_at old n) in
+      let first = came_in len put in
+      let k : ℕ = item_count first.is.gains.old in
+      let brackets = has_its_brackets o old path n tree sound at.0 at.1 in
+      let came = came_in (len + k) (past_the_end old new n len (len + k) v m brackets (omega arith) (omega arith) put) in
+      let before : first.is.before ≡ came.is.before = let e : Some first.is.before ≡ Some came.is.before = document_unique o (printed_text (ordered_tree old 0)) (Some first.is.before) (Some came.is.before) first.is.old_text came.is.old_text in cc in
+      let items : array first.is.gains.old ≡ array came.is.gains.old = value_once (subst (λ z. Changed (array first.is.gains.old) (array first.is.gains.new) path z first.is.after) before first.is.gains.changed) came.is.gains.changed in
+      let same : first.is.gains.old ≡ came.is.gains.old = cc in
+      record { i = len + k; came = came; far = omega (arith, ap item_count same) }
