@@ -1,3 +1,4 @@
 mod Reading
 mod Removing
 mod Removals
+mod Ending
