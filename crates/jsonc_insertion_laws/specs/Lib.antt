@@ -1,0 +1,2 @@
+pub mod Coming
+pub mod Laws
