@@ -17,13 +17,13 @@ use Rattle.jsonc_multiline.specs.Reflows.{has_newline}
 -- the second row is the first, or blanks have left it that stood directly behind the first line's end in it, before which stand blanks alone
 pub data FirstLinesLeave : OrderedTree → OrderedTree → Type 0 where
   none_first : {row : OrderedTree} → FirstLinesLeave row row
-  leave_first : (spaces gone : List Content) (row : OrderedTree) {k : CstNewlineKind} → AreBlanks spaces → AreBlanks gone
+  leave_first : (spaces gone : List Content) (k : CstNewlineKind) (row : OrderedTree) → AreBlanks spaces → AreBlanks gone
       → FirstLinesLeave (leaves_then spaces (more (newline k) none (leaves_then gone row))) (leaves_then spaces (more (newline k) none row))
 
 -- or that stood directly before the last line's end, behind which stand blanks alone
 pub data LastLinesLeave : OrderedTree → OrderedTree → Type 0 where
   none_last : {row : OrderedTree} → LastLinesLeave row row
-  leave_last : (front : OrderedTree) (gone spaces : List Content) {k : CstNewlineKind} → AreBlanks gone → AreBlanks spaces
+  leave_last : (front : OrderedTree) (gone spaces : List Content) (k : CstNewlineKind) → AreBlanks gone → AreBlanks spaces
       → LastLinesLeave (followed_by front (leaves_then gone (more (newline k) none (leaves_then spaces none)))) (followed_by front (more (newline k) none (leaves_then spaces none)))
 
 -- blank lines directly inside the brackets leave so
