@@ -183,7 +183,7 @@ module _ (o : Options) (path : List ℕ) (i : ℕ) (v : Plain) (t u : OrderedTre
         by (comes front back led behind gap c takes none_comes w g) now was =
             let d = values_marks t (bracketed of_values s.row) (bracketed of_values s.new) path u s.changed in
             let ms : List Mark = written v in
-            let literals : marks_under (laid s.layout v) ≡ ms = laid_as_written o s.layout v writable.texts in
+            let literals : marks_under (laid s.layout v) ≡ ms = laid_as_written s.layout v writable.texts in
             record {
               front = front;
               back = back;
