@@ -14,8 +14,6 @@ mod lists;
 #[cfg(test)]
 mod node_edits;
 #[cfg(test)]
-mod pieces;
-#[cfg(test)]
 mod raw_edits;
 #[cfg(test)]
 mod reading;

@@ -8,7 +8,7 @@ use Rattle.jsonc_edit.specs.declared.error.EditError.{EditError}
 use Rattle.jsonc_run.specs.Edits.{AreMade, Operation}
 use Rattle.jsonc_run.specs.Refusals.{StopsAt}
 use Rattle.jsonc_run.specs.Marked.{MarkAll}
-use Rattle.jsonc_run.specs.Written.{WriteAll}
+use Rattle.jsonc_run.specs.Written.{IsRefusedAfter, WriteAll}
 use Rattle.jsonc_cst.specs.declared.cst.CstRootNode.{CstRootNode}
 use Rattle.jsonc_cst.specs.declared.cst.node.CstNode.{CstNode}
 use Rattle.jsonc_cst.specs.Document.{nodes_of, Holds}
@@ -17,6 +17,10 @@ use Rattle.jsonc_cst.specs.Document.{nodes_of, Holds}
 abbrev pub MayBeAsked : {C D A : Type 0} → Shared C (Bor D × (CstNode × (CstNode × Unit {0}))) Ordering → C → (CstRootNode A → D) → Type 0
 MayBeAsked {C} {D} {A} call compare same =
     (doc : CstRootNode A) (d : Bor D) (x y : CstNode) → d.now ≡ same doc → Holds doc x → Holds doc y → call.pre compare (d, (x, (y, tt)))
+
+-- if the document is sound, and what these edits write may be written, then the edit after them was refused for memory or its place alone
+abbrev pub HasStoppedFor : {A : Type 0} → CstRootNode A → Options → List Operation → EditError → Type 0
+HasStoppedFor d o es why = IsRefusedAfter o (nodes_of d) es why
 
 module _ {A : Type 0} (old new : CstRootNode A) where
   -- the edits have been made in order, each in the document that the one before it made

@@ -9,5 +9,6 @@ pub mod Booleans
 pub mod OnLines
 pub mod Ensured
 pub mod Written
+pub mod Refused
 pub mod Numbered
 pub mod Marking

@@ -71,6 +71,13 @@ IsToldBy ns e NoSuchPlace = ¬ (HasItsPlace ns e)
 IsToldBy ns e MissingBrackets = LacksBrackets ns e
 IsToldBy ns e MissingName = LacksName ns e
 
+-- memory was wanted, or the edit has no place: neither a bracket nor a name is missing
+abbrev pub WantsMemoryOrPlace : EditError → Type 0
+WantsMemoryOrPlace OutOfMemory = Unit {0}
+WantsMemoryOrPlace NoSuchPlace = Unit {0}
+WantsMemoryOrPlace MissingBrackets = ⊥
+WantsMemoryOrPlace MissingName = ⊥
+
 -- The first k edits were made, each whole; there is one more, which was not made for this reason; and the document is as those k left it.
 pub record StopsAt (old : List Node) (es : List Operation) (k : ℕ) (stop : EditError) (new : List Node) : Type 0 where
   pub now : List Node

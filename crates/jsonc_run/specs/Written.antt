@@ -26,6 +26,8 @@ use Rattle.jsonc_remove.specs.Laws.{EntryTaken, ValueTaken}
 use Rattle.jsonc_run.specs.declared.edit.Over.{Over}
 use Rattle.jsonc_run.specs.declared.edit.Over.TheVariants as over
 use Rattle.jsonc_run.specs.declared.edit.Shape.{Shape}
+use Rattle.jsonc_edit.specs.declared.error.EditError.{EditError}
+use Rattle.jsonc_run.specs.Refusals.{WantsMemoryOrPlace}
 use Rattle.jsonc_run.specs.Shapes.{has_shape, empty_of}
 use Rattle.jsonc_run.specs.Edits.{Operation, replace, remove, remove_comment, set_root, clear_root, replace_property, ensure_root, set_value, ensure_value, set_boolean, ensure_multiline}
 
@@ -155,6 +157,10 @@ pub record AreWritten (o : Options) (es : List Operation) (old new : OrderedTree
   pub changed : AreChanged before es after
   pub around : AllStayAround old es new
   pub sound : SoundTree o new
+
+-- if the old document is sound, and what these edits write may be written, then the edit after them was refused for memory or its place alone
+abbrev pub IsRefusedAfter : Options → List Node → List Operation → EditError → Type 0
+IsRefusedAfter o old es stop = SoundTree o (ordered_tree old 0) → All (MayBeMade o) es → WantsMemoryOrPlace stop
 
 -- if the old document is sound, and what the edits write may be written, then they are written
 abbrev pub WriteAll : Options → List Node → List Operation → List Node → Type 0

@@ -11,9 +11,10 @@ ghost use Rattle.jsonc_set.specs.Kinds.{FoundOrCreated, FoundOrSet, LacksKind};
 ghost use Rattle.jsonc_run.specs.Edits.{operation_of, operations_of, AreMade, IsMade};
 ghost use Rattle.jsonc_run.specs.Edits.{replace as asked, remove as asked_out, remove_comment as asked_without};
 ghost use Rattle.jsonc_run.specs.Edits.{set_root as asked_of_root, replace_property as asked_of_property, ensure_root as asked_for};
-ghost use Rattle.jsonc_run.specs.Refusals.{IsToldBy, StopsAt};
+ghost use Rattle.jsonc_laws.specs.SoundTrees.{SoundTree};
+ghost use Rattle.jsonc_run.specs.Refusals.{IsToldBy, StopsAt, WantsMemoryOrPlace};
 ghost use Rattle.jsonc_run.specs.Shapes.{empty_of, is_of};
-ghost use Rattle.jsonc_run.specs.Written.{WriteAll};
+ghost use Rattle.jsonc_run.specs.Written.{IsRefusedAfter, WriteAll};
 
 use crate::comments::find_comment;
 use crate::edit::{Edit, Over, Shape};
@@ -38,6 +39,8 @@ pub fn make<A: Allocator + Copy>(
 ) -> Result<(), EditError>
     ensures made { OnOk result (IsMade tree.old.nodes (operation_of edit.now) tree.new.nodes) }
     ensures told { IfErr result (IsToldBy tree.old.nodes (operation_of edit.now)) }
+    ensures memory_or_place { (o : Options) → SoundTree o (ordered_tree tree.old.nodes 0)
+        → IfErr result WantsMemoryOrPlace }
     ensures written { (o : Options)
         → OnOk result (WriteAll o tree.old.nodes (operation_of edit.now ∷ []) tree.new.nodes) }
     ensures kept { OnErr result (Keeps (length tree.old.nodes) tree.old.nodes tree.new.nodes) }
@@ -269,6 +272,8 @@ pub fn run<A: Allocator + Copy>(
 ) -> Result<(), (usize, EditError)>
     ensures made { OnOk result (AreMade tree.old.nodes (operations_of edits.now) tree.new.nodes) }
     ensures stopped { IfErr result (λ e. StopsAt tree.old.nodes (operations_of edits.now) e.0 e.1 tree.new.nodes) }
+    ensures memory_or_place { (o : Options)
+        → IfErr result (λ e. IsRefusedAfter o tree.old.nodes (take e.0 (operations_of edits.now)) e.1) }
     ensures written { (o : Options) → OnOk result (WriteAll o tree.old.nodes (operations_of edits.now) tree.new.nodes) }
     ensures written_so_far { (o : Options)
         → IfErr result (λ e. WriteAll o tree.old.nodes (take e.0 (operations_of edits.now)) tree.new.nodes) }

@@ -1,5 +1,5 @@
 //! Tests of reading: what no clause says of texts, values, maps and trees, of memory that is refused, and of
-//! streams that fail.
+//! streams that fail; of the pieces of documents, and of arrays and objects on several lines.
 //!
 //! `docs/BENCH.md` says what each test is of.
 #![tactic(auto)]
@@ -15,7 +15,13 @@ mod maps;
 #[cfg(test)]
 mod nodes;
 #[cfg(test)]
+mod pieces;
+#[cfg(test)]
+mod reading;
+#[cfg(test)]
 mod refusals;
+#[cfg(test)]
+mod spread;
 #[cfg(test)]
 mod streams;
 #[cfg(test)]

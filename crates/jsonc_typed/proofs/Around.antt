@@ -1,9 +1,10 @@
 -- What stays around a value, or a property, that gives way.
-use Rattle.std.proofs.Common.{◌≡◌, ℕ, List, Option, Some, None, IfNone, IfSome, sym, subst, ◌∙◌}
+use Rattle.std.proofs.Common.{◌≡◌, ℕ, Bool, true, false, List, Option, Some, None, IfNone, IfSome, sym, subst, ◌∙◌}
 use Rattle.jsonc_text.specs.Options.{Options}
 use Rattle.jsonc_text.specs.Plain.{Plain}
 use Rattle.jsonc_tree.specs.OrderedTree.{ordered_tree, Top}
-use Rattle.jsonc_tree.specs.Tree.{Node, IsTree}
+use Rattle.jsonc_tree.specs.Content.{Content}
+use Rattle.jsonc_tree.specs.Tree.{Node, content_at, IsTree}
 use Rattle.jsonc_nodes.specs.Properties.{value_at}
 use Rattle.jsonc_from_input.specs.Laid.{laid}
 use Rattle.jsonc_laws.specs.TreeChanges.{leaves_of}
@@ -14,9 +15,10 @@ use Rattle.jsonc_edit.proofs.Elements.{Some_same}
 use Rattle.jsonc_edit.proofs.GivingWay.{in_place}
 use Rattle.jsonc_edit.proofs.ReplacedValues.{changed, put}
 use Rattle.jsonc_set.specs.Giving.{property_top, IsPropertyReplaced}
+use Rattle.jsonc_set.specs.Kinds.{FoundOrCreated, FoundOrSet, KeptOrReplaced}
 use Rattle.jsonc_set.specs.RootSet.{FirstValue}
 use Rattle.jsonc_set.proofs.Coming.{comes_among_rows}
-use Rattle.jsonc_typed.specs.Around.{IsLaidProperty, LeavesGiveWay, StaysAroundRoot, StaysAroundValue}
+use Rattle.jsonc_typed.specs.Around.{EmptyStaysAround, FirstStaysAround, IsLaidProperty, KeptOrStaysAround, LeavesGiveWay, StaysAroundRoot, StaysAroundValue}
 
 module _ (old new : List Node) (v : Plain) (tree : IsTree old) where
   pub replaced_around : (n m : ℕ) → IsReplaced old new n v m → StaysAroundValue old new n v
@@ -32,6 +34,19 @@ module _ (old new : List Node) (v : Plain) (tree : IsTree old) where
   pub root_around : (o : Options) (found : Option ℕ) (m : ℕ) → value_at old 0 ≡ found → IfSome found (λ n. IsReplaced old new n v m) → IfNone found (FirstValue old new v m) → StaysAroundRoot old new o v found
   root_around o None m e r f = λ sound. comes_among_rows o old new v m tree sound e f
   root_around o (Some n) m e r f = replaced_around n m r
+
+  -- where an empty value was to be found or set
+  pub created_around : (kind : Content → Bool) (o : Options) (found answer : Option ℕ) → value_at old 0 ≡ found → FoundOrCreated kind v old new found answer → FirstStaysAround old new o v found
+  created_around kind o None answer e (m, said, f) = λ sound. comes_among_rows o old new v m tree sound e f
+  created_around kind o (Some n) answer e (said, same) = same
+
+  kept_around : (b : Bool) (n m : ℕ) → KeptOrReplaced b v old new n m → KeptOrStaysAround old new b v n
+  kept_around true n m (here, same) = same
+  kept_around false n m r = replaced_around n m r
+
+  pub set_around : (kind : Content → Bool) (o : Options) (found : Option ℕ) (m : ℕ) → value_at old 0 ≡ found → FoundOrSet kind v old new found m → EmptyStaysAround old new kind o v found
+  set_around kind o None m e f = λ sound. comes_among_rows o old new v m tree sound e f
+  set_around kind o (Some n) m e r = kept_around (kind (content_at old n)) n m r
 
   pub held_around : (found : Option ℕ) (m : ℕ) → IfSome found (λ n. IsReplaced old new n v m) → (n : ℕ) → found ≡ Some n → StaysAroundValue old new n v
   held_around None m r n e = absurd (let wrong : None ≡ Some n = e in cc)

@@ -1,10 +1,10 @@
 -- Locality: what stays around a value, or a property, that gives way.
-use Rattle.std.specs.Prelude.{◌≡◌, ℕ, List, Option, Some, None}
+use Rattle.std.specs.Prelude.{◌≡◌, ℕ, Bool, true, false, List, Option, Some, None}
 use Rattle.jsonc_text.specs.Options.{Options}
 use Rattle.jsonc_text.specs.Plain.{Plain}
 use Rattle.jsonc_tree.specs.Content.{Content}
 use Rattle.jsonc_tree.specs.OrderedTree.{OrderedTree, leaves, ordered_tree}
-use Rattle.jsonc_tree.specs.Tree.{Node, parent_at}
+use Rattle.jsonc_tree.specs.Tree.{Node, content_at, parent_at}
 use Rattle.jsonc_from_input.specs.Laid.{laid}
 use Rattle.jsonc_laws.specs.ChangeLaws.{DiffersIn}
 use Rattle.jsonc_laws.specs.Coming.{ValueComes}
@@ -34,6 +34,20 @@ module _ (old new : List Node) where
   abbrev pub StaysAroundRoot : Options → Plain → Option ℕ → Type 0
   StaysAroundRoot o v None = SoundTree o (ordered_tree old 0) → ValueComes (laid (layout_for old 0 0) v) (row_below old 0) (row_below new 0)
   StaysAroundRoot o v (Some n) = StaysAroundValue n v
+
+  -- where the document's value was to be of a kind, and v is the empty value of that: so it is where it had none, and where it had one nothing has changed
+  abbrev pub FirstStaysAround : Options → Plain → Option ℕ → Type 0
+  FirstStaysAround o v None = StaysAroundRoot o v None
+  FirstStaysAround o v (Some n) = new ≡ old
+
+  -- or v has taken the place of the value n, which was of another kind
+  abbrev pub KeptOrStaysAround : Bool → Plain → ℕ → Type 0
+  KeptOrStaysAround true v n = new ≡ old
+  KeptOrStaysAround false v n = StaysAroundValue n v
+
+  abbrev pub EmptyStaysAround : (Content → Bool) → Options → Plain → Option ℕ → Type 0
+  EmptyStaysAround kind o v None = StaysAroundRoot o v None
+  EmptyStaysAround kind o v (Some n) = KeptOrStaysAround (kind (content_at old n)) v n
 
   -- the node m is what this name and value are laid out as, by what the old nodes tell where n stood
   abbrev pub IsLaidProperty : ℕ → List ℕ → Plain → ℕ → Type 0

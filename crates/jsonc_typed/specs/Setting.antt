@@ -26,7 +26,7 @@ use Rattle.jsonc_cst.specs.declared.cst.node.CstObject.{CstObject}
 use Rattle.jsonc_cst.specs.Document.{nodes_of}
 use Rattle.jsonc_cst.specs.Nodes.{number_of}
 use Rattle.jsonc_cst.specs.Readings.{typed_if}
-use Rattle.jsonc_typed.specs.Around.{IsLaidProperty, StaysAroundRoot}
+use Rattle.jsonc_typed.specs.Around.{EmptyStaysAround, FirstStaysAround, IsLaidProperty, StaysAroundRoot}
 use Rattle.jsonc_typed.specs.Marked.{EmptyMarked, RootMarkedFor}
 
 -- the root's value, if there was one, has given way to v, and else v has come as the first: it is the node m now
@@ -110,6 +110,19 @@ module _ (old new : List Node) where
 
   abbrev pub EmptyArrayWritten : Options → CstArray → Type 0
   EmptyArrayWritten o answer = EmptyWritten old new is_array o (array no_items) (value_at old 0) answer.number
+
+  -- all leaves around stay where an empty one has come, or taken the place of another value
+  abbrev pub FirstObjectAround : Options → Type 0
+  FirstObjectAround o = FirstStaysAround old new o (object no_members) (value_at old 0)
+
+  abbrev pub FirstArrayAround : Options → Type 0
+  FirstArrayAround o = FirstStaysAround old new o (array no_items) (value_at old 0)
+
+  abbrev pub EmptyObjectAround : Options → Type 0
+  EmptyObjectAround o = EmptyStaysAround old new is_object o (object no_members) (value_at old 0)
+
+  abbrev pub EmptyArrayAround : Options → Type 0
+  EmptyArrayAround o = EmptyStaysAround old new is_array o (array no_items) (value_at old 0)
 
   -- which takes its literals and comments along, and no others
   abbrev pub EmptyObjectMarked : Options → Type 0

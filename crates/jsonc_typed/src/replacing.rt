@@ -136,9 +136,14 @@ fn replace_node<A: Allocator + Copy>(
     ensures held { IfOk result (λ o. IfSome o (IsNodeOf tree.new.nodes)) }
     ensures stays { StillNodes tree.old.nodes tree.new.nodes }
     ensures memory { IfErr result (λ e. e ≡ EditError.OutOfMemory) }
+    ensures child { OnErr result (¬ (parent_at tree.old.nodes number ≡ None)) }
     ensures document { OnErr result (ordered_tree tree.new.nodes 0 ≡ ordered_tree tree.old.nodes 0) }
     ensures tree { IsTree tree.new.nodes }
 {
+    let _ = tree.len();
+    let Some(_) = tree.parent(number) else {
+        return Ok(None);
+    };
     if is_name_in(tree, number) {
         return replace_name(alloc, tree, number, value);
     }
@@ -179,6 +184,7 @@ pub trait ReplaceWith: IsNode {
         ensures held { IfOk result (λ o. IfSome o (Holds doc.new)) }
         ensures stays { StillHolds doc.old doc.new }
         ensures memory { IfErr result (λ e. e ≡ EditError.OutOfMemory) }
+        ensures child { OnErr result (¬ (parent_of doc.old (Self.node_of self) ≡ None)) }
         ensures document { OnErr result (tree_of doc.new ≡ tree_of doc.old) }
         ensures tree { NodesAreTree doc.new }
     {

@@ -18,7 +18,9 @@ ghost use Rattle.jsonc_typed.specs.Edits.{HasGone, IsNobodys, IsUntouched, Keeps
 ghost use Rattle.jsonc_typed.specs.Edits.{StillHolds, StillNodes};
 ghost use Rattle.jsonc_typed.specs.Marked.{MarksStay};
 ghost use Rattle.jsonc_typed.specs.Removing.{IsCleared};
-ghost use Rattle.jsonc_typed.specs.Setting.{EmptyArrayMarked, EmptyArrayWritten, EmptyObjectMarked, EmptyObjectWritten};
+ghost use Rattle.jsonc_typed.specs.Setting.{EmptyArrayAround, EmptyArrayMarked, EmptyArrayWritten};
+ghost use Rattle.jsonc_typed.specs.Setting.{EmptyObjectAround, EmptyObjectMarked, EmptyObjectWritten};
+ghost use Rattle.jsonc_typed.specs.Setting.{FirstArrayAround, FirstObjectAround};
 ghost use Rattle.jsonc_typed.specs.Setting.{FindsOrCreatesArray, FindsOrCreatesObject, FindsOrSetsArray};
 ghost use Rattle.jsonc_typed.specs.Setting.{FindsOrSetsObject, FirstArrayWritten, FirstObjectWritten};
 ghost use Rattle.jsonc_typed.specs.Setting.{HasBecomeProperty, HasWrittenProperty, IsLaidAsProperty, IsRootValue};
@@ -87,6 +89,7 @@ fn object_or_create<A: Allocator + Copy>(
     ensures value { IfOk result (FindsOrCreatesObject tree.old.nodes tree.new.nodes) }
     ensures written { (p : Options) → OnOk result (FirstObjectWritten tree.old.nodes tree.new.nodes p) }
     ensures marked { (p : Options) → OnOk result (MarksStay tree.old.nodes tree.new.nodes p) }
+    ensures around { (p : Options) → OnOk result (FirstObjectAround tree.old.nodes tree.new.nodes p) }
     ensures stands { IfOk result (λ o. IfSome o (λ x. IsRootValue tree.new.nodes (object_node x))) }
     ensures held { IfOk result (λ o. IfSome o (λ x. IsNodeOf tree.new.nodes (object_node x))) }
     ensures stays { StillNodes tree.old.nodes tree.new.nodes }
@@ -110,6 +113,7 @@ fn array_or_create<A: Allocator + Copy>(
     ensures value { IfOk result (FindsOrCreatesArray tree.old.nodes tree.new.nodes) }
     ensures written { (p : Options) → OnOk result (FirstArrayWritten tree.old.nodes tree.new.nodes p) }
     ensures marked { (p : Options) → OnOk result (MarksStay tree.old.nodes tree.new.nodes p) }
+    ensures around { (p : Options) → OnOk result (FirstArrayAround tree.old.nodes tree.new.nodes p) }
     ensures stands { IfOk result (λ o. IfSome o (λ x. IsRootValue tree.new.nodes (array_node x))) }
     ensures held { IfOk result (λ o. IfSome o (λ x. IsNodeOf tree.new.nodes (array_node x))) }
     ensures stays { StillNodes tree.old.nodes tree.new.nodes }
@@ -130,6 +134,7 @@ fn object_or_set<A: Allocator + Copy>(alloc: A, tree: &mut Tree<A>) -> Result<Cs
     ensures value { IfOk result (FindsOrSetsObject tree.old.nodes tree.new.nodes) }
     ensures written { (p : Options) → IfOk result (EmptyObjectWritten tree.old.nodes tree.new.nodes p) }
     ensures marked { (p : Options) → OnOk result (EmptyObjectMarked tree.old.nodes tree.new.nodes p) }
+    ensures around { (p : Options) → OnOk result (EmptyObjectAround tree.old.nodes tree.new.nodes p) }
     ensures stands { IfOk result (λ x. IsRootValue tree.new.nodes (object_node x)) }
     ensures held { IfOk result (λ x. IsNodeOf tree.new.nodes (object_node x)) }
     ensures stays { StillNodes tree.old.nodes tree.new.nodes }
@@ -148,6 +153,7 @@ fn array_or_set<A: Allocator + Copy>(alloc: A, tree: &mut Tree<A>) -> Result<Cst
     ensures value { IfOk result (FindsOrSetsArray tree.old.nodes tree.new.nodes) }
     ensures written { (p : Options) → IfOk result (EmptyArrayWritten tree.old.nodes tree.new.nodes p) }
     ensures marked { (p : Options) → OnOk result (EmptyArrayMarked tree.old.nodes tree.new.nodes p) }
+    ensures around { (p : Options) → OnOk result (EmptyArrayAround tree.old.nodes tree.new.nodes p) }
     ensures stands { IfOk result (λ x. IsRootValue tree.new.nodes (array_node x)) }
     ensures held { IfOk result (λ x. IsNodeOf tree.new.nodes (array_node x)) }
     ensures stays { StillNodes tree.old.nodes tree.new.nodes }
@@ -185,10 +191,14 @@ fn replace_property<A: Allocator + Copy>(
     ensures held { IfOk result (λ o. IfSome o (IsNodeOf tree.new.nodes)) }
     ensures stays { StillNodes tree.old.nodes tree.new.nodes }
     ensures memory { IfErr result (λ e. e ≡ EditError.OutOfMemory) }
+    ensures child { OnErr result (¬ (parent_at tree.old.nodes number ≡ None)) }
     ensures document { OnErr result (ordered_tree tree.new.nodes 0 ≡ ordered_tree tree.old.nodes 0) }
     ensures tree { IsTree tree.new.nodes }
 {
     let _ = tree.len();
+    let Some(_) = tree.parent(number) else {
+        return Ok(None);
+    };
     let Some(new) = jsonc_set::replace_property(alloc, tree, number, name, value)? else {
         return Ok(None);
     };
@@ -268,6 +278,7 @@ impl<A: Allocator + Copy> SetRoot for CstRootNode<A> {
         ensures value { IfOk result (FindsOrCreatesObject (nodes_of self.old) (nodes_of self.new)) }
         ensures written { (p : Options) → OnOk result (FirstObjectWritten (nodes_of self.old) (nodes_of self.new) p) }
         ensures marked { (p : Options) → OnOk result (MarksStay (nodes_of self.old) (nodes_of self.new) p) }
+        ensures around { (p : Options) → OnOk result (FirstObjectAround (nodes_of self.old) (nodes_of self.new) p) }
         ensures stands { IfOk result (λ o. IfSome o (λ x. value_under self.new 0 ≡ Some (object_node x))) }
         ensures held { IfOk result (λ o. IfSome o (λ x. Holds self.new (object_node x))) }
         ensures stays { StillHolds self.old self.new }
@@ -285,6 +296,7 @@ impl<A: Allocator + Copy> SetRoot for CstRootNode<A> {
         ensures value { IfOk result (FindsOrSetsObject (nodes_of self.old) (nodes_of self.new)) }
         ensures written { (p : Options) → IfOk result (EmptyObjectWritten (nodes_of self.old) (nodes_of self.new) p) }
         ensures marked { (p : Options) → OnOk result (EmptyObjectMarked (nodes_of self.old) (nodes_of self.new) p) }
+        ensures around { (p : Options) → OnOk result (EmptyObjectAround (nodes_of self.old) (nodes_of self.new) p) }
         ensures stands { IfOk result (λ x. value_under self.new 0 ≡ Some (object_node x)) }
         ensures held { IfOk result (λ x. Holds self.new (object_node x)) }
         ensures stays { StillHolds self.old self.new }
@@ -302,6 +314,7 @@ impl<A: Allocator + Copy> SetRoot for CstRootNode<A> {
         ensures value { IfOk result (FindsOrCreatesArray (nodes_of self.old) (nodes_of self.new)) }
         ensures written { (p : Options) → OnOk result (FirstArrayWritten (nodes_of self.old) (nodes_of self.new) p) }
         ensures marked { (p : Options) → OnOk result (MarksStay (nodes_of self.old) (nodes_of self.new) p) }
+        ensures around { (p : Options) → OnOk result (FirstArrayAround (nodes_of self.old) (nodes_of self.new) p) }
         ensures stands { IfOk result (λ o. IfSome o (λ x. value_under self.new 0 ≡ Some (array_node x))) }
         ensures held { IfOk result (λ o. IfSome o (λ x. Holds self.new (array_node x))) }
         ensures stays { StillHolds self.old self.new }
@@ -319,6 +332,7 @@ impl<A: Allocator + Copy> SetRoot for CstRootNode<A> {
         ensures value { IfOk result (FindsOrSetsArray (nodes_of self.old) (nodes_of self.new)) }
         ensures written { (p : Options) → IfOk result (EmptyArrayWritten (nodes_of self.old) (nodes_of self.new) p) }
         ensures marked { (p : Options) → OnOk result (EmptyArrayMarked (nodes_of self.old) (nodes_of self.new) p) }
+        ensures around { (p : Options) → OnOk result (EmptyArrayAround (nodes_of self.old) (nodes_of self.new) p) }
         ensures stands { IfOk result (λ x. value_under self.new 0 ≡ Some (array_node x)) }
         ensures held { IfOk result (λ x. Holds self.new (array_node x)) }
         ensures stays { StillHolds self.old self.new }
@@ -363,6 +377,7 @@ pub trait ReplaceProperty: IsNode {
         ensures held { IfOk result (λ o. IfSome o (Holds doc.new)) }
         ensures stays { StillHolds doc.old doc.new }
         ensures memory { IfErr result (λ e. e ≡ EditError.OutOfMemory) }
+        ensures child { OnErr result (¬ (parent_of doc.old (Self.node_of self) ≡ None)) }
         ensures document { OnErr result (tree_of doc.new ≡ tree_of doc.old) }
         ensures tree { NodesAreTree doc.new };
 }

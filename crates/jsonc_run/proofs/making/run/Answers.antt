@@ -4,6 +4,7 @@ use Rattle.jsonc_tree.specs.OrderedTree.{OrderedTree, ordered_tree}
 use Rattle.jsonc_run.specs.Edits.{Operation, operation_of, operations_of, AreMade, none_made}
 use Rattle.jsonc_run.specs.Written.{AreWritten}
 use Rattle.jsonc_run.proofs.Made.{made_more, next_seen, taken_seen}
+use Rattle.jsonc_run.proofs.Refused.{refused_after}
 use Rattle.jsonc_run.proofs.Written.{write_all}
 use Rattle.jsonc_run.proofs.making.run.Goals as goal
 
@@ -19,6 +20,10 @@ returns-in-Err-clause-stopped g c = record {
   told = c.in-Err.ensures.told;
   document = c.in-Err.ensures.document;
 }
+
+pub returns-in-Err-clause-memory_or_place : goal.returns-in-Err-clause-memory_or_place
+returns-in-Err-clause-memory_or_place g c = λ o.
+    refused_after o c.args.tree.now.nodes c.loop-count.tree.nodes (take c.loop-count.count (operations_of c.args.edits.now)) (operation_of c.index-edits-count.result) c.in-Err.stop c.len.ensures.tree c.loop-count.invariant.1 c.in-Err.ensures.told
 
 pub returns-in-Err-clause-written_so_far : goal.returns-in-Err-clause-written_so_far
 returns-in-Err-clause-written_so_far g c =

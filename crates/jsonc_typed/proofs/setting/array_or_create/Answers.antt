@@ -7,6 +7,7 @@ use Rattle.jsonc_cst.specs.Nodes.{array_node}
 use Rattle.jsonc_typed.proofs.Found.{created_found, stands_as}
 use Rattle.jsonc_typed.proofs.Kept.{nodes_stay}
 use Rattle.jsonc_typed.proofs.Roots.{created_is, created_or_kept, array_is}
+use Rattle.jsonc_typed.proofs.Around.{created_around}
 use Rattle.jsonc_typed.proofs.Marked.{created_marked, created_written, empty_array_writable}
 use Rattle.jsonc_typed.proofs.setting.array_or_create.Goals as goal
 
@@ -61,3 +62,15 @@ returns-in_default-clause-marked g c = λ p.
     let old = c.args.tree.now.nodes in
     let new = c.array_value_or_create.new.tree.nodes in
     created_marked p is_array (array no_items) (empty_array_writable p) refl old new c.len.ensures.tree (value_at old 0) c.in_ok-number.field-0 refl c.in_ok-number.ensures.value
+
+pub returns-clause-around : goal.returns-clause-around
+returns-clause-around g c = λ p.
+    let old = c.args.tree.now.nodes in
+    let new = c.array_value_or_create.new.tree.nodes in
+    created_around old new (array no_items) c.len.ensures.tree is_array p (value_at old 0) c.in_ok-number.field-0 refl c.in_ok-number.ensures.value
+
+pub returns-in_default-clause-around : goal.returns-in_default-clause-around
+returns-in_default-clause-around g c = λ p.
+    let old = c.args.tree.now.nodes in
+    let new = c.array_value_or_create.new.tree.nodes in
+    created_around old new (array no_items) c.len.ensures.tree is_array p (value_at old 0) c.in_ok-number.field-0 refl c.in_ok-number.ensures.value

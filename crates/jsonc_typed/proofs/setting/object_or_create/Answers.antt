@@ -7,6 +7,7 @@ use Rattle.jsonc_cst.specs.Nodes.{object_node}
 use Rattle.jsonc_typed.proofs.Found.{created_found, stands_as}
 use Rattle.jsonc_typed.proofs.Kept.{nodes_stay}
 use Rattle.jsonc_typed.proofs.Roots.{created_is, created_or_kept, object_is}
+use Rattle.jsonc_typed.proofs.Around.{created_around}
 use Rattle.jsonc_typed.proofs.Marked.{created_marked, created_written, empty_object_writable}
 use Rattle.jsonc_typed.proofs.setting.object_or_create.Goals as goal
 
@@ -61,3 +62,15 @@ returns-in_default-clause-marked g c = λ p.
     let old = c.args.tree.now.nodes in
     let new = c.object_value_or_create.new.tree.nodes in
     created_marked p is_object (object no_members) (empty_object_writable p) refl old new c.len.ensures.tree (value_at old 0) c.in_ok-number.field-0 refl c.in_ok-number.ensures.value
+
+pub returns-clause-around : goal.returns-clause-around
+returns-clause-around g c = λ p.
+    let old = c.args.tree.now.nodes in
+    let new = c.object_value_or_create.new.tree.nodes in
+    created_around old new (object no_members) c.len.ensures.tree is_object p (value_at old 0) c.in_ok-number.field-0 refl c.in_ok-number.ensures.value
+
+pub returns-in_default-clause-around : goal.returns-in_default-clause-around
+returns-in_default-clause-around g c = λ p.
+    let old = c.args.tree.now.nodes in
+    let new = c.object_value_or_create.new.tree.nodes in
+    created_around old new (object no_members) c.len.ensures.tree is_object p (value_at old 0) c.in_ok-number.field-0 refl c.in_ok-number.ensures.value

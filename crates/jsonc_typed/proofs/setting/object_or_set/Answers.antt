@@ -8,6 +8,7 @@ use Rattle.jsonc_typed.proofs.Found.{set_found, stands_as}
 use Rattle.jsonc_typed.proofs.Kept.{nodes_stay}
 use Rattle.jsonc_typed.proofs.Roots.{set_is, set_or_kept, object_is}
 use Rattle.jsonc_typed.specs.Setting.{EmptyWritten}
+use Rattle.jsonc_typed.proofs.Around.{set_around}
 use Rattle.jsonc_typed.proofs.Marked.{empty_object_writable, set_marked, set_written}
 use Rattle.jsonc_typed.proofs.setting.object_or_set.Goals as goal
 
@@ -43,3 +44,9 @@ returns-clause-marked g c = λ p.
     let old = c.args.tree.now.nodes in
     let new = c.object_value_or_set.new.tree.nodes in
     set_marked p is_object (object no_members) (empty_object_writable p) refl old new c.len.ensures.tree (value_at old 0) c.in_ok-number.number refl c.in_ok-number.ensures.value
+
+pub returns-clause-around : goal.returns-clause-around
+returns-clause-around g c = λ p.
+    let old = c.args.tree.now.nodes in
+    let new = c.object_value_or_set.new.tree.nodes in
+    set_around old new (object no_members) c.len.ensures.tree is_object p (value_at old 0) c.in_ok-number.number refl c.in_ok-number.ensures.value

@@ -1,7 +1,7 @@
 use Rattle.std.proofs.Common.{List, OnOk, IfErr, ap, subst, take}
 use Rattle.jsonc_run.specs.Edits.{Operation, operations_of, AreMade}
 use Rattle.jsonc_run.specs.Refusals.{StopsAt}
-use Rattle.jsonc_run.specs.Written.{WriteAll}
+use Rattle.jsonc_run.specs.Written.{IsRefusedAfter, WriteAll}
 use Rattle.jsonc_parser.proofs.Marked.{all_marked, some_marked}
 use Rattle.jsonc_parser.proofs.cst.lists.run.Goals as goal
 
@@ -12,6 +12,10 @@ returns-clause-written g c =
 pub returns-clause-written_so_far : goal.returns-clause-written_so_far
 returns-clause-written_so_far g c =
     λ o. subst (λ (l : List Operation). IfErr c.run-done.result (λ e. WriteAll o c.args.doc.now.tree.nodes (take e.0 l) c.run-done.new.tree.nodes)) (ap operations_of c.deref.ensures.value) (c.run-done.ensures.written_so_far o)
+
+pub returns-clause-memory_or_place : goal.returns-clause-memory_or_place
+returns-clause-memory_or_place g c =
+    λ o. subst (λ (l : List Operation). IfErr c.run-done.result (λ e. IsRefusedAfter o c.args.doc.now.tree.nodes (take e.0 l) e.1)) (ap operations_of c.deref.ensures.value) (c.run-done.ensures.memory_or_place o)
 
 pub returns-clause-marked : goal.returns-clause-marked
 returns-clause-marked g c =

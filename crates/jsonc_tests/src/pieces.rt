@@ -1,7 +1,9 @@
 //! The pieces of documents, one for each leaf.
 
-use crate::reading::{child_at, read};
-use jsonc_parser::cst::{CstInputValue, CstLeafNode, CstNode, CstRootNode, Edit, SetToken, run};
+use crate::reading::read;
+use jsonc_parser::cst::{
+    CstInputValue, CstLeafNode, CstNode, CstRootNode, Edit, HasChildren, SetToken, run,
+};
 use refusing::awaited::prints;
 use refusing::outcome::Outcome;
 use std::alloc::{AllocError, Allocator, Global};
@@ -63,7 +65,10 @@ fn put<A: Allocator + Copy>(alloc: A) -> Result<CstRootNode<A>, Outcome> {
 /// A document whose comma was set to a character of three bytes.
 fn set<A: Allocator + Copy>(alloc: A) -> Result<CstRootNode<A>, Outcome> {
     let mut doc = read(alloc, "[1, 2]")?;
-    let Some(CstNode::Leaf(CstLeafNode::Token(comma))) = child_at(&doc, 2) else {
+    let Some(array) = doc.array_value() else {
+        return Err(Outcome::Other);
+    };
+    let Some(CstNode::Leaf(CstLeafNode::Token(comma))) = array.child_at_index(&doc, 2) else {
         return Err(Outcome::Other);
     };
     comma.set_value(&mut doc, '\u{20ac}');

@@ -1,0 +1,102 @@
+-- In a sound document no edit is refused for a bracket or a name: arrays and objects have their brackets, and properties their names.
+use Rattle.std.proofs.Common.{◌≡◌, ℕ, Bool, true, false, not, ◌||◌, cond, IsTrue, List, [], ◌∷◌, Option, Some, None, inl, inr, Result, Ok, Err, IfErr, take, refl, sym, ap, subst, ◌∙◌}
+use Rattle.std.proofs.lemmas.Bool.{cases_Bool, false≢true}
+use Rattle.std.specs.List.{find, list_any}
+use Rattle.jsonc_text.specs.Options.{Options}
+use Rattle.jsonc_tree.specs.OrderedTree.{ordered_tree}
+use Rattle.jsonc_tree.specs.Tree.{Node, content_at, IsTree}
+use Rattle.jsonc_nodes.specs.Kinds.{is_colon_at, is_element_at}
+use Rattle.jsonc_nodes.specs.Properties.{behind_colon, behind_first, behind_name, lacks_name_at, value_by}
+use Rattle.jsonc_lines.specs.Kinds.{holds_values}
+use Rattle.jsonc_laws.specs.SoundTrees.{SoundTree}
+use Rattle.jsonc_edit.specs.declared.error.EditError.{EditError}
+use Rattle.jsonc_edit.specs.declared.error.EditError.TheVariants.{OutOfMemory, MissingBrackets, MissingName, NoSuchPlace}
+use Rattle.jsonc_edit.specs.Paths as paths
+use Rattle.jsonc_edit.specs.Paths.{IsAt, IsElementOf, LeadsTo}
+use Rattle.jsonc_edit.proofs.Uniqueness.{element_parent}
+use Rattle.jsonc_remove.specs.Removed.{has_brackets, IsKeptFor}
+use Rattle.jsonc_multiline.specs.Multiline.{IsUnspread}
+use Rattle.jsonc_multiline.proofs.LineEnds.{has_its_brackets}
+use Rattle.jsonc_run.specs.Edits.{Operation, remove, ensure_value, ensure_multiline, AreMade, none_made, first_made}
+use Rattle.jsonc_run.specs.Places.{IsContainerAt, IsEntryAt, IsPropertyAt, an_entry, a_property, in_array, in_object, the_value}
+use Rattle.jsonc_run.specs.Refusals.{IsToldBy, LacksBrackets, LacksName, StopsAt, WantsMemoryOrPlace}
+use Rattle.jsonc_run.specs.Written.{IsRefusedAfter}
+use Rattle.jsonc_run.proofs.PropertyValues.{value_held}
+use Rattle.jsonc_run.proofs.Written.{write_all}
+
+-- behind the first node that passes stands nothing where none passes
+none_behind : (test : ℕ → Bool) (xs : List ℕ) → list_any test xs ≡ false → behind_first test xs ≡ []
+none_behind test [] e = refl
+none_behind test (x ∷ xs) e =
+    elim (cases_Bool (test x)) [
+      | inl h ↦ absurd (let wrong : true ≡ false = sym (ap (λ b. b || list_any test xs) h) ∙ e in cc)
+      | inr h ↦ ap (λ b. cond b xs (behind_first test xs)) h ∙ none_behind test xs (sym (ap (λ b. b || list_any test xs) h) ∙ e)
+    ]
+
+not_true : (b : Bool) → not b ≡ true → b ≡ false
+not_true true e = absurd (false≢true e)
+not_true false e = refl
+
+module _ (ns : List Node) where
+  -- a property that holds a value has its name and its colon
+  held_by_name : (n v : ℕ) → find (is_element_at ns) (behind_colon ns n) ≡ Some v → lacks_name_at ns n ≡ true → ⊥
+  held_by_name n v held lacks =
+      let none : behind_colon ns n ≡ [] = none_behind (is_colon_at ns) (behind_name ns n) (not_true (list_any (is_colon_at ns) (behind_name ns n)) lacks) in
+      let wrong : None ≡ Some v = sym (ap (find (is_element_at ns)) none) ∙ held in cc
+
+module _ (o : Options) (ns : List Node) (tree : IsTree ns) (sound : SoundTree o (ordered_tree ns 0)) where
+  -- an entry of an array or object at a path stands between brackets
+  between_brackets : (front : List ℕ) (c i n : ℕ) → IsAt ns front c → IsTrue (holds_values (content_at ns c)) → IsElementOf ns c i n → IsKeptFor ns n MissingBrackets → ⊥
+  between_brackets front c i n at holds e (k, said, held, lacks) =
+      let same : c ≡ k = let both : Some c ≡ Some k = sym (element_parent ns tree c i n e) ∙ said in cc in
+      let has : IsTrue (has_brackets ns k) = subst (λ j. IsTrue (has_brackets ns j)) same (has_its_brackets o ns front c tree sound at holds) in
+      false≢true (sym (ap not has) ∙ lacks)
+
+  -- the document's value stands in the root, which wants none
+  in_root : (n v : ℕ) → IsElementOf ns 0 0 v → LeadsTo ns n v [] → IsKeptFor ns n MissingBrackets → ⊥
+  in_root n _ e paths.itself (k, said, held, lacks) =
+      let same : 0 ≡ k = let both : Some 0 ≡ Some k = sym (element_parent ns tree 0 0 n e) ∙ said in cc in
+      false≢true (sym (ap holds_values (ap (content_at ns) (sym same) ∙ tree.root_first)) ∙ held)
+
+  entry_kept : (path : List ℕ) (n : ℕ) → IsEntryAt ns path n → IsKeptFor ns n MissingBrackets → ⊥
+  entry_kept _ n (the_value at) k = in_root n at.0 at.1 at.2 k
+  entry_kept _ n (an_entry front c i at (in_array is e)) k = between_brackets front c i n at (ap holds_values is) e k
+  entry_kept _ n (an_entry front c i at (in_object p)) k = between_brackets front c i n at (ap holds_values p.of_object) p.element k
+
+  lines_kept : (path : List ℕ) (n : ℕ) → IsContainerAt ns path n → IsUnspread ns n MissingBrackets → ⊥
+  lines_kept path n at lacks = false≢true (sym (ap not (has_its_brackets o ns path n tree sound at.0 at.1)) ∙ lacks)
+
+  name_there : (path : List ℕ) (n : ℕ) → IsPropertyAt ns path n → lacks_name_at ns n ≡ true → ⊥
+  name_there _ n (a_property front c i at inside) lacks =
+      let held = value_held o ns tree sound _ n (a_property front c i at inside) in
+      held_by_name ns n held.value (sym (ap (λ w. value_by w ns n) inside.is) ∙ held.holds) lacks
+
+  brackets_there : (e : Operation) → LacksBrackets ns e → ⊥
+  brackets_there (remove path) (n, at, k) = entry_kept path n at k
+  brackets_there (ensure_multiline path) (n, at, k) = lines_kept path n at k
+  brackets_there _ k = k
+
+  named : (e : Operation) → LacksName ns e → ⊥
+  named (ensure_value path shape) (n, at, k) = name_there path n at k
+  named _ k = k
+
+  -- so memory or the edit's place was wanted
+  pub refused_so : (e : Operation) (stop : EditError) → IsToldBy ns e stop → WantsMemoryOrPlace stop
+  refused_so e OutOfMemory k = tt
+  refused_so e NoSuchPlace k = tt
+  refused_so e MissingBrackets k = brackets_there e k
+  refused_so e MissingName k = named e k
+
+  pub answer_refused : {T : Type 0} (e : Operation) (r : Result T EditError) → IfErr r (IsToldBy ns e) → IfErr r WantsMemoryOrPlace
+  answer_refused e (Ok x) k = tt
+  answer_refused e (Err stop) k = refused_so e stop k
+
+-- what edits that were made leave is a tree
+made_tree : {old new : List Node} {es : List Operation} → IsTree old → AreMade old es new → IsTree new
+made_tree tree none_made = tree
+made_tree tree (first_made is after rest) = made_tree after rest
+
+-- and so it is after edits that were made
+pub refused_after : (o : Options) (old now : List Node) (es : List Operation) (e : Operation) (stop : EditError) → IsTree old → AreMade old es now → IsToldBy now e stop → IsRefusedAfter o old es stop
+refused_after o old now es e stop tree made told = λ sound may.
+    refused_so o now (made_tree tree made) (write_all o old now es tree made sound may).sound e stop told
