@@ -2,4 +2,10 @@ pub mod Stretches
 pub mod Rows
 pub mod Items
 pub mod Marked
+pub mod Standing
+pub mod Arrays
 pub mod Written
+pub mod Blanks
+pub mod Plans
+pub mod Fits
+pub mod Comes

@@ -39,7 +39,7 @@ use Rattle.jsonc_insertion_laws.proofs.Standing.{AllAre, comma_first, standing_c
 use Rattle.jsonc_insertion_laws.proofs.Stretches.{comma_past, none_comes_first, without_elements}
 
 -- what stands last behind one stretch and then another
-last_then : (last : Last) (s t : OrderedTree) → last_behind last (followed_by s t) ≡ last_behind (last_behind last s) t
+pub last_then : (last : Last) (s t : OrderedTree) → last_behind last (followed_by s t) ≡ last_behind (last_behind last s) t
 last_then last none t = refl
 last_then last (more content below s) t = last_then (last_after last content) s t
 

@@ -3,7 +3,7 @@ use Rattle.std.proofs.Common.{◌≡◌, ◌∙◌, ℕ, min, Bool, true, false,
 use Rattle.jsonc_text.specs.Options.{Options}
 use Rattle.jsonc_text.specs.Grammar.{IsDocument}
 use Rattle.jsonc_text.specs.Plain.{Plain, Items, no_items, item}
-use Rattle.jsonc_text.specs.Text.{next, starts}
+use Rattle.jsonc_text.specs.Text.{starts}
 use Rattle.jsonc_tree.specs.Content.{Content, token}
 use Rattle.jsonc_tree.specs.OrderedTree.{OrderedTree, Top, none, more, followed_by, leaves}
 use Rattle.jsonc_tree.specs.Values as values
@@ -13,8 +13,7 @@ use Rattle.jsonc_build.specs.Lines.{LinesEndLoosely}
 use Rattle.jsonc_build.specs.Shape.{printed_text, token_then}
 use Rattle.jsonc_build.proofs.ShapeValues.{document_printed}
 use Rattle.jsonc_from_input.specs.Laid.{laid}
-use Rattle.jsonc_laws.specs.Adjacent.{first_char, follower, LeavesEnd, last_printed}
-use Rattle.jsonc_laws.specs.Alone.{RowAlone}
+use Rattle.jsonc_laws.specs.Adjacent.{first_char, last_printed}
 use Rattle.jsonc_laws.specs.Changes.{Changed}
 use Rattle.jsonc_laws.specs.Leaving.{element_count}
 use Rattle.jsonc_laws.specs.Marks.{Mark, marks}
@@ -27,30 +26,24 @@ use Rattle.jsonc_laws.specs.SoundTrees.{SoundTree}
 use Rattle.jsonc_laws.specs.Spaces.{is_bare_leaf, first_printed, meet}
 use Rattle.jsonc_laws.specs.TreeChanges.{IsElement, leaves_of, ElementChanged, DocumentChanged, in_root}
 use Rattle.jsonc_laws.specs.Written.{written}
-use Rattle.jsonc_laws.proofs.Apart.{value_alone, value_leaves}
+use Rattle.jsonc_laws.proofs.Apart.{value_alone}
 use Rattle.jsonc_laws.proofs.AtPath.{held_at_path}
 use Rattle.jsonc_laws.proofs.Changed.{alone_element}
 use Rattle.jsonc_laws.proofs.FirstNodes.{here, over, beyond, meets_first, none_changed, no_element}
 use Rattle.jsonc_laws.proofs.GivingWay.{values_marks}
-use Rattle.jsonc_laws.proofs.HeldValues.{document_held}
 use Rattle.jsonc_laws.proofs.JoinedRows.{joined_items, parted_items}
 use Rattle.jsonc_laws.proofs.Laid.{laid_as_written}
-use Rattle.jsonc_laws.proofs.Leaves.{parted_leaves, last_serves}
 use Rattle.jsonc_laws.proofs.LeavesAround.{document_differs}
-use Rattle.jsonc_laws.proofs.LinesLeft.{row_lines}
-use Rattle.jsonc_laws.proofs.LooseChanges.{joined_loosely, parted_loosely}
+use Rattle.jsonc_laws.proofs.LooseChanges.{joined_loosely}
 use Rattle.jsonc_laws.proofs.LostEntries.{item_taken}
-use Rattle.jsonc_laws.proofs.RowParts.{row_comes}
-use Rattle.jsonc_laws.proofs.SeamRows.{container_leaves, row_of}
-use Rattle.jsonc_laws.proofs.SeamStretches.{parted_row}
 use Rattle.jsonc_laws.proofs.SoundTrees.{kept_where_none_meet}
-use Rattle.jsonc_laws.proofs.Spaces.{last_of, serves_unless, stretch_no_word}
 use Rattle.jsonc_edit.specs.Writing.{IsWritable}
 use Rattle.jsonc_edit.proofs.OneValue.{document_once}
 use Rattle.jsonc_edit.proofs.Writable.{value_may_stand}
 use Rattle.jsonc_multiline.specs.Laws.{bracketed}
 use Rattle.jsonc_insertion_laws.specs.Coming.{ElementComes, comes}
 use Rattle.jsonc_insertion_laws.specs.Laws.{ElementComesAt, GainsItem, GainsMarks, InsertsElement, IsInserted, item_count, ItemComes, KeepsLeavesOutside, KeepsNodesInside}
+use Rattle.jsonc_insertion_laws.proofs.Arrays.{row_in_document}
 use Rattle.jsonc_insertion_laws.proofs.Items.{counted, items_come, kept_items}
 use Rattle.jsonc_insertion_laws.proofs.Marked.{all_stay, kept_marks, marks_then, new_marks}
 use Rattle.jsonc_insertion_laws.proofs.Rows.{IsRow, kept_row, new_row}
@@ -116,20 +109,7 @@ module _ (o : Options) (path : List ℕ) (i : ℕ) (v : Plain) (t u : OrderedTre
 
     -- the row was one, and is one
     row_was : IsRow o s.row
-    row_was =
-        let full : OrderedTree = followed_by s.row bracket in
-        let held = document_held o s.changed sound.shaped in
-        let alone : RowAlone o of_values rows.nothing_yet full = row_of o of_values full (value_alone o held.1) in
-        let parts = parted_row o of_values s.row alone in
-        let ends : LeavesEnd o (leaves full) (next held.0) = (subst (λ a. LeavesEnd o a (next held.0)) (container_leaves of_values full) (value_leaves o held.1)).1 in
-        let first = (parted_leaves o (leaves s.row) (leaves bracket) (next held.0) (subst (λ ls. LeavesEnd o ls (next held.0)) (leaves-followed_by s.row bracket) ends)).0 in
-        let n : Option ℕ = follower (leaves bracket) (next held.0) in
-        let last : LeavesEnd o (leaves s.row) None = last_serves o (leaves s.row) n None first (serves_unless o (last_printed (leaves s.row)) n None (stretch_no_word o parts.1) (λ b. refl) (last_of o (leaves s.row) n first)) in
-        let loose = parted_loosely true false s.row bracket (row_lines of_values full s.changed sound.lines) in
-        record { to = parts.0; stretch = parts.1; may = may_close parts.2; lines = loose.0; ends = last }
-      where
-        may_close : {last : rows.Last} → RowAlone o of_values last bracket → IsTrue (may_end o last)
-        may_close {last} g = row_comes o of_values g
+    row_was = row_in_document o s.row sound s.changed
 
     row_is : IsRow o s.new
     row_is = new_row o (laid s.layout v) v whole element s.comes (kept_row o s.leave row_was)
