@@ -128,11 +128,7 @@ fn trivia<A: Allocator>(tree: &Tree<A>, row: &[usize]) -> usize
 }
 
 /// The element of this number in a row, or none where there are fewer.
-pub fn nth_element<A: Allocator>(
-    tree: &Tree<A>,
-    row: &[usize],
-    index: usize,
-) -> Option<usize>
+pub fn nth_element<A: Allocator>(tree: &Tree<A>, row: &[usize], index: usize) -> Option<usize>
     ensures element { result ≡ slice_get (elements tree.now.nodes row.now) index }
 {
     row.iter()

@@ -4,29 +4,16 @@ use Rattle.std.proofs.lemmas.Bool.{cases_Bool, ltb-true}
 use Rattle.std.proofs.lemmas.List.{get_or-append-add}
 use Rattle.std.proofs.lemmas.List.Elements.{All-from_get_or, All-head, All-nil, All-tail}
 use Rattle.jsonc_text.specs.Options.{Options}
-use Rattle.jsonc_text.specs.Text.{next}
 use Rattle.jsonc_tree.specs.Content as content
 use Rattle.jsonc_tree.specs.Content.{Content, token}
-use Rattle.jsonc_tree.specs.OrderedTree.{OrderedTree, Top, none, more, followed_by, leaves, ordered_tree, Shows, shows_none, shows_more}
+use Rattle.jsonc_tree.specs.OrderedTree.{OrderedTree, Top, none, more, followed_by, ordered_tree, Shows, shows_none, shows_more}
 use Rattle.jsonc_tree.specs.Tree.{Node, children_at, content_at, IsTree, IsOver}
-use Rattle.jsonc_tree.proofs.OrderedTrees.{Shows-unique, leaves-followed_by}
+use Rattle.jsonc_tree.proofs.OrderedTrees.{Shows-unique}
 use Rattle.jsonc_lines.specs.Kinds.{holds_values}
 use Rattle.jsonc_build.specs.Shape.{token_then}
-use Rattle.jsonc_laws.specs.Adjacent.{follower, LeavesEnd, last_printed}
-use Rattle.jsonc_laws.specs.Alone.{RowAlone}
-use Rattle.jsonc_laws.specs.Rows as rows
-use Rattle.jsonc_laws.specs.Rows.{RowKind, of_values, of_properties, closing, holder, may_end}
+use Rattle.jsonc_laws.specs.Rows.{RowKind, of_values, of_properties, holder}
 use Rattle.jsonc_laws.specs.SoundTrees.{SoundTree}
 use Rattle.jsonc_laws.specs.TreeChanges.{DocumentChanged}
-use Rattle.jsonc_laws.proofs.Apart.{value_alone, value_leaves}
-use Rattle.jsonc_laws.proofs.HeldValues.{document_held}
-use Rattle.jsonc_laws.proofs.Leaves.{last_serves, parted_leaves}
-use Rattle.jsonc_laws.proofs.LinesLeft.{row_lines}
-use Rattle.jsonc_laws.proofs.LooseChanges.{parted_loosely}
-use Rattle.jsonc_laws.proofs.RowParts.{row_comes}
-use Rattle.jsonc_laws.proofs.SeamRows.{container_leaves, row_of}
-use Rattle.jsonc_laws.proofs.SeamStretches.{parted_row}
-use Rattle.jsonc_laws.proofs.Spaces.{last_of, serves_unless, stretch_no_word}
 use Rattle.jsonc_edit.specs.Changes.{row_below, top_at}
 use Rattle.jsonc_edit.specs.Paths.{IsAt}
 use Rattle.jsonc_edit.specs.declared.error.EditError.TheVariants.{OutOfMemory, MissingBrackets}
@@ -39,23 +26,9 @@ use Rattle.jsonc_multiline.proofs.OnLines.{standing}
 use Rattle.jsonc_insert.specs.Inserted.{refusal}
 use Rattle.jsonc_insert.specs.Planned.{has_brackets, is_token}
 use Rattle.jsonc_insertion_laws.specs.Laws.{HasItsBrackets, WantsMemoryAlone}
+use Rattle.jsonc_insertion_laws.proofs.Documents.{row_in_document}
 use Rattle.jsonc_insertion_laws.proofs.Rows.{IsRow}
 use Rattle.jsonc_insertion_laws.proofs.Standing.{standing_then, token_first}
-
--- the row of an array of a sound document
-pub row_in_document : (o : Options) {now : Top} {path : List ℕ} {t u : OrderedTree} (row : OrderedTree) → SoundTree o t → DocumentChanged (bracketed of_values row) now path t u → IsRow o row
-row_in_document o row sound changed =
-    let bracket : OrderedTree = token_then (closing of_values) none in
-    let full : OrderedTree = followed_by row bracket in
-    let held = document_held o changed sound.shaped in
-    let alone : RowAlone o of_values rows.nothing_yet full = row_of o of_values full (value_alone o held.1) in
-    let parts = parted_row o of_values row alone in
-    let ends : LeavesEnd o (leaves full) (next held.0) = (subst (λ a. LeavesEnd o a (next held.0)) (container_leaves of_values full) (value_leaves o held.1)).1 in
-    let first = (parted_leaves o (leaves row) (leaves bracket) (next held.0) (subst (λ ls. LeavesEnd o ls (next held.0)) (leaves-followed_by row bracket) ends)).0 in
-    let n : Option ℕ = follower (leaves bracket) (next held.0) in
-    let last : LeavesEnd o (leaves row) None = last_serves o (leaves row) n None first (serves_unless o (last_printed (leaves row)) n None (stretch_no_word o parts.1) (λ b. refl) (last_of o (leaves row) n first)) in
-    let loose = parted_loosely true false row bracket (row_lines of_values full changed sound.lines) in
-    record { to = parts.0; stretch = parts.1; may = row_comes o of_values parts.2; lines = loose.0; ends = last }
 
 -- a row of two tokens and what stands between them
 both_true : (a b : Bool) → a ≡ true → b ≡ true → (a && b) ≡ true
@@ -98,7 +71,7 @@ pub record ArrayRow (o : Options) (ns : List Node) (c : ℕ) : Type 0 where
   pub opens : content_at ns open_with ≡ token 0x5B
   pub closes : content_at ns last ≡ token 0x5D
   pub top : top_at ns c ≡ bracketed of_values (standing ns inner)
-  pub row : IsRow o (standing ns inner)
+  pub row : IsRow o of_values (standing ns inner)
 
 module _ (o : Options) (ns : List Node) (path : List ℕ) (c : ℕ) (tree : IsTree ns) (sound : SoundTree o (ordered_tree ns 0)) (at : IsAt ns path c) (is : content_at ns c ≡ content.array) where
   pub over : IsOver ns 0 c
@@ -137,11 +110,11 @@ module _ (o : Options) (ns : List Node) (path : List ℕ) (c : ℕ) (tree : IsTr
   was_top : top_at ns c ≡ bracketed of_values (standing ns b.inner)
   was_top = same_top (content_at ns c) content.array (row_below ns c) (token_then 0x5B (followed_by (standing ns b.inner) (token_then 0x5D none))) is row_was
 
-  is_row : IsRow o (standing ns b.inner)
+  is_row : IsRow o of_values (standing ns b.inner)
   is_row =
       let same : ChangedIn ns ns c = record { tree = tree; content = λ n ne. refl; children = λ n ne. refl } in
       let changed : DocumentChanged (top_at ns c) (top_at ns c) path (ordered_tree ns 0) (ordered_tree ns 0) = changed_over ns ns c same tree refl c IsOver.itself (λ e. e) path at in
-      row_in_document o (standing ns b.inner) sound (subst (λ (w : Top). DocumentChanged w (top_at ns c) path (ordered_tree ns 0) (ordered_tree ns 0)) was_top changed)
+      row_in_document o of_values (standing ns b.inner) sound (subst (λ (w : Top). DocumentChanged w (top_at ns c) path (ordered_tree ns 0) (ordered_tree ns 0)) was_top changed)
 
   pub array_row : ArrayRow o ns c
   array_row = record { open_with = b.open_with; inner = b.inner; last = b.last; children = b.children; opens = b.opens; closes = b.closes; top = was_top; row = is_row }

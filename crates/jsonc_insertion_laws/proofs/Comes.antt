@@ -195,8 +195,8 @@ module _ (o : Options) (old new : List Node) (path : List ℕ) (c i : ℕ) (v : 
   kept_is : trimmed old kids ≡ x ∷ (left ++ y ∷ [])
   kept_is = ap (trimmed old) a.children ∙ l.is
 
-  row_now : IsRow o (standing old left)
-  row_now = kept_row o l.leave a.row
+  row_now : IsRow o of_values (standing old left)
+  row_now = kept_row o of_values l.leave a.row
 
   abbrev layout : Layout
   layout = layout_inside old c

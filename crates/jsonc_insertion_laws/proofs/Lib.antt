@@ -2,9 +2,10 @@ pub mod Stretches
 pub mod Rows
 pub mod Items
 pub mod Marked
+pub mod Documents
+pub mod Written
 pub mod Standing
 pub mod Arrays
-pub mod Written
 pub mod Blanks
 pub mod Plans
 pub mod Fits

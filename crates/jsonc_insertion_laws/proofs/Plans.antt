@@ -79,7 +79,7 @@ module _ (ns : List Node) where
       comma_past (content_at ns n) (row_below ns n) (standing ns (xs ++ ys)) (beside_trivia (content_at ns n) (All-head (λ m. is_beside_at ns m ≡ true) n xs all))
       ∙ beside_no_comma xs ys (All-tail (λ m. is_beside_at ns m ≡ true) n xs all)
 
-module _ (o : Options) (ns : List Node) (tree : IsTree ns) (x y : ℕ) (inner : List ℕ) (opens : content_at ns x ≡ token 0x5B) (closes : content_at ns y ≡ token 0x5D) (r : IsRow o (standing ns inner)) where
+module _ (o : Options) (ns : List Node) (tree : IsTree ns) (x y : ℕ) (inner : List ℕ) (opens : content_at ns x ≡ token 0x5B) (closes : content_at ns y ≡ token 0x5D) (r : IsRow o of_values (standing ns inner)) where
   abbrev row : List ℕ
   row = x ∷ (inner ++ y ∷ [])
 

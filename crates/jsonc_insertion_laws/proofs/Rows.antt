@@ -3,7 +3,6 @@ use Rattle.std.proofs.Common.{◌≡◌, ◌≢◌, ◌∙◌, ℕ, Bool, true, 
 use Rattle.std.proofs.lemmas.Bool.{cases_Bool, false≢true}
 use Rattle.std.proofs.lemmas.Str.{chars-IsAscii}
 use Rattle.jsonc_text.specs.Options.{Options}
-use Rattle.jsonc_text.specs.Plain.{Plain}
 use Rattle.jsonc_text.specs.Text.{next}
 use Rattle.jsonc_tree.specs.Content.{Content, newline, token, whitespace}
 use Rattle.jsonc_tree.specs.OrderedTree.{OrderedTree, Top, none, more, followed_by, leaves, own_leaf}
@@ -19,19 +18,17 @@ use Rattle.jsonc_laws.specs.Alone.{may_stand, PartAlone, StretchAlone}
 use Rattle.jsonc_laws.specs.InRows.{row_around}
 use Rattle.jsonc_laws.specs.Leaving.{AreBeside, comma_comes, element_count}
 use Rattle.jsonc_laws.specs.MarkChanges.{AreBlanks}
-use Rattle.jsonc_laws.specs.Rows.{of_values, Last, nothing_yet, an_element, a_comma, last_behind, may_end}
-use Rattle.jsonc_laws.specs.Sound.{IsNewValue}
+use Rattle.jsonc_laws.specs.Rows.{RowKind, Last, nothing_yet, an_element, a_comma, last_behind, may_end}
 use Rattle.jsonc_laws.specs.Spaces.{is_bare_leaf, first_printed, meet}
 use Rattle.jsonc_laws.specs.TreeChanges.{IsElement, leaves_of}
 use Rattle.jsonc_laws.specs.TriviaChanges.{AreTrivia, leaves_then}
-use Rattle.jsonc_laws.proofs.Apart.{value_alone, value_leaves}
+use Rattle.jsonc_laws.proofs.Changed.{part_element}
 use Rattle.jsonc_laws.proofs.Commas.{stretches_join}
 use Rattle.jsonc_laws.proofs.Entries.{blanks_trivia}
 use Rattle.jsonc_laws.proofs.FirstNodes.{line_comment_over, no_element}
 use Rattle.jsonc_laws.proofs.Leaves.{joined_leaves, last_serves, parted_leaves}
 use Rattle.jsonc_laws.proofs.LinesLeft.{lines_more, lines_past}
 use Rattle.jsonc_laws.proofs.LooseChanges.{joined_loosely, parted_loosely}
-use Rattle.jsonc_laws.proofs.RootRows.{loosened}
 use Rattle.jsonc_laws.proofs.RowParts.{beside_trivia, leaves_followed}
 use Rattle.jsonc_laws.proofs.SeamStretches.{followed_joined, joined_stretch, last_is, parted_stretch}
 use Rattle.jsonc_laws.proofs.Spaces.{Ends, last_of, serves_unless, stretch_no_word}
@@ -44,13 +41,19 @@ newline_ends LineFeed n = subst (λ t. Ends (or_else (next t) n)) (sym (chars-Is
 newline_ends CarriageReturnLineFeed n = subst (λ t. Ends (or_else (next t) n)) (sym (chars-IsAscii (13 ∷ 10 ∷ []) (search rules))) refl
 newline_ends CarriageReturn n = subst (λ t. Ends (or_else (next t) n)) (sym (chars-IsAscii (13 ∷ []) (search rules))) refl
 
--- what stands between the brackets of a sound array
-pub record IsRow (o : Options) (row : OrderedTree) : Type 0 where
+-- what stands between the brackets of a sound array or object
+pub record IsRow (o : Options) (kind : RowKind) (row : OrderedTree) : Type 0 where
   pub to : Last
-  pub stretch : StretchAlone o of_values nothing_yet row to
+  pub stretch : StretchAlone o kind nothing_yet row to
   pub may : IsTrue (may_end o to)
   pub lines : LinesEndLoosely true false row
   pub ends : LeavesEnd o (leaves row) None
+
+-- what may come into such a row
+pub record IsPart (o : Options) (kind : RowKind) (top : Top) : Type 0 where
+  pub part : PartAlone o kind top.content top.below
+  pub lines : LinesEndLoosely (is_loose top.content) false top.below
+  pub ends : LeavesEnd o (leaves_of top) None
 
 -- blanks before a row
 blanks_lines : (e : Bool) (blanks : List Content) (row : OrderedTree) → AreBlanks blanks → LinesEndLoosely true e row → LinesEndLoosely true e (leaves_then blanks row)
@@ -119,93 +122,93 @@ gap_lines e row (a_line i) l = (λ h. cc, tt, (λ h. cc, tt, l))
 line_gap : {gap : List Content} (row : OrderedTree) → Gap true gap → ends_loosely true false (leaves_then gap row) ≡ true
 line_gap row (a_line i) = refl
 
-module _ (o : Options) where
+module _ (o : Options) (kind : RowKind) where
   -- leaves that end before something end before the end, and before what ends names
-  to_end : {last to : Last} {s : OrderedTree} (n : Option ℕ) → StretchAlone o of_values last s to → LeavesEnd o (leaves s) n → LeavesEnd o (leaves s) None
+  to_end : {last to : Last} {s : OrderedTree} (n : Option ℕ) → StretchAlone o kind last s to → LeavesEnd o (leaves s) n → LeavesEnd o (leaves s) None
   to_end {s = s} n g h = last_serves o (leaves s) n None h (serves_unless o (last_printed (leaves s)) n None (stretch_no_word o g) (λ b. refl) (last_of o (leaves s) n h))
 
-  to_name_end : {last to : Last} {s : OrderedTree} (n m : Option ℕ) → Ends m → StretchAlone o of_values last s to → LeavesEnd o (leaves s) n → LeavesEnd o (leaves s) m
+  to_name_end : {last to : Last} {s : OrderedTree} (n m : Option ℕ) → Ends m → StretchAlone o kind last s to → LeavesEnd o (leaves s) n → LeavesEnd o (leaves s) m
   to_name_end {s = s} n m e g h = last_serves o (leaves s) n m h (serves_unless o (last_printed (leaves s)) n m (stretch_no_word o g) (λ b. e) (last_of o (leaves s) n h))
 
-  first_row : {row kept : OrderedTree} → FirstLinesLeave row kept → IsRow o row → IsRow o kept
+  first_row : {row kept : OrderedTree} → FirstLinesLeave row kept → IsRow o kind row → IsRow o kind kept
   first_row none_first r = r
   first_row (leave_first spaces gone k row h g) r =
       let line : OrderedTree = more (newline k) none none in
       let same = λ (x : OrderedTree). leaves_followed spaces line x in
-      let was : StretchAlone o of_values nothing_yet (followed_by (leaves_then spaces line) (leaves_then gone row)) r.to = subst (λ s. StretchAlone o of_values nothing_yet s r.to) (sym (same (leaves_then gone row))) r.stretch in
+      let was : StretchAlone o kind nothing_yet (followed_by (leaves_then spaces line) (leaves_then gone row)) r.to = subst (λ s. StretchAlone o kind nothing_yet s r.to) (sym (same (leaves_then gone row))) r.stretch in
       let lines : LinesEndLoosely true false row = lines_past true false gone row (lines_past true false spaces (more (newline k) none (leaves_then gone row)) r.lines).2 in
       let ends : LeavesEnd o (leaves row) None = blanks_past o None gone row g (blanks_past o None spaces (more (newline k) none (leaves_then gone row)) h r.ends).1 in
       record {
         to = r.to;
-        stretch = subst (λ s. StretchAlone o of_values nothing_yet s r.to) (same row) (stretch_without o of_values (leaves_then spaces line) row gone (blanks_trivia gone g) was);
+        stretch = subst (λ s. StretchAlone o kind nothing_yet s r.to) (same row) (stretch_without o kind (leaves_then spaces line) row gone (blanks_trivia gone g) was);
         may = r.may;
         lines = blanks_lines false spaces (more (newline k) none row) h (λ n. cc, tt, lines);
         ends = blanks_end o None spaces (more (newline k) none row) h (tt, ends);
       }
 
-  last_row : {row kept : OrderedTree} → LastLinesLeave row kept → IsRow o row → IsRow o kept
+  last_row : {row kept : OrderedTree} → LastLinesLeave row kept → IsRow o kind row → IsRow o kind kept
   last_row none_last r = r
   last_row (leave_last front gone spaces k g h) r =
       let back : OrderedTree = more (newline k) none (leaves_then spaces none) in
-      let parts = parted_stretch o of_values front (leaves_then gone back) r.stretch in
+      let parts = parted_stretch o kind front (leaves_then gone back) r.stretch in
       let lines = parted_loosely true false front (leaves_then gone back) r.lines in
       let ends = parted_leaves o (leaves front) (leaves (leaves_then gone back)) None (subst (λ l. LeavesEnd o l None) (leaves-followed_by front (leaves_then gone back)) r.ends) in
       let first : LeavesEnd o (leaves front) (follower (leaves back) None) = to_name_end (follower (leaves (leaves_then gone back)) None) (follower (leaves back) None) (newline_ends k (follower (leaves (leaves_then spaces none)) None)) parts.1 ends.0 in
       record {
         to = r.to;
-        stretch = stretch_without o of_values front back gone (blanks_trivia gone g) r.stretch;
+        stretch = stretch_without o kind front back gone (blanks_trivia gone g) r.stretch;
         may = r.may;
         lines = joined_loosely true false front back (lines_any (ends_loosely true false (leaves_then gone back)) front lines.0) (lines_past true false gone back lines.1);
         ends = subst (λ l. LeavesEnd o l None) (sym (leaves-followed_by front back)) (joined_leaves o (leaves front) (leaves back) None first (blanks_past o None gone back g ends.1));
       }
 
-  pub kept_row : {row kept : OrderedTree} → BlankLinesLeave row kept → IsRow o row → IsRow o kept
+  pub kept_row : {row kept : OrderedTree} → BlankLinesLeave row kept → IsRow o kind row → IsRow o kind kept
   kept_row b r = first_row b.first (last_row b.last r)
 
   -- a stretch that stands first, with its comma
   record Leads (e : Bool) (led : OrderedTree) : Type 0 where
     to : Last
-    stretch : StretchAlone o of_values nothing_yet led to
+    stretch : StretchAlone o kind nothing_yet led to
     lines : LinesEndLoosely true e led
     ends : LeavesEnd o (leaves led) None
 
-  leads : (e : Bool) {front led : OrderedTree} {mid : Last} → CommaComes front led → StretchAlone o of_values nothing_yet front mid → LinesEndLoosely true e front → LeavesEnd o (leaves front) None → Leads e led
+  leads : (e : Bool) {front led : OrderedTree} {mid : Last} → CommaComes front led → StretchAlone o kind nothing_yet front mid → LinesEndLoosely true e front → LeavesEnd o (leaves front) None → Leads e led
   leads e {mid = mid} none_comes g l h = record { to = mid; stretch = g; lines = l; ends = h }
   leads e (one_comes front last beside el be) g l h =
       let rest : OrderedTree = leaves_then beside none in
       let trivia : AreTrivia beside = beside_trivia beside be in
-      let parts = parted_stretch o of_values front (more last.content last.below rest) g in
-      let first = first_part o of_values el parts.2 in
+      let parts = parted_stretch o kind front (more last.content last.below rest) g in
+      let first = first_part o kind el parts.2 in
       let one : OrderedTree = followed_by front (more last.content last.below none) in
-      let one_stretch : StretchAlone o of_values nothing_yet one an_element = joined_stretch o of_values parts.1 (alone.past_element first.may first.part alone.stays) in
-      let comma : StretchAlone o of_values an_element (token_then 0x2C rest) a_comma = alone.past_comma (trivia_anywhere o of_values beside trivia first.rest a_comma) in
+      let one_stretch : StretchAlone o kind nothing_yet one an_element = joined_stretch o kind parts.1 (alone.past_element first.may first.part alone.stays) in
+      let comma : StretchAlone o kind an_element (token_then 0x2C rest) a_comma = alone.past_comma (trivia_anywhere o kind beside trivia first.rest a_comma) in
       let whole = λ (x : OrderedTree). followed_joined front (more last.content last.below none) x in
       let ends = parted_leaves o (leaves one) (leaves rest) None (subst (λ s. LeavesEnd o s None) (ap leaves (whole rest) ∙ leaves-followed_by one rest) h) in
       let lines = parted_loosely true e front (more last.content last.below rest) l in
       let same = λ (x y : OrderedTree). ends_element e last.content last.below x el ∙ sym (ends_element e last.content last.below y el) in
       record {
         to = a_comma;
-        stretch = subst (λ s. StretchAlone o of_values nothing_yet s a_comma) (sym (whole (token_then 0x2C rest))) (joined_stretch o of_values one_stretch comma);
+        stretch = subst (λ s. StretchAlone o kind nothing_yet s a_comma) (sym (whole (token_then 0x2C rest))) (joined_stretch o kind one_stretch comma);
         lines = joined_loosely true e front (more last.content last.below (token_then 0x2C rest)) (subst (λ b. LinesEndLoosely true b front) (same rest (token_then 0x2C rest)) lines.0)
             (element_lines e last.content last.below (token_then 0x2C rest) el lines.1.1 (comma_lines e rest lines.1.2));
         ends = subst (λ s. LeavesEnd o (leaves s) None) (sym (whole (token_then 0x2C rest)))
-            (stretches_join o of_values one (token_then 0x2C rest) one_stretch comma (to_end (follower (leaves rest) None) one_stretch ends.0) (tt, ends.1)
+            (stretches_join o kind one (token_then 0x2C rest) one_stretch comma (to_end (follower (leaves rest) None) one_stretch ends.0) (tt, ends.1)
             (and_false (is_bare_leaf (last_printed (leaves one))) _ (first_comma (leaves rest))));
       }
 
   -- what stands behind the new element
   record Behind (e : Bool) (behind : OrderedTree) : Type 0 where
     to : Last
-    stretch : StretchAlone o of_values an_element behind to
+    stretch : StretchAlone o kind an_element behind to
     may : IsTrue (may_end o to)
     lines : LinesEndLoosely true e behind
     ends : LeavesEnd o (leaves behind) None
     first : is_bare_leaf (first_printed (leaves behind)) ≡ false
 
-  goes_behind : {rest behind : OrderedTree} {last to : Last} → GoesOn o rest behind → IsTrue (not (comma_comes rest)) → StretchAlone o of_values last rest to → IsTrue (may_end o to) → LinesEndLoosely true false rest → LeavesEnd o (leaves rest) None → Behind false behind
+  goes_behind : {rest behind : OrderedTree} {last to : Last} → GoesOn o rest behind → IsTrue (not (comma_comes rest)) → StretchAlone o kind last rest to → IsTrue (may_end o to) → LinesEndLoosely true false rest → LeavesEnd o (leaves rest) None → Behind false behind
   goes_behind {rest} {to = to} (elements_follow gap w n) c g m l h = record {
     to = to;
-    stretch = alone.past_comma (gap_stretch o of_values w (behind_comma o of_values g c n));
+    stretch = alone.past_comma (gap_stretch o kind w (behind_comma o kind g c n));
     may = m;
     lines = comma_lines false (leaves_then gap rest) (gap_lines false rest w l);
     ends = (tt, gap_ends o rest None w h);
@@ -213,45 +216,45 @@ module _ (o : Options) where
   }
   goes_behind {rest} (none_follow gap w n) c g m l h = record {
     to = an_element;
-    stretch = gap_stretch o of_values w (without_elements o of_values g c n an_element);
+    stretch = gap_stretch o kind w (without_elements o kind g c n an_element);
     may = refl;
     lines = gap_lines false rest w l;
     ends = gap_ends o rest None w h;
-    first = gap_first rest w (trivia_first o of_values g c n);
+    first = gap_first rest w (trivia_first o kind g c n);
   }
   goes_behind {rest} (comma_last t n) c g m l h = record {
     to = a_comma;
-    stretch = alone.past_comma (without_elements o of_values g c n a_comma);
+    stretch = alone.past_comma (without_elements o kind g c n a_comma);
     may = t;
     lines = comma_lines false rest l;
     ends = (tt, h);
     first = first_comma (leaves rest);
   }
 
-  module _ (top : Top) (v : Plain) (whole : IsNewValue o top v) (element : IsElement top.content) where
+  module _ (top : Top) (whole : IsPart o kind top) where
     abbrev one : OrderedTree
     one = more top.content top.below none
 
-    one_stretch : (last : Last) → IsTrue (may_stand o last) → StretchAlone o of_values last one an_element
-    one_stretch last h = alone.past_element h (alone.a_value (value_alone o whole.shaped)) alone.stays
+    one_stretch : (last : Last) → IsTrue (may_stand o last) → StretchAlone o kind last one an_element
+    one_stretch last h = alone.past_element h whole.part alone.stays
 
     one_ends : LeavesEnd o (leaves one) None
-    one_ends = subst (λ l. LeavesEnd o (own_leaf top.content ++ l) None) (sym (append-nil (leaves top.below))) (value_leaves o whole.shaped)
+    one_ends = subst (λ l. LeavesEnd o (own_leaf top.content ++ l) None) (sym (append-nil (leaves top.below))) whole.ends
 
-    pub new_row : {i : ℕ} {row new : OrderedTree} → ElementComes o top i row new → IsRow o row → IsRow o new
+    pub new_row : {i : ℕ} {row new : OrderedTree} → ElementComes o top i row new → IsRow o kind row → IsRow o kind new
     new_row (comes front back led behind gap c t n w g) r =
-        let parts = parted_stretch o of_values front back r.stretch in
+        let parts = parted_stretch o kind front back r.stretch in
         let lines = parted_loosely true false front back r.lines in
         let ends = parted_leaves o (leaves front) (leaves back) None (subst (λ l. LeavesEnd o l None) (leaves-followed_by front back) r.ends) in
         let l = leads (ends_loosely true false back) c parts.1 lines.0 (to_end (follower (leaves back) None) parts.1 ends.0) in
         let b = goes_behind g n parts.2 r.may lines.1 ends.1 in
         let rest : OrderedTree = more top.content top.below behind in
-        let takes : IsTrue (takes_element l.to) = subst (λ x. IsTrue (takes_element x)) (sym (last_is o of_values l.stretch)) t in
-        let stands : IsTrue (may_stand o l.to) = takes_stands o of_values l.to takes in
-        let rest_stretch : StretchAlone o of_values l.to rest b.to = joined_stretch o of_values (one_stretch l.to stands) b.stretch in
+        let takes : IsTrue (takes_element l.to) = subst (λ x. IsTrue (takes_element x)) (sym (last_is o kind l.stretch)) t in
+        let stands : IsTrue (may_stand o l.to) = takes_stands o kind l.to takes in
+        let rest_stretch : StretchAlone o kind l.to rest b.to = joined_stretch o kind (one_stretch l.to stands) b.stretch in
         let rest_ends : LeavesEnd o (leaves rest) None =
-        stretches_join o of_values one behind (one_stretch l.to stands) b.stretch one_ends b.ends (and_false (is_bare_leaf (last_printed (leaves one))) _ b.first) in
-        let rest_lines : LinesEndLoosely true false (leaves_then gap rest) = gap_lines false rest w (element_lines false top.content top.below behind element (loosened top.content top.below whole.lines) b.lines) in
+        stretches_join o kind one behind (one_stretch l.to stands) b.stretch one_ends b.ends (and_false (is_bare_leaf (last_printed (leaves one))) _ b.first) in
+        let rest_lines : LinesEndLoosely true false (leaves_then gap rest) = gap_lines false rest w (element_lines false top.content top.below behind (part_element o whole.part) whole.lines b.lines) in
         let led_lines : LinesEndLoosely true (ends_loosely true false (leaves_then gap rest)) led =
         elim (cases_Bool (ends_loosely true false back)) [
           | inl ends ↦
@@ -261,8 +264,8 @@ module _ (o : Options) where
         ] in
         record {
           to = b.to;
-          stretch = joined_stretch o of_values l.stretch (gap_stretch o of_values w rest_stretch);
+          stretch = joined_stretch o kind l.stretch (gap_stretch o kind w rest_stretch);
           may = b.may;
           lines = joined_loosely true false led (leaves_then gap rest) led_lines rest_lines;
-          ends = stretches_join o of_values led (leaves_then gap rest) l.stretch (gap_stretch o of_values w rest_stretch) l.ends (gap_ends o rest None w rest_ends) (false_and _ (is_bare_leaf (first_printed (leaves (leaves_then gap rest)))) (ends_not_bare o of_values l.to takes l.stretch));
+          ends = stretches_join o kind led (leaves_then gap rest) l.stretch (gap_stretch o kind w rest_stretch) l.ends (gap_ends o rest None w rest_ends) (false_and _ (is_bare_leaf (first_printed (leaves (leaves_then gap rest)))) (ends_not_bare o kind l.to takes l.stretch));
         }
