@@ -34,22 +34,23 @@ use Rattle.jsonc_insertion_laws.proofs.Standing.{standing_then, token_first}
 both_true : (a b : Bool) → a ≡ true → b ≡ true → (a && b) ≡ true
 both_true a b e f = ap (λ v. v && b) e ∙ f
 
-bracketed_row : (ns : List Node) (x y : ℕ) (inner : List ℕ) → is_token (content_at ns x) ≡ true → is_token (content_at ns y) ≡ true → has_brackets ns (x ∷ (inner ++ y ∷ [])) ≡ true
-bracketed_row ns x y inner e f =
-    ap (λ v. cond v false (is_token (content_at ns x) && is_token (content_at ns (slice_index row (length row - 1))))) not_short
-    ∙ both_true (is_token (content_at ns x)) (is_token (content_at ns (slice_index row (length row - 1)))) e (ap (λ n. is_token (content_at ns n)) last ∙ f)
-  where
-    abbrev row : List ℕ
-    row = x ∷ (inner ++ y ∷ [])
+module _ (ns : List Node) (x y : ℕ) (inner : List ℕ) where
+  abbrev row : List ℕ
+  row = x ∷ (inner ++ y ∷ [])
 
-    long : length row ≡ length inner + 2
-    long = omega (arith, length-append inner (y ∷ []))
+  long : length row ≡ length inner + 2
+  long = omega (arith, length-append inner (y ∷ []))
 
-    not_short : nat_lt (length row) 2 ≡ false
-    not_short = elim (cases_Bool (nat_lt (length row) 2)) [ inl so ↦ absurd (let less = ltb-true (length row) 2 so in omega (arith, less, long)) | inr off ↦ off ]
+  not_short : nat_lt (length row) 2 ≡ false
+  not_short = elim (cases_Bool (nat_lt (length row) 2)) [ inl so ↦ absurd (let less = ltb-true (length row) 2 so in omega (arith, less, long)) | inr off ↦ off ]
 
-    last : slice_index row (length row - 1) ≡ y
-    last = ap (slice_index row) (let z : length row - 1 ≡ suc (length inner + 0) = omega (arith, long) in z) ∙ get_or-append-add inner (y ∷ []) 0 0
+  last_is : slice_index row (length row - 1) ≡ y
+  last_is = ap (slice_index row) (let z : length row - 1 ≡ suc (length inner + 0) = omega (arith, long) in z) ∙ get_or-append-add inner (y ∷ []) 0 0
+
+  bracketed_row : is_token (content_at ns x) ≡ true → is_token (content_at ns y) ≡ true → has_brackets ns row ≡ true
+  bracketed_row e f =
+      ap (λ v. cond v false (is_token (content_at ns x) && is_token (content_at ns (slice_index row (length row - 1))))) not_short
+      ∙ both_true (is_token (content_at ns x)) (is_token (content_at ns (slice_index row (length row - 1)))) e (ap (λ n. is_token (content_at ns n)) last_is ∙ f)
 
 -- nodes stand for their row
 pub shows_standing : (ns : List Node) → IsTree ns → (xs : List ℕ) → All (λ n. n < length ns) xs → Shows ns xs (standing ns xs)

@@ -1,7 +1,7 @@
 -- Blank lines that leave the row of an array.
 use Rattle.std.proofs.Common.{◌≡◌, ◌∙◌, ◌<◌, ◌≤◌, ◌+◌, ◌-◌, ◌⊎◌, ◌||◌, inl, inr, ℕ, suc, Bool, true, false, cond, List, [], ◌∷◌, ◌++◌, All, length, map, reverse, take, drop, get_or, slice_index, slice_range, nat_lt, refl, sym, ap, subst, arith, append_assoc, length-append, length-drop, length-take}
 use Rattle.std.specs.List.{prefix_len}
-use Rattle.std.proofs.lemmas.Bool.{cases_lt, ltb-true, false≢true}
+use Rattle.std.proofs.lemmas.Bool.{cases_Bool, cases_lt, ltb-true, false≢true}
 use Rattle.std.proofs.lemmas.List.{drop-append-le, drop_more, get_or-drop, get_or-reverse, get_or-take, get_or_append_left, length-reverse, take-append-drop, take-append-le, take_at, take_more}
 use Rattle.std.proofs.lemmas.List.Edits.{get_or-between, length-between, split_between}
 use Rattle.std.proofs.lemmas.List.Elements.{All-from_get_or}
@@ -14,15 +14,10 @@ use Rattle.jsonc_nodes.specs.Kinds.{is_newline_at, is_whitespace_at}
 use Rattle.jsonc_laws.specs.TriviaChanges.{leaves_then}
 use Rattle.jsonc_edit.specs.Changes.{row_below}
 use Rattle.jsonc_insert.specs.Trimmed.{before_last_line, behind_first_line, blanks, first_gone, inside, is_blank_at, last_blanks, last_gone, last_gone_from, last_spaces, nothing_at, spaces, trimmed, without}
-use Rattle.jsonc_insert.specs.declared.trim.Stretch.{Stretch}
 use Rattle.jsonc_insert.proofs.Trimming.{back_blank, blanks_within, first_high, first_within, front_blank, last_behind, last_high, last_low, shorter_at}
 use Rattle.jsonc_multiline.proofs.OnLines.{standing}
 use Rattle.jsonc_insertion_laws.specs.Coming.{FirstLinesLeave, none_first, leave_first, LastLinesLeave, none_last, leave_last, BlankLinesLeave}
 use Rattle.jsonc_insertion_laws.proofs.Standing.{AllAre, blank_line, blanks_alone, blanks_are, blanks_row, line_first, newline_is, standing_then}
-
-either : (P : Stretch → Type 0) (b : Bool) (s t : Stretch) → (b ≡ true → P s) → P t → P (cond b s t)
-either P true s t f g = f refl
-either P false s t f g = g
 
 -- not all of a list pass where one does not from behind
 stops_backwards : (p : ℕ → Bool) (xs : List ℕ) → prefix_len p xs < length xs → prefix_len p (reverse xs) < length xs
@@ -40,14 +35,14 @@ stops_backwards p xs h =
     ]
 
 -- a row without a stretch inside its ends
-strip : (x y : ℕ) (inner : List ℕ) (s : Stretch) → 1 ≤ s.from → s.from ≤ s.to → s.to ≤ 1 + length inner → without s (x ∷ (inner ++ y ∷ [])) ≡ x ∷ ((take (s.from - 1) inner ++ drop (s.to - 1) inner) ++ y ∷ [])
-strip x y inner s low order high =
+strip : (x y : ℕ) (inner : List ℕ) (f t : ℕ) → 1 ≤ f → f ≤ t → t ≤ 1 + length inner → take f (x ∷ (inner ++ y ∷ [])) ++ drop t (x ∷ (inner ++ y ∷ [])) ≡ x ∷ ((take (f - 1) inner ++ drop (t - 1) inner) ++ y ∷ [])
+strip x y inner f t low order high =
     let row : List ℕ = x ∷ (inner ++ y ∷ []) in
-    let f : s.from ≡ suc (s.from - 1) = omega (arith, low) in
-    let t : s.to ≡ suc (s.to - 1) = omega (arith, low, order) in
-    let front : take s.from row ≡ x ∷ take (s.from - 1) inner = ap (λ n. take n row) f ∙ ap (λ l. x ∷ l) (take-append-le (s.from - 1) inner (y ∷ []) (omega (arith, low, order, high))) in
-    let back : drop s.to row ≡ drop (s.to - 1) inner ++ y ∷ [] = ap (λ n. drop n row) t ∙ drop-append-le (s.to - 1) inner (y ∷ []) (omega (arith, low, order, high)) in
-    ap (λ l. l ++ drop s.to row) front ∙ ap (λ l. (x ∷ take (s.from - 1) inner) ++ l) back ∙ ap (λ l. x ∷ l) (sym (append_assoc (take (s.from - 1) inner) (drop (s.to - 1) inner) (y ∷ [])))
+    let e : f ≡ suc (f - 1) = omega (arith, low) in
+    let g : t ≡ suc (t - 1) = omega (arith, low, order) in
+    let front : take f row ≡ x ∷ take (f - 1) inner = ap (λ n. take n row) e ∙ ap (λ l. x ∷ l) (take-append-le (f - 1) inner (y ∷ []) (omega (arith, low, order, high))) in
+    let back : drop t row ≡ drop (t - 1) inner ++ y ∷ [] = ap (λ n. drop n row) g ∙ drop-append-le (t - 1) inner (y ∷ []) (omega (arith, low, order, high)) in
+    ap (λ l. l ++ drop t row) front ∙ ap (λ l. (x ∷ take (f - 1) inner) ++ l) back ∙ ap (λ l. x ∷ l) (sym (append_assoc (take (f - 1) inner) (drop (t - 1) inner) (y ∷ [])))
 
 module _ (ns : List Node) (tree : IsTree ns) where
   -- a stretch that stands behind the end of a line, with blanks alone before that
@@ -124,11 +119,11 @@ module _ (ns : List Node) (tree : IsTree ns) where
     front_long : length front ≡ blanks ns (inside row)
     front_long = let l = length-between (inside row) 0 (blanks ns (inside row)) (blanks_within ns (inside row)) in omega (arith, l)
 
-    abbrev FirstLine : Stretch → Type 0
-    FirstLine s = (s.from ≡ s.to) ⊎ ((2 ≤ s.from) × (is_newline_at ns (slice_index row (s.from - 1)) ≡ true))
+    abbrev FirstLine : ℕ → ℕ → Type 0
+    FirstLine from to = (from ≡ to) ⊎ ((2 ≤ from) × (is_newline_at ns (slice_index row (from - 1)) ≡ true))
 
-    first_line : FirstLine (first_gone ns row)
-    first_line = either FirstLine (nat_lt (spaces ns front) (length front)) _ (nothing_at 1) (λ b. by (ltb-true (spaces ns front) (length front) b)) (inl refl)
+    first_line : FirstLine (first_gone ns row).from (first_gone ns row).to
+    first_line = elim (cases_Bool (nat_lt (spaces ns front) (length front))) [ inl b ↦ rw b (by (ltb-true (spaces ns front) (length front) b)) | inr b ↦ rw b (inl refl) ]
       where
         by : spaces ns front < length front → (1 + spaces ns front + 1 ≡ 1 + length front - last_spaces ns front) ⊎ ((2 ≤ 1 + spaces ns front + 1) × (is_newline_at ns (slice_index row (1 + spaces ns front + 1 - 1)) ≡ true))
         by h =
@@ -156,11 +151,11 @@ module _ (ns : List Node) (tree : IsTree ns) where
     back_long : length back ≡ length row - 1 - place
     back_long = length-between row place (length row - 1) (omega arith)
 
-    abbrev LastLine : Stretch → Type 0
-    LastLine s = (s.from ≡ s.to) ⊎ ((s.to < length row - 1) × (is_newline_at ns (slice_index row s.to) ≡ true))
+    abbrev LastLine : ℕ → ℕ → Type 0
+    LastLine from to = (from ≡ to) ⊎ ((to < length row - 1) × (is_newline_at ns (slice_index row to) ≡ true))
 
-    last_line : LastLine (last_gone ns row)
-    last_line = either LastLine (nat_lt (blanks ns (inside row)) (length (inside row))) (last_gone_from ns row place) (nothing_at (length row - 1)) (λ b. from_place) (inl refl)
+    last_line : LastLine (last_gone ns row).from (last_gone ns row).to
+    last_line = elim (cases_Bool (nat_lt (blanks ns (inside row)) (length (inside row)))) [ inl b ↦ rw b from_place | inr b ↦ rw b (inl refl) ]
       where
         by : spaces ns back < length back → (place + spaces ns back ≡ place + length back - last_spaces ns back - 1) ⊎ ((place + length back - last_spaces ns back - 1 < length row - 1) × (is_newline_at ns (slice_index row (place + length back - last_spaces ns back - 1)) ≡ true))
         by h =
@@ -179,8 +174,8 @@ module _ (ns : List Node) (tree : IsTree ns) where
             let blank : is_blank_at ns (slice_index row q) ≡ true = back_blank ns row two q (omega (arith, few)) inside_row in
             inr (inside_row, blank_line (content_at ns (slice_index row q)) blank (sym (ap (is_whitespace_at ns) same) ∙ stops))
 
-        from_place : LastLine (last_gone_from ns row place)
-        from_place = either LastLine (nat_lt (spaces ns back) (length back)) _ (nothing_at place) (λ b. by (ltb-true (spaces ns back) (length back) b)) (inl refl)
+        from_place : LastLine (last_gone_from ns row place).from (last_gone_from ns row place).to
+        from_place = elim (cases_Bool (nat_lt (spaces ns back) (length back))) [ inl b ↦ rw b (by (ltb-true (spaces ns back) (length back) b)) | inr b ↦ rw b (inl refl) ]
 
     -- what is left between the brackets
     pub record Left : Type 0 where
@@ -190,30 +185,29 @@ module _ (ns : List Node) (tree : IsTree ns) where
 
     pub left : Left
     left =
-        let s : Stretch = last_gone ns row in
         let w = last_behind ns row two in
         let high = last_high ns row two in
-        let lf : ℕ = s.from - 1 in
-        let lt : ℕ = s.to - 1 in
+        let lf : ℕ = (last_gone ns row).from - 1 in
+        let lt : ℕ = (last_gone ns row).to - 1 in
         let shorter : List ℕ = take lf inner ++ drop lt inner in
-        let first_is : without s row ≡ x ∷ (shorter ++ y ∷ []) = strip x y inner s (omega (arith, w.0)) w.1 (omega (arith, high, long)) in
-        let r : Stretch = first_gone ns row in
+        let first_is : without (last_gone ns row) row ≡ x ∷ (shorter ++ y ∷ []) = strip x y inner (last_gone ns row).from (last_gone ns row).to (omega (arith, w.0)) w.1 (omega (arith, high, long)) in
         let v = first_within ns row two in
-        let within : r.to < length (without s row) = first_high ns row two in
-        let shorter_long : length (without s row) ≡ length shorter + 2 = (let l = length-append shorter (y ∷ []) in omega (arith, ap length first_is, l)) in
-        let ff : ℕ = r.from - 1 in
-        let ft : ℕ = r.to - 1 in
+        let within : (first_gone ns row).to < length (without (last_gone ns row) row) = first_high ns row two in
+        let shorter_long : length (without (last_gone ns row) row) ≡ length shorter + 2 = (let l = length-append shorter (y ∷ []) in omega (arith, ap length first_is, l)) in
+        let ff : ℕ = (first_gone ns row).from - 1 in
+        let ft : ℕ = (first_gone ns row).to - 1 in
         let inner_left : List ℕ = take ff shorter ++ drop ft shorter in
-        let second_is : without r (x ∷ (shorter ++ y ∷ [])) ≡ x ∷ (inner_left ++ y ∷ []) = strip x y shorter r v.from v.order (omega (arith, within, shorter_long)) in
+        let second_is : without (first_gone ns row) (x ∷ (shorter ++ y ∷ [])) ≡ x ∷ (inner_left ++ y ∷ []) = strip x y shorter (first_gone ns row).from (first_gone ns row).to v.from v.order (omega (arith, within, shorter_long)) in
         let within_inner : lt ≤ length inner = omega (arith, high, long) in
         let far : lf ≤ length shorter = omega (arith, w.1, within_inner, length-append (take lf inner) (drop lt inner), length-take lf inner) in
         record {
           inner_left = inner_left;
-          is = ap (without r) first_is ∙ second_is;
+          is = ap (without (first_gone ns row)) first_is ∙ second_is;
           leave = record {
             shorter = standing ns shorter;
-            last = last_tree inner lf lt (omega (arith, w.1)) within_inner (last_blank lf (omega (arith, low_last, w.0))) (last_case s lt (omega (arith, w.0, w.1)) within_inner last_line);
-            first = first_tree shorter ff ft (omega (arith, v.order)) (omega (arith, within, shorter_long)) (first_blank shorter first_is ft (omega (arith, v.to, far, w.0)) (omega (arith, v.to))) (first_case shorter first_is r ff (omega (arith, v.from)) (omega (arith, v.order, v.to, far, w.0)) (omega (arith, v.order, v.to)) first_line);
+            last = last_tree inner lf lt (omega (arith, w.1)) within_inner (last_blank lf (omega (arith, low_last, w.0))) (last_case (last_gone ns row).from (last_gone ns row).to lt (omega (arith, w.0, w.1)) within_inner last_line);
+            first = first_tree shorter ff ft (omega (arith, v.order)) (omega (arith, within, shorter_long)) (first_blank shorter first_is ft (omega (arith, v.to, far, w.0)) (omega (arith, v.to, v.from, v.order)))
+                (first_case shorter first_is (first_gone ns row).from (first_gone ns row).to ff (omega (arith, v.from)) (omega (arith, v.order, v.to, far, w.0)) (omega (arith, v.order, v.to, v.from)) first_line);
           };
         }
       where
@@ -226,9 +220,9 @@ module _ (ns : List Node) (tree : IsTree ns) where
         last_blank : (f : ℕ) → length row - 1 - last_blanks ns (inside row) ≤ suc f → (j : ℕ) → f ≤ j → j < length inner → is_blank_at ns (slice_index inner j) ≡ true
         last_blank f low j h k = ap (is_blank_at ns) (at_row j k) ∙ back_blank ns row two (suc j) (omega (arith, low, h)) (omega (arith, k, long))
 
-        last_case : (s : Stretch) (t : ℕ) → suc t ≡ s.to → t ≤ length inner → LastLine s → (s.from - 1 ≡ t) ⊎ ((t < length inner) × (is_newline_at ns (slice_index inner t) ≡ true))
-        last_case s t e h (inl same) = inl (omega (arith, same, e))
-        last_case s t e h (inr (low, nl)) =
+        last_case : (from to t : ℕ) → suc t ≡ to → t ≤ length inner → LastLine from to → (from - 1 ≡ t) ⊎ ((t < length inner) × (is_newline_at ns (slice_index inner t) ≡ true))
+        last_case from to t e h (inl same) = inl (omega (arith, same, e))
+        last_case from to t e h (inr (low, nl)) =
             let there : t < length inner = omega (arith, low, e, long) in
             inr (there, ap (is_newline_at ns) (at_row t there ∙ ap (slice_index row) e) ∙ nl)
 
@@ -241,8 +235,8 @@ module _ (ns : List Node) (tree : IsTree ns) where
             let near : suc j < 1 + blanks ns (inside row) = omega (arith, h, k) in
             ap (is_blank_at ns) (at_shorter shorter e j (omega (arith, h, within)) near) ∙ front_blank ns row two (suc j) (omega arith) near
 
-        first_case : (shorter : List ℕ) → without (last_gone ns row) row ≡ x ∷ (shorter ++ y ∷ []) → (r : Stretch) (f : ℕ) → suc f ≡ r.from → f ≤ length shorter → suc f ≤ 1 + blanks ns (inside row) → FirstLine r → (f ≡ r.to - 1) ⊎ ((1 ≤ f) × (is_newline_at ns (slice_index shorter (f - 1)) ≡ true))
-        first_case shorter e r f is within k (inl same) = inl (omega (arith, same, is))
-        first_case shorter e r f is within k (inr (some, nl)) =
-            let g : suc (f - 1) ≡ r.from - 1 = omega (arith, some, is) in
+        first_case : (shorter : List ℕ) → without (last_gone ns row) row ≡ x ∷ (shorter ++ y ∷ []) → (from to f : ℕ) → suc f ≡ from → f ≤ length shorter → suc f ≤ 1 + blanks ns (inside row) → FirstLine from to → (f ≡ to - 1) ⊎ ((1 ≤ f) × (is_newline_at ns (slice_index shorter (f - 1)) ≡ true))
+        first_case shorter e from to f is within k (inl same) = inl (omega (arith, same, is))
+        first_case shorter e from to f is within k (inr (some, nl)) =
+            let g : suc (f - 1) ≡ from - 1 = omega (arith, some, is) in
             inr (omega (arith, some, is), ap (is_newline_at ns) (at_shorter shorter e (f - 1) (omega (arith, some, is, within)) (omega (arith, some, is, k)) ∙ ap (slice_index row) g) ∙ nl)

@@ -77,7 +77,7 @@ AreLeaves (content ∷ rest) = (is_container content ≡ false) × AreLeaves res
 gap_are : (kind : CstNewlineKind) (s : List ℕ) (g : written.Gap) → AreLeaves (gap_leaves kind s g)
 gap_are kind s Nothing = tt
 gap_are kind s Space = (refl, tt)
-gap_are kind s Line = (refl, refl, tt)
+gap_are kind s Line = (refl, (refl, tt))
 
 comma_are : (v : Bool) → AreLeaves (comma_leaf v)
 comma_are true = (refl, tt)
@@ -99,12 +99,12 @@ goes_on o kind s comma commas g rest h f (inr (inr (e, t, w, n))) =
 -- behind a comma, and leaves beside it, a comma stood last
 beside_last : (ls : List Content) → AreBeside ls → last_behind a_comma (leaves_then ls none) ≡ a_comma
 beside_last [] h = refl
-beside_last (content ∷ ls) h = by content h.0
+beside_last (content ∷ ls) h = by content h.0 (beside_last ls h.1)
   where
-    by : (w : Content) → IsTrue (is_beside w) → last_behind a_comma (more w none (leaves_then ls none)) ≡ a_comma
-    by (Content.whitespace s) k = beside_last ls h.1
-    by (Content.comment s) k = beside_last ls h.1
-    by w k = cc
+    by : (w : Content) → IsTrue (is_beside w) → last_behind a_comma (leaves_then ls none) ≡ a_comma → last_behind a_comma (more w none (leaves_then ls none)) ≡ a_comma
+    by (Content.whitespace s) k rest = rest
+    by (Content.comment s) k rest = rest
+    by w k rest = cc
 
 comma_takes : (front : OrderedTree) (last : Top) (beside : List Content) → AreBeside beside → IsTrue (takes_element (last_behind nothing_yet (row_around front last (token_then 0x2C (leaves_then beside none)))))
 comma_takes front last beside h =
@@ -282,7 +282,7 @@ module _ (o : Options) (old new : List Node) (path : List ℕ) (c i : ℕ) (v : 
   -- the front of the new row, with a comma where one comes
   record Led : Type 0 where
     list : List ℕ
-    is : put.row ≡ x ∷ ((list ++ (written_list ++ back)) ++ y ∷ [])
+    row_from : put.row ≡ x ∷ ((list ++ (written_list ++ back)) ++ y ∷ [])
     led : OrderedTree
     stands : standing ready list ≡ led
     comes_so : CommaComes (standing old front) led
@@ -294,7 +294,7 @@ module _ (o : Options) (old new : List Node) (path : List ℕ) (c i : ℕ) (v : 
       by : plans.CommaAt o old tree x y left a.opens a.closes row_now plan → Led
       by (plans.none_due e t) = record {
         list = front;
-        is = put.made.is ∙ ap (λ w. with_comma w put.made.comma (with_at plan.place written_list (trimmed old kids))) e ∙ wide_is;
+        row_from = put.made.is ∙ ap (λ w. with_comma w put.made.comma (with_at plan.place written_list (trimmed old kids))) e ∙ wide_is;
         led = standing old front;
         stands = stand front front_old;
         comes_so = none_comes;
@@ -326,7 +326,7 @@ module _ (o : Options) (old new : List Node) (path : List ℕ) (c i : ℕ) (v : 
           let new_front : OrderedTree = row_around (standing old first) (top_at old n) (token_then 0x2C (leaves_then beside none)) in
           record {
             list = first ++ n ∷ (comma ++ mid);
-            is = with_wide ∙ ap (with_at (length first + 2) comma) with_first ∙ comma_list x n first mid comma rest ∙ back_again;
+            row_from = with_wide ∙ ap (with_at (length first + 2) comma) with_first ∙ comma_list x n first mid comma rest ∙ back_again;
             led = new_front;
             stands = standing_then ready first (n ∷ (comma ++ mid)) ∙ ap (λ r. followed_by r (standing ready (n ∷ (comma ++ mid)))) (stand first first_old)
                 ∙ ap (followed_by (standing old first)) (ap (more (content_at ready n) (row_below ready n)) mid_stands ∙ n_stands (token_then 0x2C (leaves_then beside none)));
@@ -363,7 +363,7 @@ module _ (o : Options) (old new : List Node) (path : List ℕ) (c i : ℕ) (v : 
   row_stands : standing ready put.row ≡ token_then 0x5B (followed_by new_row (token_then 0x5D none))
   row_stands =
       let list : List ℕ = led.list ++ (written_list ++ back) in
-      ap (standing ready) led.is
+      ap (standing ready) led.row_from
       ∙ token_first ready put.prepared.tree x 0x5B (standing ready (list ++ y ∷ [])) (put.prepared.keeps.content x x_old ∙ a.opens)
       ∙ ap (token_then 0x5B)
       (standing_then ready list (y ∷ [])
@@ -372,7 +372,7 @@ module _ (o : Options) (old new : List Node) (path : List ℕ) (c i : ℕ) (v : 
       (standing_then ready led.list (written_list ++ back) ∙ ap (λ r. followed_by r (standing ready (written_list ++ back))) led.stands ∙ ap (followed_by led.led) written_stands))
 
   -- the array's row is the new one
-  respliced : Respliced ready new c
+  abbrev respliced : Respliced ready new c
   respliced = record { from = 0; to = length kids; put = put.row; tree = put.prepared.tree; there = omega (arith, there, put.prepared.keeps.len); after = put.tree; join = put.join; spliced = put.put }
 
   row_is : row_below new c ≡ token_then 0x5B (followed_by new_row (token_then 0x5D none))

@@ -34,10 +34,8 @@ use Rattle.jsonc_edit.proofs.FittingIndents.{indents_fit}
 use Rattle.jsonc_edit.proofs.FittingNodes.{FollowsFromShape, children_over, holds_of_each, over_there}
 use Rattle.jsonc_insert.specs.Inserted.{outer_indent}
 use Rattle.jsonc_insert.specs.Planned.{elements, has_brackets}
-use Rattle.jsonc_insert.specs.Settings.{begins_blank, first_indent_past, first_sought, has_last_comma, indent_of_line, indents_at_first, indents_inside, indents_of, is_document_value, is_spaced_row, layout_inside, line_past, one_deeper, single_in, told_by_row, uses_commas_in}
+use Rattle.jsonc_insert.specs.Settings.{begins_blank, first_indent_past, has_last_comma, indent_of_line, indents_at_first, indents_inside, indents_of, is_document_value, is_spaced_row, layout_inside, line_past, one_deeper, single_in, told_by_row, uses_commas_in}
 use Rattle.jsonc_insert.specs.Trimmed.{first_gone, last_gone, trimmed, without}
-use Rattle.jsonc_insert.specs.declared.trim.Stretch.{Stretch}
-use Rattle.jsonc_insert.specs.declared.walk.Sought.TheVariants.{SpacedElements}
 use Rattle.jsonc_insert.proofs.Counting.{found_last, no_last}
 use Rattle.jsonc_insert.proofs.Trimming.{has_two, trimmed_all, trimmed_elements}
 
@@ -50,18 +48,18 @@ either_right : (a b : Bool) → b ≡ true → (a || b) ≡ true
 either_right true b e = refl
 either_right false b e = e
 
-any_without : (p : ℕ → Bool) (s : Stretch) (xs : List ℕ) → list_any p (without s xs) ≡ true → list_any p xs ≡ true
-any_without p s xs e = by (cases_Bool (list_any p (take s.from xs)))
+any_without : (p : ℕ → Bool) (f t : ℕ) (xs : List ℕ) → list_any p (take f xs ++ drop t xs) ≡ true → list_any p xs ≡ true
+any_without p f t xs e = by (cases_Bool (list_any p (take f xs)))
   where
-    both : (list_any p (take s.from xs) || list_any p (drop s.to xs)) ≡ true
-    both = sym (list_any-append p (take s.from xs) (drop s.to xs)) ∙ e
+    both : (list_any p (take f xs) || list_any p (drop t xs)) ≡ true
+    both = sym (list_any-append p (take f xs) (drop t xs)) ∙ e
 
     apart : (k : ℕ) → list_any p xs ≡ (list_any p (take k xs) || list_any p (drop k xs))
     apart k = ap (list_any p) (sym (take-append-drop k xs)) ∙ list_any-append p (take k xs) (drop k xs)
 
-    by : (list_any p (take s.from xs) ≡ true) ⊎ (list_any p (take s.from xs) ≡ false) → list_any p xs ≡ true
-    by (inl front) = apart s.from ∙ either_left (list_any p (take s.from xs)) (list_any p (drop s.from xs)) front
-    by (inr off) = apart s.to ∙ either_right (list_any p (take s.to xs)) (list_any p (drop s.to xs)) (sym (ap (λ v. v || list_any p (drop s.to xs)) off) ∙ both)
+    by : (list_any p (take f xs) ≡ true) ⊎ (list_any p (take f xs) ≡ false) → list_any p xs ≡ true
+    by (inl front) = apart f ∙ either_left (list_any p (take f xs)) (list_any p (drop f xs)) front
+    by (inr off) = apart t ∙ either_right (list_any p (take t xs)) (list_any p (drop t xs)) (sym (ap (λ v. v || list_any p (drop t xs)) off) ∙ both)
 
 -- No blanks are an indent, and so are two spaces, and one indent after another.
 indent_empty : IsIndent []
@@ -233,7 +231,7 @@ module _ (o : Options) (ns : List Node) (tree : IsTree ns) (shaped : DocumentSha
     row_spaced : is_spaced_row ns kept ≡ true → is_spaced ns c ≡ true
     row_spaced e =
         let parts = and_parts (list_any (is_whitespace_at ns) kept) (is_some (last_element ns kept)) e in
-        let white : has_whitespace ns c ≡ true = any_without (is_whitespace_at ns) (last_gone ns kids) kids (any_without (is_whitespace_at ns) (first_gone ns kids) (without (last_gone ns kids) kids) parts.0) in
+        let white : has_whitespace ns c ≡ true = any_without (is_whitespace_at ns) (last_gone ns kids).from (last_gone ns kids).to kids (any_without (is_whitespace_at ns) (first_gone ns kids).from (first_gone ns kids).to (without (last_gone ns kids) kids) parts.0) in
         ap (λ v. v && (has_whitespace ns c && is_some (last_element ns kids))) holds ∙ ap (λ v. v && is_some (last_element ns kids)) white ∙ ap is_some (sym same_last) ∙ parts.1
 
     commas : IsTrue (uses_commas_in ns c kept) → IsTrue o.trailing_commas
@@ -241,11 +239,11 @@ module _ (o : Options) (ns : List Node) (tree : IsTree ns) (shaped : DocumentSha
       where
         by : (is_spaced_row ns kept ≡ true) ⊎ (is_spaced_row ns kept ≡ false) → IsTrue o.trailing_commas
         by (inl e) =
-            let told : has_last_comma ns (last_element ns kept) ≡ true = sym (ap (λ v. cond v (has_last_comma ns (last_element ns kept)) (ends_with_comma ns (first_sought ns c kept SpacedElements kept))) e) ∙ h in
+            let told : has_last_comma ns (last_element ns kept) ≡ true = sym (ap (λ v. cond v (has_last_comma ns (last_element ns kept)) (ends_with_comma ns (find (is_spaced ns) (levels (length ns) ns kept)))) e) ∙ h in
             spaced_fits c over (row_spaced e) (sym (ap (has_last_comma ns) same_last) ∙ told)
         by (inr e) =
-            let told : ends_with_comma ns (first_sought ns c kept SpacedElements kept) ≡ true = sym (ap (λ v. cond v (has_last_comma ns (last_element ns kept)) (ends_with_comma ns (first_sought ns c kept SpacedElements kept))) e) ∙ h in
-            found_fits (first_sought ns c kept SpacedElements kept) (λ m f. found_one (is_spaced ns) (IsOver ns 0) (levels (length ns) ns kept) m (levels_over (length ns) kept kept_in) f) told
+            let told : ends_with_comma ns (find (is_spaced ns) (levels (length ns) ns kept)) ≡ true = sym (ap (λ v. cond v (has_last_comma ns (last_element ns kept)) (ends_with_comma ns (find (is_spaced ns) (levels (length ns) ns kept)))) e) ∙ h in
+            found_fits (find (is_spaced ns) (levels (length ns) ns kept)) (λ m f. found_one (is_spaced ns) (IsOver ns 0) (levels (length ns) ns kept) m (levels_over (length ns) kept kept_in) f) told
 
     pub layout_fits : FitsLayout o (layout_inside ns c)
     layout_fits = let i = inside_fit c over kept kept_in in record { current = i.0; single = i.1; commas = commas }

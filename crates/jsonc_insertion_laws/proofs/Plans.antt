@@ -158,6 +158,27 @@ module _ (o : Options) (ns : List Node) (tree : IsTree ns) (x y : ℕ) (inner : 
       let a = count_then (x ∷ []) (take (k - 1) inner) in
       ap count same ∙ omega (arith, a, token_out x 0x5B opens)
 
+  -- the first bracket is no blank
+  abbrev inside : List ℕ
+  inside = slice_range row 0 (length row - 1)
+
+  inside_long : length inside ≡ length row - 1
+  inside_long = let l = length-between row 0 (length row - 1) (omega arith) in omega (arith, l)
+
+  few : last_blanks ns inside ≤ length inner
+  few =
+      elim (cases_lt (length inner) (last_blanks ns inside)) [
+        | inr h ↦ h
+        | inl h ↦ (
+            let counted : last_blanks ns inside ≡ prefix_len (is_blank_at ns) (reverse inside) = length-prefix_len (is_blank_at ns) (reverse inside) in
+            let passes : is_blank_at ns (slice_index (reverse inside) (length inner)) ≡ true = prefix_len_passes (is_blank_at ns) (reverse inside) (length inner) 0 (omega (arith, h, counted)) in
+            let back : length inside - 1 - length inner ≡ 0 = omega (arith, inside_long, long) in
+            let same : slice_index (reverse inside) (length inner) ≡ x =
+            get_or-reverse inside (length inner) 0 (omega (arith, inside_long, long)) ∙ ap (slice_index inside) back ∙ get_or-between row 0 (length row - 1) 0 0 (omega (arith, long)) in
+            let blank : is_blank_at ns x ≡ true = sym (ap (is_blank_at ns) same) ∙ passes in
+            absurd (false≢true (sym (ap (λ w. is_whitespace w || is_newline w) opens) ∙ blank)))
+      ]
+
   -- no element is in the row: it comes before the last blanks
   module _ (several commas : Bool) where
     alone_fits : count inner ≡ 0 → PlanFits several commas (plan_alone ns several row)
@@ -178,26 +199,6 @@ module _ (o : Options) (ns : List Node) (tree : IsTree ns) (x y : ℕ) (inner : 
           before_is = inl refl;
           goes = none_go refl (omega (arith, sums, empty));
         }
-      where
-        abbrev inside : List ℕ
-        inside = slice_range row 0 (length row - 1)
-
-        inside_long : length inside ≡ length row - 1
-        inside_long = length-between row 0 (length row - 1) (omega arith)
-
-        few : last_blanks ns inside ≤ length inner
-        few =
-            elim (cases_lt (length inner) (last_blanks ns inside)) [
-              | inr h ↦ h
-              | inl h ↦ (
-                  let counted : last_blanks ns inside ≡ prefix_len (is_blank_at ns) (reverse inside) = length-prefix_len (is_blank_at ns) (reverse inside) in
-                  let passes : is_blank_at ns (slice_index (reverse inside) (length inner)) ≡ true = prefix_len_passes (is_blank_at ns) (reverse inside) (length inner) 0 (omega (arith, h, counted)) in
-                  let back : length inside - 1 - length inner ≡ 0 = omega (arith, inside_long, long) in
-                  let same : slice_index (reverse inside) (length inner) ≡ x =
-                  get_or-reverse inside (length inner) 0 (omega (arith, inside_long, long)) ∙ ap (slice_index inside) back ∙ get_or-between row 0 (length row - 1) 0 0 (omega (arith, long)) in
-                  let blank : is_blank_at ns x ≡ true = sym (ap (is_blank_at ns) same) ∙ passes in
-                  absurd (false≢true (sym (ap (λ w. is_whitespace w || is_newline w) opens) ∙ blank)))
-            ]
 
     -- before the first element
     first_fits : count inner ≢ 0 → PlanFits several commas (plan_first ns several row)
@@ -233,38 +234,39 @@ module _ (o : Options) (ns : List Node) (tree : IsTree ns) (x y : ℕ) (inner : 
           by (suc k) same = omega arith
 
       -- the nodes on the line behind a place
-      beside_range : (b q : ℕ) → b ≤ q → q < past_comments ns row b → is_beside_at ns (slice_index row q) ≡ true
-      beside_range b q low high = by (cases_Bool (list_all (is_beside_at ns) (line ns (slice_range row b (length row)))))
-        where
-          abbrev on : List ℕ
-          on = line ns (slice_range row b (length row))
+      module _ (b : ℕ) where
+        abbrev on : List ℕ
+        on = line ns (slice_range row b (length row))
 
-          on_is : length on ≡ prefix_len (is_no_newline_at ns) (slice_range row b (length row))
-          on_is = length-prefix_len (is_no_newline_at ns) (slice_range row b (length row))
+        on_is : length on ≡ prefix_len (is_no_newline_at ns) (slice_range row b (length row))
+        on_is = length-prefix_len (is_no_newline_at ns) (slice_range row b (length row))
 
-          on_short : length on ≤ length row - b
-          on_short =
-              let l : length (slice_range row b (length row)) ≡ length row - b = length-between row b (length row) (omega arith) in
-              omega (arith, on_is, prefix_len-le-length (is_no_newline_at ns) (slice_range row b (length row)), l)
+        on_short : length on ≤ length row - b
+        on_short =
+            let l : length (slice_range row b (length row)) ≡ length row - b = length-between row b (length row) (omega arith) in
+            omega (arith, on_is, prefix_len-le-length (is_no_newline_at ns) (slice_range row b (length row)), l)
 
-          on_at : (k : ℕ) → k < length on → slice_index on k ≡ slice_index row (b + k)
-          on_at k h =
-              get_or-take (prefix_len (is_no_newline_at ns) (slice_range row b (length row))) (slice_range row b (length row)) k 0 (omega (arith, h, on_is))
-              ∙ get_or-between row b (length row) k 0 (omega (arith, h, on_short))
+        on_at : (k : ℕ) → k < length on → slice_index on k ≡ slice_index row (b + k)
+        on_at k h =
+            get_or-take (prefix_len (is_no_newline_at ns) (slice_range row b (length row))) (slice_range row b (length row)) k 0 (omega (arith, h, on_is))
+            ∙ get_or-between row b (length row) k 0 (omega (arith, h, on_short))
 
-          by : (list_all (is_beside_at ns) on ≡ true) ⊎ (list_all (is_beside_at ns) on ≡ false) → is_beside_at ns (slice_index row q) ≡ true
-          by (inr off) =
-              let none : past_comments ns row b ≡ b = ap (λ v. b + cond v (length on - last_spaces ns on) 0) off ∙ omega arith in
-              absurd (omega (arith, none, low, high))
-          by (inl so) =
-              let many : past_comments ns row b ≡ b + (length on - last_spaces ns on) = ap (λ v. b + cond v (length on - last_spaces ns on) 0) so in
-              let k : ℕ = q - b in
-              let h : k < length on = omega (arith, many, low, high) in
-              let same : slice_index on k ≡ slice_index row q = on_at k h ∙ ap (slice_index row) (let z : b + k ≡ q = omega (arith, low) in z) in
-              elim (cases_Bool (is_beside_at ns (slice_index on k))) [
-                | inl yes ↦ sym (ap (is_beside_at ns) same) ∙ yes
-                | inr not_so ↦ absurd (false≢true (sym (list_all_at (is_beside_at ns) on k 0 h not_so) ∙ so))
-              ]
+        beside_range : (q : ℕ) → b ≤ q → q < past_comments ns row b → is_beside_at ns (slice_index row q) ≡ true
+        beside_range q low high = by (cases_Bool (list_all (is_beside_at ns) on))
+          where
+            by : (list_all (is_beside_at ns) on ≡ true) ⊎ (list_all (is_beside_at ns) on ≡ false) → is_beside_at ns (slice_index row q) ≡ true
+            by (inr off) =
+                let none : past_comments ns row b ≡ b = ap (λ v. b + cond v (length on - last_spaces ns on) 0) off ∙ omega arith in
+                absurd (omega (arith, none, low, high))
+            by (inl so) =
+                let many : past_comments ns row b ≡ b + (length on - last_spaces ns on) = ap (λ v. b + cond v (length on - last_spaces ns on) 0) so in
+                let k : ℕ = q - b in
+                let h : k < length on = omega (arith, many, low, high) in
+                let same : slice_index on k ≡ slice_index row q = on_at k h ∙ ap (slice_index row) (let z : b + k ≡ q = omega (arith, low) in z) in
+                elim (cases_Bool (is_beside_at ns (slice_index on k))) [
+                  | inl found ↦ sym (ap (is_beside_at ns) same) ∙ found
+                  | inr not_so ↦ absurd (false≢true (sym (list_all_at (is_beside_at ns) on k 0 h not_so) ∙ so))
+                ]
 
       from_place : (b : ℕ) → b ≤ past_comments ns row b
       from_place b = omega arith
@@ -389,21 +391,21 @@ module _ (o : Options) (ns : List Node) (tree : IsTree ns) (x y : ℕ) (inner : 
       n_before h = ap (slice_index row) (let z : b - 1 ≡ place_in n row = omega (arith, b_without h) in z) ∙ n_there
 
       abbrev at_end : Bool → Plan
-      at_end more = plan_behind ns several commas row more e
+      at_end follow = plan_behind ns several commas row follow e
 
-      place_end : (more : Bool) → (at_end more).place ≡ end
+      place_end : (follow : Bool) → (at_end follow).place ≡ end
       place_end true = refl
       place_end false = refl
 
-      comma_end : (more : Bool) → (at_end more).comma ≡ comma_wanted ns row e
+      comma_end : (follow : Bool) → (at_end follow).comma ≡ comma_wanted ns row e
       comma_end true = refl
       comma_end false = refl
 
-      before_end : (more : Bool) → (at_end more).before ≡ parting several
+      before_end : (follow : Bool) → (at_end follow).before ≡ parting several
       before_end true = refl
       before_end false = refl
 
-      goes_end : (more : Bool) → (more ≡ true → count (drop (end - 1) inner) ≢ 0) → (more ≡ false → count (drop (end - 1) inner) ≡ 0) → Goes commas (at_end more)
+      goes_end : (follow : Bool) → (follow ≡ true → count (drop (end - 1) inner) ≢ 0) → (follow ≡ false → count (drop (end - 1) inner) ≡ 0) → Goes commas (at_end follow)
       goes_end true f g = more_go refl (f refl)
       goes_end false f g = by (cases_Bool (several && commas))
         where
@@ -411,38 +413,38 @@ module _ (o : Options) (ns : List Node) (tree : IsTree ns) (x y : ℕ) (inner : 
           by (inl h) = last_goes h (and_parts several commas h).1 refl (g refl)
           by (inr h) = none_go h (g refl)
 
-      comma_fits : (more : Bool) → CommaAt (at_end more)
-      comma_fits more = by (cases_Bool (has_comma ns row e))
+      comma_fits : (follow : Bool) → CommaAt (at_end follow)
+      comma_fits follow = by (cases_Bool (has_comma ns row e))
         where
-          here : take ((at_end more).place - 1) inner ≡ take (end - 1) inner
-          here = ap (λ k. take (k - 1) inner) (place_end more)
+          here : take ((at_end follow).place - 1) inner ≡ take (end - 1) inner
+          here = ap (λ k. take (k - 1) inner) (place_end follow)
 
-          by : (has_comma ns row e ≡ true) ⊎ (has_comma ns row e ≡ false) → CommaAt (at_end more)
+          by : (has_comma ns row e ≡ true) ⊎ (has_comma ns row e ≡ false) → CommaAt (at_end follow)
           by (inl h) =
-              none_due (comma_end more ∙ ap (λ v. cond v None (Some e)) h)
+              none_due (comma_end follow ∙ ap (λ v. cond v None (Some e)) h)
               (subst (λ l. IsTrue (takes_element (last_behind nothing_yet (standing ns l)))) (sym here) (subst (λ l. IsTrue (takes_element l)) (sym (comma_last h)) refl))
           by (inr h) =
               let front : List ℕ = take (b - 2) inner in
               let mid : List ℕ = slice_range inner (b - 1) (end - 1) in
               let counted : e ≡ length front + 2 = omega (arith, length-take (b - 2) inner, b_low, b_high, b_without h) in
               one_due front n mid (here ∙ front_through b b_low b_high ∙ ap (λ m. front ++ m ∷ mid) (n_before h))
-              (comma_end more ∙ ap (λ v. cond v None (Some e)) h ∙ ap Some counted) element (mid_beside b b_low b_high)
+              (comma_end follow ∙ ap (λ v. cond v None (Some e)) h ∙ ap Some counted) element (mid_beside b b_low b_high)
 
-      none_fits : (more : Bool) → IsTrue (not (leaving.comma_comes (standing ns (behind (at_end more)))))
-      none_fits more = subst (λ k. IsTrue (not (leaving.comma_comes (standing ns (drop (k - 1) inner))))) (sym (place_end more)) (by (cases_Bool (has_comma ns row e)))
+      none_fits : (follow : Bool) → IsTrue (not (leaving.comma_comes (standing ns (behind (at_end follow)))))
+      none_fits follow = subst (λ k. IsTrue (not (leaving.comma_comes (standing ns (drop (k - 1) inner))))) (sym (place_end follow)) (by (cases_Bool (has_comma ns row e)))
         where
           by : (has_comma ns row e ≡ true) ⊎ (has_comma ns row e ≡ false) → IsTrue (not (leaving.comma_comes (standing ns (drop (end - 1) inner))))
           by (inl h) = no_comma_behind (end - 1) (subst (λ l. IsTrue (takes_element l)) (sym (comma_last h)) refl)
           by (inr h) = none_behind h
 
-      behind_fits : (more : Bool) → (more ≡ true → count (drop (end - 1) inner) ≢ 0) → (more ≡ false → count (drop (end - 1) inner) ≡ 0) → PlanFits several commas (at_end more)
-      behind_fits more f g = record {
-        low = omega (arith, place_end more, end_low);
-        high = omega (arith, place_end more, end_high);
-        comma = comma_fits more;
-        none = none_fits more;
-        before_is = inr (before_end more);
-        goes = goes_end more f g;
+      behind_fits : (follow : Bool) → (follow ≡ true → count (drop (end - 1) inner) ≢ 0) → (follow ≡ false → count (drop (end - 1) inner) ≡ 0) → PlanFits several commas (at_end follow)
+      behind_fits follow f g = record {
+        low = omega (arith, place_end follow, end_low);
+        high = omega (arith, place_end follow, end_high);
+        comma = comma_fits follow;
+        none = none_fits follow;
+        before_is = inr (before_end follow);
+        goes = goes_end follow f g;
       }
 
     -- what an element comes behind is one
@@ -499,10 +501,10 @@ module _ (o : Options) (ns : List Node) (tree : IsTree ns) (x y : ℕ) (inner : 
           by (Some n) e =
               let there : place_in n row + 1 < length row = stands_inside ns row brackets i n e in
               let element : is_element_at ns n ≡ true = before_element i n e in
-              let more : Bool = is_some (slice_get (elements ns row) i) in
+              let follow : Bool = is_some (slice_get (elements ns row) i) in
               let k : ℕ = end n there element in
-              let place : (planned ns several commas row i).place ≡ k = ap (λ w. (plan_by ns several commas row i w).place) e ∙ place_end n there element more in
+              let place : (planned ns several commas row i).place ≡ k = ap (λ w. (plan_by ns several commas row i w).place) e ∙ place_end n there element follow in
               let fronts : count (take (k - 1) inner) ≡ min i (count row) = sym (count_front k (omega (arith, end_low n there element)) (end_high n there element)) ∙ ap (λ q. count (take q row)) (sym place) ∙ planned_count ns several commas row once brackets i in
               let sums = count_parts (k - 1) in
               subst (λ w. PlanFits several commas (plan_by ns several commas row i w)) (sym e)
-              (behind_fits n there element more (λ so z. let lt = some_more i so in omega (arith, lt, z, fronts, sums, count_row)) (λ off. let ge = no_more i off in omega (arith, ge, fronts, sums, count_row)))
+              (behind_fits n there element follow (λ so z. let lt = some_more i so in omega (arith, lt, z, fronts, sums, count_row)) (λ off. let ge = no_more i off in omega (arith, ge, fronts, sums, count_row)))

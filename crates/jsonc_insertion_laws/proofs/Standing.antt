@@ -1,6 +1,7 @@
 -- Rows of trees that the nodes of a container stand for.
-use Rattle.std.proofs.Common.{◌≡◌, ◌≢◌, ◌∙◌, ◌<◌, ◌≤◌, ◌+◌, ◌-◌, ℕ, suc, Bool, true, false, not, ◌||◌, cond, List, [], ◌∷◌, ◌++◌, All, map, filter, length, IsTrue, refl, sym, ap, subst, append-nil}
-use Rattle.std.specs.List.{list_any}
+use Rattle.std.proofs.Common.{◌≡◌, ◌≢◌, ◌∙◌, ◌<◌, ◌≤◌, ◌+◌, ◌-◌, ℕ, suc, Bool, true, false, not, ◌||◌, cond, List, [], ◌∷◌, ◌++◌, All, map, drop, length, IsTrue, refl, sym, ap, subst, append-nil}
+use Rattle.std.specs.List.{take_while}
+use Rattle.std.proofs.lemmas.List.Sums.{take_while-cons}
 use Rattle.std.proofs.lemmas.Bool.{eqb-true}
 use Rattle.std.proofs.lemmas.List.Elements.{All-head, All-tail}
 use Rattle.jsonc_tree.specs.Content.{Content, is_container, newline, token}
@@ -18,6 +19,7 @@ use Rattle.jsonc_edit.specs.Changes.{row_below}
 use Rattle.jsonc_insert.specs.Planned.{begins_with_comma, comma_comes, elements, is_comma_at, trivia}
 use Rattle.jsonc_insert.specs.Trimmed.{is_blank_at}
 use Rattle.jsonc_multiline.proofs.OnLines.{bare_below, standing}
+use Rattle.jsonc_insertion_laws.proofs.Stretches.{comma_past}
 
 -- what a list's nodes are, by one test
 abbrev pub AllAre : (ℕ → Bool) → List ℕ → Type 0
@@ -76,8 +78,12 @@ module _ (ns : List Node) where
   standing_comma (n ∷ xs) = by (is_trivia (content_at ns n)) refl (standing_comma xs)
     where
       by : (b : Bool) → is_trivia (content_at ns n) ≡ b → leaving.comma_comes (standing ns xs) ≡ comma_comes ns xs → leaving.comma_comes (standing ns (n ∷ xs)) ≡ comma_comes ns (n ∷ xs)
-      by true e rest = rw e rest
-      by false e rest = rw e refl
+      by true e rest =
+          comma_past (content_at ns n) (row_below ns n) (standing ns xs) e ∙ rest
+          ∙ sym (ap (λ l. begins_with_comma ns (drop (length l) (n ∷ xs))) (take_while-cons (is_trivia_at ns) n xs ∙ ap (λ v. cond v (n ∷ take_while (is_trivia_at ns) xs) []) e))
+      by false e rest =
+          ap (λ v. cond v (leaving.comma_comes (standing ns xs)) (is_comma (content_at ns n))) e
+          ∙ sym (ap (λ l. begins_with_comma ns (drop (length l) (n ∷ xs))) (take_while-cons (is_trivia_at ns) n xs ∙ ap (λ v. cond v (n ∷ take_while (is_trivia_at ns) xs) []) e))
 
   module _ (tree : IsTree ns) where
     leaf_below : (n : ℕ) → is_container (content_at ns n) ≡ false → row_below ns n ≡ none
