@@ -1,19 +1,18 @@
 -- Blank lines that leave the row of an array.
-use Rattle.std.proofs.Common.{◌≡◌, ◌∙◌, ◌<◌, ◌≤◌, ◌+◌, ◌-◌, ◌⊎◌, ◌||◌, inl, inr, ℕ, suc, Bool, true, false, cond, List, [], ◌∷◌, ◌++◌, All, length, map, reverse, take, drop, get_or, slice_index, slice_range, nat_lt, refl, sym, ap, subst, arith, append_assoc, length-append, length-drop, length-take}
+use Rattle.std.proofs.Common.{◌≡◌, ◌∙◌, ◌<◌, ◌≤◌, ◌+◌, ◌-◌, ◌⊎◌, inl, inr, ℕ, suc, Bool, true, false, List, [], ◌∷◌, ◌++◌, length, map, reverse, take, drop, get_or, slice_index, slice_range, nat_lt, refl, sym, ap, subst, arith, append_assoc, length-append, length-drop, length-take}
 use Rattle.std.specs.List.{prefix_len}
 use Rattle.std.proofs.lemmas.Bool.{cases_Bool, cases_lt, ltb-true, false≢true}
 use Rattle.std.proofs.lemmas.List.{drop-append-le, drop_more, get_or-drop, get_or-reverse, get_or-take, get_or_append_left, length-reverse, take-append-drop, take-append-le, take_at, take_more}
 use Rattle.std.proofs.lemmas.List.Edits.{get_or-between, length-between, split_between}
 use Rattle.std.proofs.lemmas.List.Elements.{All-from_get_or}
 use Rattle.std.proofs.lemmas.List.Folds.{length-prefix_len}
-use Rattle.std.proofs.lemmas.List.Sums.{prefix_len_passes, prefix_len_stops, prefix_len-le-length}
+use Rattle.std.proofs.lemmas.List.Sums.{prefix_len_passes, prefix_len_stops}
 use Rattle.jsonc_tree.specs.Content.{newline}
 use Rattle.jsonc_tree.specs.OrderedTree.{OrderedTree, none, more, followed_by}
 use Rattle.jsonc_tree.specs.Tree.{Node, content_at, IsTree}
 use Rattle.jsonc_nodes.specs.Kinds.{is_newline_at, is_whitespace_at}
 use Rattle.jsonc_laws.specs.TriviaChanges.{leaves_then}
-use Rattle.jsonc_edit.specs.Changes.{row_below}
-use Rattle.jsonc_insert.specs.Trimmed.{before_last_line, behind_first_line, blanks, first_gone, inside, is_blank_at, last_blanks, last_gone, last_gone_from, last_spaces, nothing_at, spaces, trimmed, without}
+use Rattle.jsonc_insert.specs.Trimmed.{blanks, first_gone, inside, is_blank_at, last_blanks, last_gone, last_gone_from, last_spaces, spaces, trimmed, without}
 use Rattle.jsonc_insert.proofs.Trimming.{back_blank, blanks_within, first_high, first_within, front_blank, last_behind, last_high, last_low, shorter_at}
 use Rattle.jsonc_multiline.proofs.OnLines.{standing}
 use Rattle.jsonc_insertion_laws.specs.Coming.{FirstLinesLeave, none_first, leave_first, LastLinesLeave, none_last, leave_last, BlankLinesLeave}

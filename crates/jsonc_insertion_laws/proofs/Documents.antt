@@ -1,11 +1,11 @@
 -- A sound document in which the row of an array or object has become another that may stand there.
-use Rattle.std.proofs.Common.{◌≡◌, ◌∙◌, ℕ, Bool, true, false, ◌&&◌, List, [], ◌∷◌, ◌++◌, Option, Some, None, IsTrue, refl, sym, ap, subst, append_assoc, append-nil, if◌then◌else◌}
+use Rattle.std.proofs.Common.{◌≡◌, ◌∙◌, ℕ, Bool, true, false, ◌&&◌, List, ◌++◌, Option, Some, None, IsTrue, refl, ap, subst, append_assoc, append-nil, if◌then◌else◌}
 use Rattle.jsonc_text.specs.Options.{Options}
 use Rattle.jsonc_text.specs.Grammar.{IsDocument}
 use Rattle.jsonc_text.specs.Plain.{Plain}
 use Rattle.jsonc_text.specs.Text.{next, starts}
-use Rattle.jsonc_tree.specs.Content.{Content, token}
-use Rattle.jsonc_tree.specs.OrderedTree.{OrderedTree, Top, none, more, followed_by, leaves}
+use Rattle.jsonc_tree.specs.Content.{token}
+use Rattle.jsonc_tree.specs.OrderedTree.{OrderedTree, Top, none, followed_by, leaves}
 use Rattle.jsonc_tree.specs.Values as values
 use Rattle.jsonc_tree.specs.Values.{HasNoValue, DocumentValueOf}
 use Rattle.jsonc_tree.proofs.OrderedTrees.{leaves-followed_by}

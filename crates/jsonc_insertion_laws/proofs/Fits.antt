@@ -1,10 +1,10 @@
 -- The layout that a document tells for what comes into an array fits its options.
-use Rattle.std.proofs.Common.{◌≡◌, ◌∙◌, ℕ, zero, suc, ◌+◌, ◌-◌, ◌<◌, ◌≤◌, ◌&&◌, ◌||◌, ◌⊎◌, inl, inr, Bool, true, false, cond, List, [], ◌∷◌, ◌++◌, All, length, take, drop, reverse, get_or, slice_get, Option, Some, None, IfSome, is_some, option_and_then, unwrap_or, IsTrue, IsUtf8, chars, refl, sym, ap, subst, arith, rules}
+use Rattle.std.proofs.Common.{◌≡◌, ◌∙◌, ℕ, zero, suc, ◌-◌, ◌<◌, ◌≤◌, ◌&&◌, ◌||◌, ◌⊎◌, inl, inr, Bool, true, false, cond, List, [], ◌∷◌, ◌++◌, All, length, take, drop, get_or, slice_get, Option, Some, None, IfSome, is_some, unwrap_or, IsTrue, chars, refl, sym, ap, subst, arith, rules}
 use Rattle.std.specs.List.{find, flat_map, list_all, list_any, take_while}
 use Rattle.std.specs.Option.{option_or}
 use Rattle.std.proofs.lemmas.Bool.{and_parts, cases_Bool, cond_both, false≢true}
 use Rattle.std.proofs.lemmas.List.{take-append-drop}
-use Rattle.std.proofs.lemmas.List.Elements.{All-nil, All-cons, All-head, All-tail, All-append, All-drop, All-filter, All-take, filter_passes}
+use Rattle.std.proofs.lemmas.List.Elements.{All-nil, All-cons, All-head, All-tail, All-append, All-filter}
 use Rattle.std.proofs.lemmas.List.Folds.{list_any-append}
 use Rattle.std.proofs.lemmas.List.Sums.{take_while-cons}
 use Rattle.std.proofs.lemmas.Option.{slice_get_cases}
@@ -19,14 +19,12 @@ use Rattle.jsonc_tree.specs.Order.{text_at}
 use Rattle.jsonc_tree.specs.OrderedTree.{OrderedTree, ordered_tree}
 use Rattle.jsonc_tree.specs.Tree.{Node, children_at, content_at, IsTree, IsOver}
 use Rattle.jsonc_nodes.specs.Kinds.{is_element_at, is_newline_at, is_trivia_at, is_whitespace, is_whitespace_at}
-use Rattle.jsonc_lines.specs.Breadth.{breadth_first, ends_with_comma, has_whitespace, is_spaced, last_element, levels, uses_trailing_commas_at}
+use Rattle.jsonc_lines.specs.Breadth.{breadth_first, ends_with_comma, has_whitespace, is_spaced, last_element, levels}
 use Rattle.jsonc_lines.specs.Indents.{IndentTexts, indents_at}
 use Rattle.jsonc_lines.specs.Kinds.{holds_values}
 use Rattle.jsonc_lines.specs.Lines.{blanks}
-use Rattle.jsonc_lines.specs.Siblings.{trailing_comma_at}
 use Rattle.jsonc_build.specs.Leaves.{is_inner_blank}
 use Rattle.jsonc_build.specs.Shape.{IsTrivia, IsLiteralBefore, IsNameBefore, ValueShaped, DocumentShaped}
-use Rattle.jsonc_edit.specs.Changes.{row_below}
 use Rattle.jsonc_edit.specs.Writing.{FitsLayout, IsIndent}
 use Rattle.jsonc_edit.proofs.FittingCommas.{commas_fit}
 use Rattle.jsonc_edit.proofs.FittingFinds.{found_one, passes}

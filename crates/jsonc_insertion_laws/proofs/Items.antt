@@ -1,15 +1,14 @@
 -- The values of an array's row where blank lines leave it, and where an element comes into it.
-use Rattle.std.proofs.Common.{◌≡◌, ◌∙◌, ℕ, suc, Bool, true, false, not, ◌||◌, List, [], ◌∷◌, IsTrue, refl, sym, ap, subst, if◌then◌else◌}
+use Rattle.std.proofs.Common.{◌≡◌, ◌∙◌, ℕ, suc, Bool, not, List, [], ◌∷◌, IsTrue, refl, sym, ap, subst, if◌then◌else◌}
 use Rattle.jsonc_text.specs.Options.{Options}
 use Rattle.jsonc_text.specs.Plain.{Plain, Items, no_items, item}
 use Rattle.jsonc_tree.specs.Content.{Content, newline}
 use Rattle.jsonc_tree.specs.OrderedTree.{OrderedTree, Top, none, more, followed_by}
 use Rattle.jsonc_tree.specs.Values as values
 use Rattle.jsonc_tree.specs.Values.{is_passed_over, ItemsOf}
-use Rattle.jsonc_nodes.specs.Kinds.{is_newline, is_trivia, is_whitespace}
+use Rattle.jsonc_nodes.specs.Kinds.{is_trivia}
 use Rattle.jsonc_build.specs.Shape.{token_then}
 use Rattle.jsonc_laws.specs.Leaving.{element_count}
-use Rattle.jsonc_laws.specs.MarkChanges.{AreBlanks}
 use Rattle.jsonc_laws.specs.RowLaws.{items_then}
 use Rattle.jsonc_laws.specs.Sound.{HasValue}
 use Rattle.jsonc_laws.specs.TriviaChanges.{AreTrivia, leaves_then}
@@ -21,7 +20,7 @@ use Rattle.jsonc_insertion_laws.specs.Coming.{FirstLinesLeave, none_first, leave
 use Rattle.jsonc_insertion_laws.specs.Laws.{ItemComes, this_item, later_item, item_count}
 use Rattle.jsonc_insertion_laws.proofs.Stretches.{count_one}
 
-over : (content : Content) → IsTrue (is_trivia content) → IsTrue (is_passed_over content)
+pub over : (content : Content) → IsTrue (is_trivia content) → IsTrue (is_passed_over content)
 over (Content.whitespace s) h = refl
 over (Content.newline k) h = refl
 over (Content.comment s) h = refl
@@ -91,7 +90,8 @@ module _ (o : Options) where
   items_come {v = v} (comes front back led behind gap c t n w g) h r =
       let d = parted_items o front back r in
       let number : ItemComes v (element_count front) (items_then d.0 d.1) (items_then d.0 (item v d.1)) =
-      subst (λ j. ItemComes v j (items_then d.0 d.1) (items_then d.0 (item v d.1))) (counted d.2) (comes_behind v d.0 d.1) in
-      (items_then d.0 (item v d.1),
-      subst (λ l. ItemComes v (element_count front) l (items_then d.0 (item v d.1))) (sym d.4) number,
-      joined_items o (led_items c d.2) (gap_items w (values.one_item h (behind_items g d.3))))
+      subst (λ j. ItemComes v j (items_then d.0 d.1) (items_then d.0 (item v d.1))) (counted d.2) (comes_behind v d.0 d.1) in (
+        items_then d.0 (item v d.1),
+        subst (λ l. ItemComes v (element_count front) l (items_then d.0 (item v d.1))) (sym d.4) number,
+        joined_items o (led_items c d.2) (gap_items w (values.one_item h (behind_items g d.3))),
+      )

@@ -10,3 +10,6 @@ pub mod Blanks
 pub mod Plans
 pub mod Fits
 pub mod Comes
+pub mod Spread
+pub mod Members
+pub mod Named

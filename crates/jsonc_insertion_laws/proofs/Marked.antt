@@ -1,12 +1,12 @@
 -- The marks of an array's row, and its nodes, where blank lines leave it, and where an element comes into it.
 use Rattle.std.proofs.Common.{◌≡◌, ◌∙◌, ℕ, Bool, ◌||◌, List, [], ◌∷◌, ◌++◌, IsTrue, refl, sym, ap, append_assoc}
 use Rattle.jsonc_text.specs.Options.{Options}
-use Rattle.jsonc_tree.specs.Content.{Content, newline, token, whitespace}
+use Rattle.jsonc_tree.specs.Content.{Content, newline}
 use Rattle.jsonc_tree.specs.OrderedTree.{OrderedTree, Top, none, more, followed_by, leaves, own_leaf}
 use Rattle.jsonc_tree.proofs.OrderedTrees.{leaves-followed_by}
 use Rattle.jsonc_nodes.specs.Kinds.{is_newline, is_whitespace}
 use Rattle.jsonc_build.specs.Shape.{token_then}
-use Rattle.jsonc_laws.specs.Marks.{Mark, marks, marks_of}
+use Rattle.jsonc_laws.specs.Marks.{marks, marks_of}
 use Rattle.jsonc_laws.specs.MarkChanges.{AreBlanks, marks_under}
 use Rattle.jsonc_laws.specs.TriviaChanges.{leaves_then}
 use Rattle.jsonc_laws.proofs.GivingWay.{marks_join}

@@ -1,9 +1,9 @@
 -- Where a plan puts a new element into the row of a sound array.
-use Rattle.std.proofs.Common.{◌≡◌, ◌≢◌, ◌∙◌, ◌<◌, ◌≤◌, ◌+◌, ◌-◌, ◌⊎◌, ◌&&◌, ◌||◌, ◌==◌, inl, inr, ℕ, zero, suc, min, Bool, true, false, not, cond, List, [], ◌∷◌, ◌++◌, All, length, map, filter, reverse, take, drop, get_or, slice_get, slice_index, slice_range, Option, Some, None, is_some, IsTrue, refl, sym, ap, subst, arith, append_assoc, length-append, length-drop, length-take}
+use Rattle.std.proofs.Common.{◌≡◌, ◌≢◌, ◌∙◌, ◌<◌, ◌≤◌, ◌+◌, ◌-◌, ◌⊎◌, ◌&&◌, ◌||◌, ◌==◌, inl, inr, ℕ, zero, suc, min, Bool, true, false, not, cond, List, [], ◌∷◌, ◌++◌, length, reverse, take, drop, get_or, slice_get, slice_index, slice_range, Option, Some, None, is_some, IsTrue, refl, sym, ap, subst, arith, append_assoc, length-append, length-drop, length-take}
 use Rattle.std.specs.List.{list_all, prefix_len}
 use Rattle.std.specs.Option.{option_or}
 use Rattle.std.proofs.lemmas.Bool.{and_parts, cases_Bool, cases_lt, eqb-true, false≢true}
-use Rattle.std.proofs.lemmas.List.{drop-append-le, get_or-append-add, get_or-drop, get_or-reverse, get_or-take, get_or_append_left, length-reverse, length-take-le, take-append-drop, take-append-le, take_at, take_more}
+use Rattle.std.proofs.lemmas.List.{drop-append-le, get_or-append-add, get_or-drop, get_or-reverse, get_or-take, get_or_append_left, take-append-drop, take-append-le, take_at, take_more}
 use Rattle.std.proofs.lemmas.List.Edits.{get_or-between, length-between, split_between}
 use Rattle.std.proofs.lemmas.List.Elements.{All-from_get_or, All-head, All-tail, filter-append, filter_passes}
 use Rattle.std.proofs.lemmas.List.Folds.{drop_split, length-prefix_len, list_all_at}
@@ -11,26 +11,23 @@ use Rattle.std.proofs.lemmas.List.Sums.{prefix_len_passes, prefix_len_stops, pre
 use Rattle.std.proofs.lemmas.Option.{slice_get_cases}
 use Rattle.jsonc_text.specs.Options.{Options}
 use Rattle.jsonc_tree.specs.Changes.{EachOnce}
-use Rattle.jsonc_tree.specs.Content.{Content, is_container, token}
+use Rattle.jsonc_tree.specs.Content.{Content, token}
 use Rattle.jsonc_tree.specs.OrderedTree.{OrderedTree, none, more, followed_by}
 use Rattle.jsonc_tree.specs.Tree.{Node, content_at, IsTree}
-use Rattle.jsonc_nodes.specs.Kinds.{is_beside, is_beside_at, is_element, is_element_at, is_newline, is_trivia, is_trivia_at, is_whitespace}
+use Rattle.jsonc_nodes.specs.Kinds.{is_beside, is_beside_at, is_element, is_element_at, is_newline, is_trivia, is_whitespace}
 use Rattle.jsonc_nodes.specs.Siblings.{is_no_newline_at}
 use Rattle.jsonc_lines.specs.Breadth.{last_element}
-use Rattle.jsonc_lines.specs.Kinds.{is_comma}
-use Rattle.jsonc_build.specs.Shape.{token_then}
 use Rattle.jsonc_laws.specs.Alone.{StretchAlone}
 use Rattle.jsonc_laws.specs.Leaving as leaving
 use Rattle.jsonc_laws.specs.Leaving.{element_count}
-use Rattle.jsonc_laws.specs.Rows.{of_values, Last, nothing_yet, an_element, a_comma, last_after, last_behind}
+use Rattle.jsonc_laws.specs.Rows.{of_values, Last, nothing_yet, a_comma, last_after, last_behind}
 use Rattle.jsonc_laws.proofs.SeamStretches.{last_is, parted_stretch}
 use Rattle.jsonc_edit.specs.Changes.{row_below}
-use Rattle.jsonc_insert.specs.Planned.{before_next, behind_comma, begins_with_comma, comma_comes, comma_wanted, element_before, elements, has_brackets, has_comma, is_comma_at, is_other, is_token, line, line_if, line_unless, parting, past_comments, place_in, plan_alone, plan_behind, plan_between, plan_by, plan_first, planned, trivia}
-use Rattle.jsonc_insert.specs.Trimmed.{blanks, is_blank_at, last_blanks, last_spaces}
-use Rattle.jsonc_insert.specs.declared.plan.Gap.{Gap}
+use Rattle.jsonc_insert.specs.Planned.{behind_comma, begins_with_comma, comma_comes, comma_wanted, element_before, elements, has_brackets, has_comma, is_comma_at, is_other, line, line_if, parting, past_comments, place_in, plan_alone, plan_behind, plan_by, plan_first, planned, trivia}
+use Rattle.jsonc_insert.specs.Trimmed.{is_blank_at, last_blanks, last_spaces}
 use Rattle.jsonc_insert.specs.declared.plan.Gap.TheVariants.{Nothing}
 use Rattle.jsonc_insert.specs.declared.plan.Plan.{Plan}
-use Rattle.jsonc_insert.proofs.Counting.{found_last, no_last, planned_count}
+use Rattle.jsonc_insert.proofs.Counting.{found_last, planned_count}
 use Rattle.jsonc_insert.proofs.Standing.{stands_inside}
 use Rattle.jsonc_multiline.proofs.OnLines.{standing}
 use Rattle.jsonc_insertion_laws.specs.Coming.{takes_element}

@@ -1,25 +1,24 @@
 -- The row of an array stays one where blank lines leave it, and where an element comes into it.
-use Rattle.std.proofs.Common.{◌≡◌, ◌≢◌, ◌∙◌, ℕ, Bool, true, false, not, ◌&&◌, ◌||◌, inl, inr, List, [], ◌∷◌, ◌++◌, Option, Some, None, IsTrue, refl, rules, sym, ap, subst, append-nil}
-use Rattle.std.proofs.lemmas.Bool.{cases_Bool, false≢true}
+use Rattle.std.proofs.Common.{◌≡◌, ◌∙◌, ℕ, Bool, true, false, not, ◌||◌, inl, inr, List, [], ◌∷◌, ◌++◌, Option, None, IsTrue, refl, rules, sym, ap, subst, append-nil}
+use Rattle.std.proofs.lemmas.Bool.{cases_Bool}
 use Rattle.std.proofs.lemmas.Str.{chars-IsAscii}
 use Rattle.jsonc_text.specs.Options.{Options}
 use Rattle.jsonc_text.specs.Text.{next}
-use Rattle.jsonc_tree.specs.Content.{Content, newline, token, whitespace}
+use Rattle.jsonc_tree.specs.Content.{Content, newline}
 use Rattle.jsonc_tree.specs.OrderedTree.{OrderedTree, Top, none, more, followed_by, leaves, own_leaf}
 use Rattle.jsonc_tree.specs.declared.node.CstNewlineKind.{CstNewlineKind}
 use Rattle.jsonc_tree.specs.declared.node.CstNewlineKind.TheVariants.{LineFeed, CarriageReturnLineFeed, CarriageReturn}
 use Rattle.jsonc_tree.proofs.OrderedTrees.{leaves-followed_by}
 use Rattle.jsonc_nodes.specs.Kinds.{is_newline, is_whitespace}
-use Rattle.jsonc_build.specs.Lines.{ends_loosely, is_line_comment, is_loose, LinesEndLoosely}
+use Rattle.jsonc_build.specs.Lines.{ends_loosely, is_loose, LinesEndLoosely}
 use Rattle.jsonc_build.specs.Shape.{token_then}
 use Rattle.jsonc_laws.specs.Adjacent.{first_char, or_else, follower, LeavesEnd, last_printed}
 use Rattle.jsonc_laws.specs.Alone as alone
 use Rattle.jsonc_laws.specs.Alone.{may_stand, PartAlone, StretchAlone}
-use Rattle.jsonc_laws.specs.InRows.{row_around}
-use Rattle.jsonc_laws.specs.Leaving.{AreBeside, comma_comes, element_count}
+use Rattle.jsonc_laws.specs.Leaving.{comma_comes}
 use Rattle.jsonc_laws.specs.MarkChanges.{AreBlanks}
-use Rattle.jsonc_laws.specs.Rows.{RowKind, Last, nothing_yet, an_element, a_comma, last_behind, may_end}
-use Rattle.jsonc_laws.specs.Spaces.{is_bare_leaf, first_printed, meet}
+use Rattle.jsonc_laws.specs.Rows.{RowKind, Last, nothing_yet, an_element, a_comma, may_end}
+use Rattle.jsonc_laws.specs.Spaces.{is_bare_leaf, first_printed}
 use Rattle.jsonc_laws.specs.TreeChanges.{IsElement, leaves_of}
 use Rattle.jsonc_laws.specs.TriviaChanges.{AreTrivia, leaves_then}
 use Rattle.jsonc_laws.proofs.Changed.{part_element}
@@ -34,7 +33,7 @@ use Rattle.jsonc_laws.proofs.SeamStretches.{followed_joined, joined_stretch, las
 use Rattle.jsonc_laws.proofs.Spaces.{Ends, last_of, serves_unless, stretch_no_word}
 use Rattle.jsonc_multiline.specs.Reflows.{has_newline}
 use Rattle.jsonc_insertion_laws.specs.Coming.{FirstLinesLeave, none_first, leave_first, LastLinesLeave, none_last, leave_last, BlankLinesLeave, Gap, nothing, a_space, a_line, CommaComes, none_comes, one_comes, takes_element, GoesOn, elements_follow, none_follow, comma_last, ElementComes, comes}
-use Rattle.jsonc_insertion_laws.proofs.Stretches.{and_false, behind_comma, count_one, ends_not_bare, false_and, first_comma, first_part, gap_ends, gap_first, gap_stretch, past_all, stretch_without, takes_stands, trivia_anywhere, trivia_first, without_elements}
+use Rattle.jsonc_insertion_laws.proofs.Stretches.{and_false, behind_comma, ends_not_bare, false_and, first_comma, first_part, gap_ends, gap_first, gap_stretch, stretch_without, takes_stands, trivia_anywhere, trivia_first, without_elements}
 
 newline_ends : (k : CstNewlineKind) (n : Option ℕ) → Ends (or_else (first_char (Content.newline k)) n)
 newline_ends LineFeed n = subst (λ t. Ends (or_else (next t) n)) (sym (chars-IsAscii (10 ∷ []) (search rules))) refl

@@ -1,5 +1,5 @@
 -- Rows of trees that the nodes of a container stand for.
-use Rattle.std.proofs.Common.{◌≡◌, ◌≢◌, ◌∙◌, ◌<◌, ◌≤◌, ◌+◌, ◌-◌, ℕ, suc, Bool, true, false, not, ◌||◌, cond, List, [], ◌∷◌, ◌++◌, All, map, drop, length, IsTrue, refl, sym, ap, subst, append-nil}
+use Rattle.std.proofs.Common.{◌≡◌, ◌∙◌, ℕ, suc, Bool, true, false, ◌||◌, cond, List, [], ◌∷◌, ◌++◌, All, map, drop, length, refl, sym, ap, append-nil}
 use Rattle.std.specs.List.{take_while}
 use Rattle.std.proofs.lemmas.List.Sums.{take_while-cons}
 use Rattle.std.proofs.lemmas.Bool.{eqb-true}
@@ -8,7 +8,7 @@ use Rattle.jsonc_tree.specs.Content.{Content, is_container, newline, token}
 use Rattle.jsonc_tree.specs.OrderedTree.{OrderedTree, none, more, followed_by}
 use Rattle.jsonc_tree.specs.Tree.{Node, content_at, IsTree}
 use Rattle.jsonc_tree.specs.declared.node.CstNewlineKind.{CstNewlineKind}
-use Rattle.jsonc_nodes.specs.Kinds.{is_beside, is_beside_at, is_element, is_element_at, is_newline, is_newline_at, is_trivia, is_trivia_at, is_whitespace, is_whitespace_at}
+use Rattle.jsonc_nodes.specs.Kinds.{is_beside, is_beside_at, is_element, is_newline, is_trivia, is_trivia_at, is_whitespace}
 use Rattle.jsonc_lines.specs.Kinds.{is_comma}
 use Rattle.jsonc_build.specs.Shape.{token_then}
 use Rattle.jsonc_laws.specs.Leaving as leaving
@@ -16,7 +16,7 @@ use Rattle.jsonc_laws.specs.Leaving.{AreBeside, element_count}
 use Rattle.jsonc_laws.specs.MarkChanges.{AreBlanks}
 use Rattle.jsonc_laws.specs.TriviaChanges.{leaves_then}
 use Rattle.jsonc_edit.specs.Changes.{row_below}
-use Rattle.jsonc_insert.specs.Planned.{begins_with_comma, comma_comes, elements, is_comma_at, trivia}
+use Rattle.jsonc_insert.specs.Planned.{begins_with_comma, comma_comes, elements, is_comma_at}
 use Rattle.jsonc_insert.specs.Trimmed.{is_blank_at}
 use Rattle.jsonc_multiline.proofs.OnLines.{bare_below, standing}
 use Rattle.jsonc_insertion_laws.proofs.Stretches.{comma_past}

@@ -1,21 +1,18 @@
 -- Stretches of an array's row before and behind a new element.
-use Rattle.std.proofs.Common.{◌≡◌, ◌≢◌, ◌∙◌, ℕ, suc, Bool, true, false, not, ◌&&◌, List, [], ◌∷◌, ◌++◌, Option, Some, None, IsTrue, refl, sym, ap, subst, arith, append_assoc, append-nil, if◌then◌else◌}
-use Rattle.std.proofs.lemmas.Bool.{cases_Bool, false≢true}
+use Rattle.std.proofs.Common.{◌≡◌, ◌≢◌, ◌∙◌, ℕ, suc, Bool, true, false, not, ◌&&◌, List, [], ◌∷◌, ◌++◌, Option, Some, None, IsTrue, refl, sym, ap, subst, arith, append_assoc, if◌then◌else◌}
 use Rattle.jsonc_text.specs.Options.{Options}
 use Rattle.jsonc_text.specs.Text.{starts}
 use Rattle.jsonc_tree.specs.Content.{Content, newline, token, whitespace}
-use Rattle.jsonc_tree.specs.OrderedTree.{OrderedTree, Top, none, more, followed_by, leaves, own_leaf}
-use Rattle.jsonc_nodes.specs.Kinds.{is_element, is_trivia}
-use Rattle.jsonc_lines.specs.Kinds.{is_comma}
-use Rattle.jsonc_build.specs.Shape.{IsTrivia, token_then}
+use Rattle.jsonc_tree.specs.OrderedTree.{OrderedTree, none, more, followed_by, leaves, own_leaf}
+use Rattle.jsonc_nodes.specs.Kinds.{is_trivia}
+use Rattle.jsonc_build.specs.Shape.{IsTrivia}
 use Rattle.jsonc_laws.specs.Adjacent.{first_char, or_else, LeavesEnd, last_printed}
 use Rattle.jsonc_laws.specs.Alone as alone
 use Rattle.jsonc_laws.specs.Alone.{may_stand, PartAlone, StretchAlone}
-use Rattle.jsonc_laws.specs.Leaving.{AreBeside, comma_comes, element_count}
-use Rattle.jsonc_laws.specs.MarkChanges.{AreBlanks}
+use Rattle.jsonc_laws.specs.Leaving.{comma_comes, element_count}
 use Rattle.jsonc_laws.specs.Rows as rows
 use Rattle.jsonc_laws.specs.Rows.{RowKind, Last, last_behind}
-use Rattle.jsonc_laws.specs.Spaces.{is_bare, is_bare_leaf, first_printed, meet}
+use Rattle.jsonc_laws.specs.Spaces.{is_bare, is_bare_leaf, first_printed}
 use Rattle.jsonc_laws.specs.TreeChanges.{IsElement}
 use Rattle.jsonc_laws.specs.TriviaChanges.{AreTrivia, leaves_then}
 use Rattle.jsonc_laws.proofs.Changed.{part_element}

@@ -1,4 +1,4 @@
--- An element comes into the row of an array. A row here is one of trees, between the brackets.
+-- An element comes into the row of an array or object. A row here is one of trees, between the brackets.
 use Rattle.std.specs.Prelude.{◌≡◌, ◌≢◌, ℕ, Bool, true, false, not, List, [], ◌∷◌, IsTrue}
 use Rattle.jsonc_text.specs.Options.{Options}
 use Rattle.jsonc_tree.specs.Content.{Content, newline, whitespace}
@@ -24,7 +24,8 @@ pub data FirstLinesLeave : OrderedTree → OrderedTree → Type 0 where
 pub data LastLinesLeave : OrderedTree → OrderedTree → Type 0 where
   none_last : {row : OrderedTree} → LastLinesLeave row row
   leave_last : (front : OrderedTree) (gone spaces : List Content) (k : CstNewlineKind) → AreBlanks gone → AreBlanks spaces
-      → LastLinesLeave (followed_by front (leaves_then gone (more (newline k) none (leaves_then spaces none)))) (followed_by front (more (newline k) none (leaves_then spaces none)))
+      → LastLinesLeave (followed_by front (leaves_then gone (more (newline k) none (leaves_then spaces none))))
+      (followed_by front (more (newline k) none (leaves_then spaces none)))
 
 -- blank lines directly inside the brackets leave so
 pub record BlankLinesLeave (row kept : OrderedTree) : Type 0 where
@@ -38,7 +39,7 @@ pub data Gap : Bool → List Content → Type 0 where
   a_space : Gap false (whitespace (0x20 ∷ []) ∷ [])
   a_line : {must : Bool} {k : CstNewlineKind} {s : List ℕ} → IsIndent s → Gap must (newline k ∷ whitespace s ∷ [])
 
--- the row that stands before the new element, without a comma more or with one: directly behind its last element, with whitespace and comments alone behind that
+-- the row that stands before the new element, with no comma more, or with one directly behind its last element, which whitespace and comments alone follow
 pub data CommaComes : OrderedTree → OrderedTree → Type 0 where
   none_comes : {row : OrderedTree} → CommaComes row row
   one_comes : (front : OrderedTree) (last : Top) (beside : List Content) → IsElement last.content → AreBeside beside

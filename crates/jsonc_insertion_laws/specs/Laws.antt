@@ -61,7 +61,7 @@ pub record GainsItem (path : List ℕ) (i : ℕ) (v : Plain) (x y : Plain) : Typ
   pub comes : ItemComes v (min i (item_count old)) old new
   pub changed : Changed (array old) (array new) path x y
 
--- These marks have come in, between those of the front of this row and those of its rest, where so many elements stand in its front; and no other mark has changed.
+-- These marks have come in, between those of the front of this row, in which so many elements stand, and those of its rest; and no other mark has changed.
 pub record GainsMarks (ms : List Mark) (i : ℕ) (row t u : OrderedTree) : Type 0 where
   pub front : OrderedTree
   pub back : OrderedTree
@@ -103,7 +103,9 @@ KeepsNodesInside s = HasAll s.kept s.new
 
 -- an array at a path of a sound document has its brackets, so nothing is refused but for want of memory
 abbrev pub HasItsBrackets : Options → List Node → List ℕ → ℕ → Type 0
-HasItsBrackets o ns path c = IsTree ns → SoundTree o (ordered_tree ns 0) → IsAt ns path c → content_at ns c ≡ content.array → has_brackets ns (children_at ns c) ≡ true
+HasItsBrackets o ns path c =
+    IsTree ns → SoundTree o (ordered_tree ns 0) → IsAt ns path c → content_at ns c ≡ content.array → has_brackets ns (children_at ns c) ≡ true
 
 abbrev pub WantsMemoryAlone : Options → List Node → List ℕ → ℕ → Type 0
-WantsMemoryAlone o ns path c = IsTree ns → SoundTree o (ordered_tree ns 0) → IsAt ns path c → content_at ns c ≡ content.array → refusal ns c ≡ OutOfMemory
+WantsMemoryAlone o ns path c =
+    IsTree ns → SoundTree o (ordered_tree ns 0) → IsAt ns path c → content_at ns c ≡ content.array → refusal ns c ≡ OutOfMemory

@@ -6,6 +6,9 @@
 //! (`specs/Coming.antt`). So the text is a document again, its value is the old one but that the array has
 //! one more element, of the literals and comments those of the value have come, and the document is sound
 //! ([`laws`], `specs/Laws.antt`). It is so under all options.
+//!
+//! So it is with a property that comes into an object, which is put on several lines before
+//! (`specs/Members.antt`). That a call makes of the nodes what this says of the trees is still to be proved.
 #![tactic(auto)]
 
 pub mod laws;
