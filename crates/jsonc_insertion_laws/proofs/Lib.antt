@@ -9,6 +9,7 @@ pub mod Arrays
 pub mod Blanks
 pub mod Plans
 pub mod Fits
+pub mod Filling
 pub mod Comes
 pub mod Spread
 pub mod Members

@@ -1,4 +1,4 @@
--- Where a plan puts a new element into the row of a sound array.
+-- Where a plan puts a new element into the row of a sound array or object.
 use Rattle.std.proofs.Common.{◌≡◌, ◌≢◌, ◌∙◌, ◌<◌, ◌≤◌, ◌+◌, ◌-◌, ◌⊎◌, ◌&&◌, ◌||◌, ◌==◌, inl, inr, ℕ, zero, suc, min, Bool, true, false, not, cond, List, [], ◌∷◌, ◌++◌, length, reverse, take, drop, get_or, slice_get, slice_index, slice_range, Option, Some, None, is_some, IsTrue, refl, sym, ap, subst, arith, append_assoc, length-append, length-drop, length-take}
 use Rattle.std.specs.List.{list_all, prefix_len}
 use Rattle.std.specs.Option.{option_or}
@@ -20,7 +20,7 @@ use Rattle.jsonc_lines.specs.Breadth.{last_element}
 use Rattle.jsonc_laws.specs.Alone.{StretchAlone}
 use Rattle.jsonc_laws.specs.Leaving as leaving
 use Rattle.jsonc_laws.specs.Leaving.{element_count}
-use Rattle.jsonc_laws.specs.Rows.{of_values, Last, nothing_yet, a_comma, last_after, last_behind}
+use Rattle.jsonc_laws.specs.Rows.{RowKind, opening, closing, Last, nothing_yet, a_comma, last_after, last_behind}
 use Rattle.jsonc_laws.proofs.SeamStretches.{last_is, parted_stretch}
 use Rattle.jsonc_edit.specs.Changes.{row_below}
 use Rattle.jsonc_insert.specs.Planned.{behind_comma, begins_with_comma, comma_comes, comma_wanted, element_before, elements, has_brackets, has_comma, is_comma_at, is_other, line, line_if, parting, past_comments, place_in, plan_alone, plan_behind, plan_by, plan_first, planned, trivia}
@@ -76,7 +76,7 @@ module _ (ns : List Node) where
       comma_past (content_at ns n) (row_below ns n) (standing ns (xs ++ ys)) (beside_trivia (content_at ns n) (All-head (λ m. is_beside_at ns m ≡ true) n xs all))
       ∙ beside_no_comma xs ys (All-tail (λ m. is_beside_at ns m ≡ true) n xs all)
 
-module _ (o : Options) (ns : List Node) (tree : IsTree ns) (x y : ℕ) (inner : List ℕ) (opens : content_at ns x ≡ token 0x5B) (closes : content_at ns y ≡ token 0x5D) (r : IsRow o of_values (standing ns inner)) where
+module _ (o : Options) (kind : RowKind) (ns : List Node) (tree : IsTree ns) (x y : ℕ) (inner : List ℕ) (opens : content_at ns x ≡ token (opening kind)) (closes : content_at ns y ≡ token (closing kind)) (r : IsRow o kind (standing ns inner)) where
   abbrev row : List ℕ
   row = x ∷ (inner ++ y ∷ [])
 
@@ -118,16 +118,16 @@ module _ (o : Options) (ns : List Node) (tree : IsTree ns) (x y : ℕ) (inner : 
     pub goes : Goes commas p
 
   -- the row taken apart at a place
-  apart : (k : ℕ) → (mid : Last) × StretchAlone o of_values nothing_yet (standing ns (take k inner)) mid × StretchAlone o of_values mid (standing ns (drop k inner)) r.to
+  apart : (k : ℕ) → (mid : Last) × StretchAlone o kind nothing_yet (standing ns (take k inner)) mid × StretchAlone o kind mid (standing ns (drop k inner)) r.to
   apart k =
       let whole : standing ns inner ≡ followed_by (standing ns (take k inner)) (standing ns (drop k inner)) = ap (standing ns) (sym (take-append-drop k inner)) ∙ standing_then ns (take k inner) (drop k inner) in
-      parted_stretch o of_values (standing ns (take k inner)) (standing ns (drop k inner)) (subst (λ s. StretchAlone o of_values nothing_yet s r.to) whole r.stretch)
+      parted_stretch o kind (standing ns (take k inner)) (standing ns (drop k inner)) (subst (λ s. StretchAlone o kind nothing_yet s r.to) whole r.stretch)
 
   -- where no element stood last, no comma comes
   no_comma_behind : (k : ℕ) → IsTrue (takes_element (last_behind nothing_yet (standing ns (take k inner)))) → IsTrue (not (leaving.comma_comes (standing ns (drop k inner))))
   no_comma_behind k h =
       let parts = apart k in
-      none_comes_first o of_values (subst (λ l. IsTrue (takes_element l)) (sym (last_is o of_values parts.1)) h) parts.2
+      none_comes_first o kind (subst (λ l. IsTrue (takes_element l)) (sym (last_is o kind parts.1)) h) parts.2
 
   -- counts of elements
   abbrev count : List ℕ → ℕ
@@ -146,14 +146,14 @@ module _ (o : Options) (ns : List Node) (tree : IsTree ns) (x y : ℕ) (inner : 
   count_row =
       let a = count_then (x ∷ []) (inner ++ y ∷ []) in
       let b = count_then inner (y ∷ []) in
-      omega (arith, a, b, token_out x 0x5B opens, token_out y 0x5D closes)
+      omega (arith, a, b, token_out x (opening kind) opens, token_out y (closing kind) closes)
 
   pub count_front : (k : ℕ) → 1 ≤ k → k ≤ length inner + 1 → count (take k row) ≡ count (take (k - 1) inner)
   count_front k low high =
       let e : k ≡ suc (k - 1) = omega (arith, low) in
       let same : take k row ≡ x ∷ take (k - 1) inner = ap (λ n. take n row) e ∙ ap (λ l. x ∷ l) (take-append-le (k - 1) inner (y ∷ []) (omega (arith, low, high))) in
       let a = count_then (x ∷ []) (take (k - 1) inner) in
-      ap count same ∙ omega (arith, a, token_out x 0x5B opens)
+      ap count same ∙ omega (arith, a, token_out x (opening kind) opens)
 
   -- the first bracket is no blank
   abbrev inside : List ℕ
@@ -186,7 +186,7 @@ module _ (o : Options) (ns : List Node) (tree : IsTree ns) (x y : ℕ) (inner : 
         let sums = count_parts k in
         let first : element_count (standing ns (take k inner)) ≡ 0 = standing_count ns (take k inner) ∙ omega (arith, sums, empty) in
         let same : nothing_yet ≡ last_behind nothing_yet (standing ns (take k inner)) =
-        last_is o of_values (without_elements o of_values parts.1 (none_comes_first o of_values refl parts.1) first nothing_yet) in
+        last_is o kind (without_elements o kind parts.1 (none_comes_first o kind refl parts.1) first nothing_yet) in
         let takes : IsTrue (takes_element (last_behind nothing_yet (standing ns (take k inner)))) = subst (λ l. IsTrue (takes_element l)) same refl in
         record {
           low = omega (arith, few, long);
@@ -203,7 +203,7 @@ module _ (o : Options) (ns : List Node) (tree : IsTree ns) (x y : ℕ) (inner : 
       low = omega arith;
       high = omega arith;
       comma = none_due refl refl;
-      none = none_comes_first o of_values refl r.stretch;
+      none = none_comes_first o kind refl r.stretch;
       before_is = inl refl;
       goes = more_go refl some;
     }
