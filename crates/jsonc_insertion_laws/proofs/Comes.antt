@@ -1,9 +1,8 @@
 -- A value comes into an array at a path of a sound document.
-use Rattle.std.proofs.Common.{◌≡◌, ◌≢◌, ◌∙◌, ◌<◌, ◌≤◌, ◌+◌, ◌-◌, ◌⊎◌, ◌||◌, inl, inr, ℕ, suc, min, Bool, true, false, List, [], ◌∷◌, ◌++◌, All, length, map, take, drop, IsTrue, refl, sym, ap, subst, arith, append_assoc, length-append}
+use Rattle.std.proofs.Common.{◌≡◌, ◌∙◌, ◌<◌, ◌≤◌, ◌-◌, ◌||◌, ℕ, min, Bool, true, false, List, [], ◌∷◌, ◌++◌, All, length, take, drop, refl, sym, ap, subst, arith}
 use Rattle.std.specs.List.{list_any}
-use Rattle.std.proofs.lemmas.Bool.{false≢true}
-use Rattle.std.proofs.lemmas.List.{drop-append-le, drop_all, drop_at, take-append-drop, take-append-le, take_at}
-use Rattle.std.proofs.lemmas.List.Elements.{All-drop, All-from_get_or, All-head, All-tail, All-take}
+use Rattle.std.proofs.lemmas.List.{drop_all}
+use Rattle.std.proofs.lemmas.List.Elements.{All-from_get_or}
 use Rattle.std.proofs.lemmas.List.Folds.{list_any-append}
 use Rattle.jsonc_text.specs.Options.{Options}
 use Rattle.jsonc_text.specs.Plain.{Plain}
@@ -12,37 +11,30 @@ use Rattle.jsonc_tree.specs.Content as content
 use Rattle.jsonc_tree.specs.Content.{Content, is_container, newline, token, whitespace}
 use Rattle.jsonc_tree.specs.OrderedTree.{OrderedTree, Top, none, more, followed_by, ordered_tree, Shows, shows_none}
 use Rattle.jsonc_tree.specs.Tree.{Node, children_at, content_at, IsTree, IsOver}
-use Rattle.jsonc_tree.specs.declared.node.CstNewlineKind.{CstNewlineKind}
-use Rattle.jsonc_nodes.specs.Kinds.{is_beside, is_newline, is_newline_at}
+use Rattle.jsonc_nodes.specs.Kinds.{is_newline, is_newline_at}
 use Rattle.jsonc_build.specs.Shape.{token_then}
 use Rattle.jsonc_from_input.specs.Laid.{laid}
 use Rattle.jsonc_from_input.specs.Layout.{Layout}
-use Rattle.jsonc_laws.specs.InRows.{row_around}
-use Rattle.jsonc_laws.specs.Leaving.{AreBeside, element_count}
-use Rattle.jsonc_laws.specs.Rows.{of_values, nothing_yet, a_comma, last_behind}
+use Rattle.jsonc_laws.specs.Leaving.{element_count}
+use Rattle.jsonc_laws.specs.Rows.{of_values}
 use Rattle.jsonc_laws.specs.SoundTrees.{SoundTree}
 use Rattle.jsonc_laws.specs.TreeChanges.{DocumentChanged}
-use Rattle.jsonc_laws.specs.TriviaChanges.{leaves_then}
 use Rattle.jsonc_edit.specs.Changes.{row_below, top_at, Respliced}
 use Rattle.jsonc_edit.specs.Paths.{IsAt}
-use Rattle.jsonc_edit.specs.Put.{Prepared}
 use Rattle.jsonc_edit.specs.Writing.{FitsLayout, IsIndent}
-use Rattle.jsonc_edit.proofs.Kept.{at_kept, row_kept, top_stays, tree_stays}
+use Rattle.jsonc_edit.proofs.Kept.{at_kept, top_stays, tree_stays}
 use Rattle.jsonc_edit.proofs.Splices.{respliced_over, respliced_row}
 use Rattle.jsonc_multiline.specs.Laws.{bracketed}
 use Rattle.jsonc_multiline.specs.Reflows.{has_newline}
-use Rattle.jsonc_multiline.proofs.OnLines.{bare_below, standing, standing_newline}
-use Rattle.jsonc_insert.specs.Inserted.{leaves_before, leaves_behind, outer_indent, plan_of, put_by, ElementPut}
-use Rattle.jsonc_insert.specs.Made.{comma_at, comma_leaf, gap_leaves}
-use Rattle.jsonc_insert.specs.Planned.{elements, has_brackets, line_if, parting, planned}
+use Rattle.jsonc_multiline.proofs.OnLines.{standing, standing_newline}
+use Rattle.jsonc_insert.specs.Inserted.{outer_indent, plan_of, put_by, ElementPut}
+use Rattle.jsonc_insert.specs.Planned.{elements, has_brackets, planned}
 use Rattle.jsonc_insert.specs.Settings.{is_spread, layout_inside, on_several_lines}
-use Rattle.jsonc_insert.specs.Trimmed.{trimmed, with_at}
-use Rattle.jsonc_insert.specs.declared.plan.Gap as written
-use Rattle.jsonc_insert.specs.declared.plan.Gap.TheVariants.{Nothing, Space, Line}
+use Rattle.jsonc_insert.specs.Trimmed.{trimmed}
 use Rattle.jsonc_insert.specs.declared.plan.Plan.{Plan}
 use Rattle.jsonc_insert.proofs.Joining.{once_kept}
 use Rattle.jsonc_insert.proofs.Trimming.{has_two, trimmed_all, trimmed_brackets, trimmed_elements}
-use Rattle.jsonc_insertion_laws.specs.Coming.{CommaComes, none_comes, one_comes, ElementComes, comes, Gap, nothing, a_space, a_line, GoesOn, elements_follow, none_follow, comma_last, takes_element}
+use Rattle.jsonc_insertion_laws.specs.Coming.{ElementComes}
 use Rattle.jsonc_insertion_laws.specs.Laws.{ElementComesAt, ElementsComeAt}
 use Rattle.jsonc_insertion_laws.proofs.Arrays.{ArrayRow, same_top, shows_standing}
 use Rattle.jsonc_insertion_laws.proofs.Arrays as arrays
@@ -53,7 +45,7 @@ use Rattle.jsonc_insertion_laws.proofs.Filling.{Filled}
 use Rattle.jsonc_insertion_laws.proofs.Plans as plans
 use Rattle.jsonc_insertion_laws.proofs.Plans.{last_then}
 use Rattle.jsonc_insertion_laws.proofs.Rows.{IsRow, kept_row}
-use Rattle.jsonc_insertion_laws.proofs.Standing.{beside_alone, beside_are, standing_count, standing_then, token_first}
+use Rattle.jsonc_insertion_laws.proofs.Standing.{standing_count}
 
 followed_none : (row : OrderedTree) → followed_by row none ≡ row
 followed_none none = refl

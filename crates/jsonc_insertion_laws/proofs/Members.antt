@@ -1,12 +1,11 @@
 -- The properties of an object's row where blank lines leave it, and where a property comes into it.
-use Rattle.std.proofs.Common.{◌≡◌, ◌∙◌, ℕ, suc, Bool, true, false, not, List, [], ◌∷◌, IsTrue, refl, sym, ap, subst, if◌then◌else◌}
+use Rattle.std.proofs.Common.{◌≡◌, ◌∙◌, ℕ, suc, Bool, not, List, [], ◌∷◌, refl, sym, ap, subst, if◌then◌else◌}
 use Rattle.jsonc_text.specs.Options.{Options}
 use Rattle.jsonc_text.specs.Plain.{Plain, Members, no_members, member}
 use Rattle.jsonc_tree.specs.Content.{Content, newline}
-use Rattle.jsonc_tree.specs.OrderedTree.{OrderedTree, Top, none, more, followed_by}
+use Rattle.jsonc_tree.specs.OrderedTree.{OrderedTree, none, more, followed_by}
 use Rattle.jsonc_tree.specs.Values as values
 use Rattle.jsonc_tree.specs.Values.{is_passed_over, MembersOf, PropertyOf}
-use Rattle.jsonc_nodes.specs.Kinds.{is_trivia}
 use Rattle.jsonc_build.specs.Shape.{token_then}
 use Rattle.jsonc_laws.specs.Leaving.{element_count}
 use Rattle.jsonc_laws.specs.RowLaws.{members_then}
@@ -84,7 +83,8 @@ module _ (o : Options) where
   members_come {name = name} {v = v} (comes front back led behind gap c t n w g) h r =
       let d = parted_members o front back r in
       let all : Members = members_then d.0 (member name v d.1) in
-      let number : MemberComes name v (element_count front) (members_then d.0 d.1) all = subst (λ j. MemberComes name v j (members_then d.0 d.1) all) (members_counted d.2) (comes_behind name v d.0 d.1) in
-      (all,
-      subst (λ l. MemberComes name v (element_count front) l all) (sym d.4) number,
-      joined_members o (led_members c d.2) (gap_members w (values.one_member h (behind_members g d.3))))
+      let number : MemberComes name v (element_count front) (members_then d.0 d.1) all = subst (λ j. MemberComes name v j (members_then d.0 d.1) all) (members_counted d.2) (comes_behind name v d.0 d.1) in (
+        all,
+        subst (λ l. MemberComes name v (element_count front) l all) (sym d.4) number,
+        joined_members o (led_members c d.2) (gap_members w (values.one_member h (behind_members g d.3))),
+      )
