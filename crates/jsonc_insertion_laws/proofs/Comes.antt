@@ -1,0 +1,213 @@
+-- A value comes into an array at a path of a sound document.
+use Rattle.std.proofs.Common.{◌≡◌, ◌∙◌, ◌<◌, ◌≤◌, ◌-◌, ◌||◌, ℕ, min, Bool, true, false, List, [], ◌∷◌, ◌++◌, All, length, take, drop, refl, sym, ap, subst, arith}
+use Rattle.std.specs.List.{list_any}
+use Rattle.std.proofs.lemmas.List.{drop_all}
+use Rattle.std.proofs.lemmas.List.Elements.{All-from_get_or}
+use Rattle.std.proofs.lemmas.List.Folds.{list_any-append}
+use Rattle.jsonc_text.specs.Options.{Options}
+use Rattle.jsonc_text.specs.Plain.{Plain}
+use Rattle.jsonc_tree.specs.Changes.{EachOnce}
+use Rattle.jsonc_tree.specs.Content as content
+use Rattle.jsonc_tree.specs.Content.{Content, is_container, newline, token, whitespace}
+use Rattle.jsonc_tree.specs.OrderedTree.{OrderedTree, Top, none, more, followed_by, ordered_tree, Shows, shows_none}
+use Rattle.jsonc_tree.specs.Tree.{Node, children_at, content_at, IsTree, IsOver}
+use Rattle.jsonc_nodes.specs.Kinds.{is_newline, is_newline_at}
+use Rattle.jsonc_build.specs.Shape.{token_then}
+use Rattle.jsonc_from_input.specs.Laid.{laid}
+use Rattle.jsonc_from_input.specs.Layout.{Layout}
+use Rattle.jsonc_laws.specs.Leaving.{element_count}
+use Rattle.jsonc_laws.specs.Rows.{of_values}
+use Rattle.jsonc_laws.specs.SoundTrees.{SoundTree}
+use Rattle.jsonc_laws.specs.TreeChanges.{DocumentChanged}
+use Rattle.jsonc_edit.specs.Changes.{row_below, top_at, Respliced}
+use Rattle.jsonc_edit.specs.Paths.{IsAt}
+use Rattle.jsonc_edit.specs.Writing.{FitsLayout, IsIndent}
+use Rattle.jsonc_edit.proofs.Kept.{at_kept, top_stays, tree_stays}
+use Rattle.jsonc_edit.proofs.Splices.{respliced_over, respliced_row}
+use Rattle.jsonc_multiline.specs.Laws.{bracketed}
+use Rattle.jsonc_multiline.specs.Reflows.{has_newline}
+use Rattle.jsonc_multiline.proofs.OnLines.{standing, standing_newline}
+use Rattle.jsonc_insert.specs.Inserted.{outer_indent, plan_of, put_by, ElementPut}
+use Rattle.jsonc_insert.specs.Planned.{elements, has_brackets, planned}
+use Rattle.jsonc_insert.specs.Settings.{is_spread, layout_inside, on_several_lines}
+use Rattle.jsonc_insert.specs.Trimmed.{trimmed}
+use Rattle.jsonc_insert.specs.declared.plan.Plan.{Plan}
+use Rattle.jsonc_insert.proofs.Joining.{once_kept}
+use Rattle.jsonc_insert.proofs.Trimming.{has_two, trimmed_all, trimmed_brackets, trimmed_elements}
+use Rattle.jsonc_insertion_laws.specs.Coming.{ElementComes}
+use Rattle.jsonc_insertion_laws.specs.Laws.{ElementComesAt, ElementsComeAt}
+use Rattle.jsonc_insertion_laws.proofs.Arrays.{ArrayRow, same_top, shows_standing}
+use Rattle.jsonc_insertion_laws.proofs.Arrays as arrays
+use Rattle.jsonc_insertion_laws.proofs.Blanks as blanks
+use Rattle.jsonc_insertion_laws.proofs.Fits.{layout_fits, outer_fits}
+use Rattle.jsonc_insertion_laws.proofs.Filling as filling
+use Rattle.jsonc_insertion_laws.proofs.Filling.{Filled}
+use Rattle.jsonc_insertion_laws.proofs.Plans as plans
+use Rattle.jsonc_insertion_laws.proofs.Plans.{last_then}
+use Rattle.jsonc_insertion_laws.proofs.Rows.{IsRow, kept_row}
+use Rattle.jsonc_insertion_laws.proofs.Standing.{standing_count}
+
+followed_none : (row : OrderedTree) → followed_by row none ≡ row
+followed_none none = refl
+followed_none (more content below after) = ap (more content below) (followed_none after)
+
+module _ (o : Options) (old new : List Node) (path : List ℕ) (c i : ℕ) (v : Plain) (m : ℕ) (tree : IsTree old) (sound : SoundTree o (ordered_tree old 0)) (at : IsAt old path c) (is : content_at old c ≡ content.array) (put : ElementPut old new c i v m) where
+  abbrev kids : List ℕ
+  kids = children_at old c
+
+  abbrev ready : List Node
+  ready = put.ready
+
+  over : IsOver old 0 c
+  over = arrays.over o old path c tree sound at is
+
+  there : c < length old
+  there = arrays.there o old path c tree sound at is
+
+  whole : has_brackets old kids ≡ true
+  whole = arrays.has o old path c tree sound at is
+
+  two : 2 ≤ length kids
+  two = has_two old kids whole
+
+  a : ArrayRow o old c
+  a = arrays.array_row o old path c tree sound at is
+
+  abbrev x : ℕ
+  x = a.open_with
+
+  abbrev y : ℕ
+  y = a.last
+
+  l : blanks.Left old tree x y a.inner
+  l = blanks.left old tree x y a.inner
+
+  -- what is left between the brackets
+  abbrev left : List ℕ
+  left = l.inner_left
+
+  kept_is : trimmed old kids ≡ x ∷ (left ++ y ∷ [])
+  kept_is = ap (trimmed old) a.children ∙ l.is
+
+  row_now : IsRow o of_values (standing old left)
+  row_now = kept_row o of_values l.leave a.row
+
+  abbrev layout : Layout
+  layout = layout_inside old c
+
+  fits_layout : FitsLayout o layout
+  fits_layout = layout_fits o old tree sound.shaped c over (arrays.holds o old path c tree sound at is) whole
+
+  outer_indents : IsIndent (outer_indent old c)
+  outer_indents = outer_fits o old tree sound.shaped c over (arrays.holds o old path c tree sound at is) whole
+
+  abbrev several : Bool
+  several = on_several_lines old (trimmed old kids) v
+
+  abbrev plan : Plan
+  plan = plan_of old c i v
+
+  plan_is : plan ≡ planned old several layout.trailing_commas (x ∷ (left ++ y ∷ [])) i
+  plan_is = ap (λ r. planned old several layout.trailing_commas r i) kept_is
+
+  kept_once : EachOnce (x ∷ (left ++ y ∷ []))
+  kept_once = subst EachOnce kept_is (once_kept old ready tree put.prepared c there two)
+
+  kept_whole : has_brackets old (x ∷ (left ++ y ∷ [])) ≡ true
+  kept_whole = ap (has_brackets old) (sym kept_is) ∙ trimmed_brackets old kids whole
+
+  abbrev Fits : Plan → Type 0
+  Fits p = plans.PlanFits o of_values old tree x y left a.opens a.closes row_now several layout.trailing_commas p
+
+  fits_planned : Fits (planned old several layout.trailing_commas (x ∷ (left ++ y ∷ [])) i)
+  fits_planned = plans.planned_fits o of_values old tree x y left a.opens a.closes row_now several layout.trailing_commas kept_whole kept_once i
+
+  fits : Fits plan
+  fits = subst Fits (sym plan_is) fits_planned
+
+  front_count : length (elements old (take (plan.place - 1) left)) ≡ min i (length (elements old left))
+  front_count =
+      subst (λ q. length (elements old (take (q.place - 1) left)) ≡ min i (length (elements old left))) (sym plan_is)
+      (plans.planned_front o of_values old tree x y left a.opens a.closes row_now several layout.trailing_commas kept_whole kept_once i fits_planned)
+
+  same_count : length (elements old left) ≡ length (elements old a.inner)
+  same_count =
+      sym (plans.count_row o of_values old tree x y left a.opens a.closes row_now) ∙ ap (λ r. length (elements old r)) (sym kept_is) ∙ ap length (trimmed_elements old kids two)
+      ∙ ap (λ r. length (elements old r)) a.children ∙ plans.count_row o of_values old tree x y a.inner a.opens a.closes a.row
+
+  kept_old : All (λ n. n < length old) (x ∷ (left ++ y ∷ []))
+  kept_old = subst (All (λ n. n < length old)) kept_is (trimmed_all (λ n. n < length old) old kids (All-from_get_or (λ n. n < length old) kids 0 (λ k h. tree.there c k h)))
+
+  -- the row is filled
+  filled : Filled ready layout (outer_indent old c) plan (laid layout v) m (x ∷ (left ++ y ∷ [])) put.row
+  filled = record {
+    comma = put.made.comma;
+    before = put.made.before;
+    behind = put.made.behind;
+    is = put.made.made.is;
+    parts = put.made.made.parts;
+    leads = put.made.made.leads;
+    ends = put.made.made.ends;
+    row = put.made.is ∙ ap (put_by plan put.made.comma (put.made.before ++ m ∷ put.made.behind)) kept_is;
+  }
+
+  abbrev new_row : OrderedTree
+  new_row = filling.new_row o of_values old ready tree put.prepared x y left a.opens a.closes row_now layout (outer_indent old c) several plan fits (laid layout v) m put.row filled kept_old
+
+  row_stands : standing ready put.row ≡ token_then 0x5B (followed_by new_row (token_then 0x5D none))
+  row_stands = filling.row_stands o of_values old ready tree put.prepared x y left a.opens a.closes row_now layout (outer_indent old c) several plan fits (laid layout v) m put.row filled kept_old
+
+  -- the array's row is the new one
+  abbrev respliced : Respliced ready new c
+  respliced = record { from = 0; to = length kids; put = put.row; tree = put.prepared.tree; there = omega (arith, there, put.prepared.keeps.len); after = put.tree; join = put.join; spliced = put.put }
+
+  row_is : row_below new c ≡ token_then 0x5B (followed_by new_row (token_then 0x5D none))
+  row_is =
+      let all : All (λ n. n < length ready) put.row = All-from_get_or (λ n. n < length ready) put.row 0 (λ k h. put.join.there k h) in
+      let none_behind : drop (length kids) (children_at ready c) ≡ [] = ap (drop (length kids)) (put.prepared.keeps.children c there) ∙ drop_all (length kids) kids (omega arith) in
+      respliced_row ready new c respliced none (standing ready put.row) none shows_none (shows_standing ready put.prepared.tree put.row all) (subst (λ (r : List ℕ). Shows ready r none) (sym none_behind) shows_none)
+      ∙ followed_none (standing ready put.row) ∙ row_stands
+
+  now_top : top_at new c ≡ bracketed of_values new_row
+  now_top =
+      same_top (content_at new c) content.array (row_below new c) (token_then 0x5B (followed_by new_row (token_then 0x5D none))) (put.put.content c ∙ put.prepared.keeps.content c there ∙ is) row_is
+
+  changed : DocumentChanged (bracketed of_values (standing old a.inner)) (bracketed of_values new_row) path (ordered_tree old 0) (ordered_tree new 0)
+  changed =
+      let was : top_at ready c ≡ bracketed of_values (standing old a.inner) = top_stays old ready tree put.prepared.keeps put.prepared.tree c there ∙ a.top in
+      let over_ready : DocumentChanged (top_at ready c) (top_at new c) path (ordered_tree ready 0) (ordered_tree new 0) = respliced_over ready new c respliced c IsOver.itself path (at_kept old ready tree put.prepared.keeps path c at) in
+      subst (λ (t : OrderedTree). DocumentChanged (bracketed of_values (standing old a.inner)) (bracketed of_values new_row) path t (ordered_tree new 0)) (tree_stays old ready tree put.prepared.keeps put.prepared.tree)
+      (subst (λ (w : Top). DocumentChanged w (bracketed of_values new_row) path (ordered_tree ready 0) (ordered_tree new 0)) was
+      (subst (λ (w : Top). DocumentChanged (top_at ready c) w path (ordered_tree ready 0) (ordered_tree new 0)) now_top over_ready))
+
+  -- where a line ends in the row, the element has one of its own
+  either_left : (p q : Bool) → p ≡ true → (p || q) ≡ true
+  either_left true q e = refl
+  either_left false q e = cc
+
+  lines : has_newline (standing old left) ≡ true → several ≡ true
+  lines h =
+      let inside : list_any (is_newline_at old) left ≡ true = sym (standing_newline old left) ∙ h in
+      let right : list_any (is_newline_at old) (left ++ y ∷ []) ≡ true = list_any-append (is_newline_at old) left (y ∷ []) ∙ either_left (list_any (is_newline_at old) left) (list_any (is_newline_at old) (y ∷ [])) inside in
+      let all : list_any (is_newline_at old) (x ∷ (left ++ y ∷ [])) ≡ true = ap (λ w. w || list_any (is_newline_at old) (left ++ y ∷ [])) (ap is_newline a.opens) ∙ right in
+      either_left (list_any (is_newline_at old) (trimmed old kids)) (is_spread v) (ap (list_any (is_newline_at old)) kept_is ∙ all)
+
+  comes_into : ElementComes o (laid layout v) (min i (element_count (standing old a.inner))) (standing old left) new_row
+  comes_into =
+      filling.comes_into o of_values old ready tree put.prepared x y left a.opens a.closes row_now layout (outer_indent old c) several plan fits (laid layout v) m put.row filled kept_old fits_layout outer_indents lines
+      (min i (element_count (standing old a.inner))) (front_count ∙ ap (min i) (same_count ∙ sym (standing_count old a.inner)))
+
+  pub comes_at : ElementComesAt o path i v (ordered_tree old 0) (ordered_tree new 0)
+  comes_at = record {
+    layout = layout;
+    row = standing old a.inner;
+    kept = standing old left;
+    new = new_row;
+    fits = fits_layout;
+    leave = l.leave;
+    comes = comes_into;
+    changed = changed;
+  }
+
+pub elements_come_at : (o : Options) (old new : List Node) (path : List ℕ) (c i : ℕ) (v : Plain) (m : ℕ) → ElementsComeAt o old new path c i v m
+elements_come_at o old new path c i v m tree sound at is put = comes_at o old new path c i v m tree sound at is put

@@ -1,0 +1,16 @@
+pub mod Stretches
+pub mod Rows
+pub mod Items
+pub mod Marked
+pub mod Documents
+pub mod Written
+pub mod Standing
+pub mod Arrays
+pub mod Blanks
+pub mod Plans
+pub mod Fits
+pub mod Filling
+pub mod Comes
+pub mod Spread
+pub mod Members
+pub mod Named
