@@ -46,6 +46,7 @@ NO_CASES = [
     ('bad-new-name\tedit\t1111111111\t{}\tReplaceProperty /0 a N', EDIT),
     ('bad-truth-value\tedit\t1111111111\t[true]\tSetBoolean /0 N', EDIT),
     ('bad-lines\tedit\t1111111111\t[]\tEnsureMultiline /a', EDIT),
+    ('bad-element\tedit\t1111111111\t[]\tInsertElement / a N', EDIT),
     ('bad-leaf\tedit\t1111111111\t1\tRawRemove x', EDIT),
     ('bad-text\tedit\t1111111111\t1\tRawSet 0 1', EDIT),
     ("bad-call\tjobj\t1111111111\t{}\thas 'a", LOOKUP),

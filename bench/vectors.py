@@ -4,7 +4,7 @@ import os
 import re
 
 EDITS = {'Replace', 'Remove', 'RemoveComment', 'SetRoot', 'ClearRoot', 'ReplaceProperty', 'EnsureRoot',
-         'SetValue', 'EnsureValue', 'SetBoolean', 'EnsureMultiline',
+         'SetValue', 'EnsureValue', 'SetBoolean', 'EnsureMultiline', 'AppendElement', 'InsertElement',
          'RawSet', 'RawRemove', 'RawRemoveName', 'RawReplaceName', 'RawRemoveValue'}
 COMMANDS_TO_COME = {b'set': 3, b'append': 2, b'sort': 1}
 

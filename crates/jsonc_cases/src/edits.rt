@@ -51,7 +51,11 @@ fn read_step(alloc: Global, edit: &str) -> Result<Option<Step>, CaseError> {
     if let Some(raw) = read_raw(alloc, words.as_slice())? {
         return Ok(Some(Step::Raw(raw)));
     }
-    Ok(read_edit(alloc, words.as_slice())?.map(Step::Listed))
+    let listed = match read_edit(alloc, words.as_slice())? {
+        Some(edit) => Some(edit),
+        None => read_insertion(alloc, words.as_slice())?,
+    };
+    Ok(listed.map(Step::Listed))
 }
 
 fn read_raw(alloc: Global, words: &[&str]) -> Result<Option<RawEdit>, CaseError> {
@@ -101,6 +105,22 @@ fn read_edit(alloc: Global, words: &[&str]) -> Result<Option<Edit<Global>>, Case
             read_boolean(value)?,
         ))),
         ["EnsureMultiline", path] => Ok(Some(Edit::EnsureMultiline(read_path(alloc, path)?))),
+        _ => Ok(None),
+    }
+}
+
+/// An edit that puts a value into an array.
+fn read_insertion(alloc: Global, words: &[&str]) -> Result<Option<Edit<Global>>, CaseError> {
+    match words {
+        ["AppendElement", path, value @ ..] => {
+            let path = read_path(alloc, path)?;
+            Ok(Some(Edit::AppendElement(path, read_value(alloc, value)?)))
+        }
+        ["InsertElement", path, index, value @ ..] => {
+            let path = read_path(alloc, path)?;
+            let index = read_number(index)?;
+            Ok(Some(Edit::InsertElement(path, index, read_value(alloc, value)?)))
+        }
         _ => Ok(None),
     }
 }

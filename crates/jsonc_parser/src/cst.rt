@@ -21,7 +21,7 @@ pub use jsonc_cst::cst::{
 };
 pub use jsonc_run::{Edit, Over, Shape};
 pub use jsonc_typed::{
-    EnsureMultiline, IsDocument, Remove, RemoveLeaf, ReplaceProperty, ReplaceWith, SetBoolean,
-    SetNewline, SetProperty, SetRawValue, SetRoot, SetToken, SetWhitespace,
+    EnsureMultiline, InsertElement, IsDocument, Remove, RemoveLeaf, ReplaceProperty, ReplaceWith,
+    SetBoolean, SetNewline, SetProperty, SetRawValue, SetRoot, SetToken, SetWhitespace,
 };
 pub use lists::run;

@@ -23,7 +23,9 @@ use Rattle.jsonc_insert.specs.Inserted.{refusal, ElementPut}
 use Rattle.jsonc_insert.specs.Planned.{has_brackets}
 use Rattle.jsonc_insert.proofs.Past.{past_the_end}
 use Rattle.jsonc_insertion_laws.specs.Laws.{item_count, ElementComesAt, GainsItem, GainsMarks, IsInserted}
-use Rattle.jsonc_insertion_laws.proofs.TODO.{elements_come_at, has_its_brackets, inserts_element}
+use Rattle.jsonc_insertion_laws.proofs.Comes.{elements_come_at}
+use Rattle.jsonc_insertion_laws.proofs.Containers.{has_its_brackets}
+use Rattle.jsonc_insertion_laws.proofs.Written.{inserts_element}
 use Rattle.jsonc_run.specs.Edits.{append_element, insert_element, IsMade}
 use Rattle.jsonc_run.specs.Places.{IsArrayAt}
 use Rattle.jsonc_run.specs.Refusals.{IsToldBy}

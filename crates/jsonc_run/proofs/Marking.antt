@@ -33,7 +33,7 @@ use Rattle.jsonc_run.specs.Shapes.{empty_of}
 use Rattle.jsonc_run.specs.Edits.{Operation, replace, remove, remove_comment, set_root, clear_root, replace_property, ensure_root, set_value, ensure_value, set_boolean, ensure_multiline, insert_element, append_element, AreMade, none_made, first_made}
 use Rattle.jsonc_run.specs.Written.{MayBeMade, EntryLeft, entry_left, value_left, ValueGivesWay, RootValueSet, given_way, has_come, RootValueEnsured, all_kept, empty_set, PropertyGivenWay, property_given, ValueEnsured, all_stays, empty_given, StayAround}
 use Rattle.jsonc_run.specs.Marked.{IsMarked, AreMarked, none_marked, first_marked, MarkAll}
-use Rattle.jsonc_insertion_laws.proofs.TODO.{inserts_element}
+use Rattle.jsonc_insertion_laws.proofs.Written.{inserts_element}
 use Rattle.jsonc_run.proofs.Inserted.{gained_marks}
 use Rattle.jsonc_run.proofs.Ensured.{empty_writable}
 use Rattle.jsonc_run.proofs.Written.{is_written, stays_around, write_all}

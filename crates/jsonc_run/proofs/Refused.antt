@@ -19,7 +19,7 @@ use Rattle.jsonc_multiline.specs.Multiline.{IsUnspread}
 use Rattle.jsonc_multiline.proofs.LineEnds.{has_its_brackets}
 use Rattle.jsonc_run.specs.Edits.{Operation, remove, ensure_value, ensure_multiline, insert_element, append_element, AreMade, none_made, first_made}
 use Rattle.jsonc_insert.specs.Inserted.{refusal}
-use Rattle.jsonc_insertion_laws.proofs.TODO.{wants_memory_alone}
+use Rattle.jsonc_insertion_laws.proofs.Containers.{wants_memory_alone}
 use Rattle.jsonc_run.specs.Places.{IsArrayAt, IsContainerAt, IsEntryAt, IsPropertyAt, an_entry, a_property, in_array, in_object, the_value}
 use Rattle.jsonc_run.specs.Refusals.{IsToldBy, LacksBrackets, LacksName, StopsAt, WantsMemoryOrPlace}
 use Rattle.jsonc_run.specs.Written.{IsRefusedAfter}

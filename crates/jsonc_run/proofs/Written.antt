@@ -45,7 +45,8 @@ use Rattle.jsonc_run.specs.Written.{comes_first, has_it, may_stay, must_give_way
 use Rattle.jsonc_run.specs.Written.{EntryLeft, entry_left, value_left, StayAround, AllStayAround, all_stay, first_stay, AreWritten, WriteAll}
 use Rattle.jsonc_run.proofs.Ensured.{empty_writable, same_shape, held, Ensured, created, stayed, other_stayed, replaced, ensured, value_ensured}
 use Rattle.jsonc_insert.proofs.Past.{past_the_end}
-use Rattle.jsonc_insertion_laws.proofs.TODO.{elements_come_at, has_its_brackets}
+use Rattle.jsonc_insertion_laws.proofs.Comes.{elements_come_at}
+use Rattle.jsonc_insertion_laws.proofs.Containers.{has_its_brackets}
 use Rattle.jsonc_nodes.specs.Siblings.{elements_at}
 use Rattle.jsonc_run.proofs.Inserted.{came_in, came_last}
 use Rattle.jsonc_run.proofs.Booleans.{boolean_given, boolean_changed}

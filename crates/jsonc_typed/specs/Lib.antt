@@ -1,5 +1,6 @@
 pub mod Around
 pub mod Edits
+pub mod Inserting
 pub mod Lines
 pub mod Marked
 pub mod Raw

@@ -6,12 +6,14 @@
 //!
 //! [`ReplaceWith`] and [`ReplaceProperty`] let a node give way to another, [`Remove`] and [`RemoveLeaf`]
 //! take one out, and [`SetRoot`], [`SetProperty`] and [`SetBoolean`] have what sets the document's value,
-//! that of a property, and a truth value; [`EnsureMultiline`] puts an array or object on several lines.
+//! that of a property, and a truth value; [`EnsureMultiline`] puts an array or object on several lines,
+//! and [`InsertElement`] a value into an array.
 //! [`SetRawValue`], [`SetToken`], [`SetWhitespace`] and [`SetNewline`] write one leaf anew as it stands,
 //! without memory, whatever the document makes of that (`specs/Raw.antt`). A closure that reads the document is lent one by [`IsDocument`].
 #![tactic(auto)]
 
 mod document;
+mod inserting;
 mod lines;
 mod raw;
 mod removing;
@@ -20,6 +22,7 @@ mod setting;
 mod values;
 
 pub use document::IsDocument;
+pub use inserting::InsertElement;
 pub use lines::EnsureMultiline;
 pub use raw::{SetNewline, SetRawValue, SetToken, SetWhitespace};
 pub use removing::{Remove, RemoveLeaf};

@@ -1,0 +1,67 @@
+-- Elements that have come into arrays: what the new node is, and which nodes stay.
+use Rattle.std.proofs.Common.{◌≡◌, ℕ, ◌<◌, ◌≤◌, Bool, true, not, List, length, min, Result, Ok, Err, OnOk, IfOk, refl, sym, subst, ◌∙◌, arith}
+use Rattle.std.proofs.Math.Nat.{min-eq_right}
+use Rattle.std.proofs.lemmas.List.Filters.{length-filter_both}
+use Rattle.jsonc_text.specs.Options.{Options}
+use Rattle.jsonc_text.specs.Plain.{Plain}
+use Rattle.jsonc_tree.specs.Content as content
+use Rattle.jsonc_tree.specs.OrderedTree.{ordered_tree}
+use Rattle.jsonc_tree.specs.Tree.{Node, children_at, content_at, IsTree}
+use Rattle.jsonc_tree.proofs.Order.{parent_there}
+use Rattle.jsonc_nodes.specs.Kinds.{is_element_at}
+use Rattle.jsonc_nodes.specs.Siblings.{elements_at}
+use Rattle.jsonc_edit.specs.Paths.{IsElementOf}
+use Rattle.jsonc_edit.proofs.Uniqueness.{element_parent}
+use Rattle.jsonc_edit.specs.declared.error.EditError.{EditError}
+use Rattle.jsonc_insert.specs.Inserted.{refusal, ElementPut}
+use Rattle.jsonc_insert.specs.Laws.{KeepsNodesBut}
+use Rattle.jsonc_insert.specs.Planned.{has_brackets}
+use Rattle.jsonc_insert.proofs.Numbering.{changes_one_row, takes_number}
+use Rattle.jsonc_insert.proofs.Past.{past_the_end}
+use Rattle.jsonc_cst.specs.declared.cst.node.CstNode.{CstNode}
+use Rattle.jsonc_insertion_laws.proofs.Comes.{elements_come_at}
+use Rattle.jsonc_insertion_laws.proofs.Containers.{wants_memory_alone}
+use Rattle.jsonc_insertion_laws.proofs.Written.{inserts_element}
+use Rattle.jsonc_typed.specs.Inserting.{ComesInAt, PutsAtItsPath, PutsButForMemory, StandsAt}
+use Rattle.jsonc_typed.proofs.Kept.{Stays, stay_both, stay_kept, stay_spliced}
+
+module _ (old new : List Node) (c i : ℕ) (v : Plain) (m : ℕ) (tree : IsTree old) (there : c < length old) (brackets : has_brackets old (children_at old c) ≡ true) (e : ElementPut old new c i v m) where
+  pub put_element : IsElementOf new c (min i (length (elements_at old c))) m
+  put_element = takes_number old new c i v m tree there brackets e
+
+  pub put_there : m < length new
+  put_there = (parent_there new e.tree m c (element_parent new e.tree c (min i (length (elements_at old c))) m put_element)).0
+
+  pub put_others : KeepsNodesBut old new c
+  put_others = (changes_one_row old new c i v m tree there brackets e).1
+
+  pub put_stays : Stays old new
+  put_stays = stay_both old e.ready new (stay_kept old e.ready e.prepared.keeps) (stay_spliced e.ready new _ _ _ _ e.put)
+
+module _ (old new : List Node) (c : ℕ) (v : Plain) (tree : IsTree old) (is : content_at old c ≡ content.array) where
+  pub put_written : (o : Options) (i m : ℕ) → ElementPut old new c i v m → PutsAtItsPath o old new c i v
+  put_written o i m e = λ sound may path at.
+      let come = elements_come_at o old new path c i v m tree sound at is e in
+      record { come = come; is = inserts_element o path i v (ordered_tree old 0) (ordered_tree new 0) come sound may }
+
+  pub put_for_memory : (o : Options) (e : EditError) → e ≡ refusal old c → PutsButForMemory o old c e
+  put_for_memory o e told = λ sound path at. told ∙ wants_memory_alone o old path c tree sound at is
+
+-- a container has no more elements than children
+fewer : (ns : List Node) (c : ℕ) → length (elements_at ns c) ≤ length (children_at ns c)
+fewer ns c = omega (arith, length-filter_both (is_element_at ns) (λ n. not (is_element_at ns n)) (λ n. refl) (children_at ns c))
+
+module _ {E : Type 0} (old new : List Node) (c : ℕ) (v : Plain) where
+  pub appended : (r : Result CstNode E) → OnOk r (has_brackets old (children_at old c) ≡ true) → IfOk r (ComesInAt old new c (length (children_at old c)) v) → IfOk r (ComesInAt old new c (length (elements_at old c)) v)
+  appended (Ok x) brackets put = past_the_end old new c (length (children_at old c)) (length (elements_at old c)) v _ brackets (fewer old c) (omega arith) put
+  appended (Err e) brackets put = tt
+
+  pub appended_element : (r : Result CstNode E) → IfOk r (StandsAt old new c (length (children_at old c))) → IfOk r (StandsAt old new c (length (elements_at old c)))
+  appended_element (Ok x) at =
+      let k : ℕ = length (elements_at old c) in
+      subst (λ j. IsElementOf new c j _) (min-eq_right (fewer old c) ∙ sym (min-eq_right {n = k} {m = k} (omega arith))) at
+  appended_element (Err e) at = tt
+
+  pub appended_written : (tree : IsTree old) (is : content_at old c ≡ content.array) (o : Options) (r : Result CstNode E) → OnOk r (has_brackets old (children_at old c) ≡ true) → IfOk r (ComesInAt old new c (length (children_at old c)) v) → OnOk r (PutsAtItsPath o old new c (length (elements_at old c)) v)
+  appended_written tree is o (Ok x) brackets put = put_written old new c v tree is o (length (elements_at old c)) _ (past_the_end old new c (length (children_at old c)) (length (elements_at old c)) v _ brackets (fewer old c) (omega arith) put)
+  appended_written tree is o (Err e) brackets put = tt
