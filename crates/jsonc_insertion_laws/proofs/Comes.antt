@@ -36,8 +36,8 @@ use Rattle.jsonc_insert.proofs.Joining.{once_kept}
 use Rattle.jsonc_insert.proofs.Trimming.{has_two, trimmed_all, trimmed_brackets, trimmed_elements}
 use Rattle.jsonc_insertion_laws.specs.Coming.{ElementComes}
 use Rattle.jsonc_insertion_laws.specs.Laws.{ElementComesAt, ElementsComeAt}
-use Rattle.jsonc_insertion_laws.proofs.Arrays.{ArrayRow, same_top, shows_standing}
-use Rattle.jsonc_insertion_laws.proofs.Arrays as arrays
+use Rattle.jsonc_insertion_laws.proofs.Containers.{ContainerRow}
+use Rattle.jsonc_insertion_laws.proofs.Containers as containers
 use Rattle.jsonc_insertion_laws.proofs.Blanks as blanks
 use Rattle.jsonc_insertion_laws.proofs.Fits.{layout_fits, outer_fits}
 use Rattle.jsonc_insertion_laws.proofs.Filling as filling
@@ -47,10 +47,6 @@ use Rattle.jsonc_insertion_laws.proofs.Plans.{last_then}
 use Rattle.jsonc_insertion_laws.proofs.Rows.{IsRow, kept_row}
 use Rattle.jsonc_insertion_laws.proofs.Standing.{standing_count}
 
-followed_none : (row : OrderedTree) → followed_by row none ≡ row
-followed_none none = refl
-followed_none (more content below after) = ap (more content below) (followed_none after)
-
 module _ (o : Options) (old new : List Node) (path : List ℕ) (c i : ℕ) (v : Plain) (m : ℕ) (tree : IsTree old) (sound : SoundTree o (ordered_tree old 0)) (at : IsAt old path c) (is : content_at old c ≡ content.array) (put : ElementPut old new c i v m) where
   abbrev kids : List ℕ
   kids = children_at old c
@@ -59,19 +55,19 @@ module _ (o : Options) (old new : List Node) (path : List ℕ) (c i : ℕ) (v : 
   ready = put.ready
 
   over : IsOver old 0 c
-  over = arrays.over o old path c tree sound at is
+  over = containers.over o of_values old path c tree sound at is
 
   there : c < length old
-  there = arrays.there o old path c tree sound at is
+  there = containers.there o of_values old path c tree sound at is
 
   whole : has_brackets old kids ≡ true
-  whole = arrays.has o old path c tree sound at is
+  whole = containers.has o of_values old path c tree sound at is
 
   two : 2 ≤ length kids
   two = has_two old kids whole
 
-  a : ArrayRow o old c
-  a = arrays.array_row o old path c tree sound at is
+  a : ContainerRow o of_values old c
+  a = containers.container_row o of_values old path c tree sound at is
 
   abbrev x : ℕ
   x = a.open_with
@@ -96,10 +92,10 @@ module _ (o : Options) (old new : List Node) (path : List ℕ) (c i : ℕ) (v : 
   layout = layout_inside old c
 
   fits_layout : FitsLayout o layout
-  fits_layout = layout_fits o old tree sound.shaped c over (arrays.holds o old path c tree sound at is) whole
+  fits_layout = layout_fits o old tree sound.shaped c over (containers.holds o of_values old path c tree sound at is) whole
 
   outer_indents : IsIndent (outer_indent old c)
-  outer_indents = outer_fits o old tree sound.shaped c over (arrays.holds o old path c tree sound at is) whole
+  outer_indents = outer_fits o old tree sound.shaped c over (containers.holds o of_values old path c tree sound at is) whole
 
   abbrev several : Bool
   several = on_several_lines old (trimmed old kids) v
@@ -157,28 +153,8 @@ module _ (o : Options) (old new : List Node) (path : List ℕ) (c i : ℕ) (v : 
   row_stands : standing ready put.row ≡ token_then 0x5B (followed_by new_row (token_then 0x5D none))
   row_stands = filling.row_stands o of_values old ready tree put.prepared x y left a.opens a.closes row_now layout (outer_indent old c) several plan fits (laid layout v) m put.row filled kept_old
 
-  -- the array's row is the new one
-  abbrev respliced : Respliced ready new c
-  respliced = record { from = 0; to = length kids; put = put.row; tree = put.prepared.tree; there = omega (arith, there, put.prepared.keeps.len); after = put.tree; join = put.join; spliced = put.put }
-
-  row_is : row_below new c ≡ token_then 0x5B (followed_by new_row (token_then 0x5D none))
-  row_is =
-      let all : All (λ n. n < length ready) put.row = All-from_get_or (λ n. n < length ready) put.row 0 (λ k h. put.join.there k h) in
-      let none_behind : drop (length kids) (children_at ready c) ≡ [] = ap (drop (length kids)) (put.prepared.keeps.children c there) ∙ drop_all (length kids) kids (omega arith) in
-      respliced_row ready new c respliced none (standing ready put.row) none shows_none (shows_standing ready put.prepared.tree put.row all) (subst (λ (r : List ℕ). Shows ready r none) (sym none_behind) shows_none)
-      ∙ followed_none (standing ready put.row) ∙ row_stands
-
-  now_top : top_at new c ≡ bracketed of_values new_row
-  now_top =
-      same_top (content_at new c) content.array (row_below new c) (token_then 0x5B (followed_by new_row (token_then 0x5D none))) (put.put.content c ∙ put.prepared.keeps.content c there ∙ is) row_is
-
   changed : DocumentChanged (bracketed of_values (standing old a.inner)) (bracketed of_values new_row) path (ordered_tree old 0) (ordered_tree new 0)
-  changed =
-      let was : top_at ready c ≡ bracketed of_values (standing old a.inner) = top_stays old ready tree put.prepared.keeps put.prepared.tree c there ∙ a.top in
-      let over_ready : DocumentChanged (top_at ready c) (top_at new c) path (ordered_tree ready 0) (ordered_tree new 0) = respliced_over ready new c respliced c IsOver.itself path (at_kept old ready tree put.prepared.keeps path c at) in
-      subst (λ (t : OrderedTree). DocumentChanged (bracketed of_values (standing old a.inner)) (bracketed of_values new_row) path t (ordered_tree new 0)) (tree_stays old ready tree put.prepared.keeps put.prepared.tree)
-      (subst (λ (w : Top). DocumentChanged w (bracketed of_values new_row) path (ordered_tree ready 0) (ordered_tree new 0)) was
-      (subst (λ (w : Top). DocumentChanged (top_at ready c) w path (ordered_tree ready 0) (ordered_tree new 0)) now_top over_ready))
+  changed = containers.row_given of_values old ready new path c put.row (standing old a.inner) new_row tree put.prepared there is a.top at put.tree put.join put.put row_stands
 
   -- where a line ends in the row, the element has one of its own
   either_left : (p q : Bool) → p ≡ true → (p || q) ≡ true

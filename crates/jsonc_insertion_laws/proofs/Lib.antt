@@ -5,7 +5,7 @@ pub mod Marked
 pub mod Documents
 pub mod Written
 pub mod Standing
-pub mod Arrays
+pub mod Containers
 pub mod Blanks
 pub mod Plans
 pub mod Fits

@@ -1,4 +1,4 @@
-use Rattle.jsonc_insertion_laws.proofs.Arrays.{has_its_brackets, wants_memory_alone}
+use Rattle.jsonc_insertion_laws.proofs.Containers.{has_its_brackets, wants_memory_alone}
 use Rattle.jsonc_insertion_laws.proofs.laws.arrays_have_their_brackets.Goals as goal
 
 pub returns-clause-brackets : goal.returns-clause-brackets
