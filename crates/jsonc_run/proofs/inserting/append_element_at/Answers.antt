@@ -1,3 +1,5 @@
+use Rattle.std.proofs.Common.{ℕ, subst}
+use Rattle.jsonc_insert.specs.Inserted.{ElementPut}
 use Rattle.jsonc_input.specs.Views.{plain}
 use Rattle.jsonc_run.specs.Places.{IsArrayAt}
 use Rattle.jsonc_run.proofs.Inserted.{comes_last, told_behind}
@@ -12,8 +14,13 @@ pub insert_element-requires-clause-array : goal.insert_element-requires-clause-a
 insert_element-requires-clause-array g c = ((c.find_array.ensures.found c.in-Some.array).0 c.in-Some.is).1
 
 pub returns-in-Ok-clause-made : goal.returns-in-Ok-clause-made
-returns-in-Ok-clause-made g c =
-    (c.in-Some.array, c.in-Ok.field-0, (c.find_array.ensures.found c.in-Some.array).0 c.in-Some.is, comes_last c.args.tree.now.nodes c.insert_element.new.tree.nodes c.in-Some.array (plain c.args.value.now) c.in-Ok.field-0 c.in-Ok.ensures.brackets c.in-Ok.ensures.put)
+returns-in-Ok-clause-made g c = (
+  c.in-Some.array,
+  c.in-Ok.field-0,
+  (c.find_array.ensures.found c.in-Some.array).0 c.in-Some.is,
+  comes_last c.args.tree.now.nodes c.insert_element.new.tree.nodes c.in-Some.array (plain c.args.value.now) c.in-Ok.field-0 c.in-Ok.ensures.brackets
+      (subst (λ (k : ℕ). ElementPut c.args.tree.now.nodes c.insert_element.new.tree.nodes c.in-Some.array k (plain c.args.value.now) c.in-Ok.field-0) c.child_count-count.ensures c.in-Ok.ensures.put),
+)
 
 pub returns-in-Err-clause-told : goal.returns-in-Err-clause-told
 returns-in-Err-clause-told g c =
