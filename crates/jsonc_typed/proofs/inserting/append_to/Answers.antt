@@ -1,7 +1,7 @@
 use Rattle.std.proofs.Common.{ℕ, IfOk, subst}
 use Rattle.jsonc_input.specs.Views.{plain}
 use Rattle.jsonc_typed.specs.Inserting.{ComesInAt, StandsAt}
-use Rattle.jsonc_typed.proofs.Inserting.{appended, appended_element, appended_written}
+use Rattle.jsonc_typed.proofs.ComingIn.{appended, appended_element, appended_written}
 use Rattle.jsonc_typed.proofs.inserting.append_to.Goals as goal
 
 pub returns-clause-put : goal.returns-clause-put

@@ -19,6 +19,7 @@ use Rattle.jsonc_insert.specs.Planned.{has_brackets}
 use Rattle.jsonc_insert.proofs.Numbering.{changes_one_row, takes_number}
 use Rattle.jsonc_insert.proofs.Past.{past_the_end}
 use Rattle.jsonc_cst.specs.declared.cst.node.CstNode.{CstNode}
+use Rattle.jsonc_cst.specs.Nodes.{number_of}
 use Rattle.jsonc_insertion_laws.proofs.Comes.{elements_come_at}
 use Rattle.jsonc_insertion_laws.proofs.Containers.{wants_memory_alone}
 use Rattle.jsonc_insertion_laws.proofs.Written.{inserts_element}
@@ -59,7 +60,7 @@ module _ {E : Type 0} (old new : List Node) (c : ℕ) (v : Plain) where
   pub appended_element : (r : Result CstNode E) → IfOk r (StandsAt old new c (length (children_at old c))) → IfOk r (StandsAt old new c (length (elements_at old c)))
   appended_element (Ok x) at =
       let k : ℕ = length (elements_at old c) in
-      subst (λ j. IsElementOf new c j _) (min-eq_right (fewer old c) ∙ sym (min-eq_right {n = k} {m = k} (omega arith))) at
+      subst (λ j. IsElementOf new c j (number_of x)) (min-eq_right (fewer old c) ∙ sym (min-eq_right {n = k} {m = k} (omega arith))) at
   appended_element (Err e) at = tt
 
   pub appended_written : (tree : IsTree old) (is : content_at old c ≡ content.array) (o : Options) (r : Result CstNode E) → OnOk r (has_brackets old (children_at old c) ≡ true) → IfOk r (ComesInAt old new c (length (children_at old c)) v) → OnOk r (PutsAtItsPath o old new c (length (elements_at old c)) v)
