@@ -1,0 +1,17 @@
+pub mod Anyway
+pub mod Apart
+pub mod Children
+pub mod CommaRows
+pub mod Documents
+pub mod Given
+pub mod Holders
+pub mod InOrder
+pub mod InTurn
+pub mod Kept
+pub mod OwnRow
+pub mod Splits
+pub mod Steps
+pub mod Taken
+pub mod Unmoved
+pub mod WithoutCommas
+pub mod WiderShapes
