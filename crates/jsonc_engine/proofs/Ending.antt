@@ -6,12 +6,13 @@ use Rattle.std.specs.List.{slice_get}
 use Rattle.std.specs.Prelude.{IsErrOf}
 use Rattle.std.specs.Io.KnownBytes.{Appends}
 use Rattle.jsonc_text.specs.Options.{Options, all_on}
+use Rattle.jsonc_edit.specs.declared.error.EditError.TheVariants.{OutOfMemory}
 use Rattle.jsonc_engine.specs.declared.command.Command.{Command}
 use Rattle.jsonc_engine.specs.declared.command.Command.TheVariants.{Check, Print, Remove}
 use Rattle.jsonc_engine.specs.declared.fault.Fault.{Fault}
-use Rattle.jsonc_engine.specs.declared.fault.Fault.TheVariants.{Write}
+use Rattle.jsonc_engine.specs.declared.fault.Fault.TheVariants.{Edit, Write}
 use Rattle.jsonc_engine.specs.Command.{words_of}
-use Rattle.jsonc_engine.specs.Fault.{EndsRun}
+use Rattle.jsonc_engine.specs.Fault.{EndsRun, IsFaultOn}
 use Rattle.jsonc_engine.specs.Input.{IsInput, IsInputOf}
 use Rattle.jsonc_engine.specs.Output.{IsLeft, PutsWithout}
 use Rattle.jsonc_engine.specs.Removal.{IsNoObject, IsWithoutFirst}
@@ -78,9 +79,14 @@ module _ {P : Type 0} where
   ok_so (Ok x) f h = f h
   ok_so (Err e) f h = tt
 
-  pub ok_always : (r : Result (Unit {0}) Fault) → P → OnOk r P
+  pub ok_always : {T : Type 0} (r : Result T Fault) → P → OnOk r P
   ok_always (Ok x) h = h
   ok_always (Err e) h = tt
+
+-- what a refusal of memory is told of
+pub memory_told : {T : Type 0} (o : Options) (input : List ℕ) (r : Result T Fault) → IfErr r (λ f. f ≡ Edit OutOfMemory) → IfErr r (IsFaultOn o input)
+memory_told o input (Ok x) is = tt
+memory_told o input (Err e) is = subst (λ (f : Fault). IsFaultOn o input f) (sym is) tt
 
 pub ends_written : (r : Result (Unit {0}) Fault) → OnErr r (IsErrOf r Write) → IfErr r EndsRun
 ends_written (Ok x) cause = tt
