@@ -1,12 +1,11 @@
 -- The nodes of an object on several lines, before they take their places, stand for its row on several lines.
-use Rattle.std.proofs.Common.{◌≡◌, ◌∙◌, ◌<◌, ◌≤◌, ◌+◌, ◌-◌, ◌||◌, inl, inr, ℕ, suc, Bool, true, false, cond, List, [], ◌∷◌, ◌++◌, All, length, map, slice_index, IsTrue, refl, sym, ap, subst, arith, append-nil, length-append}
+use Rattle.std.proofs.Common.{◌≡◌, ◌∙◌, ◌<◌, ◌+◌, ◌-◌, ◌||◌, ℕ, suc, Bool, true, false, cond, List, [], ◌∷◌, ◌++◌, All, length, map, slice_index, refl, sym, ap, subst, arith, length-append}
 use Rattle.std.specs.List.{flat_map, list_any}
-use Rattle.std.proofs.lemmas.Bool.{cases_Bool}
 use Rattle.std.proofs.lemmas.List.{get_or-append-add, map-append, take_at}
 use Rattle.std.proofs.lemmas.List.Elements.{All-cons, All-from_get_or, All-head, All-nil, All-tail}
 use Rattle.std.proofs.lemmas.List.Folds.{list_any-append}
 use Rattle.jsonc_text.specs.Options.{Options}
-use Rattle.jsonc_tree.specs.Content.{Content, is_container, token}
+use Rattle.jsonc_tree.specs.Content.{is_container, token}
 use Rattle.jsonc_tree.specs.OrderedTree.{OrderedTree, none, more, ordered_tree}
 use Rattle.jsonc_tree.specs.Tree.{Node, children_at, content_at, IsTree, IsOver}
 use Rattle.jsonc_nodes.specs.Kinds.{is_element, is_newline, is_newline_at}
@@ -18,14 +17,13 @@ use Rattle.jsonc_edit.specs.Changes.{row_below}
 use Rattle.jsonc_edit.specs.Put.{Prepared}
 use Rattle.jsonc_edit.proofs.FittingIndents.{indents_fit}
 use Rattle.jsonc_edit.proofs.Kept.{row_kept}
-use Rattle.jsonc_multiline.specs.Lines.{Lines, between, indent_if_any, lines_for, on_line, on_lines, parts, spread_row, without_back, without_front}
+use Rattle.jsonc_multiline.specs.Lines.{Lines, between, indent_if_any, lines_for, on_line, parts, spread_row, without_back, without_front}
 use Rattle.jsonc_multiline.specs.Multiline.{has_line_end}
 use Rattle.jsonc_multiline.specs.Reflows.{has_newline, Reflows, ended, kept, gone, line, line_end, SpreadsOut, reflows}
 use Rattle.jsonc_multiline.specs.Slots.{Slot, stays, comes, AreFilled, no_more, stayed, came, row_in}
 use Rattle.jsonc_multiline.proofs.OnLines.{AllFit, bare_below, on_lines_fit, row_newline, row_reflows, standing, standing_newline}
 use Rattle.jsonc_insertion_laws.proofs.Containers.{ContainerRow}
 use Rattle.jsonc_insertion_laws.proofs.Fits.{indent_joined}
-use Rattle.jsonc_insertion_laws.proofs.Standing.{standing_then}
 
 -- the places of a container's row on several lines: as they are, where a line ends among them already
 abbrev pub enclosed : List ℕ → List Slot → List Slot

@@ -1,5 +1,5 @@
 -- Laws of values that come into arrays: what becomes of the document.
-use Rattle.std.specs.Prelude.{◌≡◌, ℕ, suc, min, true, List, ◌++◌, Some}
+use Rattle.std.specs.Prelude.{◌≡◌, ℕ, suc, min, true, List, [], ◌++◌, Some}
 use Rattle.jsonc_text.specs.Options.{Options}
 use Rattle.jsonc_text.specs.Plain.{Plain, array, Items, no_items, item}
 use Rattle.jsonc_text.specs.Grammar.{IsDocument}
@@ -14,6 +14,7 @@ use Rattle.jsonc_laws.specs.Changes.{Changed}
 use Rattle.jsonc_laws.specs.ChangeLaws.{DiffersIn}
 use Rattle.jsonc_laws.specs.Leaving.{element_count}
 use Rattle.jsonc_laws.specs.Marks.{Mark, marks}
+use Rattle.jsonc_laws.specs.MarkChanges.{MarksDifferIn}
 use Rattle.jsonc_laws.specs.Rows.{of_values}
 use Rattle.jsonc_laws.specs.SoundTrees.{SoundTree}
 use Rattle.jsonc_laws.specs.TreeChanges.{leaves_of, DocumentChanged}
@@ -71,6 +72,10 @@ pub record GainsMarks (ms : List Mark) (i : ℕ) (row t u : OrderedTree) : Type 
   pub behind : List Mark
   pub was : marks t ≡ before ++ (marks front ++ (marks back ++ behind))
   pub is : marks u ≡ before ++ (marks front ++ (ms ++ (marks back ++ behind)))
+
+-- so in the document one stretch of marks has come in, and all others stay
+abbrev pub MarksComeIn : List Mark → ℕ → OrderedTree → OrderedTree → OrderedTree → Type 0
+MarksComeIn ms i row t u = GainsMarks ms i row t u → MarksDifferIn [] ms (marks t) (marks u)
 
 -- The text was a document, and is one again, in which the array at the path has this value more; of its literals and comments the literals of the value have
 -- come; and the document is sound.

@@ -4,8 +4,9 @@ ghost use Rattle.jsonc_text.specs.Options.{Options};
 ghost use Rattle.jsonc_text.specs.Plain.{Plain};
 ghost use Rattle.jsonc_tree.specs.OrderedTree.{OrderedTree};
 ghost use Rattle.jsonc_tree.specs.Tree.{Node};
+ghost use Rattle.jsonc_laws.specs.Marks.{Mark};
 ghost use Rattle.jsonc_insertion_laws.specs.Laws.{ElementComesAt, ElementsComeAt, HasItsBrackets, InsertsElement};
-ghost use Rattle.jsonc_insertion_laws.specs.Laws.{KeepsLeavesOutside, KeepsNodesInside, WantsMemoryAlone};
+ghost use Rattle.jsonc_insertion_laws.specs.Laws.{KeepsLeavesOutside, KeepsNodesInside, MarksComeIn, WantsMemoryAlone};
 ghost use Rattle.jsonc_insertion_laws.specs.Members.{InsertsMember, KeepsLeavesAround, KeepsNodesWithin};
 ghost use Rattle.jsonc_insertion_laws.specs.Members.{PropertyComesAt};
 
@@ -29,6 +30,11 @@ pub fn inserted_elements_are_written()
         (s : ElementComesAt o path i v t u) → KeepsLeavesOutside s }
     ensures inside { (o : Options) (path : List ℕ) (i : ℕ) (v : Plain) (t u : OrderedTree)
         (s : ElementComesAt o path i v t u) → KeepsNodesInside s }
+{}
+
+/// Where marks have come into a row, one stretch of the document's marks has come in, and all others stay.
+pub fn marks_come_in()
+    ensures { (ms : List Mark) (i : ℕ) (row t u : OrderedTree) → MarksComeIn ms i row t u }
 {}
 
 /// An array at a path of a sound document has its brackets, so nothing but want of memory keeps a value
