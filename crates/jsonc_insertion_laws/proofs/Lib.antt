@@ -16,3 +16,4 @@ pub mod Members
 pub mod Named
 pub mod Opened
 pub mod Objects
+pub mod Places

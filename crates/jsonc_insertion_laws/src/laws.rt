@@ -6,7 +6,8 @@ ghost use Rattle.jsonc_tree.specs.OrderedTree.{OrderedTree};
 ghost use Rattle.jsonc_tree.specs.Tree.{Node};
 ghost use Rattle.jsonc_laws.specs.Marks.{Mark};
 ghost use Rattle.jsonc_insertion_laws.specs.Laws.{ElementComesAt, ElementsComeAt, HasItsBrackets, InsertsElement};
-ghost use Rattle.jsonc_insertion_laws.specs.Laws.{KeepsLeavesOutside, KeepsNodesInside, MarksComeIn, WantsMemoryAlone};
+ghost use Rattle.jsonc_insertion_laws.specs.Laws.{KeepsLeavesOutside, KeepsNodesInside, MarksComeIn, StandsInPlace};
+ghost use Rattle.jsonc_insertion_laws.specs.Laws.{WantsMemoryAlone};
 ghost use Rattle.jsonc_insertion_laws.specs.Members.{InsertsMember, KeepsLeavesAround, KeepsNodesWithin};
 ghost use Rattle.jsonc_insertion_laws.specs.Members.{PropertyComesAt};
 
@@ -30,6 +31,12 @@ pub fn inserted_elements_are_written()
         (s : ElementComesAt o path i v t u) → KeepsLeavesOutside s }
     ensures inside { (o : Options) (path : List ℕ) (i : ℕ) (v : Plain) (t u : OrderedTree)
         (s : ElementComesAt o path i v t u) → KeepsNodesInside s }
+{}
+
+/// The array stands where it stood, and the new element at its place in it.
+pub fn inserted_elements_take_their_place()
+    ensures { (old new : List Node) (path : List ℕ) (c i : ℕ) (v : Plain) (m : ℕ)
+        → StandsInPlace old new path c i v m }
 {}
 
 /// Where marks have come into a row, one stretch of the document's marks has come in, and all others stay.
