@@ -17,3 +17,4 @@ pub mod Named
 pub mod Opened
 pub mod Objects
 pub mod Places
+pub mod Worked

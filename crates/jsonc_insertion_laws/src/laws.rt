@@ -10,6 +10,7 @@ ghost use Rattle.jsonc_insertion_laws.specs.Laws.{KeepsLeavesOutside, KeepsNodes
 ghost use Rattle.jsonc_insertion_laws.specs.Laws.{WantsMemoryAlone};
 ghost use Rattle.jsonc_insertion_laws.specs.Members.{InsertsMember, KeepsLeavesAround, KeepsNodesWithin};
 ghost use Rattle.jsonc_insertion_laws.specs.Members.{PropertyComesAt};
+ghost use Rattle.jsonc_insertion_laws.specs.Worked.{ComesBehind, ComesFirst, ComesOnALine};
 
 /// Where a value has come into an array at a path of a sound document, as its element of a number or its
 /// last, blank lines have left the array's row, and then the value has come in, laid out as documents of
@@ -64,4 +65,12 @@ pub fn inserted_properties_are_written()
         (s : PropertyComesAt o path i name v t u) → KeepsLeavesAround s }
     ensures inside { (o : Options) (path : List ℕ) (i : ℕ) (name : List ℕ) (v : Plain) (t u : OrderedTree)
         (s : PropertyComesAt o path i name v t u) → KeepsNodesWithin s }
+{}
+
+/// Worked rows: `[1]` with 2 behind its element, and before it; and an array whose element has a trailing
+/// comma and the end of a line behind it, with one more on a line of its own.
+pub fn worked_rows()
+    ensures behind { (o : Options) → ComesBehind o }
+    ensures first { (o : Options) → ComesFirst o }
+    ensures line { ComesOnALine }
 {}
