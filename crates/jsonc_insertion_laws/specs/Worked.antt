@@ -1,5 +1,5 @@
 -- Worked rows: elements that come into `[1]`, and into an array of two lines with a trailing comma.
-use Rattle.std.specs.Prelude.{ℕ, List, [], ◌∷◌, codes}
+use Rattle.std.specs.Prelude.{ℕ, List, codes}
 use Rattle.jsonc_text.specs.Options.{Options, all_on}
 use Rattle.jsonc_tree.specs.Content as content
 use Rattle.jsonc_tree.specs.Content.{Content, newline, whitespace}
