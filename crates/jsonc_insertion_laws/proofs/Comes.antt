@@ -1,7 +1,6 @@
 -- A value comes into an array at a path of a sound document.
-use Rattle.std.proofs.Common.{◌≡◌, ◌∙◌, ◌<◌, ◌≤◌, ◌-◌, ◌||◌, ℕ, min, Bool, true, false, List, [], ◌∷◌, ◌++◌, All, length, take, drop, refl, sym, ap, subst, arith}
+use Rattle.std.proofs.Common.{◌≡◌, ◌∙◌, ◌<◌, ◌≤◌, ◌-◌, ◌||◌, ℕ, min, Bool, true, false, List, [], ◌∷◌, ◌++◌, All, length, take, refl, sym, ap, subst}
 use Rattle.std.specs.List.{list_any}
-use Rattle.std.proofs.lemmas.List.{drop_all}
 use Rattle.std.proofs.lemmas.List.Elements.{All-from_get_or}
 use Rattle.std.proofs.lemmas.List.Folds.{list_any-append}
 use Rattle.jsonc_text.specs.Options.{Options}
@@ -9,7 +8,7 @@ use Rattle.jsonc_text.specs.Plain.{Plain}
 use Rattle.jsonc_tree.specs.Changes.{EachOnce}
 use Rattle.jsonc_tree.specs.Content as content
 use Rattle.jsonc_tree.specs.Content.{Content, is_container, newline, token, whitespace}
-use Rattle.jsonc_tree.specs.OrderedTree.{OrderedTree, Top, none, more, followed_by, ordered_tree, Shows, shows_none}
+use Rattle.jsonc_tree.specs.OrderedTree.{OrderedTree, none, followed_by, ordered_tree}
 use Rattle.jsonc_tree.specs.Tree.{Node, children_at, content_at, IsTree, IsOver}
 use Rattle.jsonc_nodes.specs.Kinds.{is_newline, is_newline_at}
 use Rattle.jsonc_build.specs.Shape.{token_then}
@@ -19,11 +18,8 @@ use Rattle.jsonc_laws.specs.Leaving.{element_count}
 use Rattle.jsonc_laws.specs.Rows.{of_values}
 use Rattle.jsonc_laws.specs.SoundTrees.{SoundTree}
 use Rattle.jsonc_laws.specs.TreeChanges.{DocumentChanged}
-use Rattle.jsonc_edit.specs.Changes.{row_below, top_at, Respliced}
 use Rattle.jsonc_edit.specs.Paths.{IsAt}
 use Rattle.jsonc_edit.specs.Writing.{FitsLayout, IsIndent}
-use Rattle.jsonc_edit.proofs.Kept.{at_kept, top_stays, tree_stays}
-use Rattle.jsonc_edit.proofs.Splices.{respliced_over, respliced_row}
 use Rattle.jsonc_multiline.specs.Laws.{bracketed}
 use Rattle.jsonc_multiline.specs.Reflows.{has_newline}
 use Rattle.jsonc_multiline.proofs.OnLines.{standing, standing_newline}

@@ -63,11 +63,11 @@ any_without p f t xs e = by (cases_Bool (list_any p (take f xs)))
 indent_empty : IsIndent []
 indent_empty = (IsUtf8-nil, subst (λ t. Many is_inner_blank t []) (sym chars-nil) stop)
 
-two_spaces : IsIndent (0x20 ∷ 0x20 ∷ [])
+pub two_spaces : IsIndent (0x20 ∷ 0x20 ∷ [])
 two_spaces =
     (IsUtf8-from_ascii (0x20 ∷ 0x20 ∷ []) (search rules), subst (λ t. Many is_inner_blank t []) (sym (chars-IsAscii (0x20 ∷ 0x20 ∷ []) (search rules))) (step refl (step refl stop)))
 
-indent_joined : (s t : List ℕ) → IsIndent s → IsIndent t → IsIndent (s ++ t)
+pub indent_joined : (s t : List ℕ) → IsIndent s → IsIndent t → IsIndent (s ++ t)
 indent_joined s t a b =
     (IsUtf8-append s t a.0 b.0, subst (λ l. Many is_inner_blank l []) (sym (chars-append s t a.0)) (many_append (many_more a.1 (chars t)) b.1))
 

@@ -14,3 +14,7 @@ pub mod Comes
 pub mod Spread
 pub mod Members
 pub mod Named
+pub mod Opened
+pub mod Objects
+pub mod Places
+pub mod Worked

@@ -6,12 +6,12 @@ use Rattle.jsonc_tree.specs.OrderedTree.{OrderedTree, Top, none, more, followed_
 use Rattle.jsonc_tree.proofs.OrderedTrees.{leaves-followed_by}
 use Rattle.jsonc_nodes.specs.Kinds.{is_newline, is_whitespace}
 use Rattle.jsonc_build.specs.Shape.{token_then}
-use Rattle.jsonc_laws.specs.Marks.{marks, marks_of}
+use Rattle.jsonc_laws.specs.Marks.{Mark, marks, marks_of}
 use Rattle.jsonc_laws.specs.MarkChanges.{AreBlanks, marks_under}
 use Rattle.jsonc_laws.specs.TriviaChanges.{leaves_then}
 use Rattle.jsonc_laws.proofs.GivingWay.{marks_join}
 use Rattle.jsonc_insertion_laws.specs.Coming.{FirstLinesLeave, none_first, leave_first, LastLinesLeave, none_last, leave_last, BlankLinesLeave, Gap, nothing, a_space, a_line, CommaComes, none_comes, one_comes, GoesOn, elements_follow, none_follow, comma_last, ElementComes, comes}
-use Rattle.jsonc_insertion_laws.specs.Laws.{HasAll, no_nodes, stays, comes_in}
+use Rattle.jsonc_insertion_laws.specs.Laws.{HasAll, MarksComeIn, no_nodes, stays, comes_in}
 
 -- of one row after another
 pub marks_then : (x y : OrderedTree) → marks (followed_by x y) ≡ marks x ++ marks y
@@ -68,6 +68,14 @@ new_marks o top front back led behind gap c w g =
     let rest : OrderedTree = more top.content top.below behind in
     marks_then led (leaves_then gap rest) ∙ ap (λ ms. ms ++ marks (leaves_then gap rest)) (led_marks c)
     ∙ ap (λ ms. marks front ++ ms) (gap_marks rest w ∙ marks_first top behind ∙ ap (λ ms. marks_under top ++ ms) (behind_marks g))
+
+pub marks_come_in : (ms : List Mark) (i : ℕ) (row t u : OrderedTree) → MarksComeIn ms i row t u
+marks_come_in ms i row t u g = record {
+  front = g.before ++ marks g.front;
+  back = marks g.back ++ g.behind;
+  before = g.was ∙ sym (append_assoc g.before (marks g.front) (marks g.back ++ g.behind));
+  after = g.is ∙ sym (append_assoc g.before (marks g.front) (ms ++ (marks g.back ++ g.behind)));
+}
 
 -- all nodes stay
 all_same : (row : OrderedTree) → HasAll row row

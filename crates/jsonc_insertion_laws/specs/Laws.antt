@@ -1,5 +1,5 @@
 -- Laws of values that come into arrays: what becomes of the document.
-use Rattle.std.specs.Prelude.{◌≡◌, ℕ, suc, min, true, List, ◌++◌, Some}
+use Rattle.std.specs.Prelude.{◌≡◌, ℕ, suc, min, true, List, [], ◌∷◌, ◌++◌, length, Some}
 use Rattle.jsonc_text.specs.Options.{Options}
 use Rattle.jsonc_text.specs.Plain.{Plain, array, Items, no_items, item}
 use Rattle.jsonc_text.specs.Grammar.{IsDocument}
@@ -7,6 +7,7 @@ use Rattle.jsonc_tree.specs.Content as content
 use Rattle.jsonc_tree.specs.OrderedTree.{OrderedTree, none, more, followed_by, leaves, ordered_tree}
 use Rattle.jsonc_tree.specs.Content.{Content}
 use Rattle.jsonc_tree.specs.Tree.{Node, children_at, content_at, IsTree}
+use Rattle.jsonc_nodes.specs.Siblings.{elements_at}
 use Rattle.jsonc_build.specs.Shape.{printed_text}
 use Rattle.jsonc_from_input.specs.Laid.{laid}
 use Rattle.jsonc_from_input.specs.Layout.{Layout}
@@ -14,6 +15,7 @@ use Rattle.jsonc_laws.specs.Changes.{Changed}
 use Rattle.jsonc_laws.specs.ChangeLaws.{DiffersIn}
 use Rattle.jsonc_laws.specs.Leaving.{element_count}
 use Rattle.jsonc_laws.specs.Marks.{Mark, marks}
+use Rattle.jsonc_laws.specs.MarkChanges.{MarksDifferIn}
 use Rattle.jsonc_laws.specs.Rows.{of_values}
 use Rattle.jsonc_laws.specs.SoundTrees.{SoundTree}
 use Rattle.jsonc_laws.specs.TreeChanges.{leaves_of, DocumentChanged}
@@ -72,6 +74,10 @@ pub record GainsMarks (ms : List Mark) (i : ℕ) (row t u : OrderedTree) : Type 
   pub was : marks t ≡ before ++ (marks front ++ (marks back ++ behind))
   pub is : marks u ≡ before ++ (marks front ++ (ms ++ (marks back ++ behind)))
 
+-- so in the document one stretch of marks has come in, and all others stay
+abbrev pub MarksComeIn : List Mark → ℕ → OrderedTree → OrderedTree → OrderedTree → Type 0
+MarksComeIn ms i row t u = GainsMarks ms i row t u → MarksDifferIn [] ms (marks t) (marks u)
+
 -- The text was a document, and is one again, in which the array at the path has this value more; of its literals and comments the literals of the value have
 -- come; and the document is sound.
 pub record IsInserted (o : Options) (path : List ℕ) (i : ℕ) (v : Plain) (t u : OrderedTree) (s : ElementComesAt o path i v t u) : Type 0 where
@@ -100,6 +106,12 @@ pub data HasAll : OrderedTree → OrderedTree → Type 0 where
 -- and so it is in the array's row, where blank lines have left it
 abbrev pub KeepsNodesInside : {o : Options} {path : List ℕ} {i : ℕ} {v : Plain} {t u : OrderedTree} → ElementComesAt o path i v t u → Type 0
 KeepsNodesInside s = HasAll s.kept s.new
+
+-- the array stands where it stood, and the new element at the place of its number among its elements, or behind them
+abbrev pub StandsInPlace : List Node → List Node → List ℕ → ℕ → ℕ → Plain → ℕ → Type 0
+StandsInPlace old new path c i v m =
+    IsTree old → IsAt old path c → content_at old c ≡ content.array → has_brackets old (children_at old c) ≡ true → ElementPut old new c i v m
+    → IsAt new path c × IsAt new (path ++ min i (length (elements_at old c)) ∷ []) m
 
 -- an array at a path of a sound document has its brackets, so nothing is refused but for want of memory
 abbrev pub HasItsBrackets : Options → List Node → List ℕ → ℕ → Type 0

@@ -21,8 +21,8 @@ use Rattle.jsonc_multiline.specs.Reflows.{SpreadsOut}
 use Rattle.jsonc_insertion_laws.specs.Coming.{BlankLinesLeave, ElementComes}
 use Rattle.jsonc_insertion_laws.specs.Laws.{GainsMarks, HasAll}
 
--- The object at the path has been put on several lines, blank lines have left its row, and then a property of this name and value has come in as its property of
--- this number, or as its last where there were fewer, laid out as documents of these options may be; and nothing outside of the row has changed.
+-- The object at the path has been put on several lines, blank lines have left its row, and then a property of this name and value has come in as its
+-- property of this number, or as its last where there were fewer, laid out as documents of these options may be; and nothing outside of the row has changed.
 pub record PropertyComesAt (o : Options) (path : List ℕ) (i : ℕ) (name : List ℕ) (v : Plain) (t u : OrderedTree) : Type 0 where
   pub layout : Layout
   pub row : OrderedTree
@@ -38,7 +38,8 @@ pub record PropertyComesAt (o : Options) (path : List ℕ) (i : ℕ) (name : Lis
 -- the second list is the first with this property as its property of this number
 pub data MemberComes (name : List ℕ) (v : Plain) : ℕ → Members → Members → Type 0 where
   this_member : {ms : Members} → MemberComes name v 0 ms (member name v ms)
-  later_member : {i : ℕ} {n : List ℕ} {w : Plain} {ms ns : Members} → MemberComes name v i ms ns → MemberComes name v (suc i) (member n w ms) (member n w ns)
+  later_member : {i : ℕ} {n : List ℕ} {w : Plain} {ms ns : Members} → MemberComes name v i ms ns
+      → MemberComes name v (suc i) (member n w ms) (member n w ns)
 
 -- how many properties there are
 abbrev pub member_count : Members → ℕ
@@ -54,7 +55,8 @@ pub record GainsMember (path : List ℕ) (i : ℕ) (name : List ℕ) (v : Plain)
 
 -- The text was a document, and is one again, in which the object at the path has this property more; of its literals and comments those of the property have
 -- come; and the document is sound.
-pub record IsMemberInserted (o : Options) (path : List ℕ) (i : ℕ) (name : List ℕ) (v : Plain) (t u : OrderedTree) (s : PropertyComesAt o path i name v t u) : Type 0 where
+pub record IsMemberInserted (o : Options) (path : List ℕ) (i : ℕ) (name : List ℕ) (v : Plain) (t u : OrderedTree) (s : PropertyComesAt o path i name v t u)
+    : Type 0 where
   pub before : Plain
   pub after : Plain
   pub old_text : IsDocument o (printed_text t) (Some before)
@@ -64,13 +66,16 @@ pub record IsMemberInserted (o : Options) (path : List ℕ) (i : ℕ) (name : Li
   pub sound : SoundTree o u
 
 -- so it is where the document was sound, and may hold the name and the value
-abbrev pub InsertsMember : {o : Options} {path : List ℕ} {i : ℕ} {name : List ℕ} {v : Plain} {t u : OrderedTree} → PropertyComesAt o path i name v t u → Type 0
+abbrev pub InsertsMember : {o : Options} {path : List ℕ} {i : ℕ} {name : List ℕ} {v : Plain} {t u : OrderedTree}
+    → PropertyComesAt o path i name v t u → Type 0
 InsertsMember {o} {path} {i} {name} {v} {t} {u} s = SoundTree o t → IsCharacters name → IsWritable o v → IsMemberInserted o path i name v t u s
 
 -- all leaves outside of the object stay
-abbrev pub KeepsLeavesAround : {o : Options} {path : List ℕ} {i : ℕ} {name : List ℕ} {v : Plain} {t u : OrderedTree} → PropertyComesAt o path i name v t u → Type 0
+abbrev pub KeepsLeavesAround : {o : Options} {path : List ℕ} {i : ℕ} {name : List ℕ} {v : Plain} {t u : OrderedTree}
+    → PropertyComesAt o path i name v t u → Type 0
 KeepsLeavesAround {t = t} {u = u} s = DiffersIn (leaves_of (bracketed of_properties s.row)) (leaves_of (bracketed of_properties s.new)) (leaves t) (leaves u)
 
--- in its row all nodes stay but whitespace and ends of lines, where it is put on several lines, and all but the blanks that leave then, where the property comes
-abbrev pub KeepsNodesWithin : {o : Options} {path : List ℕ} {i : ℕ} {name : List ℕ} {v : Plain} {t u : OrderedTree} → PropertyComesAt o path i name v t u → Type 0
+-- in its row all nodes stay but whitespace and ends of lines, where it is put on several lines; then all but the blanks that leave, where the property comes
+abbrev pub KeepsNodesWithin : {o : Options} {path : List ℕ} {i : ℕ} {name : List ℕ} {v : Plain} {t u : OrderedTree}
+    → PropertyComesAt o path i name v t u → Type 0
 KeepsNodesWithin s = (solid_nodes s.spread ≡ solid_nodes s.row) × HasAll s.kept s.new

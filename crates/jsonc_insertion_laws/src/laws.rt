@@ -4,10 +4,13 @@ ghost use Rattle.jsonc_text.specs.Options.{Options};
 ghost use Rattle.jsonc_text.specs.Plain.{Plain};
 ghost use Rattle.jsonc_tree.specs.OrderedTree.{OrderedTree};
 ghost use Rattle.jsonc_tree.specs.Tree.{Node};
+ghost use Rattle.jsonc_laws.specs.Marks.{Mark};
 ghost use Rattle.jsonc_insertion_laws.specs.Laws.{ElementComesAt, ElementsComeAt, HasItsBrackets, InsertsElement};
-ghost use Rattle.jsonc_insertion_laws.specs.Laws.{KeepsLeavesOutside, KeepsNodesInside, WantsMemoryAlone};
+ghost use Rattle.jsonc_insertion_laws.specs.Laws.{KeepsLeavesOutside, KeepsNodesInside, MarksComeIn, StandsInPlace};
+ghost use Rattle.jsonc_insertion_laws.specs.Laws.{WantsMemoryAlone};
 ghost use Rattle.jsonc_insertion_laws.specs.Members.{InsertsMember, KeepsLeavesAround, KeepsNodesWithin};
 ghost use Rattle.jsonc_insertion_laws.specs.Members.{PropertyComesAt};
+ghost use Rattle.jsonc_insertion_laws.specs.Worked.{ComesBehind, ComesFirst, ComesOnALine};
 
 /// Where a value has come into an array at a path of a sound document, as its element of a number or its
 /// last, blank lines have left the array's row, and then the value has come in, laid out as documents of
@@ -31,6 +34,17 @@ pub fn inserted_elements_are_written()
         (s : ElementComesAt o path i v t u) → KeepsNodesInside s }
 {}
 
+/// The array stands where it stood, and the new element at its place in it.
+pub fn inserted_elements_take_their_place()
+    ensures { (old new : List Node) (path : List ℕ) (c i : ℕ) (v : Plain) (m : ℕ)
+        → StandsInPlace old new path c i v m }
+{}
+
+/// Where marks have come into a row, one stretch of the document's marks has come in, and all others stay.
+pub fn marks_come_in()
+    ensures { (ms : List Mark) (i : ℕ) (row t u : OrderedTree) → MarksComeIn ms i row t u }
+{}
+
 /// An array at a path of a sound document has its brackets, so nothing but want of memory keeps a value
 /// from coming in.
 pub fn arrays_have_their_brackets()
@@ -51,4 +65,12 @@ pub fn inserted_properties_are_written()
         (s : PropertyComesAt o path i name v t u) → KeepsLeavesAround s }
     ensures inside { (o : Options) (path : List ℕ) (i : ℕ) (name : List ℕ) (v : Plain) (t u : OrderedTree)
         (s : PropertyComesAt o path i name v t u) → KeepsNodesWithin s }
+{}
+
+/// Worked rows: `[1]` with 2 behind its element, and before it; and an array whose element has a trailing
+/// comma and the end of a line behind it, with one more on a line of its own.
+pub fn worked_rows()
+    ensures behind { (o : Options) → ComesBehind o }
+    ensures first { (o : Options) → ComesFirst o }
+    ensures line { ComesOnALine }
 {}
