@@ -1,9 +1,11 @@
 //! Tests of reading: what no clause says of texts, values, maps and trees, of memory that is refused, and of
-//! streams that fail; of the pieces of documents, and of arrays and objects on several lines.
+//! streams that fail; of the pieces of documents, of arrays and objects on several lines, and of values that come into arrays.
 //!
 //! `docs/BENCH.md` says what each test is of.
 #![tactic(auto)]
 
+#[cfg(test)]
+mod appends;
 #[cfg(test)]
 mod calls;
 #[cfg(test)]

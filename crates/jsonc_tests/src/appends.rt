@@ -1,0 +1,96 @@
+//! Values that come into arrays, and the memory that this wants.
+
+use crate::reading::read;
+use jsonc_parser::cst::{CstInputValue, CstNode, CstRootNode, Edit, InsertElement, run};
+use refusing::Refusing;
+use refusing::awaited::prints;
+use refusing::in_turn::answers_in_turn;
+use refusing::outcome::Outcome;
+use std::alloc::{AllocError, Allocator, Global};
+use std::cmp::Ordering;
+use std::test::Fail;
+
+/// An array with a comment behind its last element, and the same with one more.
+const SHORT: &str = "[1 //c\n]";
+
+const LONGER: &str = "[1, //c\n  2\n]";
+
+/// An array that grows.
+const GROWING: [&str; 4] = ["[1]", "[1, 2]", "[1, 2, 3]", "[1, 2, 3, 4]"];
+
+fn number<A: Allocator + Copy>(alloc: A, digits: &str) -> Result<CstInputValue<A>, AllocError> {
+    Ok(CstInputValue::Number(String::from_str(alloc, digits)?))
+}
+
+/// Puts a value behind the last of a document's array: it prints more then, or what it did where memory was wanted.
+fn append_to<A: Allocator + Copy>(doc: CstRootNode<A>, value: CstInputValue<A>) -> Outcome {
+    let mut doc = doc;
+    let Some(array) = doc.array_value() else {
+        return Outcome::Other;
+    };
+    match array.append(&mut doc, value) {
+        Ok(_) => Outcome::of(prints(&doc, LONGER)),
+        Err(error) if prints(&doc, SHORT) => Outcome::from(error),
+        Err(_) => Outcome::Other,
+    }
+}
+
+fn appended<A: Allocator + Copy>(alloc: A) -> Outcome {
+    match (read(alloc, SHORT), number(alloc, "2")) {
+        (Ok(doc), Ok(value)) => append_to(doc, value),
+        (Err(outcome), _) => outcome,
+        (_, Err(error)) => Outcome::from(error),
+    }
+}
+
+/// The edits by which the array grows.
+fn edits<A: Allocator + Copy>(alloc: A) -> Result<Vec<Edit<A>, A>, AllocError> {
+    let mut edits = Vec::new(alloc);
+    for digits in ["2", "3", "4"] {
+        edits.push(Edit::AppendElement(Vec::new(alloc), number(alloc, digits)?))?;
+    }
+    Ok(edits)
+}
+
+/// Whether a document is as this many of them left it.
+fn has_grown<A: Allocator>(doc: &CstRootNode<A>, made: usize) -> bool {
+    match GROWING.get(made) {
+        Some(text) => prints(doc, text),
+        None => false,
+    }
+}
+
+fn append_all<A: Allocator + Copy>(doc: CstRootNode<A>, edits: Vec<Edit<A>, A>) -> Outcome {
+    let mut doc = doc;
+    let compare = |_doc: &CstRootNode<_>, _one: CstNode, _other: CstNode| Ordering::Equal;
+    match run(&mut doc, edits, &compare) {
+        Ok(()) => Outcome::of(has_grown(&doc, 3)),
+        Err((made, error)) if has_grown(&doc, made) => Outcome::from(error),
+        Err(_) => Outcome::Other,
+    }
+}
+
+fn listed<A: Allocator + Copy>(alloc: A) -> Outcome {
+    match (read(alloc, "[1]"), edits(alloc)) {
+        (Ok(doc), Ok(edits)) => append_all(doc, edits),
+        (Err(outcome), _) => outcome,
+        (_, Err(error)) => Outcome::from(error),
+    }
+}
+
+/// What comes of it where every request is refused once the text is read and the value made.
+fn refused_at_last(alloc: Global) -> Outcome {
+    let counted = Refusing::at(alloc, u64::MAX);
+    drop(read(&counted, SHORT));
+    drop(number(&counted, "2"));
+    let heap = Refusing::after(alloc, counted.asked());
+    appended(&heap)
+}
+
+#[test]
+fn values_that_come_in_are_refused_in_turn(rt: HostRuntime) -> Result<(), Fail> {
+    assert!(rt; answers_in_turn(rt.alloc(), |heap| appended(heap)));
+    assert!(rt; answers_in_turn(rt.alloc(), |heap| listed(heap)));
+    assert!(rt; refused_at_last(rt.alloc()) == Outcome::Wanted);
+    Ok(())
+}
