@@ -9,3 +9,16 @@ pub mod Values
 pub mod Same
 pub mod Documents
 pub mod KeptMarks
+pub mod Times
+pub mod StayingOnce
+pub mod Planning
+pub mod Placing
+pub mod Stretches
+pub mod Reading
+pub mod Entering
+pub mod Orders
+pub mod Taking
+pub mod AtPaths
+pub mod SortedDocuments
+pub mod LeadPlaces
+pub mod Lasts

@@ -4,13 +4,13 @@ use crate::clones::copies;
 use crate::lines::laid_out;
 use crate::maps::changed_map;
 use crate::nodes::node_names;
-use crate::reading::read;
 use crate::tokens::decode_provided;
 use crate::tree_copies::tree_copies;
 use jsonc_engine::calls::{FromReader, ToWriter};
 use jsonc_engine::command::Command;
 use jsonc_engine::engine::{engine, run_on};
 use jsonc_engine::fault::Fault;
+use jsonc_parser::cst::CstRootNode;
 use jsonc_parser::tokens::Token;
 use jsonc_parser::{
     CollectOptions, CommentCollectionStrategy, CommentMap, JsonObject, JsonValue, ParseOptions,
@@ -209,9 +209,9 @@ fn is_number_read<A: Allocator>(object: &JsonObject<'_, A>) -> bool {
 
 /// The tree is built as the document is read.
 fn document<A: Allocator + Copy>(alloc: A) -> Outcome {
-    match read(alloc, LOOSE) {
+    match CstRootNode::parse(alloc, LOOSE, &ParseOptions::default()) {
         Ok(document) => Outcome::of_text(document.text(), LOOSE),
-        Err(outcome) => outcome,
+        Err(error) => Outcome::from(error),
     }
 }
 

@@ -1,11 +1,9 @@
 //! Tests of reading: what no clause says of texts, values, maps and trees, of memory that is refused, and of
-//! streams that fail; of the pieces of documents, of arrays and objects on several lines, and of values that come into arrays.
+//! streams that fail.
 //!
 //! `docs/BENCH.md` says what each test is of.
 #![tactic(auto)]
 
-#[cfg(test)]
-mod appends;
 #[cfg(test)]
 mod calls;
 #[cfg(test)]
@@ -17,13 +15,7 @@ mod maps;
 #[cfg(test)]
 mod nodes;
 #[cfg(test)]
-mod pieces;
-#[cfg(test)]
-mod reading;
-#[cfg(test)]
 mod refusals;
-#[cfg(test)]
-mod spread;
 #[cfg(test)]
 mod streams;
 #[cfg(test)]

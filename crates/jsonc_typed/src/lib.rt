@@ -7,11 +7,12 @@
 //! [`ReplaceWith`] and [`ReplaceProperty`] let a node give way to another, [`Remove`] and [`RemoveLeaf`]
 //! take one out, and [`SetRoot`], [`SetProperty`] and [`SetBoolean`] have what sets the document's value,
 //! that of a property, and a truth value; [`EnsureMultiline`] puts an array or object on several lines,
-//! and [`InsertElement`] a value into an array.
+//! [`InsertElement`] a value into an array, and [`SetTrailingCommas`] sets trailing commas.
 //! [`SetRawValue`], [`SetToken`], [`SetWhitespace`] and [`SetNewline`] write one leaf anew as it stands,
 //! without memory, whatever the document makes of that (`specs/Raw.antt`). A closure that reads the document is lent one by [`IsDocument`].
 #![tactic(auto)]
 
+mod commas;
 mod document;
 mod inserting;
 mod lines;
@@ -21,6 +22,7 @@ mod replacing;
 mod setting;
 mod values;
 
+pub use commas::SetTrailingCommas;
 pub use document::IsDocument;
 pub use inserting::InsertElement;
 pub use lines::EnsureMultiline;

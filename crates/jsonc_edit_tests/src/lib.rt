@@ -1,0 +1,16 @@
+//! Tests of edits: of the pieces of documents, of values that come into arrays, of arrays and objects on several
+//! lines, and of trailing commas, and of memory that is refused.
+//!
+//! `docs/BENCH.md` says what each test is of.
+#![tactic(auto)]
+
+#[cfg(test)]
+mod appends;
+#[cfg(test)]
+mod commas;
+#[cfg(test)]
+mod pieces;
+#[cfg(test)]
+mod reading;
+#[cfg(test)]
+mod spread;

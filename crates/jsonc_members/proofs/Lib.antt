@@ -1,9 +1,0 @@
-pub mod Opening
-pub mod Making
-pub mod Joining
-pub mod Elements
-pub mod Numbering
-pub mod Past
-pub mod Leaving
-pub mod Spreading
-pub mod Changing

@@ -1,5 +1,0 @@
-pub mod Opened
-pub mod Told
-pub mod Inserted
-pub mod Laws
-pub mod Worked

@@ -1,0 +1,40 @@
+use Rattle.std.proofs.Common.{◌≡◌, ℕ, OnErr, OnOk, ap, subst, ◌∙◌}
+use Rattle.jsonc_cst.specs.Nodes.{number_of}
+use Rattle.jsonc_typed.specs.Commas.{CommasSet, CommasSetInPart, CommasStand, CommasWritten}
+use Rattle.jsonc_typed.specs.Edits.{StaysElsewhere}
+use Rattle.jsonc_typed.proofs.commas.SetTrailingCommas.set_trailing_commas.Goals as goal
+
+pub returns-clause-set : goal.returns-clause-set
+returns-clause-set g c =
+    let old = c.args.doc.now.tree.nodes in
+    let new = c.set_commas-set.new.tree.nodes in
+    let same : c.number.result ≡ number_of (g.Self.IsNode.node_of c.args.self) = c.number.ensures ∙ ap number_of c.node.ensures in
+    subst (λ (n : ℕ). OnOk c.set_commas-set.result (CommasSet old new c.args.mode n)) same c.set_commas-set.ensures.set
+
+pub returns-clause-part : goal.returns-clause-part
+returns-clause-part g c =
+    let old = c.args.doc.now.tree.nodes in
+    let new = c.set_commas-set.new.tree.nodes in
+    let same : c.number.result ≡ number_of (g.Self.IsNode.node_of c.args.self) = c.number.ensures ∙ ap number_of c.node.ensures in
+    subst (λ (n : ℕ). OnErr c.set_commas-set.result (CommasSetInPart old new c.args.mode n)) same c.set_commas-set.ensures.part
+
+pub returns-clause-written : goal.returns-clause-written
+returns-clause-written g c = λ o.
+    let old = c.args.doc.now.tree.nodes in
+    let new = c.set_commas-set.new.tree.nodes in
+    let same : c.number.result ≡ number_of (g.Self.IsNode.node_of c.args.self) = c.number.ensures ∙ ap number_of c.node.ensures in
+    subst (λ (n : ℕ). CommasWritten old new c.args.mode o n) same (c.set_commas-set.ensures.written o)
+
+pub returns-clause-stand : goal.returns-clause-stand
+returns-clause-stand g c = λ o.
+    let old = c.args.doc.now.tree.nodes in
+    let new = c.set_commas-set.new.tree.nodes in
+    let same : c.number.result ≡ number_of (g.Self.IsNode.node_of c.args.self) = c.number.ensures ∙ ap number_of c.node.ensures in
+    subst (λ (n : ℕ). OnOk c.set_commas-set.result (CommasStand old new c.args.mode o n)) same (c.set_commas-set.ensures.stand o)
+
+pub returns-clause-elsewhere : goal.returns-clause-elsewhere
+returns-clause-elsewhere g c =
+    let old = c.args.doc.now.tree.nodes in
+    let new = c.set_commas-set.new.tree.nodes in
+    let same : c.number.result ≡ number_of (g.Self.IsNode.node_of c.args.self) = c.number.ensures ∙ ap number_of c.node.ensures in
+    subst (λ (n : ℕ). OnOk c.set_commas-set.result (StaysElsewhere old new n)) same c.set_commas-set.ensures.elsewhere

@@ -1,0 +1,33 @@
+use Rattle.jsonc_commas.specs.InTurn.{holders}
+use Rattle.jsonc_commas.proofs.Apart.{leaves_others}
+use Rattle.jsonc_typed.proofs.Kept.{nodes_stay}
+use Rattle.jsonc_typed.proofs.Trailing.{commas_stand, commas_written, part_written, stay_in_turn}
+use Rattle.jsonc_typed.proofs.commas.set_commas.Goals as goal
+
+pub returns-in-Ok-clause-written : goal.returns-in-Ok-clause-written
+returns-in-Ok-clause-written g c = λ o.
+    commas_written c.args.mode c.args.tree.now.nodes c.set_trailing_commas.new.tree.nodes c.args.number c.len.ensures.tree o c.in-Ok.ensures.set
+
+pub returns-in-Err-clause-written : goal.returns-in-Err-clause-written
+returns-in-Err-clause-written g c = λ o.
+    part_written c.args.mode c.args.tree.now.nodes c.set_trailing_commas.new.tree.nodes c.args.number c.len.ensures.tree o c.in-Err.ensures.part
+
+pub returns-in-Ok-clause-stand : goal.returns-in-Ok-clause-stand
+returns-in-Ok-clause-stand g c = λ o.
+    commas_stand c.args.mode c.args.tree.now.nodes c.set_trailing_commas.new.tree.nodes c.args.number c.len.ensures.tree o c.in-Ok.ensures.set
+
+pub returns-in-Ok-clause-elsewhere : goal.returns-in-Ok-clause-elsewhere
+returns-in-Ok-clause-elsewhere g c = λ apart.
+    leaves_others c.args.mode c.args.tree.now.nodes c.args.number c.set_trailing_commas.new.tree.nodes c.len.ensures.tree c.requires apart c.in-Ok.ensures.set
+
+pub returns-in-Ok-clause-stays : goal.returns-in-Ok-clause-stays
+returns-in-Ok-clause-stays g c =
+    let old = c.args.tree.now.nodes in
+    let new = c.set_trailing_commas.new.tree.nodes in
+    nodes_stay old new (stay_in_turn c.args.mode (holders old c.args.number) old new c.len.ensures.tree c.in-Ok.ensures.set)
+
+pub returns-in-Err-clause-stays : goal.returns-in-Err-clause-stays
+returns-in-Err-clause-stays g c =
+    let old = c.args.tree.now.nodes in
+    let new = c.set_trailing_commas.new.tree.nodes in
+    nodes_stay old new (stay_in_turn c.args.mode c.in-Err.ensures.part.done old new c.len.ensures.tree c.in-Err.ensures.part.set)

@@ -1,0 +1,81 @@
+//! Trailing commas that are set, or taken away.
+
+ghost use Rattle.std.specs.Prelude.{◌≡◌, ◌<◌, IfErr, OnErr, OnOk, length};
+ghost use Rattle.jsonc_text.specs.Options.{Options};
+ghost use Rattle.jsonc_tree.specs.Tree.{IsTree};
+ghost use Rattle.jsonc_cst.specs.Document.{Holds};
+ghost use Rattle.jsonc_cst.specs.Tree.{NodesAreTree};
+ghost use Rattle.jsonc_typed.specs.Commas.{CommasSet, CommasSetInPart, CommasStand, CommasWritten};
+ghost use Rattle.jsonc_typed.specs.Commas.{HasCommasAsSet, HasSetCommas, HasSetCommasInPart, HasWrittenCommas};
+ghost use Rattle.jsonc_typed.specs.Edits.{KeepsElsewhere, StaysElsewhere, StillHolds, StillNodes};
+
+use jsonc_cst::cst::{
+    CstArray, CstObject, CstRoot, CstRootNode, EditError, IsNode, TrailingCommaMode,
+};
+use jsonc_tree::Tree;
+use std::alloc::Allocator;
+
+// Sets the trailing comma of a node, and of each array and object below it.
+fn set_commas<A: Allocator>(
+    tree: &mut Tree<A>,
+    number: usize,
+    mode: TrailingCommaMode,
+) -> Result<(), EditError>
+    requires { number < length tree.old.nodes }
+    ensures set { OnOk result (CommasSet tree.old.nodes tree.new.nodes mode number) }
+    ensures part { OnErr result (CommasSetInPart tree.old.nodes tree.new.nodes mode number) }
+    ensures written { (o : Options) → CommasWritten tree.old.nodes tree.new.nodes mode o number }
+    ensures stand { (o : Options) → OnOk result (CommasStand tree.old.nodes tree.new.nodes mode o number) }
+    ensures elsewhere { OnOk result (StaysElsewhere tree.old.nodes tree.new.nodes number) }
+    ensures wanted { OnErr result (mode ≡ TrailingCommaMode.IfMultiline) }
+    ensures memory { IfErr result (λ e. e ≡ EditError.OutOfMemory) }
+    ensures stays { StillNodes tree.old.nodes tree.new.nodes }
+    ensures tree { IsTree tree.new.nodes }
+{
+    let _ = tree.len();
+    match jsonc_commas::set_trailing_commas(tree, number, mode) {
+        Ok(()) => Ok(()),
+        Err(error) => Err(error),
+    }
+}
+
+/// The root, an array or an object, whose trailing commas may be set, with those of all arrays and objects
+/// below it.
+pub trait SetTrailingCommas: IsNode {
+    /// Sets them by a mode.
+    ///
+    /// With `Never` the comma behind the last element or property leaves. With `IfMultiline` one comes
+    /// directly behind the last element or property of each array and object that has an end of a line
+    /// among its children, where none stands there. If the document is sound, its text is a document
+    /// again, of the same value and with the same literals and comments, and sound: under options that
+    /// allow trailing commas, where the mode sets some.
+    ///
+    /// A comma that comes wants memory. Where it is refused, the commas of arrays and objects before have
+    /// been set, and nothing else has changed.
+    final fn set_trailing_commas<A: Allocator>(
+        self,
+        doc: &mut CstRootNode<A>,
+        mode: TrailingCommaMode,
+    ) -> Result<(), EditError>
+        requires { Holds doc.old (Self.node_of self) }
+        ensures set { OnOk result (HasSetCommas doc.old doc.new mode (Self.node_of self)) }
+        ensures part { OnErr result (HasSetCommasInPart doc.old doc.new mode (Self.node_of self)) }
+        ensures written { (o : Options) → HasWrittenCommas doc.old doc.new mode o (Self.node_of self) }
+        ensures stand { (o : Options) → OnOk result (HasCommasAsSet doc.old doc.new mode o (Self.node_of self)) }
+        ensures elsewhere { OnOk result (KeepsElsewhere doc.old doc.new (Self.node_of self)) }
+        ensures wanted { OnErr result (mode ≡ TrailingCommaMode.IfMultiline) }
+        ensures memory { IfErr result (λ e. e ≡ EditError.OutOfMemory) }
+        ensures stays { StillHolds doc.old doc.new }
+        ensures tree { NodesAreTree doc.new }
+    {
+        let set = set_commas(&mut doc.tree, self.node().number(), mode);
+        doc.nodes_are_tree();
+        set
+    }
+}
+
+impl SetTrailingCommas for CstRoot {}
+
+impl SetTrailingCommas for CstArray {}
+
+impl SetTrailingCommas for CstObject {}
