@@ -22,4 +22,3 @@ pub mod AtPaths
 pub mod SortedDocuments
 pub mod LeadPlaces
 pub mod Lasts
-pub mod Telling
