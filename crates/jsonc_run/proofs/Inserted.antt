@@ -39,7 +39,7 @@ array_found ns path at found standing finds = λ n. (
 )
 
 -- a container has no more elements than children
-fewer : (ns : List Node) (c : ℕ) → length (elements_at ns c) ≤ length (children_at ns c)
+pub fewer : (ns : List Node) (c : ℕ) → length (elements_at ns c) ≤ length (children_at ns c)
 fewer ns c = omega (arith, length-filter_both (is_element_at ns) (λ n. not (is_element_at ns n)) (λ n. refl) (children_at ns c))
 
 -- what came at the number of the children came behind the last element
@@ -47,7 +47,7 @@ pub comes_last : (old new : List Node) (c : ℕ) (v : Plain) (m : ℕ) → has_b
 comes_last old new c v m brackets put = past_the_end old new c (length (children_at old c)) (length (elements_at old c)) v m brackets (fewer old c) (omega arith) put
 
 -- why nothing came in
-no_other : (b : Bool) (e : EditError) → e ≡ cond b OutOfMemory MissingBrackets → (e ≡ MissingName → ⊥) × (e ≡ NoSuchPlace → ⊥)
+pub no_other : (b : Bool) (e : EditError) → e ≡ cond b OutOfMemory MissingBrackets → (e ≡ MissingName → ⊥) × (e ≡ NoSuchPlace → ⊥)
 no_other true e is = (λ other. let wrong : OutOfMemory ≡ MissingName = sym is ∙ other in cc, λ other. let wrong : OutOfMemory ≡ NoSuchPlace = sym is ∙ other in cc)
 no_other false e is = (λ other. let wrong : MissingBrackets ≡ MissingName = sym is ∙ other in cc, λ other. let wrong : MissingBrackets ≡ NoSuchPlace = sym is ∙ other in cc)
 
