@@ -8,7 +8,7 @@ pub mod ValueMade
 pub mod Booleans
 pub mod OnLines
 pub mod Inserted
-pub mod Members
+pub mod Properties
 pub mod Ensured
 pub mod Written
 pub mod Refused

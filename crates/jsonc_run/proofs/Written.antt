@@ -49,7 +49,7 @@ use Rattle.jsonc_insertion_laws.proofs.Comes.{elements_come_at}
 use Rattle.jsonc_insertion_laws.proofs.Containers.{has_its_brackets}
 use Rattle.jsonc_nodes.specs.Siblings.{elements_at}
 use Rattle.jsonc_run.proofs.Inserted.{came_in, came_last}
-use Rattle.jsonc_run.proofs.Members as members
+use Rattle.jsonc_run.proofs.Properties as properties
 use Rattle.jsonc_member_laws.proofs.Coming.{properties_come_at}
 use Rattle.jsonc_run.proofs.Booleans.{boolean_given, boolean_changed}
 use Rattle.jsonc_run.proofs.PathValues.{gives_way_to_itself, value_of_text, value_at_path, value_once}
@@ -95,7 +95,7 @@ stays_around old new (append_element path v) tree after (n, m, at, put) = λ o s
     (length (elements_at old n), λ i far. elements_come_at o old new path n i v m tree sound at.0 at.1 (past_the_end old new n (length (elements_at old n)) i v m brackets (omega arith) far put))
 stays_around old new (insert_property path i name v) tree after (n, m, at, put) = λ o sound. properties_come_at o old new path n i name v m tree sound at.0 at.1 put
 stays_around old new (append_property path name v) tree after (n, m, at, put) = λ o sound.
-    (length (elements_at old n), λ i far. properties_come_at o old new path n i name v m tree sound at.0 at.1 (members.behind_all o old new path n m name v tree sound at (length (elements_at old n)) i (omega arith) far put))
+    (length (elements_at old n), λ i far. properties_come_at o old new path n i name v m tree sound at.0 at.1 (properties.behind_all o old new path n m name v tree sound at (length (elements_at old n)) i (omega arith) far put))
 
 -- under all options the leaves around stay
 pub stay_around : (old new : List Node) (es : List Operation) → IsTree old → AreMade old es new → AllStayAround (ordered_tree old 0) es (ordered_tree new 0)
@@ -254,10 +254,10 @@ module _ (o : Options) where
       let w = last.came.is in
       record { before = Some w.before; after = Some w.after; old_text = w.old_text; new_text = w.new_text; changed = by_appending w.gains last.far; sound = w.sound }
   is_written old new (insert_property path i name v) tree after (n, m, at, put) s may =
-      let w = (members.came_in o old new path n m name v tree s at may.0 may.1 i put).is in
+      let w = (properties.came_in o old new path n m name v tree s at may.0 may.1 i put).is in
       record { before = Some w.before; after = Some w.after; old_text = w.old_text; new_text = w.new_text; changed = by_inserting_member w.gains; sound = w.sound }
   is_written old new (append_property path name v) tree after (n, m, at, put) s may =
-      let last = members.came_last o old new path n m name v tree s at may.0 may.1 put in
+      let last = properties.came_last o old new path n m name v tree s at may.0 may.1 put in
       let w = last.came.is in
       record { before = Some w.before; after = Some w.after; old_text = w.old_text; new_text = w.new_text; changed = by_appending_member w.gains last.far; sound = w.sound }
 

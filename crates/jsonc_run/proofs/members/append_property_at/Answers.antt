@@ -2,7 +2,7 @@ use Rattle.std.proofs.Common.{ℕ, chars, subst}
 use Rattle.jsonc_input.specs.Views.{plain}
 use Rattle.jsonc_members.specs.Inserted.{PropertyPut}
 use Rattle.jsonc_run.specs.Places.{IsObjectAt}
-use Rattle.jsonc_run.proofs.Members.{object_there, comes_last, told_behind}
+use Rattle.jsonc_run.proofs.Properties.{object_there, comes_last, told_behind}
 use Rattle.jsonc_run.proofs.Made.{no_place}
 use Rattle.jsonc_run.proofs.members.append_property_at.Goals as goal
 

@@ -1,4 +1,4 @@
-use Rattle.jsonc_run.proofs.Members.{object_found}
+use Rattle.jsonc_run.proofs.Properties.{object_found}
 use Rattle.jsonc_run.proofs.members.find_object.Goals as goal
 
 pub returns-clause-found : goal.returns-clause-found

@@ -1,7 +1,7 @@
 use Rattle.std.proofs.Common.{chars}
 use Rattle.jsonc_input.specs.Views.{plain}
 use Rattle.jsonc_run.specs.Places.{IsObjectAt}
-use Rattle.jsonc_run.proofs.Members.{told_in}
+use Rattle.jsonc_run.proofs.Properties.{told_in}
 use Rattle.jsonc_run.proofs.Made.{no_place}
 use Rattle.jsonc_run.proofs.members.insert_property_at.Goals as goal
 
