@@ -1,9 +1,8 @@
 -- Values that come into arrays at paths.
-use Rattle.std.proofs.Common.{◌≡◌, ℕ, ◌≤◌, ◌+◌, Bool, true, false, not, cond, List, [], ◌∷◌, ◌++◌, length, Option, Some, Result, Ok, Err, IfErr, IfOk, OnOk, refl, sym, ap, subst, ◌∙◌, arith, append_assoc}
+use Rattle.std.proofs.Common.{◌≡◌, ℕ, ◌≤◌, ◌+◌, Bool, true, false, not, cond, List, [], ◌++◌, length, Option, Some, refl, sym, ap, subst, ◌∙◌, arith, append_assoc}
 use Rattle.std.proofs.lemmas.List.Filters.{length-filter_both}
 use Rattle.jsonc_text.specs.Options.{Options}
 use Rattle.jsonc_text.specs.Plain.{Plain, array}
-use Rattle.jsonc_text.specs.Grammar.{IsDocument}
 use Rattle.jsonc_text.proofs.UniqueValues.{document_unique}
 use Rattle.jsonc_tree.specs.Content as content
 use Rattle.jsonc_tree.specs.OrderedTree.{OrderedTree, ordered_tree}
@@ -22,11 +21,11 @@ use Rattle.jsonc_edit.specs.declared.error.EditError.TheVariants.{OutOfMemory, M
 use Rattle.jsonc_insert.specs.Inserted.{refusal, ElementPut}
 use Rattle.jsonc_insert.specs.Planned.{has_brackets}
 use Rattle.jsonc_insert.proofs.Past.{past_the_end}
-use Rattle.jsonc_insertion_laws.specs.Laws.{item_count, ElementComesAt, GainsItem, GainsMarks, IsInserted}
+use Rattle.jsonc_insertion_laws.specs.Laws.{item_count, ElementComesAt, GainsMarks, IsInserted}
 use Rattle.jsonc_insertion_laws.proofs.Comes.{elements_come_at}
 use Rattle.jsonc_insertion_laws.proofs.Containers.{has_its_brackets}
 use Rattle.jsonc_insertion_laws.proofs.Written.{inserts_element}
-use Rattle.jsonc_run.specs.Edits.{append_element, insert_element, IsMade}
+use Rattle.jsonc_run.specs.Edits.{append_element, insert_element}
 use Rattle.jsonc_run.specs.Places.{IsArrayAt}
 use Rattle.jsonc_run.specs.Refusals.{IsToldBy}
 use Rattle.jsonc_run.proofs.PathValues.{value_once}

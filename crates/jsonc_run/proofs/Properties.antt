@@ -1,5 +1,5 @@
 -- Properties that come into objects at paths.
-use Rattle.std.proofs.Common.{◌≡◌, ℕ, ◌≤◌, ◌<◌, ◌+◌, true, List, length, Option, Some, refl, sym, ap, subst, ◌∙◌, arith}
+use Rattle.std.proofs.Common.{◌≡◌, ℕ, ◌≤◌, ◌<◌, ◌+◌, true, List, length, Option, Some, refl, sym, ap, subst, arith}
 use Rattle.jsonc_text.specs.Options.{Options}
 use Rattle.jsonc_text.specs.Plain.{Plain, object}
 use Rattle.jsonc_text.proofs.UniqueValues.{document_unique}
@@ -22,7 +22,7 @@ use Rattle.jsonc_multiline.proofs.Documents.{over_at}
 use Rattle.jsonc_members.specs.Inserted.{PropertyPut}
 use Rattle.jsonc_members.proofs.Past.{past_the_end}
 use Rattle.jsonc_members.proofs.Spreading.{wants_memory_alone}
-use Rattle.jsonc_insertion_laws.specs.Members.{member_count, GainsMember, IsMemberInserted, PropertyComesAt}
+use Rattle.jsonc_insertion_laws.specs.Members.{member_count, IsMemberInserted, PropertyComesAt}
 use Rattle.jsonc_insertion_laws.proofs.Named.{inserts_member}
 use Rattle.jsonc_member_laws.proofs.Coming.{properties_come_at}
 use Rattle.jsonc_run.specs.Edits.{append_property, insert_property}

@@ -1,5 +1,5 @@
 -- In a sound document no edit is refused for a bracket or a name: arrays and objects have their brackets, and properties their names.
-use Rattle.std.proofs.Common.{◌≡◌, ℕ, Bool, true, false, not, ◌||◌, cond, IsTrue, List, [], ◌∷◌, Option, Some, None, inl, inr, Result, Ok, Err, IfErr, take, refl, sym, ap, subst, ◌∙◌}
+use Rattle.std.proofs.Common.{◌≡◌, ℕ, Bool, true, false, not, ◌||◌, cond, IsTrue, List, [], ◌∷◌, Some, None, inl, inr, Result, Ok, Err, IfErr, refl, sym, ap, subst, ◌∙◌}
 use Rattle.std.proofs.lemmas.Bool.{cases_Bool, false≢true}
 use Rattle.std.specs.List.{find, list_any}
 use Rattle.jsonc_text.specs.Options.{Options}
@@ -22,7 +22,7 @@ use Rattle.jsonc_insert.specs.Inserted.{refusal}
 use Rattle.jsonc_insertion_laws.proofs.Containers.{wants_memory_alone}
 use Rattle.jsonc_members.proofs.Spreading as objects
 use Rattle.jsonc_run.specs.Places.{IsArrayAt, IsContainerAt, IsEntryAt, IsObjectAt, IsPropertyAt, an_entry, a_property, in_array, in_object, the_value}
-use Rattle.jsonc_run.specs.Refusals.{IsToldBy, LacksBrackets, LacksName, StopsAt, WantsMemoryOrPlace}
+use Rattle.jsonc_run.specs.Refusals.{IsToldBy, LacksBrackets, LacksName, WantsMemoryOrPlace}
 use Rattle.jsonc_run.specs.Written.{IsRefusedAfter}
 use Rattle.jsonc_run.proofs.PropertyValues.{value_held}
 use Rattle.jsonc_run.proofs.Written.{write_all}
