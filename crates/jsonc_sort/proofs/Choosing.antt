@@ -42,12 +42,12 @@ module _ {A : Type 0} (P : A → Type 0) where
   each_joined [] ys h k = k
   each_joined (x ∷ xs) ys h k = (h.0, each_joined xs ys h.1 k)
 
-  each_all : (xs : List A) → Each P xs → All P xs
+  pub each_all : (xs : List A) → Each P xs → All P xs
   each_all [] h k d lt = absurd (omega arith)
   each_all (x ∷ xs) h zero d lt = h.0
   each_all (x ∷ xs) h (suc k) d lt = each_all xs h.1 k d (omega arith)
 
-  all_each : (xs : List A) → All P xs → Each P xs
+  pub all_each : (xs : List A) → All P xs → Each P xs
   all_each [] h = tt
   all_each (x ∷ xs) h = (h 0 x (omega arith), all_each xs (λ k d lt. h (suc k) d (omega arith)))
 

@@ -9,3 +9,15 @@ pub mod Values
 pub mod Same
 pub mod Documents
 pub mod KeptMarks
+pub mod Times
+pub mod StayingOnce
+pub mod Planning
+pub mod Placing
+pub mod Counts
+pub mod Stretches
+pub mod Reading
+pub mod Entering
+pub mod Orders
+pub mod Taking
+pub mod AtPaths
+pub mod SortedDocuments

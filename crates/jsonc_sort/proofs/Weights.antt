@@ -41,7 +41,7 @@ added_parted f (suc k) [] = refl
 added_parted f (suc k) (x ∷ xs) = omega (arith, added_parted f k xs)
 
 -- the same of a permutation
-added_moved : {A : Type 0} (f : A → ℕ) (xs ys : List A) → IsPermutation xs ys → added f ys ≡ added f xs
+pub added_moved : {A : Type 0} (f : A → ℕ) (xs ys : List A) → IsPermutation xs ys → added f ys ≡ added f xs
 added_moved f xs ys p = sym (sum_is f ys) ∙ sum_by-IsPermutation f xs ys p ∙ sum_is f xs
 
 or_right : (a b : Bool) → IsTrue b → IsTrue (a || b)

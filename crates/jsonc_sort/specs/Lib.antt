@@ -2,5 +2,9 @@ pub mod Slots
 pub mod Parts
 pub mod Leads
 pub mod Sorting
+pub mod Places
+pub mod Plans
+pub mod Rearranged
 pub mod Worked
 pub mod Laws
+pub mod Paths

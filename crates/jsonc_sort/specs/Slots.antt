@@ -2,10 +2,7 @@
 use Rattle.std.specs.Prelude.{ℕ, List, [], ◌∷◌, map}
 use Rattle.jsonc_tree.specs.Content.{Content}
 use Rattle.jsonc_tree.specs.OrderedTree.{OrderedTree, Top, none, more}
-
-pub data Slot : Type 0 where
-  stays : ℕ → Slot
-  comes : Content → Slot
+pub use Rattle.jsonc_multiline.specs.Slots.{Slot, stays, comes}
 
 abbrev pub all_stay : List ℕ → List Slot
 all_stay row = map stays row

@@ -1,12 +1,15 @@
 //! Laws of sorted rows: each is the contract of a function that does nothing.
-ghost use Rattle.std.specs.Prelude.{Bool, Option, ℕ};
+ghost use Rattle.std.specs.Prelude.{Bool, List, Option, ℕ};
 ghost use Rattle.jsonc_text.specs.Options.{Options};
 ghost use Rattle.jsonc_text.specs.Plain.{Plain, Items, Members};
 ghost use Rattle.jsonc_tree.specs.OrderedTree.{OrderedTree, Top};
+ghost use Rattle.jsonc_tree.specs.Tree.{Node};
 ghost use Rattle.jsonc_laws.specs.Marks.{Mark};
 ghost use Rattle.jsonc_laws.specs.Rows.{RowKind};
 ghost use Rattle.jsonc_sort.specs.Laws.{KeepsAllMarks, KeepsLines, KeepsMarks, KeepsNodes, KeepsRow};
 ghost use Rattle.jsonc_sort.specs.Laws.{Sort, SortsItems, SortsMembers, SortsValue, StaysSound};
+ghost use Rattle.jsonc_sort.specs.Paths.{KeepsOutside, SortedAt, SortsAt, SortsDocument};
+ghost use Rattle.jsonc_sort.specs.Sorting.{Headers};
 ghost use Rattle.jsonc_sort.specs.Worked.{WorkedHeaders, WorkedSorts};
 
 /// Worked rows: a comment goes with the element that it stands behind, blank lines are left behind the
@@ -48,4 +51,19 @@ pub fn sorted_documents()
     ensures sound { (o : Options) (t : OrderedTree) → StaysSound o t }
     ensures value { (o : Options) (t : OrderedTree) (x : Plain) → SortsValue o t x }
     ensures marks { (o : Options) (t : OrderedTree) (test : Mark → Bool) → KeepsAllMarks o t test }
+{}
+
+/// Where the elements of an array or object at a path of a sound document come in another order, the
+/// document is sorted there, and nothing outside of it changes.
+pub fn containers_are_sorted()
+    ensures { (o : Options) (old new : List Node) (path : List ℕ) (c : ℕ) (h : Headers) (order : List ℕ)
+        → SortsAt o old new path c h order }
+{}
+
+/// Its text is a document again, whose value has the entries at the path in that order, and nothing else
+/// of it changes; each literal and comment is there as often as before, all leaves outside of the array
+/// or object stay, and the document is sound. It is so under all options.
+pub fn sorted_containers()
+    ensures document { (o : Options) (t u : OrderedTree) (path order : List ℕ) → SortsDocument o t u path order }
+    ensures outside { (path order : List ℕ) (t u : OrderedTree) (s : SortedAt path order t u) → KeepsOutside s }
 {}

@@ -7,8 +7,17 @@
 //! ends of lines come. Each node but whitespace, ends of lines and commas is there as often as before,
 //! values come in the order of the sort, and a sound document stays sound (`specs/Laws.antt`).
 //!
-//! There is no code here yet: the call that gives a container's row its sorted one is still to be
-//! written.
+//! [`rearrange`] reads the entries of a row by their places (`specs/Places.antt`), plans the row in another
+//! order from its end on (`specs/Plans.antt`), and lets it take its place at once
+//! (`specs/Rearranged.antt`), so a refusal leaves the document as it was.
 #![tactic(auto)]
 
+mod entries;
+mod kinds;
 pub mod laws;
+mod leads;
+mod parts;
+mod plan;
+mod rearrange;
+
+pub use rearrange::rearrange;

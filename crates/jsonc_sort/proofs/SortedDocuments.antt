@@ -1,0 +1,59 @@
+-- What becomes of a sound document in which an array or object has been sorted.
+use Rattle.std.proofs.Common.{◌≡◌, ◌∙◌, ℕ, List, Option, Some, None, sym, subst}
+use Rattle.jsonc_text.specs.Options.{Options}
+use Rattle.jsonc_text.specs.Grammar.{IsDocument}
+use Rattle.jsonc_text.specs.Plain.{Plain}
+use Rattle.jsonc_tree.specs.OrderedTree.{OrderedTree, Top, none, more}
+use Rattle.jsonc_tree.specs.Values as values
+use Rattle.jsonc_tree.specs.Values.{HasNoValue, DocumentValueOf}
+use Rattle.jsonc_build.specs.Shape.{printed_text}
+use Rattle.jsonc_build.proofs.ShapeValues.{document_printed}
+use Rattle.jsonc_laws.specs.SoundTrees.{SoundTree}
+use Rattle.jsonc_laws.specs.TreeChanges.{ElementChanged, DocumentChanged, in_root}
+use Rattle.jsonc_laws.proofs.FirstNodes.{here, over, beyond, meets_first, none_changed, no_element}
+use Rattle.jsonc_laws.proofs.LeavesAround.{document_differs}
+use Rattle.jsonc_edit.proofs.OneValue.{document_once}
+use Rattle.jsonc_sort.specs.Laws.{SortsEntries}
+use Rattle.jsonc_sort.specs.Paths.{KeepsOutside, SaysSorted, SortedAt, SortsDocument}
+use Rattle.jsonc_sort.proofs.Documents.{sorts_value, stays_sound}
+use Rattle.jsonc_sort.proofs.KeptMarks.{keeps_all_marks}
+
+-- a document of which a value has changed has one
+no_value_there : {x y : Top} {row new : OrderedTree} {i : ℕ} → HasNoValue row → ElementChanged x y i row new → ⊥
+no_value_there values.end e = none_changed e
+no_value_there (values.pass {content = content} h g) e =
+    elim (meets_first e) [
+      | here a p b q f ↦ no_element content q h
+      | over q k f ↦ no_value_there g k
+      | beyond a q k f ↦ no_element content q h
+    ]
+
+some_value : (o : Options) {was now : Top} {path : List ℕ} {t u : OrderedTree} → DocumentChanged was now path t u → DocumentValueOf o t None → ⊥
+some_value o (in_root {row = row} e k) (below, same, h) = let first : below ≡ row = cc in no_value_there (subst HasNoValue first h) e
+
+module _ (o : Options) (t u : OrderedTree) (path order : List ℕ) (sound : SoundTree o t) (at : SortedAt path order t u) where
+  still : SoundTree o u
+  still = stays_sound o t sound at.kind at.top at.sort path u at.changed at.order
+
+  by_value : (old : Option Plain) → IsDocument o (printed_text t) old → DocumentValueOf o t old → SaysSorted o path order t u
+  by_value None text value = absurd (some_value o at.changed value)
+  by_value (Some x) text value =
+      let now = sorts_value o t x value at.kind at.top at.sort path u at.changed at.order in
+      let printed = document_printed o u still.shaped still.lines in
+      record {
+        old = x;
+        new = now.0;
+        old_text = text;
+        new_text = subst (λ w. IsDocument o (printed_text u) w) (document_once o u printed.0 (Some now.0) printed.2 now.1) printed.1;
+        entries = subst (λ l. SortsEntries path l x now.0) at.by now.2;
+        marks = λ test. keeps_all_marks o t test sound at.kind at.top at.sort path u at.changed at.order;
+        sound = still;
+      }
+
+pub sorts_document : (o : Options) (t u : OrderedTree) (path order : List ℕ) → SortsDocument o t u path order
+sorts_document o t u path order sound at =
+    let was = document_printed o t sound.shaped sound.lines in
+    by_value o t u path order sound at was.0 was.1 was.2
+
+pub keeps_outside : {path order : List ℕ} {t u : OrderedTree} (s : SortedAt path order t u) → KeepsOutside s
+keeps_outside s = document_differs s.changed

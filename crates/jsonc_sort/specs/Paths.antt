@@ -1,0 +1,50 @@
+-- Laws of arrays and objects of a document whose elements come in another order, by the numbers of nodes.
+use Rattle.std.specs.Prelude.{◌≡◌, ℕ, Bool, List, count_by, length, Some, IsTrue}
+use Rattle.jsonc_text.specs.Options.{Options}
+use Rattle.jsonc_text.specs.Plain.{Plain}
+use Rattle.jsonc_text.specs.Grammar.{IsDocument}
+use Rattle.jsonc_tree.specs.OrderedTree.{OrderedTree, Top, leaves, ordered_tree}
+use Rattle.jsonc_tree.specs.Tree.{Node, content_at, IsTree}
+use Rattle.jsonc_lines.specs.Kinds.{holds_values}
+use Rattle.jsonc_build.specs.Shape.{printed_text}
+use Rattle.jsonc_laws.specs.ChangeLaws.{DiffersIn}
+use Rattle.jsonc_laws.specs.Marks.{Mark, marks}
+use Rattle.jsonc_laws.specs.Rows.{RowKind}
+use Rattle.jsonc_laws.specs.SoundTrees.{SoundTree}
+use Rattle.jsonc_laws.specs.TreeChanges.{leaves_of, DocumentChanged}
+use Rattle.jsonc_edit.specs.Paths.{IsAt}
+use Rattle.jsonc_sort.specs.Sorting.{Headers}
+use Rattle.jsonc_sort.specs.Rearranged.{IsOrderIn, Rearranged}
+use Rattle.jsonc_sort.specs.Laws.{IsOrderOf, Sort, SortsEntries, container_after, container_before}
+
+-- the array or object at the path has been sorted, and nothing outside of it has changed
+pub record SortedAt (path order : List ℕ) (t u : OrderedTree) : Type 0 where
+  pub kind : RowKind
+  pub top : ℕ → Top
+  pub sort : Sort
+  pub by : sort.order ≡ order
+  pub order : IsOrderOf top sort.row sort.order
+  pub changed : DocumentChanged (container_before kind top sort) (container_after kind top sort) path t u
+
+-- so it is where the elements of c, at a path of a sound document, come in another order
+abbrev pub SortsAt : Options → List Node → List Node → List ℕ → ℕ → Headers → List ℕ → Type 0
+SortsAt o old new path c h order =
+    IsTree old → IsTree new → SoundTree o (ordered_tree old 0) → IsAt old path c → IsTrue (holds_values (content_at old c)) → IsOrderIn old c order → Rearranged old new c h order
+    → SortedAt path order (ordered_tree old 0) (ordered_tree new 0)
+
+-- The text was a document, and is one whose value has the entries at the path in that order; each literal and comment is there as often as before; and the document is sound.
+pub record SaysSorted (o : Options) (path order : List ℕ) (t u : OrderedTree) : Type 0 where
+  pub old : Plain
+  pub new : Plain
+  pub old_text : IsDocument o (printed_text t) (Some old)
+  pub new_text : IsDocument o (printed_text u) (Some new)
+  pub entries : SortsEntries path order old new
+  pub marks : (test : Mark → Bool) → count_by test (marks u) ≡ count_by test (marks t)
+  pub sound : SoundTree o u
+
+abbrev pub SortsDocument : Options → OrderedTree → OrderedTree → List ℕ → List ℕ → Type 0
+SortsDocument o t u path order = SoundTree o t → SortedAt path order t u → SaysSorted o path order t u
+
+-- all leaves outside of the array or object stay
+abbrev pub KeepsOutside : {path order : List ℕ} {t u : OrderedTree} → SortedAt path order t u → Type 0
+KeepsOutside {path} {order} {t} {u} s = DiffersIn (leaves_of (container_before s.kind s.top s.sort)) (leaves_of (container_after s.kind s.top s.sort)) (leaves t) (leaves u)
