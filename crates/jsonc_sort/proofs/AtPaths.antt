@@ -214,7 +214,7 @@ module _ (o : Options) (old new : List Node) (path : List ℕ) (c : ℕ) (h : He
         top = top;
         sort = s;
         by = refl;
-        order = order_is;
+        is_order = order_is;
         changed = subst (λ (w : Top). DocumentChanged (container_before held.kind top s) w path (ordered_tree old 0) (ordered_tree old 0)) now (subst (λ (w : Top). DocumentChanged w w path (ordered_tree old 0) (ordered_tree old 0)) was_top changed);
       }
 
@@ -263,7 +263,7 @@ module _ (o : Options) (old new : List Node) (path : List ℕ) (c : ℕ) (h : He
           top = top;
           sort = s;
           by = refl;
-          order = order_is;
+          is_order = order_is;
           changed = subst (λ (t : OrderedTree). DocumentChanged (container_before held.kind top s) (container_after held.kind top s) path t (ordered_tree new 0)) (tree_stays old r.ready tree r.prepared.keeps r.prepared.tree)
               (subst (λ (w : Top). DocumentChanged w (container_after held.kind top s) path (ordered_tree r.ready 0) (ordered_tree new 0)) was
               (subst (λ (w : Top). DocumentChanged (top_at r.ready c) w path (ordered_tree r.ready 0) (ordered_tree new 0)) now_top changed_ready));

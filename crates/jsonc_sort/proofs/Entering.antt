@@ -2,7 +2,7 @@
 use Rattle.std.proofs.Common.{◌≡◌, ℕ, zero, suc, ◌+◌, ◌-◌, ◌<◌, ◌≤◌, Bool, true, false, not, inl, inr, List, [], ◌∷◌, ◌++◌, All, length, map, take, drop, slice_index, Option, None, refl, sym, ap, subst, ◌∙◌, arith, append_assoc, append-nil, length-take, length-drop, length-append}
 use Rattle.std.specs.Prelude.{if◌then◌else◌, nat_le, slice_index_or, slice_range}
 use Rattle.std.specs.List.{position_or_len}
-use Rattle.std.proofs.lemmas.Bool.{cases_Bool, le-leb, lt-leb}
+use Rattle.std.proofs.lemmas.Bool.{cases_Bool, cases_lt, le-leb, lt-leb}
 use Rattle.std.proofs.lemmas.List.{drop-drop, drop_all, drop_more, get_or-drop, map-append, take-take}
 use Rattle.std.proofs.lemmas.List.Elements.{All-append, All-cons, All-nil}
 use Rattle.jsonc_tree.specs.Content.{Content}
@@ -11,7 +11,7 @@ use Rattle.jsonc_sort.specs.Leads.{LeadParts, lead_parts}
 use Rattle.jsonc_sort.specs.Parts.{Part, Parts, is_none, part_with, parts, tail_length}
 use Rattle.jsonc_sort.specs.Places.{AreEntries, ArePlaces, IsLast, IsNext, IsRead, before_element, end_after, end_past, entries_past, entry_of, gap_behind, is_last_at, tail_of}
 use Rattle.jsonc_sort.specs.Sorting.{Entry, Headers, end_of, entries, entries_from, first_pin, row_end}
-use Rattle.jsonc_sort.specs.declared.entries.Places.{Places}
+use Rattle.jsonc_sort.specs.declared.places.Places.{Places}
 
 module _ (at : ℕ → Content) where
   -- where no element stands
@@ -29,14 +29,28 @@ module _ (at : ℕ → Content) where
       let q : Parts = parts at (drop (k + 1) xs) in
       record { lead = take k xs; rest = part_with at (slice_index xs k) (is_none q.rest) q.lead ∷ q.rest }
 
+  before_more : (n : ℕ) (xs : List ℕ) → is_element (at n) ≡ false → before_element at (n ∷ xs) ≡ suc (before_element at xs)
+  before_more n xs e = rw e (omega arith)
+
+  abbrev behind_node : ℕ → Parts → Parts
+  behind_node n p = record { lead = n ∷ p.lead; rest = p.rest }
+
+  parts_more : (n : ℕ) (xs : List ℕ) → is_element (at n) ≡ false → parts at (n ∷ xs) ≡ behind_node n (parts at xs)
+  parts_more n xs e = rw e refl
+
+  found_more : (n : ℕ) (xs : List ℕ) (k : ℕ) → behind_node n (Found xs k) ≡ Found (n ∷ xs) (suc k)
+  found_more n xs k =
+      let one : suc k + 1 ≡ suc (k + 1) = omega arith in
+      ap (λ (j : ℕ). let w : Parts = record { lead = n ∷ take k xs; rest = part_with at (slice_index xs k) (is_none (parts at (drop j (n ∷ xs))).rest) (parts at (drop j (n ∷ xs))).lead ∷ (parts at (drop j (n ∷ xs))).rest } in w) (sym one)
+
   pub parts_found : (xs : List ℕ) → before_element at xs < length xs → parts at xs ≡ Found xs (before_element at xs)
   parts_found [] h = absurd (omega arith)
   parts_found (n ∷ xs) h =
       elim (cases_Bool (is_element (at n))) [
         | inl e ↦ rw e refl
         | inr e ↦ (
-            let rest : parts at xs ≡ Found xs (before_element at xs) = parts_found xs (omega (arith, rw e at h)) in
-            rw (e, rest) refl
+            let rest : parts at xs ≡ Found xs (before_element at xs) = parts_found xs (omega (arith, h, before_more n xs e)) in
+            parts_more n xs e ∙ ap (behind_node n) rest ∙ found_more n xs (before_element at xs) ∙ ap (Found (n ∷ xs)) (sym (before_more n xs e))
             )
       ]
 
@@ -46,7 +60,7 @@ module _ (at : ℕ → Content) where
   lead_is (n ∷ xs) =
       elim (cases_Bool (is_element (at n))) [
         | inl e ↦ rw e refl
-        | inr e ↦ rw e (ap (λ l. n ∷ l) (lead_is xs))
+        | inr e ↦ ap (λ (p : Parts). p.lead) (parts_more n xs e) ∙ ap (λ l. n ∷ l) (lead_is xs) ∙ ap (λ k. take k (n ∷ xs)) (sym (before_more n xs e))
       ]
 
   pub last_is : (xs : List ℕ) → is_none (parts at xs).rest ≡ nat_le (length xs) (before_element at xs)
@@ -54,8 +68,15 @@ module _ (at : ℕ → Content) where
   last_is (n ∷ xs) =
       elim (cases_Bool (is_element (at n))) [
         | inl e ↦ rw e (sym (lt-leb (suc (length xs)) 0 (omega arith)))
-        | inr e ↦ rw e (last_is xs)
+        | inr e ↦ ap (λ (p : Parts). is_none p.rest) (parts_more n xs e) ∙ last_is xs ∙ le_more (length xs) (before_element at xs) ∙ ap (nat_le (suc (length xs))) (sym (before_more n xs e))
       ]
+    where
+      le_more : (a b : ℕ) → nat_le a b ≡ nat_le (suc a) (suc b)
+      le_more a b =
+          elim (cases_lt b a) [
+            | inl low ↦ lt-leb a b low ∙ sym (lt-leb (suc a) (suc b) (omega (arith, low)))
+            | inr high ↦ le-leb a b high ∙ sym (le-leb (suc a) (suc b) (omega (arith, high)))
+          ]
 
   -- further on, before the next element
   pub parts_later : (t : ℕ) (xs : List ℕ) → t ≤ before_element at xs → parts at (drop t xs) ≡ record { lead = drop t (parts at xs).lead; rest = (parts at xs).rest }
@@ -117,18 +138,18 @@ module _ (at : ℕ → Content) where
     tail : take long q.lead ≡ tail_of row p
     tail =
         ap (λ k. take k q.lead) same_long ∙ ap (take t) (lead_is ys) ∙ take-take t (before_element at ys) ys short
-        ∙ ap (λ k. take k ys) (omega (arith, r.end, r.element)) ∙ ap (λ k. take (p.end - (p.element + 1)) (drop (k + 1) row)) (sym r.element)
+        ∙ ap (λ k. take k ys) (omega (arith, r.end, r.stands)) ∙ ap (λ k. take (p.end - (p.element + 1)) (drop (k + 1) row)) (sym r.stands)
 
     entry : (pins : List (Option ℕ)) → first_pin pins ≡ pin → an_entry (lead_parts at groups (first_pin pins) (slice_range row from element)) (slice_index row element) (take long q.lead) ≡ entry_of row p
     entry pins e =
         ap (λ (x : Option ℕ). an_entry (lead_parts at groups x (slice_range row from element)) (slice_index row element) (take long q.lead)) e
         ∙ ap (λ (l : LeadParts). an_entry l (slice_index row element) (take long q.lead)) (sym r.parts)
-        ∙ ap (λ (k : ℕ). an_entry (entry_of row p).lead (slice_index row k) (take long q.lead)) (sym r.element)
+        ∙ ap (λ (k : ℕ). an_entry (entry_of row p).lead (slice_index row k) (take long q.lead)) (sym r.stands)
         ∙ ap (λ (l : List ℕ). an_entry (entry_of row p).lead (slice_index row p.element) l) tail
 
     pub next_is : IsNext at row from groups pin p
     next_is = record {
-      from = omega (arith, r.lead);
+      begins = omega (arith, r.begins);
       read = r.read;
       entry = λ pins e.
           ap (λ (w : Parts). entries_from at groups pins w.lead w.rest) found

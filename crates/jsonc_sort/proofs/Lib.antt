@@ -21,3 +21,5 @@ pub mod Orders
 pub mod Taking
 pub mod AtPaths
 pub mod SortedDocuments
+pub mod LeadPlaces
+pub mod Lasts

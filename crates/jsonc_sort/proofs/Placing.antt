@@ -1,12 +1,13 @@
 -- A whole row is planned, entry by entry.
-use Rattle.std.proofs.Common.{◌≡◌, ◌≢◌, ◌==◌, ℕ, zero, suc, ◌+◌, ◌-◌, ◌<◌, ◌≤◌, Bool, true, false, ◌||◌, inl, inr, List, [], ◌∷◌, ◌++◌, All, length, map, take, drop, reverse, slice_index, refl, sym, ap, subst, ◌∙◌, arith, append-nil, append_assoc, length-map, length-drop}
+use Rattle.std.proofs.Common.{◌≡◌, ◌≢◌, ◌==◌, ℕ, zero, suc, ◌+◌, ◌-◌, ◌<◌, ◌≤◌, Bool, true, false, ◌||◌, inl, inr, List, [], ◌∷◌, ◌++◌, All, length, map, take, drop, reverse, slice_index, refl, sym, ap, subst, ◌∙◌, arith, append-nil, append_assoc, length-drop}
 use Rattle.std.specs.Prelude.{if◌then◌else◌, nat_lt, slice_index_or, slice_range, zip, IsPermutation}
 use Rattle.std.specs.List.{range_with_len}
 use Rattle.std.proofs.lemmas.Bool.{le-ltb, lt-ltb, ne_eqb}
-use Rattle.std.proofs.lemmas.List.{drop_all, drop_more}
-use Rattle.std.proofs.lemmas.List.Elements.{All-drop, All-take, All-head, All-tail}
-use Rattle.std.proofs.lemmas.List.Sorted.{length_permutation}
-use Rattle.jsonc_tree.specs.Content.{Content}
+use Rattle.std.proofs.lemmas.List.{drop_all, drop_more, length-map}
+use Rattle.std.proofs.lemmas.List.Elements.{All-drop, All-from_get_or, All-take, All-head, All-tail}
+use Rattle.std.proofs.lemmas.List.FromFn.{get_or-range_with_len, length-range_with_len}
+use Rattle.std.proofs.lemmas.List.Sorted.{All-permutation, length_permutation}
+use Rattle.jsonc_tree.specs.Content.{Content, token}
 use Rattle.jsonc_tree.specs.Tree.{Node, content_at, IsTree}
 use Rattle.jsonc_tree.specs.declared.node.CstNewlineKind.{CstNewlineKind}
 use Rattle.jsonc_edit.specs.Put.{Prepared}
@@ -15,7 +16,7 @@ use Rattle.jsonc_sort.specs.Sorting.{Entry, ends_with_comma, entry_at, no_entry,
 use Rattle.jsonc_sort.specs.Parts.{has_comma}
 use Rattle.jsonc_sort.specs.Places.{IsRead, IsWithin, bare_tail_of, end_after, entry_of, has_comma_of, tail_of}
 use Rattle.jsonc_sort.specs.Plans.{Gains, IsReady, Planned, RowPlanned, Stood, entry_by, last_has_comma, tail_by, travels_from}
-use Rattle.jsonc_sort.specs.declared.entries.Places.{Places}
+use Rattle.jsonc_sort.specs.declared.places.Places.{Places}
 use Rattle.jsonc_sort.specs.declared.plan.Plan.{Plan}
 use Rattle.jsonc_sort.proofs.Choosing.{Each, choose_by}
 use Rattle.jsonc_sort.proofs.Planning.{gains_then, prepared_same, prepared_then, ready_none}
@@ -40,7 +41,7 @@ module _ (old : List Node) where
     stood_slice i j = stood_all (slice_range row i j) (All-take (λ n. n < length old) (j - i) (drop i row) (All-drop (λ n. n < length old) i row there))
 
     stood_tail : (comma : Bool) (q : Places) → Stood old (tail_by row comma q)
-    stood_tail true q = choose_by (Stood old) (has_comma_of q) (all_stay (tail_of row q)) (comes _ ∷ all_stay (tail_of row q)) (λ e. stood_slice (q.element + 1) q.end) (λ e. stood_slice (q.element + 1) q.end)
+    stood_tail true q = choose_by (Stood old) (has_comma_of q) (all_stay (tail_of row q)) (comes (token 0x2C) ∷ all_stay (tail_of row q)) (λ e. stood_slice (q.element + 1) q.end) (λ e. stood_slice (q.element + 1) q.end)
     stood_tail false q =
         choose_by (Stood old) (has_comma_of q) (all_stay (bare_tail_of row q)) (all_stay (tail_of row q))
         (λ e. subst (Stood old) (sym (stay_joined (slice_range row (q.element + 1) q.comma) (slice_range row q.behind q.end))) (stood_then (all_stay (slice_range row (q.element + 1) q.comma)) (all_stay (slice_range row q.behind q.end)) (stood_slice (q.element + 1) q.comma) (stood_slice q.behind q.end)))
@@ -64,8 +65,30 @@ module _ (row : List ℕ) (q : Places) where
   whole_by true e = sym (rw e refl)
   whole_by false e = sym (rw e refl)
 
-  pub comma_by : has_comma_of q ≡ false → comes _ ∷ all_stay (tail_of row q) ≡ tail_by row true q
+  pub comma_by : has_comma_of q ≡ false → comes (token 0x2C) ∷ all_stay (tail_of row q) ≡ tail_by row true q
   comma_by e = sym (rw e refl)
+
+  pub bare_gained : {A : Type 0} (a b d : List Node) (x y z : Plan A) (comma : Bool) → has_comma_of q ≡ true → comma ≡ false → Gains a x b y (all_stay (slice_range row q.behind q.end)) → Gains b y d z (all_stay (slice_range row (q.element + 1) q.comma)) → Gains a x d z (tail_by row comma q)
+  bare_gained a b d x y z comma e off f g =
+      subst (λ k. Gains a x d z (tail_by row k q)) (sym off)
+      (subst (Gains a x d z) (bare_by e) (gains_then a b d x y z (all_stay (slice_range row q.behind q.end)) (all_stay (slice_range row (q.element + 1) q.comma)) f g))
+
+-- an entry is put, its tail first
+pub entry_gained : {A : Type 0} (row : List ℕ) (first comma : Bool) (p q : Places) (from : ℕ) (a b d e f g : List Node) (u v w x y z : Plan A) → from ≡ travels_from first q
+    → Gains a u b v (tail_by row comma q) → Gains b v d w (stays (slice_index row q.element) ∷ []) → Gains d w e x (all_stay (slice_range row p.indent p.element)) → Gains e x f y (all_stay (slice_range row from q.indent)) → Gains f y g z (all_stay (slice_range row p.lead p.travels))
+    → Gains a u g z (entry_by row first comma p q)
+entry_gained row first comma p q from a b d e f g u v w x y z is one two three four five =
+    let front : List Slot = all_stay (slice_range row p.lead p.travels) in
+    let travels : List Slot = all_stay (slice_range row from q.indent) in
+    let indent : List Slot = all_stay (slice_range row p.indent p.element) in
+    let element : List Slot = stays (slice_index row q.element) ∷ [] in
+    let tail : List Slot = tail_by row comma q in
+    let all : Gains a u g z (front ++ (travels ++ (indent ++ (element ++ tail)))) =
+    gains_then a f g u y z (travels ++ (indent ++ (element ++ tail))) front
+    (gains_then a e f u x y (indent ++ (element ++ tail)) travels (gains_then a d e u w x (element ++ tail) indent (gains_then a b d u v w tail element one two) three) four) five in
+    let same : front ++ (travels ++ (indent ++ (element ++ tail))) ≡ front ++ travels ++ indent ++ (element ++ tail) =
+    sym (append_assoc front travels (indent ++ (element ++ tail))) ∙ sym (append_assoc (front ++ travels) indent (element ++ tail)) in
+    subst (Gains a u g z) (same ∙ ap (λ k. front ++ all_stay (slice_range row k q.indent) ++ indent ++ (element ++ tail)) is) all
 
 -- by its places an entry in the place of another is what it is by the row
 module _ (at : ℕ → Content) (row : List ℕ) where
@@ -108,14 +131,16 @@ zip_at : {X Y : Type 0} (xs : List X) (ys : List Y) (k : ℕ) (x : X) (y : Y) �
 zip_at [] ys k x y h l = absurd (omega arith)
 zip_at (a ∷ xs) [] k x y h l = absurd (omega arith)
 zip_at (a ∷ xs) (b ∷ ys) zero x y h l = refl
-zip_at (a ∷ xs) (b ∷ ys) (suc k) x y h l = zip_at xs ys k x y (omega arith) (omega arith)
+zip_at (a ∷ xs) (b ∷ ys) (suc k) x y h l =
+    let one : suc k + 1 ≡ suc (k + 1) = omega arith in
+    zip_at xs ys k x y (omega arith) (omega arith) ∙ ap (λ j. (slice_index_or xs k x, slice_index_or ys k y) ∷ drop j ((a, b) ∷ zip xs ys)) (sym one)
 
 map_at : {X Y : Type 0} (f : X → Y) (xs : List X) (k : ℕ) (x : X) (y : Y) → k < length xs → slice_index_or (map f xs) k y ≡ f (slice_index_or xs k x)
 map_at f [] k x y h = absurd (omega arith)
 map_at f (a ∷ xs) zero x y h = refl
 map_at f (a ∷ xs) (suc k) x y h = map_at f xs k x y (omega arith)
 
-module _ {A : Type 0} (old : List Node) (kind : CstNewlineKind) (row : List ℕ) (ps : List Places) (order : List ℕ) where
+module _ (old : List Node) (kind : CstNewlineKind) (row : List ℕ) (ps : List Places) (order : List ℕ) where
   abbrev at : ℕ → Content
   at = content_at old
 
@@ -129,7 +154,7 @@ module _ {A : Type 0} (old : List Node) (kind : CstNewlineKind) (row : List ℕ)
   so_far commas place = placed at (place == 0) commas (drop place all) ++ behind
 
   -- the row is planned from the entry of a number on
-  pub record SoFar (now : List Node) (commas : Bool) (plan : Plan A) (place : ℕ) : Type 0 where
+  pub record SoFar {A : Type 0} (now : List Node) (commas : Bool) (plan : Plan A) (place : ℕ) : Type 0 where
     pub within : place ≤ length ps
     pub planned : Planned old now kind plan (so_far commas place)
     pub prepared : Prepared old now
@@ -138,7 +163,7 @@ module _ {A : Type 0} (old : List Node) (kind : CstNewlineKind) (row : List ℕ)
     all_length : length all ≡ length ps
     all_length = zip_length (map (entry_of row) ps) (map (entry_at (map (entry_of row) ps)) order) (length-map order (entry_at (map (entry_of row) ps)) ∙ long ∙ sym (length-map ps (entry_of row))) ∙ length-map ps (entry_of row)
 
-    pub started : (commas : Bool) (now : List Node) (plan next : Plan A) (place : ℕ) → IsTree old → plan.newline ≡ kind → plan.goes_on ≡ true → plan.nodes.items ≡ [] → Gains old plan now next behind → Prepared old now → place ≡ length ps → SoFar now commas next place
+    pub started : {A : Type 0} (commas : Bool) (now : List Node) (plan next : Plan A) (place : ℕ) → IsTree old → plan.newline ≡ kind → plan.goes_on ≡ true → plan.nodes.items ≡ [] → Gains old plan now next behind → Prepared old now → place ≡ length ps → SoFar now commas next place
     started commas now plan next place tree newline goes nodes gains prepared e =
         let first : Planned old old kind plan [] = record { newline = newline; goes_on = goes; ready = subst (IsReady old old []) (sym (ap reverse nodes)) (ready_none old tree) } in
         let none : drop place all ≡ [] = drop_all place all (omega (arith, e, all_length)) in
@@ -149,7 +174,7 @@ module _ {A : Type 0} (old : List Node) (kind : CstNewlineKind) (row : List ℕ)
           prepared = prepared;
         }
 
-    pub entry_planned : (commas comma : Bool) (now later : List Node) (plan next : Plan A) (place : ℕ) (p q : Places) → SoFar now commas plan place → 0 < place → slice_index order (place - 1) < length ps
+    pub entry_planned : {A : Type 0} (commas comma : Bool) (now later : List Node) (plan next : Plan A) (place : ℕ) (p q : Places) → SoFar now commas plan place → 0 < place → slice_index order (place - 1) < length ps
         → p ≡ slice_index_or ps (place - 1) p → q ≡ slice_index_or ps (slice_index order (place - 1)) q → comma ≡ (nat_lt place (length ps) || commas)
         → Gains now plan later next (entry_by row (place - 1 == 0) comma p q) → Prepared now later → SoFar later commas next (place - 1)
     entry_planned commas comma now later plan next place p q s low chosen is_p is_q is_comma gains prepared =
@@ -186,9 +211,24 @@ module _ {A : Type 0} (old : List Node) (kind : CstNewlineKind) (row : List ℕ)
           prepared = prepared_then old now later s.prepared prepared;
         }
 
-    pub row_is_planned : (commas : Bool) (now : List Node) (plan : Plan A) (place : ℕ) → commas ≡ last_has_comma ps → SoFar now commas plan place → place ≡ 0 → (nodes : List ℕ) → nodes ≡ reverse plan.nodes.items → RowPlanned old now kind row ps order nodes
+    pub row_is_planned : {A : Type 0} (commas : Bool) (now : List Node) (plan : Plan A) (place : ℕ) → commas ≡ last_has_comma ps → SoFar now commas plan place → place ≡ 0 → (nodes : List ℕ) → nodes ≡ reverse plan.nodes.items → RowPlanned old now kind row ps order nodes
     row_is_planned commas now plan place is s e nodes f =
         let es : List Entry = map (entry_of row) ps in
         let whole : so_far commas place ≡ rearranged at es order ++ behind =
         ap (so_far commas) e ∙ ap (λ b. placed at true b all ++ behind) (is ∙ last_is at row ps read) in
         subst (λ l. IsReady old now (lines_ended at kind l) nodes) whole (subst (IsReady old now (lines_ended at kind (so_far commas place))) (sym f) s.planned.ready)
+
+-- places and orders within their bounds
+pub end_within : (row : List ℕ) (from : ℕ) (ps : List Places) → from ≤ length row → All (IsWithin row) ps → end_after from ps ≤ length row
+end_within row from [] h each = h
+end_within row from (p ∷ ps) h each = end_within row p.end ps (All-head (IsWithin row) p ps each).end (All-tail (IsWithin row) p ps each)
+
+pub all_within : (at : ℕ → Content) (row : List ℕ) (ps : List Places) → All (IsRead at row) ps → All (IsWithin row) ps
+all_within at row ps each k d h = (each k d h).within
+
+module _ (n : ℕ) (order : List ℕ) (perm : IsPermutation (range_with_len 0 n) order) where
+  pub order_long : length order ≡ n
+  order_long = length_permutation (range_with_len 0 n) order perm ∙ length-range_with_len 0 n
+
+  pub order_below : (k : ℕ) → k < length order → slice_index order k < n
+  order_below k h = All-permutation (λ i. i < n) (range_with_len 0 n) order perm (All-from_get_or (λ i. i < n) (range_with_len 0 n) 0 (λ i l. omega (arith, get_or-range_with_len 0 n i 0 (omega (arith, l, length-range_with_len 0 n)), l, length-range_with_len 0 n))) k 0 h

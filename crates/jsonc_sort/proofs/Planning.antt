@@ -73,15 +73,25 @@ both_true : (a b : Bool) → (a && b) ≡ true → (a ≡ true) × (b ≡ true)
 both_true true b e = (refl, e)
 both_true false b e = cc
 
-module _ {A : Type 0} where
-  goes_same : (old now : List Node) (n : ℕ) (goes : Bool) (slots : List Slot) → content_at now n ≡ content_at old n → goes ≡ goes_on (content_at old) slots → goes_before now n goes ≡ goes_on (content_at old) (stays n ∷ slots)
-  goes_same old now n goes slots e f =
-      ap (λ (c : Content). if is_whitespace c then goes else not (is_newline c)) e ∙ ap (λ g. if is_whitespace (content_at old n) then g else not (is_newline (content_at old n))) f
+goes_same : (old now : List Node) (n : ℕ) (goes : Bool) (slots : List Slot) → content_at now n ≡ content_at old n → goes ≡ goes_on (content_at old) slots → goes_before now n goes ≡ goes_on (content_at old) (stays n ∷ slots)
+goes_same old now n goes slots e f =
+    ap (λ (c : Content). if is_whitespace c then goes else not (is_newline c)) e ∙ ap (λ g. if is_whitespace (content_at old n) then g else not (is_newline (content_at old n))) f
 
+stood_first : (old : List Node) (xs ys : List Slot) → Stood old (xs ++ ys) → Stood old xs
+stood_first old [] ys h = tt
+stood_first old (stays n ∷ xs) ys h = (h.0, stood_first old xs ys h.1)
+stood_first old (comes content ∷ xs) ys h = stood_first old xs ys h
+
+stood_second : (old : List Node) (xs ys : List Slot) → Stood old (xs ++ ys) → Stood old ys
+stood_second old [] ys h = h
+stood_second old (stays n ∷ xs) ys h = stood_second old xs ys h.1
+stood_second old (comes content ∷ xs) ys h = stood_second old xs ys h
+
+module _ {A : Type 0} where
   -- a comma comes first
   pub comma_gained : (now later : List Node) (plan mid next : Plan A) → IsTree later → GainsLeaf now plan later mid (token 0x2C) → next.newline ≡ mid.newline → next.nodes.items ≡ mid.nodes.items → next.goes_on ≡ true → Gains now plan later next (comes (token 0x2C) ∷ [])
-  comma_gained now later plan mid next tree g newline nodes goes old kind slots p h = record {
-    newline = newline ∙ g.newline ∙ p.newline;
+  comma_gained now later plan mid next tree g ends nodes goes old kind slots p h = record {
+    newline = ends ∙ g.newline ∙ p.newline;
     goes_on = goes;
     ready = subst (IsReady old later (comes (token 0x2C) ∷ lines_ended (content_at old) kind slots)) (sym (ap reverse (nodes ∙ g.nodes) ∙ turned plan.nodes.items (length now)))
         (ready_leaf old now (lines_ended (content_at old) kind slots) (reverse plan.nodes.items) p.ready later (token 0x2C) tree g.added);
@@ -120,16 +130,6 @@ module _ {A : Type 0} where
         ready = subst (λ l. IsReady old later l (reverse next.nodes.items)) (sym (line_added old kind n slots comment goes))
             (subst (IsReady old later (stays n ∷ comes (newline kind) ∷ rest)) (sym row) (ready_child old later (comes (newline kind) ∷ rest) (length now ∷ reverse plan.nodes.items) leaf n h.0));
       }
-
-  stood_first : (old : List Node) (xs ys : List Slot) → Stood old (xs ++ ys) → Stood old xs
-  stood_first old [] ys h = tt
-  stood_first old (stays n ∷ xs) ys h = (h.0, stood_first old xs ys h.1)
-  stood_first old (comes content ∷ xs) ys h = stood_first old xs ys h
-
-  stood_second : (old : List Node) (xs ys : List Slot) → Stood old (xs ++ ys) → Stood old ys
-  stood_second old [] ys h = h
-  stood_second old (stays n ∷ xs) ys h = stood_second old xs ys h.1
-  stood_second old (comes content ∷ xs) ys h = stood_second old xs ys h
 
   -- one after another
   pub gains_then : (a b d : List Node) (p q r : Plan A) (first second : List Slot) → Gains a p b q first → Gains b q d r second → Gains a p d r (second ++ first)

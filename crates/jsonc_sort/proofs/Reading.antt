@@ -62,11 +62,18 @@ module _ (at : ℕ → Content) where
   -- with one more node in front
   bare_more : (n : ℕ) (row : List ℕ) (k : ℕ) → (k ≡ 0 → is_whitespace_at at n ≡ false) → Bare (n ∷ row) (suc k) ≡ n ∷ Bare row k
   bare_more n row zero h = rw (h refl) refl
-  bare_more n row (suc j) h = by (is_whitespace_at at (slice_index row j))
+  bare_more n row (suc j) h = ap (λ k. take (before_blank at (n ∷ row) (suc (suc j))) (n ∷ row) ++ drop k (n ∷ row)) one ∙ by (is_whitespace_at at (slice_index row j))
     where
-      by : (w : Bool) → take (if w then suc j else suc (suc j)) (n ∷ row) ++ drop (suc (suc j) + 1) (n ∷ row) ≡ n ∷ (take (if w then j else suc j) row ++ drop (suc j + 1) row)
+      one : suc (suc j) + 1 ≡ suc (suc j + 1)
+      one = omega arith
+
+      by : (w : Bool) → take (if w then suc j else suc (suc j)) (n ∷ row) ++ drop (suc j + 1) row ≡ n ∷ (take (if w then j else suc j) row ++ drop (suc j + 1) row)
       by true = refl
       by false = refl
+
+  without_first : (m : ℕ) (row : List ℕ) → is_comma_at at m ≡ true → without_comma at (m ∷ row) ≡ row
+  without_first m [] f = rw f refl
+  without_first m (k ∷ row) f = rw f refl
 
   without_there : (row : List ℕ) → before_comma at row < length row → without_comma at row ≡ Bare row (before_comma at row)
   without_there [] h = absurd (omega arith)
@@ -81,12 +88,12 @@ module _ (at : ℕ → Content) where
         | inr e ↦ (elim (cases_Bool (is_comma_at at m)) [
           | inl f ↦ (elim (cases_Bool (is_whitespace_at at n)) [
             | inl w ↦ rw (e, f, w) refl
-            | inr w ↦ rw (e, f, w) refl
+            | inr w ↦ rw (e, w, without_first m row f, f, w) refl
           ])
           | inr f ↦ (
               let k : ℕ = before_comma at row in
-              let later : before_comma at (m ∷ row) ≡ suc k = rw f refl in
-              let here : before_comma at (n ∷ m ∷ row) ≡ suc (before_comma at (m ∷ row)) = rw e refl in
+              let later : before_comma at (m ∷ row) ≡ suc k = rw f (omega arith) in
+              let here : before_comma at (n ∷ m ∷ row) ≡ suc (before_comma at (m ∷ row)) = rw e (omega arith) in
               let rest : without_comma at (m ∷ row) ≡ Bare (m ∷ row) (before_comma at (m ∷ row)) = without_there (m ∷ row) (omega (arith, h, here)) in
               let first : without_comma at (n ∷ m ∷ row) ≡ n ∷ without_comma at (m ∷ row) = skip n m row e f in
               let more : Bare (n ∷ m ∷ row) (suc (before_comma at (m ∷ row))) ≡ n ∷ Bare (m ∷ row) (before_comma at (m ∷ row)) = bare_more n (m ∷ row) (before_comma at (m ∷ row)) (λ z. absurd (omega (arith, z, later))) in

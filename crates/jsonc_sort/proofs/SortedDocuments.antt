@@ -33,12 +33,12 @@ some_value o (in_root {row = row} e k) (below, same, h) = let first : below ≡ 
 
 module _ (o : Options) (t u : OrderedTree) (path order : List ℕ) (sound : SoundTree o t) (at : SortedAt path order t u) where
   still : SoundTree o u
-  still = stays_sound o t sound at.kind at.top at.sort path u at.changed at.order
+  still = stays_sound o t sound at.kind at.top at.sort path u at.changed at.is_order
 
   by_value : (old : Option Plain) → IsDocument o (printed_text t) old → DocumentValueOf o t old → SaysSorted o path order t u
   by_value None text value = absurd (some_value o at.changed value)
   by_value (Some x) text value =
-      let now = sorts_value o t x value at.kind at.top at.sort path u at.changed at.order in
+      let now = sorts_value o t x value at.kind at.top at.sort path u at.changed at.is_order in
       let printed = document_printed o u still.shaped still.lines in
       record {
         old = x;
@@ -46,7 +46,7 @@ module _ (o : Options) (t u : OrderedTree) (path order : List ℕ) (sound : Soun
         old_text = text;
         new_text = subst (λ w. IsDocument o (printed_text u) w) (document_once o u printed.0 (Some now.0) printed.2 now.1) printed.1;
         entries = subst (λ l. SortsEntries path l x now.0) at.by now.2;
-        marks = λ test. keeps_all_marks o t test sound at.kind at.top at.sort path u at.changed at.order;
+        marks = λ test. keeps_all_marks o t test sound at.kind at.top at.sort path u at.changed at.is_order;
         sound = still;
       }
 

@@ -25,9 +25,18 @@ module _ {X : Type 0} (row : List X) where
       ∙ take-take (i - t) (a + n - (a + t)) (drop (a + t) row) (omega (arith, h, k))
       ∙ sym (range_is (a + t) (a + i) (i - t) (omega (arith, h)))
 
+take_nil : {X : Type 0} (k : ℕ) → take {A = X} k [] ≡ []
+take_nil zero = refl
+take_nil (suc k) = refl
+
 -- a stretch in two
 pub take_both : {X : Type 0} (a b : ℕ) (xs : List X) → take (a + b) xs ≡ take a xs ++ take b (drop a xs)
-take_both zero b xs = refl
-take_both (suc a) zero [] = refl
-take_both (suc a) (suc b) [] = refl
-take_both (suc a) b (x ∷ xs) = ap (λ l. x ∷ l) (take_both a b xs)
+take_both zero b xs = ap (λ k. take k xs) (omega arith)
+take_both (suc a) b [] = ap (λ k. take k []) one ∙ sym (take_nil b)
+  where
+    one : suc a + b ≡ suc (a + b)
+    one = omega arith
+take_both (suc a) b (x ∷ xs) = ap (λ k. take k (x ∷ xs)) one ∙ ap (λ l. x ∷ l) (take_both a b xs)
+  where
+    one : suc a + b ≡ suc (a + b)
+    one = omega arith

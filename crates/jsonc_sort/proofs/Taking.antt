@@ -1,9 +1,9 @@
 -- A sorted row, once it is planned, may take its place.
-use Rattle.std.proofs.Common.{◌≡◌, ◌≢◌, ℕ, zero, suc, ◌+◌, ◌-◌, ◌<◌, ◌≤◌, ◌==◌, Bool, cond, true, false, not, ◌&&◌, inl, inr, List, [], ◌∷◌, ◌++◌, All, length, map, filter, take, drop, reverse, slice_index, Option, Some, None, IsTrue, refl, sym, ap, subst, ◌∙◌, arith, length-take, length-drop, length-map, get_or-take, get_or-drop, append-nil}
+use Rattle.std.proofs.Common.{◌≡◌, ◌≢◌, ℕ, zero, suc, ◌+◌, ◌-◌, ◌<◌, ◌≤◌, ◌==◌, Bool, cond, true, false, not, ◌&&◌, inl, inr, List, [], ◌∷◌, ◌++◌, All, length, map, filter, take, drop, reverse, slice_index, Option, Some, None, IsTrue, refl, sym, ap, subst, ◌∙◌, arith, length-take, length-drop, get_or-take, get_or-drop, append-nil}
 use Rattle.std.specs.Prelude.{if◌then◌else◌, IsPermutation}
 use Rattle.std.specs.List.{range_with_len}
 use Rattle.std.proofs.lemmas.Bool.{cases_eq, cases_lt, eq-eqb, ne_eqb}
-use Rattle.std.proofs.lemmas.List.{drop_more, drop_all, reverse-append, take-append-drop}
+use Rattle.std.proofs.lemmas.List.{drop_more, drop_all, length-map, reverse-append, take-append-drop}
 use Rattle.std.proofs.lemmas.List.Elements.{All-drop, All-from_get_or, All-take, filter-append}
 use Rattle.jsonc_tree.specs.Changes.{EachOnce, MakesRoom, Splices}
 use Rattle.jsonc_tree.specs.Content.{Content, newline}
@@ -25,7 +25,7 @@ use Rattle.jsonc_sort.specs.Sorting.{Entry, Headers, entries, goes_on, is_unchan
 use Rattle.jsonc_sort.specs.Places.{AreEntries, end_after, entry_of}
 use Rattle.jsonc_sort.specs.Plans.{IsReady, RowPlanned, times}
 use Rattle.jsonc_sort.specs.Rearranged.{IsOrderIn, PlansSort, Rearranged, moves, row_sorted}
-use Rattle.jsonc_sort.specs.declared.entries.Places.{Places}
+use Rattle.jsonc_sort.specs.declared.places.Places.{Places}
 use Rattle.jsonc_sort.proofs.Choosing.{Each, all_each, choose}
 use Rattle.jsonc_sort.proofs.Lines.{Held, rearranged_held}
 use Rattle.jsonc_sort.proofs.StayingOnce.{own, sorted_most, total, weight}
@@ -129,7 +129,7 @@ module _ (old : List Node) (c : ℕ) (tree : IsTree old) (there : c < length old
   inner_are : Each IsInner inner
   inner_are = all_each IsInner inner (All-from_get_or IsInner inner 0 (λ k h. is k (omega (arith, h, length-take (length kids - 1 - 1) (drop 1 kids), length-drop 1 kids))))
     where
-      is : (k : ℕ) → k + 2 < length kids + 1 → IsInner (slice_index inner k)
+      is : (k : ℕ) → k + 2 < length kids → IsInner (slice_index inner k)
       is k h =
           let same : slice_index inner k ≡ slice_index kids (1 + k) = get_or-take (length kids - 1 - 1) (drop 1 kids) k 0 (omega (arith, h)) ∙ get_or-drop 1 kids k 0 in
           let place : place_at old (slice_index inner k) ≡ 1 + k = ap (place_at old) same ∙ tree.placed c (1 + k) (omega (arith, h)) in

@@ -23,7 +23,7 @@ pub record SortedAt (path order : List ℕ) (t u : OrderedTree) : Type 0 where
   pub top : ℕ → Top
   pub sort : Sort
   pub by : sort.order ≡ order
-  pub order : IsOrderOf top sort.row sort.order
+  pub is_order : IsOrderOf top sort.row sort.order
   pub changed : DocumentChanged (container_before kind top sort) (container_after kind top sort) path t u
 
 -- so it is where the elements of c, at a path of a sound document, come in another order

@@ -6,7 +6,7 @@ use Rattle.jsonc_nodes.specs.Kinds.{is_element}
 use Rattle.jsonc_sort.specs.Parts.{has_comma, is_comma_at, is_newline_at, is_whitespace_at, parts, tail_length}
 use Rattle.jsonc_sort.specs.Leads.{LeadParts, blank_lines, is_comment_at, lead_parts}
 use Rattle.jsonc_sort.specs.Sorting.{Entry, Headers, end_of, entries, entries_from, first_pin, row_end, without_comma}
-use Rattle.jsonc_sort.specs.declared.entries.Places.{Places}
+use Rattle.jsonc_sort.specs.declared.places.Places.{Places}
 use Rattle.jsonc_sort.specs.declared.leads.Lead.{Lead}
 use Rattle.jsonc_sort.specs.declared.parts.Comma.{Comma}
 
@@ -92,8 +92,8 @@ module _ (at : ℕ → Content) where
   is_last_at row element = nat_le (length (drop (element + 1) row)) (before_element (drop (element + 1) row))
 
   pub record ArePlaces (row : List ℕ) (from element : ℕ) (groups : Bool) (pin : Option ℕ) (p : Places) : Type 0 where
-    pub lead : p.lead ≡ from
-    pub element : p.element ≡ element
+    pub begins : p.lead ≡ from
+    pub stands : p.element ≡ element
     pub parts : (entry_of row p).lead ≡ lead_parts at groups pin (slice_range row from element)
     pub end : p.end ≡ element + 1 + tail_length at (is_last_at row element) (gap_behind row element)
     pub far : tail_length at (is_last_at row element) (gap_behind row element) ≤ length (gap_behind row element)
@@ -108,7 +108,7 @@ module _ (at : ℕ → Content) where
 
   -- the next entry from a place on, before which so many comments are pinned
   pub record IsNext (row : List ℕ) (from : ℕ) (groups : Bool) (pin : Option ℕ) (p : Places) : Type 0 where
-    pub from : from ≤ p.lead
+    pub begins : from ≤ p.lead
     pub read : IsRead row p
     pub entry : (pins : List (Option ℕ)) → first_pin pins ≡ pin → entries_past row from groups pins ≡ entry_of row p ∷ entries_past row p.end groups (drop 1 pins)
     pub behind : end_past row from ≡ end_past row p.end

@@ -10,7 +10,7 @@ use Rattle.jsonc_multiline.specs.Slots.{AreFilled}
 use Rattle.jsonc_sort.specs.Slots.{Slot, stays, comes, all_stay}
 use Rattle.jsonc_sort.specs.Sorting.{goes_on, lines_ended, rearranged}
 use Rattle.jsonc_sort.specs.Places.{bare_tail_of, end_after, entry_of, has_comma_of, tail_of}
-use Rattle.jsonc_sort.specs.declared.entries.Places.{Places}
+use Rattle.jsonc_sort.specs.declared.places.Places.{Places}
 use Rattle.jsonc_sort.specs.declared.plan.Plan.{Plan}
 
 -- what belongs to an element, with its comma or without, by its places
@@ -57,6 +57,10 @@ Stood old [] = Unit {0}
 Stood old (stays n ∷ slots) = (n < length old) × Stood old slots
 Stood old (comes content ∷ slots) = Stood old slots
 
+-- something else than whitespace and a line's end comes next, where this node is put before the others
+abbrev pub goes_before : List Node → ℕ → Bool → Bool
+goes_before ns n goes = if is_whitespace_at ns n then goes else not (is_newline_at ns n)
+
 module _ {A : Type 0} where
   -- The end of a row has been planned, its places before the ends of lines came.
   pub record Planned (old now : List Node) (kind : CstNewlineKind) (plan : Plan A) (slots : List Slot) : Type 0 where
@@ -74,10 +78,6 @@ module _ {A : Type 0} where
     pub newline : next.newline ≡ plan.newline
     pub goes_on : next.goes_on ≡ plan.goes_on
     pub nodes : next.nodes.items ≡ plan.nodes.items ++ length now ∷ []
-
-  -- something else than whitespace and a line's end comes next, where this node is put before the others
-  abbrev pub goes_before : List Node → ℕ → Bool → Bool
-  goes_before ns n goes = if is_whitespace_at ns n then goes else not (is_newline_at ns n)
 
   -- a node is planned first, and no end of a line
   pub record GainsNode (now : List Node) (plan next : Plan A) (n : ℕ) : Type 0 where

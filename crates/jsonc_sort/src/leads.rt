@@ -1,9 +1,9 @@
 //! What stands before an element: what of it stays in its place, and what goes where the element goes.
 
 ghost use Rattle.std.specs.Prelude.{◌≡◌, ◌≤◌, IsTrue, length, max, take};
-ghost use Rattle.std.specs.List.{list_any, suffix_len, take_while};
+ghost use Rattle.std.specs.List.{list_any, position_or_len, suffix_len, take_while};
 ghost use Rattle.jsonc_tree.specs.Tree.{content_at};
-ghost use Rattle.jsonc_sort.specs.Leads.{before_comment, blank_lines, comments, first_line, has_blank_line};
+ghost use Rattle.jsonc_sort.specs.Leads.{before_comment, blank_lines, comments, has_blank_line};
 ghost use Rattle.jsonc_sort.specs.Leads.{header_by, header_length, header_of, is_blank_at, lead_parts, parts_of_lines, spaces, through_last_line};
 ghost use Rattle.jsonc_sort.specs.Parts.{is_newline_at, is_no_newline_at};
 ghost use Rattle.jsonc_sort.specs.Places.{ended_behind, lead_of, left_behind};
@@ -175,14 +175,14 @@ fn header_length<A: Allocator>(
     header_by(tree, pinned, row)
 }
 
-// How many nodes it is through the first end of a line.
-fn first_line<A: Allocator>(tree: &Tree<A>, row: &[usize]) -> usize
-    ensures { result ≡ first_line (content_at tree.now.nodes) row.now }
+// How many nodes stand before the first end of a line, or all.
+fn before_newline<A: Allocator>(tree: &Tree<A>, row: &[usize]) -> usize
+    ensures count { result ≡ position_or_len (is_newline_at (content_at tree.now.nodes)) row.now }
+    ensures within { result ≤ length row.now }
 {
     row.iter()
         .take_while(|node| !is_newline(tree, **node))
         .count()
-        + 1
 }
 
 // A lead in which a line ends: what is through its end stays, and a header behind that, and the
@@ -198,7 +198,7 @@ fn parts_of_lines<A: Allocator>(
     ensures order { result.travels ≤ result.indent }
     ensures within { result.indent ≤ length lead.now }
 {
-    let first = first_line(tree, lead);
+    let first = before_newline(tree, lead) + 1;
     let rest = &lead[first..];
     let indent = up_to_spaces(tree, rest);
     let header = header_length(tree, begins, pinned, &rest[..indent]);

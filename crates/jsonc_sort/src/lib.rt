@@ -12,12 +12,12 @@
 //! (`specs/Rearranged.antt`), so a refusal leaves the document as it was.
 #![tactic(auto)]
 
-mod entries;
 mod kinds;
 pub mod laws;
 mod leads;
+mod order;
 mod parts;
+mod places;
 mod plan;
-mod rearrange;
 
-pub use rearrange::rearrange;
+pub use order::rearrange;

@@ -2,7 +2,7 @@
 //!
 //! The row is planned from its end on, since a line's end comes behind a line comment by what follows it.
 
-ghost use Rattle.std.specs.Prelude.{◌≡◌, ◌&&◌, ◌<◌, ◌∷◌, [], IfOk, IsPermutation, OnOk, false, length};
+ghost use Rattle.std.specs.Prelude.{◌≡◌, ◌&&◌, ◌<◌, ◌≤◌, ◌||◌, ◌∷◌, [], IfOk, IsPermutation, OnOk, false, length, nat_lt, slice_index};
 ghost use Rattle.std.specs.List.{range_with_len, All};
 ghost use Rattle.jsonc_tree.specs.Content.{is_container, token};
 ghost use Rattle.jsonc_tree.specs.Stored.{content_of};
@@ -14,8 +14,8 @@ ghost use Rattle.jsonc_sort.specs.Places.{IsRead, IsWithin, end_after, has_comma
 ghost use Rattle.jsonc_sort.specs.Plans.{Gains, GainsLeaf, GainsNode, RowPlanned, entry_by, goes_before, last_has_comma, tail_by, travels_from};
 ghost use Rattle.jsonc_sort.specs.Slots.{all_stay, comes, stays};
 
-use crate::entries::Places;
 use crate::kinds::is_line_comment;
+use crate::places::Places;
 use jsonc_nodes::{is_newline, is_whitespace};
 use jsonc_tree::{CstNewlineKind, Kind, Tree};
 use std::alloc::{AllocError, Allocator};
@@ -201,13 +201,32 @@ fn ends_with_comma(entries: &[Places]) -> bool
 }
 
 // Where the last of the entries ends, or the row begins.
-fn end_after(entries: &[Places]) -> usize
-    ensures { result ≡ end_after 0 entries.now }
+fn end_after(row: &[usize], entries: &[Places]) -> usize
+    requires { All (IsWithin row.now) entries.now }
+    ensures end { result ≡ end_after 0 entries.now }
+    ensures within { result ≤ length row.now }
 {
     match entries.last() {
         Some(entry) => entry.end,
         None => 0,
     }
+}
+
+// Whether the entry before a place has a comma: each but the last, and the last if the last has had one.
+fn comma_before(place: usize, count: usize, commas: bool) -> bool
+    ensures { result ≡ (nat_lt place count || commas) }
+{
+    place < count || commas
+}
+
+// The number of the entry that comes to a place.
+fn number_at(order: &[usize], count: usize, place: usize) -> usize
+    requires order { IsPermutation (range_with_len 0 count) order.now }
+    requires place { place < length order.now }
+    ensures number { result ≡ slice_index order.now place }
+    ensures within { result < count }
+{
+    order[place]
 }
 
 /// The row with its elements in an order, which names the old number of each, by the numbers of the
@@ -233,11 +252,12 @@ pub(crate) fn plan_row<A: Allocator>(
         goes_on: true,
     };
     let commas = ends_with_comma(entries);
-    put_stretch(tree, &mut plan, &row[end_after(entries)..])?;
+    put_stretch(tree, &mut plan, &row[end_after(row, entries)..])?;
     let mut place = entries.len();
     while place > 0 {
-        let comma = place < entries.len() || commas;
+        let comma = comma_before(place, entries.len(), commas);
         place -= 1;
+        let number = number_at(order, entries.len(), place);
         put_entry(
             tree,
             &mut plan,
@@ -245,7 +265,7 @@ pub(crate) fn plan_row<A: Allocator>(
             place == 0,
             comma,
             &entries[place],
-            &entries[order[place]],
+            &entries[number],
         )?;
     }
     plan.nodes.reverse();
