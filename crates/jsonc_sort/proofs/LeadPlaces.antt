@@ -1,8 +1,8 @@
 -- Where the parts of an entry are.
 use Rattle.std.proofs.Common.{◌≡◌, ℕ, ◌+◌, ◌-◌, ◌<◌, ◌≤◌, Bool, true, false, inl, inr, List, [], ◌∷◌, ◌++◌, length, take, drop, slice_index, Option, refl, sym, ap, subst, ◌∙◌, arith, length-take, length-drop}
 use Rattle.std.specs.Prelude.{if◌then◌else◌, nat_le, nat_lt, slice_range}
-use Rattle.std.specs.List.{list_any, prefix_len}
-use Rattle.std.proofs.lemmas.Bool.{cases_lt, le-ltb, lt-ltb}
+use Rattle.std.specs.List.{list_any, position_or_len}
+use Rattle.std.proofs.lemmas.Bool.{cases_Bool, cases_lt, le-ltb, lt-ltb}
 use Rattle.std.proofs.lemmas.List.{drop_all, drop-drop, take_rest, take-take}
 use Rattle.jsonc_tree.specs.Content.{Content}
 use Rattle.jsonc_sort.specs.Leads.{LeadParts, begins_group, blank_lines, first_line, header_length, lead_parts, parts_of_line, parts_of_lines, spaces}
@@ -59,6 +59,15 @@ module _ (at : ℕ → Content) (lead : List ℕ) (l : Lead) where
 
   pub lead_line : (groups : Bool) (pin : Option ℕ) → list_any (is_newline_at at) lead ≡ false → lead_of lead l ≡ parts_of_line at lead → lead_of lead l ≡ lead_parts at groups pin lead
   lead_line groups pin e f = sym (rw e (sym f))
+
+-- where a line ends, its end is there
+pub newline_there : (at : ℕ → Content) (row : List ℕ) → list_any (is_newline_at at) row ≡ true → position_or_len (is_newline_at at) row < length row
+newline_there at [] e = cc
+newline_there at (n ∷ row) e =
+    elim (cases_Bool (is_newline_at at n)) [
+      | inl f ↦ rw f (omega arith)
+      | inr f ↦ (let rest : position_or_len (is_newline_at at) row < length row = newline_there at row (rw f at e) in rw f (omega (arith, rest)))
+    ]
 
 -- by places in a row
 lt_moved : (a b k : ℕ) → nat_lt a b ≡ nat_lt (k + a) (k + b)
@@ -142,3 +151,16 @@ module _ (at : ℕ → Content) (row : List ℕ) (from element : ℕ) (low : fro
           without = ap (without_comma at) tail ∙ is_comma.without ∙ bare;
         };
       }
+
+  -- the same, where what stands behind the element is told
+  pub places_by : (rest : List ℕ) → rest ≡ ys → (l : Lead) (blank gap t : ℕ) (last : Bool) (comma : Comma) (p : Places)
+      → lead_of lead l ≡ lead_parts at groups pin lead → l.travels ≤ l.indent → l.indent ≤ length lead
+      → blank ≡ blank_lines at (slice_range row (from + l.travels) (from + l.indent)) → blank ≤ length (slice_range row (from + l.travels) (from + l.indent))
+      → gap ≡ before_element at rest → gap ≤ length rest → last ≡ nat_le (length rest) gap → t ≡ tail_length at last (take gap rest) → t ≤ length (take gap rest)
+      → IsComma at (take t (take gap rest)) comma
+      → p.lead ≡ from → p.travels ≡ from + l.travels → p.solid ≡ from + l.travels + blank → p.indent ≡ from + l.indent → p.element ≡ element → p.comma ≡ element + 1 + comma.from → p.behind ≡ element + 1 + comma.to → p.end ≡ element + 1 + t
+      → ArePlaces at row from element groups pin p
+  places_by rest e l blank gap t last comma p parts order within is_blank short_blank is_gap short_gap is_last is_tail short is_comma e_lead e_travels e_solid e_indent e_element e_comma e_behind e_end =
+      let far : t ≤ gap = omega (arith, short, length-take gap rest) in
+      places_are l blank gap t last comma p parts order within is_blank short_blank (is_gap ∙ ap (before_element at) e) (subst (λ (x : List ℕ). gap ≤ length x) e short_gap) (is_last ∙ ap (λ (x : List ℕ). nat_le (length x) gap) e) (is_tail ∙ ap (λ x. tail_length at last (take gap x)) e)
+      (subst (λ (x : List ℕ). t ≤ length (take gap x)) e short) (subst (λ x. IsComma at x comma) (take-take t gap ys far) (subst (λ x. IsComma at (take t (take gap x)) comma) e is_comma)) e_lead e_travels e_solid e_indent e_element e_comma e_behind e_end

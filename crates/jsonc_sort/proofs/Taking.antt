@@ -205,6 +205,10 @@ module _ (old now : List Node) (c : ℕ) (tree : IsTree old) (there : c < length
       (subst (λ l. IsReady old now (lines_ended at kind (rearranged at (map (entry_of xs) places) order ++ all_stay l)) row) read.behind r) in
       sort_planned old c tree there now h order kind perm e f row (subst (λ l. IsReady old now (lines_ended at kind (rearranged at (entries at h l) order ++ all_stay (row_end at l))) row) same by_entries)
 
+-- the children that are read
+pub between_read : (kids xs : List ℕ) (count : ℕ) → xs ≡ kids → count ≡ length kids → take (count - 1 - 1) (drop 1 xs) ≡ between kids
+between_read kids xs count e f = ap (λ (l : List ℕ). take (count - 1 - 1) (drop 1 l)) e ∙ ap (λ k. take (k - 1 - 1) (drop 1 kids)) f
+
 -- what moves
 moving : (a b : Bool) → (a && not b) ≡ true → (a ≡ true) × (b ≡ false)
 moving true true e = cc

@@ -1,6 +1,6 @@
 //! The entries of a row: each element with what stands before it and what belongs to it.
 
-ghost use Rattle.std.specs.Prelude.{◌≡◌, ◌<◌, ◌≤◌, IfNone, IfOk, IfSome, drop, length};
+ghost use Rattle.std.specs.Prelude.{◌≡◌, ◌<◌, ◌≤◌, IfNone, IfOk, IfSome, drop, length, nat_le};
 ghost use Rattle.jsonc_tree.specs.Tree.{content_at};
 ghost use Rattle.jsonc_sort.specs.Places.{AreEntries, ArePlaces, IsLast, IsNext, before_element};
 ghost use Rattle.jsonc_sort.specs.Rearranged.{headers_of};
@@ -43,6 +43,13 @@ fn before_element<A: Allocator>(tree: &Tree<A>, row: &[usize]) -> usize
         .count()
 }
 
+// Whether so many nodes are all of a row.
+fn is_all(row: &[usize], count: usize) -> bool
+    ensures { result ≡ nat_le (length row.now) count }
+{
+    row.len() <= count
+}
+
 // The places of an entry, by where its lead begins and where the element is.
 fn places_of<A: Allocator>(
     tree: &Tree<A>,
@@ -60,9 +67,10 @@ fn places_of<A: Allocator>(
     let travels = from + lead.travels;
     let indent = from + lead.indent;
     let behind = &row[element + 1..];
-    let gap = before_element(tree, behind);
-    let tail = tail_length(tree, gap >= behind.len(), &behind[..gap]);
-    let comma = comma_in(tree, &behind[..tail]);
+    let count = before_element(tree, behind);
+    let gap = &behind[..count];
+    let tail = tail_length(tree, is_all(behind, count), gap);
+    let comma = comma_in(tree, &gap[..tail]);
     Places {
         lead: from,
         travels,
