@@ -58,7 +58,8 @@ fn sorted_row<A: Allocator + Copy>(
     let children = children(alloc, tree, container)?;
     let row = &children[1..children.len() - 1];
     let entries = entries(alloc, tree, row, pinned, groups)?;
-    plan_row(alloc, tree, newline, row, &entries, order)
+    let sorted = plan_row(alloc, tree, newline, row, &entries, order)?;
+    Ok(sorted)
 }
 
 /// Lets the elements of an array, or the properties of an object, come in another order, which names the

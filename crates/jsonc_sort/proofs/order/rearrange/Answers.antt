@@ -13,7 +13,7 @@ splice-requires-clause-join g c =
 
 pub returns-in_err-row-clause-document : goal.returns-in_err-row-clause-document
 returns-in_err-row-clause-document g c =
-    where_refused c.from_residual-in_err-row.result
+    where_refused c.from_residual.result
     (tree_stays c.args.tree.now.nodes c.sorted_row.new.tree.nodes c.len.ensures.tree c.sorted_row.ensures.prepared.keeps c.sorted_row.ensures.prepared.tree)
 
 pub returns-in_err-reserve-clause-document : goal.returns-in_err-reserve-clause-document
@@ -24,4 +24,4 @@ returns-in_err-reserve-clause-document g c =
 pub returns-clause-made : goal.returns-clause-made
 returns-clause-made g c =
     all_moves c.args.tree.now.nodes c.sorted_row.new.tree.nodes c.reserve.new.self.nodes c.splice.new.self.nodes c.args.container (headers_of c.args.pinned.now c.args.groups) c.args.order.now c.in_ok-row.row.items c.len.ensures.tree c.requires.there c.in_ok-row.ensures.planned c.reserve.ensures.kept c.reserve.ensures.tree
-    c.splice.ensures.tree c.child_count-count.result c.child_count-count.ensures c.deref.result.now c.deref.ensures.value c.splice.ensures.splices (sym c.moves.ensures ∙ c.if-moves.true)
+    c.splice.ensures.tree c.child_count-count.result c.child_count-count.ensures c.deref.result.now c.deref.ensures.value c.splice.ensures.splices (sym c.moves.ensures ∙ c.if-not-moves.false)
