@@ -29,10 +29,11 @@ pub record SortedAt (path order : List ℕ) (t u : OrderedTree) : Type 0 where
 -- so it is where the elements of c, at a path of a sound document, come in another order
 abbrev pub SortsAt : Options → List Node → List Node → List ℕ → ℕ → Headers → List ℕ → Type 0
 SortsAt o old new path c h order =
-    IsTree old → IsTree new → SoundTree o (ordered_tree old 0) → IsAt old path c → IsTrue (holds_values (content_at old c)) → IsOrderIn old c order → Rearranged old new c h order
-    → SortedAt path order (ordered_tree old 0) (ordered_tree new 0)
+    IsTree old → IsTree new → SoundTree o (ordered_tree old 0) → IsAt old path c → IsTrue (holds_values (content_at old c)) → IsOrderIn old c order
+    → Rearranged old new c h order → SortedAt path order (ordered_tree old 0) (ordered_tree new 0)
 
--- The text was a document, and is one whose value has the entries at the path in that order; each literal and comment is there as often as before; and the document is sound.
+-- The text was a document, and is one whose value has the entries at the path in that order; each literal and comment is
+-- there as often as before; and the document is sound.
 pub record SaysSorted (o : Options) (path order : List ℕ) (t u : OrderedTree) : Type 0 where
   pub old : Plain
   pub new : Plain
@@ -47,4 +48,5 @@ SortsDocument o t u path order = SoundTree o t → SortedAt path order t u → S
 
 -- all leaves outside of the array or object stay
 abbrev pub KeepsOutside : {path order : List ℕ} {t u : OrderedTree} → SortedAt path order t u → Type 0
-KeepsOutside {path} {order} {t} {u} s = DiffersIn (leaves_of (container_before s.kind s.top s.sort)) (leaves_of (container_after s.kind s.top s.sort)) (leaves t) (leaves u)
+KeepsOutside {path} {order} {t} {u} s =
+    DiffersIn (leaves_of (container_before s.kind s.top s.sort)) (leaves_of (container_after s.kind s.top s.sort)) (leaves t) (leaves u)

@@ -110,7 +110,8 @@ module _ (at : ℕ → Content) where
   pub record IsNext (row : List ℕ) (from : ℕ) (groups : Bool) (pin : Option ℕ) (p : Places) : Type 0 where
     pub begins : from ≤ p.lead
     pub read : IsRead row p
-    pub entry : (pins : List (Option ℕ)) → first_pin pins ≡ pin → entries_past row from groups pins ≡ entry_of row p ∷ entries_past row p.end groups (drop 1 pins)
+    pub entry : (pins : List (Option ℕ)) → first_pin pins ≡ pin
+        → entries_past row from groups pins ≡ entry_of row p ∷ entries_past row p.end groups (drop 1 pins)
     pub behind : end_past row from ≡ end_past row p.end
 
   -- no entry begins from there on

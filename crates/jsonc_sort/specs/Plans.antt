@@ -26,7 +26,8 @@ travels_from false p = p.travels
 -- an entry in the place of another: what stays is that of the place, what travels that of the entry
 abbrev pub entry_by : List ℕ → Bool → Bool → Places → Places → List Slot
 entry_by row first comma p q =
-    all_stay (slice_range row p.lead p.travels) ++ all_stay (slice_range row (travels_from first q) q.indent) ++ all_stay (slice_range row p.indent p.element) ++ stays (slice_index row q.element) ∷ tail_by row comma q
+    all_stay (slice_range row p.lead p.travels) ++ all_stay (slice_range row (travels_from first q) q.indent)
+    ++ all_stay (slice_range row p.indent p.element) ++ stays (slice_index row q.element) ∷ tail_by row comma q
 
 -- the last of the entries has a comma
 abbrev pub last_has_comma : List Places → Bool
@@ -70,7 +71,8 @@ module _ {A : Type 0} where
 
   -- whatever was planned is planned still, with these places before it
   abbrev pub Gains : List Node → Plan A → List Node → Plan A → List Slot → Type 0
-  Gains now plan later next more = (old : List Node) (kind : CstNewlineKind) (slots : List Slot) → Planned old now kind plan slots → Stood old more → Planned old later kind next (more ++ slots)
+  Gains now plan later next more = (old : List Node) (kind : CstNewlineKind) (slots : List Slot)
+      → Planned old now kind plan slots → Stood old more → Planned old later kind next (more ++ slots)
 
   -- a leaf has been made, and is planned first
   pub record GainsLeaf (now : List Node) (plan : Plan A) (later : List Node) (next : Plan A) (content : Content) : Type 0 where
@@ -85,7 +87,9 @@ module _ {A : Type 0} where
     pub goes_on : next.goes_on ≡ goes_before now n plan.goes_on
     pub nodes : next.nodes.items ≡ plan.nodes.items ++ n ∷ []
 
--- the whole row is planned, with its entries in an order
+-- the row with its entries in an order, before ends of lines come; and that is planned
+abbrev pub row_by : (ℕ → Content) → List ℕ → List Places → List ℕ → List Slot
+row_by at row places order = rearranged at (map (entry_of row) places) order ++ all_stay (drop (end_after 0 places) row)
+
 abbrev pub RowPlanned : List Node → List Node → CstNewlineKind → List ℕ → List Places → List ℕ → List ℕ → Type 0
-RowPlanned old now kind row places order nodes =
-    IsReady old now (lines_ended (content_at old) kind (rearranged (content_at old) (map (entry_of row) places) order ++ all_stay (drop (end_after 0 places) row))) nodes
+RowPlanned old now kind row places order nodes = IsReady old now (lines_ended (content_at old) kind (row_by (content_at old) row places order)) nodes

@@ -5,6 +5,10 @@ use Rattle.jsonc_tree.specs.Content as content
 use Rattle.jsonc_tree.specs.Content.{Content, null}
 use Rattle.jsonc_tree.specs.OrderedTree.{OrderedTree, Top, none, more, printed}
 use Rattle.jsonc_tree.specs.declared.node.CstNewlineKind.TheVariants.{LineFeed}
+use Rattle.jsonc_tree.specs.Tree.{Node}
+use Rattle.jsonc_edit.specs.Changes.{top_at}
+use Rattle.jsonc_multiline.specs.Worked.{commented_array, object_nodes, open_array}
+use Rattle.jsonc_sort.specs.Rearranged.{moves, row_sorted}
 use Rattle.jsonc_sort.specs.Slots.{Slot, row_in}
 use Rattle.jsonc_sort.specs.Sorting.{Headers, sorted}
 
@@ -132,3 +136,15 @@ pub record WorkedSorts : Type 0 where
   pub again : text_sorted (no_rule false) loose_sorted (0 ∷ 1 ∷ []) ≡ codes "1, // c \n 2\n"
   pub groups : text_sorted (no_rule true) grouped (1 ∷ 0 ∷ 3 ∷ 2 ∷ []) ≡ codes "1, 3,\n\n 0, 2"
   pub commas : text_sorted (no_rule false) bare (0 ∷ 2 ∷ 1 ∷ []) ≡ codes "2,3,[1]"
+
+-- what stands between the brackets of a container once its elements come in an order, by no rule
+abbrev pub text_rearranged : List Node → ℕ → List ℕ → List ℕ
+text_rearranged ns c order = printed (row_in (top_at ns) (row_sorted ns c (no_rule false) order))
+
+-- `{"a":1, "b":[2]}`, `[/*a*/ 1 /*b*/,2, ]`, and `[1`, whose last bracket was taken out
+pub record WorkedDocuments : Type 0 where
+  pub object : text_rearranged object_nodes 1 swapped ≡ codes "\"b\":[2], \"a\":1"
+  pub comments : text_rearranged commented_array 1 swapped ≡ codes "2,/*a*/ 1 /*b*/, "
+  pub same : moves object_nodes 1 (0 ∷ 1 ∷ []) ≡ false
+  pub other : moves object_nodes 1 swapped ≡ true
+  pub open_row : moves open_array 1 (0 ∷ []) ≡ false

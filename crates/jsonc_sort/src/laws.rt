@@ -10,7 +10,7 @@ ghost use Rattle.jsonc_sort.specs.Laws.{KeepsAllMarks, KeepsLines, KeepsMarks, K
 ghost use Rattle.jsonc_sort.specs.Laws.{Sort, SortsItems, SortsMembers, SortsValue, StaysSound};
 ghost use Rattle.jsonc_sort.specs.Paths.{KeepsOutside, SortedAt, SortsAt, SortsDocument};
 ghost use Rattle.jsonc_sort.specs.Sorting.{Headers};
-ghost use Rattle.jsonc_sort.specs.Worked.{WorkedHeaders, WorkedSorts};
+ghost use Rattle.jsonc_sort.specs.Worked.{WorkedDocuments, WorkedHeaders, WorkedSorts};
 
 /// Worked rows: a comment goes with the element that it stands behind, blank lines are left behind the
 /// first bracket, and where blanks stand before the end of a line they stay behind the comment that
@@ -22,6 +22,12 @@ pub fn worked_rows()
 /// Comments above an element go with it, or stay where a rule pins them.
 pub fn worked_headers()
     ensures { WorkedHeaders }
+{}
+
+/// Worked documents: commas stay between elements, and a comment goes with its element; an order that is
+/// the old one moves nothing, nor does any where a bracket is missing.
+pub fn worked_documents()
+    ensures { WorkedDocuments }
 {}
 
 /// A sorted row has each node of the row as often, with what is below it, but for whitespace, ends of

@@ -4,7 +4,8 @@ ghost use Rattle.std.specs.Prelude.{◌≡◌, ◌≤◌, IsTrue, length, max, t
 ghost use Rattle.std.specs.List.{list_any, position_or_len, suffix_len, take_while};
 ghost use Rattle.jsonc_tree.specs.Tree.{content_at};
 ghost use Rattle.jsonc_sort.specs.Leads.{before_comment, blank_lines, comments, has_blank_line};
-ghost use Rattle.jsonc_sort.specs.Leads.{header_by, header_length, header_of, is_blank_at, lead_parts, parts_of_lines, spaces, through_last_line};
+ghost use Rattle.jsonc_sort.specs.Leads.{header_by, header_length, header_of, is_blank_at, lead_parts};
+ghost use Rattle.jsonc_sort.specs.Leads.{parts_of_lines, spaces, through_last_line};
 ghost use Rattle.jsonc_sort.specs.Parts.{is_newline_at, is_no_newline_at};
 ghost use Rattle.jsonc_sort.specs.Places.{ended_behind, lead_of, left_behind};
 

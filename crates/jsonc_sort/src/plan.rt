@@ -2,7 +2,8 @@
 //!
 //! The row is planned from its end on, since a line's end comes behind a line comment by what follows it.
 
-ghost use Rattle.std.specs.Prelude.{◌≡◌, ◌&&◌, ◌<◌, ◌≤◌, ◌||◌, ◌∷◌, [], IfOk, IsPermutation, OnOk, false, length, nat_lt, slice_index};
+ghost use Rattle.std.specs.Prelude.{◌≡◌, ◌&&◌, ◌<◌, ◌≤◌, ◌||◌, ◌∷◌, [], IfOk, IsPermutation, OnOk, false};
+ghost use Rattle.std.specs.Prelude.{length, nat_lt, slice_index};
 ghost use Rattle.std.specs.List.{range_with_len, All};
 ghost use Rattle.jsonc_tree.specs.Content.{is_container, token};
 ghost use Rattle.jsonc_tree.specs.Stored.{content_of};
@@ -11,7 +12,8 @@ ghost use Rattle.jsonc_build.specs.Lines.{is_line_comment};
 ghost use Rattle.jsonc_edit.specs.Put.{Prepared};
 ghost use Rattle.jsonc_nodes.specs.Siblings.{AreThere};
 ghost use Rattle.jsonc_sort.specs.Places.{IsRead, IsWithin, end_after, has_comma_of};
-ghost use Rattle.jsonc_sort.specs.Plans.{Gains, GainsLeaf, GainsNode, RowPlanned, entry_by, goes_before, last_has_comma, tail_by, travels_from};
+ghost use Rattle.jsonc_sort.specs.Plans.{Gains, GainsLeaf, GainsNode, RowPlanned, entry_by, goes_before};
+ghost use Rattle.jsonc_sort.specs.Plans.{last_has_comma, tail_by, travels_from};
 ghost use Rattle.jsonc_sort.specs.Slots.{all_stay, comes, stays};
 
 use crate::kinds::is_line_comment;
@@ -242,7 +244,8 @@ pub(crate) fn plan_row<A: Allocator>(
     requires there { AreThere tree.old.nodes row.now }
     requires read { All (IsRead (content_at tree.old.nodes) row.now) entries.now }
     requires order { IsPermutation (range_with_len 0 (length entries.now)) order.now }
-    ensures planned { IfOk result (λ v. RowPlanned tree.old.nodes tree.new.nodes newline row.now entries.now order.now v.items) }
+    ensures planned { IfOk result
+        (λ v. RowPlanned tree.old.nodes tree.new.nodes newline row.now entries.now order.now v.items) }
     ensures prepared { Prepared tree.old.nodes tree.new.nodes }
 {
     let _ = tree.len();

@@ -8,8 +8,8 @@ use Rattle.jsonc_sort.specs.Rearranged.{headers_of}
 use Rattle.jsonc_sort.proofs.Taking.{between_read, has_both, order_of, sort_is_planned}
 use Rattle.jsonc_sort.proofs.order.sorted_row.Goals as goal
 
-pub plan_row-sorted-requires-clause-order : goal.plan_row-sorted-requires-clause-order
-plan_row-sorted-requires-clause-order g c =
+pub plan_row-requires-clause-order : goal.plan_row-requires-clause-order
+plan_row-requires-clause-order g c =
     let ns = c.args.tree.now.nodes in
     let h = headers_of c.args.pinned.now c.args.groups in
     let kids : List ℕ = children_at ns c.args.container in
@@ -28,5 +28,5 @@ returns-clause-planned g c =
     let same : xs ≡ between kids =
     between_read kids c.deref.result.now c.len-2.result (c.deref.ensures.value ∙ c.in_ok-children.ensures.children) (c.len-2.ensures ∙ c.in_ok-children.children.ok.0 ∙ ap length c.in_ok-children.ensures.children) in
     let both = has_both ns c.args.container c.args.order.now c.requires.moves in
-    sort_is_planned ns c.plan_row-sorted.new.tree.nodes c.args.container c.len.ensures.tree c.requires.there h c.args.order.now xs c.deref-2.result.now same (subst (AreEntries (content_at ns) h xs) (sym c.deref-2.ensures.value) c.in_ok-entries.ensures) both.0 both.1 c.requires.order c.in_ok-newline.newline
+    sort_is_planned ns c.plan_row.new.tree.nodes c.args.container c.len.ensures.tree c.requires.there h c.args.order.now xs c.deref-2.result.now same (subst (AreEntries (content_at ns) h xs) (sym c.deref-2.ensures.value) c.in_ok-entries.ensures) both.0 both.1 c.requires.order c.in_ok-newline.newline
     c.in_ok-newline.ensures.kind c.in_ok-sorted.sorted.items c.in_ok-sorted.ensures.planned
