@@ -1,6 +1,6 @@
 -- The elements of an array or object at a path of a sound document come in another order.
-use Rattle.std.proofs.Common.{◌≡◌, ◌∙◌, ℕ, suc, ◌-◌, ◌<◌, Bool, true, false, not, ◌&&◌, inl, inr, List, [], ◌∷◌, ◌++◌, All, length, map, filter, take, drop, IsTrue, refl, sym, ap, subst, arith, length-append}
-use Rattle.std.specs.Prelude.{if◌then◌else◌, zip, IsPermutation, Some, None, Option}
+use Rattle.std.proofs.Common.{◌≡◌, ◌∙◌, ℕ, ◌-◌, ◌<◌, Bool, true, false, not, ◌&&◌, inl, inr, List, [], ◌∷◌, ◌++◌, All, length, map, take, drop, IsTrue, refl, sym, ap, subst, arith, length-append}
+use Rattle.std.specs.Prelude.{zip, IsPermutation}
 use Rattle.std.specs.List.{range_with_len}
 use Rattle.std.proofs.lemmas.Bool.{cases_Bool}
 use Rattle.std.proofs.lemmas.List.{drop_at, take_at}
@@ -11,17 +11,15 @@ use Rattle.jsonc_tree.specs.OrderedTree.{OrderedTree, Top, none, more, ordered_t
 use Rattle.jsonc_tree.specs.Tree.{Node, content_at, children_at, IsTree, IsOver}
 use Rattle.jsonc_tree.specs.declared.node.CstNewlineKind.{CstNewlineKind}
 use Rattle.jsonc_tree.proofs.OrderedTrees.{Shows-unique}
-use Rattle.jsonc_nodes.specs.Kinds.{is_element_at}
 use Rattle.jsonc_lines.specs.Breadth.{newline_kind_at}
 use Rattle.jsonc_lines.specs.Kinds.{holds_values}
 use Rattle.jsonc_build.specs.Lines.{is_line_comment}
 use Rattle.jsonc_build.specs.Shape.{token_then}
-use Rattle.jsonc_laws.specs.Rows.{RowKind, holder, opening, closing}
+use Rattle.jsonc_laws.specs.Rows.{holder, opening, closing}
 use Rattle.jsonc_laws.specs.SoundTrees.{SoundTree}
 use Rattle.jsonc_laws.specs.TreeChanges.{DocumentChanged}
 use Rattle.jsonc_edit.specs.Changes.{row_below, top_at, Respliced}
 use Rattle.jsonc_edit.specs.Paths.{IsAt}
-use Rattle.jsonc_edit.specs.Put.{Prepared}
 use Rattle.jsonc_edit.proofs.FittingNodes.{over_there}
 use Rattle.jsonc_edit.proofs.Kept.{at_kept, top_stays, tree_stays}
 use Rattle.jsonc_edit.proofs.Splices.{respliced_over, respliced_row}
@@ -34,12 +32,12 @@ use Rattle.jsonc_multiline.specs.Slots as multiline
 use Rattle.jsonc_multiline.proofs.Documents.{filled_shown, over_at}
 use Rattle.jsonc_multiline.proofs.LineEnds.{has_its_brackets}
 use Rattle.jsonc_multiline.proofs.OnLines.{AllFit, bare_below}
-use Rattle.jsonc_sort.specs.Slots.{Slot, stays, comes, all_stay, row_in, row_then, top_in}
+use Rattle.jsonc_sort.specs.Slots.{Slot, stays, comes, all_stay, row_in, row_then}
 use Rattle.jsonc_sort.specs.Parts.{has_comma}
 use Rattle.jsonc_sort.specs.Sorting.{Entry, Headers, ends_with_comma, entries, entry_at, goes_on, is_unchanged, lines_ended, placed, placed_one, rearranged, row_end, slot_content, sorted, tail_with, travelling, without_comma}
-use Rattle.jsonc_sort.specs.Laws.{IsOrderOf, Sort, closed, container_after, container_before, content_of, slots_of}
+use Rattle.jsonc_sort.specs.Laws.{IsOrderOf, Sort, closed, container_after, container_before, slots_of}
 use Rattle.jsonc_sort.specs.Paths.{SortedAt, SortsAt}
-use Rattle.jsonc_sort.specs.Rearranged.{IsOrderIn, Rearranged, moves, row_sorted}
+use Rattle.jsonc_sort.specs.Rearranged.{IsOrderIn, Rearranged, row_sorted}
 use Rattle.jsonc_sort.proofs.Choosing.{Each, choose, each_joined}
 use Rattle.jsonc_sort.proofs.Documents.{row_joined}
 use Rattle.jsonc_sort.proofs.Lines as lines

@@ -1,9 +1,8 @@
 -- The entries of a row, one after another.
-use Rattle.std.proofs.Common.{◌≡◌, ℕ, zero, suc, ◌+◌, ◌-◌, ◌<◌, ◌≤◌, Bool, true, false, not, inl, inr, List, [], ◌∷◌, ◌++◌, All, length, map, take, drop, slice_index, Option, None, refl, sym, ap, subst, ◌∙◌, arith, append_assoc, append-nil, length-take, length-drop, length-append}
-use Rattle.std.specs.Prelude.{if◌then◌else◌, nat_le, slice_index_or, slice_range}
-use Rattle.std.specs.List.{position_or_len}
+use Rattle.std.proofs.Common.{◌≡◌, ℕ, zero, suc, ◌+◌, ◌-◌, ◌<◌, ◌≤◌, Bool, false, inl, inr, List, [], ◌∷◌, ◌++◌, All, length, map, take, drop, slice_index, Option, refl, sym, ap, subst, ◌∙◌, arith, append_assoc, append-nil, length-take, length-drop, length-append}
+use Rattle.std.specs.Prelude.{nat_le, slice_range}
 use Rattle.std.proofs.lemmas.Bool.{cases_Bool, cases_lt, le-leb, lt-leb}
-use Rattle.std.proofs.lemmas.List.{drop-drop, drop_all, drop_more, get_or-drop, map-append, take-take}
+use Rattle.std.proofs.lemmas.List.{drop-drop, get_or-drop, map-append, take-take}
 use Rattle.std.proofs.lemmas.List.Elements.{All-append, All-cons, All-nil}
 use Rattle.jsonc_tree.specs.Content.{Content}
 use Rattle.jsonc_nodes.specs.Kinds.{is_element}
@@ -166,12 +165,6 @@ module _ (at : ℕ → Content) where
 end_more : (from : ℕ) (ps : List Places) (p : Places) → end_after from (ps ++ p ∷ []) ≡ p.end
 end_more from [] p = refl
 end_more from (x ∷ ps) p = end_more x.end ps p
-
-pub pin_there : (pins : List (Option ℕ)) (k : ℕ) (d : Option ℕ) → k < length pins → first_pin (drop k pins) ≡ slice_index_or pins k d
-pin_there pins k d h = ap first_pin (drop_more pins k d h)
-
-pub pin_none : (pins : List (Option ℕ)) (k : ℕ) → length pins ≤ k → first_pin (drop k pins) ≡ None
-pin_none pins k h = ap first_pin (drop_all k pins h)
 
 -- the entries of a row up to a place
 module _ (at : ℕ → Content) (h : Headers) (row : List ℕ) where

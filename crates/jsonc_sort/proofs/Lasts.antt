@@ -1,5 +1,5 @@
 -- The last of the entries.
-use Rattle.std.proofs.Common.{◌≡◌, ℕ, suc, ◌-◌, List, [], ◌∷◌, length, slice_get, Option, Some, None, refl, sym, ap, ◌∙◌, arith}
+use Rattle.std.proofs.Common.{◌≡◌, ℕ, suc, ◌-◌, List, [], ◌∷◌, length, slice_get, Some, sym, ap, ◌∙◌, arith}
 use Rattle.jsonc_sort.specs.Places.{end_after, has_comma_of}
 use Rattle.jsonc_sort.specs.Plans.{last_has_comma}
 use Rattle.jsonc_sort.specs.declared.places.Places.{Places}

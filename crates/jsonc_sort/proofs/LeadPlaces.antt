@@ -1,13 +1,13 @@
 -- Where the parts of an entry are.
-use Rattle.std.proofs.Common.{◌≡◌, ℕ, ◌+◌, ◌-◌, ◌<◌, ◌≤◌, Bool, true, false, inl, inr, List, [], ◌∷◌, ◌++◌, length, take, drop, slice_index, Option, refl, sym, ap, subst, ◌∙◌, arith, length-take, length-drop}
-use Rattle.std.specs.Prelude.{if◌then◌else◌, nat_le, nat_lt, slice_range}
+use Rattle.std.proofs.Common.{◌≡◌, ℕ, ◌+◌, ◌-◌, ◌<◌, ◌≤◌, Bool, true, inl, inr, List, [], ◌∷◌, ◌++◌, length, take, drop, Option, refl, sym, ap, subst, ◌∙◌, arith, length-take, length-drop}
+use Rattle.std.specs.Prelude.{nat_le, nat_lt, slice_range}
 use Rattle.std.specs.List.{list_any, position_or_len}
 use Rattle.std.proofs.lemmas.Bool.{cases_Bool, cases_lt, le-ltb, lt-ltb}
 use Rattle.std.proofs.lemmas.List.{drop_all, drop-drop, take_rest, take-take}
 use Rattle.jsonc_tree.specs.Content.{Content}
-use Rattle.jsonc_sort.specs.Leads.{LeadParts, begins_group, blank_lines, first_line, header_length, lead_parts, parts_of_line, parts_of_lines, spaces}
+use Rattle.jsonc_sort.specs.Leads.{LeadParts, blank_lines, first_line, header_length, lead_parts, parts_of_line, parts_of_lines, spaces}
 use Rattle.jsonc_sort.specs.Parts.{has_comma, is_newline_at, tail_length, up_to_spaces}
-use Rattle.jsonc_sort.specs.Places.{ArePlaces, IsComma, IsRead, IsWithin, bare_tail_of, before_element, entry_of, gap_behind, has_comma_of, is_last_at, lead_of, tail_of}
+use Rattle.jsonc_sort.specs.Places.{ArePlaces, IsComma, bare_tail_of, before_element, entry_of, gap_behind, is_last_at, lead_of, tail_of}
 use Rattle.jsonc_sort.specs.Sorting.{without_comma}
 use Rattle.jsonc_sort.specs.declared.places.Places.{Places}
 use Rattle.jsonc_sort.specs.declared.leads.Lead.{Lead}
@@ -53,12 +53,6 @@ module _ (at : ℕ → Content) (lead : List ℕ) (l : Lead) where
       (ap (λ k. take k lead) t)
       (ap (λ k. slice_range lead k l.indent) t ∙ ap (slice_range lead (spaces at lead)) i ∙ take_rest lead (spaces at lead))
       (ap (λ k. drop k lead) i ∙ drop_all (length lead) lead (omega arith))
-
-  pub lead_lines : (groups : Bool) (pin : Option ℕ) → list_any (is_newline_at at) lead ≡ true → lead_of lead l ≡ parts_of_lines at (begins_group at groups lead) pin lead → lead_of lead l ≡ lead_parts at groups pin lead
-  lead_lines groups pin e f = sym (rw e (sym f))
-
-  pub lead_line : (groups : Bool) (pin : Option ℕ) → list_any (is_newline_at at) lead ≡ false → lead_of lead l ≡ parts_of_line at lead → lead_of lead l ≡ lead_parts at groups pin lead
-  lead_line groups pin e f = sym (rw e (sym f))
 
 -- where a line ends, its end is there
 pub newline_there : (at : ℕ → Content) (row : List ℕ) → list_any (is_newline_at at) row ≡ true → position_or_len (is_newline_at at) row < length row

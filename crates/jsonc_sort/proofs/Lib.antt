@@ -13,7 +13,6 @@ pub mod Times
 pub mod StayingOnce
 pub mod Planning
 pub mod Placing
-pub mod Counts
 pub mod Stretches
 pub mod Reading
 pub mod Entering

@@ -1,9 +1,9 @@
 -- A whole row is planned, entry by entry.
-use Rattle.std.proofs.Common.{◌≡◌, ◌≢◌, ◌==◌, ℕ, zero, suc, ◌+◌, ◌-◌, ◌<◌, ◌≤◌, Bool, true, false, ◌||◌, inl, inr, List, [], ◌∷◌, ◌++◌, All, length, map, take, drop, reverse, slice_index, refl, sym, ap, subst, ◌∙◌, arith, append-nil, append_assoc, length-drop}
-use Rattle.std.specs.Prelude.{if◌then◌else◌, nat_lt, slice_index_or, slice_range, zip, IsPermutation}
+use Rattle.std.proofs.Common.{◌≡◌, ◌==◌, ℕ, zero, suc, ◌+◌, ◌-◌, ◌<◌, ◌≤◌, Bool, true, false, ◌||◌, List, [], ◌∷◌, ◌++◌, All, length, map, drop, reverse, slice_index, refl, sym, ap, subst, ◌∙◌, arith, append-nil, append_assoc, length-drop}
+use Rattle.std.specs.Prelude.{nat_lt, slice_index_or, slice_range, zip, IsPermutation}
 use Rattle.std.specs.List.{range_with_len}
 use Rattle.std.proofs.lemmas.Bool.{le-ltb, lt-ltb, ne_eqb}
-use Rattle.std.proofs.lemmas.List.{drop_all, drop_more, length-map}
+use Rattle.std.proofs.lemmas.List.{drop_all, length-map}
 use Rattle.std.proofs.lemmas.List.Elements.{All-drop, All-from_get_or, All-take, All-head, All-tail}
 use Rattle.std.proofs.lemmas.List.FromFn.{get_or-range_with_len, length-range_with_len}
 use Rattle.std.proofs.lemmas.List.Sorted.{All-permutation, length_permutation}
@@ -13,13 +13,12 @@ use Rattle.jsonc_tree.specs.declared.node.CstNewlineKind.{CstNewlineKind}
 use Rattle.jsonc_edit.specs.Put.{Prepared}
 use Rattle.jsonc_sort.specs.Slots.{Slot, stays, comes, all_stay}
 use Rattle.jsonc_sort.specs.Sorting.{Entry, ends_with_comma, entry_at, no_entry, lines_ended, placed, placed_one, rearranged, tail_with, travelling}
-use Rattle.jsonc_sort.specs.Parts.{has_comma}
 use Rattle.jsonc_sort.specs.Places.{IsRead, IsWithin, bare_tail_of, end_after, entry_of, has_comma_of, tail_of}
 use Rattle.jsonc_sort.specs.Plans.{Gains, IsReady, Planned, RowPlanned, Stood, entry_by, last_has_comma, tail_by, travels_from}
 use Rattle.jsonc_sort.specs.declared.places.Places.{Places}
 use Rattle.jsonc_sort.specs.declared.plan.Plan.{Plan}
-use Rattle.jsonc_sort.proofs.Choosing.{Each, choose_by}
-use Rattle.jsonc_sort.proofs.Planning.{gains_then, prepared_same, prepared_then, ready_none}
+use Rattle.jsonc_sort.proofs.Choosing.{choose_by}
+use Rattle.jsonc_sort.proofs.Planning.{gains_then, prepared_then, ready_none}
 
 stay_joined : (xs ys : List ℕ) → all_stay (xs ++ ys) ≡ all_stay xs ++ all_stay ys
 stay_joined [] ys = refl
@@ -60,13 +59,6 @@ module _ (old : List Node) where
 module _ (row : List ℕ) (q : Places) where
   pub bare_by : has_comma_of q ≡ true → all_stay (slice_range row (q.element + 1) q.comma) ++ all_stay (slice_range row q.behind q.end) ≡ tail_by row false q
   bare_by e = sym (rw e (stay_joined (slice_range row (q.element + 1) q.comma) (slice_range row q.behind q.end)))
-
-  pub whole_by : (comma : Bool) → has_comma_of q ≡ comma → all_stay (tail_of row q) ≡ tail_by row comma q
-  whole_by true e = sym (rw e refl)
-  whole_by false e = sym (rw e refl)
-
-  pub comma_by : has_comma_of q ≡ false → comes (token 0x2C) ∷ all_stay (tail_of row q) ≡ tail_by row true q
-  comma_by e = sym (rw e refl)
 
   pub bare_gained : {A : Type 0} (a b d : List Node) (x y z : Plan A) (comma : Bool) → has_comma_of q ≡ true → comma ≡ false → Gains a x b y (all_stay (slice_range row q.behind q.end)) → Gains b y d z (all_stay (slice_range row (q.element + 1) q.comma)) → Gains a x d z (tail_by row comma q)
   bare_gained a b d x y z comma e off f g =

@@ -1,22 +1,22 @@
 -- A row is planned from its end on, node by node.
-use Rattle.std.proofs.Common.{◌≡◌, ◌≢◌, ℕ, suc, ◌+◌, ◌-◌, ◌<◌, ◌≤◌, Bool, true, false, not, ◌&&◌, inl, inr, List, [], ◌∷◌, ◌++◌, length, map, drop, reverse, slice_index, None, refl, sym, ap, subst, ◌∙◌, arith, append_assoc}
+use Rattle.std.proofs.Common.{◌≡◌, ℕ, ◌<◌, Bool, true, false, not, ◌&&◌, inl, inr, List, [], ◌∷◌, ◌++◌, length, reverse, refl, sym, ap, subst, ◌∙◌, arith, append_assoc}
 use Rattle.std.specs.Prelude.{if◌then◌else◌}
 use Rattle.std.proofs.lemmas.Bool.{cases_eq}
-use Rattle.std.proofs.lemmas.List.{drop_more, reverse-append}
+use Rattle.std.proofs.lemmas.List.{reverse-append}
 use Rattle.jsonc_tree.specs.Building.{Keeps}
 use Rattle.jsonc_tree.specs.Changes.{Adds}
 use Rattle.jsonc_tree.specs.Content.{Content, newline, token}
-use Rattle.jsonc_tree.specs.Tree.{Node, content_at, parent_at, IsTree}
+use Rattle.jsonc_tree.specs.Tree.{Node, content_at, IsTree}
 use Rattle.jsonc_tree.specs.declared.node.CstNewlineKind.{CstNewlineKind}
 use Rattle.jsonc_tree.proofs.Builder.{Keeps-same, Keeps-then, Keeps-fewer, Keeps-adds}
 use Rattle.jsonc_nodes.specs.Kinds.{is_newline, is_whitespace}
 use Rattle.jsonc_build.specs.Lines.{is_line_comment}
 use Rattle.jsonc_edit.specs.Put.{Prepared}
-use Rattle.jsonc_multiline.specs.Slots.{AreFilled, no_more, stayed, came}
+use Rattle.jsonc_multiline.specs.Slots.{no_more, stayed, came}
 use Rattle.jsonc_multiline.proofs.Planning.{filled_later}
-use Rattle.jsonc_sort.specs.Slots.{Slot, stays, comes, all_stay}
+use Rattle.jsonc_sort.specs.Slots.{Slot, stays, comes}
 use Rattle.jsonc_sort.specs.Sorting.{goes_on, lines_ended}
-use Rattle.jsonc_sort.specs.Plans.{GainsLeaf, GainsNode, Gains, IsReady, MadeOnce, Planned, Stood, goes_before, times}
+use Rattle.jsonc_sort.specs.Plans.{GainsLeaf, GainsNode, Gains, IsReady, Planned, Stood, goes_before}
 use Rattle.jsonc_sort.specs.declared.plan.Plan.{Plan}
 use Rattle.jsonc_sort.proofs.Times.{times_here, times_other}
 
@@ -136,16 +136,6 @@ module _ {A : Type 0} where
   gains_then a b d p q r first second f g old kind slots planned stood =
       subst (Planned old d kind r) (sym (append_assoc second first slots))
       (g old kind (first ++ slots) (f old kind slots planned (stood_second old second first stood)) (stood_first old second first stood))
-
-  pub gains_none : (a : List Node) (p : Plan A) → Gains a p a p []
-  gains_none a p old kind slots planned stood = planned
-
-  -- a stretch of children, from its end on
-  pub stretch_more : (a b d : List Node) (p q r : Plan A) (nodes : List ℕ) (place : ℕ) → 0 < place → place ≤ length nodes → Gains a p b q (all_stay (drop place nodes)) → Gains b q d r (stays (slice_index nodes (place - 1)) ∷ []) → Gains a p d r (all_stay (drop (place - 1) nodes))
-  stretch_more a b d p q r nodes place low high f g =
-      let one : place - 1 + 1 ≡ place = omega (arith, low) in
-      let parts : drop (place - 1) nodes ≡ slice_index nodes (place - 1) ∷ drop place nodes = drop_more nodes (place - 1) 0 (omega (arith, low, high)) ∙ ap (λ k. slice_index nodes (place - 1) ∷ drop k nodes) one in
-      subst (Gains a p d r) (ap all_stay (sym parts)) (gains_then a b d p q r (all_stay (drop place nodes)) (stays (slice_index nodes (place - 1)) ∷ []) f g)
 
 pub prepared_then : (a b d : List Node) → Prepared a b → Prepared b d → Prepared a d
 prepared_then a b d p q = record { keeps = Keeps-then (length a) a b d p.keeps (Keeps-fewer (length a) (length b) b d p.keeps.len q.keeps); tree = q.tree }

@@ -1,14 +1,12 @@
 -- What belongs to an element behind it, and before it: as a count tells it.
-use Rattle.std.proofs.Common.{◌≡◌, ◌≢◌, ℕ, zero, suc, ◌+◌, ◌-◌, ◌<◌, ◌≤◌, Bool, true, false, not, ◌&&◌, ◌||◌, inl, inr, List, [], ◌∷◌, ◌++◌, length, take, drop, slice_index, refl, sym, ap, subst, ◌∙◌, arith, append_assoc, append-nil}
-use Rattle.std.specs.Prelude.{if◌then◌else◌, nat_lt}
-use Rattle.std.specs.List.{position_or_len}
+use Rattle.std.proofs.Common.{◌≡◌, ℕ, zero, suc, ◌+◌, ◌<◌, ◌≤◌, Bool, true, false, ◌&&◌, ◌||◌, inl, inr, List, [], ◌∷◌, ◌++◌, length, take, drop, slice_index, refl, sym, ap, ◌∙◌, arith}
+use Rattle.std.specs.Prelude.{if◌then◌else◌}
 use Rattle.std.proofs.lemmas.Bool.{cases_Bool, le-ltb, lt-ltb}
-use Rattle.std.proofs.lemmas.List.{drop_all, drop_more, take_all, take_more, take-append-drop}
+use Rattle.std.proofs.lemmas.List.{take-append-drop}
 use Rattle.jsonc_tree.specs.Content.{Content}
-use Rattle.jsonc_nodes.specs.Kinds.{is_newline, is_whitespace}
-use Rattle.jsonc_sort.specs.Leads.{before_comment, has_blank_line, is_comment_at, line_ends}
-use Rattle.jsonc_sort.specs.Parts.{has_comma, is_comma_at, is_newline_at, is_whitespace_at, through_comma}
-use Rattle.jsonc_sort.specs.Places.{IsComma, before_blank, before_comma, ended_behind, left_behind}
+use Rattle.jsonc_sort.specs.Leads.{before_comment, has_blank_line, line_ends}
+use Rattle.jsonc_sort.specs.Parts.{has_comma, is_comma_at, is_whitespace_at, through_comma}
+use Rattle.jsonc_sort.specs.Places.{IsComma, before_blank, before_comma}
 use Rattle.jsonc_sort.specs.Sorting.{without_comma}
 use Rattle.jsonc_sort.specs.declared.parts.Comma.{Comma}
 
@@ -130,81 +128,6 @@ module _ (at : ℕ → Content) where
   abbrev pub Blank : Bool → List ℕ → Bool
   Blank ended row = (ended && line_ends at row) || has_blank_line at row
 
-  pub blank_found : (n : ℕ) (row : List ℕ) (ended : Bool) → (ended && is_newline_at at n) ≡ true → Blank ended (n ∷ row) ≡ true
-  blank_found n row false e = cc
-  blank_found n row true e = rw (e, newline_no_space (at n) e) refl
-    where
-      newline_no_space : (c : Content) → is_newline c ≡ true → is_whitespace c ≡ false
-      newline_no_space (Content.newline k) f = refl
-      newline_no_space c f = cc
-
-  pub blank_step : (n : ℕ) (row : List ℕ) (ended : Bool) → (ended && is_newline_at at n) ≡ false → Blank ended (n ∷ row) ≡ Blank (ended_behind at n ended) row
-  blank_step n row ended e = by (at n) ended (line_ends at row) (has_blank_line at row) e
-    where
-      by : (c : Content) (ended l h : Bool) → (ended && is_newline c) ≡ false
-          → ((ended && (if is_whitespace c then l else is_newline c)) || ((is_newline c && l) || h)) ≡ (((if is_whitespace c then ended else is_newline c) && l) || h)
-      by (Content.whitespace s) ended l h f = refl
-      by (Content.newline k) true l h f = cc
-      by (Content.newline k) false l h f = refl
-      by Content.root true l h f = refl
-      by Content.root false l h f = refl
-      by Content.object true l h f = refl
-      by Content.object false l h f = refl
-      by Content.array true l h f = refl
-      by Content.array false l h f = refl
-      by Content.property true l h f = refl
-      by Content.property false l h f = refl
-      by (Content.string s) true l h f = refl
-      by (Content.string s) false l h f = refl
-      by (Content.word s) true l h f = refl
-      by (Content.word s) false l h f = refl
-      by (Content.number s) true l h f = refl
-      by (Content.number s) false l h f = refl
-      by (Content.boolean s) true l h f = refl
-      by (Content.boolean s) false l h f = refl
-      by Content.null true l h f = refl
-      by Content.null false l h f = refl
-      by (Content.token s) true l h f = refl
-      by (Content.token s) false l h f = refl
-      by (Content.comment s) true l h f = refl
-      by (Content.comment s) false l h f = refl
-
-  pub blank_more : (row : List ℕ) (i : ℕ) (n : ℕ) (ended : Bool) → n ≡ slice_index row i → i < length row → (ended && is_newline_at at n) ≡ false → Blank ended (drop i row) ≡ Blank (ended_behind at n ended) (drop (i + 1) row)
-  blank_more row i n ended is h e =
-      ap (Blank ended) (drop_more row i 0 h ∙ ap (λ m. m ∷ drop (i + 1) row) (sym is)) ∙ blank_step n (drop (i + 1) row) ended e
-
-  pub blank_here : (row : List ℕ) (i : ℕ) (n : ℕ) (ended : Bool) → n ≡ slice_index row i → i < length row → (ended && is_newline_at at n) ≡ true → Blank ended (drop i row) ≡ true
-  blank_here row i n ended is h e =
-      ap (Blank ended) (drop_more row i 0 h ∙ ap (λ m. m ∷ drop (i + 1) row) (sym is)) ∙ blank_found n (drop (i + 1) row) ended e
-
-  -- comments
-  comment_found : (n left : ℕ) (row : List ℕ) → left ≡ 0 → is_comment_at at n ≡ true → before_comment at left (n ∷ row) ≡ []
-  comment_found n zero row e f = rw f refl
-  comment_found n (suc left) row e f = absurd (omega (arith, e))
-
-  comment_step : (n left : ℕ) (row : List ℕ) → (left ≡ 0 → is_comment_at at n ≡ false) → before_comment at left (n ∷ row) ≡ n ∷ before_comment at (left_behind at n left) row
-  comment_step n zero row h = rw (h refl) refl
-  comment_step n (suc left) row h =
-      elim (cases_Bool (is_comment_at at n)) [
-        | inl e ↦ rw e (ap (λ k. n ∷ before_comment at k row) (omega arith))
-        | inr e ↦ rw e refl
-      ]
-
-  -- what stands before it, as far as a place
+  -- what stands before the comment of a number, as far as a place
   abbrev pub Passed : ℕ → List ℕ → ℕ → ℕ → Type 0
   Passed number row left place = before_comment at number row ≡ take place row ++ before_comment at left (drop place row)
-
-  pub passed_more : (number left place : ℕ) (row : List ℕ) → place < length row → (left ≡ 0 → is_comment_at at (slice_index row place) ≡ false) → Passed number row left place → Passed number row (left_behind at (slice_index row place) left) (place + 1)
-  passed_more number left place row h none p =
-      let n : ℕ = slice_index row place in
-      let rest : List ℕ = before_comment at (left_behind at n left) (drop (place + 1) row) in
-      p ∙ ap (λ l. take place row ++ before_comment at left l) (drop_more row place 0 h) ∙ ap (λ l. take place row ++ l) (comment_step n left (drop (place + 1) row) none)
-      ∙ sym (append_assoc (take place row) (n ∷ []) rest) ∙ ap (λ l. l ++ rest) (sym (take_more row place 0 h))
-
-  pub passed_here : (number left place : ℕ) (row : List ℕ) → place < length row → left ≡ 0 → is_comment_at at (slice_index row place) ≡ true → Passed number row left place → take place row ≡ before_comment at number row
-  passed_here number left place row h e f p =
-      sym (p ∙ ap (λ l. take place row ++ before_comment at left l) (drop_more row place 0 h) ∙ ap (λ l. take place row ++ l) (comment_found (slice_index row place) left (drop (place + 1) row) e f) ∙ append-nil (take place row))
-
-  pub passed_all : (number left place : ℕ) (row : List ℕ) → length row ≤ place → Passed number row left place → take (length row) row ≡ before_comment at number row
-  passed_all number left place row h p =
-      sym (p ∙ ap (λ l. take place row ++ before_comment at left l) (drop_all place row h) ∙ append-nil (take place row) ∙ take_all place row h ∙ sym (take_all (length row) row (omega arith)))

@@ -1,10 +1,10 @@
 -- A sorted row, once it is planned, may take its place.
-use Rattle.std.proofs.Common.{◌≡◌, ◌≢◌, ℕ, zero, suc, ◌+◌, ◌-◌, ◌<◌, ◌≤◌, ◌==◌, Bool, cond, true, false, not, ◌&&◌, inl, inr, List, [], ◌∷◌, ◌++◌, All, length, map, filter, take, drop, reverse, slice_index, Option, Some, None, IsTrue, refl, sym, ap, subst, ◌∙◌, arith, length-take, length-drop, get_or-take, get_or-drop, append-nil}
-use Rattle.std.specs.Prelude.{if◌then◌else◌, IsPermutation}
+use Rattle.std.proofs.Common.{◌≡◌, ◌≢◌, ℕ, zero, suc, ◌+◌, ◌-◌, ◌<◌, ◌≤◌, ◌==◌, Bool, cond, true, false, not, ◌&&◌, inl, inr, List, [], ◌∷◌, ◌++◌, length, map, filter, take, drop, reverse, slice_index, Some, IsTrue, refl, sym, ap, subst, ◌∙◌, arith, length-take, length-drop, get_or-take, get_or-drop, append-nil}
+use Rattle.std.specs.Prelude.{IsPermutation}
 use Rattle.std.specs.List.{range_with_len}
 use Rattle.std.proofs.lemmas.Bool.{cases_eq, cases_lt, eq-eqb, ne_eqb}
 use Rattle.std.proofs.lemmas.List.{drop_more, drop_all, length-map, reverse-append, take-append-drop}
-use Rattle.std.proofs.lemmas.List.Elements.{All-drop, All-from_get_or, All-take, filter-append}
+use Rattle.std.proofs.lemmas.List.Elements.{All-from_get_or, filter-append}
 use Rattle.jsonc_tree.specs.Changes.{EachOnce, MakesRoom, Splices}
 use Rattle.jsonc_tree.specs.Content.{Content, newline}
 use Rattle.jsonc_tree.specs.Siblings.{first}
@@ -16,21 +16,20 @@ use Rattle.jsonc_build.specs.Lines.{is_line_comment}
 use Rattle.jsonc_lines.specs.Breadth.{newline_kind_at}
 use Rattle.jsonc_remove.specs.Removed.{has_brackets, has_two, is_token, is_token_at}
 use Rattle.jsonc_multiline.specs.Lines.{between}
-use Rattle.jsonc_multiline.specs.Multiline.{TakesRow}
-use Rattle.jsonc_multiline.specs.Plans.{IsFrom, PlannedRow}
+use Rattle.jsonc_multiline.specs.Plans.{IsFrom}
 use Rattle.jsonc_multiline.specs.Slots.{AreFilled, no_more, stayed, came}
 use Rattle.jsonc_multiline.proofs.Whole.{kept_through, takes_row, two_there}
-use Rattle.jsonc_sort.specs.Slots.{Slot, stays, comes, all_stay}
-use Rattle.jsonc_sort.specs.Sorting.{Entry, Headers, entries, goes_on, is_unchanged, lines_ended, rearranged, row_end, slot_content, sorted}
-use Rattle.jsonc_sort.specs.Places.{AreEntries, end_after, entry_of}
+use Rattle.jsonc_sort.specs.Slots.{Slot, comes, all_stay}
+use Rattle.jsonc_sort.specs.Sorting.{Headers, entries, goes_on, is_unchanged, lines_ended, rearranged, row_end, slot_content, sorted}
+use Rattle.jsonc_sort.specs.Places.{AreEntries, entry_of}
 use Rattle.jsonc_sort.specs.Plans.{IsReady, RowPlanned, times}
 use Rattle.jsonc_sort.specs.Rearranged.{IsOrderIn, PlansSort, Rearranged, moves, row_sorted}
 use Rattle.jsonc_sort.specs.declared.places.Places.{Places}
 use Rattle.jsonc_sort.proofs.Choosing.{Each, all_each, choose}
 use Rattle.jsonc_sort.proofs.Lines.{Held, rearranged_held}
-use Rattle.jsonc_sort.proofs.StayingOnce.{own, sorted_most, total, weight}
+use Rattle.jsonc_sort.proofs.StayingOnce.{own, sorted_most, total}
 use Rattle.jsonc_sort.proofs.Times.{each_once, once_each, times_here, times_other}
-use Rattle.jsonc_sort.proofs.Weights.{added, entry_count}
+use Rattle.jsonc_sort.proofs.Weights.{entry_count}
 
 -- what holds of the children of a row holds of those that stay in the sorted one
 pub lines_held : (at : ℕ → Content) (P : ℕ → Type 0) (k : CstNewlineKind) (slots : List Slot) → Each (Held at P) slots → Each (Held at P) (lines_ended at k slots)
@@ -217,9 +216,6 @@ moving false b e = cc
 
 pub has_both : (old : List Node) (c : ℕ) (order : List ℕ) → IsTrue (moves old c order) → IsTrue (has_brackets old c) × (is_unchanged order ≡ false)
 has_both old c order h = moving (has_brackets old c) (is_unchanged order) h
-
-pub nothing_moves : (old : List Node) (c : ℕ) (h : Headers) (order : List ℕ) → moves old c order ≡ false → Rearranged old old c h order
-nothing_moves old c h order e = record { was = λ f. refl; is = λ f. absurd (let wrong : false ≡ true = sym e ∙ f in cc) }
 
 pub all_moves : (old now ready new : List Node) (c : ℕ) (h : Headers) (order row : List ℕ) → IsTree old → c < length old → PlansSort old now c h order row → MakesRoom now ready → IsTree ready → IsTree new
     → (count : ℕ) → count ≡ length (children_at ready c) → (xs : List ℕ) → xs ≡ row → Splices ready new c 1 (count - 1) xs → moves old c order ≡ true → Rearranged old new c h order

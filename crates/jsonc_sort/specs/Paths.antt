@@ -1,5 +1,5 @@
 -- Laws of arrays and objects of a document whose elements come in another order, by the numbers of nodes.
-use Rattle.std.specs.Prelude.{◌≡◌, ℕ, Bool, List, count_by, length, Some, IsTrue}
+use Rattle.std.specs.Prelude.{◌≡◌, ℕ, Bool, List, count_by, Some, IsTrue}
 use Rattle.jsonc_text.specs.Options.{Options}
 use Rattle.jsonc_text.specs.Plain.{Plain}
 use Rattle.jsonc_text.specs.Grammar.{IsDocument}

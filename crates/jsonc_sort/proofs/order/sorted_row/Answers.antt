@@ -1,6 +1,4 @@
 use Rattle.std.proofs.Common.{◌≡◌, ◌-◌, ℕ, List, ap, length, take, drop, subst, sym, ◌∙◌}
-use Rattle.std.specs.Prelude.{IsPermutation}
-use Rattle.std.specs.List.{range_with_len}
 use Rattle.jsonc_tree.specs.Tree.{children_at, content_at}
 use Rattle.jsonc_multiline.specs.Lines.{between}
 use Rattle.jsonc_sort.specs.Places.{AreEntries}

@@ -1,4 +1,4 @@
-use Rattle.std.proofs.Common.{refl, ap, ◌∙◌, ◌+◌, arith}
+use Rattle.std.proofs.Common.{refl, ap, ◌∙◌, arith}
 use Rattle.jsonc_tree.specs.Tree.{content_at}
 use Rattle.jsonc_sort.specs.Places.{before_blank}
 use Rattle.jsonc_sort.proofs.Reading.{comma_none, comma_there}

@@ -1,4 +1,4 @@
-use Rattle.std.proofs.Common.{◌≡◌, ◌<◌, ◌-◌, ℕ, List, length, slice_index, true, refl, subst, sym, ◌∙◌, ap, arith, drop}
+use Rattle.std.proofs.Common.{◌≡◌, ◌<◌, ◌-◌, ℕ, List, length, slice_index, true, refl, subst, ◌∙◌, ap, arith, drop}
 use Rattle.std.proofs.lemmas.List.{get_or_default, take_rest}
 use Rattle.std.specs.Prelude.{slice_index_or}
 use Rattle.jsonc_tree.specs.Tree.{content_at}
