@@ -1,12 +1,12 @@
 -- What rules of headers and groups are asked with: whether a blank line stands before an element, and how many comments stand above it.
-use Rattle.std.specs.Prelude.{ℕ, List, [], ◌∷◌, drop, map, take, if◌then◌else◌}
-use Rattle.std.specs.List.{list_any}
+use Rattle.std.specs.Prelude.{ℕ, List, [], ◌∷◌, drop, filter, map, take, if◌then◌else◌}
+use Rattle.std.specs.List.{flat_map, list_any}
 use Rattle.jsonc_tree.specs.Content.{Content}
 use Rattle.jsonc_tree.specs.Tree.{Node, children_at, content_at}
 use Rattle.jsonc_remove.specs.Removed.{has_brackets}
 use Rattle.jsonc_multiline.specs.Lines.{between}
 use Rattle.jsonc_sort.specs.Parts.{Part, is_newline_at, parts, up_to_spaces}
-use Rattle.jsonc_sort.specs.Leads.{comments, first_line, has_blank_line}
+use Rattle.jsonc_sort.specs.Leads.{comments, first_line, has_blank_line, is_comment_at}
 use Rattle.jsonc_sort.specs.declared.above.LeadRead.{LeadRead}
 
 -- what stands before each element
@@ -25,6 +25,9 @@ module _ (at : ℕ → Content) where
   abbrev pub above : List ℕ → List ℕ
   above lead = if list_any (is_newline_at at) lead then above_from (drop (first_line at lead) lead) else []
 
+  abbrev pub comments_above : List ℕ → List ℕ
+  comments_above lead = filter (is_comment_at at) (above lead)
+
   -- what a rule is asked with
   abbrev pub lead_read : List ℕ → LeadRead
   lead_read lead = record { blank_line = has_blank_line at lead; comments = comments at (above lead) }
@@ -32,6 +35,10 @@ module _ (at : ℕ → Content) where
 -- of each element of c, which has its brackets; else of none
 abbrev pub leads_at : List Node → ℕ → List (List ℕ)
 leads_at ns c = if has_brackets ns c then leads (content_at ns) (between (children_at ns c)) else []
+
+-- the comments above its elements, one element's after another's
+abbrev pub all_comments_above : List Node → ℕ → List ℕ
+all_comments_above ns c = flat_map (comments_above (content_at ns)) (leads_at ns c)
 
 abbrev pub leads_read : List Node → ℕ → List LeadRead
 leads_read ns c = map (lead_read (content_at ns)) (leads_at ns c)

@@ -1,14 +1,14 @@
 //! What stands before the elements of an array or object, as rules of headers and groups ask for it.
 
-ghost use Rattle.std.specs.Prelude.{◌≡◌, ◌<◌, ◌≤◌, IfOk, IsTrue, length, map};
-ghost use Rattle.std.specs.List.{list_any};
+ghost use Rattle.std.specs.Prelude.{◌≡◌, ◌<◌, ◌∷◌, ◌++◌, [], IfOk, IsTrue, OnOk, filter, length, map};
+ghost use Rattle.std.specs.List.{flat_map, list_any};
 ghost use Rattle.jsonc_tree.specs.Tree.{content_at};
 ghost use Rattle.jsonc_remove.specs.Removed.{has_brackets};
-ghost use Rattle.jsonc_sort.specs.Above.{above, lead_read, leads, leads_read};
-ghost use Rattle.jsonc_sort.specs.Leads.{comments};
+ghost use Rattle.jsonc_sort.specs.Above.{above, all_comments_above, comments_above, lead_read, leads, leads_read};
+ghost use Rattle.jsonc_sort.specs.Leads.{comments, is_comment_at};
 ghost use Rattle.jsonc_sort.specs.Parts.{is_newline_at};
 
-use crate::kinds::has_brackets;
+use crate::kinds::{has_brackets, is_comment};
 use crate::leads::{before_newline, comments, has_blank_line};
 use crate::parts::{has_newline, up_to_spaces};
 use crate::places::entries;
@@ -67,6 +67,91 @@ fn read_row<A: Allocator + Copy>(
         told.push(read_lead(tree, &row[entry.lead..entry.element]))?;
     }
     Ok(told)
+}
+
+// Puts a node behind others where it is a comment.
+fn push_comment<A: Allocator>(
+    tree: &Tree<A>,
+    found: &mut Vec<usize, A>,
+    node: usize,
+) -> Result<(), AllocError>
+    ensures { OnOk result
+        (found.new.items ≡ found.old.items ++ filter (is_comment_at (content_at tree.now.nodes)) (node ∷ [])) }
+{
+    if !is_comment(tree, node) {
+        return Ok(());
+    }
+    found.push(node)?;
+    Ok(())
+}
+
+// The same of nodes.
+fn push_comments<A: Allocator>(
+    tree: &Tree<A>,
+    found: &mut Vec<usize, A>,
+    nodes: &[usize],
+) -> Result<(), AllocError>
+    ensures { OnOk result
+        (found.new.items ≡ found.old.items ++ filter (is_comment_at (content_at tree.now.nodes)) nodes.now) }
+{
+    for node in nodes {
+        push_comment(tree, found, *node)?;
+    }
+    Ok(())
+}
+
+// Puts the comments above an element behind others.
+fn push_above<A: Allocator>(
+    tree: &Tree<A>,
+    found: &mut Vec<usize, A>,
+    lead: &[usize],
+) -> Result<(), AllocError>
+    ensures { OnOk result
+        (found.new.items ≡ found.old.items ++ comments_above (content_at tree.now.nodes) lead.now) }
+{
+    if !has_newline(tree, lead) {
+        return Ok(());
+    }
+    let first = before_newline(tree, lead) + 1;
+    let rest = &lead[first..];
+    push_comments(tree, found, &rest[..up_to_spaces(tree, rest)])?;
+    Ok(())
+}
+
+// The comments above the elements of a row.
+fn comments_in<A: Allocator + Copy>(
+    alloc: A,
+    tree: &Tree<A>,
+    row: &[usize],
+) -> Result<Vec<usize, A>, AllocError>
+    ensures { IfOk result (λ v. v.items
+        ≡ flat_map (comments_above (content_at tree.now.nodes)) (leads (content_at tree.now.nodes) row.now)) }
+{
+    let entries = entries(alloc, tree, row, &[], false)?;
+    let mut found = Vec::new(alloc);
+    for entry in &entries {
+        push_above(tree, &mut found, &row[entry.lead..entry.element])?;
+    }
+    Ok(found)
+}
+
+/// The comments above the elements of an array or object, one element's after another's: so many of each as
+/// [`read_leads`] tells.
+pub fn comments_above<A: Allocator + Copy>(
+    alloc: A,
+    tree: &Tree<A>,
+    container: usize,
+) -> Result<Vec<usize, A>, AllocError>
+    requires { container < length tree.now.nodes }
+    ensures comments { IfOk result (λ v. v.items ≡ all_comments_above tree.now.nodes container) }
+{
+    let _ = tree.len();
+    if !has_brackets(tree, container) {
+        return Ok(Vec::new(alloc));
+    }
+    let children = children(alloc, tree, container)?;
+    let found = comments_in(alloc, tree, &children[1..children.len() - 1])?;
+    Ok(found)
 }
 
 /// What stands before each element of an array or object, in order, for rules of headers and groups: where

@@ -11,7 +11,7 @@
 //! order from its end on (`specs/Plans.antt`), and lets it take its place at once
 //! (`specs/Rearranged.antt`), so a refusal leaves the document as it was.
 //!
-//! [`read_leads`] tells what stands before each element, for rules of headers and groups
+//! [`read_leads`] and [`comments_above`] tell what stands before each element, for rules of headers and groups
 //! (`specs/Above.antt`).
 #![tactic(auto)]
 
@@ -24,5 +24,5 @@ mod parts;
 mod places;
 mod plan;
 
-pub use above::{LeadRead, read_leads};
+pub use above::{LeadRead, comments_above, read_leads};
 pub use order::rearrange;
