@@ -1,0 +1,70 @@
+//! The trailing commas of all that stands below a node.
+
+ghost use Rattle.std.specs.Prelude.{◌≡◌, ◌<◌, ◌∷◌, IfSome, IsTrue, OnErr, OnOk, Some, length};
+ghost use Rattle.jsonc_tree.specs.Tree.{IsOver, IsTree};
+ghost use Rattle.jsonc_nodes.specs.Siblings.{IsThere};
+ghost use Rattle.jsonc_commas.specs.InTurn.{holders, holds_at, to_come, AreSetInTurn, AreSetInPart};
+
+use crate::rows::{holds_values, set_comma};
+use jsonc_edit::{EditError, TrailingCommaMode};
+use jsonc_tree::Tree;
+use std::alloc::Allocator;
+
+// From a node on, the first array or object in the order of the document.
+fn holder_from<A: Allocator>(tree: &Tree<A>, end: usize, from: Option<usize>) -> Option<usize>
+    requires there { IsThere tree.now.nodes from }
+    requires over { IfSome from (λ n. IsOver tree.now.nodes end n) }
+    ensures come { to_come tree.now.nodes end from ≡ to_come tree.now.nodes end result }
+    ensures holds { IfSome result (λ n. IsTrue (holds_at tree.now.nodes n)) }
+    ensures there { IsThere tree.now.nodes result }
+    ensures over { IfSome result (λ n. IsOver tree.now.nodes end n) }
+{
+    let mut next = from;
+    while let Some(node) = next {
+        if holds_values(tree.kind(node)) {
+            return Some(node);
+        }
+        next = tree.next_in_order(end, node);
+    }
+    None
+}
+
+// The array or object that comes next after one.
+fn next_holder<A: Allocator>(tree: &Tree<A>, end: usize, node: usize) -> Option<usize>
+    requires there { node < length tree.now.nodes }
+    requires over { IsOver tree.now.nodes end node }
+    requires holds { IsTrue (holds_at tree.now.nodes node) }
+    ensures come { to_come tree.now.nodes end (Some node) ≡ node ∷ to_come tree.now.nodes end result }
+    ensures holds { IfSome result (λ n. IsTrue (holds_at tree.now.nodes n)) }
+    ensures there { IsThere tree.now.nodes result }
+    ensures over { IfSome result (λ n. IsOver tree.now.nodes end n) }
+{
+    let after = tree.next_in_order(end, node);
+    holder_from(tree, end, after)
+}
+
+/// Sets the trailing commas of a node and of every array and object below it.
+///
+/// With `IfMultiline` the last element of an array or object that has a newline among its children gets
+/// a comma directly behind it, if it has none; with `Never` the comma behind the last element leaves.
+/// A bracket is never taken for that comma. A comma that comes alone wants memory; where it is refused,
+/// the commas of arrays and objects before have been set, and nothing else has changed.
+pub fn set_trailing_commas<A: Allocator>(
+    tree: &mut Tree<A>,
+    container: usize,
+    mode: TrailingCommaMode,
+) -> Result<(), EditError>
+    requires { container < length tree.old.nodes }
+    ensures set { OnOk result (AreSetInTurn mode tree.old.nodes (holders tree.old.nodes container) tree.new.nodes) }
+    ensures wanted { OnErr result (mode ≡ TrailingCommaMode.IfMultiline) }
+    ensures part { OnErr result (AreSetInPart mode tree.old.nodes (holders tree.old.nodes container) tree.new.nodes) }
+    ensures tree { IsTree tree.new.nodes }
+{
+    let _ = tree.len();
+    let mut next = holder_from(tree, container, Some(container));
+    while let Some(node) = next {
+        set_comma(tree, node, mode)?;
+        next = next_holder(tree, container, node);
+    }
+    Ok(())
+}
