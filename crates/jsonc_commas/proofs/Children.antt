@@ -1,5 +1,5 @@
 -- Who the last element and its trailing comma are: children of their container.
-use Rattle.std.proofs.Common.{◌≡◌, ◌∙◌, sym, ap, subst, refl, ℕ, suc, ◌+◌, ◌<◌, ◌≤◌, Bool, true, false, cond, List, [], ◌∷◌, length, get_or, reverse, drop, Option, Some, None, IfSome, slice_get, is_some, arith}
+use Rattle.std.proofs.Common.{◌≡◌, ◌∙◌, sym, ap, subst, ℕ, suc, ◌+◌, ◌<◌, Bool, true, false, cond, List, [], ◌∷◌, length, reverse, drop, Option, Some, None, IfSome, slice_get, is_some, arith}
 use Rattle.std.specs.List.{find, All}
 use Rattle.std.specs.Option.{option_and_then}
 use Rattle.std.proofs.lemmas.Bool.{true_from_ne_false}
@@ -9,7 +9,7 @@ use Rattle.std.proofs.lemmas.Option.{slice_get-get_or}
 use Rattle.jsonc_tree.specs.Changes.{Adds, CanAppend}
 use Rattle.jsonc_tree.specs.Content.{Content}
 use Rattle.jsonc_tree.specs.Order.{with_parent}
-use Rattle.jsonc_tree.specs.Siblings.{first, siblings_after, IsGap, before}
+use Rattle.jsonc_tree.specs.Siblings.{first, siblings_after, IsGap}
 use Rattle.jsonc_tree.specs.Tree.{Node, children_at, parent_at, place_at, is_container_at, IsTree}
 use Rattle.jsonc_tree.proofs.Appending.{CanAppend-adds}
 use Rattle.jsonc_tree.proofs.Order.{parent_there}
@@ -35,7 +35,7 @@ found_like : (P : ℕ → Type 0) (test : ℕ → Bool) (xs : List ℕ) → All 
 found_like P test [] h = tt
 found_like P test (x ∷ xs) h = if_one P x (find test xs) (test x) (h 0 0 (omega arith)) (found_like P test xs (λ k d l. h (suc k) d (omega arith)))
 
-some_like : (P : ℕ → Type 0) (o : Option ℕ) (n : ℕ) → o ≡ Some n → IfSome o P → P n
+pub some_like : (P : ℕ → Type 0) (o : Option ℕ) (n : ℕ) → o ≡ Some n → IfSome o P → P n
 some_like P o n e h = subst (λ r. IfSome r P) e h
 
 module _ (ns : List Node) (tree : IsTree ns) (c : ℕ) where

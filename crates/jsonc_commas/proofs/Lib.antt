@@ -1,1 +1,4 @@
 pub mod Children
+pub mod InOrder
+pub mod InTurn
+pub mod Kept

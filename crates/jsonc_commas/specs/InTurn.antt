@@ -1,5 +1,5 @@
 -- The trailing commas of arrays and objects one after another.
-use Rattle.std.specs.Prelude.{◌≡◌, ℕ, Bool, List, [], ◌∷◌, ◌++◌, filter, Option, Some}
+use Rattle.std.specs.Prelude.{◌≡◌, ℕ, Bool, List, [], ◌∷◌, ◌++◌, filter, Option}
 use Rattle.jsonc_tree.specs.Tree.{Node, content_at, IsTree}
 use Rattle.jsonc_tree.specs.Order.{in_order, rest_at}
 use Rattle.jsonc_lines.specs.Kinds.{holds_values}

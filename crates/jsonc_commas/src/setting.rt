@@ -1,6 +1,6 @@
 //! The trailing commas of all that stands below a node.
 
-ghost use Rattle.std.specs.Prelude.{◌≡◌, ◌<◌, ◌∷◌, IfSome, IsTrue, OnErr, OnOk, Some, length};
+ghost use Rattle.std.specs.Prelude.{◌≡◌, ◌<◌, ◌∷◌, IfErr, IfSome, IsTrue, OnErr, OnOk, Some, length};
 ghost use Rattle.jsonc_tree.specs.Tree.{IsOver, IsTree};
 ghost use Rattle.jsonc_nodes.specs.Siblings.{IsThere};
 ghost use Rattle.jsonc_commas.specs.InTurn.{holders, holds_at, to_come, AreSetInTurn, AreSetInPart};
@@ -57,6 +57,7 @@ pub fn set_trailing_commas<A: Allocator>(
     requires { container < length tree.old.nodes }
     ensures set { OnOk result (AreSetInTurn mode tree.old.nodes (holders tree.old.nodes container) tree.new.nodes) }
     ensures wanted { OnErr result (mode ≡ TrailingCommaMode.IfMultiline) }
+    ensures memory { IfErr result (λ e. e ≡ EditError.OutOfMemory) }
     ensures part { OnErr result (AreSetInPart mode tree.old.nodes (holders tree.old.nodes container) tree.new.nodes) }
     ensures tree { IsTree tree.new.nodes }
 {

@@ -1,5 +1,3 @@
-use Rattle.std.proofs.Common.{sym, ◌∙◌, subst}
-use Rattle.jsonc_nodes.specs.Siblings.{IsThere}
 use Rattle.jsonc_commas.proofs.Children.{trailing_there}
 use Rattle.jsonc_commas.proofs.rows.followed_comma.Goals as goal
 

@@ -1,5 +1,6 @@
-use Rattle.std.proofs.Common.{sym, subst, suc, ◌∷◌, []}
-use Rattle.jsonc_tree.specs.Changes.{CanAppend, Splices}
+use Rattle.std.proofs.Common.{ap, sym, subst, suc, ◌∷◌, []}
+use Rattle.jsonc_tree.specs.Changes.{Adds, CanAppend, Splices}
+use Rattle.jsonc_tree.specs.Stored.{content_of}
 use Rattle.jsonc_tree.specs.Tree.{place_at}
 use Rattle.jsonc_commas.specs.Commas.{a_comma}
 use Rattle.jsonc_commas.proofs.Children.{child_yet, gap_behind, may_come}
@@ -7,28 +8,32 @@ use Rattle.jsonc_commas.proofs.rows.put_comma.Goals as goal
 
 pub insert_between-requires-clause-can : goal.insert_between-requires-clause-can
 insert_between-requires-clause-can g c =
-    subst (CanAppend c.add.new.self.nodes c.args.container) (sym c.in_ok-comma.ensures.number)
-    (may_come c.args.tree.now.nodes c.add.new.self.nodes a_comma c.len.ensures.tree c.add.ensures.tree c.in_ok-comma.ensures.added c.args.container c.args.node c.requires)
+    let old = c.args.tree.now.nodes in
+    let ns = c.add.new.self.nodes in
+    let added : Adds old ns a_comma = subst (Adds old ns) (ap content_of c.token.ensures) c.in_ok-comma.ensures.added in
+    subst (CanAppend ns c.args.container) (sym c.in_ok-comma.ensures.number) (may_come old ns a_comma c.len.ensures.tree c.add.ensures.tree added c.args.container c.args.node c.requires)
 
 pub insert_between-requires-clause-gap : goal.insert_between-requires-clause-gap
 insert_between-requires-clause-gap g c =
+    let old = c.args.tree.now.nodes in
     let ns = c.add.new.self.nodes in
+    let added : Adds old ns a_comma = subst (Adds old ns) (ap content_of c.token.ensures) c.in_ok-comma.ensures.added in
     (
       suc (place_at ns c.args.node),
       gap_behind ns c.add.ensures.tree c.args.container c.args.node c.next_sibling-behind.result
-      (child_yet c.args.tree.now.nodes ns a_comma c.len.ensures.tree c.add.ensures.tree c.in_ok-comma.ensures.added c.args.container c.args.node c.requires)
+      (child_yet old ns a_comma c.len.ensures.tree c.add.ensures.tree added c.args.container c.args.node c.requires)
       c.next_sibling-behind.ensures,
     )
 
 pub returns-clause-put : goal.returns-clause-put
 returns-clause-put g c =
+    let old = c.args.tree.now.nodes in
     let ns = c.add.new.self.nodes in
-    let gap = gap_behind ns c.add.ensures.tree c.args.container c.args.node c.next_sibling-behind.result
-        (child_yet c.args.tree.now.nodes ns a_comma c.len.ensures.tree c.add.ensures.tree c.in_ok-comma.ensures.added c.args.container c.args.node c.requires)
-        c.next_sibling-behind.ensures in
+    let added : Adds old ns a_comma = subst (Adds old ns) (ap content_of c.token.ensures) c.in_ok-comma.ensures.added in
+    let gap = gap_behind ns c.add.ensures.tree c.args.container c.args.node c.next_sibling-behind.result (child_yet old ns a_comma c.len.ensures.tree c.add.ensures.tree added c.args.container c.args.node c.requires) c.next_sibling-behind.ensures in
     record {
       ready = ns;
-      added = c.in_ok-comma.ensures.added;
+      added = added;
       tree = c.add.ensures.tree;
       put = subst (λ m. Splices ns c.insert_between.new.self.nodes c.args.container (suc (place_at ns c.args.node)) (suc (place_at ns c.args.node)) (m ∷ [])) c.in_ok-comma.ensures.number (c.insert_between.ensures.fills (suc (place_at ns c.args.node)) gap);
     }

@@ -1,0 +1,48 @@
+use Rattle.std.proofs.Common.{◌∙◌}
+use Rattle.jsonc_tree.specs.Tree.{IsOver}
+use Rattle.jsonc_commas.proofs.InTurn.{all_to_come, fewer, goes_on, holds_still, none_set, over_still, refused_here, where_refused}
+use Rattle.jsonc_commas.proofs.setting.set_trailing_commas.Goals as goal
+
+pub holder_from-next-requires-clause-over : goal.holder_from-next-requires-clause-over
+holder_from-next-requires-clause-over g c = IsOver.itself
+
+pub loop-next-init : goal.loop-next-init
+loop-next-init g c =
+    let n = c.holder_from-next.ensures in
+    record {
+      tree = c.len.ensures.tree;
+      there = n.there;
+      over = n.over;
+      holds = n.holds;
+      set = none_set c.args.mode c.args.tree.now.nodes c.args.container c.holder_from-next.result (all_to_come c.args.tree.now.nodes c.len.ensures.tree c.args.container c.requires ∙ n.come);
+    }
+
+pub returns-in_err-set_comma-clause-part : goal.returns-in_err-set_comma-clause-part
+returns-in_err-set_comma-clause-part g c =
+    let kept = c.in_err-set_comma.ensures in
+    where_refused c.from_residual.result (refused_here c.args.mode c.args.tree.now.nodes c.loop-next.tree.nodes c.args.container c.loop-next.next c.loop-next.invariant c.in-Some.node c.in-Some.is c.set_comma.new.tree.nodes kept.kept kept.missing)
+
+pub next_holder-next-requires-clause-over : goal.next_holder-next-requires-clause-over
+next_holder-next-requires-clause-over g c =
+    over_still c.args.mode c.args.tree.now.nodes c.loop-next.tree.nodes c.args.container c.loop-next.next c.loop-next.invariant c.in-Some.node c.in-Some.is c.set_comma.new.tree.nodes c.set_comma.ensures.tree c.in_ok-set_comma.ensures.set
+
+pub next_holder-next-requires-clause-holds : goal.next_holder-next-requires-clause-holds
+next_holder-next-requires-clause-holds g c =
+    holds_still c.args.mode c.args.tree.now.nodes c.loop-next.tree.nodes c.args.container c.loop-next.next c.loop-next.invariant c.in-Some.node c.in-Some.is c.set_comma.new.tree.nodes c.set_comma.ensures.tree c.in_ok-set_comma.ensures.set
+
+pub loop-next-smaller : goal.loop-next-smaller
+loop-next-smaller g c =
+    fewer c.args.mode c.args.tree.now.nodes c.loop-next.tree.nodes c.args.container c.loop-next.next c.loop-next.invariant c.in-Some.node c.in-Some.is c.set_comma.new.tree.nodes c.set_comma.ensures.tree c.in_ok-set_comma.ensures.set
+    c.next_holder-next.result c.next_holder-next.ensures.come
+
+pub loop-next-preserved : goal.loop-next-preserved
+loop-next-preserved g c =
+    let n = c.next_holder-next.ensures in
+    record {
+      tree = c.set_comma.ensures.tree;
+      there = n.there;
+      over = n.over;
+      holds = n.holds;
+      set = goes_on c.args.mode c.args.tree.now.nodes c.loop-next.tree.nodes c.args.container c.loop-next.next c.loop-next.invariant c.in-Some.node c.in-Some.is c.set_comma.new.tree.nodes c.set_comma.ensures.tree c.in_ok-set_comma.ensures.set
+          c.next_holder-next.result n.come;
+    }
