@@ -2,3 +2,4 @@ pub mod Children
 pub mod InOrder
 pub mod InTurn
 pub mod Kept
+pub mod WithoutCommas

@@ -1,2 +1,3 @@
 pub mod Commas
 pub mod InTurn
+pub mod Laws
