@@ -1,4 +1,5 @@
 pub mod Children
+pub mod CommaRows
 pub mod InOrder
 pub mod InTurn
 pub mod Kept
