@@ -3,4 +3,5 @@ pub mod CommaRows
 pub mod InOrder
 pub mod InTurn
 pub mod Kept
+pub mod Splits
 pub mod WithoutCommas
