@@ -119,7 +119,7 @@ module _ (old new : List Node) (c n : ℕ) (r : CommaComesBehind old new c n) wh
   rest_past : (m : ℕ) → length old < m → node_at r.ready m ≡ nowhere
   rest_past m h = get_or_past r.ready m nowhere (omega (arith, r.added.len))
 
-  ready_children : (m : ℕ) → children_at r.ready m ≡ children_at old m
+  pub ready_children : (m : ℕ) → children_at r.ready m ≡ children_at old m
   ready_children m =
       elim (cases_lt m (length old)) [
         | inl h ↦ ap (λ (x : Node). x.children) (r.added.rest m h)

@@ -3,5 +3,7 @@ pub mod CommaRows
 pub mod InOrder
 pub mod InTurn
 pub mod Kept
+pub mod OwnRow
 pub mod Splits
+pub mod Unmoved
 pub mod WithoutCommas
