@@ -1,5 +1,6 @@
 pub mod Children
 pub mod CommaRows
+pub mod Holders
 pub mod InOrder
 pub mod InTurn
 pub mod Kept
