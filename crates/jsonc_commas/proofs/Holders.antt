@@ -50,7 +50,7 @@ same_nodes : (ns : List Node) (c : ℕ) → IsTree ns → ChangedIn ns ns c
 same_nodes ns c tree = record { tree = tree; content = λ n ne. refl; children = λ n ne. refl }
 
 -- a value at a path is one alone
-value_at_path : (o : Options) (ns : List Node) → IsTree ns → SoundTree o (ordered_tree ns 0) → (path : List ℕ) (c : ℕ) → IsAt ns path c → ValueAlone o (content_at ns c) (row_below ns c)
+pub value_at_path : (o : Options) (ns : List Node) → IsTree ns → SoundTree o (ordered_tree ns 0) → (path : List ℕ) (c : ℕ) → IsAt ns path c → ValueAlone o (content_at ns c) (row_below ns c)
 value_at_path o ns tree sound path c at =
     let there : DocumentChanged (top_at ns c) (top_at ns c) path (ordered_tree ns 0) (ordered_tree ns 0) = changed_over ns ns c (same_nodes ns c tree) tree refl c IsOver.itself (λ e. e) path at in
     value_alone o (document_held o there sound.shaped).1
@@ -73,7 +73,7 @@ no_literal o array h l = l
 no_literal o object h l = l
 no_literal o content h l = cc
 
-held : (o : Options) {content : Content} {below : OrderedTree} → IsTrue (holds_values content) → ValueAlone o content below → Held o content below
+pub held : (o : Options) {content : Content} {below : OrderedTree} → IsTrue (holds_values content) → ValueAlone o content below → Held o content below
 held o h (alone.literal {content = content} l) = absurd (no_literal o content h l)
 held o h (alone.an_array {row = row} g) = record { kind = of_values; row = row; is = refl; under = refl; alone = g }
 held o h (alone.an_object {row = row} g) = record { kind = of_properties; row = row; is = refl; under = refl; alone = g }
@@ -135,7 +135,7 @@ child_split [] k n h e = absurd (omega arith)
 child_split (x ∷ xs) zero n h e = ([], xs, ap (λ y. y ∷ xs) e)
 child_split (x ∷ xs) (suc k) n h e = let r = child_split xs k n (omega arith) e in (x ∷ r.0, r.1, ap (λ l. x ∷ l) r.2)
 
-more_inside : (c d : Content) (x y a b : OrderedTree) → more c x a ≡ more d y b → (c ≡ d) × (a ≡ b)
+pub more_inside : (c d : Content) (x y a b : OrderedTree) → more c x a ≡ more d y b → (c ≡ d) × (a ≡ b)
 more_inside c d x y a b e = ((let one : c ≡ d = cc in one), (let two : a ≡ b = cc in two))
 
 no_holder_root : (content : Content) → content ≡ Content.root → IsTrue (holds_values content) → ⊥

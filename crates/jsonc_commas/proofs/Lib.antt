@@ -1,10 +1,13 @@
 pub mod Children
 pub mod CommaRows
+pub mod Given
 pub mod Holders
 pub mod InOrder
 pub mod InTurn
 pub mod Kept
 pub mod OwnRow
 pub mod Splits
+pub mod Steps
+pub mod Taken
 pub mod Unmoved
 pub mod WithoutCommas

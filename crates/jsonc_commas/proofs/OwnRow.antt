@@ -75,7 +75,7 @@ module _ (old new : List Node) (tree : IsTree old) (after : IsTree new) (c k : �
   pub lost_now : comma_gone new c ≡ None
   lost_now = ap (option_and_then (λ n. if_followed new (trailing_comma_at new n))) last_now ∙ ap (if_followed new) none_now
 
-take_past : (front back : List ℕ) (n k : ℕ) → k ≡ length front + 1 → take k (front ++ n ∷ back) ≡ front ++ n ∷ []
+pub take_past : (front back : List ℕ) (n k : ℕ) → k ≡ length front + 1 → take k (front ++ n ∷ back) ≡ front ++ n ∷ []
 take_past [] back n k e = ap (λ m. take m (n ∷ back)) e
 take_past (x ∷ front) back n k e =
     let one : k ≡ suc (length front + 1) = omega (arith, e) in
