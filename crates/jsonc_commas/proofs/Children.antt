@@ -39,7 +39,7 @@ pub some_like : (P : ℕ → Type 0) (o : Option ℕ) (n : ℕ) → o ≡ Some n
 some_like P o n e h = subst (λ r. IfSome r P) e h
 
 module _ (ns : List Node) (tree : IsTree ns) (c : ℕ) where
-  children_are : All (IsChild ns c) (children_at ns c)
+  pub children_are : All (IsChild ns c) (children_at ns c)
   children_are = λ k d l. subst (IsChild ns c) (get_or_default (children_at ns c) k 0 d l) (tree.named c k l)
 
   pub last_child : IfSome (last_element ns c) (IsChild ns c)

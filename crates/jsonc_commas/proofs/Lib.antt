@@ -1,5 +1,6 @@
 pub mod Children
 pub mod CommaRows
+pub mod Documents
 pub mod Given
 pub mod Holders
 pub mod InOrder

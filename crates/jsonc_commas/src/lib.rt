@@ -6,6 +6,7 @@
 //! set before stay, and nothing else has changed (`specs/InTurn.antt`).
 #![tactic(auto)]
 
+pub mod laws;
 mod rows;
 mod setting;
 

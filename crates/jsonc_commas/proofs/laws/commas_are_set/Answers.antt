@@ -1,0 +1,15 @@
+use Rattle.jsonc_commas.specs.InTurn.{holders}
+use Rattle.jsonc_commas.proofs.Documents.{holders_stay, leaves_set, sets_all, sets_once}
+use Rattle.jsonc_commas.proofs.laws.commas_are_set.Goals as goal
+
+pub returns-clause-all : goal.returns-clause-all
+returns-clause-all c mode o old k new is = sets_all mode o old k is new
+
+pub returns-clause-left : goal.returns-clause-left
+returns-clause-left c mode old k new = leaves_set mode (holders old k) old new
+
+pub returns-clause-once : goal.returns-clause-once
+returns-clause-once c mode o old now k new = sets_once mode o old now k new
+
+pub returns-clause-holders : goal.returns-clause-holders
+returns-clause-holders c mode old k new tree there set = holders_stay mode (holders old k) old new tree set k there

@@ -1,0 +1,8 @@
+use Rattle.jsonc_commas.proofs.Documents.{keeps_document, keeps_in_part}
+use Rattle.jsonc_commas.proofs.laws.documents_say_the_same.Goals as goal
+
+pub returns-clause-whole : goal.returns-clause-whole
+returns-clause-whole c mode o old k new is = keeps_document mode o old k is new
+
+pub returns-clause-part : goal.returns-clause-part
+returns-clause-part c mode o old k new is = keeps_in_part mode o old k is new
