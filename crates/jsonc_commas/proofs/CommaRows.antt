@@ -155,7 +155,7 @@ module _ (o : Options) (kind : RowKind) where
 
 -- the comma behind the last element leaves
 module _ (o : Options) (kind : RowKind) (front back : OrderedTree) (path : List ℕ) (t u : OrderedTree) (sound : SoundTree o t) (last : HasNoValue back)
-         (changed : DocumentChanged (container_of kind (followed_by front (token_then 0x2C back))) (container_of kind (followed_by front back)) path t u) where
+    (changed : DocumentChanged (container_of kind (followed_by front (token_then 0x2C back))) (container_of kind (followed_by front back)) path t u) where
   abbrev row : OrderedTree
   row = followed_by front (token_then 0x2C back)
 
@@ -189,8 +189,8 @@ module _ (o : Options) (kind : RowKind) (front back : OrderedTree) (path : List 
 
 -- a comma comes behind the last element, which had none
 module _ (o : Options) (allowed : IsTrue o.trailing_commas) (kind : RowKind) (front : OrderedTree) (content : Content) (below back : OrderedTree) (path : List ℕ) (t u : OrderedTree) (sound : SoundTree o t)
-         (element : IsElement content) (last : HasNoValue back) (lacks : IsTrue (not (comma_first back)))
-         (changed : DocumentChanged (container_of kind (followed_by (followed_by front (more content below none)) back)) (container_of kind (followed_by (followed_by front (more content below none)) (token_then 0x2C back))) path t u) where
+    (element : IsElement content) (last : HasNoValue back) (lacks : IsTrue (not (comma_first back)))
+    (changed : DocumentChanged (container_of kind (followed_by (followed_by front (more content below none)) back)) (container_of kind (followed_by (followed_by front (more content below none)) (token_then 0x2C back))) path t u) where
   abbrev before : OrderedTree
   before = followed_by front (more content below none)
 

@@ -68,7 +68,7 @@ holders_kept old new tree after k (n ∷ rest) h = (
 )
 
 longer : (old new : List Node) → KeepsContainers old new → (n : ℕ) → n < length old → n < length new
-longer old new k n h = elim k.long [ | inl e ↦ omega (arith, e) | inr e ↦ omega (arith, e) ]
+longer old new k n h = elim k.long [ inl e ↦ omega (arith, e) | inr e ↦ omega (arith, e) ]
 
 -- what is so once these have been set
 record Chain (mode : TrailingCommaMode) (o : Options) (old new : List Node) (all : List ℕ) : Type 0 where
@@ -94,10 +94,10 @@ module _ (mode : TrailingCommaMode) (o : Options) (allows : Allows mode o) where
       let k : KeepsContainers old now = set_keeps mode old now tree n s in
       let one = one_step o old now tree after sound n h.0 h.1 mode allows s in
       let others : (m : ℕ) → IsSet mode old m → IsSet mode now m = λ m set.
-          elim (cases_eq m n) [
-            | inl e ↦ subst (IsSet mode now) (sym e) one.1
-            | inr ne ↦ set_same old now tree after m (other_row mode old now tree n s m ne) mode set
-          ] in
+      elim (cases_eq m n) [
+        | inl e ↦ subst (IsSet mode now) (sym e) one.1
+        | inr ne ↦ set_same old now tree after m (other_row mode old now tree n s m ne) mode set
+      ] in
       let r : Chain mode o now new rest = chain rest now new after one.0.sound (holders_kept old now tree after k rest h.2) later in
       record {
         tree = r.tree;

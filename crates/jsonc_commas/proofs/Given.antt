@@ -46,7 +46,7 @@ use Rattle.jsonc_commas.proofs.Steps.{all_front, all_rest, bracket_without, clos
 
 -- a comma comes
 module _ (o : Options) (allowed : IsTrue o.trailing_commas) (old new : List Node) (tree : IsTree old) (after : IsTree new) (sound : SoundTree o (ordered_tree old 0)) (c n : ℕ) (over : IsOver old 0 c) (holds : IsTrue (holds_at old c))
-         (g : WantedComma old c n) (r : CommaComesBehind old new c n) where
+    (g : WantedComma old c n) (r : CommaComesBehind old new c n) where
   abbrev i : Inside o old c
   i = inside o old tree sound c over holds
 

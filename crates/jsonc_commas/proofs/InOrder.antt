@@ -191,7 +191,7 @@ module _ (old new : List Node) (tree : IsTree old) (after : IsTree new) (k : Kee
   following_same : (end n : ℕ) → Rooted old n → is_container_at old n ≡ true → filter (holds_at new) (following new end n) ≡ filter (holds_at old) (following old end n)
   following_same end n (top said) e =
       let there : n < length old = container_there n e in
-      let there_new : n < length new = elim k.long [ | inl l ↦ omega (arith, l) | inr l ↦ omega (arith, l) ] in
+      let there_new : n < length new = elim k.long [ inl l ↦ omega (arith, l) | inr l ↦ omega (arith, l) ] in
       ap (filter (holds_at new)) (following_none new after end n there_new (k.parent n there e ∙ said)) ∙ sym (ap (filter (holds_at old)) (following_none old tree end n there said))
   following_same end n (under {c = p} said rest) e =
       let now : parent_at new n ≡ Some p = k.parent n (container_there n e) e ∙ said in

@@ -46,7 +46,7 @@ use Rattle.jsonc_commas.proofs.Steps.{all_front, all_rest, bracket_without, clos
 
 -- the comma leaves
 module _ (o : Options) (old new : List Node) (tree : IsTree old) (after : IsTree new) (sound : SoundTree o (ordered_tree old 0)) (c k : ℕ) (over : IsOver old 0 c) (holds : IsTrue (holds_at old c))
-         (g : GoneComma old c k) (s : TakesOut old new c k) where
+    (g : GoneComma old c k) (s : TakesOut old new c k) where
   abbrev i : Inside o old c
   i = inside o old tree sound c over holds
 

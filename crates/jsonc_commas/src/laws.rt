@@ -10,32 +10,20 @@ ghost use Rattle.jsonc_commas.specs.Laws.{KeepsDocument, KeepsDocumentInPart, Ke
 /// the document is sound. It is so under all options that allow what the mode sets, and where memory was
 /// refused on the way.
 pub fn documents_say_the_same()
-    ensures whole {
-        (mode : TrailingCommaMode) (o : Options) (old : List Node) (c : ℕ) (new : List Node)
-        → KeepsDocument mode o old c new
-    }
-    ensures part {
-        (mode : TrailingCommaMode) (o : Options) (old : List Node) (c : ℕ) (new : List Node)
-        → KeepsDocumentInPart mode o old c new
-    }
+    ensures whole { (mode : TrailingCommaMode) (o : Options) (old : List Node) (c : ℕ) (new : List Node)
+        → KeepsDocument mode o old c new }
+    ensures part { (mode : TrailingCommaMode) (o : Options) (old : List Node) (c : ℕ) (new : List Node)
+        → KeepsDocumentInPart mode o old c new }
 {}
 
 /// Then each array or object there is as the mode says: with `Never` none has a trailing comma, with
 /// `IfMultiline` none wants one. Where that is so before, nothing changes; so of a sound document nothing
 /// does a second time. The same arrays and objects are there afterwards, in the same order.
 pub fn commas_are_set()
-    ensures all {
-        (mode : TrailingCommaMode) (o : Options) (old : List Node) (c : ℕ) (new : List Node)
-        → SetsAll mode o old c new
-    }
-    ensures left {
-        (mode : TrailingCommaMode) (old : List Node) (c : ℕ) (new : List Node) → LeavesWhatIsSet mode old c new
-    }
-    ensures once {
-        (mode : TrailingCommaMode) (o : Options) (old now : List Node) (c : ℕ) (new : List Node)
-        → SetsOnce mode o old now c new
-    }
-    ensures holders {
-        (mode : TrailingCommaMode) (old : List Node) (c : ℕ) (new : List Node) → KeepsHolders mode old c new
-    }
+    ensures all { (mode : TrailingCommaMode) (o : Options) (old : List Node) (c : ℕ) (new : List Node)
+        → SetsAll mode o old c new }
+    ensures left { (mode : TrailingCommaMode) (old : List Node) (c : ℕ) (new : List Node) → LeavesWhatIsSet mode old c new }
+    ensures once { (mode : TrailingCommaMode) (o : Options) (old now : List Node) (c : ℕ) (new : List Node)
+        → SetsOnce mode o old now c new }
+    ensures holders { (mode : TrailingCommaMode) (old : List Node) (c : ℕ) (new : List Node) → KeepsHolders mode old c new }
 {}

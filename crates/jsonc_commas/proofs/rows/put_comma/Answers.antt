@@ -17,12 +17,11 @@ pub insert_between-requires-clause-gap : goal.insert_between-requires-clause-gap
 insert_between-requires-clause-gap g c =
     let old = c.args.tree.now.nodes in
     let ns = c.add.new.self.nodes in
-    let added : Adds old ns a_comma = subst (Adds old ns) (ap content_of c.token.ensures) c.in_ok-comma.ensures.added in
-    (
+    let added : Adds old ns a_comma = subst (Adds old ns) (ap content_of c.token.ensures) c.in_ok-comma.ensures.added in (
       suc (place_at ns c.args.node),
       gap_behind ns c.add.ensures.tree c.args.container c.args.node c.next_sibling-behind.result
-      (child_yet old ns a_comma c.len.ensures.tree c.add.ensures.tree added c.args.container c.args.node c.requires)
-      c.next_sibling-behind.ensures,
+          (child_yet old ns a_comma c.len.ensures.tree c.add.ensures.tree added c.args.container c.args.node c.requires)
+          c.next_sibling-behind.ensures,
     )
 
 pub returns-clause-put : goal.returns-clause-put
