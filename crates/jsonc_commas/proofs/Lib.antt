@@ -12,3 +12,4 @@ pub mod Steps
 pub mod Taken
 pub mod Unmoved
 pub mod WithoutCommas
+pub mod WiderShapes
