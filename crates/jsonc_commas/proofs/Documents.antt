@@ -3,9 +3,11 @@ use Rattle.std.proofs.Common.{◌≡◌, ◌∙◌, sym, ap, subst, refl, ℕ, z
 use Rattle.std.specs.List.{flat_map, All}
 use Rattle.std.proofs.lemmas.Bool.{cases_Bool, cases_eq, cases_lt}
 use Rattle.std.proofs.lemmas.List.Elements.{All-cons, All-head, All-nil, All-tail}
-use Rattle.jsonc_text.specs.Options.{Options}
+use Rattle.jsonc_text.specs.Options.{Options, AllowsMore}
 use Rattle.jsonc_text.specs.Grammar.{IsDocument}
 use Rattle.jsonc_text.specs.Plain.{Plain}
+use Rattle.jsonc_text.proofs.UniqueValues.{document_unique}
+use Rattle.jsonc_text.proofs.WiderOptions.{document_wider}
 use Rattle.jsonc_tree.specs.OrderedTree.{OrderedTree, ordered_tree}
 use Rattle.jsonc_tree.specs.Order.{below, in_order}
 use Rattle.jsonc_tree.specs.Tree.{Node, children_at, IsTree, IsOver}
@@ -20,7 +22,7 @@ use Rattle.jsonc_edit.proofs.FittingNodes.{over_there}
 use Rattle.jsonc_edit.proofs.OneValue.{document_once}
 use Rattle.jsonc_commas.specs.Commas.{comma_gone, comma_wanted_behind, CommaIsSet, GainsIt, LosesIt}
 use Rattle.jsonc_commas.specs.InTurn.{holders, holds_at, AreSetInPart, AreSetInTurn}
-use Rattle.jsonc_commas.specs.Laws.{without_commas, Allows, IsSet, IsSettable, KeepsDocument, KeepsDocumentInPart, KeepsHolders, LeavesWhatIsSet, SaysTheSame, SetsAll, SetsOnce}
+use Rattle.jsonc_commas.specs.Laws.{allowing, without_commas, IsInSound, IsSet, SaysTheSame, SetsOnce}
 use Rattle.jsonc_commas.proofs.Children.{children_are, IsChild}
 use Rattle.jsonc_commas.proofs.Given.{comma_given}
 use Rattle.jsonc_commas.proofs.InOrder.{holders_same, holds_same, over_same, KeepsContainers}
@@ -30,6 +32,7 @@ use Rattle.jsonc_commas.proofs.Splits.{gone_parted, wanted_parted}
 use Rattle.jsonc_commas.proofs.Steps.{Step}
 use Rattle.jsonc_commas.proofs.Taken.{comma_taken}
 use Rattle.jsonc_commas.proofs.Unmoved.{other_row, set_same}
+use Rattle.jsonc_commas.proofs.WiderShapes.{as_allowed, sound_wider, with_trailing}
 use Rattle.jsonc_commas.proofs.WithoutCommas.{document_without}
 
 -- nothing has changed
@@ -39,6 +42,11 @@ no_step o old new sound e = record {
   marks = ap (λ ns. marks (ordered_tree ns 0)) e;
   commas = ap (λ ns. without_commas (ordered_tree ns 0)) e;
 }
+
+-- what the mode sets may stand in a document of these options
+abbrev Allows : TrailingCommaMode → Options → Type 0
+Allows Never o = Unit {0}
+Allows IfMultiline o = IsTrue o.trailing_commas
 
 -- one comma
 module _ (o : Options) (old new : List Node) (tree : IsTree old) (after : IsTree new) (sound : SoundTree o (ordered_tree old 0)) (c : ℕ) (over : IsOver old 0 c) (holds : IsTrue (holds_at old c)) where
@@ -142,34 +150,51 @@ front_holders ns [] ys h = tt
 front_holders ns (x ∷ xs) ys h = (h.0, h.1, front_holders ns xs ys h.2)
 
 -- what the step says of texts
-says_the_same : (o : Options) (t u : OrderedTree) → SoundTree o t → Step o t u → SaysTheSame o t u
-says_the_same o t u s step =
+says_the_same : (o p : Options) (t u : OrderedTree) → AllowsMore o p → SoundTree o t → Step p t u → SaysTheSame o p t u
+says_the_same o p t u wider s step =
     let was = document_printed o t s.shaped s.lines in
-    let is = document_printed o u step.sound.shaped step.sound.lines in
-    let same : is.0 ≡ was.0 = document_once o (without_commas t) is.0 was.0 (subst (λ x. DocumentValueOf o x is.0) step.commas (document_without o is.0 u is.2)) (document_without o was.0 t was.2) in
+    let later = sound_wider wider t s in
+    let old = document_printed p t later.shaped later.lines in
+    let is = document_printed p u step.sound.shaped step.sound.lines in
+    let one : old.0 ≡ was.0 = document_unique p (printed_text t) old.0 was.0 old.1 (document_wider (printed_text t) was.0 wider was.1) in
+    let same : is.0 ≡ old.0 = document_once p (without_commas t) is.0 old.0 (subst (λ x. DocumentValueOf p x is.0) step.commas (document_without p is.0 u is.2)) (document_without p old.0 t old.2) in
     record {
       value = was.0;
       old_text = was.1;
-      new_text = subst (λ w. IsDocument o (printed_text u) w) same is.1;
+      new_text = subst (λ w. IsDocument p (printed_text u) w) (same ∙ one) is.1;
       marks = step.marks;
       commas = step.commas;
       sound = step.sound;
     }
 
-module _ (mode : TrailingCommaMode) (o : Options) (old : List Node) (c : ℕ) (is : IsSettable mode o old c) where
-  whole : (new : List Node) → AreSetInTurn mode old (holders old c) new → Chain mode o old new (holders old c)
-  whole new set = chain mode o is.allows (holders old c) old new is.tree is.sound (are_holders old is.tree c is.over) set
+wider : (mode : TrailingCommaMode) (o : Options) → AllowsMore o (allowing mode o)
+wider Never o = as_allowed o
+wider IfMultiline o = with_trailing o
 
-  pub keeps_document : (new : List Node) → AreSetInTurn mode old (holders old c) new → SaysTheSame o (ordered_tree old 0) (ordered_tree new 0)
-  keeps_document new set = says_the_same o (ordered_tree old 0) (ordered_tree new 0) is.sound (whole new set).step
+allowed : (mode : TrailingCommaMode) (o : Options) → Allows mode (allowing mode o)
+allowed Never o = tt
+allowed IfMultiline o = refl
+
+module _ (mode : TrailingCommaMode) (o : Options) (old : List Node) (c : ℕ) (is : IsInSound o old c) where
+  abbrev p : Options
+  p = allowing mode o
+
+  sound_now : SoundTree p (ordered_tree old 0)
+  sound_now = sound_wider (wider mode o) (ordered_tree old 0) is.sound
+
+  whole : (new : List Node) → AreSetInTurn mode old (holders old c) new → Chain mode p old new (holders old c)
+  whole new set = chain mode p (allowed mode o) (holders old c) old new is.tree sound_now (are_holders old is.tree c is.over) set
+
+  pub keeps_document : (new : List Node) → AreSetInTurn mode old (holders old c) new → SaysTheSame o p (ordered_tree old 0) (ordered_tree new 0)
+  keeps_document new set = says_the_same o p (ordered_tree old 0) (ordered_tree new 0) (wider mode o) is.sound (whole new set).step
 
   pub sets_all : (new : List Node) → AreSetInTurn mode old (holders old c) new → All (IsSet mode new) (holders new c)
   sets_all new set = let w = whole new set in subst (All (IsSet mode new)) (sym (w.same c (over_there old is.tree c is.over))) w.set
 
-  pub keeps_in_part : (new : List Node) → AreSetInPart mode old (holders old c) new → SaysTheSame o (ordered_tree old 0) (ordered_tree new 0)
-  keeps_in_part new p =
-      let some : AreHolders old p.done = front_holders old p.done (p.next ∷ p.left) (subst (AreHolders old) p.are (are_holders old is.tree c is.over)) in
-      says_the_same o (ordered_tree old 0) (ordered_tree new 0) is.sound (chain mode o is.allows p.done old new is.tree is.sound some p.set).step
+  pub keeps_in_part : (new : List Node) → AreSetInPart mode old (holders old c) new → SaysTheSame o p (ordered_tree old 0) (ordered_tree new 0)
+  keeps_in_part new part =
+      let some : AreHolders old part.done = front_holders old part.done (part.next ∷ part.left) (subst (AreHolders old) part.are (are_holders old is.tree c is.over)) in
+      says_the_same o p (ordered_tree old 0) (ordered_tree new 0) (wider mode o) is.sound (chain mode p (allowed mode o) part.done old new is.tree sound_now some part.set).step
 
 -- where a comma is as it should be, nothing changes
 loses_none : (old new : List Node) (c : ℕ) (k : Option ℕ) → k ≡ None → LosesIt old new c k → new ≡ old
