@@ -62,12 +62,12 @@ module _ (o : Options) (old new : List Node) (tree : IsTree old) (after : IsTree
   one_step Never allows s = takes (comma_gone old c) refl s
   one_step IfMultiline allows s = gives allows (comma_wanted_behind old c) refl s
 
--- arrays and objects of the document
-abbrev AreHolders : List Node → List ℕ → Type 0
-AreHolders ns [] = Unit {0}
-AreHolders ns (n ∷ rest) = IsOver ns 0 n × IsTrue (holds_at ns n) × AreHolders ns rest
+-- arrays and objects below a node
+abbrev pub AreHolders : List Node → ℕ → List ℕ → Type 0
+AreHolders ns top [] = Unit {0}
+AreHolders ns top (n ∷ rest) = IsOver ns top n × IsTrue (holds_at ns n) × AreHolders ns top rest
 
-holders_kept : (old new : List Node) → IsTree old → IsTree new → KeepsContainers old new → (all : List ℕ) → AreHolders old all → AreHolders new all
+holders_kept : (old new : List Node) → IsTree old → IsTree new → KeepsContainers old new → (all : List ℕ) → AreHolders old 0 all → AreHolders new 0 all
 holders_kept old new tree after k [] h = tt
 holders_kept old new tree after k (n ∷ rest) h = (
   over_same old new tree after k 0 n (holder_contains _ h.1) h.0,
@@ -75,7 +75,7 @@ holders_kept old new tree after k (n ∷ rest) h = (
   holders_kept old new tree after k rest h.2,
 )
 
-longer : (old new : List Node) → KeepsContainers old new → (n : ℕ) → n < length old → n < length new
+pub longer : (old new : List Node) → KeepsContainers old new → (n : ℕ) → n < length old → n < length new
 longer old new k n h = elim k.long [ inl e ↦ omega (arith, e) | inr e ↦ omega (arith, e) ]
 
 -- what is so once these have been set
@@ -90,7 +90,7 @@ joined_steps : (o : Options) (t u v : OrderedTree) → Step o t u → Step o u v
 joined_steps o t u v a b = record { sound = b.sound; marks = b.marks ∙ a.marks; commas = b.commas ∙ a.commas }
 
 module _ (mode : TrailingCommaMode) (o : Options) (allows : Allows mode o) where
-  chain : (all : List ℕ) (old new : List Node) → IsTree old → SoundTree o (ordered_tree old 0) → AreHolders old all → AreSetInTurn mode old all new → Chain mode o old new all
+  chain : (all : List ℕ) (old new : List Node) → IsTree old → SoundTree o (ordered_tree old 0) → AreHolders old 0 all → AreSetInTurn mode old all new → Chain mode o old new all
   chain [] old new tree sound h e = record {
     tree = subst IsTree (sym e) tree;
     step = no_step o old new sound e;
@@ -115,11 +115,11 @@ module _ (mode : TrailingCommaMode) (o : Options) (allows : Allows mode o) where
         same = λ c l. r.same c (longer old now k c l) ∙ holders_same old now tree after k c l;
       }
 
--- all from a node on are nodes of the document
-module _ (ns : List Node) (tree : IsTree ns) where
+-- all from a node on are below what that is below
+module _ (ns : List Node) (tree : IsTree ns) (top : ℕ) where
   abbrev OverAll : List ℕ → Type 0
   OverAll [] = Unit {0}
-  OverAll (x ∷ xs) = IsOver ns 0 x × OverAll xs
+  OverAll (x ∷ xs) = IsOver ns top x × OverAll xs
 
   over_joined : (xs ys : List ℕ) → OverAll xs → OverAll ys → OverAll (xs ++ ys)
   over_joined [] ys h k = k
@@ -129,23 +129,23 @@ module _ (ns : List Node) (tree : IsTree ns) where
   over_each f P h [] all = tt
   over_each f P h (x ∷ xs) all = over_joined (f x) (flat_map f xs) (h x (All-head P x xs all)) (over_each f P h xs (All-tail P x xs all))
 
-  over_below : (k n : ℕ) → IsOver ns 0 n → OverAll (below k ns n)
+  over_below : (k n : ℕ) → IsOver ns top n → OverAll (below k ns n)
   over_below zero n over = tt
   over_below (suc k) n over = (over, over_each (below k ns) (IsChild ns n) (λ x said. over_below k x (IsOver.above said over)) (children_at ns n) (children_are ns tree n))
 
-  those_that_hold : (xs : List ℕ) → OverAll xs → AreHolders ns (filter (holds_at ns) xs)
+  those_that_hold : (xs : List ℕ) → OverAll xs → AreHolders ns top (filter (holds_at ns) xs)
   those_that_hold [] h = tt
   those_that_hold (x ∷ xs) h =
       elim (cases_Bool (holds_at ns x)) [
-        | inl e ↦ subst (λ b. AreHolders ns (cond b (x ∷ filter (holds_at ns) xs) (filter (holds_at ns) xs))) (sym e) (h.0, e, those_that_hold xs h.1)
-        | inr e ↦ subst (λ b. AreHolders ns (cond b (x ∷ filter (holds_at ns) xs) (filter (holds_at ns) xs))) (sym e) (those_that_hold xs h.1)
+        | inl e ↦ subst (λ b. AreHolders ns top (cond b (x ∷ filter (holds_at ns) xs) (filter (holds_at ns) xs))) (sym e) (h.0, e, those_that_hold xs h.1)
+        | inr e ↦ subst (λ b. AreHolders ns top (cond b (x ∷ filter (holds_at ns) xs) (filter (holds_at ns) xs))) (sym e) (those_that_hold xs h.1)
       ]
 
-  are_holders : (c : ℕ) → IsOver ns 0 c → AreHolders ns (holders ns c)
+  pub are_holders : (c : ℕ) → IsOver ns top c → AreHolders ns top (holders ns c)
   unfolding in_order
   are_holders c over = those_that_hold (below (length ns) ns c) (over_below (length ns) c over)
 
-front_holders : (ns : List Node) (xs ys : List ℕ) → AreHolders ns (xs ++ ys) → AreHolders ns xs
+front_holders : (ns : List Node) (xs ys : List ℕ) → AreHolders ns 0 (xs ++ ys) → AreHolders ns 0 xs
 front_holders ns [] ys h = tt
 front_holders ns (x ∷ xs) ys h = (h.0, h.1, front_holders ns xs ys h.2)
 
@@ -183,7 +183,7 @@ module _ (mode : TrailingCommaMode) (o : Options) (old : List Node) (c : ℕ) (i
   sound_now = sound_wider (wider mode o) (ordered_tree old 0) is.sound
 
   whole : (new : List Node) → AreSetInTurn mode old (holders old c) new → Chain mode p old new (holders old c)
-  whole new set = chain mode p (allowed mode o) (holders old c) old new is.tree sound_now (are_holders old is.tree c is.over) set
+  whole new set = chain mode p (allowed mode o) (holders old c) old new is.tree sound_now (are_holders old is.tree 0 c is.over) set
 
   pub keeps_document : (new : List Node) → AreSetInTurn mode old (holders old c) new → SaysTheSame o p (ordered_tree old 0) (ordered_tree new 0)
   keeps_document new set = says_the_same o p (ordered_tree old 0) (ordered_tree new 0) (wider mode o) is.sound (whole new set).step
@@ -193,7 +193,7 @@ module _ (mode : TrailingCommaMode) (o : Options) (old : List Node) (c : ℕ) (i
 
   pub keeps_in_part : (new : List Node) → AreSetInPart mode old (holders old c) new → SaysTheSame o p (ordered_tree old 0) (ordered_tree new 0)
   keeps_in_part new part =
-      let some : AreHolders old part.done = front_holders old part.done (part.next ∷ part.left) (subst (AreHolders old) part.are (are_holders old is.tree c is.over)) in
+      let some : AreHolders old 0 part.done = front_holders old part.done (part.next ∷ part.left) (subst (AreHolders old 0) part.are (are_holders old is.tree 0 c is.over)) in
       says_the_same o p (ordered_tree old 0) (ordered_tree new 0) (wider mode o) is.sound (chain mode p (allowed mode o) part.done old new is.tree sound_now some part.set).step
 
 -- where a comma is as it should be, nothing changes
@@ -205,7 +205,7 @@ gains_none : (old new : List Node) (c : ℕ) (n : Option ℕ) → n ≡ None →
 gains_none old new c None e s = s
 gains_none old new c (Some n) e s = let wrong : Some n ≡ None = e in cc
 
-left_as_it_is : (mode : TrailingCommaMode) (old new : List Node) (c : ℕ) → IsSet mode old c → CommaIsSet mode old new c → new ≡ old
+pub left_as_it_is : (mode : TrailingCommaMode) (old new : List Node) (c : ℕ) → IsSet mode old c → CommaIsSet mode old new c → new ≡ old
 left_as_it_is Never old new c e s = loses_none old new c (comma_gone old c) e s
 left_as_it_is IfMultiline old new c e s = gains_none old new c (comma_wanted_behind old c) e s
 

@@ -216,3 +216,10 @@ module _ (old new : List Node) (tree : IsTree old) (after : IsTree new) (k : Kee
   pub over_same : (x n : ℕ) → is_container_at old n ≡ true → IsOver old x n → IsOver new x n
   over_same x _ e IsOver.itself = IsOver.itself
   over_same x n e (IsOver.above {c = p} said rest) = IsOver.above (k.parent n (container_there n e) e ∙ said) (over_same x p (has_child old tree n p said) rest)
+
+  -- and nothing else does
+  pub over_back : (x n : ℕ) → is_container_at old n ≡ true → IsOver new x n → IsOver old x n
+  over_back x _ e IsOver.itself = IsOver.itself
+  over_back x n e (IsOver.above {c = p} said rest) =
+      let was : parent_at old n ≡ Some p = sym (k.parent n (container_there n e) e) ∙ said in
+      IsOver.above was (over_back x p (has_child old tree n p was) rest)

@@ -1,3 +1,5 @@
+pub mod Anyway
+pub mod Apart
 pub mod Children
 pub mod CommaRows
 pub mod Documents

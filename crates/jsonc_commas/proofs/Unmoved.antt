@@ -71,7 +71,7 @@ module _ (old new : List Node) (tree : IsTree old) (after : IsTree new) (m : ℕ
   if_comma_same None h = refl
   if_comma_same (Some k) h = ap (λ w. cond (is_comma w) (Some k) None) (s.content k h)
 
-  trailing_same : (x : ℕ) → IsChild old m x → trailing_comma_at new x ≡ trailing_comma_at old x
+  pub trailing_same : (x : ℕ) → IsChild old m x → trailing_comma_at new x ≡ trailing_comma_at old x
   trailing_same x said =
       let row : List ℕ = siblings_after old x in
       ap (λ l. if_comma new (find (is_no_trivia_at new) l)) (after_same x said)

@@ -1,3 +1,4 @@
+use Rattle.jsonc_commas.proofs.Apart.{leaves_others}
 use Rattle.jsonc_commas.proofs.Documents.{keeps_document, keeps_in_part}
 use Rattle.jsonc_commas.proofs.laws.documents_say_the_same.Goals as goal
 
@@ -6,3 +7,6 @@ returns-clause-whole c mode o old k new is = keeps_document mode o old k is new
 
 pub returns-clause-part : goal.returns-clause-part
 returns-clause-part c mode o old k new is = keeps_in_part mode o old k is new
+
+pub returns-clause-others : goal.returns-clause-others
+returns-clause-others c = leaves_others
