@@ -1,5 +1,5 @@
 -- Commas that are set in any document, sound or not.
-use Rattle.std.proofs.Common.{◌≡◌, ◌∙◌, sym, ap, subst, refl, ℕ, ◌<◌, ◌⊎◌, inl, inr, false, List, [], ◌∷◌, ◌++◌, Option, Some, None, is_some, append_assoc}
+use Rattle.std.proofs.Common.{◌≡◌, ◌∙◌, sym, ap, subst, refl, ℕ, ◌⊎◌, inl, inr, false, List, [], ◌∷◌, ◌++◌, Option, Some, None, is_some, append_assoc}
 use Rattle.std.specs.List.{find, All}
 use Rattle.std.proofs.lemmas.Bool.{cases_eq}
 use Rattle.std.proofs.lemmas.List.Elements.{All-cons, All-nil, All-weaker}
@@ -65,18 +65,18 @@ module _ (mode : TrailingCommaMode) where
       let one = one_set old now tree after n mode s in
       let r : AnyChain mode now new rest = any_chain rest now new after later in
       let before : (m : ℕ) → HasSeveral mode now m → HasSeveral mode old m = λ m h.
-          elim (cases_eq m n) [
-            | inl e ↦ elim one [
-              | inl set ↦ absurd (not_both mode now n set (subst (HasSeveral mode now) e h))
-              | inr several ↦ subst (HasSeveral mode old) (sym e) several
-            ]
-            | inr ne ↦ several_same mode old now tree after m (other_row mode old now tree n s m ne) h
-          ] in
-      let first : IsSet mode new n ⊎ HasSeveral mode old n = elim one [ | inl set ↦ inl (r.stay n set) | inr several ↦ inr several ] in
+      elim (cases_eq m n) [
+        | inl e ↦ elim one [
+          | inl set ↦ absurd (not_both mode now n set (subst (HasSeveral mode now) e h))
+          | inr several ↦ subst (HasSeveral mode old) (sym e) several
+        ]
+        | inr ne ↦ several_same mode old now tree after m (other_row mode old now tree n s m ne) h
+      ] in
+      let first : IsSet mode new n ⊎ HasSeveral mode old n = elim one [ inl set ↦ inl (r.stay n set) | inr several ↦ inr several ] in
       record {
         each = All-cons (λ m. IsSet mode new m ⊎ HasSeveral mode old m) n rest first
             (All-weaker (λ m. IsSet mode new m ⊎ HasSeveral mode now m) (λ m. IsSet mode new m ⊎ HasSeveral mode old m)
-            (λ m h. elim h [ | inl set ↦ inl set | inr several ↦ inr (before m several) ]) rest r.each);
+            (λ m h. elim h [ inl set ↦ inl set | inr several ↦ inr (before m several) ]) rest r.each);
         stay = λ m set. r.stay m (
             elim (cases_eq m n) [
               | inl e ↦ subst (λ ns. IsSet mode ns m) (sym (left_as_it_is mode old now n (subst (IsSet mode old) e set) s)) set

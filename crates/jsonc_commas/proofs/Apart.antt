@@ -1,9 +1,9 @@
 -- Commas that are set below a node that is none of the document: this stays as it is.
-use Rattle.std.proofs.Common.{◌≡◌, ◌∙◌, sym, ap, subst, refl, ℕ, suc, ◌<◌, inl, inr, true, List, [], ◌∷◌, length, Option, Some, None, IsTrue, arith}
+use Rattle.std.proofs.Common.{◌≡◌, ◌∙◌, sym, ap, subst, refl, ℕ, suc, ◌<◌, inl, inr, List, [], ◌∷◌, length, Option, Some, None, IsTrue}
 use Rattle.jsonc_tree.specs.Building.{Keeps}
 use Rattle.jsonc_tree.specs.Changes.{CanAppend}
-use Rattle.jsonc_tree.specs.OrderedTree.{OrderedTree, Top, none, more, ordered_tree}
-use Rattle.jsonc_tree.specs.Tree.{Node, parent_at, place_at, is_container_at, content_at, IsTree, IsOver}
+use Rattle.jsonc_tree.specs.OrderedTree.{Top, none, more, ordered_tree}
+use Rattle.jsonc_tree.specs.Tree.{Node, parent_at, place_at, content_at, IsTree, IsOver}
 use Rattle.jsonc_tree.proofs.Appending.{CanJoin-one}
 use Rattle.jsonc_tree.proofs.Builder.{Keeps-adds}
 use Rattle.jsonc_tree.proofs.Moves.{CanJoin-none}
@@ -19,7 +19,7 @@ use Rattle.jsonc_commas.specs.InTurn.{holders, holds_at, AreSetInTurn}
 use Rattle.jsonc_commas.specs.Laws.{LeavesOthers}
 use Rattle.jsonc_commas.proofs.Children.{may_come, wanted_child}
 use Rattle.jsonc_commas.proofs.Documents.{are_holders, longer, AreHolders}
-use Rattle.jsonc_commas.proofs.InOrder.{has_child, holds_same, over_back, KeepsContainers}
+use Rattle.jsonc_commas.proofs.InOrder.{holds_same, over_back, KeepsContainers}
 use Rattle.jsonc_commas.proofs.InTurn.{holder_contains}
 use Rattle.jsonc_commas.proofs.Kept.{set_keeps}
 

@@ -1,29 +1,29 @@
 -- A sound document stays sound where the comma behind the last element of a row leaves, or comes where options allow it.
-use Rattle.std.proofs.Common.{◌≡◌, ◌∙◌, ℕ, sym, ap, subst, refl, Bool, true, false, not, ◌==◌, ◌&&◌, List, [], ◌∷◌, Option, Some, None, IsTrue, if◌then◌else◌}
+use Rattle.std.proofs.Common.{◌≡◌, ◌∙◌, ℕ, sym, ap, subst, refl, Bool, true, false, not, ◌==◌, ◌&&◌, List, [], ◌∷◌, Some, None, IsTrue, if◌then◌else◌}
 use Rattle.std.proofs.lemmas.Bool.{false≢true}
 use Rattle.jsonc_text.specs.Options.{Options}
 use Rattle.jsonc_text.specs.Text.{starts}
 use Rattle.jsonc_tree.specs.Content.{Content, token}
-use Rattle.jsonc_tree.specs.OrderedTree.{OrderedTree, none, more, own_leaf, leaves, followed_by}
+use Rattle.jsonc_tree.specs.OrderedTree.{OrderedTree, none, more, leaves, followed_by}
 use Rattle.jsonc_tree.specs.Values as values
 use Rattle.jsonc_tree.specs.Values.{is_passed_over, HasNoValue}
 use Rattle.jsonc_lines.specs.Kinds.{is_comma}
 use Rattle.jsonc_build.specs.Lines.{ends_loosely, is_line_comment, LinesEndLoosely}
 use Rattle.jsonc_build.specs.Shape.{IsTrivia, token_then}
-use Rattle.jsonc_laws.specs.Adjacent.{first_char, last_printed, LeavesEnd}
+use Rattle.jsonc_laws.specs.Adjacent.{first_char, last_printed}
 use Rattle.jsonc_laws.specs.Alone as alone
 use Rattle.jsonc_laws.specs.Alone.{may_come, may_stand, PartAlone, RowAlone, StretchAlone}
 use Rattle.jsonc_laws.specs.Rows as rows
 use Rattle.jsonc_laws.specs.Rows.{RowKind, closing, container_of, Last, last_after, last_behind, may_end}
 use Rattle.jsonc_laws.specs.SoundTrees.{SoundTree}
-use Rattle.jsonc_laws.specs.Spaces.{first_printed, is_bare, is_bare_leaf, meet}
+use Rattle.jsonc_laws.specs.Spaces.{first_printed, is_bare, is_bare_leaf}
 use Rattle.jsonc_laws.specs.TreeChanges.{IsElement, DocumentChanged}
 use Rattle.jsonc_laws.proofs.Apart.{value_alone}
 use Rattle.jsonc_laws.proofs.Changed.{part_element}
 use Rattle.jsonc_laws.proofs.FirstNodes.{line_comment_over, no_element}
 use Rattle.jsonc_laws.proofs.HeldValues.{document_held}
 use Rattle.jsonc_laws.proofs.LinesLeft.{lines_more, row_lines}
-use Rattle.jsonc_laws.proofs.LooseChanges.{element_no_end, joined_loosely, parted_loosely}
+use Rattle.jsonc_laws.proofs.LooseChanges.{joined_loosely, parted_loosely}
 use Rattle.jsonc_laws.proofs.SeamRows.{row_of}
 use Rattle.jsonc_laws.proofs.SeamStretches.{followed_joined, last_is, parted_row}
 use Rattle.jsonc_laws.proofs.SoundTrees.{kept_where_none_meet}

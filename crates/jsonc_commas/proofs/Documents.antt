@@ -1,11 +1,10 @@
 -- The commas of arrays and objects of a sound document are set, one after another.
-use Rattle.std.proofs.Common.{◌≡◌, ◌∙◌, sym, ap, subst, refl, ℕ, zero, suc, ◌+◌, ◌<◌, Bool, true, false, cond, inl, inr, List, [], ◌∷◌, ◌++◌, length, filter, Option, Some, None, IsTrue, arith}
+use Rattle.std.proofs.Common.{◌≡◌, ◌∙◌, sym, ap, subst, refl, ℕ, zero, suc, ◌<◌, cond, inl, inr, List, [], ◌∷◌, ◌++◌, length, filter, Option, Some, None, IsTrue, arith}
 use Rattle.std.specs.List.{flat_map, All}
-use Rattle.std.proofs.lemmas.Bool.{cases_Bool, cases_eq, cases_lt}
+use Rattle.std.proofs.lemmas.Bool.{cases_Bool, cases_eq}
 use Rattle.std.proofs.lemmas.List.Elements.{All-cons, All-head, All-nil, All-tail}
 use Rattle.jsonc_text.specs.Options.{Options, AllowsMore}
 use Rattle.jsonc_text.specs.Grammar.{IsDocument}
-use Rattle.jsonc_text.specs.Plain.{Plain}
 use Rattle.jsonc_text.proofs.UniqueValues.{document_unique}
 use Rattle.jsonc_text.proofs.WiderOptions.{document_wider}
 use Rattle.jsonc_tree.specs.OrderedTree.{OrderedTree, ordered_tree}

@@ -1,48 +1,34 @@
 -- A comma comes into an array or object of a sound document: what becomes of the document.
-use Rattle.std.proofs.Common.{◌≡◌, ◌∙◌, sym, ap, subst, refl, ℕ, suc, ◌+◌, ◌<◌, Bool, true, false, not, cond, eqb, List, [], ◌∷◌, ◌++◌, All, length, take, drop, Option, Some, None, IsTrue, arith, length-append, append_assoc}
-use Rattle.std.proofs.lemmas.Bool.{false≢true, eqb-true}
-use Rattle.std.proofs.lemmas.List.{take_at}
-use Rattle.std.proofs.lemmas.List.Elements.{All-cons, All-head, All-nil, All-tail}
+use Rattle.std.proofs.Common.{◌≡◌, ◌∙◌, sym, ap, subst, refl, ℕ, suc, ◌+◌, ◌<◌, not, List, [], ◌∷◌, ◌++◌, All, length, take, drop, None, IsTrue, append_assoc}
+use Rattle.std.proofs.lemmas.List.Elements.{All-tail}
 use Rattle.jsonc_text.specs.Options.{Options}
 use Rattle.jsonc_tree.specs.Building.{Keeps}
 use Rattle.jsonc_tree.specs.Changes.{CanAppend}
-use Rattle.jsonc_tree.specs.Content.{Content, is_container, token}
-use Rattle.jsonc_tree.specs.OrderedTree.{OrderedTree, Top, none, more, followed_by, leaves, ordered_tree, Shows, shows_none, shows_more}
-use Rattle.jsonc_tree.specs.Siblings.{TakesOut}
-use Rattle.jsonc_tree.specs.Tree.{Node, content_at, children_at, place_at, is_container_at, IsTree, IsOver}
-use Rattle.jsonc_tree.specs.Values.{HasNoValue}
+use Rattle.jsonc_tree.specs.Content.{Content, token}
+use Rattle.jsonc_tree.specs.OrderedTree.{OrderedTree, Top, none, more, followed_by, ordered_tree, Shows, shows_none, shows_more}
+use Rattle.jsonc_tree.specs.Tree.{Node, content_at, children_at, place_at, IsTree, IsOver}
 use Rattle.jsonc_tree.proofs.Appending.{CanJoin-one}
 use Rattle.jsonc_tree.proofs.Builder.{Keeps-adds, Shows-keeps}
-use Rattle.jsonc_tree.proofs.Moves.{CanJoin-none}
-use Rattle.jsonc_tree.proofs.OrderedTrees.{leaves-followed_by}
-use Rattle.jsonc_nodes.specs.Kinds.{is_element, is_element_at}
 use Rattle.jsonc_nodes.proofs.There.{children_there}
-use Rattle.jsonc_lines.specs.Kinds.{is_comma}
-use Rattle.jsonc_build.specs.Shape.{IsTrivia, token_then}
-use Rattle.jsonc_laws.specs.Marks.{marks, marks_of}
-use Rattle.jsonc_laws.specs.MarkChanges.{marks_under}
-use Rattle.jsonc_laws.specs.Rows as rows
-use Rattle.jsonc_laws.specs.Rows.{RowKind, container_of, holder, opening}
+use Rattle.jsonc_build.specs.Shape.{token_then}
+use Rattle.jsonc_laws.specs.Rows.{container_of, holder, opening}
 use Rattle.jsonc_laws.specs.SoundTrees.{SoundTree}
 use Rattle.jsonc_laws.specs.TreeChanges.{DocumentChanged}
-use Rattle.jsonc_laws.proofs.GivingWay.{marks_join, values_marks}
 use Rattle.jsonc_laws.proofs.SeamStretches.{followed_joined}
 use Rattle.jsonc_edit.specs.Changes.{row_below, top_at, Respliced}
-use Rattle.jsonc_edit.specs.Paths.{IsAt}
 use Rattle.jsonc_edit.proofs.FittingNodes.{over_there}
 use Rattle.jsonc_edit.proofs.Kept.{at_kept, top_stays, tree_stays}
 use Rattle.jsonc_edit.proofs.Splices.{respliced_over, respliced_row}
-use Rattle.jsonc_commas.specs.Commas.{a_comma, comma_gone, comma_wanted_behind, CommaComesBehind}
+use Rattle.jsonc_commas.specs.Commas.{a_comma, comma_wanted_behind, CommaComesBehind}
 use Rattle.jsonc_commas.specs.InTurn.{holds_at}
-use Rattle.jsonc_commas.specs.Laws.{without_commas}
 use Rattle.jsonc_commas.proofs.Children.{may_come}
-use Rattle.jsonc_commas.proofs.CommaRows.{closes, comma_first, sound_with, sound_without, Closing, bracket, behind}
-use Rattle.jsonc_commas.proofs.Holders.{bare_leaf, held, holder_path, more_inside, row_stands, shows_standing, value_at_path, Held}
+use Rattle.jsonc_commas.proofs.CommaRows.{comma_first, sound_with}
+use Rattle.jsonc_commas.proofs.Holders.{row_stands, shows_standing}
 use Rattle.jsonc_commas.proofs.Kept.{ready_children}
-use Rattle.jsonc_commas.proofs.OwnRow.{came_now, gap_is, lost_now, ready_row, row_now, take_past}
-use Rattle.jsonc_commas.proofs.Splits.{drop_past, no_elements, none_back, split_parent, split_place, split_there, standing, standing_then, GoneComma, WantedComma}
+use Rattle.jsonc_commas.proofs.OwnRow.{came_now, gap_is, take_past}
+use Rattle.jsonc_commas.proofs.Splits.{drop_past, no_elements, split_parent, standing, standing_then, WantedComma}
 use Rattle.jsonc_commas.proofs.WithoutCommas.{comma_between, document_alike}
-use Rattle.jsonc_commas.proofs.Steps.{all_front, all_rest, bracket_without, closing_lacks, comma_leaf, first_same, inside, marks_comma, opens_row, path, same_marks, same_top, the_comma, under_bracket, Inside, Step}
+use Rattle.jsonc_commas.proofs.Steps.{all_front, all_rest, bracket_without, first_same, inside, marks_comma, opens_row, path, same_marks, same_top, under_bracket, Inside, Step}
 
 -- a comma comes
 module _ (o : Options) (allowed : IsTrue o.trailing_commas) (old new : List Node) (tree : IsTree old) (after : IsTree new) (sound : SoundTree o (ordered_tree old 0)) (c n : ℕ) (over : IsOver old 0 c) (holds : IsTrue (holds_at old c))

@@ -1,16 +1,15 @@
 -- An array or object of a sound document: its path, and its row.
-use Rattle.std.proofs.Common.{◌≡◌, ◌≢◌, ◌∙◌, sym, ap, subst, refl, ℕ, zero, suc, ◌<◌, Bool, true, false, not, cond, eqb, inl, inr, List, [], ◌∷◌, ◌++◌, All, length, filter, get_or, slice_get, Option, Some, None, IsTrue, arith}
-use Rattle.std.proofs.lemmas.Bool.{cases_Bool, false≢true}
-use Rattle.std.proofs.lemmas.List.Elements.{All-from_get_or, All-head, All-tail}
+use Rattle.std.proofs.Common.{◌≡◌, ◌≢◌, ◌∙◌, sym, ap, subst, refl, ℕ, zero, suc, ◌<◌, true, false, cond, List, [], ◌∷◌, ◌++◌, All, length, filter, get_or, slice_get, Some, IsTrue, arith}
+use Rattle.std.proofs.lemmas.Bool.{false≢true}
+use Rattle.std.proofs.lemmas.List.Elements.{All-head, All-tail}
 use Rattle.jsonc_text.specs.Options.{Options}
-use Rattle.jsonc_tree.specs.Content.{Content, array, object, property, is_container, token}
-use Rattle.jsonc_tree.specs.OrderedTree.{OrderedTree, Top, none, more, followed_by, ordered_tree, Shows, shows_none, shows_more}
+use Rattle.jsonc_tree.specs.Content.{Content, array, object, property, token}
+use Rattle.jsonc_tree.specs.OrderedTree.{OrderedTree, none, more, followed_by, ordered_tree, Shows, shows_none, shows_more}
 use Rattle.jsonc_tree.specs.Tree.{Node, content_at, children_at, parent_at, place_at, is_container_at, IsTree, IsOver}
 use Rattle.jsonc_tree.specs.Values.{is_passed_over}
 use Rattle.jsonc_tree.proofs.Order.{over_step, parent_there}
 use Rattle.jsonc_tree.proofs.OrderedTrees.{Shows-unique}
 use Rattle.jsonc_nodes.specs.Kinds.{is_element, is_element_at}
-use Rattle.jsonc_nodes.specs.Siblings.{elements_at}
 use Rattle.jsonc_nodes.proofs.There.{children_there}
 use Rattle.jsonc_lines.specs.Kinds.{holds_values}
 use Rattle.jsonc_build.specs.Shape.{IsLiteralBefore, IsNameBefore, IsTrivia, token_then}
@@ -24,12 +23,11 @@ use Rattle.jsonc_laws.proofs.Apart.{value_alone}
 use Rattle.jsonc_laws.proofs.HeldValues.{document_held}
 use Rattle.jsonc_laws.proofs.SeamStretches.{parted_row}
 use Rattle.jsonc_edit.specs.Changes.{row_below, top_at}
-use Rattle.jsonc_edit.specs.Paths.{IsAt, IsElementOf, Stands, as_root, as_value, as_property, as_name, between}
+use Rattle.jsonc_edit.specs.Paths.{IsAt, IsElementOf, as_root, as_value, as_property, as_name, between}
 use Rattle.jsonc_edit.proofs.Standing.{all_stand}
 use Rattle.jsonc_edit.proofs.Uniqueness.{element_parent}
 use Rattle.jsonc_edit.proofs.Walk.{changed_over, ChangedIn, Shows-row_below}
 use Rattle.jsonc_commas.specs.InTurn.{holds_at}
-use Rattle.jsonc_commas.proofs.InTurn.{holder_contains}
 use Rattle.jsonc_commas.proofs.Splits.{standing, standing_then}
 
 -- nodes stand for their row

@@ -4,8 +4,7 @@ use Rattle.std.specs.List.{find, All}
 use Rattle.std.specs.Option.{option_and_then}
 use Rattle.std.proofs.lemmas.List.{take_at}
 use Rattle.std.proofs.lemmas.List.Elements.{All-from_get_or}
-use Rattle.jsonc_tree.specs.Content.{Content, token}
-use Rattle.jsonc_tree.specs.Siblings.{siblings_after, TakesOut}
+use Rattle.jsonc_tree.specs.Siblings.{TakesOut}
 use Rattle.jsonc_tree.specs.Tree.{Node, content_at, children_at, place_at, IsTree}
 use Rattle.jsonc_nodes.specs.Kinds.{is_element, is_element_at, is_trivia}
 use Rattle.jsonc_lines.specs.Kinds.{is_comma}

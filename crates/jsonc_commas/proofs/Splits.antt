@@ -1,5 +1,5 @@
 -- A row parted at its last element and at the comma behind it.
-use Rattle.std.proofs.Common.{◌≡◌, ◌∙◌, sym, ap, subst, refl, ℕ, suc, ◌+◌, ◌<◌, Bool, true, false, not, cond, ◌==◌, inl, inr, List, [], ◌∷◌, ◌++◌, length, get_or, reverse, drop, Option, Some, None, is_some, IsTrue, arith, length-append, append_assoc}
+use Rattle.std.proofs.Common.{◌≡◌, ◌∙◌, sym, ap, subst, refl, ℕ, suc, ◌+◌, ◌<◌, Bool, true, false, not, cond, ◌==◌, inl, inr, List, [], ◌∷◌, ◌++◌, length, get_or, reverse, drop, Option, Some, None, is_some, arith, length-append, append_assoc}
 use Rattle.std.specs.List.{find, AllByRecursion}
 use Rattle.std.specs.Option.{option_and_then}
 use Rattle.std.proofs.lemmas.Bool.{cases_Bool, false≢true}
@@ -11,7 +11,7 @@ use Rattle.jsonc_tree.specs.Siblings.{first, siblings_after}
 use Rattle.jsonc_tree.specs.Tree.{Node, content_at, children_at, parent_at, place_at, IsTree}
 use Rattle.jsonc_tree.specs.Values as values
 use Rattle.jsonc_tree.specs.Values.{is_passed_over, HasNoValue}
-use Rattle.jsonc_nodes.specs.Kinds.{is_element, is_element_at, is_trivia}
+use Rattle.jsonc_nodes.specs.Kinds.{is_element_at, is_trivia}
 use Rattle.jsonc_lines.specs.Kinds.{is_comma}
 use Rattle.jsonc_lines.specs.Siblings.{if_comma, is_no_trivia_at, trailing_comma_at}
 use Rattle.jsonc_edit.specs.Changes.{row_below}

@@ -1,5 +1,5 @@
 -- What is read of a row stays where another row changes.
-use Rattle.std.proofs.Common.{◌≡◌, ◌≢◌, ◌∙◌, sym, ap, subst, refl, ℕ, suc, ◌+◌, ◌<◌, Bool, not, cond, List, [], ◌∷◌, length, get_or, reverse, drop, Option, Some, None, IfSome, is_some, arith}
+use Rattle.std.proofs.Common.{◌≡◌, ◌≢◌, ◌∙◌, sym, ap, refl, ℕ, suc, ◌+◌, ◌<◌, Bool, not, cond, List, [], ◌∷◌, length, get_or, reverse, drop, Option, Some, None, IfSome, is_some, arith}
 use Rattle.std.specs.List.{find, list_any, All}
 use Rattle.std.specs.Option.{option_and_then}
 use Rattle.jsonc_tree.specs.Order.{with_parent}
@@ -15,7 +15,6 @@ use Rattle.jsonc_edit.specs.declared.modes.TrailingCommaMode.TheVariants.{Never,
 use Rattle.jsonc_commas.specs.Commas.{comma_gone, comma_wanted_behind, has_newline, if_followed, if_without_comma, last_element, CommaIsSet, GainsIt, LosesIt}
 use Rattle.jsonc_commas.specs.Laws.{IsSet}
 use Rattle.jsonc_commas.proofs.Children.{comma_child, last_child, IsChild}
-use Rattle.jsonc_commas.proofs.InOrder.{KeepsContainers}
 use Rattle.jsonc_commas.proofs.Kept.{ready_children, set_keeps}
 
 -- tests that agree on all of a list

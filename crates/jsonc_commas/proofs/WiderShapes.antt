@@ -1,6 +1,6 @@
 -- A document's tree is one under options that allow more around the same lexemes.
 use Rattle.std.proofs.Common.{ℕ, ◌++◌, refl, true, List, chars}
-use Rattle.jsonc_text.specs.Options.{Options, AgreeOnLexemes, AllowsMore}
+use Rattle.jsonc_text.specs.Options.{Options, AllowsMore}
 use Rattle.jsonc_text.specs.Lexemes.{LexemeKind}
 use Rattle.jsonc_text.proofs.SameOptions.{lexeme_same}
 use Rattle.jsonc_tree.specs.Content.{Content}

@@ -1,15 +1,15 @@
 -- Trees that differ in commas alone have the same value.
-use Rattle.std.proofs.Common.{◌≡◌, ◌∙◌, ℕ, sym, ap, subst, refl, Bool, true, false, cond, inl, inr, List, Option, Some, None, IsTrue}
+use Rattle.std.proofs.Common.{◌≡◌, ◌∙◌, ℕ, sym, ap, subst, refl, true, false, cond, inl, inr, List, Option, Some, None, IsTrue}
 use Rattle.std.proofs.lemmas.Bool.{cases_Bool}
 use Rattle.jsonc_text.specs.Options.{Options}
-use Rattle.jsonc_text.specs.Plain.{Plain, Items, item, Members, member}
+use Rattle.jsonc_text.specs.Plain.{Plain, Items, item, Members}
 use Rattle.jsonc_tree.specs.Content.{Content}
 use Rattle.jsonc_tree.specs.OrderedTree.{OrderedTree, Top, none, more, followed_by}
 use Rattle.jsonc_tree.specs.Values as values
 use Rattle.jsonc_tree.specs.Values.{is_passed_over, ValueOf, ItemsOf, MembersOf, PropertyOf, HoldsValue, HasNoValue, HoldsAtMostOne, DocumentValueOf}
 use Rattle.jsonc_lines.specs.Kinds.{is_comma}
 use Rattle.jsonc_laws.specs.TreeChanges.{IsElement, ElementChanged, this_element, passed, later_element, ValueChanged, itself, in_array, in_object, DocumentChanged, in_root}
-use Rattle.jsonc_laws.proofs.FirstNodes.{name_leaf_element, no_element, value_of_element}
+use Rattle.jsonc_laws.proofs.FirstNodes.{name_leaf_element, value_of_element}
 use Rattle.jsonc_commas.specs.Laws.{without_commas}
 
 comma_over : (content : Content) → is_comma content ≡ true → IsTrue (is_passed_over content)

@@ -1,3 +1,4 @@
 pub mod Commas
 pub mod InTurn
 pub mod Laws
+pub mod Worked

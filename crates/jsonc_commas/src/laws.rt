@@ -1,10 +1,14 @@
 //! Laws of trailing commas that are set: each is the contract of a function that does nothing.
-ghost use Rattle.std.specs.Prelude.{List, ℕ};
+ghost use Rattle.std.specs.Prelude.{◌≡◌, [], ◌∷◌, List, None, Some, codes, ℕ};
 ghost use Rattle.jsonc_text.specs.Options.{Options};
 ghost use Rattle.jsonc_tree.specs.Tree.{Node};
 ghost use Rattle.jsonc_edit.specs.declared.modes.TrailingCommaMode.{TrailingCommaMode};
+ghost use Rattle.jsonc_tree.specs.Order.{printed_at};
+ghost use Rattle.jsonc_commas.specs.Commas.{comma_gone, comma_wanted_behind};
+ghost use Rattle.jsonc_commas.specs.InTurn.{holders};
 ghost use Rattle.jsonc_commas.specs.Laws.{KeepsDocument, KeepsDocumentInPart, KeepsHolders, LeavesOthers, LeavesWhatIsSet};
 ghost use Rattle.jsonc_commas.specs.Laws.{SetsAll, SetsAllButSeveral, SetsOnce};
+ghost use Rattle.jsonc_commas.specs.Worked.{bare_array, comma_array, open_array};
 
 /// Where the commas of a node of a sound document, and of all below it, are set, the text is a document
 /// again, of the same value and with the same literals and comments; commas alone have come or gone, and
@@ -34,4 +38,19 @@ pub fn commas_are_set()
         → SetsOnce mode o old now c new }
     ensures holders { (mode : TrailingCommaMode) (old : List Node) (c : ℕ) (new : List Node)
         → KeepsHolders mode old c new }
+{}
+
+/// Worked documents: in `[`, `  1,`, `  {"a": [2]}`, `]`, each on a line, a comma is wanted behind the
+/// object alone, and once it is there it is the one that leaves. Where a comma is last in the row, in the
+/// place of the bracket, it does not.
+pub fn worked_documents()
+    ensures holders { holders bare_array 0 ≡ 1 ∷ 9 ∷ 15 ∷ [] }
+    ensures text { printed_at bare_array 0 ≡ codes "[\n  1,\n  {\"a\": [2]}\n]" }
+    ensures wanted { comma_wanted_behind bare_array 1 ≡ Some 9 }
+    ensures inner { comma_wanted_behind bare_array 9 ≡ None }
+    ensures set { printed_at comma_array 0 ≡ codes "[\n  1,\n  {\"a\": [2]},\n]" }
+    ensures once { comma_wanted_behind comma_array 1 ≡ None }
+    ensures gone { comma_gone comma_array 1 ≡ Some 22 }
+    ensures none { comma_gone bare_array 1 ≡ None }
+    ensures open { comma_gone open_array 1 ≡ None }
 {}

@@ -1,0 +1,16 @@
+use Rattle.std.proofs.Common.{refl}
+use lib.Utf8.{encode}
+use Rattle.jsonc_tree.specs.Order.{in_order}
+use Rattle.jsonc_commas.proofs.laws.worked_documents.Goals as goal
+
+pub returns-clause-holders : goal.returns-clause-holders
+unfolding in_order
+returns-clause-holders c = refl
+
+pub returns-clause-text : goal.returns-clause-text
+unfolding in_order encode
+returns-clause-text c = refl
+
+pub returns-clause-set : goal.returns-clause-set
+unfolding in_order encode
+returns-clause-set c = refl
