@@ -21,7 +21,7 @@ use Rattle.jsonc_edit.proofs.FittingNodes.{over_there}
 use Rattle.jsonc_edit.proofs.OneValue.{document_once}
 use Rattle.jsonc_commas.specs.Commas.{comma_gone, comma_wanted_behind, CommaIsSet, GainsIt, LosesIt}
 use Rattle.jsonc_commas.specs.InTurn.{holders, holds_at, AreSetInPart, AreSetInTurn}
-use Rattle.jsonc_commas.specs.Laws.{allowing, without_commas, IsInSound, IsSet, SaysTheSame, SetsOnce}
+use Rattle.jsonc_commas.specs.Laws.{allowing, IsInSound, IsSet, OnlyCommas, SaysTheSame, SetsOnce}
 use Rattle.jsonc_commas.proofs.Children.{children_are, IsChild}
 use Rattle.jsonc_commas.proofs.Given.{comma_given}
 use Rattle.jsonc_commas.proofs.InOrder.{holders_same, holds_same, over_same, KeepsContainers}
@@ -32,14 +32,14 @@ use Rattle.jsonc_commas.proofs.Steps.{Step}
 use Rattle.jsonc_commas.proofs.Taken.{comma_taken}
 use Rattle.jsonc_commas.proofs.Unmoved.{other_row, set_same}
 use Rattle.jsonc_commas.proofs.WiderShapes.{as_allowed, sound_wider, with_trailing}
-use Rattle.jsonc_commas.proofs.WithoutCommas.{document_without}
+use Rattle.jsonc_commas.proofs.WithoutCommas.{document_without, only_same, only_then, only_without, without_commas}
 
 -- nothing has changed
-no_step : (o : Options) (old new : List Node) → SoundTree o (ordered_tree old 0) → new ≡ old → Step o (ordered_tree old 0) (ordered_tree new 0)
-no_step o old new sound e = record {
+no_step : (mode : TrailingCommaMode) (o : Options) (old new : List Node) → SoundTree o (ordered_tree old 0) → new ≡ old → Step mode o (ordered_tree old 0) (ordered_tree new 0)
+no_step mode o old new sound e = record {
   sound = subst (λ ns. SoundTree o (ordered_tree ns 0)) (sym e) sound;
   marks = ap (λ ns. marks (ordered_tree ns 0)) e;
-  commas = ap (λ ns. without_commas (ordered_tree ns 0)) e;
+  commas = subst (λ ns. OnlyCommas mode (ordered_tree old 0) (ordered_tree ns 0)) (sym e) (only_same mode (ordered_tree old 0));
 }
 
 -- what the mode sets may stand in a document of these options
@@ -49,15 +49,15 @@ Allows IfMultiline o = IsTrue o.trailing_commas
 
 -- one comma
 module _ (o : Options) (old new : List Node) (tree : IsTree old) (after : IsTree new) (sound : SoundTree o (ordered_tree old 0)) (c : ℕ) (over : IsOver old 0 c) (holds : IsTrue (holds_at old c)) where
-  takes : (k : Option ℕ) → comma_gone old c ≡ k → LosesIt old new c k → Step o (ordered_tree old 0) (ordered_tree new 0) × (comma_gone new c ≡ None)
-  takes None e s = (no_step o old new sound s, ap (λ ns. comma_gone ns c) s ∙ e)
+  takes : (k : Option ℕ) → comma_gone old c ≡ k → LosesIt old new c k → Step Never o (ordered_tree old 0) (ordered_tree new 0) × (comma_gone new c ≡ None)
+  takes None e s = (no_step Never o old new sound s, ap (λ ns. comma_gone ns c) s ∙ e)
   takes (Some k) e s = comma_taken o old new tree after sound c k over holds (gone_parted old tree c k e) s
 
-  gives : IsTrue o.trailing_commas → (n : Option ℕ) → comma_wanted_behind old c ≡ n → GainsIt old new c n → Step o (ordered_tree old 0) (ordered_tree new 0) × (comma_wanted_behind new c ≡ None)
-  gives allowed None e s = (no_step o old new sound s, ap (λ ns. comma_wanted_behind ns c) s ∙ e)
+  gives : IsTrue o.trailing_commas → (n : Option ℕ) → comma_wanted_behind old c ≡ n → GainsIt old new c n → Step IfMultiline o (ordered_tree old 0) (ordered_tree new 0) × (comma_wanted_behind new c ≡ None)
+  gives allowed None e s = (no_step IfMultiline o old new sound s, ap (λ ns. comma_wanted_behind ns c) s ∙ e)
   gives allowed (Some n) e s = comma_given o allowed old new tree after sound c n over holds (wanted_parted old tree c n e) s
 
-  one_step : (mode : TrailingCommaMode) → Allows mode o → CommaIsSet mode old new c → Step o (ordered_tree old 0) (ordered_tree new 0) × IsSet mode new c
+  one_step : (mode : TrailingCommaMode) → Allows mode o → CommaIsSet mode old new c → Step mode o (ordered_tree old 0) (ordered_tree new 0) × IsSet mode new c
   one_step Never allows s = takes (comma_gone old c) refl s
   one_step IfMultiline allows s = gives allows (comma_wanted_behind old c) refl s
 
@@ -80,19 +80,19 @@ longer old new k n h = elim k.long [ inl e ↦ omega (arith, e) | inr e ↦ omeg
 -- what is so once these have been set
 record Chain (mode : TrailingCommaMode) (o : Options) (old new : List Node) (all : List ℕ) : Type 0 where
   tree : IsTree new
-  step : Step o (ordered_tree old 0) (ordered_tree new 0)
+  step : Step mode o (ordered_tree old 0) (ordered_tree new 0)
   set : All (IsSet mode new) all
   stay : (m : ℕ) → IsSet mode old m → IsSet mode new m
   same : (c : ℕ) → c < length old → holders new c ≡ holders old c
 
-joined_steps : (o : Options) (t u v : OrderedTree) → Step o t u → Step o u v → Step o t v
-joined_steps o t u v a b = record { sound = b.sound; marks = b.marks ∙ a.marks; commas = b.commas ∙ a.commas }
+joined_steps : (mode : TrailingCommaMode) (o : Options) (t u v : OrderedTree) → Step mode o t u → Step mode o u v → Step mode o t v
+joined_steps mode o t u v a b = record { sound = b.sound; marks = b.marks ∙ a.marks; commas = only_then mode t u v a.commas b.commas }
 
 module _ (mode : TrailingCommaMode) (o : Options) (allows : Allows mode o) where
   chain : (all : List ℕ) (old new : List Node) → IsTree old → SoundTree o (ordered_tree old 0) → AreHolders old 0 all → AreSetInTurn mode old all new → Chain mode o old new all
   chain [] old new tree sound h e = record {
     tree = subst IsTree (sym e) tree;
-    step = no_step o old new sound e;
+    step = no_step mode o old new sound e;
     set = All-nil (IsSet mode new);
     stay = λ m s. subst (λ ns. IsSet mode ns m) (sym e) s;
     same = λ c l. ap (λ ns. holders ns c) e;
@@ -108,7 +108,7 @@ module _ (mode : TrailingCommaMode) (o : Options) (allows : Allows mode o) where
       let r : Chain mode o now new rest = chain rest now new after one.0.sound (holders_kept old now tree after k rest h.2) later in
       record {
         tree = r.tree;
-        step = joined_steps o (ordered_tree old 0) (ordered_tree now 0) (ordered_tree new 0) one.0 r.step;
+        step = joined_steps mode o (ordered_tree old 0) (ordered_tree now 0) (ordered_tree new 0) one.0 r.step;
         set = All-cons (IsSet mode new) n rest (r.stay n one.1) r.set;
         stay = λ m set. r.stay m (others m set);
         same = λ c l. r.same c (longer old now k c l) ∙ holders_same old now tree after k c l;
@@ -148,15 +148,24 @@ front_holders : (ns : List Node) (xs ys : List ℕ) → AreHolders ns 0 (xs ++ y
 front_holders ns [] ys h = tt
 front_holders ns (x ∷ xs) ys h = (h.0, h.1, front_holders ns xs ys h.2)
 
+wider : (mode : TrailingCommaMode) (o : Options) → AllowsMore o (allowing mode o)
+wider Never o = as_allowed o
+wider IfMultiline o = with_trailing o
+
+allowed : (mode : TrailingCommaMode) (o : Options) → Allows mode (allowing mode o)
+allowed Never o = tt
+allowed IfMultiline o = refl
+
 -- what the step says of texts
-says_the_same : (o p : Options) (t u : OrderedTree) → AllowsMore o p → SoundTree o t → Step p t u → SaysTheSame o p t u
-says_the_same o p t u wider s step =
+says_the_same : (mode : TrailingCommaMode) (o : Options) (t u : OrderedTree) → SoundTree o t → Step mode (allowing mode o) t u → SaysTheSame mode o t u
+says_the_same mode o t u s step =
+    let p : Options = allowing mode o in
     let was = document_printed o t s.shaped s.lines in
-    let later = sound_wider wider t s in
+    let later = sound_wider (wider mode o) t s in
     let old = document_printed p t later.shaped later.lines in
     let is = document_printed p u step.sound.shaped step.sound.lines in
-    let one : old.0 ≡ was.0 = document_unique p (printed_text t) old.0 was.0 old.1 (document_wider (printed_text t) was.0 wider was.1) in
-    let same : is.0 ≡ old.0 = document_once p (without_commas t) is.0 old.0 (subst (λ x. DocumentValueOf p x is.0) step.commas (document_without p is.0 u is.2)) (document_without p old.0 t old.2) in
+    let one : old.0 ≡ was.0 = document_unique p (printed_text t) old.0 was.0 old.1 (document_wider (printed_text t) was.0 (wider mode o) was.1) in
+    let same : is.0 ≡ old.0 = document_once p (without_commas t) is.0 old.0 (subst (λ x. DocumentValueOf p x is.0) (only_without mode t u step.commas) (document_without p is.0 u is.2)) (document_without p old.0 t old.2) in
     record {
       value = was.0;
       old_text = was.1;
@@ -165,14 +174,6 @@ says_the_same o p t u wider s step =
       commas = step.commas;
       sound = step.sound;
     }
-
-wider : (mode : TrailingCommaMode) (o : Options) → AllowsMore o (allowing mode o)
-wider Never o = as_allowed o
-wider IfMultiline o = with_trailing o
-
-allowed : (mode : TrailingCommaMode) (o : Options) → Allows mode (allowing mode o)
-allowed Never o = tt
-allowed IfMultiline o = refl
 
 module _ (mode : TrailingCommaMode) (o : Options) (old : List Node) (c : ℕ) (is : IsInSound o old c) where
   abbrev p : Options
@@ -184,16 +185,16 @@ module _ (mode : TrailingCommaMode) (o : Options) (old : List Node) (c : ℕ) (i
   whole : (new : List Node) → AreSetInTurn mode old (holders old c) new → Chain mode p old new (holders old c)
   whole new set = chain mode p (allowed mode o) (holders old c) old new is.tree sound_now (are_holders old is.tree 0 c is.over) set
 
-  pub keeps_document : (new : List Node) → AreSetInTurn mode old (holders old c) new → SaysTheSame o p (ordered_tree old 0) (ordered_tree new 0)
-  keeps_document new set = says_the_same o p (ordered_tree old 0) (ordered_tree new 0) (wider mode o) is.sound (whole new set).step
+  pub keeps_document : (new : List Node) → AreSetInTurn mode old (holders old c) new → SaysTheSame mode o (ordered_tree old 0) (ordered_tree new 0)
+  keeps_document new set = says_the_same mode o (ordered_tree old 0) (ordered_tree new 0) is.sound (whole new set).step
 
   pub sets_all : (new : List Node) → AreSetInTurn mode old (holders old c) new → All (IsSet mode new) (holders new c)
   sets_all new set = let w = whole new set in subst (All (IsSet mode new)) (sym (w.same c (over_there old is.tree c is.over))) w.set
 
-  pub keeps_in_part : (new : List Node) → AreSetInPart mode old (holders old c) new → SaysTheSame o p (ordered_tree old 0) (ordered_tree new 0)
+  pub keeps_in_part : (new : List Node) → AreSetInPart mode old (holders old c) new → SaysTheSame mode o (ordered_tree old 0) (ordered_tree new 0)
   keeps_in_part new part =
       let some : AreHolders old 0 part.done = front_holders old part.done (part.next ∷ part.left) (subst (AreHolders old 0) part.are (are_holders old is.tree 0 c is.over)) in
-      says_the_same o p (ordered_tree old 0) (ordered_tree new 0) (wider mode o) is.sound (chain mode p (allowed mode o) part.done old new is.tree sound_now some part.set).step
+      says_the_same mode o (ordered_tree old 0) (ordered_tree new 0) is.sound (chain mode p (allowed mode o) part.done old new is.tree sound_now some part.set).step
 
 -- where a comma is as it should be, nothing changes
 loses_none : (old new : List Node) (c : ℕ) (k : Option ℕ) → k ≡ None → LosesIt old new c k → new ≡ old

@@ -27,8 +27,9 @@ use Rattle.jsonc_commas.proofs.Holders.{row_stands, shows_standing}
 use Rattle.jsonc_commas.proofs.Kept.{ready_children}
 use Rattle.jsonc_commas.proofs.OwnRow.{came_now, gap_is, take_past}
 use Rattle.jsonc_commas.proofs.Splits.{drop_past, no_elements, split_parent, standing, standing_then, WantedComma}
-use Rattle.jsonc_commas.proofs.WithoutCommas.{comma_between, document_alike}
-use Rattle.jsonc_commas.proofs.Steps.{all_front, all_rest, bracket_without, first_same, inside, marks_comma, opens_row, path, same_marks, same_top, under_bracket, Inside, Step}
+use Rattle.jsonc_commas.proofs.WithoutCommas.{behind_bracket, comma_between, document_only}
+use Rattle.jsonc_edit.specs.declared.modes.TrailingCommaMode.TheVariants.{IfMultiline}
+use Rattle.jsonc_commas.proofs.Steps.{all_front, all_rest, first_same, inside, marks_comma, opens_row, path, same_marks, same_top, under_bracket, Inside, Step}
 
 -- a comma comes
 module _ (o : Options) (allowed : IsTrue o.trailing_commas) (old new : List Node) (tree : IsTree old) (after : IsTree new) (sound : SoundTree o (ordered_tree old 0)) (c n : ℕ) (over : IsOver old 0 c) (holds : IsTrue (holds_at old c))
@@ -138,21 +139,21 @@ module _ (o : Options) (allowed : IsTrue o.trailing_commas) (old new : List Node
         (subst (λ (w : Top). DocumentChanged w (container_of i.kind (followed_by before (token_then 0x2C back))) p.0 (ordered_tree r.ready 0) (ordered_tree new 0)) was
         (subst (λ (w : Top). DocumentChanged (top_at r.ready c) w p.0 (ordered_tree r.ready 0) (ordered_tree new 0)) now whole))
 
-    given : Step o (ordered_tree old 0) (ordered_tree new 0) × (comma_wanted_behind new c ≡ None)
+    given : Step IfMultiline o (ordered_tree old 0) (ordered_tree new 0) × (comma_wanted_behind new c ≡ None)
     given =
         let p = path o old tree sound c over holds in
         let lacks : IsTrue (not (comma_first back)) = ap not g.lacks in (
           record {
             sound = sound_with o allowed i.kind front (content_at old n) (row_below old n) back p.0 (ordered_tree old 0) (ordered_tree new 0) sound g.element (no_elements old g.back g.behind) lacks changed;
             marks = same_marks (ordered_tree old 0) (ordered_tree new 0) changed (under_bracket i.kind (followed_by before (token_then 0x2C back)) ∙ marks_comma before back ∙ sym (under_bracket i.kind (followed_by before back)));
-            commas = document_alike refl (bracket_without i.kind (followed_by before (token_then 0x2C back)) (followed_by before back) (comma_between before back 0x2C refl)) changed;
+            commas = document_only IfMultiline refl (behind_bracket i.kind (comma_between before back)) changed;
           },
           came_now old new tree after c n g r,
         )
 
-  pub comma_given : Step o (ordered_tree old 0) (ordered_tree new 0) × (comma_wanted_behind new c ≡ None)
+  pub comma_given : Step IfMultiline o (ordered_tree old 0) (ordered_tree new 0) × (comma_wanted_behind new c ≡ None)
   comma_given = by g.front refl
     where
-      by : (l : List ℕ) → g.front ≡ l → Step o (ordered_tree old 0) (ordered_tree new 0) × (comma_wanted_behind new c ≡ None)
+      by : (l : List ℕ) → g.front ≡ l → Step IfMultiline o (ordered_tree old 0) (ordered_tree new 0) × (comma_wanted_behind new c ≡ None)
       by [] e = absurd (opens_row o old c n g.back i g.element (g.are ∙ ap (λ l. l ++ n ∷ g.back) e))
       by (x ∷ f) e = given x f e

@@ -21,7 +21,8 @@ use Rattle.jsonc_edit.specs.Changes.{row_below}
 use Rattle.jsonc_edit.specs.Paths.{IsAt}
 use Rattle.jsonc_edit.proofs.FittingNodes.{over_there}
 use Rattle.jsonc_commas.specs.InTurn.{holds_at}
-use Rattle.jsonc_commas.specs.Laws.{without_commas}
+use Rattle.jsonc_commas.specs.Laws.{OnlyCommas}
+use Rattle.jsonc_edit.specs.declared.modes.TrailingCommaMode.{TrailingCommaMode}
 use Rattle.jsonc_commas.proofs.CommaRows.{comma_first, Closing, bracket, behind}
 use Rattle.jsonc_commas.proofs.Holders.{held, holder_path, row_stands, value_at_path, Held}
 use Rattle.jsonc_commas.proofs.Splits.{standing}
@@ -59,20 +60,16 @@ pub under_bracket : (kind : RowKind) (row : OrderedTree) → marks_under (contai
 under_bracket rows.of_values row = refl
 under_bracket rows.of_properties row = refl
 
-pub bracket_without : (kind : RowKind) (x y : OrderedTree) → without_commas x ≡ without_commas y → without_commas (container_of kind x).below ≡ without_commas (container_of kind y).below
-bracket_without rows.of_values x y e = ap (more (token 0x5B) none) e
-bracket_without rows.of_properties x y e = ap (more (token 0x7B) none) e
-
 pub same_marks : {was now : Top} {path : List ℕ} (t u : OrderedTree) → DocumentChanged was now path t u → marks_under now ≡ marks_under was → marks u ≡ marks t
 same_marks {was} {now} {path} t u changed same =
     let d = values_marks t was now path u changed in
     d.after ∙ ap (λ ms. d.front ++ (ms ++ d.back)) same ∙ sym d.before
 
 -- what a step makes of the document
-pub record Step (o : Options) (t u : OrderedTree) : Type 0 where
+pub record Step (mode : TrailingCommaMode) (o : Options) (t u : OrderedTree) : Type 0 where
   pub sound : SoundTree o u
   pub marks : marks u ≡ marks t
-  pub commas : without_commas u ≡ without_commas t
+  pub commas : OnlyCommas mode t u
 
 abbrev top_of : Content → OrderedTree → Top
 top_of content below = record { content = content; below = below }

@@ -24,8 +24,9 @@ use Rattle.jsonc_commas.proofs.CommaRows.{closes, sound_without}
 use Rattle.jsonc_commas.proofs.Holders.{bare_leaf, row_stands, shows_standing}
 use Rattle.jsonc_commas.proofs.OwnRow.{lost_now}
 use Rattle.jsonc_commas.proofs.Splits.{drop_past, no_elements, none_back, split_place, split_there, standing, standing_then, GoneComma}
-use Rattle.jsonc_commas.proofs.WithoutCommas.{comma_between, document_alike}
-use Rattle.jsonc_commas.proofs.Steps.{all_front, all_rest, bracket_without, closing_lacks, comma_leaf, first_same, inside, marks_comma, opens_row, path, same_marks, same_top, the_comma, under_bracket, Inside, Step}
+use Rattle.jsonc_commas.proofs.WithoutCommas.{behind_bracket, comma_between, document_only}
+use Rattle.jsonc_edit.specs.declared.modes.TrailingCommaMode.TheVariants.{Never}
+use Rattle.jsonc_commas.proofs.Steps.{all_front, all_rest, closing_lacks, comma_leaf, first_same, inside, marks_comma, opens_row, path, same_marks, same_top, the_comma, under_bracket, Inside, Step}
 
 -- the comma leaves
 module _ (o : Options) (old new : List Node) (tree : IsTree old) (after : IsTree new) (sound : SoundTree o (ordered_tree old 0)) (c k : ℕ) (over : IsOver old 0 c) (holds : IsTrue (holds_at old c))
@@ -108,20 +109,20 @@ module _ (o : Options) (old new : List Node) (tree : IsTree old) (after : IsTree
     no_more : HasNoValue back
     no_more = no_elements old g.back (none_back (is_element_at old) g.mid (k ∷ g.back) g.behind).1
 
-    taken : Step o (ordered_tree old 0) (ordered_tree new 0) × (comma_gone new c ≡ None)
+    taken : Step Never o (ordered_tree old 0) (ordered_tree new 0) × (comma_gone new c ≡ None)
     taken =
         let p = path o old tree sound c over holds in (
           record {
             sound = sound_without o i.kind front back p.0 (ordered_tree old 0) (ordered_tree new 0) sound no_more changed;
             marks = same_marks (ordered_tree old 0) (ordered_tree new 0) changed (under_bracket i.kind (followed_by front back) ∙ sym (marks_comma front back) ∙ sym (under_bracket i.kind (followed_by front (token_then 0x2C back))));
-            commas = document_alike refl (bracket_without i.kind (followed_by front back) (followed_by front (token_then 0x2C back)) (sym (comma_between front back 0x2C refl))) changed;
+            commas = document_only Never refl (behind_bracket i.kind (comma_between front back)) changed;
           },
           lost_now old new tree after c k g s (closing_lacks o i.kind (closes o i.kind front back p.0 (ordered_tree old 0) (ordered_tree new 0) sound no_more changed)),
         )
 
-  pub comma_taken : Step o (ordered_tree old 0) (ordered_tree new 0) × (comma_gone new c ≡ None)
+  pub comma_taken : Step Never o (ordered_tree old 0) (ordered_tree new 0) × (comma_gone new c ≡ None)
   comma_taken = by g.front refl
     where
-      by : (l : List ℕ) → g.front ≡ l → Step o (ordered_tree old 0) (ordered_tree new 0) × (comma_gone new c ≡ None)
+      by : (l : List ℕ) → g.front ≡ l → Step Never o (ordered_tree old 0) (ordered_tree new 0) × (comma_gone new c ≡ None)
       by [] e = absurd (opens_row o old c g.last (g.mid ++ k ∷ g.back) i g.element (g.are ∙ ap (λ l. l ++ g.last ∷ (g.mid ++ k ∷ g.back)) e))
       by (x ∷ f) e = taken x f e

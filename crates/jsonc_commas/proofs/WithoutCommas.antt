@@ -1,5 +1,5 @@
 -- Trees that differ in commas alone have the same value.
-use Rattle.std.proofs.Common.{◌≡◌, ◌∙◌, ℕ, sym, ap, subst, refl, true, false, cond, inl, inr, List, Option, Some, None, IsTrue}
+use Rattle.std.proofs.Common.{◌≡◌, ◌∙◌, ℕ, sym, ap, subst, refl, true, false, cond, if◌then◌else◌, inl, inr, List, Option, Some, None, IsTrue}
 use Rattle.std.proofs.lemmas.Bool.{cases_Bool}
 use Rattle.jsonc_text.specs.Options.{Options}
 use Rattle.jsonc_text.specs.Plain.{Plain, Items, item, Members}
@@ -8,9 +8,17 @@ use Rattle.jsonc_tree.specs.OrderedTree.{OrderedTree, Top, none, more, followed_
 use Rattle.jsonc_tree.specs.Values as values
 use Rattle.jsonc_tree.specs.Values.{is_passed_over, ValueOf, ItemsOf, MembersOf, PropertyOf, HoldsValue, HasNoValue, HoldsAtMostOne, DocumentValueOf}
 use Rattle.jsonc_lines.specs.Kinds.{is_comma}
+use Rattle.jsonc_laws.specs.Rows.{RowKind, of_values, of_properties, container_of}
 use Rattle.jsonc_laws.specs.TreeChanges.{IsElement, ElementChanged, this_element, passed, later_element, ValueChanged, itself, in_array, in_object, DocumentChanged, in_root}
 use Rattle.jsonc_laws.proofs.FirstNodes.{name_leaf_element, value_of_element}
-use Rattle.jsonc_commas.specs.Laws.{without_commas}
+use Rattle.jsonc_edit.specs.declared.modes.TrailingCommaMode.{TrailingCommaMode}
+use Rattle.jsonc_edit.specs.declared.modes.TrailingCommaMode.TheVariants.{Never, IfMultiline}
+use Rattle.jsonc_commas.specs.Laws.{LosesCommas, ended, stayed, left, OnlyCommas}
+
+-- a row, and those below it, without their commas
+abbrev pub without_commas : OrderedTree → OrderedTree
+without_commas none = none
+without_commas (more content below after) = if is_comma content then without_commas after else more content (without_commas below) (without_commas after)
 
 comma_over : (content : Content) → is_comma content ≡ true → IsTrue (is_passed_over content)
 comma_over (Content.token c) e = refl
@@ -87,27 +95,60 @@ module _ (o : Options) where
   pub document_without : (w : Option Plain) (t : OrderedTree) → DocumentValueOf o t w → DocumentValueOf o (without_commas t) w
   document_without w t (below, same, h) = (without_commas below, ap without_commas same, at_most_without w below h)
 
+-- where commas have left, the rest is the same
+pub same_without : {t u : OrderedTree} → LosesCommas t u → without_commas u ≡ without_commas t
+same_without ended = refl
+same_without (stayed {content = content} {below = below} {under = under} {after = after} {rest = rest} p q) =
+    ap (λ t. cond (is_comma content) t (more content (without_commas under) t)) (same_without q)
+    ∙ ap (λ b. cond (is_comma content) (without_commas after) (more content b (without_commas after))) (same_without p)
+same_without (left q) = same_without q
+
+pub only_without : (mode : TrailingCommaMode) (t u : OrderedTree) → OnlyCommas mode t u → without_commas u ≡ without_commas t
+only_without Never t u h = same_without h
+only_without IfMultiline t u h = sym (same_without h)
+
+-- nothing leaves, and one list of commas after another
+loses_none : (t : OrderedTree) → LosesCommas t t
+loses_none none = ended
+loses_none (more content below after) = stayed (loses_none below) (loses_none after)
+
+loses_then : {t u v : OrderedTree} → LosesCommas t u → LosesCommas u v → LosesCommas t v
+loses_then ended h = h
+loses_then (stayed p q) (stayed r s) = stayed (loses_then p r) (loses_then q s)
+loses_then (stayed p q) (left s) = left (loses_then q s)
+loses_then (left q) h = left (loses_then q h)
+
+pub only_same : (mode : TrailingCommaMode) (t : OrderedTree) → OnlyCommas mode t t
+only_same Never t = loses_none t
+only_same IfMultiline t = loses_none t
+
+pub only_then : (mode : TrailingCommaMode) (t u v : OrderedTree) → OnlyCommas mode t u → OnlyCommas mode u v → OnlyCommas mode t v
+only_then Never t u v h k = loses_then h k
+only_then IfMultiline t u v h k = loses_then k h
+
+only_stayed : (mode : TrailingCommaMode) (c d : Content) (below under after rest : OrderedTree) → d ≡ c → OnlyCommas mode below under → OnlyCommas mode after rest → OnlyCommas mode (more c below after) (more d under rest)
+only_stayed Never c d below under after rest e h k = subst (λ w. LosesCommas (more c below after) (more w under rest)) (sym e) (stayed h k)
+only_stayed IfMultiline c d below under after rest e h k = subst (λ w. LosesCommas (more w under rest) (more c below after)) (sym e) (stayed h k)
+
 -- where a node gives way to one that differs from it in commas alone, so does the document
-row_without : {x y : Top} {i : ℕ} {row new : OrderedTree} → y.content ≡ x.content → without_commas y.below ≡ without_commas x.below → ElementChanged x y i row new → without_commas new ≡ without_commas row
-row_without {x} {y} e f (this_element {after = after} p q) =
-    kept_in y.content y.below after (element_no_comma y.content q)
-    ∙ ap (λ t. more y.content t (without_commas after)) f
-    ∙ ap (λ c. more c (without_commas x.below) (without_commas after)) e
-    ∙ sym (kept_in x.content x.below after (element_no_comma x.content p))
-row_without e f (passed {content = content} {below = below} p k) =
-    ap (λ t. cond (is_comma content) t (more content (without_commas below) t)) (row_without e f k)
-row_without e f (later_element {content = content} {below = below} p k) =
-    ap (λ t. cond (is_comma content) t (more content (without_commas below) t)) (row_without e f k)
+row_only : (mode : TrailingCommaMode) {x y : Top} {i : ℕ} {row new : OrderedTree} → y.content ≡ x.content → OnlyCommas mode x.below y.below → ElementChanged x y i row new → OnlyCommas mode row new
+row_only mode {x} {y} e f (this_element {after = after} p q) = only_stayed mode x.content y.content x.below y.below after after e f (only_same mode after)
+row_only mode e f (passed {content = content} {below = below} {x = s} {y = t} p k) = only_stayed mode content content below below s t refl (only_same mode below) (row_only mode e f k)
+row_only mode e f (later_element {content = content} {below = below} {x = s} {y = t} p k) = only_stayed mode content content below below s t refl (only_same mode below) (row_only mode e f k)
 
-value_kept : {was now : Top} {path : List ℕ} {x y : Top} → now.content ≡ was.content → without_commas now.below ≡ without_commas was.below → ValueChanged was now path x y → (y.content ≡ x.content) × (without_commas y.below ≡ without_commas x.below)
-value_kept e f itself = (e, f)
-value_kept e f (in_array k d) = let v = value_kept e f d in (refl, row_without v.0 v.1 k)
-value_kept e f (in_object k g d) = let v = value_kept e f d in (refl, row_without refl (row_without v.0 v.1 g) k)
+value_only : (mode : TrailingCommaMode) {was now : Top} {path : List ℕ} {x y : Top} → now.content ≡ was.content → OnlyCommas mode was.below now.below → ValueChanged was now path x y → (y.content ≡ x.content) × OnlyCommas mode x.below y.below
+value_only mode e f itself = (e, f)
+value_only mode e f (in_array k d) = let v = value_only mode e f d in (refl, row_only mode v.0 v.1 k)
+value_only mode e f (in_object k g d) = let v = value_only mode e f d in (refl, row_only mode refl (row_only mode v.0 v.1 g) k)
 
-pub document_alike : {was now : Top} {path : List ℕ} {t u : OrderedTree} → now.content ≡ was.content → without_commas now.below ≡ without_commas was.below → DocumentChanged was now path t u → without_commas u ≡ without_commas t
-document_alike e f (in_root k d) = let v = value_kept e f d in ap (λ row. more Content.root row none) (row_without v.0 v.1 k)
+pub document_only : (mode : TrailingCommaMode) {was now : Top} {path : List ℕ} {t u : OrderedTree} → now.content ≡ was.content → OnlyCommas mode was.below now.below → DocumentChanged was now path t u → OnlyCommas mode t u
+document_only mode e f (in_root {row = row} {new = new} k d) = let v = value_only mode e f d in only_stayed mode Content.root Content.root row new none none refl (row_only mode v.0 v.1 k) (only_same mode none)
 
--- rows that differ in one comma
-pub comma_between : (front back : OrderedTree) (c : ℕ) → is_comma (Content.token c) ≡ true → without_commas (followed_by front (more (Content.token c) none back)) ≡ without_commas (followed_by front back)
-comma_between none back c e = left_out (Content.token c) none back e
-comma_between (more content below after) back c e = ap (λ t. cond (is_comma content) t (more content (without_commas below) t)) (comma_between after back c e)
+-- rows that differ in one comma, and those with a bracket before them
+pub comma_between : (front back : OrderedTree) → LosesCommas (followed_by front (more (Content.token 0x2C) none back)) (followed_by front back)
+comma_between none back = left (loses_none back)
+comma_between (more content below after) back = stayed (loses_none below) (comma_between after back)
+
+pub behind_bracket : (kind : RowKind) {x y : OrderedTree} → LosesCommas x y → LosesCommas (container_of kind x).below (container_of kind y).below
+behind_bracket of_values h = stayed ended h
+behind_bracket of_properties h = stayed ended h

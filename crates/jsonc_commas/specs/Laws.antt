@@ -1,12 +1,12 @@
 -- Laws of trailing commas that are set: what becomes of the document.
-use Rattle.std.specs.Prelude.{◌≡◌, ◌<◌, ◌⊎◌, ℕ, true, List, length, Option, None, Some, if◌then◌else◌}
+use Rattle.std.specs.Prelude.{◌≡◌, ◌<◌, ◌⊎◌, ℕ, true, List, length, Option, None, Some}
 use Rattle.std.specs.List.{All}
 use Rattle.jsonc_text.specs.Options.{Options}
 use Rattle.jsonc_text.specs.Plain.{Plain}
 use Rattle.jsonc_text.specs.Grammar.{IsDocument}
+use Rattle.jsonc_tree.specs.Content.{Content, token}
 use Rattle.jsonc_tree.specs.OrderedTree.{OrderedTree, none, more, ordered_tree}
 use Rattle.jsonc_tree.specs.Tree.{Node, IsTree, IsOver}
-use Rattle.jsonc_lines.specs.Kinds.{is_comma}
 use Rattle.jsonc_lines.specs.Siblings.{trailing_comma_at}
 use Rattle.jsonc_build.specs.Shape.{printed_text}
 use Rattle.jsonc_laws.specs.Marks.{marks}
@@ -21,26 +21,32 @@ abbrev pub IsSet : TrailingCommaMode → List Node → ℕ → Type 0
 IsSet Never ns c = comma_gone ns c ≡ None
 IsSet IfMultiline ns c = comma_wanted_behind ns c ≡ None
 
--- a row, and those below it, without their commas
-abbrev pub without_commas : OrderedTree → OrderedTree
-without_commas none = none
-without_commas (more content below after) =
-    if is_comma content then without_commas after else more content (without_commas below) (without_commas after)
+-- the second row is the first, but that commas have left it, or rows below it
+pub data LosesCommas : OrderedTree → OrderedTree → Type 0 where
+  ended : LosesCommas none none
+  stayed : {content : Content} {below under after rest : OrderedTree} → LosesCommas below under → LosesCommas after rest
+      → LosesCommas (more content below after) (more content under rest)
+  left : {below after rest : OrderedTree} → LosesCommas after rest → LosesCommas (more (token 0x2C) below after) rest
+
+-- commas have left, or come, and nothing else has
+abbrev pub OnlyCommas : TrailingCommaMode → OrderedTree → OrderedTree → Type 0
+OnlyCommas Never t u = LosesCommas t u
+OnlyCommas IfMultiline t u = LosesCommas u t
 
 -- o, but that what the mode sets is allowed
 abbrev pub allowing : TrailingCommaMode → Options → Options
 allowing Never o = o
 allowing IfMultiline o = record o { trailing_commas = true }
 
--- The text was a document under o, and is one of the same value under p; its literals and comments are those that it had, in order; commas alone have come or
--- gone; and the document is sound under p.
-pub record SaysTheSame (o p : Options) (t u : OrderedTree) : Type 0 where
+-- The text was a document, and is one of the same value, with what the mode sets allowed; its literals and comments are those that it had, in order; commas
+-- alone have left or come; and the document is sound.
+pub record SaysTheSame (mode : TrailingCommaMode) (o : Options) (t u : OrderedTree) : Type 0 where
   pub value : Option Plain
   pub old_text : IsDocument o (printed_text t) value
-  pub new_text : IsDocument p (printed_text u) value
+  pub new_text : IsDocument (allowing mode o) (printed_text u) value
   pub marks : marks u ≡ marks t
-  pub commas : without_commas u ≡ without_commas t
-  pub sound : SoundTree p u
+  pub commas : OnlyCommas mode t u
+  pub sound : SoundTree (allowing mode o) u
 
 -- c is a node of a sound document
 pub record IsInSound (o : Options) (ns : List Node) (c : ℕ) : Type 0 where
@@ -51,12 +57,12 @@ pub record IsInSound (o : Options) (ns : List Node) (c : ℕ) : Type 0 where
 -- where all commas of c and below it are set, the document says the same
 abbrev pub KeepsDocument : TrailingCommaMode → Options → List Node → ℕ → List Node → Type 0
 KeepsDocument mode o old c new =
-    IsInSound o old c → AreSetInTurn mode old (holders old c) new → SaysTheSame o (allowing mode o) (ordered_tree old 0) (ordered_tree new 0)
+    IsInSound o old c → AreSetInTurn mode old (holders old c) new → SaysTheSame mode o (ordered_tree old 0) (ordered_tree new 0)
 
 -- and where that was refused in part
 abbrev pub KeepsDocumentInPart : TrailingCommaMode → Options → List Node → ℕ → List Node → Type 0
 KeepsDocumentInPart mode o old c new =
-    IsInSound o old c → AreSetInPart mode old (holders old c) new → SaysTheSame o (allowing mode o) (ordered_tree old 0) (ordered_tree new 0)
+    IsInSound o old c → AreSetInPart mode old (holders old c) new → SaysTheSame mode o (ordered_tree old 0) (ordered_tree new 0)
 
 -- then each is as the mode says
 abbrev pub SetsAll : TrailingCommaMode → Options → List Node → ℕ → List Node → Type 0

@@ -12,8 +12,8 @@ array_that_ends ends =
     ∷ node (whitespace (codes "  ")) (Some 1) [] ∷ node (number (codes "1")) (Some 1) [] ∷ node (token 0x2C) (Some 1) [] ∷ node (newline LineFeed) (Some 1) []
     ∷ node (whitespace (codes "  ")) (Some 1) [] ∷ node object (Some 1) (10 ∷ 11 ∷ 19 ∷ []) ∷ node (token 0x7B) (Some 9) []
     ∷ node property (Some 9) (12 ∷ 13 ∷ 14 ∷ 15 ∷ []) ∷ node (string (codes "\"a\"")) (Some 11) [] ∷ node (token 0x3A) (Some 11) []
-    ∷ node (whitespace (codes " ")) (Some 11) [] ∷ node array (Some 11) (16 ∷ 17 ∷ 18 ∷ []) ∷ node (token 0x5B) (Some 15) [] ∷ node (number (codes "2")) (Some 15) []
-    ∷ node (token 0x5D) (Some 15) [] ∷ node (token 0x7D) (Some 9) [] ∷ node (newline LineFeed) (Some 1) [] ∷ node (token 0x5D) (Some 1) []
+    ∷ node (whitespace (codes " ")) (Some 11) [] ∷ node array (Some 11) (16 ∷ 17 ∷ 18 ∷ []) ∷ node (token 0x5B) (Some 15) []
+    ∷ node (number (codes "2")) (Some 15) [] ∷ node (token 0x5D) (Some 15) [] ∷ node (token 0x7D) (Some 9) [] ∷ node (newline LineFeed) (Some 1) [] ∷ node (token 0x5D) (Some 1) []
     ∷ node (token 0x2C) (Some 1) [] ∷ []
 
 -- a line's end and `]`; and a comma before these

@@ -6,7 +6,8 @@ ghost use Rattle.jsonc_edit.specs.declared.modes.TrailingCommaMode.{TrailingComm
 ghost use Rattle.jsonc_tree.specs.Order.{printed_at};
 ghost use Rattle.jsonc_commas.specs.Commas.{comma_gone, comma_wanted_behind};
 ghost use Rattle.jsonc_commas.specs.InTurn.{holders};
-ghost use Rattle.jsonc_commas.specs.Laws.{KeepsDocument, KeepsDocumentInPart, KeepsHolders, LeavesOthers, LeavesWhatIsSet};
+ghost use Rattle.jsonc_commas.specs.Laws.{KeepsDocument, KeepsDocumentInPart, KeepsHolders};
+ghost use Rattle.jsonc_commas.specs.Laws.{LeavesOthers, LeavesWhatIsSet};
 ghost use Rattle.jsonc_commas.specs.Laws.{SetsAll, SetsAllButSeveral, SetsOnce};
 ghost use Rattle.jsonc_commas.specs.Worked.{bare_array, comma_array, open_array};
 

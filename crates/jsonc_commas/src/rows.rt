@@ -6,8 +6,9 @@ ghost use Rattle.jsonc_tree.specs.Tree.{content_at, is_container_at, parent_at, 
 ghost use Rattle.jsonc_lines.specs.Kinds.{holds_values};
 ghost use Rattle.jsonc_lines.specs.Siblings.{trailing_comma_at};
 ghost use Rattle.jsonc_nodes.specs.Siblings.{IsThere};
-ghost use Rattle.jsonc_commas.specs.Commas.{comma_gone, comma_wanted_behind, has_newline, if_followed, if_without_comma};
-ghost use Rattle.jsonc_commas.specs.Commas.{last_element, CommaComesBehind, CommaIsSet, GainsComma, LosesComma, WantsComma};
+ghost use Rattle.jsonc_commas.specs.Commas.{comma_gone, comma_wanted_behind, has_newline, if_followed};
+ghost use Rattle.jsonc_commas.specs.Commas.{if_without_comma, last_element};
+ghost use Rattle.jsonc_commas.specs.Commas.{CommaComesBehind, CommaIsSet, GainsComma, LosesComma, WantsComma};
 ghost use Rattle.jsonc_tree.specs.Siblings.{TakesOut};
 
 use jsonc_edit::TrailingCommaMode;
