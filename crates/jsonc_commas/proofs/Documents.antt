@@ -191,10 +191,16 @@ module _ (mode : TrailingCommaMode) (o : Options) (old : List Node) (c : ℕ) (i
   pub sets_all : (new : List Node) → AreSetInTurn mode old (holders old c) new → All (IsSet mode new) (holders new c)
   sets_all new set = let w = whole new set in subst (All (IsSet mode new)) (sym (w.same c (over_there old is.tree c is.over))) w.set
 
-  pub keeps_in_part : (new : List Node) → AreSetInPart mode old (holders old c) new → SaysTheSame mode o (ordered_tree old 0) (ordered_tree new 0)
-  keeps_in_part new part =
+  in_part : (new : List Node) (part : AreSetInPart mode old (holders old c) new) → Chain mode p old new part.done
+  in_part new part =
       let some : AreHolders old 0 part.done = front_holders old part.done (part.next ∷ part.left) (subst (AreHolders old 0) part.are (are_holders old is.tree 0 c is.over)) in
-      says_the_same mode o (ordered_tree old 0) (ordered_tree new 0) is.sound (chain mode p (allowed mode o) part.done old new is.tree sound_now some part.set).step
+      chain mode p (allowed mode o) part.done old new is.tree sound_now some part.set
+
+  pub keeps_in_part : (new : List Node) → AreSetInPart mode old (holders old c) new → SaysTheSame mode o (ordered_tree old 0) (ordered_tree new 0)
+  keeps_in_part new part = says_the_same mode o (ordered_tree old 0) (ordered_tree new 0) is.sound (in_part new part).step
+
+  pub sets_in_part : (new : List Node) (part : AreSetInPart mode old (holders old c) new) → All (IsSet mode new) part.done
+  sets_in_part new part = (in_part new part).set
 
 -- where a comma is as it should be, nothing changes
 loses_none : (old new : List Node) (c : ℕ) (k : Option ℕ) → k ≡ None → LosesIt old new c k → new ≡ old

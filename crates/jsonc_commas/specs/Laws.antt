@@ -68,6 +68,10 @@ KeepsDocumentInPart mode o old c new =
 abbrev pub SetsAll : TrailingCommaMode → Options → List Node → ℕ → List Node → Type 0
 SetsAll mode o old c new = IsInSound o old c → AreSetInTurn mode old (holders old c) new → All (IsSet mode new) (holders new c)
 
+-- and those that were set before a refusal are
+abbrev pub SetsThoseDone : TrailingCommaMode → Options → List Node → ℕ → List Node → Type 0
+SetsThoseDone mode o old c new = IsInSound o old c → (p : AreSetInPart mode old (holders old c) new) → All (IsSet mode new) p.done
+
 -- behind the trailing comma of c another comma comes, which stands in no sound document
 abbrev pub HasSeveral : TrailingCommaMode → List Node → ℕ → Type 0
 HasSeveral Never ns c = (k m : ℕ) × (comma_gone ns c ≡ Some k) × (trailing_comma_at ns k ≡ Some m)

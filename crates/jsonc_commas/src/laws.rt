@@ -8,12 +8,12 @@ ghost use Rattle.jsonc_commas.specs.Commas.{comma_gone, comma_wanted_behind};
 ghost use Rattle.jsonc_commas.specs.InTurn.{holders};
 ghost use Rattle.jsonc_commas.specs.Laws.{KeepsDocument, KeepsDocumentInPart, KeepsHolders};
 ghost use Rattle.jsonc_commas.specs.Laws.{LeavesOthers, LeavesWhatIsSet};
-ghost use Rattle.jsonc_commas.specs.Laws.{SetsAll, SetsAllButSeveral, SetsOnce};
+ghost use Rattle.jsonc_commas.specs.Laws.{SetsAll, SetsAllButSeveral, SetsOnce, SetsThoseDone};
 ghost use Rattle.jsonc_commas.specs.Worked.{bare_array, comma_array, open_array};
 
 /// Where the commas of a node of a sound document, and of all below it, are set, the text is a document
-/// again, of the same value and with the same literals and comments; commas alone have come or gone, and
-/// the document is sound. It is so under all options, with trailing commas allowed where the mode sets
+/// again, of the same value and with the same literals and comments; with `Never` commas have left and
+/// with `IfMultiline` they have come, and nothing else has changed; and the document is sound. It is so under all options, with trailing commas allowed where the mode sets
 /// some, and where memory was refused on the way. Where the node is none of the document, this stays.
 pub fn documents_say_the_same()
     ensures whole { (mode : TrailingCommaMode) (o : Options) (old : List Node) (c : ℕ) (new : List Node)
@@ -25,12 +25,15 @@ pub fn documents_say_the_same()
 {}
 
 /// Then each array or object there is as the mode says: with `Never` none has a trailing comma, with
-/// `IfMultiline` none wants one. In a document that is not sound one may be left with `Never`, where
-/// several commas stood. Where that is so before, nothing changes; so of a sound document nothing does a
-/// second time. The same arrays and objects are there afterwards, in the same order.
+/// `IfMultiline` none wants one. Where memory was refused, each of those before is so. In a document that
+/// is not sound `Never` may leave one where several commas stood. Where all is so before, nothing
+/// changes; so of a sound document nothing does a second time. The same arrays and objects are there
+/// afterwards, in the same order.
 pub fn commas_are_set()
     ensures all { (mode : TrailingCommaMode) (o : Options) (old : List Node) (c : ℕ) (new : List Node)
         → SetsAll mode o old c new }
+    ensures part { (mode : TrailingCommaMode) (o : Options) (old : List Node) (c : ℕ) (new : List Node)
+        → SetsThoseDone mode o old c new }
     ensures several { (mode : TrailingCommaMode) (old : List Node) (c : ℕ) (new : List Node)
         → SetsAllButSeveral mode old c new }
     ensures left { (mode : TrailingCommaMode) (old : List Node) (c : ℕ) (new : List Node)

@@ -1,10 +1,13 @@
 use Rattle.jsonc_commas.specs.InTurn.{holders}
 use Rattle.jsonc_commas.proofs.Anyway.{sets_anyway}
-use Rattle.jsonc_commas.proofs.Documents.{holders_stay, leaves_set, sets_all, sets_once}
+use Rattle.jsonc_commas.proofs.Documents.{holders_stay, leaves_set, sets_all, sets_in_part, sets_once}
 use Rattle.jsonc_commas.proofs.laws.commas_are_set.Goals as goal
 
 pub returns-clause-all : goal.returns-clause-all
 returns-clause-all c mode o old k new is = sets_all mode o old k is new
+
+pub returns-clause-part : goal.returns-clause-part
+returns-clause-part c mode o old k new is = sets_in_part mode o old k is new
 
 pub returns-clause-several : goal.returns-clause-several
 returns-clause-several c = sets_anyway
