@@ -12,9 +12,10 @@ ghost use Rattle.jsonc_commas.specs.Laws.{SetsAll, SetsAllButSeveral, SetsOnce, 
 ghost use Rattle.jsonc_commas.specs.Worked.{bare_array, comma_array, open_array};
 
 /// Where the commas of a node of a sound document, and of all below it, are set, the text is a document
-/// again, of the same value and with the same literals and comments; with `Never` commas have left and
-/// with `IfMultiline` they have come, and nothing else has changed; and the document is sound. It is so under all options, with trailing commas allowed where the mode sets
-/// some, and where memory was refused on the way. Where the node is none of the document, this stays.
+/// again, of the same value and with the same literals and comments, and the document is sound. With
+/// `Never` commas have left and with `IfMultiline` they have come, and nothing else has changed. It is so
+/// under all options, with trailing commas allowed where the mode sets some, and where memory was refused
+/// on the way. Where the node is none of the document, this stays.
 pub fn documents_say_the_same()
     ensures whole { (mode : TrailingCommaMode) (o : Options) (old : List Node) (c : ℕ) (new : List Node)
         → KeepsDocument mode o old c new }
