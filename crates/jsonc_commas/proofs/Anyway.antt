@@ -4,7 +4,7 @@ use Rattle.std.specs.List.{find, All}
 use Rattle.std.proofs.lemmas.Bool.{cases_eq}
 use Rattle.std.proofs.lemmas.List.Elements.{All-cons, All-nil, All-weaker}
 use Rattle.jsonc_tree.specs.Siblings.{siblings_after}
-use Rattle.jsonc_tree.specs.Tree.{Node, children_at, IsTree}
+use Rattle.jsonc_tree.specs.Tree.{Node, children_at, IsOver, IsTree}
 use Rattle.jsonc_lines.specs.Siblings.{if_comma, is_no_trivia_at, trailing_comma_at}
 use Rattle.jsonc_edit.specs.declared.modes.TrailingCommaMode.{TrailingCommaMode}
 use Rattle.jsonc_edit.specs.declared.modes.TrailingCommaMode.TheVariants.{Never, IfMultiline}
@@ -13,7 +13,7 @@ use Rattle.jsonc_commas.specs.InTurn.{holders, AreSetInTurn}
 use Rattle.jsonc_commas.specs.Laws.{HasSeveral, IsSet, SetsAllButSeveral}
 use Rattle.jsonc_commas.proofs.Children.{gone_child}
 use Rattle.jsonc_commas.proofs.CommaRows.{comma_first}
-use Rattle.jsonc_commas.proofs.Documents.{holders_stay, left_as_it_is}
+use Rattle.jsonc_commas.proofs.Documents.{are_holders, holders_stay, left_as_it_is}
 use Rattle.jsonc_commas.proofs.OwnRow.{came_now, lost_now}
 use Rattle.jsonc_commas.proofs.Splits.{comma_found, gone_parted, split_after, standing, wanted_parted, GoneComma}
 use Rattle.jsonc_commas.proofs.Unmoved.{gone_same, other_row, set_same, trailing_same, SameRow}
@@ -86,4 +86,4 @@ module _ (mode : TrailingCommaMode) where
 
 pub sets_anyway : (mode : TrailingCommaMode) (old : List Node) (c : ℕ) (new : List Node) → SetsAllButSeveral mode old c new
 sets_anyway mode old c new tree there set =
-    subst (All (λ n. IsSet mode new n ⊎ HasSeveral mode old n)) (sym (holders_stay mode (holders old c) old new tree set c there)) (any_chain mode (holders old c) old new tree set).each
+    subst (All (λ n. IsSet mode new n ⊎ HasSeveral mode old n)) (sym (holders_stay mode c (holders old c) old new tree (are_holders old tree c c IsOver.itself) set c there)) (any_chain mode (holders old c) old new tree set).each

@@ -20,13 +20,14 @@ use Rattle.jsonc_edit.specs.declared.modes.TrailingCommaMode.TheVariants.{Never,
 use Rattle.jsonc_edit.proofs.FittingNodes.{over_there}
 use Rattle.jsonc_edit.proofs.OneValue.{document_once}
 use Rattle.jsonc_commas.specs.Commas.{comma_gone, comma_wanted_behind, CommaIsSet, GainsIt, LosesIt}
-use Rattle.jsonc_commas.specs.InTurn.{holders, holds_at, AreSetInPart, AreSetInTurn}
+use Rattle.jsonc_commas.specs.InTurn.{holders, holds_at, is_met, AreSetInPart, AreSetInTurn}
 use Rattle.jsonc_commas.specs.Laws.{allowing, IsInSound, IsSet, OnlyCommas, SaysTheSame, SetsOnce}
 use Rattle.jsonc_commas.proofs.Children.{children_are, IsChild}
 use Rattle.jsonc_commas.proofs.Given.{comma_given}
-use Rattle.jsonc_commas.proofs.InOrder.{holders_same, holds_same, over_same, KeepsContainers}
+use Rattle.jsonc_commas.proofs.InOrder.{holds_same, over_same, KeepsContainers}
 use Rattle.jsonc_commas.proofs.InTurn.{holder_contains}
 use Rattle.jsonc_commas.proofs.Kept.{set_keeps}
+use Rattle.jsonc_commas.proofs.Reach.{holders_same, met_holds, set_reaches}
 use Rattle.jsonc_commas.proofs.Splits.{gone_parted, wanted_parted}
 use Rattle.jsonc_commas.proofs.Steps.{Step}
 use Rattle.jsonc_commas.proofs.Taken.{comma_taken}
@@ -66,12 +67,12 @@ abbrev pub AreHolders : List Node → ℕ → List ℕ → Type 0
 AreHolders ns top [] = Unit {0}
 AreHolders ns top (n ∷ rest) = IsOver ns top n × IsTrue (holds_at ns n) × AreHolders ns top rest
 
-holders_kept : (old new : List Node) → IsTree old → IsTree new → KeepsContainers old new → (all : List ℕ) → AreHolders old 0 all → AreHolders new 0 all
-holders_kept old new tree after k [] h = tt
-holders_kept old new tree after k (n ∷ rest) h = (
-  over_same old new tree after k 0 n (holder_contains _ h.1) h.0,
+pub holders_kept : (old new : List Node) → IsTree old → IsTree new → KeepsContainers old new → (top : ℕ) (all : List ℕ) → AreHolders old top all → AreHolders new top all
+holders_kept old new tree after k top [] h = tt
+holders_kept old new tree after k top (n ∷ rest) h = (
+  over_same old new tree after k top n (holder_contains _ h.1) h.0,
   holds_same old new tree after k n ∙ h.1,
-  holders_kept old new tree after k rest h.2,
+  holders_kept old new tree after k top rest h.2,
 )
 
 pub longer : (old new : List Node) → KeepsContainers old new → (n : ℕ) → n < length old → n < length new
@@ -105,13 +106,13 @@ module _ (mode : TrailingCommaMode) (o : Options) (allows : Allows mode o) where
         | inl e ↦ subst (IsSet mode now) (sym e) one.1
         | inr ne ↦ set_same old now tree after m (other_row mode old now tree n s m ne) mode set
       ] in
-      let r : Chain mode o now new rest = chain rest now new after one.0.sound (holders_kept old now tree after k rest h.2) later in
+      let r : Chain mode o now new rest = chain rest now new after one.0.sound (holders_kept old now tree after k 0 rest h.2) later in
       record {
         tree = r.tree;
         step = joined_steps mode o (ordered_tree old 0) (ordered_tree now 0) (ordered_tree new 0) one.0 r.step;
         set = All-cons (IsSet mode new) n rest (r.stay n one.1) r.set;
         stay = λ m set. r.stay m (others m set);
-        same = λ c l. r.same c (longer old now k c l) ∙ holders_same old now tree after k c l;
+        same = λ c l. r.same c (longer old now k c l) ∙ holders_same old now tree after (set_reaches mode old now tree n h.1 s) c l;
       }
 
 -- all from a node on are below what that is below
@@ -132,17 +133,17 @@ module _ (ns : List Node) (tree : IsTree ns) (top : ℕ) where
   over_below zero n over = tt
   over_below (suc k) n over = (over, over_each (below k ns) (IsChild ns n) (λ x said. over_below k x (IsOver.above said over)) (children_at ns n) (children_are ns tree n))
 
-  those_that_hold : (xs : List ℕ) → OverAll xs → AreHolders ns top (filter (holds_at ns) xs)
-  those_that_hold [] h = tt
-  those_that_hold (x ∷ xs) h =
-      elim (cases_Bool (holds_at ns x)) [
-        | inl e ↦ subst (λ b. AreHolders ns top (cond b (x ∷ filter (holds_at ns) xs) (filter (holds_at ns) xs))) (sym e) (h.0, e, those_that_hold xs h.1)
-        | inr e ↦ subst (λ b. AreHolders ns top (cond b (x ∷ filter (holds_at ns) xs) (filter (holds_at ns) xs))) (sym e) (those_that_hold xs h.1)
+  those_that_hold : (c : ℕ) (xs : List ℕ) → OverAll xs → AreHolders ns top (filter (is_met ns c) xs)
+  those_that_hold c [] h = tt
+  those_that_hold c (x ∷ xs) h =
+      elim (cases_Bool (is_met ns c x)) [
+        | inl e ↦ subst (λ b. AreHolders ns top (cond b (x ∷ filter (is_met ns c) xs) (filter (is_met ns c) xs))) (sym e) (h.0, met_holds ns c x e, those_that_hold c xs h.1)
+        | inr e ↦ subst (λ b. AreHolders ns top (cond b (x ∷ filter (is_met ns c) xs) (filter (is_met ns c) xs))) (sym e) (those_that_hold c xs h.1)
       ]
 
   pub are_holders : (c : ℕ) → IsOver ns top c → AreHolders ns top (holders ns c)
   unfolding in_order
-  are_holders c over = those_that_hold (below (length ns) ns c) (over_below (length ns) c over)
+  are_holders c over = those_that_hold c (below (length ns) ns c) (over_below (length ns) c over)
 
 front_holders : (ns : List Node) (xs ys : List ℕ) → AreHolders ns 0 (xs ++ ys) → AreHolders ns 0 xs
 front_holders ns [] ys h = tt
@@ -225,8 +226,8 @@ pub sets_once : (mode : TrailingCommaMode) (o : Options) (old now : List Node) (
 sets_once mode o old now c new is first second = leaves_set mode (holders now c) now new (sets_all mode o old c is now first) second
 
 -- the arrays and objects stay, whether the document is sound or not
-pub holders_stay : (mode : TrailingCommaMode) (all : List ℕ) (old new : List Node) → IsTree old → AreSetInTurn mode old all new → (c : ℕ) → c < length old → holders new c ≡ holders old c
-holders_stay mode [] old new tree e c l = ap (λ ns. holders ns c) e
-holders_stay mode (n ∷ rest) old new tree (now, s, after, later) c l =
+pub holders_stay : (mode : TrailingCommaMode) (top : ℕ) (all : List ℕ) (old new : List Node) → IsTree old → AreHolders old top all → AreSetInTurn mode old all new → (c : ℕ) → c < length old → holders new c ≡ holders old c
+holders_stay mode top [] old new tree h e c l = ap (λ ns. holders ns c) e
+holders_stay mode top (n ∷ rest) old new tree h (now, s, after, later) c l =
     let k : KeepsContainers old now = set_keeps mode old now tree n s in
-    holders_stay mode rest now new after later c (longer old now k c l) ∙ holders_same old now tree after k c l
+    holders_stay mode top rest now new after (holders_kept old now tree after k top rest h.2) later c (longer old now k c l) ∙ holders_same old now tree after (set_reaches mode old now tree n h.1 s) c l

@@ -9,9 +9,9 @@ use Rattle.jsonc_tree.proofs.Order.{following_end, in_order_is}
 use Rattle.jsonc_lines.specs.Kinds.{holds_values}
 use Rattle.jsonc_edit.specs.declared.modes.TrailingCommaMode.{TrailingCommaMode}
 use Rattle.jsonc_commas.specs.Commas.{CommaIsSet, WantsComma}
-use Rattle.jsonc_commas.specs.InTurn.{holders, holds_at, to_come, AreSetInPart, AreSetInTurn}
-use Rattle.jsonc_commas.proofs.InOrder.{holds_same, over_same, to_come_same}
-use Rattle.jsonc_commas.proofs.Kept.{set_keeps}
+use Rattle.jsonc_commas.specs.InTurn.{holders, holds_at, is_met, to_come, AreSetInPart, AreSetInTurn}
+use Rattle.jsonc_commas.proofs.InOrder.{over_same}
+use Rattle.jsonc_commas.proofs.Reach.{met_holds, met_same, set_reaches, to_come_same, KeepsReach}
 
 -- one more has been set
 pub one_more_set : (mode : TrailingCommaMode) (done : List ℕ) (n : ℕ) (old now new : List Node) → AreSetInTurn mode old done now → CommaIsSet mode now new n → IsTree new → AreSetInTurn mode old (done ++ n ∷ []) new
@@ -53,7 +53,7 @@ part_set mode old now c n rest s e wants = record {
 
 -- the walk begins with all to come
 pub all_to_come : (ns : List Node) → IsTree ns → (c : ℕ) → c < length ns → holders ns c ≡ to_come ns c (Some c)
-all_to_come ns tree c there = sym (ap (λ l. filter (holds_at ns) (in_order ns c ++ l)) (following_end ns tree c there) ∙ ap (filter (holds_at ns)) (append-nil (in_order ns c)))
+all_to_come ns tree c there = sym (ap (λ l. filter (is_met ns c) (in_order ns c ++ l)) (following_end ns tree c there) ∙ ap (filter (is_met ns c)) (append-nil (in_order ns c)))
 
 -- what is said of a refusal holds of one
 pub where_refused : {T E P : Type 0} (r : Result T E) → P → OnErr r P
@@ -73,7 +73,7 @@ pub record StandsAt (mode : TrailingCommaMode) (old now : List Node) (c : ℕ) (
   pub tree : IsTree now
   pub there : IfSome next (λ n. n < length now)
   pub over : IfSome next (λ n. IsOver now c n)
-  pub holds : IfSome next (λ n. IsTrue (holds_at now n))
+  pub met : IfSome next (λ n. IsTrue (is_met now c n))
   pub set : SetSoFar mode old now c next
 
 module _ (mode : TrailingCommaMode) (old now : List Node) (c : ℕ) (next : Option ℕ) (s : StandsAt mode old now c next) (n : ℕ) (is : next ≡ Some n) where
@@ -83,8 +83,11 @@ module _ (mode : TrailingCommaMode) (old now : List Node) (c : ℕ) (next : Opti
   over_it : IsOver now c n
   over_it = some_of (IsOver now c) next n is s.over
 
+  met_it : IsTrue (is_met now c n)
+  met_it = some_of (λ m. IsTrue (is_met now c m)) next n is s.met
+
   holds_it : IsTrue (holds_at now n)
-  holds_it = some_of (λ m. IsTrue (holds_at now m)) next n is s.holds
+  holds_it = met_holds now c n met_it
 
   so_far : SetSoFar mode old now c (Some n)
   so_far = subst (SetSoFar mode old now c) is s.set
@@ -93,8 +96,8 @@ module _ (mode : TrailingCommaMode) (old now : List Node) (c : ℕ) (next : Opti
   first_to_come : (rest : List ℕ) × (to_come now c (Some n) ≡ n ∷ rest)
   first_to_come =
       let rows : List ℕ = flat_map (in_order now) (children_at now n) in
-      let rest : List ℕ = filter (holds_at now) (rows ++ following now c n) in
-      (rest, ap (λ l. filter (holds_at now) (l ++ following now c n)) (in_order_is now s.tree n here) ∙ ap (λ b. cond b (n ∷ rest) rest) holds_it)
+      let rest : List ℕ = filter (is_met now c) (rows ++ following now c n) in
+      (rest, ap (λ l. filter (is_met now c) (l ++ following now c n)) (in_order_is now s.tree n here) ∙ ap (λ b. cond b (n ∷ rest) rest) met_it)
 
   pub refused_here : (new : List Node) → new ≡ now → WantsComma now n → AreSetInPart mode old (holders old c) new
   refused_here new e wants =
@@ -106,14 +109,17 @@ module _ (mode : TrailingCommaMode) (old now : List Node) (c : ℕ) (next : Opti
     contains : is_container_at now n ≡ true
     contains = holder_contains (content_at now n) holds_it
 
-    pub over_still : IsOver new c n
-    over_still = over_same now new s.tree after (set_keeps mode now new s.tree n set) c n contains over_it
+    kept : KeepsReach now new
+    kept = set_reaches mode now new s.tree n holds_it set
 
-    pub holds_still : IsTrue (holds_at new n)
-    holds_still = holds_same now new s.tree after (set_keeps mode now new s.tree n set) n ∙ holds_it
+    pub over_still : IsOver new c n
+    over_still = over_same now new s.tree after kept.containers c n contains over_it
+
+    pub met_still : IsTrue (is_met new c n)
+    met_still = met_same now new s.tree after kept c n ∙ met_it
 
     to_come_still : to_come new c (Some n) ≡ to_come now c (Some n)
-    to_come_still = to_come_same now new s.tree after (set_keeps mode now new s.tree n set) c n contains
+    to_come_still = to_come_same now new s.tree after kept c n contains
 
     pub fewer : (later : Option ℕ) → to_come new c (Some n) ≡ n ∷ to_come new c later → length (to_come new c later) < length (to_come now c next)
     fewer later come =

@@ -15,3 +15,4 @@ pub mod Taken
 pub mod Unmoved
 pub mod WithoutCommas
 pub mod WiderShapes
+pub mod Reach

@@ -1,7 +1,9 @@
 -- The trailing commas of arrays and objects one after another.
-use Rattle.std.specs.Prelude.{◌≡◌, ℕ, Bool, List, [], ◌∷◌, ◌++◌, filter, Option}
-use Rattle.jsonc_tree.specs.Tree.{Node, content_at, IsTree}
-use Rattle.jsonc_tree.specs.Order.{in_order, rest_at}
+use Rattle.std.specs.Prelude.{◌≡◌, ◌==◌, ◌&&◌, ◌||◌, ℕ, Bool, true, false, not, List, [], ◌∷◌, ◌++◌, filter, Option, None, Some, if◌then◌else◌}
+use Rattle.jsonc_tree.specs.Tree.{Node, content_at, parent_at, IsTree}
+use Rattle.jsonc_tree.specs.Order.{in_order, rest_at, upward}
+use Rattle.jsonc_nodes.specs.Kinds.{is_property}
+use Rattle.jsonc_nodes.specs.Properties.{value_at}
 use Rattle.jsonc_lines.specs.Kinds.{holds_values}
 use Rattle.jsonc_edit.specs.declared.modes.TrailingCommaMode.{TrailingCommaMode}
 use Rattle.jsonc_commas.specs.Commas.{CommaIsSet, WantsComma}
@@ -10,13 +12,39 @@ use Rattle.jsonc_commas.specs.Commas.{CommaIsSet, WantsComma}
 abbrev pub holds_at : List Node → ℕ → Bool
 holds_at ns n = holds_values (content_at ns n)
 
--- the arrays and objects among c and the nodes below it, in the order of the document
+-- this number was found
+abbrev pub is_it : Option ℕ → ℕ → Bool
+is_it None n = false
+is_it (Some m) n = m == n
+
+-- a child of a property is entered where it is its value, and any other node always
+abbrev pub is_entered_under : List Node → ℕ → Option ℕ → Bool
+is_entered_under ns n None = true
+is_entered_under ns n (Some p) = not (is_property (content_at ns p)) || is_it (value_at ns p) n
+
+abbrev pub is_entered : List Node → ℕ → Bool
+is_entered ns n = is_entered_under ns n (parent_at ns n)
+
+-- each of these is entered, up to c
+abbrev pub are_entered : List Node → ℕ → List ℕ → Bool
+are_entered ns c [] = true
+are_entered ns c (m ∷ above) = if m == c then true else is_entered ns m && are_entered ns c above
+
+-- n is reached from c: it and each node above it is entered, up to c
+abbrev pub is_reached : List Node → ℕ → ℕ → Bool
+is_reached ns c n = are_entered ns c (upward ns (Some n))
+
+-- an array or object that is reached from c
+abbrev pub is_met : List Node → ℕ → ℕ → Bool
+is_met ns c n = holds_at ns n && is_reached ns c n
+
+-- the arrays and objects among c and the nodes that are reached from it, in the order of the document
 abbrev pub holders : List Node → ℕ → List ℕ
-holders ns c = filter (holds_at ns) (in_order ns c)
+holders ns c = filter (is_met ns c) (in_order ns c)
 
 -- those that are still to come where a walk below `end` stands at this node, or is done
 abbrev pub to_come : List Node → ℕ → Option ℕ → List ℕ
-to_come ns end o = filter (holds_at ns) (rest_at ns end o)
+to_come ns end o = filter (is_met ns end) (rest_at ns end o)
 
 -- the trailing comma of each of these has been set, one after another, and nothing else has changed
 abbrev pub AreSetInTurn : TrailingCommaMode → List Node → List ℕ → List Node → Type 0

@@ -2,26 +2,84 @@
 
 ghost use Rattle.std.specs.Prelude.{◌≡◌, ◌<◌, ◌∷◌, IfErr, IfSome, IsTrue, OnErr, OnOk, Some, length};
 ghost use Rattle.jsonc_tree.specs.Tree.{IsOver, IsTree};
+ghost use Rattle.jsonc_tree.specs.Stored.{content_of};
+ghost use Rattle.jsonc_nodes.specs.Kinds.{is_property};
 ghost use Rattle.jsonc_nodes.specs.Siblings.{IsThere};
-ghost use Rattle.jsonc_commas.specs.InTurn.{holders, holds_at, to_come, AreSetInTurn, AreSetInPart};
+ghost use Rattle.jsonc_commas.specs.InTurn.{holders, is_entered, is_met, is_reached, to_come, AreSetInTurn, AreSetInPart};
 
 use crate::rows::{holds_values, set_comma};
 use jsonc_edit::{EditError, TrailingCommaMode};
-use jsonc_tree::Tree;
+use jsonc_nodes::value_of;
+use jsonc_tree::{Kind, Tree};
 use std::alloc::Allocator;
 
-// From a node on, the first array or object in the order of the document.
+// Whether a node is a property.
+fn is_property<A: Allocator>(kind: &Kind<A>) -> bool
+    ensures { result ≡ is_property (content_of kind.now) }
+{
+    matches!(kind, Kind::Property(_))
+}
+
+// Whether a walk enters a node: a child of a property only where it is its value.
+fn is_entered<A: Allocator>(tree: &Tree<A>, node: usize) -> bool
+    requires { node < length tree.now.nodes }
+    ensures { result ≡ is_entered tree.now.nodes node }
+{
+    let _ = tree.len();
+    let Some(parent) = tree.parent(node) else {
+        return true;
+    };
+    if !is_property(tree.kind(parent)) {
+        return true;
+    }
+    match value_of(tree, parent) {
+        Some(value) => value == node,
+        None => false,
+    }
+}
+
+// Whether a node is reached from one above it.
+fn is_reached<A: Allocator>(tree: &Tree<A>, end: usize, node: usize) -> bool
+    requires { node < length tree.now.nodes }
+    ensures { result ≡ is_reached tree.now.nodes end node }
+{
+    let _ = tree.len();
+    let mut at = node;
+    while at != end {
+        if !is_entered(tree, at) {
+            return false;
+        }
+        let Some(parent) = tree.parent(at) else {
+            return true;
+        };
+        at = parent;
+    }
+    true
+}
+
+// Whether a node is an array or object that is reached.
+fn is_met<A: Allocator>(tree: &Tree<A>, end: usize, node: usize) -> bool
+    requires { node < length tree.now.nodes }
+    ensures { result ≡ is_met tree.now.nodes end node }
+{
+    if !holds_values(tree.kind(node)) {
+        return false;
+    }
+    is_reached(tree, end, node)
+}
+
+// From a node on, the first array or object that is reached, in the order of the document.
 fn holder_from<A: Allocator>(tree: &Tree<A>, end: usize, from: Option<usize>) -> Option<usize>
     requires there { IsThere tree.now.nodes from }
     requires over { IfSome from (λ n. IsOver tree.now.nodes end n) }
     ensures come { to_come tree.now.nodes end from ≡ to_come tree.now.nodes end result }
-    ensures holds { IfSome result (λ n. IsTrue (holds_at tree.now.nodes n)) }
+    ensures met { IfSome result (λ n. IsTrue (is_met tree.now.nodes end n)) }
     ensures there { IsThere tree.now.nodes result }
     ensures over { IfSome result (λ n. IsOver tree.now.nodes end n) }
 {
     let mut next = from;
     while let Some(node) = next {
-        if holds_values(tree.kind(node)) {
+        if is_met(tree, end, node) {
             return Some(node);
         }
         next = tree.next_in_order(end, node);
@@ -33,9 +91,9 @@ fn holder_from<A: Allocator>(tree: &Tree<A>, end: usize, from: Option<usize>) ->
 fn next_holder<A: Allocator>(tree: &Tree<A>, end: usize, node: usize) -> Option<usize>
     requires there { node < length tree.now.nodes }
     requires over { IsOver tree.now.nodes end node }
-    requires holds { IsTrue (holds_at tree.now.nodes node) }
+    requires met { IsTrue (is_met tree.now.nodes end node) }
     ensures come { to_come tree.now.nodes end (Some node) ≡ node ∷ to_come tree.now.nodes end result }
-    ensures holds { IfSome result (λ n. IsTrue (holds_at tree.now.nodes n)) }
+    ensures met { IfSome result (λ n. IsTrue (is_met tree.now.nodes end n)) }
     ensures there { IsThere tree.now.nodes result }
     ensures over { IfSome result (λ n. IsOver tree.now.nodes end n) }
 {
@@ -43,7 +101,8 @@ fn next_holder<A: Allocator>(tree: &Tree<A>, end: usize, node: usize) -> Option<
     holder_from(tree, end, after)
 }
 
-/// Sets the trailing commas of a node and of every array and object below it.
+/// Sets the trailing commas of a node and of every array and object below it, through elements and the
+/// values of properties.
 ///
 /// With `IfMultiline` the last element of an array or object that has a newline among its children gets
 /// a comma directly behind it, if it has none; with `Never` the comma behind the last element leaves.

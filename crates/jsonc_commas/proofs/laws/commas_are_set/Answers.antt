@@ -1,6 +1,7 @@
+use Rattle.jsonc_tree.specs.Tree.{IsOver}
 use Rattle.jsonc_commas.specs.InTurn.{holders}
 use Rattle.jsonc_commas.proofs.Anyway.{sets_anyway}
-use Rattle.jsonc_commas.proofs.Documents.{holders_stay, leaves_set, sets_all, sets_in_part, sets_once}
+use Rattle.jsonc_commas.proofs.Documents.{are_holders, holders_stay, leaves_set, sets_all, sets_in_part, sets_once}
 use Rattle.jsonc_commas.proofs.laws.commas_are_set.Goals as goal
 
 pub returns-clause-all : goal.returns-clause-all
@@ -19,4 +20,4 @@ pub returns-clause-once : goal.returns-clause-once
 returns-clause-once c mode o old now k new = sets_once mode o old now k new
 
 pub returns-clause-holders : goal.returns-clause-holders
-returns-clause-holders c mode old k new tree there set = holders_stay mode (holders old k) old new tree set k there
+returns-clause-holders c mode old k new tree there set = holders_stay mode k (holders old k) old new tree (are_holders old tree k k IsOver.itself) set k there

@@ -1,10 +1,10 @@
 use Rattle.std.proofs.Common.{refl}
 use lib.Utf8.{encode}
-use Rattle.jsonc_tree.specs.Order.{in_order}
+use Rattle.jsonc_tree.specs.Order.{in_order, upward}
 use Rattle.jsonc_commas.proofs.laws.worked_documents.Goals as goal
 
 pub returns-clause-holders : goal.returns-clause-holders
-unfolding in_order
+unfolding in_order upward
 returns-clause-holders c = refl
 
 pub returns-clause-text : goal.returns-clause-text

@@ -1,6 +1,6 @@
 use Rattle.std.proofs.Common.{◌∙◌}
 use Rattle.jsonc_tree.specs.Tree.{IsOver}
-use Rattle.jsonc_commas.proofs.InTurn.{all_to_come, fewer, goes_on, holds_still, none_set, over_still, refused_here, where_refused}
+use Rattle.jsonc_commas.proofs.InTurn.{all_to_come, fewer, goes_on, met_still, none_set, over_still, refused_here, where_refused}
 use Rattle.jsonc_commas.proofs.setting.set_trailing_commas.Goals as goal
 
 pub holder_from-next-requires-clause-over : goal.holder_from-next-requires-clause-over
@@ -13,7 +13,7 @@ loop-next-init g c =
       tree = c.len.ensures.tree;
       there = n.there;
       over = n.over;
-      holds = n.holds;
+      met = n.met;
       set = none_set c.args.mode c.args.tree.now.nodes c.args.container c.holder_from-next.result (all_to_come c.args.tree.now.nodes c.len.ensures.tree c.args.container c.requires ∙ n.come);
     }
 
@@ -26,9 +26,9 @@ pub next_holder-next-requires-clause-over : goal.next_holder-next-requires-claus
 next_holder-next-requires-clause-over g c =
     over_still c.args.mode c.args.tree.now.nodes c.loop-next.tree.nodes c.args.container c.loop-next.next c.loop-next.invariant c.in-Some.node c.in-Some.is c.set_comma.new.tree.nodes c.set_comma.ensures.tree c.in_ok-set_comma.ensures.set
 
-pub next_holder-next-requires-clause-holds : goal.next_holder-next-requires-clause-holds
-next_holder-next-requires-clause-holds g c =
-    holds_still c.args.mode c.args.tree.now.nodes c.loop-next.tree.nodes c.args.container c.loop-next.next c.loop-next.invariant c.in-Some.node c.in-Some.is c.set_comma.new.tree.nodes c.set_comma.ensures.tree c.in_ok-set_comma.ensures.set
+pub next_holder-next-requires-clause-met : goal.next_holder-next-requires-clause-met
+next_holder-next-requires-clause-met g c =
+    met_still c.args.mode c.args.tree.now.nodes c.loop-next.tree.nodes c.args.container c.loop-next.next c.loop-next.invariant c.in-Some.node c.in-Some.is c.set_comma.new.tree.nodes c.set_comma.ensures.tree c.in_ok-set_comma.ensures.set
 
 pub loop-next-smaller : goal.loop-next-smaller
 loop-next-smaller g c =
@@ -42,7 +42,7 @@ loop-next-preserved g c =
       tree = c.set_comma.ensures.tree;
       there = n.there;
       over = n.over;
-      holds = n.holds;
+      met = n.met;
       set = goes_on c.args.mode c.args.tree.now.nodes c.loop-next.tree.nodes c.args.container c.loop-next.next c.loop-next.invariant c.in-Some.node c.in-Some.is c.set_comma.new.tree.nodes c.set_comma.ensures.tree c.in_ok-set_comma.ensures.set
           c.next_holder-next.result n.come;
     }
