@@ -135,7 +135,7 @@ module _ (old new : List Node) (tree : IsTree old) (after : IsTree new) (k : Kee
 
 -- what is found below a node, and behind one, by tests that no leaf passes, and that agree
 module _ (old new : List Node) (tree : IsTree old) (after : IsTree new) (k : KeepsContainers old new) (hn ho : ℕ → Bool) (ln : (n : ℕ) → is_container_at new n ≡ false → hn n ≡ false)
-         (lo : (n : ℕ) → is_container_at old n ≡ false → ho n ≡ false) (alike : (n : ℕ) → hn n ≡ ho n) where
+    (lo : (n : ℕ) → is_container_at old n ≡ false → ho n ≡ false) (alike : (n : ℕ) → hn n ≡ ho n) where
   -- the same are found in as many levels below a node
   found_same : (levels n : ℕ) → filter hn (below levels new n) ≡ filter ho (below levels old n)
   found_same zero n = refl

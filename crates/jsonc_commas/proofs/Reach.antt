@@ -1,8 +1,8 @@
 -- Where a comma is set in an array or object, a walk reaches the same nodes.
-use Rattle.std.proofs.Common.{◌≡◌, ◌≢◌, ◌∙◌, sym, ap, subst, refl, ℕ, ◌<◌, Bool, true, false, not, ◌&&◌, ◌||◌, cond, eqb, inl, inr, List, [], ◌∷◌, All, length, get_or, filter, eq-eqb, ne_eqb, Option, Some, None, IsTrue, arith}
-use Rattle.std.proofs.lemmas.Bool.{cases_Bool, cases_eq, false≢true}
+use Rattle.std.proofs.Common.{◌≡◌, ◌≢◌, ◌∙◌, sym, ap, refl, ℕ, ◌<◌, Bool, true, false, not, ◌&&◌, ◌||◌, cond, eqb, inl, inr, List, length, get_or, eq-eqb, ne_eqb, Option, Some, None, IsTrue, arith}
+use Rattle.std.proofs.lemmas.Bool.{cases_Bool, false≢true}
 use Rattle.std.proofs.lemmas.List.Elements.{All-from_get_or}
-use Rattle.jsonc_tree.specs.Content.{Content, array, object, property}
+use Rattle.jsonc_tree.specs.Content.{Content, property}
 use Rattle.jsonc_tree.specs.Order.{upward}
 use Rattle.jsonc_tree.specs.Tree.{Node, content_at, children_at, parent_at, is_container_at, IsTree, Rooted, top, under}
 use Rattle.jsonc_tree.proofs.Order.{parent_there, upward_is, upward_none}
@@ -56,7 +56,7 @@ module _ (old new : List Node) (tree : IsTree old) (after : IsTree new) (r : Kee
   k = r.containers
 
   there_now : (n : ℕ) → n < length old → n < length new
-  there_now n h = elim k.long [ | inl e ↦ omega (arith, e) | inr e ↦ omega (arith, e) ]
+  there_now n h = elim k.long [ inl e ↦ omega (arith, e) | inr e ↦ omega (arith, e) ]
 
   step_same : (end n : ℕ) → is_container_at old n ≡ true → are_entered new end (upward new (parent_at new n)) ≡ are_entered old end (upward old (parent_at old n)) → is_reached new end n ≡ is_reached old end n
   step_same end n e above =

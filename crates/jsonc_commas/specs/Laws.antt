@@ -54,7 +54,7 @@ pub record IsInSound (o : Options) (ns : List Node) (c : ℕ) : Type 0 where
   pub over : IsOver ns 0 c
   pub sound : SoundTree o (ordered_tree ns 0)
 
--- where all commas of c and below it are set, the document says the same
+-- where the commas of c and of all that are reached from it are set, the document says the same
 abbrev pub KeepsDocument : TrailingCommaMode → Options → List Node → ℕ → List Node → Type 0
 KeepsDocument mode o old c new =
     IsInSound o old c → AreSetInTurn mode old (holders old c) new → SaysTheSame mode o (ordered_tree old 0) (ordered_tree new 0)

@@ -9,7 +9,7 @@ ghost use Rattle.jsonc_commas.specs.InTurn.{holders};
 ghost use Rattle.jsonc_commas.specs.Laws.{KeepsDocument, KeepsDocumentInPart, KeepsHolders};
 ghost use Rattle.jsonc_commas.specs.Laws.{LeavesOthers, LeavesWhatIsSet};
 ghost use Rattle.jsonc_commas.specs.Laws.{SetsAll, SetsAllButSeveral, SetsOnce, SetsThoseDone};
-ghost use Rattle.jsonc_commas.specs.Worked.{bare_array, comma_array, open_array};
+ghost use Rattle.jsonc_commas.specs.Worked.{bare_array, colonless_object, comma_array, open_array};
 
 /// Where the commas of a node of a sound document, and of all below it, are set, the text is a document
 /// again, of the same value and with the same literals and comments, and the document is sound. With
@@ -47,7 +47,8 @@ pub fn commas_are_set()
 
 /// Worked documents: in `[`, `  1,`, `  {"a": [2]}`, `]`, each on a line, a comma is wanted behind the
 /// object alone, and once it is there it is the one that leaves. Where a comma is last in the row, in the
-/// place of the bracket, it does not.
+/// place of the bracket, it does not. What stands in a property that has lost its colon is not reached
+/// from above, but its own comma can be set.
 pub fn worked_documents()
     ensures holders { holders bare_array 0 ≡ 1 ∷ 9 ∷ 15 ∷ [] }
     ensures text { printed_at bare_array 0 ≡ codes "[\n  1,\n  {\"a\": [2]}\n]" }
@@ -58,4 +59,6 @@ pub fn worked_documents()
     ensures gone { comma_gone comma_array 1 ≡ Some 22 }
     ensures none { comma_gone bare_array 1 ≡ None }
     ensures open { comma_gone open_array 1 ≡ None }
+    ensures lost { holders colonless_object 0 ≡ 1 ∷ [] }
+    ensures itself { holders colonless_object 6 ≡ 6 ∷ [] }
 {}

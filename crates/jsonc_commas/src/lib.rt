@@ -1,10 +1,11 @@
 //! Trailing commas: put behind the last element of each array and object on several lines, or taken away.
 //!
-//! [`set_trailing_commas`] walks what stands below a node in the order of the document, and sets the
-//! comma of each array and object as it comes to it (`specs/Commas.antt`). It takes no machine stack
-//! however deep the document is. Only a comma that comes wants memory; where that is refused, commas
-//! set before stay, and nothing else has changed (`specs/InTurn.antt`). A sound document says the same
-//! then, and each of its arrays and objects has its comma, or none (`specs/Laws.antt`).
+//! [`set_trailing_commas`] walks what stands below a node in the order of the document, through elements
+//! and the values of properties, and sets the comma of each array and object as it comes to it
+//! (`specs/Commas.antt`). It takes no machine stack however deep the document is. Only a comma that comes
+//! wants memory; where that is refused, commas set before stay, and nothing else has changed
+//! (`specs/InTurn.antt`). A sound document says the same then, and each of its arrays and objects has its
+//! comma, or none (`specs/Laws.antt`).
 #![tactic(auto)]
 
 pub mod laws;

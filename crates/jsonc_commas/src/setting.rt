@@ -5,7 +5,8 @@ ghost use Rattle.jsonc_tree.specs.Tree.{IsOver, IsTree};
 ghost use Rattle.jsonc_tree.specs.Stored.{content_of};
 ghost use Rattle.jsonc_nodes.specs.Kinds.{is_property};
 ghost use Rattle.jsonc_nodes.specs.Siblings.{IsThere};
-ghost use Rattle.jsonc_commas.specs.InTurn.{holders, is_entered, is_met, is_reached, to_come, AreSetInTurn, AreSetInPart};
+ghost use Rattle.jsonc_commas.specs.InTurn.{holders, is_entered, is_met, is_reached, to_come};
+ghost use Rattle.jsonc_commas.specs.InTurn.{AreSetInPart, AreSetInTurn};
 
 use crate::rows::{holds_values, set_comma};
 use jsonc_edit::{EditError, TrailingCommaMode};

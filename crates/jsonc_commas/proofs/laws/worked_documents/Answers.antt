@@ -14,3 +14,11 @@ returns-clause-text c = refl
 pub returns-clause-set : goal.returns-clause-set
 unfolding in_order encode
 returns-clause-set c = refl
+
+pub returns-clause-lost : goal.returns-clause-lost
+unfolding in_order upward
+returns-clause-lost c = refl
+
+pub returns-clause-itself : goal.returns-clause-itself
+unfolding in_order upward
+returns-clause-itself c = refl
