@@ -27,7 +27,7 @@ no_holder c e = refl
 
 -- lists and tests
 module _ (p : ℕ → Bool) where
-  filter-flat_map : (f : ℕ → List ℕ) (xs : List ℕ) → filter p (flat_map f xs) ≡ flat_map (λ x. filter p (f x)) xs
+  pub filter-flat_map : (f : ℕ → List ℕ) (xs : List ℕ) → filter p (flat_map f xs) ≡ flat_map (λ x. filter p (f x)) xs
   filter-flat_map f [] = refl
   filter-flat_map f (x ∷ xs) = filter-append p (f x) (flat_map f xs) ∙ ap (λ l. filter p (f x) ++ l) (filter-flat_map f xs)
 

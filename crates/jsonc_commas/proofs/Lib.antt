@@ -16,3 +16,4 @@ pub mod Unmoved
 pub mod WithoutCommas
 pub mod WiderShapes
 pub mod Reach
+pub mod Walk

@@ -1,5 +1,5 @@
 -- The trailing commas of arrays and objects one after another.
-use Rattle.std.specs.Prelude.{◌≡◌, ◌==◌, ◌&&◌, ◌||◌, ℕ, Bool, true, false, not, List, [], ◌∷◌, ◌++◌, filter, Option, None, Some, if◌then◌else◌}
+use Rattle.std.specs.Prelude.{◌≡◌, ◌≢◌, ◌==◌, ◌&&◌, ◌||◌, ℕ, Bool, true, false, not, List, [], ◌∷◌, ◌++◌, filter, Option, None, Some, if◌then◌else◌}
 use Rattle.jsonc_tree.specs.Tree.{Node, content_at, parent_at, IsTree}
 use Rattle.jsonc_tree.specs.Order.{in_order, rest_at, upward}
 use Rattle.jsonc_nodes.specs.Kinds.{is_property}
@@ -33,6 +33,10 @@ are_entered ns c (m ∷ above) = if m == c then true else is_entered ns m && are
 -- n is reached from c: it and each node above it is entered, up to c
 abbrev pub is_reached : List Node → ℕ → ℕ → Bool
 is_reached ns c n = are_entered ns c (upward ns (Some n))
+
+-- what n stands in is reached from c, where n is not c itself
+abbrev pub IsOpen : List Node → ℕ → ℕ → Type 0
+IsOpen ns c n = (p : ℕ) → n ≢ c → parent_at ns n ≡ Some p → is_reached ns c p ≡ true
 
 -- an array or object that is reached from c
 abbrev pub is_met : List Node → ℕ → ℕ → Bool

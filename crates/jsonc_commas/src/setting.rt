@@ -1,12 +1,13 @@
 //! The trailing commas of all that stands below a node.
 
-ghost use Rattle.std.specs.Prelude.{◌≡◌, ◌<◌, ◌∷◌, IfErr, IfSome, IsTrue, OnErr, OnOk, Some, length};
+ghost use Rattle.std.specs.Prelude.{◌≡◌, ◌<◌, ◌∷◌, false, IfErr, IfSome, IsTrue, OnErr, OnOk, Some, length};
 ghost use Rattle.jsonc_tree.specs.Tree.{IsOver, IsTree};
 ghost use Rattle.jsonc_tree.specs.Stored.{content_of};
 ghost use Rattle.jsonc_nodes.specs.Kinds.{is_property};
 ghost use Rattle.jsonc_nodes.specs.Siblings.{IsThere};
 ghost use Rattle.jsonc_commas.specs.InTurn.{holders, is_entered, is_met, is_reached, to_come};
-ghost use Rattle.jsonc_commas.specs.InTurn.{AreSetInPart, AreSetInTurn};
+ghost use Rattle.jsonc_commas.specs.InTurn.{AreSetInPart, AreSetInTurn, IsOpen};
+ghost use Rattle.jsonc_tree.specs.Order.{following, rest_at};
 
 use crate::rows::{holds_values, set_comma};
 use jsonc_edit::{EditError, TrailingCommaMode};
@@ -39,28 +40,25 @@ fn is_entered<A: Allocator>(tree: &Tree<A>, node: usize) -> bool
     }
 }
 
-// Whether a node is reached from one above it.
+// Whether a node is reached, where what it stands in is.
 fn is_reached<A: Allocator>(tree: &Tree<A>, end: usize, node: usize) -> bool
-    requires { node < length tree.now.nodes }
+    requires there { node < length tree.now.nodes }
+    requires over { IsOver tree.now.nodes end node }
+    requires inside { IsOpen tree.now.nodes end node }
     ensures { result ≡ is_reached tree.now.nodes end node }
 {
     let _ = tree.len();
-    let mut at = node;
-    while at != end {
-        if !is_entered(tree, at) {
-            return false;
-        }
-        let Some(parent) = tree.parent(at) else {
-            return true;
-        };
-        at = parent;
+    if node == end {
+        return true;
     }
-    true
+    is_entered(tree, node)
 }
 
 // Whether a node is an array or object that is reached.
 fn is_met<A: Allocator>(tree: &Tree<A>, end: usize, node: usize) -> bool
-    requires { node < length tree.now.nodes }
+    requires there { node < length tree.now.nodes }
+    requires over { IsOver tree.now.nodes end node }
+    requires inside { IsOpen tree.now.nodes end node }
     ensures { result ≡ is_met tree.now.nodes end node }
 {
     if !holds_values(tree.kind(node)) {
@@ -69,10 +67,72 @@ fn is_met<A: Allocator>(tree: &Tree<A>, end: usize, node: usize) -> bool
     is_reached(tree, end, node)
 }
 
+// The node that comes behind those below a node, before what is below `end` is over.
+fn next_past<A: Allocator>(tree: &Tree<A>, end: usize, node: usize) -> Option<usize>
+    requires there { node < length tree.now.nodes }
+    requires over { IsOver tree.now.nodes end node }
+    requires inside { IsOpen tree.now.nodes end node }
+    ensures next { following tree.now.nodes end node ≡ rest_at tree.now.nodes end result }
+    ensures there { IsThere tree.now.nodes result }
+    ensures over { IfSome result (IsOver tree.now.nodes end) }
+    ensures inside { IfSome result (IsOpen tree.now.nodes end) }
+{
+    let _ = tree.len();
+    let mut at = node;
+    while at != end {
+        let Some(parent) = tree.parent(at) else {
+            return None;
+        };
+        if let Some(next) = tree.next_sibling(at) {
+            return Some(next);
+        }
+        at = parent;
+    }
+    None
+}
+
+// The node that comes next after one that is reached.
+fn next_inside<A: Allocator>(tree: &Tree<A>, end: usize, node: usize) -> Option<usize>
+    requires there { node < length tree.now.nodes }
+    requires over { IsOver tree.now.nodes end node }
+    requires reached { IsTrue (is_reached tree.now.nodes end node) }
+    ensures rest { rest_at tree.now.nodes end (Some node) ≡ node ∷ rest_at tree.now.nodes end result }
+    ensures there { IsThere tree.now.nodes result }
+    ensures over { IfSome result (IsOver tree.now.nodes end) }
+    ensures inside { IfSome result (IsOpen tree.now.nodes end) }
+{
+    let _ = tree.len();
+    if let Some(first) = tree.first_child(node) {
+        return Some(first);
+    }
+    next_past(tree, end, node)
+}
+
+// The node at which a walk goes on behind one at which it does not stop: what is below a node that is not
+// reached is passed over.
+fn next_from<A: Allocator>(tree: &Tree<A>, end: usize, node: usize) -> Option<usize>
+    requires there { node < length tree.now.nodes }
+    requires over { IsOver tree.now.nodes end node }
+    requires inside { IsOpen tree.now.nodes end node }
+    requires passed { is_met tree.now.nodes end node ≡ false }
+    ensures come { to_come tree.now.nodes end (Some node) ≡ to_come tree.now.nodes end result }
+    ensures less { length (rest_at tree.now.nodes end result) < length (rest_at tree.now.nodes end (Some node)) }
+    ensures there { IsThere tree.now.nodes result }
+    ensures over { IfSome result (IsOver tree.now.nodes end) }
+    ensures inside { IfSome result (IsOpen tree.now.nodes end) }
+{
+    let _ = tree.len();
+    if is_reached(tree, end, node) {
+        return next_inside(tree, end, node);
+    }
+    next_past(tree, end, node)
+}
+
 // From a node on, the first array or object that is reached, in the order of the document.
 fn holder_from<A: Allocator>(tree: &Tree<A>, end: usize, from: Option<usize>) -> Option<usize>
     requires there { IsThere tree.now.nodes from }
-    requires over { IfSome from (λ n. IsOver tree.now.nodes end n) }
+    requires over { IfSome from (IsOver tree.now.nodes end) }
+    requires inside { IfSome from (IsOpen tree.now.nodes end) }
     ensures come { to_come tree.now.nodes end from ≡ to_come tree.now.nodes end result }
     ensures met { IfSome result (λ n. IsTrue (is_met tree.now.nodes end n)) }
     ensures there { IsThere tree.now.nodes result }
@@ -83,7 +143,7 @@ fn holder_from<A: Allocator>(tree: &Tree<A>, end: usize, from: Option<usize>) ->
         if is_met(tree, end, node) {
             return Some(node);
         }
-        next = tree.next_in_order(end, node);
+        next = next_from(tree, end, node);
     }
     None
 }
@@ -98,7 +158,7 @@ fn next_holder<A: Allocator>(tree: &Tree<A>, end: usize, node: usize) -> Option<
     ensures there { IsThere tree.now.nodes result }
     ensures over { IfSome result (λ n. IsOver tree.now.nodes end n) }
 {
-    let after = tree.next_in_order(end, node);
+    let after = next_inside(tree, end, node);
     holder_from(tree, end, after)
 }
 

@@ -1,13 +1,14 @@
 use Rattle.std.proofs.Common.{◌≡◌, ◌<◌, length, IfSome}
 use Rattle.jsonc_tree.specs.Tree.{IsOver}
 use Rattle.jsonc_tree.specs.Order.{rest_at}
-use Rattle.jsonc_commas.specs.InTurn.{to_come}
+use Rattle.jsonc_commas.specs.InTurn.{to_come, IsOpen}
 use Rattle.jsonc_commas.proofs.setting.holder_from.Given as goal
 
 abbrev pub invariant-loop-next : goal.invariant-loop-next
 invariant-loop-next g l = record {
   there : IfSome l.next (λ n. n < length l.tree.nodes);
-  over : IfSome l.next (λ n. IsOver l.tree.nodes l.end n);
+  over : IfSome l.next (IsOver l.tree.nodes l.end);
+  inside : IfSome l.next (IsOpen l.tree.nodes l.end);
   come : to_come l.tree.nodes l.end l.fn.from ≡ to_come l.tree.nodes l.end l.next;
 }
 
