@@ -121,8 +121,8 @@ fn put_by<A: Allocator + Copy>(
     with_comma(alloc, plan.comma, comma, wider)
 }
 
-// The row with all that was made.
-fn with_made<A: Allocator + Copy>(
+/// The row with all that was made.
+pub fn with_made<A: Allocator + Copy>(
     alloc: A,
     plan: Plan,
     made: &Made<A>,

@@ -69,7 +69,7 @@ fn begins_blank<A: Allocator>(tree: &Tree<A>, row: &[usize]) -> bool
 }
 
 /// Whether a line ends in a row.
-pub(crate) fn has_newline<A: Allocator>(tree: &Tree<A>, row: &[usize]) -> bool
+pub fn has_newline<A: Allocator>(tree: &Tree<A>, row: &[usize]) -> bool
     ensures { result ≡ list_any (is_newline_at tree.now.nodes) row.now }
 {
     row.iter().any(|node| is_newline(tree, *node))
@@ -82,8 +82,8 @@ pub(crate) fn has_whitespace<A: Allocator>(tree: &Tree<A>, row: &[usize]) -> boo
     row.iter().any(|node| is_whitespace(tree, *node))
 }
 
-// The indent that a line begins with.
-fn indent_of_line<A: Allocator + Copy>(
+/// The indent that a line begins with.
+pub fn indent_of_line<A: Allocator + Copy>(
     alloc: A,
     tree: &Tree<A>,
     line: &[usize],
@@ -113,8 +113,8 @@ fn line_start<A: Allocator>(tree: &Tree<A>, row: &[usize], start: usize, place: 
     start
 }
 
-// The first indent in a row.
-fn first_indent<A: Allocator + Copy>(
+/// The first indent in a row.
+pub fn first_indent<A: Allocator + Copy>(
     alloc: A,
     tree: &Tree<A>,
     row: &[usize],

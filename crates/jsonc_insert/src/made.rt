@@ -17,15 +17,15 @@ use std::alloc::{AllocError, Allocator};
 
 /// What comes in: the element, and what is written beside it.
 #[derive(Drop)]
-pub(crate) struct Made<A: Allocator> {
+pub struct Made<A: Allocator> {
     /// A comma that comes behind the element before.
-    pub(crate) comma: Vec<usize, A>,
+    pub comma: Vec<usize, A>,
     /// The leaves directly before the new element.
-    pub(crate) before: Vec<usize, A>,
+    pub before: Vec<usize, A>,
     /// The new element.
-    pub(crate) element: usize,
+    pub element: usize,
     /// The leaves directly behind it.
-    pub(crate) behind: Vec<usize, A>,
+    pub behind: Vec<usize, A>,
 }
 
 // Makes a leaf behind others.
@@ -114,8 +114,8 @@ fn push_comma_if<A: Allocator + Copy>(
     push_leaf(tree, leaves, Kind::token(','))
 }
 
-// Makes a comma, where one is wanted.
-fn make_comma<A: Allocator + Copy>(
+/// Makes a comma, where one is wanted.
+pub fn make_comma<A: Allocator + Copy>(
     alloc: A,
     tree: &mut Tree<A>,
     wanted: bool,
@@ -128,8 +128,8 @@ fn make_comma<A: Allocator + Copy>(
     Ok(leaves)
 }
 
-// Makes what comes before the new element.
-fn make_before<A: Allocator + Copy>(
+/// Makes what comes before the new element.
+pub fn make_before<A: Allocator + Copy>(
     alloc: A,
     tree: &mut Tree<A>,
     layout: &Layout<A>,
@@ -152,8 +152,8 @@ fn make_before<A: Allocator + Copy>(
     Ok(leaves)
 }
 
-// Makes what comes behind it.
-fn make_behind<A: Allocator + Copy>(
+/// Makes what comes behind it.
+pub fn make_behind<A: Allocator + Copy>(
     alloc: A,
     tree: &mut Tree<A>,
     layout: &Layout<A>,

@@ -19,7 +19,7 @@ use std::alloc::Allocator;
 
 /// What stands between two nodes: nothing, a space, or the end of a line and the next one's indent.
 #[derive(Clone, Copy)]
-pub(crate) enum Gap {
+pub enum Gap {
     Nothing,
     Space,
     Line,
@@ -27,17 +27,17 @@ pub(crate) enum Gap {
 
 /// Where a new element comes into a row, and what comes with it.
 #[derive(Clone, Copy)]
-pub(crate) struct Plan {
+pub struct Plan {
     /// Where a comma comes behind the element before it, if one is wanted there.
-    pub(crate) comma: Option<usize>,
+    pub comma: Option<usize>,
     /// Where the element comes, before that comma has come.
-    pub(crate) place: usize,
+    pub place: usize,
     /// What comes before it.
-    pub(crate) before: Gap,
+    pub before: Gap,
     /// Whether a comma comes behind it.
-    pub(crate) comma_behind: bool,
+    pub comma_behind: bool,
     /// What comes behind that.
-    pub(crate) behind: Gap,
+    pub behind: Gap,
 }
 
 fn is_comma_kind<A: Allocator>(kind: &Kind<A>) -> bool
@@ -127,8 +127,8 @@ fn trivia<A: Allocator>(tree: &Tree<A>, row: &[usize]) -> usize
         .count()
 }
 
-// The element of this number in a row, or none where there are fewer.
-pub(crate) fn nth_element<A: Allocator>(
+/// The element of this number in a row, or none where there are fewer.
+pub fn nth_element<A: Allocator>(
     tree: &Tree<A>,
     row: &[usize],
     index: usize,
@@ -164,8 +164,8 @@ fn element_before<A: Allocator>(tree: &Tree<A>, row: &[usize], index: usize) -> 
     }
 }
 
-// The place of a node in a row, or the row's length.
-fn place_in(row: &[usize], node: usize) -> usize
+/// The place of a node in a row, or the row's length.
+pub fn place_in(row: &[usize], node: usize) -> usize
     ensures place { result ≡ place_in node row.now }
     ensures within { result ≤ length row.now }
 {
@@ -325,7 +325,7 @@ fn plan_behind<A: Allocator>(
 }
 
 /// Where a new element comes into a row that has its brackets, and what comes with it.
-pub(crate) fn planned<A: Allocator>(
+pub fn planned<A: Allocator>(
     tree: &Tree<A>,
     several: bool,
     commas: bool,
@@ -358,7 +358,7 @@ fn is_token<A: Allocator>(tree: &Tree<A>, node: usize) -> bool
 }
 
 /// Whether the first and the last child of a container are tokens, and two.
-pub(crate) fn has_brackets<A: Allocator>(tree: &Tree<A>, container: usize) -> bool
+pub fn has_brackets<A: Allocator>(tree: &Tree<A>, container: usize) -> bool
     requires { container < length tree.now.nodes }
     ensures { result ≡ has_brackets tree.now.nodes (children_at tree.now.nodes container) }
 {

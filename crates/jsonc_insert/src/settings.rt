@@ -66,8 +66,8 @@ pub(crate) fn on_several_lines<A: Allocator>(
     has_newline(tree, row) || is_spread(value)
 }
 
-// Whether a node is the root or stands below it.
-fn is_in_document<A: Allocator>(tree: &Tree<A>, node: usize) -> bool
+/// Whether a node is the root or stands below it.
+pub fn is_in_document<A: Allocator>(tree: &Tree<A>, node: usize) -> bool
     requires { node < length tree.now.nodes }
     ensures { result ≡ is_in_document tree.now.nodes node }
 {
@@ -77,8 +77,8 @@ fn is_in_document<A: Allocator>(tree: &Tree<A>, node: usize) -> bool
     root_node(tree, node).is_some()
 }
 
-// How lines end beside a row that a container is to have.
-fn newline_kind_with<A: Allocator + Copy>(
+/// How lines end beside a row that a container is to have.
+pub fn newline_kind_with<A: Allocator + Copy>(
     alloc: A,
     tree: &Tree<A>,
     container: usize,
@@ -117,8 +117,8 @@ fn ends_with_comma<A: Allocator>(tree: &Tree<A>, last: Option<usize>) -> bool
     }
 }
 
-// Whether commas stand behind last elements, in a container that is to have this row or below it.
-fn uses_commas_in<A: Allocator + Copy>(
+/// Whether commas stand behind last elements, in a container that is to have this row or below it.
+pub fn uses_commas_in<A: Allocator + Copy>(
     alloc: A,
     tree: &Tree<A>,
     container: usize,
@@ -149,7 +149,7 @@ fn is_document_value<A: Allocator>(tree: &Tree<A>, node: usize) -> bool
 }
 
 /// The indents at a container that is to have this row.
-pub(crate) fn indents_of<A: Allocator + Copy>(
+pub fn indents_of<A: Allocator + Copy>(
     alloc: A,
     tree: &Tree<A>,
     container: usize,
@@ -168,8 +168,8 @@ pub(crate) fn indents_of<A: Allocator + Copy>(
     })
 }
 
-// The indents one level deeper.
-fn one_deeper<A: Allocator + Copy>(indents: Indents<A>) -> Result<Indents<A>, AllocError>
+/// The indents one level deeper.
+pub fn one_deeper<A: Allocator + Copy>(indents: Indents<A>) -> Result<Indents<A>, AllocError>
     ensures { IfOk result (λ i. texts_of i ≡ one_deeper (texts_of indents)) }
 {
     let mut current = indents.current;
@@ -255,7 +255,7 @@ pub(crate) fn layout_in<A: Allocator + Copy>(
 }
 
 /// The indent of a container's own line, where it is to have this row.
-pub(crate) fn outer_indent<A: Allocator + Copy>(
+pub fn outer_indent<A: Allocator + Copy>(
     alloc: A,
     tree: &Tree<A>,
     container: usize,

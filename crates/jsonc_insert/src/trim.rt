@@ -137,7 +137,7 @@ fn without<A: Allocator>(
 }
 
 /// A row as it is when the blank lines directly inside its brackets have left.
-pub(crate) fn trimmed<A: Allocator + Copy>(
+pub fn trimmed<A: Allocator + Copy>(
     alloc: A,
     tree: &Tree<A>,
     row: &[usize],

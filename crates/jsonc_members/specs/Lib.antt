@@ -1,0 +1,4 @@
+pub mod Opened
+pub mod Told
+pub mod Inserted
+pub mod Worked

@@ -1,0 +1,18 @@
+//! Laws of properties that come into objects: each is the contract of a function that does nothing.
+ghost use Rattle.std.specs.Prelude.{◌≡◌, codes};
+ghost use Rattle.jsonc_text.specs.Plain as plain;
+ghost use Rattle.jsonc_members.specs.Worked.{b, c_is_two, commented, empty_inside, on_one_line, text_with, two, with_comma};
+
+/// Worked insertions into objects on one line: what they print with one more property.
+pub fn worked_on_one_line()
+    ensures appended { text_with on_one_line 1 9 b two ≡ codes "{\n  \"a\":1,\n  \"b\": 2\n}" }
+    ensures first { text_with on_one_line 1 0 b two ≡ codes "{\n  \"b\": 2,\n  \"a\":1\n}" }
+    ensures behind_comment { text_with commented 1 1 b two ≡ codes "{\n  \"a\":1, /*x*/\n  \"b\": 2\n}" }
+{}
+
+/// The same into objects on several lines: the indents and the comma behind the last property are kept.
+pub fn worked_on_lines()
+    ensures comma { text_with with_comma 1 1 b two ≡ codes "{\n  \"a\":1,\n  \"b\": 2,\n}" }
+    ensures inner { text_with empty_inside 6 0 b two ≡ codes "{\n\t\t\"b\": 2\n\t}" }
+    ensures object { text_with empty_inside 1 1 b c_is_two ≡ codes "{\n\t\"a\":{},\n\t\"b\": {\n\t\t\"c\": 2\n\t}\n}" }
+{}

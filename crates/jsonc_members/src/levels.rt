@@ -1,0 +1,250 @@
+//! The indents of what stands in an object that is to have a row.
+
+ghost use Rattle.std.specs.Prelude.{◌≡◌, ◌≤◌, ◌<◌, ◌++◌, [], All, IfOk, Some, length};
+ghost use Rattle.std.specs.Prelude.{option_map, string_bytes, unwrap_or};
+ghost use Rattle.jsonc_tree.specs.Stored.{content_of};
+ghost use Rattle.jsonc_tree.specs.Tree.{parent_at};
+ghost use Rattle.jsonc_nodes.specs.Kinds.{is_property};
+ghost use Rattle.jsonc_lines.specs.Indents.{held_after, is_property_at, levels_in, more_of, repeated, without_front};
+ghost use Rattle.jsonc_lines.specs.IndentViews.{text_in, texts_of};
+ghost use Rattle.jsonc_members.specs.Told.{document_indent, indent_in, indents_beside, last_line, levels_inside};
+ghost use Rattle.jsonc_members.specs.Told.{single_inside, told_inside};
+
+use jsonc_insert::{first_indent, indent_of_line, is_in_document, place_in};
+use jsonc_lines::{Indents, indent_text};
+use jsonc_nodes::{children, first_element_from, is_newline};
+use jsonc_tree::{Kind, Tree};
+use std::alloc::{AllocError, Allocator};
+
+// How many nodes stand on the line that a row ends with.
+fn last_line<A: Allocator>(tree: &Tree<A>, row: &[usize]) -> usize
+    ensures count { result ≡ last_line tree.now.nodes row.now }
+    ensures within { result ≤ length row.now }
+{
+    row.iter()
+        .rev()
+        .take_while(|node| !is_newline(tree, **node))
+        .count()
+}
+
+// The indent of a node that stands in a row.
+fn indent_in<A: Allocator + Copy>(
+    alloc: A,
+    tree: &Tree<A>,
+    row: &[usize],
+    node: usize,
+) -> Result<Option<String<A>>, AllocError>
+    ensures indent { IfOk result (λ o. text_in o ≡ indent_in tree.now.nodes row.now node) }
+{
+    let place = place_in(row, node);
+    let count = last_line(tree, &row[0..place]);
+    indent_of_line(alloc, tree, &row[place - count..place])
+}
+
+// Whether a node is an object property.
+fn is_property<A: Allocator>(kind: &Kind<A>) -> bool
+    ensures { result ≡ is_property (content_of kind.now) }
+{
+    matches!(kind, Kind::Property(_))
+}
+
+// Whether a node is the child of an object property.
+fn stands_in_property<A: Allocator>(tree: &Tree<A>, node: usize) -> bool
+    requires { node < length tree.now.nodes }
+    ensures { result ≡ is_property_at tree.now.nodes (parent_at tree.now.nodes node) }
+{
+    let _ = tree.len();
+    match tree.parent(node) {
+        Some(parent) => is_property(tree.kind(parent)),
+        None => false,
+    }
+}
+
+// The levels of indent above what stands in an object, nearest first.
+fn levels_inside<A: Allocator>(
+    alloc: A,
+    tree: &Tree<A>,
+    object: usize,
+) -> Result<Vec<usize, A>, AllocError>
+    requires { object < length tree.now.nodes }
+    ensures levels { IfOk result (λ v. v.items ≡ levels_inside tree.now.nodes object) }
+    ensures there { IfOk result (λ v. All (λ m. m < length tree.now.nodes) v.items) }
+{
+    let mut levels = Vec::new(alloc);
+    let _ = tree.len();
+    let mut next = Some(object);
+    while let Some(at) = next {
+        if at == 0 {
+            return Ok(levels);
+        }
+        next = tree.parent(at);
+        if stands_in_property(tree, at) {
+            continue;
+        }
+        levels.push(at)?;
+    }
+    Ok(levels)
+}
+
+// The text without another at its front, if it begins with that.
+fn without_front<'a>(outer: &str, inner: &'a str) -> Option<&'a str>
+    ensures { option_map (λ s. s.now) result ≡ without_front outer.now inner.now }
+{
+    inner.strip_prefix(outer)
+}
+
+// What the inner indent has more than the outer one, if both are there and it begins with that.
+fn more_of<'a, A: Allocator>(
+    inner: &'a Option<String<A>>,
+    outer: &Option<String<A>>,
+) -> Option<&'a str>
+    ensures { option_map (λ s. s.now) result ≡ more_of (text_in inner.now) (text_in outer.now) }
+{
+    match (inner, outer) {
+        (Some(inner), Some(outer)) => without_front(outer.as_str(), inner.as_str()),
+        _ => None,
+    }
+}
+
+// What the next indent outward is held against: this one, where none was held.
+fn held_after<A: Allocator>(held: Option<String<A>>, outer: Option<String<A>>) -> Option<String<A>>
+    ensures { text_in result ≡ held_after (text_in held) (text_in outer) }
+{
+    match held {
+        None => outer,
+        Some(_) => None,
+    }
+}
+
+// The text that is held, or none.
+fn held_text<A: Allocator>(held: &Option<String<A>>) -> &str
+    ensures { result.now ≡ unwrap_or (text_in held.now) [] }
+{
+    match held {
+        Some(held) => held.as_str(),
+        None => "",
+    }
+}
+
+// A text, and then another so many times.
+fn followed_by<A: Allocator>(
+    alloc: A,
+    outer: &str,
+    count: usize,
+    single: &str,
+) -> Result<String<A>, AllocError>
+    ensures { IfOk result (λ s. string_bytes s ≡ outer.now ++ repeated count single.now) }
+{
+    let mut text = String::from_str(alloc, outer)?;
+    for _time in 0..count {
+        text.push_str(single)?;
+    }
+    Ok(text)
+}
+
+// The indents so many levels further in than a line with this indent.
+fn levels_in<A: Allocator + Copy>(
+    alloc: A,
+    outer: &str,
+    count: usize,
+    single: &str,
+) -> Result<Indents<A>, AllocError>
+    ensures { IfOk result (λ i. texts_of i ≡ levels_in outer.now count single.now) }
+{
+    let current = followed_by(alloc, outer, count, single)?;
+    let single = String::from_str(alloc, single)?;
+    Ok(Indents { current, single })
+}
+
+// The indents that two lines next to one another tell, of a node of the row and the levels above it.
+fn told_inside<A: Allocator + Copy>(
+    alloc: A,
+    tree: &Tree<A>,
+    object: usize,
+    row: &[usize],
+    node: usize,
+) -> Result<Option<Indents<A>>, AllocError>
+    requires { object < length tree.now.nodes }
+    ensures { IfOk result (λ o. option_map texts_of o ≡ told_inside tree.now.nodes object row.now node) }
+{
+    let levels = levels_inside(alloc, tree, object)?;
+    let mut held = indent_in(alloc, tree, row, node)?;
+    for place in 0..levels.len() {
+        let outer = indent_text(alloc, tree, levels[place])?;
+        if let Some(single) = more_of(&held, &outer) {
+            let told = levels_in(alloc, held_text(&held), place, single)?;
+            return Ok(Some(told));
+        }
+        held = held_after(held, outer);
+    }
+    Ok(None)
+}
+
+// The first indent in the document's value, where an object that is to have a row stands in the document.
+fn document_indent<A: Allocator + Copy>(
+    alloc: A,
+    tree: &Tree<A>,
+    object: usize,
+    row: &[usize],
+) -> Result<Option<String<A>>, AllocError>
+    requires { object < length tree.now.nodes }
+    ensures { IfOk result (λ o. text_in o ≡ document_indent tree.now.nodes object row.now) }
+{
+    let _ = tree.len();
+    if !is_in_document(tree, object) {
+        return Ok(None);
+    }
+    let Some(value) = first_element_from(tree, 0, 0) else {
+        return Ok(None);
+    };
+    if value == object {
+        return first_indent(alloc, tree, row);
+    }
+    let others = children(alloc, tree, value)?;
+    first_indent(alloc, tree, &others)
+}
+
+// What one level adds, where no two lines tell: the indent of a node of the row where one level is above
+// it, the document's, or two spaces.
+fn single_inside<A: Allocator + Copy>(
+    alloc: A,
+    tree: &Tree<A>,
+    object: usize,
+    row: &[usize],
+    node: usize,
+    count: usize,
+) -> Result<String<A>, AllocError>
+    requires there { object < length tree.now.nodes }
+    requires count { count ≡ length (levels_inside tree.now.nodes object) }
+    ensures { IfOk result (λ s. string_bytes s ≡ single_inside tree.now.nodes object row.now node) }
+{
+    if count == 1 {
+        if let Some(own) = indent_in(alloc, tree, row, node)? {
+            return Ok(own);
+        }
+    }
+    if let Some(first) = document_indent(alloc, tree, object, row)? {
+        return Ok(first);
+    }
+    String::from_str(alloc, "  ")
+}
+
+/// The indents at a node of a row that an object is to have: as at a node by its number, but that its line
+/// is read in the row.
+pub(crate) fn indents_beside<A: Allocator + Copy>(
+    alloc: A,
+    tree: &Tree<A>,
+    object: usize,
+    row: &[usize],
+    node: usize,
+) -> Result<Indents<A>, AllocError>
+    requires there { object < length tree.now.nodes }
+    ensures indents { IfOk result (λ i. texts_of i ≡ indents_beside tree.now.nodes object row.now node) }
+{
+    if let Some(told) = told_inside(alloc, tree, object, row, node)? {
+        return Ok(told);
+    }
+    let levels = levels_inside(alloc, tree, object)?;
+    let single = single_inside(alloc, tree, object, row, node, levels.len())?;
+    levels_in(alloc, "", levels.len(), single.as_str())
+}

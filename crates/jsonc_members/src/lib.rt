@@ -1,0 +1,22 @@
+//! Properties that come into objects, by the numbers of nodes.
+//!
+//! An object is put on several lines before a property comes in, unless a line ends in it already
+//! (`specs/Opened.antt`), and blank lines directly inside its brackets leave. The row that is left is never
+//! built: its nodes are the object's children and leaves that are nobody's children yet. Of that row the
+//! document tells how lines end, the indents and the trailing commas (`specs/Told.antt`); a plan says where
+//! the property comes and what is written beside it. The property and the leaves beside it are made, and
+//! then all take their places at once (`specs/Inserted.antt`), so a refusal leaves the document as it was.
+//!
+//! [`insert_property`] does so with a name, a value and a number; a number past the end means the end.
+//! `specs/Worked.antt` has worked insertions. That the text is a document again, with the property in its
+//! place, is still to be proved.
+#![tactic(auto)]
+
+pub mod laws;
+mod levels;
+mod made;
+mod members;
+mod opened;
+mod settings;
+
+pub use members::insert_property;
