@@ -82,17 +82,43 @@ module _ (old lined : List Node) (tree : IsTree old) (c : ℕ) (was : List ℕ) 
   pub before_brackets : has_brackets lined was ≡ true
   before_brackets = subst (λ l. has_brackets lined l ≡ true) (sym b.is) (trimmed_brackets lined b.lines b.opens.brackets)
 
+-- the nodes of the row that it has then
+module _ (old lined ready : List Node) (tree : IsTree old) (c : ℕ) (there : c < length old) (was : List ℕ) (b : IsBefore old lined c was) (p : Prepared lined ready) (i : ℕ) (name : List ℕ) (v : Plain) (m : ℕ) (row : List ℕ) (r : RowMade lined ready c was i name v m row) where
+  pub prepared_all : Prepared old ready
+  prepared_all = record { keeps = keeps_then old lined ready b.opens.prepared.keeps p.keeps; tree = p.tree }
+
+  abbrev Stands : ℕ → Type 0
+  Stands n = IsOfRow old ready c n
+
+  of_row : (n : ℕ) → IsOfRow old lined c n → Stands n
+  of_row n (inl said) = inl said
+  of_row n (inr f) = inr (record { later = f.later; there = omega (arith, f.there, p.keeps.len); alone = p.keeps.parent n f.there ∙ f.alone })
+
+  of_new : (n : ℕ) → IsFresh lined ready n → Stands n
+  of_new n f = inr (record { later = omega (arith, f.later, b.opens.prepared.keeps.len); there = f.there; alone = f.alone })
+
+  row_once : EachOnce row
+  row_once =
+      let plan = plan_inside lined c was i in
+      subst EachOnce (sym r.is) (once_put lined ready was (before_there old lined tree c was b) (before_once old lined tree c was b) plan.place r.comma (r.before ++ m ∷ r.behind) r.made.fresh plan.comma)
+
+  pub row_stands : All Stands row
+  row_stands =
+      let plan = plan_inside lined c was i in
+      let kept : All Stands was = λ k d h. of_row (get_or was k d) (before_of_row old lined tree c was b k d h) in
+      subst (All Stands) (sym r.is) (all_put lined ready was (before_there old lined tree c was b) (before_once old lined tree c was b) plan.place r.comma (r.before ++ m ∷ r.behind) r.made.fresh Stands kept of_new plan.comma)
+
+  pub joins : CanJoin ready c 0 (length (children_at old c)) row
+  joins = may_join old ready tree prepared_all c there row row_once row_stands
+
 -- all that was made stays ready while there is more room, and then takes its place
 module _ (old lined made ready : List Node) (tree : IsTree old) (c : ℕ) (there : c < length old) (was : List ℕ) (b : IsBefore old lined c was) (p : Prepared lined made) (room : MakesRoom made ready) (after : IsTree ready)
     (i : ℕ) (name : List ℕ) (v : Plain) (m : ℕ) (row : List ℕ) (r : RowMade lined made c was i name v m row) where
   keeps : Keeps (length made) made ready
   keeps = Keeps-room (length made) made ready room
 
-  pub prepared : Prepared lined ready
+  prepared : Prepared lined ready
   prepared = record { keeps = keeps_then lined made ready p.keeps keeps; tree = after }
-
-  pub prepared_all : Prepared old ready
-  prepared_all = record { keeps = keeps_then old lined ready b.opens.prepared.keeps prepared.keeps; tree = after }
 
   row_made : RowMade lined ready c was i name v m row
   row_made = record {
@@ -103,39 +129,15 @@ module _ (old lined made ready : List Node) (tree : IsTree old) (c : ℕ) (there
     is = r.is;
   }
 
-  abbrev Stands : ℕ → Type 0
-  Stands n = IsOfRow old ready c n
-
-  of_row : (n : ℕ) → IsOfRow old lined c n → Stands n
-  of_row n (inl said) = inl said
-  of_row n (inr f) = inr (record { later = f.later; there = omega (arith, f.there, prepared.keeps.len); alone = prepared.keeps.parent n f.there ∙ f.alone })
-
-  of_new : (n : ℕ) → IsFresh lined ready n → Stands n
-  of_new n f = inr (record { later = omega (arith, f.later, b.opens.prepared.keeps.len); there = f.there; alone = f.alone })
-
-  abbrev written : List ℕ
-  written = r.before ++ m ∷ r.behind
-
-  row_once : EachOnce row
-  row_once =
-      let plan = plan_inside lined c was i in
-      subst EachOnce (sym r.is) (once_put lined ready was (before_there old lined tree c was b) (before_once old lined tree c was b) plan.place r.comma written row_made.made.fresh plan.comma)
-
-  row_stands : All Stands row
-  row_stands =
-      let plan = plan_inside lined c was i in
-      let kept : All Stands was = λ k d h. of_row (get_or was k d) (before_of_row old lined tree c was b k d h) in
-      subst (All Stands) (sym r.is) (all_put lined ready was (before_there old lined tree c was b) (before_once old lined tree c was b) plan.place r.comma written row_made.made.fresh Stands kept of_new plan.comma)
-
-  joins : CanJoin ready c 0 (length (children_at old c)) row
-  joins = may_join old ready tree prepared_all c there row row_once row_stands
+  takes : CanJoin ready c 0 (length (children_at old c)) row
+  takes = joins old lined ready tree c there was b prepared i name v m row row_made
 
   module _ (count : ℕ) (all : count ≡ length (children_at old c)) (given : List ℕ) (same : given ≡ row) where
     pub within : count ≤ length (children_at ready c)
-    within = omega (arith, all, ap length (prepared_all.keeps.children c there))
+    within = let kept = prepared_all old lined ready tree c there was b prepared i name v m row row_made in omega (arith, all, ap length (kept.keeps.children c there))
 
     pub can_join : CanJoin ready c 0 count given
-    can_join = subst (λ k. CanJoin ready c 0 k given) (sym all) (subst (CanJoin ready c 0 (length (children_at old c))) (sym same) joins)
+    can_join = subst (λ k. CanJoin ready c 0 k given) (sym all) (subst (CanJoin ready c 0 (length (children_at old c))) (sym same) takes)
 
     pub put_so : (new : List Node) → IsTree new → Splices ready new c 0 count given → PropertyPut old new c i name v m
     put_so new done put = record {
@@ -146,7 +148,7 @@ module _ (old lined made ready : List Node) (tree : IsTree old) (c : ℕ) (there
       row = row;
       prepared = prepared;
       made = row_made;
-      join = joins;
+      join = takes;
       put = subst (λ k. Splices ready new c 0 k row) all (subst (Splices ready new c 0 count) same put);
       tree = done;
     }

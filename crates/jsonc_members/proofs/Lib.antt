@@ -1,3 +1,4 @@
 pub mod Opening
 pub mod Making
 pub mod Joining
+pub mod Elements
