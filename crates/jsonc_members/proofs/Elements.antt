@@ -166,7 +166,7 @@ module _ (ns : List Node) (row : List ℕ) (brackets : has_brackets ns row ≡ t
   two = has_two ns row brackets
 
   no_element : (n : ℕ) → is_token (content_at ns n) ≡ true → is_element_at ns n ≡ false
-  no_element n e = elim (cases_Bool (is_element_at ns n)) [ inl yes ↦ absurd (token_no_element (content_at ns n) e yes) | inr no ↦ no ]
+  no_element n e = elim (cases_Bool (is_element_at ns n)) [ inl was ↦ absurd (token_no_element (content_at ns n) e was) | inr other ↦ other ]
 
   parts : (inner : List ℕ) → elements ns (front ∷ (inner ++ back ∷ [])) ≡ elements ns inner
   parts inner =
@@ -181,7 +181,7 @@ module _ (ns : List Node) (row : List ℕ) (brackets : has_brackets ns row ≡ t
       let inner : List ℕ = drop 1 row in
       let count : ℕ = length row - 1 - 1 in
       let last : drop count inner ≡ back ∷ [] =
-      drop_more inner count 0 (omega (arith, two, length-drop 1 row)) ∙ ap (λ l. slice_index inner count ∷ l) (drop_all inner (count + 1) (omega (arith, two, length-drop 1 row)))
+      drop_more inner count 0 (omega (arith, two, length-drop 1 row)) ∙ ap (λ l. slice_index inner count ∷ l) (drop_all (count + 1) inner (omega (arith, two, length-drop 1 row)))
       ∙ ap (λ n. n ∷ []) (get_or-drop 1 row count 0 ∙ ap (slice_index row) (omega (arith, two))) in
       one ∙ ap (λ l. front ∷ l) (sym (take-append-drop count inner) ∙ ap (λ l. take count inner ++ l) last)
 

@@ -57,9 +57,12 @@ module _ (lined ready : List Node) (was : List ℕ) (there : All (λ n. n < leng
   once_put None = once_wide
   once_put (Some at) = once_with_at InComma (λ n. InComma n → ⊥) (λ n w never. never w) at comma (with_at place written was) comma_in comma_out (once_left comma written fresh.once) once_wide
 
+  all_wide : (P : ℕ → Type 0) → All P was → ((n : ℕ) → New n → P n) → All P (with_at place written was)
+  all_wide P old new = all_with_at P place written was (λ k d h. new (get_or written k d) (new_written k d h)) old
+
   pub all_put : (P : ℕ → Type 0) → All P was → ((n : ℕ) → New n → P n) → (o : Option ℕ) → All P (with_comma o comma (with_at place written was))
-  all_put P old new None = all_with_at P place written was (λ k d h. new (get_or written k d) (new_written k d h)) old
-  all_put P old new (Some at) = all_with_at P at comma (with_at place written was) (λ k d h. new (get_or comma k d) (new_comma k d h)) (all_put P old new None)
+  all_put P old new None = all_wide P old new
+  all_put P old new (Some at) = all_with_at P at comma (with_at place written was) (λ k d h. new (get_or comma k d) (new_comma k d h)) (all_wide P old new)
 
 -- the row that an object has before a property comes in
 module _ (old lined : List Node) (tree : IsTree old) (c : ℕ) (was : List ℕ) (b : IsBefore old lined c was) where

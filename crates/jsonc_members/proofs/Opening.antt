@@ -1,5 +1,5 @@
 -- The row of an object on several lines: its brackets, and what stands between them.
-use Rattle.std.proofs.Common.{◌≡◌, ◌≢◌, ◌<◌, ◌≤◌, ◌+◌, ◌-◌, ◌&&◌, inl, inr, ℕ, Bool, true, false, cond, List, [], ◌∷◌, ◌++◌, All, length, map, reverse, get_or, slice_index, nat_lt, Some, IsTrue, refl, sym, ap, subst, ◌∙◌, arith, length-append}
+use Rattle.std.proofs.Common.{◌≡◌, ◌≢◌, ◌<◌, ◌≤◌, ◌+◌, ◌-◌, ◌&&◌, inl, inr, ℕ, Bool, true, false, cond, List, [], ◌∷◌, ◌++◌, All, length, map, reverse, get_or, slice_index, nat_lt, Some, IfOk, IsTrue, Result, Ok, Err, refl, sym, ap, subst, ◌∙◌, arith, length-append}
 use Rattle.std.proofs.lemmas.Bool.{cases_Bool, ltb-true, false≢true}
 use Rattle.std.proofs.lemmas.List.{get_or-reverse, length-reverse}
 use Rattle.std.proofs.lemmas.List.Elements.{All-append, All-cons, All-from_get_or, All-nil}
@@ -22,6 +22,11 @@ use Rattle.jsonc_insert.specs.Planned.{has_brackets, is_token}
 use Rattle.jsonc_insert.proofs.Once.{apart_by, once_append}
 use Rattle.jsonc_insert.proofs.Trimming.{front_token, has_two}
 use Rattle.jsonc_members.specs.Opened.{enclosed, opened, IsOfRow, IsOpened}
+
+-- what holds where a call answers
+pub where_ok : {V E : Type 0} (P Q : V → Type 0) (r : Result V E) → ((v : V) → P v → Q v) → IfOk r P → IfOk r Q
+where_ok P Q (Ok v) f h = f v h
+where_ok P Q (Err e) f h = tt
 
 -- a row has brackets where its first and its last node are tokens, and two
 not_less : (xs : List ℕ) → 2 ≤ length xs → nat_lt (length xs) 2 ≡ false
@@ -72,7 +77,7 @@ pub brackets_there : (ns : List Node) (c : ℕ) → has_brackets ns (children_at
 brackets_there ns c e =
     let row = children_at ns c in
     let two = has_two ns row e in
-    let back : slice_index (reverse row) 0 ≡ slice_index row (length row - 1) = get_or-reverse row 0 0 (omega (arith, two)) in
+    let back : slice_index (reverse row) 0 ≡ slice_index row (length row - 1) = get_or-reverse row 0 0 (omega (arith, two)) ∙ ap (slice_index row) (omega arith) in
     both_true (removed.has_two row) _ (two_is row two)
     (both_true (removed.is_token_at ns (first row)) (removed.is_token_at ns (first (reverse row))) (first_is ns row (omega (arith, two)) ∙ sym (same_token (content_at ns (slice_index row 0))) ∙ front_token ns row e)
     (first_is ns (reverse row) (omega (arith, two, length-reverse row)) ∙ ap (λ n. removed.is_token (content_at ns n)) back ∙ sym (same_token (content_at ns (slice_index row (length row - 1)))) ∙ back_token ns row e))
@@ -101,6 +106,10 @@ module _ (old : List Node) (tree : IsTree old) (c : ℕ) where
         once = λ a b ha hb e. sym (tree.placed c a ha) ∙ ap (place_at old) e ∙ tree.placed c b hb;
         brackets = brackets;
       })
+
+  -- a row between its first and last node
+  pub enclosed_as : (row inside xs : List ℕ) (v : List ℕ) → row ≡ kids → inside ≡ xs → v ≡ slice_index row 0 ∷ (inside ++ slice_index row (length row - 1) ∷ []) → v ≡ slice_index kids 0 ∷ (xs ++ slice_index kids (length kids - 1) ∷ [])
+  enclosed_as row inside xs v e f h = h ∙ ap (λ (l : List ℕ). slice_index l 0 ∷ (inside ++ slice_index l (length l - 1) ∷ [])) e ∙ ap (λ l. slice_index kids 0 ∷ (l ++ slice_index kids (length kids - 1) ∷ [])) f
 
   -- one of several lines, between the brackets
   module _ (lined : List Node) (slots : List Slot) (inside : List ℕ) (brackets : has_brackets old kids ≡ true) (p : PlannedRow old lined c slots inside) where
