@@ -155,3 +155,10 @@ module _ (old lined made ready : List Node) (tree : IsTree old) (c : ℕ) (there
       put = subst (λ k. Splices ready new c 0 k row) all (subst (Splices ready new c 0 count) same put);
       tree = done;
     }
+
+-- all was made in two steps, and nothing that was there has changed
+pub kept_twice : (old lined made : List Node) → Prepared old lined → Prepared lined made → Keeps (length old) old made
+kept_twice old lined made first second = keeps_then old lined made first.keeps second.keeps
+
+pub kept_with_room : (old lined made ready : List Node) → Prepared old lined → Prepared lined made → MakesRoom made ready → Keeps (length old) old ready
+kept_with_room old lined made ready first second room = keeps_then old made ready (kept_twice old lined made first second) (Keeps-room (length made) made ready room)
