@@ -32,7 +32,7 @@ module _ (ns : List Node) (row : List ℕ) where
           let at : length (elements ns row) - 1 ≡ j = omega (arith, lt, h) in
           ap (λ w. option_or w (last_element ns row)) (ap (slice_get (elements ns row)) (sym at) ∙ last.1) ∙ sym e
 
-  same_plan : (several commas : Bool) (i j : ℕ) → length (elements ns row) ≤ i → length (elements ns row) ≤ j → planned ns several commas row i ≡ planned ns several commas row j
+  pub same_plan : (several commas : Bool) (i j : ℕ) → length (elements ns row) ≤ i → length (elements ns row) ≤ j → planned ns several commas row i ≡ planned ns several commas row j
   same_plan several commas i j h k =
       ap (plan_by ns several commas row i) (before_is_last i h) ∙ by (last_element ns row) ∙ sym (ap (plan_by ns several commas row j) (before_is_last j k))
     where

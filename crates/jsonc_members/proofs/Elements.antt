@@ -66,7 +66,7 @@ blank_no_element (content.whitespace s) e = refl
 blank_no_element c e = cc
 
 -- what passes from a place on is what a row ends with
-suffix_passes : (p : ℕ → Bool) (row : List ℕ) (i : ℕ) → length row - suffix_len p row ≤ i → i < length row → p (slice_index row i) ≡ true
+pub suffix_passes : (p : ℕ → Bool) (row : List ℕ) (i : ℕ) → length row - suffix_len p row ≤ i → i < length row → p (slice_index row i) ≡ true
 suffix_passes p row i low high =
     let place : length row - 1 - (length row - 1 - i) ≡ i = omega (arith, high) in
     let found = get_or-reverse row (length row - 1 - i) 0 (omega (arith, high)) ∙ ap (slice_index row) place in
@@ -130,7 +130,7 @@ module _ (lines : Lines) (ns : List Node) where
   are_woven : (row : List ℕ) → on_lines lines ns row ≡ woven lines ns true (without_back ns row) ++ last_line lines
   are_woven row = ap (λ l. l ++ last_line lines) (both_woven lines ns (without_back ns row)).0
 
-  lines_stay : (row : List ℕ) → staying (on_lines lines ns row) ≡ staying (woven lines ns true (without_back ns row))
+  pub lines_stay : (row : List ℕ) → staying (on_lines lines ns row) ≡ staying (woven lines ns true (without_back ns row))
   lines_stay row =
       ap staying (are_woven row) ∙ staying_append (woven lines ns true (without_back ns row)) (last_line lines) ∙ ap (λ l. staying (woven lines ns true (without_back ns row)) ++ l) last_stays
       ∙ append-nil (staying (woven lines ns true (without_back ns row)))
@@ -175,8 +175,8 @@ module _ (ns : List Node) (row : List ℕ) (brackets : has_brackets ns row ≡ t
       ∙ ap (λ b. elements ns inner ++ cond b (back ∷ []) []) (no_element back (back_token ns row brackets))
       ∙ append-nil (elements ns inner)
 
-  whole : row ≡ front ∷ (between row ++ back ∷ [])
-  whole =
+  pub whole_row : row ≡ front ∷ (between row ++ back ∷ [])
+  whole_row =
       let one = drop_more row 0 0 (omega (arith, two)) in
       let inner : List ℕ = drop 1 row in
       let count : ℕ = length row - 1 - 1 in
@@ -186,7 +186,7 @@ module _ (ns : List Node) (row : List ℕ) (brackets : has_brackets ns row ≡ t
       one ∙ ap (λ l. front ∷ l) (sym (take-append-drop count inner) ∙ ap (λ l. take count inner ++ l) last)
 
   pub between_elements : elements ns (between row) ≡ elements ns row
-  between_elements = sym (parts (between row)) ∙ sym (ap (elements ns) whole)
+  between_elements = sym (parts (between row)) ∙ sym (ap (elements ns) whole_row)
 
   pub enclosed_stay : (slots : List Slot) → staying (enclosed row slots) ≡ front ∷ (staying slots ++ back ∷ [])
   enclosed_stay slots = ap (λ l. front ∷ l) (staying_append slots (stays back ∷ []))

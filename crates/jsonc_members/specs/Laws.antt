@@ -23,7 +23,7 @@ ChangesOneRow old new c i name v m =
 -- no more than the last place is asked for: past the end all numbers do the same
 abbrev pub PastTheEnd : List Node → List Node → ℕ → ℕ → ℕ → List ℕ → Plain → ℕ → Type 0
 PastTheEnd old new c i j name v m =
-    IsTree old → has_brackets old (children_at old c) ≡ true → length (elements_at old c) ≤ i → length (elements_at old c) ≤ j
+    IsTree old → c < length old → has_brackets old (children_at old c) ≡ true → length (elements_at old c) ≤ i → length (elements_at old c) ≤ j
     → PropertyPut old new c i name v m → PropertyPut old new c j name v m
 
 -- a child of the object is one still, or it is whitespace or the end of a line, and is nobody's child now

@@ -1,6 +1,8 @@
 //! Laws of properties that come into objects: each is the contract of a function that does nothing.
-ghost use Rattle.std.specs.Prelude.{◌≡◌, codes};
-ghost use Rattle.jsonc_text.specs.Plain as plain;
+ghost use Rattle.std.specs.Prelude.{◌≡◌, List, ℕ, codes};
+ghost use Rattle.jsonc_text.specs.Plain.{Plain};
+ghost use Rattle.jsonc_tree.specs.Tree.{Node};
+ghost use Rattle.jsonc_members.specs.Laws.{ChangesOneRow, LosesBlanksAlone, PastTheEnd, TakesItsNumber};
 ghost use Rattle.jsonc_members.specs.Worked.{b, c_is_two, commented, empty_inside, on_one_line, text_with, two, with_comma};
 
 /// Worked insertions into objects on one line: what they print with one more property.
@@ -15,4 +17,26 @@ pub fn worked_on_lines()
     ensures comma { text_with with_comma 1 1 b two ≡ codes "{\n  \"a\":1,\n  \"b\": 2,\n}" }
     ensures inner { text_with empty_inside 6 0 b two ≡ codes "{\n\t\t\"b\": 2\n\t}" }
     ensures object { text_with empty_inside 1 1 b c_is_two ≡ codes "{\n\t\"a\":{},\n\t\"b\": {\n\t\t\"c\": 2\n\t}\n}" }
+{}
+
+/// Where a property has come into an object, the object's row is the new one, and every other node is what
+/// it was; and the new node is the property of the number that was asked for, or the last one where there
+/// were fewer.
+pub fn properties_come_in()
+    ensures row { (old new : List Node) (c i : ℕ) (name : List ℕ) (v : Plain) (m : ℕ)
+        → ChangesOneRow old new c i name v m }
+    ensures number { (old new : List Node) (c i : ℕ) (name : List ℕ) (v : Plain) (m : ℕ)
+        → TakesItsNumber old new c i name v m }
+{}
+
+/// Behind the last property all numbers do the same, so that each of them appends.
+pub fn numbers_past_the_end_append()
+    ensures { (old new : List Node) (c i j : ℕ) (name : List ℕ) (v : Plain) (m : ℕ)
+        → PastTheEnd old new c i j name v m }
+{}
+
+/// Of the object's children only whitespace and ends of lines leave; what leaves is nobody's child then.
+pub fn blanks_alone_leave()
+    ensures { (old new : List Node) (c i : ℕ) (name : List ℕ) (v : Plain) (m : ℕ)
+        → LosesBlanksAlone old new c i name v m }
 {}
