@@ -5,3 +5,5 @@ pub mod Elements
 pub mod Numbering
 pub mod Past
 pub mod Leaving
+pub mod Spreading
+pub mod Changing

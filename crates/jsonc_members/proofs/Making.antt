@@ -65,3 +65,9 @@ module _ (old a b : List Node) (layout : Layout) (outer : List ℕ) (plan : Plan
     leads = contents_kept a b keeps before (λ k h. (beside.0 k 0 h).there) ∙ made.leads;
     ends = contents_kept a b keeps behind (λ k h. (beside.1 (suc k) 0 (omega (arith, h))).there) ∙ made.ends;
   }
+
+-- the property is new
+pub property_is_new : (old a : List Node) (layout : Layout) (outer : List ℕ) (plan : Plan) (name : List ℕ) (v : Plain) (m : ℕ) (comma before behind : List ℕ) → PropertyMade old a layout outer plan name v m comma before behind → IsFresh old a m
+property_is_new old a layout outer plan name v m comma before behind made =
+    let written = (all_parts comma (before ++ m ∷ behind) made.fresh.once (IsFresh old a) made.fresh.each).1 in
+    (all_parts before (m ∷ behind) (once_right comma (before ++ m ∷ behind) made.fresh.once) (IsFresh old a) (λ k h. written k 0 h)).1 0 0 (omega arith)

@@ -83,9 +83,9 @@ brackets_there ns c e =
     (first_is ns (reverse row) (omega (arith, two, length-reverse row)) ∙ ap (λ n. removed.is_token (content_at ns n)) back ∙ sym (same_token (content_at ns (slice_index row (length row - 1)))) ∙ back_token ns row e))
 
 -- a row that stays
-filled_stays : (ns : List Node) (xs : List ℕ) → AreFilled ns ns (map stays xs) xs
-filled_stays ns [] = no_more
-filled_stays ns (x ∷ xs) = stayed (filled_stays ns xs)
+pub filled_as : (old now : List Node) (xs : List ℕ) → AreFilled old now (map stays xs) xs
+filled_as old now [] = no_more
+filled_as old now (x ∷ xs) = stayed (filled_as old now xs)
 
 filled_more : (old now : List Node) (n : ℕ) (slots : List Slot) (row : List ℕ) → AreFilled old now slots row → AreFilled old now (slots ++ stays n ∷ []) (row ++ n ∷ [])
 filled_more old now n _ _ no_more = stayed no_more
@@ -101,7 +101,7 @@ module _ (old : List Node) (tree : IsTree old) (c : ℕ) where
       subst (IsOpened old old c) (sym is)
       (record {
         prepared = record { keeps = Keeps-same (length old) old; tree = tree };
-        filled = subst (λ l. AreFilled old old l kids) (sym (ap (λ b. cond b (map stays kids) (enclosed kids (spread_row (lines_for old c) old c))) ended)) (filled_stays old kids);
+        filled = subst (λ l. AreFilled old old l kids) (sym (ap (λ b. cond b (map stays kids) (enclosed kids (spread_row (lines_for old c) old c))) ended)) (filled_as old old kids);
         from = All-from_get_or (IsOfRow old old c) kids 0 (λ k h. inl (tree.named c k h));
         once = λ a b ha hb e. sym (tree.placed c a ha) ∙ ap (place_at old) e ∙ tree.placed c b hb;
         brackets = brackets;

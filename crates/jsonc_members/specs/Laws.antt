@@ -1,13 +1,25 @@
 -- Laws of properties that come in: which nodes change, and where the new one stands.
-use Rattle.std.specs.Prelude.{◌≡◌, ◌≤◌, ◌<◌, ◌⊎◌, ℕ, true, List, length, min, Some, None}
+use Rattle.std.specs.Prelude.{◌≡◌, ◌≤◌, ◌<◌, ◌⊎◌, ℕ, true, List, [], ◌∷◌, ◌++◌, length, min, Some, None}
+use Rattle.jsonc_text.specs.Options.{Options}
 use Rattle.jsonc_text.specs.Plain.{Plain}
-use Rattle.jsonc_tree.specs.Tree.{Node, parent_at, children_at, IsTree}
+use Rattle.jsonc_tree.specs.Content.{object, token}
+use Rattle.jsonc_tree.specs.OrderedTree.{OrderedTree, ordered_tree, Shows}
+use Rattle.jsonc_tree.specs.Tree.{Node, content_at, parent_at, children_at, IsTree}
 use Rattle.jsonc_nodes.specs.Siblings.{elements_at}
-use Rattle.jsonc_edit.specs.Paths.{IsElementOf}
+use Rattle.jsonc_from_input.specs.Laid.{laid_property}
+use Rattle.jsonc_laws.specs.Rows.{of_properties}
+use Rattle.jsonc_laws.specs.SoundTrees.{SoundTree}
+use Rattle.jsonc_edit.specs.Changes.{top_at, ChangesAt}
+use Rattle.jsonc_edit.specs.Paths.{IsAt, IsElementOf}
+use Rattle.jsonc_edit.specs.declared.error.EditError.TheVariants.{OutOfMemory}
+use Rattle.jsonc_insert.specs.Inserted.{refusal}
 use Rattle.jsonc_insert.specs.Laws.{KeepsNodesBut}
 use Rattle.jsonc_insert.specs.Planned.{has_brackets}
 use Rattle.jsonc_insert.specs.Trimmed.{is_blank_at}
+use Rattle.jsonc_multiline.specs.Laws.{bracketed}
+use Rattle.jsonc_multiline.specs.Reflows.{SpreadsOut}
 use Rattle.jsonc_members.specs.Inserted.{PropertyPut}
+use Rattle.jsonc_members.specs.Told.{layout_inside}
 
 -- the new node is the property of this number, or the last where there were fewer
 abbrev pub TakesItsNumber : List Node → List Node → ℕ → ℕ → List ℕ → Plain → ℕ → Type 0
@@ -31,3 +43,37 @@ abbrev pub LosesBlanksAlone : List Node → List Node → ℕ → ℕ → List �
 LosesBlanksAlone old new c i name v m =
     IsTree old → c < length old → has_brackets old (children_at old c) ≡ true → PropertyPut old new c i name v m
     → (n : ℕ) → parent_at old n ≡ Some c → (parent_at new n ≡ Some c) ⊎ ((is_blank_at old n ≡ true) × (parent_at new n ≡ None))
+
+-- The row that c had before the property came is its row spread out: what stood between its brackets had the end of a line in it, or has been put on several lines.
+pub record IsSpreadFirst (old lined : List Node) (c : ℕ) (lines : List ℕ) : Type 0 where
+  pub open_with : ℕ
+  pub inner : List ℕ
+  pub last : ℕ
+  pub are : lines ≡ open_with ∷ (inner ++ last ∷ [])
+  pub opens : content_at lined open_with ≡ token 0x7B
+  pub closes : content_at lined last ≡ token 0x7D
+  pub row : OrderedTree
+  pub spread : OrderedTree
+  pub was : top_at old c ≡ bracketed of_properties row
+  pub shown : Shows lined inner spread
+  pub spreads : SpreadsOut row spread
+
+-- so it is in an object at a path of a sound document
+abbrev pub SpreadsFirst : Options → List Node → List Node → List ℕ → ℕ → ℕ → List ℕ → Plain → ℕ → Type 0
+SpreadsFirst o old new path c i name v m =
+    IsTree old → SoundTree o (ordered_tree old 0) → IsAt old path c → content_at old c ≡ object → (e : PropertyPut old new c i name v m)
+    → IsSpreadFirst old e.lined c e.before.lines
+
+-- such an object has its brackets, so nothing is refused but for want of memory
+abbrev pub WantsMemoryAlone : Options → List Node → List ℕ → ℕ → Type 0
+WantsMemoryAlone o ns path c =
+    IsTree ns → SoundTree o (ordered_tree ns 0) → IsAt ns path c → content_at ns c ≡ object
+    → (has_brackets ns (children_at ns c) ≡ true) × (refusal ns c ≡ OutOfMemory)
+
+-- nothing outside of the object changes
+abbrev pub ChangesObjectAlone : List Node → List Node → ℕ → ℕ → List ℕ → Plain → ℕ → Type 0
+ChangesObjectAlone old new c i name v m = IsTree old → c < length old → PropertyPut old new c i name v m → ChangesAt old new c (top_at new c)
+
+-- the new node is the property of this name and value, laid out as the row tells that it comes into
+abbrev pub IsTheProperty : List Node → List Node → ℕ → ℕ → List ℕ → Plain → ℕ → Type 0
+IsTheProperty old new c i name v m = IsTree old → c < length old → (e : PropertyPut old new c i name v m) → top_at new m ≡ laid_property (layout_inside e.lined c e.was) name v

@@ -1,8 +1,10 @@
 //! Laws of properties that come into objects: each is the contract of a function that does nothing.
 ghost use Rattle.std.specs.Prelude.{◌≡◌, List, ℕ, codes};
+ghost use Rattle.jsonc_text.specs.Options.{Options};
 ghost use Rattle.jsonc_text.specs.Plain.{Plain};
 ghost use Rattle.jsonc_tree.specs.Tree.{Node};
-ghost use Rattle.jsonc_members.specs.Laws.{ChangesOneRow, LosesBlanksAlone, PastTheEnd, TakesItsNumber};
+ghost use Rattle.jsonc_members.specs.Laws.{ChangesObjectAlone, ChangesOneRow, IsTheProperty, LosesBlanksAlone};
+ghost use Rattle.jsonc_members.specs.Laws.{PastTheEnd, SpreadsFirst, TakesItsNumber, WantsMemoryAlone};
 ghost use Rattle.jsonc_members.specs.Worked.{b, c_is_two, commented, empty_inside, on_one_line, text_with, two, with_comma};
 
 /// Worked insertions into objects on one line: what they print with one more property.
@@ -39,4 +41,22 @@ pub fn numbers_past_the_end_append()
 pub fn blanks_alone_leave()
     ensures { (old new : List Node) (c i : ℕ) (name : List ℕ) (v : Plain) (m : ℕ)
         → LosesBlanksAlone old new c i name v m }
+{}
+
+/// Nothing outside of the object changes, and the node that is answered is the property of the name and
+/// the value.
+pub fn objects_change_alone()
+    ensures object { (old new : List Node) (c i : ℕ) (name : List ℕ) (v : Plain) (m : ℕ)
+        → ChangesObjectAlone old new c i name v m }
+    ensures property { (old new : List Node) (c i : ℕ) (name : List ℕ) (v : Plain) (m : ℕ)
+        → IsTheProperty old new c i name v m }
+{}
+
+/// Where a property has come into an object at a path of a sound document, the object was put on several
+/// lines before, unless a line ended in it already. Such an object has its brackets, so nothing but want of
+/// memory keeps a property from coming in.
+pub fn objects_are_spread_first()
+    ensures spread { (o : Options) (old new : List Node) (path : List ℕ) (c i : ℕ) (name : List ℕ) (v : Plain) (m : ℕ)
+        → SpreadsFirst o old new path c i name v m }
+    ensures memory { (o : Options) (ns : List Node) (path : List ℕ) (c : ℕ) → WantsMemoryAlone o ns path c }
 {}

@@ -1,0 +1,8 @@
+use Rattle.jsonc_members.proofs.Spreading.{spreads_first, wants_memory_alone}
+use Rattle.jsonc_members.proofs.laws.objects_are_spread_first.Goals as goal
+
+pub returns-clause-spread : goal.returns-clause-spread
+returns-clause-spread c = spreads_first
+
+pub returns-clause-memory : goal.returns-clause-memory
+returns-clause-memory c = wants_memory_alone
