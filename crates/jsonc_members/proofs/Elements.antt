@@ -1,6 +1,6 @@
 -- A row on several lines has the elements that it had.
-use Rattle.std.proofs.Common.{◌≡◌, ◌<◌, ◌≤◌, ◌+◌, ◌-◌, ◌⊎◌, inl, inr, ℕ, suc, Bool, true, false, cond, List, [], ◌∷◌, ◌++◌, All, length, filter, map, take, drop, reverse, slice_index, slice_range, refl, sym, ap, subst, ◌∙◌, arith, append-nil, length-drop, get_or-drop}
-use Rattle.std.specs.List.{flat_map, suffix_len}
+use Rattle.std.proofs.Common.{◌≡◌, ◌<◌, ◌≤◌, ◌+◌, ◌-◌, inl, inr, ℕ, suc, Bool, true, false, cond, List, [], ◌∷◌, ◌++◌, All, length, filter, map, take, drop, reverse, slice_index, refl, sym, ap, subst, ◌∙◌, arith, append-nil, length-drop, get_or-drop}
+use Rattle.std.specs.List.{suffix_len}
 use Rattle.std.proofs.lemmas.Bool.{cases_Bool}
 use Rattle.std.proofs.lemmas.List.{drop_all, drop_more, get_or-reverse, take-append-drop}
 use Rattle.std.proofs.lemmas.List.Elements.{All-append, All-cons, All-drop, All-from_get_or, All-head, All-tail, All-take, filter-append}

@@ -4,21 +4,21 @@ use Rattle.std.proofs.lemmas.List.Elements.{All-from_get_or}
 use Rattle.jsonc_text.specs.Plain.{Plain}
 use Rattle.jsonc_tree.specs.Building.{Keeps}
 use Rattle.jsonc_tree.specs.Changes.{CanJoin, EachOnce, MakesRoom, Splices}
-use Rattle.jsonc_tree.specs.Tree.{Node, parent_at, children_at, IsTree}
+use Rattle.jsonc_tree.specs.Tree.{Node, children_at, IsTree}
 use Rattle.jsonc_tree.proofs.Builder.{Keeps-room}
 use Rattle.jsonc_tree.proofs.Order.{parent_there}
 use Rattle.jsonc_edit.specs.Put.{Prepared}
-use Rattle.jsonc_insert.specs.Inserted.{put_by, with_comma}
+use Rattle.jsonc_insert.specs.Inserted.{with_comma}
 use Rattle.jsonc_insert.specs.Made.{AreFresh, IsFresh}
 use Rattle.jsonc_insert.specs.Planned.{has_brackets}
 use Rattle.jsonc_insert.specs.Settings.{indents_of}
-use Rattle.jsonc_insert.specs.Trimmed.{trimmed, with_at}
+use Rattle.jsonc_insert.specs.Trimmed.{with_at}
 use Rattle.jsonc_insert.proofs.Joining.{may_join}
 use Rattle.jsonc_insert.proofs.Making.{keeps_then}
 use Rattle.jsonc_insert.proofs.Once.{all_parts, all_with_at, once_left, once_right, once_with_at, parts_apart}
 use Rattle.jsonc_insert.proofs.Trimming.{has_two, trimmed_all, trimmed_brackets, trimmed_once}
 use Rattle.jsonc_members.specs.Inserted.{plan_inside, PropertyPut, RowMade}
-use Rattle.jsonc_members.specs.Opened.{IsBefore, IsOfRow, IsOpened}
+use Rattle.jsonc_members.specs.Opened.{IsBefore, IsOfRow}
 use Rattle.jsonc_members.specs.Told.{layout_inside}
 use Rattle.jsonc_members.proofs.Making.{made_later}
 

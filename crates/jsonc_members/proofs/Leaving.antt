@@ -1,5 +1,5 @@
 -- Of a row nothing but whitespace and ends of lines leaves.
-use Rattle.std.proofs.Common.{◌≡◌, ◌<◌, ◌≤◌, ◌+◌, ◌-◌, ◌||◌, ◌⊎◌, inl, inr, ℕ, Bool, true, false, cond, List, [], ◌∷◌, ◌++◌, All, length, map, take, drop, get_or, slice_index, slice_range, Option, Some, None, eqb, refl, sym, ap, subst, ◌∙◌, arith, length-drop, get_or-drop}
+use Rattle.std.proofs.Common.{◌≡◌, ◌<◌, ◌+◌, ◌-◌, ◌||◌, ◌⊎◌, inl, inr, ℕ, Bool, true, false, cond, List, [], ◌∷◌, ◌++◌, All, length, map, take, drop, get_or, slice_index, slice_range, Option, Some, None, eqb, refl, sym, ap, subst, ◌∙◌, arith, length-drop, get_or-drop}
 use Rattle.std.specs.List.{suffix_len}
 use Rattle.std.proofs.lemmas.Bool.{cases_Bool}
 use Rattle.std.proofs.lemmas.List.{take-append-drop}
@@ -20,7 +20,7 @@ use Rattle.jsonc_insert.specs.Planned.{has_brackets}
 use Rattle.jsonc_insert.specs.Trimmed.{is_blank_at, trimmed, with_at}
 use Rattle.jsonc_insert.proofs.Leaving.{in_with_at, kept_or_blank}
 use Rattle.jsonc_insert.proofs.Trimming.{has_two}
-use Rattle.jsonc_members.specs.Inserted.{plan_inside, PropertyPut}
+use Rattle.jsonc_members.specs.Inserted.{plan_inside}
 use Rattle.jsonc_members.specs.Laws.{LosesBlanksAlone}
 use Rattle.jsonc_members.specs.Opened.{enclosed, opened}
 use Rattle.jsonc_members.proofs.Elements.{enclosed_stay, lines_stay, staying, staying_all, suffix_passes, whole_row}

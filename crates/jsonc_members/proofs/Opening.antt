@@ -1,5 +1,5 @@
 -- The row of an object on several lines: its brackets, and what stands between them.
-use Rattle.std.proofs.Common.{◌≡◌, ◌≢◌, ◌<◌, ◌≤◌, ◌+◌, ◌-◌, ◌&&◌, inl, inr, ℕ, Bool, true, false, cond, List, [], ◌∷◌, ◌++◌, All, length, map, reverse, get_or, slice_index, nat_lt, Some, IfOk, IsTrue, Result, Ok, Err, refl, sym, ap, subst, ◌∙◌, arith, length-append}
+use Rattle.std.proofs.Common.{◌≡◌, ◌<◌, ◌≤◌, ◌+◌, ◌-◌, ◌&&◌, inl, inr, ℕ, Bool, true, false, cond, List, [], ◌∷◌, ◌++◌, All, length, map, reverse, slice_index, nat_lt, Some, IfOk, IsTrue, Result, Ok, Err, refl, sym, ap, subst, ◌∙◌, arith, length-append}
 use Rattle.std.proofs.lemmas.Bool.{cases_Bool, ltb-true, false≢true}
 use Rattle.std.proofs.lemmas.List.{get_or-reverse, length-reverse}
 use Rattle.std.proofs.lemmas.List.Elements.{All-append, All-cons, All-from_get_or, All-nil}
@@ -17,7 +17,6 @@ use Rattle.jsonc_multiline.specs.Slots.{Slot, stays, AreFilled, no_more, stayed,
 use Rattle.jsonc_multiline.specs.Lines.{lines_for, spread_row}
 use Rattle.jsonc_multiline.specs.Multiline.{has_line_end}
 use Rattle.jsonc_multiline.specs.Plans.{IsFrom, PlannedRow}
-use Rattle.jsonc_insert.specs.Made.{IsFresh}
 use Rattle.jsonc_insert.specs.Planned.{has_brackets, is_token}
 use Rattle.jsonc_insert.proofs.Once.{apart_by, once_append}
 use Rattle.jsonc_insert.proofs.Trimming.{front_token, has_two}

@@ -1,7 +1,7 @@
 -- Behind the last property all numbers do the same.
-use Rattle.std.proofs.Common.{◌≡◌, ◌≤◌, ℕ, true, List, ◌∷◌, ◌++◌, length, ap, subst, arith}
+use Rattle.std.proofs.Common.{◌≡◌, ℕ, true, List, ◌∷◌, ◌++◌, length, ap, subst, arith}
 use Rattle.jsonc_text.specs.Plain.{Plain}
-use Rattle.jsonc_tree.specs.Tree.{Node, children_at}
+use Rattle.jsonc_tree.specs.Tree.{Node}
 use Rattle.jsonc_insert.specs.Inserted.{put_by}
 use Rattle.jsonc_insert.specs.Settings.{indents_of}
 use Rattle.jsonc_insert.specs.declared.plan.Plan.{Plan}

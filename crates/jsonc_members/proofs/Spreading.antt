@@ -1,8 +1,7 @@
 -- An object at a path of a sound document: its brackets, and its row spread out.
-use Rattle.std.proofs.Common.{◌≡◌, ◌∙◌, ◌<◌, ◌≤◌, ◌+◌, ◌-◌, ℕ, Bool, true, false, ◌||◌, cond, inl, inr, List, [], ◌∷◌, ◌++◌, All, length, map, take, slice_index, IsTrue, refl, sym, ap, subst, arith, length-append}
+use Rattle.std.proofs.Common.{◌≡◌, ◌∙◌, ◌<◌, ◌+◌, ◌-◌, ℕ, Bool, true, false, ◌||◌, cond, List, [], ◌∷◌, ◌++◌, All, length, map, slice_index, refl, sym, ap, subst, arith, length-append}
 use Rattle.std.specs.List.{flat_map, list_any}
 use Rattle.std.specs.Prelude.{chars}
-use Rattle.std.proofs.lemmas.Bool.{cases_Bool}
 use Rattle.std.proofs.lemmas.List.{take_at}
 use Rattle.std.proofs.lemmas.List.Elements.{All-cons, All-from_get_or, All-head, All-nil, All-tail}
 use Rattle.std.proofs.lemmas.List.Folds.{list_any-append}
@@ -27,7 +26,6 @@ use Rattle.jsonc_laws.specs.Rows.{RowKind, of_values, of_properties, holder}
 use Rattle.jsonc_laws.specs.SoundTrees.{SoundTree}
 use Rattle.jsonc_edit.specs.Changes.{row_below, top_at}
 use Rattle.jsonc_edit.specs.Paths.{IsAt}
-use Rattle.jsonc_edit.specs.Put.{Prepared}
 use Rattle.jsonc_edit.specs.Writing.{IsIndent}
 use Rattle.jsonc_edit.specs.declared.error.EditError.TheVariants.{OutOfMemory, MissingBrackets}
 use Rattle.jsonc_edit.proofs.FittingIndents.{indents_fit}
@@ -43,7 +41,7 @@ use Rattle.jsonc_multiline.proofs.Documents.{filled_shown, over_at}
 use Rattle.jsonc_multiline.proofs.OnLines.{AllFit, bare_below, on_lines_fit, row_newline, row_reflows, standing, standing_newline}
 use Rattle.jsonc_insert.specs.Planned.{has_brackets, is_token}
 use Rattle.jsonc_members.specs.Laws.{IsSpreadFirst, SpreadsFirst, WantsMemoryAlone}
-use Rattle.jsonc_members.specs.Opened.{enclosed, opened, IsOpened}
+use Rattle.jsonc_members.specs.Opened.{enclosed, IsOpened}
 use Rattle.jsonc_members.proofs.Elements.{staying, staying_all}
 use Rattle.jsonc_members.proofs.Opening as opening
 use Rattle.jsonc_members.proofs.Opening.{filled_as}

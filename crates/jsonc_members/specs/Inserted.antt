@@ -16,7 +16,8 @@ use Rattle.jsonc_members.specs.Opened.{IsBefore}
 use Rattle.jsonc_members.specs.Told.{layout_inside}
 
 -- The property of this name and value was made ready to come in as the node m, and so were the leaves beside it: what comes at these places.
-pub record PropertyMade (old ready : List Node) (layout : Layout) (outer : List ℕ) (plan : Plan) (name : List ℕ) (v : Plain) (m : ℕ) (comma before behind : List ℕ) : Type 0 where
+pub record PropertyMade (old ready : List Node) (layout : Layout) (outer : List ℕ) (plan : Plan) (name : List ℕ) (v : Plain) (m : ℕ)
+    (comma before behind : List ℕ) : Type 0 where
   pub fresh : AreFresh old ready (comma ++ (before ++ m ∷ behind))
   pub is : top_at ready m ≡ laid_property layout name v
   pub parts : map (content_at ready) comma ≡ comma_at plan.comma
@@ -29,7 +30,8 @@ plan_inside ns c row i = planned ns true (layout_inside ns c row).trailing_comma
 
 -- what the document tells of it
 abbrev pub MadeInside : List Node → List Node → ℕ → List ℕ → ℕ → List ℕ → Plain → ℕ → List ℕ → List ℕ → List ℕ → Type 0
-MadeInside old ready c row i name v m comma before behind = PropertyMade old ready (layout_inside old c row) (indents_of old c row).current (plan_inside old c row i) name v m comma before behind
+MadeInside old ready c row i name v m comma before behind =
+    PropertyMade old ready (layout_inside old c row) (indents_of old c row).current (plan_inside old c row i) name v m comma before behind
 
 -- The row that c is to have with the property, where it has this row before: that row with the new nodes at their places.
 pub record RowMade (old ready : List Node) (c : ℕ) (was : List ℕ) (i : ℕ) (name : List ℕ) (v : Plain) (m : ℕ) (row : List ℕ) : Type 0 where
@@ -39,8 +41,8 @@ pub record RowMade (old ready : List Node) (c : ℕ) (was : List ℕ) (i : ℕ) 
   pub made : MadeInside old ready c was i name v m comma before behind
   pub is : row ≡ put_by (plan_inside old c was i) comma (before ++ m ∷ behind) was
 
--- The property has come in so, as number i of c or behind the last one, as the node m: the leaves were made ready that put c on several lines; then the property was, with what comes beside it, for
--- that row without blank lines inside its brackets; and then the row of c gave way to the new one, at once.
+-- The property has come in so, as number i of c or behind the last one, as the node m: the leaves were made ready that put c on several lines; then the
+-- property was, with what comes beside it, for that row without blank lines inside its brackets; and then the row of c gave way to the new one, at once.
 pub record PropertyPut (old new : List Node) (c i : ℕ) (name : List ℕ) (v : Plain) (m : ℕ) : Type 0 where
   pub lined : List Node
   pub was : List ℕ

@@ -44,7 +44,8 @@ LosesBlanksAlone old new c i name v m =
     IsTree old → c < length old → has_brackets old (children_at old c) ≡ true → PropertyPut old new c i name v m
     → (n : ℕ) → parent_at old n ≡ Some c → (parent_at new n ≡ Some c) ⊎ ((is_blank_at old n ≡ true) × (parent_at new n ≡ None))
 
--- The row that c had before the property came is its row spread out: what stood between its brackets had the end of a line in it, or has been put on several lines.
+-- The row that c had before the property came is its row spread out: what stood between its brackets had the end of a line in it, or has been put on several
+-- lines.
 pub record IsSpreadFirst (old lined : List Node) (c : ℕ) (lines : List ℕ) : Type 0 where
   pub open_with : ℕ
   pub inner : List ℕ
@@ -76,4 +77,6 @@ ChangesObjectAlone old new c i name v m = IsTree old → c < length old → Prop
 
 -- the new node is the property of this name and value, laid out as the row tells that it comes into
 abbrev pub IsTheProperty : List Node → List Node → ℕ → ℕ → List ℕ → Plain → ℕ → Type 0
-IsTheProperty old new c i name v m = IsTree old → c < length old → (e : PropertyPut old new c i name v m) → top_at new m ≡ laid_property (layout_inside e.lined c e.was) name v
+IsTheProperty old new c i name v m =
+    IsTree old → c < length old → (e : PropertyPut old new c i name v m)
+    → top_at new m ≡ laid_property (layout_inside e.lined c e.was) name v

@@ -1,4 +1,5 @@
--- What a document tells of a property that comes into an object: read in the row that the object is to have, on several lines and without blank lines inside its brackets.
+-- What a document tells of a property that comes into an object: read in the row that the object is to have, on several lines and without blank lines inside
+-- its brackets.
 use Rattle.std.specs.Prelude.{ℕ, ◌-◌, ◌==◌, List, [], ◌∷◌, length, map, reverse, slice_get, slice_range, Option, Some, None, unwrap_or, if◌then◌else◌}
 use Rattle.std.specs.List.{take_while}
 use Rattle.std.specs.Option.{option_or}
@@ -63,4 +64,9 @@ indents_inside ns c row = indents_by ns c row (slice_get (elements ns row) 0)
 -- how a property of c is laid out
 abbrev pub layout_inside : List Node → ℕ → List ℕ → Layout
 layout_inside ns c row =
-    record { current = (indents_inside ns c row).current; single = (indents_inside ns c row).single; trailing_commas = uses_commas_in ns c row; newline = newline_kind_with ns c row }
+    record {
+      current = (indents_inside ns c row).current;
+      single = (indents_inside ns c row).single;
+      trailing_commas = uses_commas_in ns c row;
+      newline = newline_kind_with ns c row;
+    }

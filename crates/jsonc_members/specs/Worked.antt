@@ -1,5 +1,5 @@
 -- Worked insertions: objects, and what they print with one more property.
-use Rattle.std.specs.Prelude.{◌≡◌, ℕ, suc, List, [], ◌∷◌, ◌++◌, length, map, Some, None, codes}
+use Rattle.std.specs.Prelude.{ℕ, suc, List, [], ◌∷◌, ◌++◌, length, map, Some, None, codes}
 use Rattle.std.specs.List.{flat_map}
 use Rattle.jsonc_text.specs.Plain.{Plain, member, no_members}
 use Rattle.jsonc_tree.specs.Content as content
@@ -43,7 +43,8 @@ row_before ns c = trimmed (lined ns c) (filled_from (length ns) (opened ns c))
 abbrev pub tops_put : List Node → ℕ → List ℕ → Plan → List ℕ → Plain → List Top
 tops_put ns c row plan name v =
     put_by plan (map leaf (comma_at plan.comma))
-    (map leaf (leaves_before (layout_inside ns c row) plan) ++ laid_property (layout_inside ns c row) name v ∷ map leaf (leaves_behind (layout_inside ns c row) (indents_of ns c row).current plan))
+    (map leaf (leaves_before (layout_inside ns c row) plan)
+    ++ laid_property (layout_inside ns c row) name v ∷ map leaf (leaves_behind (layout_inside ns c row) (indents_of ns c row).current plan))
     (map (top_at ns) row)
 
 abbrev pub top_text : Top → List ℕ
@@ -74,24 +75,29 @@ name_a parent = node (content.string (34 ∷ 97 ∷ 34 ∷ [])) (Some parent) []
 
 -- `{"a":1}`: the object is node 1, and its property node 3
 abbrev pub on_one_line : List Node
-on_one_line = node root None (1 ∷ []) ∷ node object (Some 0) (2 ∷ 3 ∷ 7 ∷ []) ∷ mark 0x7B 1 ∷ node property (Some 1) (4 ∷ 5 ∷ 6 ∷ []) ∷ name_a 3 ∷ mark 0x3A 3 ∷ number (codes "1") 3 ∷ mark 0x7D 1 ∷ []
+on_one_line =
+    node root None (1 ∷ []) ∷ node object (Some 0) (2 ∷ 3 ∷ 7 ∷ []) ∷ mark 0x7B 1
+    ∷ node property (Some 1) (4 ∷ 5 ∷ 6 ∷ []) ∷ name_a 3 ∷ mark 0x3A 3 ∷ number (codes "1") 3 ∷ mark 0x7D 1 ∷ []
 
 -- `{"a":1 /*x*/}`
 abbrev pub commented : List Node
 commented =
-    node root None (1 ∷ []) ∷ node object (Some 0) (2 ∷ 3 ∷ 7 ∷ 8 ∷ 9 ∷ []) ∷ mark 0x7B 1 ∷ node property (Some 1) (4 ∷ 5 ∷ 6 ∷ []) ∷ name_a 3 ∷ mark 0x3A 3 ∷ number (codes "1") 3
+    node root None (1 ∷ []) ∷ node object (Some 0) (2 ∷ 3 ∷ 7 ∷ 8 ∷ 9 ∷ []) ∷ mark 0x7B 1
+    ∷ node property (Some 1) (4 ∷ 5 ∷ 6 ∷ []) ∷ name_a 3 ∷ mark 0x3A 3 ∷ number (codes "1") 3
     ∷ blank (codes " ") 1 ∷ node (content.comment (codes "/*x*/")) (Some 1) [] ∷ mark 0x7D 1 ∷ []
 
 -- `{`, then `  "a":1,` on a line of its own, then `}`
 abbrev pub with_comma : List Node
 with_comma =
-    node root None (1 ∷ []) ∷ node object (Some 0) (2 ∷ 8 ∷ 9 ∷ 3 ∷ 7 ∷ 10 ∷ 11 ∷ []) ∷ mark 0x7B 1 ∷ node property (Some 1) (4 ∷ 5 ∷ 6 ∷ []) ∷ name_a 3 ∷ mark 0x3A 3 ∷ number (codes "1") 3
+    node root None (1 ∷ []) ∷ node object (Some 0) (2 ∷ 8 ∷ 9 ∷ 3 ∷ 7 ∷ 10 ∷ 11 ∷ []) ∷ mark 0x7B 1
+    ∷ node property (Some 1) (4 ∷ 5 ∷ 6 ∷ []) ∷ name_a 3 ∷ mark 0x3A 3 ∷ number (codes "1") 3
     ∷ mark 0x2C 1 ∷ lf 1 ∷ blank (codes "  ") 1 ∷ lf 1 ∷ mark 0x7D 1 ∷ []
 
 -- `{`, then a tab and `"a":{}` on a line of its own, then `}`: the inner object is node 6
 abbrev pub empty_inside : List Node
 empty_inside =
-    node root None (1 ∷ []) ∷ node object (Some 0) (2 ∷ 8 ∷ 9 ∷ 3 ∷ 10 ∷ 7 ∷ []) ∷ mark 0x7B 1 ∷ node property (Some 1) (4 ∷ 5 ∷ 6 ∷ []) ∷ name_a 3 ∷ mark 0x3A 3 ∷ node object (Some 3) (11 ∷ 12 ∷ []) ∷ mark 0x7D 1 ∷ lf 1
+    node root None (1 ∷ []) ∷ node object (Some 0) (2 ∷ 8 ∷ 9 ∷ 3 ∷ 10 ∷ 7 ∷ []) ∷ mark 0x7B 1
+    ∷ node property (Some 1) (4 ∷ 5 ∷ 6 ∷ []) ∷ name_a 3 ∷ mark 0x3A 3 ∷ node object (Some 3) (11 ∷ 12 ∷ []) ∷ mark 0x7D 1 ∷ lf 1
     ∷ blank (9 ∷ []) 1 ∷ lf 1 ∷ mark 0x7B 6 ∷ mark 0x7D 6 ∷ []
 
 -- the name b, and values

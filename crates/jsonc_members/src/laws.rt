@@ -5,7 +5,8 @@ ghost use Rattle.jsonc_text.specs.Plain.{Plain};
 ghost use Rattle.jsonc_tree.specs.Tree.{Node};
 ghost use Rattle.jsonc_members.specs.Laws.{ChangesObjectAlone, ChangesOneRow, IsTheProperty, LosesBlanksAlone};
 ghost use Rattle.jsonc_members.specs.Laws.{PastTheEnd, SpreadsFirst, TakesItsNumber, WantsMemoryAlone};
-ghost use Rattle.jsonc_members.specs.Worked.{b, c_is_two, commented, empty_inside, on_one_line, text_with, two, with_comma};
+ghost use Rattle.jsonc_members.specs.Worked.{b, c_is_two, commented, empty_inside, on_one_line};
+ghost use Rattle.jsonc_members.specs.Worked.{text_with, two, with_comma};
 
 /// Worked insertions into objects on one line: what they print with one more property.
 pub fn worked_on_one_line()
