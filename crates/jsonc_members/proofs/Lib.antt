@@ -7,3 +7,5 @@ pub mod Past
 pub mod Leaving
 pub mod Spreading
 pub mod Changing
+pub mod Commas
+pub mod Fits

@@ -11,10 +11,12 @@ use Rattle.jsonc_laws.specs.Rows.{of_properties}
 use Rattle.jsonc_laws.specs.SoundTrees.{SoundTree}
 use Rattle.jsonc_edit.specs.Changes.{top_at, ChangesAt}
 use Rattle.jsonc_edit.specs.Paths.{IsAt, IsElementOf}
+use Rattle.jsonc_edit.specs.Writing.{FitsLayout, IsIndent}
 use Rattle.jsonc_edit.specs.declared.error.EditError.TheVariants.{OutOfMemory}
 use Rattle.jsonc_insert.specs.Inserted.{refusal}
 use Rattle.jsonc_insert.specs.Laws.{KeepsNodesBut}
 use Rattle.jsonc_insert.specs.Planned.{has_brackets}
+use Rattle.jsonc_insert.specs.Settings.{indents_of}
 use Rattle.jsonc_insert.specs.Trimmed.{is_blank_at}
 use Rattle.jsonc_multiline.specs.Laws.{bracketed}
 use Rattle.jsonc_multiline.specs.Reflows.{SpreadsOut}
@@ -80,3 +82,9 @@ abbrev pub IsTheProperty : List Node → List Node → ℕ → ℕ → List ℕ 
 IsTheProperty old new c i name v m =
     IsTree old → c < length old → (e : PropertyPut old new c i name v m)
     → top_at new m ≡ laid_property (layout_inside e.lined c e.was) name v
+
+-- and the layout that the row tells is one that documents of these options may have
+abbrev pub FitsAsTold : Options → List Node → List Node → List ℕ → ℕ → ℕ → List ℕ → Plain → ℕ → Type 0
+FitsAsTold o old new path c i name v m =
+    IsTree old → SoundTree o (ordered_tree old 0) → IsAt old path c → content_at old c ≡ object → (e : PropertyPut old new c i name v m)
+    → FitsLayout o (layout_inside e.lined c e.was) × IsIndent (indents_of e.lined c e.was).current

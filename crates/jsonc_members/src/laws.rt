@@ -3,8 +3,8 @@ ghost use Rattle.std.specs.Prelude.{◌≡◌, List, ℕ, codes};
 ghost use Rattle.jsonc_text.specs.Options.{Options};
 ghost use Rattle.jsonc_text.specs.Plain.{Plain};
 ghost use Rattle.jsonc_tree.specs.Tree.{Node};
-ghost use Rattle.jsonc_members.specs.Laws.{ChangesObjectAlone, ChangesOneRow, IsTheProperty, LosesBlanksAlone};
-ghost use Rattle.jsonc_members.specs.Laws.{PastTheEnd, SpreadsFirst, TakesItsNumber, WantsMemoryAlone};
+ghost use Rattle.jsonc_members.specs.Laws.{ChangesObjectAlone, ChangesOneRow, FitsAsTold, IsTheProperty};
+ghost use Rattle.jsonc_members.specs.Laws.{LosesBlanksAlone, PastTheEnd, SpreadsFirst, TakesItsNumber, WantsMemoryAlone};
 ghost use Rattle.jsonc_members.specs.Worked.{b, c_is_two, commented, empty_inside, on_one_line};
 ghost use Rattle.jsonc_members.specs.Worked.{text_with, two, with_comma};
 
@@ -54,10 +54,13 @@ pub fn objects_change_alone()
 {}
 
 /// Where a property has come into an object at a path of a sound document, the object was put on several
-/// lines before, unless a line ended in it already. Such an object has its brackets, so nothing but want of
-/// memory keeps a property from coming in.
+/// lines before, unless a line ended in it already, and the layout that its row tells is one that documents
+/// of these options may have. Such an object has its brackets, so nothing but want of memory keeps a
+/// property from coming in.
 pub fn objects_are_spread_first()
     ensures spread { (o : Options) (old new : List Node) (path : List ℕ) (c i : ℕ) (name : List ℕ) (v : Plain) (m : ℕ)
         → SpreadsFirst o old new path c i name v m }
+    ensures layout { (o : Options) (old new : List Node) (path : List ℕ) (c i : ℕ) (name : List ℕ) (v : Plain) (m : ℕ)
+        → FitsAsTold o old new path c i name v m }
     ensures memory { (o : Options) (ns : List Node) (path : List ℕ) (c : ℕ) → WantsMemoryAlone o ns path c }
 {}

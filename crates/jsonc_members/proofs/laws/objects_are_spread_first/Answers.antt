@@ -1,3 +1,4 @@
+use Rattle.jsonc_members.proofs.Fits.{fits_as_told}
 use Rattle.jsonc_members.proofs.Spreading.{spreads_first, wants_memory_alone}
 use Rattle.jsonc_members.proofs.laws.objects_are_spread_first.Goals as goal
 
@@ -6,3 +7,6 @@ returns-clause-spread c = spreads_first
 
 pub returns-clause-memory : goal.returns-clause-memory
 returns-clause-memory c = wants_memory_alone
+
+pub returns-clause-layout : goal.returns-clause-layout
+returns-clause-layout c = fits_as_told
