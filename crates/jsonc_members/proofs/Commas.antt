@@ -1,5 +1,5 @@
 -- A comma stands behind the last property of an object of a document only where its options allow that.
-use Rattle.std.proofs.Common.{◌≡◌, ◌∙◌, ◌+◌, ◌-◌, ◌<◌, ℕ, zero, suc, Bool, true, false, cond, inl, inr, List, [], ◌∷◌, ◌++◌, length, drop, slice_index, Option, Some, None, is_some, option_and_then, IsTrue, refl, sym, ap, subst, arith}
+use Rattle.std.proofs.Common.{◌≡◌, ◌∙◌, ◌+◌, ◌<◌, ℕ, zero, suc, true, false, cond, inl, inr, List, [], ◌∷◌, ◌++◌, length, drop, slice_index, Option, Some, None, is_some, option_and_then, IsTrue, refl, sym, ap, subst, arith}
 use Rattle.std.specs.List.{find}
 use Rattle.std.proofs.lemmas.Bool.{cases_Bool, false≢true, not-false}
 use Rattle.jsonc_text.specs.Options.{Options}
@@ -23,7 +23,7 @@ use Rattle.jsonc_edit.specs.Paths.{IsAt}
 use Rattle.jsonc_edit.proofs.Entries.{not_both, trivia_passed, Passed}
 use Rattle.jsonc_edit.proofs.FittingFinds.{fails, found_last, IsLast, none_first, none_is_some, passes}
 use Rattle.jsonc_edit.proofs.FittingNodes.{over_there}
-use Rattle.jsonc_remove.proofs.Containers.{Brackets, brackets, held_at, Held}
+use Rattle.jsonc_remove.proofs.Containers.{Brackets, brackets, held_at}
 use Rattle.jsonc_multiline.proofs.Documents.{over_at}
 use Rattle.jsonc_insert.specs.Settings.{has_last_comma}
 

@@ -5,9 +5,8 @@ use Rattle.std.specs.List.{find, flat_map, list_all, starts_with, suffix_len, ta
 use Rattle.std.specs.Option.{option_or}
 use Rattle.std.proofs.lemmas.Bool.{and_parts, cases_Bool, cond_both, false≢true}
 use Rattle.std.proofs.lemmas.List.{get_or-reverse, length-reverse, take-append-drop}
-use Rattle.std.proofs.lemmas.List.Elements.{All-append, All-cons, All-drop, All-filter, All-head, All-map, All-nil, All-tail, All-take}
+use Rattle.std.proofs.lemmas.List.Elements.{All-append, All-cons, All-drop, All-head, All-map, All-nil, All-tail, All-take}
 use Rattle.std.proofs.lemmas.List.Sums.{take_while-cons}
-use Rattle.std.proofs.lemmas.Option.{slice_get_cases}
 use Rattle.std.proofs.lemmas.Str.{IsUtf8-append, IsUtf8-nil, IsUtf8-drop, IsUtf8-from_ascii, IsCharBoundary-from_take, chars-append, chars-nil, chars-IsAscii}
 use Rattle.jsonc_text.specs.Options.{Options}
 use Rattle.jsonc_text.specs.Plain.{Plain}
@@ -44,7 +43,6 @@ use Rattle.jsonc_multiline.proofs.Documents.{over_at}
 use Rattle.jsonc_multiline.proofs.Weaving.{both_woven, woven}
 use Rattle.jsonc_insert.specs.Planned.{elements, has_brackets, place_in}
 use Rattle.jsonc_insert.specs.Settings.{begins_blank, first_indent_past, has_last_comma, indent_of_line, indents_of, is_document_value, is_spaced_row, line_past, one_deeper, single_in, uses_commas_in}
-use Rattle.jsonc_insert.specs.Trimmed.{trimmed}
 use Rattle.jsonc_insert.proofs.Counting as counting
 use Rattle.jsonc_insert.proofs.Trimming.{has_two, trimmed_all, trimmed_elements}
 use Rattle.jsonc_members.specs.Laws.{FitsAsTold}
@@ -248,7 +246,6 @@ module _ (ns : List Node) (tree : IsTree ns) where
       let inner : AreIn (levels_among ns rest) = among_over rest (All-tail (IsOver ns 0) n rest all) in
       cond_both (n == 0) [] (cond (is_property_at ns (parent_at ns n)) (levels_among ns rest) (n ∷ levels_among ns rest)) AreIn (λ e. All-nil (IsOver ns 0))
       (λ e. cond_both (is_property_at ns (parent_at ns n)) (levels_among ns rest) (n ∷ levels_among ns rest) AreIn (λ f. inner) (λ f. All-cons (IsOver ns 0) n (levels_among ns rest) (All-head (IsOver ns 0) n rest all) inner))
-
 
   level_over : (level : List ℕ) → All (λ n. IsOver ns 0 n ⊎ (is_container_at ns n ≡ false)) level → All (λ n. IsOver ns 0 n ⊎ (is_container_at ns n ≡ false)) (flat_map (children_at ns) level)
   level_over [] all = All-nil (λ n. IsOver ns 0 n ⊎ (is_container_at ns n ≡ false))
@@ -463,11 +460,12 @@ module _ (o : Options) (old : List Node) (path : List ℕ) (c : ℕ) (tree : IsT
       let i = indents_at old c in
       let white : (s : List ℕ) → IsIndent s → Q (whitespace s) = λ s h. ((λ e. h), refl) in
       let between_fit : All P (between kids) = All-take P (length kids - 1 - 1) (drop 1 kids) (All-drop P 1 kids kids_fit) in
-      let ended : Q (newline (lines_for old c).newline) = ((λ e. absurd (false≢true e)), refl) in
-      (kids_fit 0 0 (omega (arith, two)),
-      slots_append P Q spread (stays (slice_index kids (length kids - 1)) ∷ [])
-      (slots_lines P Q (lines_for old c) old ended (white (i.current ++ i.single) (indent_joined i.current i.single fit.0 fit.1)) (white i.current fit.0) (between kids) between_fit)
-      (kids_fit (length kids - 1) 0 (omega (arith, two)), tt))
+      let ended : Q (newline (lines_for old c).newline) = ((λ e. absurd (false≢true e)), refl) in (
+        kids_fit 0 0 (omega (arith, two)),
+        slots_append P Q spread (stays (slice_index kids (length kids - 1)) ∷ [])
+            (slots_lines P Q (lines_for old c) old ended (white (i.current ++ i.single) (indent_joined i.current i.single fit.0 fit.1)) (white i.current fit.0) (between kids) between_fit)
+            (kids_fit (length kids - 1) 0 (omega (arith, two)), tt),
+      )
 
   opened_fits : AllSlots P Q (opened old c)
   opened_fits = by (has_line_end old c)

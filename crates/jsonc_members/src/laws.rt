@@ -4,7 +4,8 @@ ghost use Rattle.jsonc_text.specs.Options.{Options};
 ghost use Rattle.jsonc_text.specs.Plain.{Plain};
 ghost use Rattle.jsonc_tree.specs.Tree.{Node};
 ghost use Rattle.jsonc_members.specs.Laws.{ChangesObjectAlone, ChangesOneRow, FitsAsTold, IsTheProperty};
-ghost use Rattle.jsonc_members.specs.Laws.{LosesBlanksAlone, PastTheEnd, SpreadsFirst, TakesItsNumber, WantsMemoryAlone};
+ghost use Rattle.jsonc_members.specs.Laws.{LosesBlanksAlone, PastTheEnd, SpreadsFirst, TakesItsNumber};
+ghost use Rattle.jsonc_members.specs.Laws.{WantsMemoryAlone};
 ghost use Rattle.jsonc_members.specs.Worked.{b, c_is_two, commented, empty_inside, on_one_line};
 ghost use Rattle.jsonc_members.specs.Worked.{text_with, two, with_comma};
 

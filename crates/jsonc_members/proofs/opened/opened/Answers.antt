@@ -1,4 +1,4 @@
-use Rattle.std.proofs.Common.{◌≡◌, sym, ap, ◌∙◌}
+use Rattle.std.proofs.Common.{sym, ap, ◌∙◌}
 use Rattle.std.specs.List.{list_any}
 use Rattle.jsonc_nodes.specs.Kinds.{is_newline_at}
 use Rattle.jsonc_multiline.specs.LineViews.{lines_of}
