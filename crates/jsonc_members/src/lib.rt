@@ -7,9 +7,11 @@
 //! the property comes and what is written beside it. The property and the leaves beside it are made, and
 //! then all take their places at once (`specs/Inserted.antt`), so a refusal leaves the document as it was.
 //!
-//! [`insert_property`] does so with a name, a value and a number; a number past the end means the end.
-//! `specs/Worked.antt` has worked insertions. That the text is a document again, with the property in its
-//! place, is still to be proved.
+//! [`insert_property`] does so with a name, a value and a number; a number past the end means the end. The
+//! answer is the new property, and nothing outside of the object changes; of the object's children blanks
+//! alone leave; in a sound document only want of memory refuses, and the layout that is told fits ([`laws`],
+//! `specs/Laws.antt`). `specs/Worked.antt` has worked insertions. That the text is a document again, with
+//! the property in its place, is still to be proved.
 #![tactic(auto)]
 
 pub mod laws;
