@@ -2,7 +2,8 @@
 
 use crate::reading::read;
 use jsonc_parser::cst::{
-    CstInputValue, CstLeafNode, CstNode, CstRootNode, Edit, HasChildren, SetToken, run,
+    CstInputValue, CstLeafNode, CstNode, CstRootNode, Edit, HasChildren, InsertElement, SetToken,
+    run,
 };
 use refusing::awaited::prints;
 use refusing::outcome::Outcome;
@@ -13,6 +14,8 @@ use std::test::Fail;
 const READ: [&str; 6] = ["[", "1", ",", " ", "2", "]"];
 
 const SET: [&str; 6] = ["[", "1", "\u{20ac}", " ", "2", "]"];
+
+const APPENDED: [&str; 9] = ["[", "1", ",", " ", "2", ",", " ", "3", "]"];
 
 /// An array that was put into another one, with an empty indent before its last bracket.
 const PUT: [&str; 18] = [
@@ -96,6 +99,26 @@ fn put_one<A: Allocator + Copy>(alloc: A) -> Outcome {
     }
 }
 
+/// A document with one more element.
+fn append<A: Allocator + Copy>(alloc: A) -> Result<CstRootNode<A>, Outcome> {
+    let value = number(alloc, "3")?;
+    let mut doc = read(alloc, "[1, 2]")?;
+    let Some(array) = doc.array_value() else {
+        return Err(Outcome::Other);
+    };
+    match array.append(&mut doc, value) {
+        Ok(_) => Ok(doc),
+        Err(error) => Err(Outcome::from(error)),
+    }
+}
+
+fn append_one<A: Allocator + Copy>(alloc: A) -> Outcome {
+    match append(alloc) {
+        Ok(doc) => Outcome::of(has_pieces(&doc, &APPENDED)),
+        Err(outcome) => outcome,
+    }
+}
+
 /// How many pieces a document has.
 fn piece_count<A: Allocator>(doc: &CstRootNode<A>) -> usize {
     let mut count = 0usize;
@@ -117,6 +140,7 @@ fn read_again<A: Allocator + Copy>(alloc: A) -> Outcome {
 fn each_leaf_gives_a_piece(rt: HostRuntime) -> Result<(), Fail> {
     assert!(rt; read_one::<Global>(rt.alloc()) == Outcome::Answered);
     assert!(rt; set_one::<Global>(rt.alloc()) == Outcome::Answered);
+    assert!(rt; append_one::<Global>(rt.alloc()) == Outcome::Answered);
     Ok(())
 }
 
