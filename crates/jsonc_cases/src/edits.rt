@@ -121,6 +121,26 @@ fn read_insertion(alloc: Global, words: &[&str]) -> Result<Option<Edit<Global>>,
             let index = read_number(index)?;
             Ok(Some(Edit::InsertElement(path, index, read_value(alloc, value)?)))
         }
+        _ => read_new_member(alloc, words),
+    }
+}
+
+/// A property that comes into an object.
+fn read_new_member(alloc: Global, words: &[&str]) -> Result<Option<Edit<Global>>, CaseError> {
+    match words {
+        ["AppendProperty", path, name, value @ ..] => {
+            let path = read_path(alloc, path)?;
+            let name = read_name(alloc, name)?;
+            let value = read_value(alloc, value)?;
+            Ok(Some(Edit::AppendProperty(path, name, value)))
+        }
+        ["InsertProperty", path, index, name, value @ ..] => {
+            let path = read_path(alloc, path)?;
+            let index = read_number(index)?;
+            let name = read_name(alloc, name)?;
+            let value = read_value(alloc, value)?;
+            Ok(Some(Edit::InsertProperty(path, index, name, value)))
+        }
         _ => Ok(None),
     }
 }

@@ -23,11 +23,15 @@ two = record { content = content.number (codes "2"); below = none }
 
 -- `1` becomes `1, 2`, whatever the options
 abbrev pub ComesBehind : Options → Type 0
-ComesBehind o = ElementComes o two 1 (number_then (codes "1") none) (number_then (codes "1") (token_then 0x2C (blank_then (codes " ") (number_then (codes "2") none))))
+ComesBehind o =
+    ElementComes o two 1 (number_then (codes "1") none)
+    (number_then (codes "1") (token_then 0x2C (blank_then (codes " ") (number_then (codes "2") none))))
 
 -- `1` becomes `2, 1`
 abbrev pub ComesFirst : Options → Type 0
-ComesFirst o = ElementComes o two 0 (number_then (codes "1") none) (number_then (codes "2") (token_then 0x2C (blank_then (codes " ") (number_then (codes "1") none))))
+ComesFirst o =
+    ElementComes o two 0 (number_then (codes "1") none)
+    (number_then (codes "2") (token_then 0x2C (blank_then (codes " ") (number_then (codes "1") none))))
 
 -- `1,` and the end of a line become `1,` and, on a line of its own, `2,` and the end of that
 abbrev pub ComesOnALine : Type 0

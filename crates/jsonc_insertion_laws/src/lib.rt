@@ -8,7 +8,8 @@
 //! ([`laws`], `specs/Laws.antt`). It is so under all options.
 //!
 //! So it is with a property that comes into an object, which is put on several lines before
-//! (`specs/Members.antt`). That a call makes of the nodes what this says of the trees is still to be proved.
+//! (`specs/Members.antt`). That the calls make of the nodes what this says of the trees is proved here of
+//! arrays, and in `jsonc_member_laws` of objects.
 #![tactic(auto)]
 
 pub mod laws;

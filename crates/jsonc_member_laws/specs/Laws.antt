@@ -25,7 +25,8 @@ abbrev pub PropertiesAreWritten : Options → List Node → List Node → List �
 PropertiesAreWritten o old new path c i name v m =
     IsTree old → SoundTree o (ordered_tree old 0) → IsAt old path c → content_at old c ≡ object → IsCharacters name → IsWritable o v
     → PropertyPut old new c i name v m
-    → (s : PropertyComesAt o path i name v (ordered_tree old 0) (ordered_tree new 0)) × IsMemberInserted o path i name v (ordered_tree old 0) (ordered_tree new 0) s
+    → (s : PropertyComesAt o path i name v (ordered_tree old 0) (ordered_tree new 0))
+    × IsMemberInserted o path i name v (ordered_tree old 0) (ordered_tree new 0) s
 
 -- the object stands where it stood, and the new property is its property of the number, or the last
 abbrev pub StandsInPlace : List Node → List Node → List ℕ → ℕ → ℕ → List ℕ → Plain → ℕ → Type 0

@@ -11,7 +11,7 @@
 //! answer is the new property, and nothing outside of the object changes; of the object's children blanks
 //! alone leave; in a sound document only want of memory refuses, and the layout that is told fits ([`laws`],
 //! `specs/Laws.antt`). `specs/Worked.antt` has worked insertions. That the text is a document again, with
-//! the property in its place, is still to be proved.
+//! the property in its place, is proved in `jsonc_member_laws`.
 #![tactic(auto)]
 
 pub mod laws;

@@ -1,9 +1,8 @@
 -- Values that come into arrays at paths.
-use Rattle.std.proofs.Common.{◌≡◌, ℕ, ◌≤◌, ◌+◌, Bool, true, false, not, cond, List, [], ◌∷◌, ◌++◌, length, Option, Some, Result, Ok, Err, IfErr, IfOk, OnOk, refl, sym, ap, subst, ◌∙◌, arith, append_assoc}
+use Rattle.std.proofs.Common.{◌≡◌, ℕ, ◌≤◌, ◌+◌, Bool, true, false, not, cond, List, [], ◌++◌, length, Option, Some, refl, sym, ap, subst, ◌∙◌, arith, append_assoc}
 use Rattle.std.proofs.lemmas.List.Filters.{length-filter_both}
 use Rattle.jsonc_text.specs.Options.{Options}
 use Rattle.jsonc_text.specs.Plain.{Plain, array}
-use Rattle.jsonc_text.specs.Grammar.{IsDocument}
 use Rattle.jsonc_text.proofs.UniqueValues.{document_unique}
 use Rattle.jsonc_tree.specs.Content as content
 use Rattle.jsonc_tree.specs.OrderedTree.{OrderedTree, ordered_tree}
@@ -22,11 +21,11 @@ use Rattle.jsonc_edit.specs.declared.error.EditError.TheVariants.{OutOfMemory, M
 use Rattle.jsonc_insert.specs.Inserted.{refusal, ElementPut}
 use Rattle.jsonc_insert.specs.Planned.{has_brackets}
 use Rattle.jsonc_insert.proofs.Past.{past_the_end}
-use Rattle.jsonc_insertion_laws.specs.Laws.{item_count, ElementComesAt, GainsItem, GainsMarks, IsInserted}
+use Rattle.jsonc_insertion_laws.specs.Laws.{item_count, ElementComesAt, GainsMarks, IsInserted}
 use Rattle.jsonc_insertion_laws.proofs.Comes.{elements_come_at}
 use Rattle.jsonc_insertion_laws.proofs.Containers.{has_its_brackets}
 use Rattle.jsonc_insertion_laws.proofs.Written.{inserts_element}
-use Rattle.jsonc_run.specs.Edits.{append_element, insert_element, IsMade}
+use Rattle.jsonc_run.specs.Edits.{append_element, insert_element}
 use Rattle.jsonc_run.specs.Places.{IsArrayAt}
 use Rattle.jsonc_run.specs.Refusals.{IsToldBy}
 use Rattle.jsonc_run.proofs.PathValues.{value_once}
@@ -39,7 +38,7 @@ array_found ns path at found standing finds = λ n. (
 )
 
 -- a container has no more elements than children
-fewer : (ns : List Node) (c : ℕ) → length (elements_at ns c) ≤ length (children_at ns c)
+pub fewer : (ns : List Node) (c : ℕ) → length (elements_at ns c) ≤ length (children_at ns c)
 fewer ns c = omega (arith, length-filter_both (is_element_at ns) (λ n. not (is_element_at ns n)) (λ n. refl) (children_at ns c))
 
 -- what came at the number of the children came behind the last element
@@ -47,7 +46,7 @@ pub comes_last : (old new : List Node) (c : ℕ) (v : Plain) (m : ℕ) → has_b
 comes_last old new c v m brackets put = past_the_end old new c (length (children_at old c)) (length (elements_at old c)) v m brackets (fewer old c) (omega arith) put
 
 -- why nothing came in
-no_other : (b : Bool) (e : EditError) → e ≡ cond b OutOfMemory MissingBrackets → (e ≡ MissingName → ⊥) × (e ≡ NoSuchPlace → ⊥)
+pub no_other : (b : Bool) (e : EditError) → e ≡ cond b OutOfMemory MissingBrackets → (e ≡ MissingName → ⊥) × (e ≡ NoSuchPlace → ⊥)
 no_other true e is = (λ other. let wrong : OutOfMemory ≡ MissingName = sym is ∙ other in cc, λ other. let wrong : OutOfMemory ≡ NoSuchPlace = sym is ∙ other in cc)
 no_other false e is = (λ other. let wrong : MissingBrackets ≡ MissingName = sym is ∙ other in cc, λ other. let wrong : MissingBrackets ≡ NoSuchPlace = sym is ∙ other in cc)
 

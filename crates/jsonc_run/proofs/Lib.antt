@@ -8,6 +8,7 @@ pub mod ValueMade
 pub mod Booleans
 pub mod OnLines
 pub mod Inserted
+pub mod Properties
 pub mod Ensured
 pub mod Written
 pub mod Refused

@@ -12,7 +12,7 @@ use Rattle.jsonc_laws.specs.TreeChanges.{leaves_of, property_of}
 use Rattle.jsonc_laws.specs.SoundTrees.{SoundTree}
 use Rattle.jsonc_laws.specs.MarkChanges.{MarksDifferIn, marks_under}
 use Rattle.jsonc_laws.specs.Marks.{Mark, marks, trimmed}
-use Rattle.jsonc_laws.specs.Written.{written}
+use Rattle.jsonc_laws.specs.Written.{property_written, written}
 use Rattle.jsonc_laws.proofs.GivingWay.{marks_follow, one_mark_leaves}
 use Rattle.jsonc_laws.proofs.Laid.{laid_as_written, laid_as_written_named}
 use Rattle.jsonc_laws.proofs.OneList.{marks_unique}
@@ -30,9 +30,10 @@ use Rattle.jsonc_run.specs.declared.edit.Over.{Over}
 use Rattle.jsonc_run.specs.declared.edit.Shape.{Shape}
 use Rattle.jsonc_run.specs.declared.edit.Shape.TheVariants.{Object, Array}
 use Rattle.jsonc_run.specs.Shapes.{empty_of}
-use Rattle.jsonc_run.specs.Edits.{Operation, replace, remove, remove_comment, set_root, clear_root, replace_property, ensure_root, set_value, ensure_value, set_boolean, ensure_multiline, insert_element, append_element, AreMade, none_made, first_made}
+use Rattle.jsonc_run.specs.Edits.{Operation, replace, remove, remove_comment, set_root, clear_root, replace_property, ensure_root, set_value, ensure_value, set_boolean, ensure_multiline, insert_element, append_element, insert_property, append_property, AreMade, none_made, first_made}
 use Rattle.jsonc_run.specs.Written.{MayBeMade, EntryLeft, entry_left, value_left, ValueGivesWay, RootValueSet, given_way, has_come, RootValueEnsured, all_kept, empty_set, PropertyGivenWay, property_given, ValueEnsured, all_stays, empty_given, StayAround}
 use Rattle.jsonc_run.specs.Marked.{IsMarked, AreMarked, none_marked, first_marked, MarkAll}
+use Rattle.jsonc_insertion_laws.proofs.Named.{inserts_member}
 use Rattle.jsonc_insertion_laws.proofs.Written.{inserts_element}
 use Rattle.jsonc_run.proofs.Inserted.{gained_marks}
 use Rattle.jsonc_run.proofs.Ensured.{empty_writable}
@@ -98,6 +99,10 @@ one_marked o t u (insert_element path i v) may s g = gained_marks (written v) _ 
 one_marked o t u (append_element path v) may s g =
     let far = g o s in
     gained_marks (written v) _ _ t u (inserts_element o path far.0 v t u (far.1 far.0 (omega arith)) s may).marks
+one_marked o t u (insert_property path i name v) may s g = gained_marks (property_written name v) _ _ t u (inserts_member o path i name v t u (g o s) s may.0 may.1).marks
+one_marked o t u (append_property path name v) may s g =
+    let far = g o s in
+    gained_marks (property_written name v) _ _ t u (inserts_member o path far.0 name v t u (far.1 far.0 (omega arith)) s may.0 may.1).marks
 
 all_marked : (o : Options) (old new : List Node) (es : List Operation) → IsTree old → AreMade old es new → SoundTree o (ordered_tree old 0) → All (MayBeMade o) es → AreMarked (marks (ordered_tree old 0)) es (marks (ordered_tree new 0))
 all_marked o old _ [] tree none_made s may = none_marked

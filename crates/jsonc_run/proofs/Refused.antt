@@ -1,5 +1,5 @@
 -- In a sound document no edit is refused for a bracket or a name: arrays and objects have their brackets, and properties their names.
-use Rattle.std.proofs.Common.{◌≡◌, ℕ, Bool, true, false, not, ◌||◌, cond, IsTrue, List, [], ◌∷◌, Option, Some, None, inl, inr, Result, Ok, Err, IfErr, take, refl, sym, ap, subst, ◌∙◌}
+use Rattle.std.proofs.Common.{◌≡◌, ℕ, Bool, true, false, not, ◌||◌, cond, IsTrue, List, [], ◌∷◌, Some, None, inl, inr, Result, Ok, Err, IfErr, refl, sym, ap, subst, ◌∙◌}
 use Rattle.std.proofs.lemmas.Bool.{cases_Bool, false≢true}
 use Rattle.std.specs.List.{find, list_any}
 use Rattle.jsonc_text.specs.Options.{Options}
@@ -17,11 +17,12 @@ use Rattle.jsonc_edit.proofs.Uniqueness.{element_parent}
 use Rattle.jsonc_remove.specs.Removed.{has_brackets, IsKeptFor}
 use Rattle.jsonc_multiline.specs.Multiline.{IsUnspread}
 use Rattle.jsonc_multiline.proofs.LineEnds.{has_its_brackets}
-use Rattle.jsonc_run.specs.Edits.{Operation, remove, ensure_value, ensure_multiline, insert_element, append_element, AreMade, none_made, first_made}
+use Rattle.jsonc_run.specs.Edits.{Operation, remove, ensure_value, ensure_multiline, insert_element, append_element, insert_property, append_property, AreMade, none_made, first_made}
 use Rattle.jsonc_insert.specs.Inserted.{refusal}
 use Rattle.jsonc_insertion_laws.proofs.Containers.{wants_memory_alone}
-use Rattle.jsonc_run.specs.Places.{IsArrayAt, IsContainerAt, IsEntryAt, IsPropertyAt, an_entry, a_property, in_array, in_object, the_value}
-use Rattle.jsonc_run.specs.Refusals.{IsToldBy, LacksBrackets, LacksName, StopsAt, WantsMemoryOrPlace}
+use Rattle.jsonc_members.proofs.Spreading as objects
+use Rattle.jsonc_run.specs.Places.{IsArrayAt, IsContainerAt, IsEntryAt, IsObjectAt, IsPropertyAt, an_entry, a_property, in_array, in_object, the_value}
+use Rattle.jsonc_run.specs.Refusals.{IsToldBy, LacksBrackets, LacksName, WantsMemoryOrPlace}
 use Rattle.jsonc_run.specs.Written.{IsRefusedAfter}
 use Rattle.jsonc_run.proofs.PropertyValues.{value_held}
 use Rattle.jsonc_run.proofs.Written.{write_all}
@@ -71,6 +72,9 @@ module _ (o : Options) (ns : List Node) (tree : IsTree ns) (sound : SoundTree o 
   array_kept : (path : List ℕ) (n : ℕ) → IsArrayAt ns path n → refusal ns n ≡ MissingBrackets → ⊥
   array_kept path n at lacks = let wrong : OutOfMemory ≡ MissingBrackets = sym (wants_memory_alone o ns path n tree sound at.0 at.1) ∙ lacks in cc
 
+  object_kept : (path : List ℕ) (n : ℕ) → IsObjectAt ns path n → refusal ns n ≡ MissingBrackets → ⊥
+  object_kept path n at lacks = let wrong : OutOfMemory ≡ MissingBrackets = sym (objects.wants_memory_alone o ns path n tree sound at.0 at.1).1 ∙ lacks in cc
+
   name_there : (path : List ℕ) (n : ℕ) → IsPropertyAt ns path n → lacks_name_at ns n ≡ true → ⊥
   name_there _ n (a_property front c i at inside) lacks =
       let held = value_held o ns tree sound _ n (a_property front c i at inside) in
@@ -81,6 +85,8 @@ module _ (o : Options) (ns : List Node) (tree : IsTree ns) (sound : SoundTree o 
   brackets_there (ensure_multiline path) (n, at, k) = lines_kept path n at k
   brackets_there (insert_element path i v) (n, at, k) = array_kept path n at k
   brackets_there (append_element path v) (n, at, k) = array_kept path n at k
+  brackets_there (insert_property path i name v) (n, at, k) = object_kept path n at k
+  brackets_there (append_property path name v) (n, at, k) = object_kept path n at k
   brackets_there _ k = k
 
   named : (e : Operation) → LacksName ns e → ⊥

@@ -35,8 +35,8 @@ use Rattle.jsonc_set.proofs.PropertyRows.{some_value_of, prints_value}
 use Rattle.jsonc_set.proofs.WrittenBoolean.{writes_boolean}
 use Rattle.jsonc_set.proofs.WrittenProperty.{writes_property}
 use Rattle.jsonc_run.specs.Places.{IsEntryAt, the_value, an_entry, IsEntryOf, in_array, in_object, IsBooleanAt, IsPropertyAt, a_property}
-use Rattle.jsonc_run.specs.Edits.{Operation, replace, remove, remove_comment, set_root, clear_root, replace_property, ensure_root, set_value, ensure_value, set_boolean, ensure_multiline, insert_element, append_element, AreMade, none_made, first_made, RootSet, IsMade}
-use Rattle.jsonc_run.specs.Written.{MayBeMade, IsChanged, by_value, by_entry, by_all, by_comment, by_root, by_clearing, by_property, by_ensuring, by_setting, by_ensuring_held, by_boolean, by_lines, by_inserting, by_appending, AreChanged, unchanged, first_changed}
+use Rattle.jsonc_run.specs.Edits.{Operation, replace, remove, remove_comment, set_root, clear_root, replace_property, ensure_root, set_value, ensure_value, set_boolean, ensure_multiline, insert_element, append_element, insert_property, append_property, AreMade, none_made, first_made, RootSet, IsMade}
+use Rattle.jsonc_run.specs.Written.{MayBeMade, IsChanged, by_value, by_entry, by_all, by_comment, by_root, by_clearing, by_property, by_ensuring, by_setting, by_ensuring_held, by_boolean, by_lines, by_inserting, by_appending, by_inserting_member, by_appending_member, AreChanged, unchanged, first_changed}
 use Rattle.jsonc_run.specs.declared.edit.Over.{Over}
 use Rattle.jsonc_run.specs.declared.edit.Over.TheVariants as over
 use Rattle.jsonc_run.specs.declared.edit.Shape.{Shape}
@@ -49,6 +49,8 @@ use Rattle.jsonc_insertion_laws.proofs.Comes.{elements_come_at}
 use Rattle.jsonc_insertion_laws.proofs.Containers.{has_its_brackets}
 use Rattle.jsonc_nodes.specs.Siblings.{elements_at}
 use Rattle.jsonc_run.proofs.Inserted.{came_in, came_last}
+use Rattle.jsonc_run.proofs.Properties as properties
+use Rattle.jsonc_member_laws.proofs.Coming.{properties_come_at}
 use Rattle.jsonc_run.proofs.Booleans.{boolean_given, boolean_changed}
 use Rattle.jsonc_run.proofs.PathValues.{gives_way_to_itself, value_of_text, value_at_path, value_once}
 use Rattle.jsonc_run.proofs.PropertyMade.{property_gives_way}
@@ -91,6 +93,9 @@ stays_around old new (insert_element path i v) tree after (n, m, at, put) = λ o
 stays_around old new (append_element path v) tree after (n, m, at, put) = λ o sound.
     let brackets = has_its_brackets o old path n tree sound at.0 at.1 in
     (length (elements_at old n), λ i far. elements_come_at o old new path n i v m tree sound at.0 at.1 (past_the_end old new n (length (elements_at old n)) i v m brackets (omega arith) far put))
+stays_around old new (insert_property path i name v) tree after (n, m, at, put) = λ o sound. properties_come_at o old new path n i name v m tree sound at.0 at.1 put
+stays_around old new (append_property path name v) tree after (n, m, at, put) = λ o sound.
+    (length (elements_at old n), λ i far. properties_come_at o old new path n i name v m tree sound at.0 at.1 (properties.behind_all o old new path n m name v tree sound at (length (elements_at old n)) i (omega arith) far put))
 
 -- under all options the leaves around stay
 pub stay_around : (old new : List Node) (es : List Operation) → IsTree old → AreMade old es new → AllStayAround (ordered_tree old 0) es (ordered_tree new 0)
@@ -248,6 +253,13 @@ module _ (o : Options) where
       let last = came_last o old new path n m v tree s at may put in
       let w = last.came.is in
       record { before = Some w.before; after = Some w.after; old_text = w.old_text; new_text = w.new_text; changed = by_appending w.gains last.far; sound = w.sound }
+  is_written old new (insert_property path i name v) tree after (n, m, at, put) s may =
+      let w = (properties.came_in o old new path n m name v tree s at may.0 may.1 i put).is in
+      record { before = Some w.before; after = Some w.after; old_text = w.old_text; new_text = w.new_text; changed = by_inserting_member w.gains; sound = w.sound }
+  is_written old new (append_property path name v) tree after (n, m, at, put) s may =
+      let last = properties.came_last o old new path n m name v tree s at may.0 may.1 put in
+      let w = last.came.is in
+      record { before = Some w.before; after = Some w.after; old_text = w.old_text; new_text = w.new_text; changed = by_appending_member w.gains last.far; sound = w.sound }
 
   all_written : (old new : List Node) (es : List Operation) → IsTree old → AreMade old es new → SoundTree o (ordered_tree old 0) → All (MayBeMade o) es → AreWritten o es (ordered_tree old 0) (ordered_tree new 0)
   all_written old _ [] tree none_made s may =

@@ -10,6 +10,7 @@ use Rattle.jsonc_edit.specs.Comments.{CommentTaken}
 use Rattle.jsonc_edit.specs.Paths.{IsAt}
 use Rattle.jsonc_edit.specs.Reading.{IsReplaced}
 use Rattle.jsonc_insert.specs.Inserted.{ElementPut}
+use Rattle.jsonc_members.specs.Inserted.{PropertyPut}
 use Rattle.jsonc_multiline.specs.Multiline.{MadeMultiline}
 use Rattle.jsonc_remove.specs.Removed.{TakesElement}
 use Rattle.jsonc_set.specs.Booleans.{BooleanSet}
@@ -18,17 +19,18 @@ use Rattle.jsonc_set.specs.Kinds.{FoundOrCreated, FoundOrSet}
 use Rattle.jsonc_set.specs.PropertyValues.{HeldOrSet, LastValue}
 use Rattle.jsonc_set.specs.RootSet.{FirstValue}
 use Rattle.jsonc_run.specs.declared.edit.Edit.{Edit}
-use Rattle.jsonc_run.specs.declared.edit.Edit.TheVariants.{Replace, Remove, RemoveComment, SetRoot, ClearRoot, ReplaceProperty, EnsureRoot, SetValue, EnsureValue, SetBoolean, EnsureMultiline, InsertElement, AppendElement}
+use Rattle.jsonc_run.specs.declared.edit.Edit.TheVariants.{Replace, Remove, RemoveComment, SetRoot, ClearRoot, ReplaceProperty, EnsureRoot, SetValue, EnsureValue, SetBoolean, EnsureMultiline, InsertElement, AppendElement, InsertProperty, AppendProperty}
 use Rattle.jsonc_run.specs.declared.edit.Over.{Over}
 use Rattle.jsonc_run.specs.declared.edit.Over.TheVariants as over
 use Rattle.jsonc_run.specs.declared.edit.Shape.{Shape}
-use Rattle.jsonc_run.specs.Places.{comment_at, IsArrayAt, IsBooleanAt, IsContainerAt, IsEntryAt, IsPropertyAt}
+use Rattle.jsonc_run.specs.Places.{comment_at, IsArrayAt, IsBooleanAt, IsContainerAt, IsEntryAt, IsObjectAt, IsPropertyAt}
 use Rattle.jsonc_run.specs.Shapes.{is_of, empty_of}
 
 -- What an edit asks for: that the value at the path gives way to this one, that the entry at the path leaves, or the comment of this number; that the
 -- document's value is this one, or that all leaves the document; that the property at the path gives way to one of this name and value; that the document has
 -- a value of a shape; that the value of the property at the path is this one, or is of a shape; that the truth value at the path becomes this one;
--- that the array or object at the path is on several lines; that the value comes into the array at the path, as its element of this number or behind the last.
+-- that the array or object at the path is on several lines; that the value comes into the array at the path, as its element of this number or behind the last;
+-- that a property of this name and value so comes into the object at the path.
 pub data Operation : Type 0 where
   replace : List ℕ → Plain → Operation
   remove : List ℕ → Operation
@@ -43,6 +45,8 @@ pub data Operation : Type 0 where
   ensure_multiline : List ℕ → Operation
   insert_element : List ℕ → ℕ → Plain → Operation
   append_element : List ℕ → Plain → Operation
+  insert_property : List ℕ → ℕ → List ℕ → Plain → Operation
+  append_property : List ℕ → List ℕ → Plain → Operation
 
 module _ {A : Type 0} where
   abbrev pub operation_of : Edit A → Operation
@@ -59,6 +63,8 @@ module _ {A : Type 0} where
   operation_of (EnsureMultiline path) = ensure_multiline path.items
   operation_of (InsertElement path index value) = insert_element path.items index (plain value)
   operation_of (AppendElement path value) = append_element path.items (plain value)
+  operation_of (InsertProperty path index name value) = insert_property path.items index (chars_of name) (plain value)
+  operation_of (AppendProperty path name value) = append_property path.items (chars_of name) (plain value)
 
   abbrev pub operations_of : List (Edit A) → List Operation
   operations_of edits = map operation_of edits
@@ -90,7 +96,8 @@ PropertyValueEnsured shape old new r = (lacks_name_at old r ≡ false) × (m : �
 -- been taken out; or n, the property at the path, has given way to m; or the document has a value of the shape, if it
 -- had none of another that was to stay; or the value of r, the property at the path, has been set, or is of the shape;
 -- or n, the truth value at the path, has become this one; or the array or object at the path has been put on several
--- lines, or was on several; or into n, the array at the path, the value has come as m, at this number or behind all elements.
+-- lines, or was on several; or into n, the array at the path, the value has come as m, at this number or behind all elements;
+-- or into n, the object at the path, the property has come so.
 abbrev pub IsMade : List Node → Operation → List Node → Type 0
 IsMade old (replace path v) new = (n m : ℕ) × IsAt old path n × IsReplaced old new n v m
 IsMade old (remove path) new = (n : ℕ) × IsEntryAt old path n × TakesElement old new n
@@ -105,6 +112,8 @@ IsMade old (set_boolean path b) new = (n : ℕ) × IsBooleanAt old path n × Boo
 IsMade old (ensure_multiline path) new = (n : ℕ) × IsContainerAt old path n × MadeMultiline old new n
 IsMade old (insert_element path i v) new = (n m : ℕ) × IsArrayAt old path n × ElementPut old new n i v m
 IsMade old (append_element path v) new = (n m : ℕ) × IsArrayAt old path n × ElementPut old new n (length (elements_at old n)) v m
+IsMade old (insert_property path i name v) new = (n m : ℕ) × IsObjectAt old path n × PropertyPut old new n i name v m
+IsMade old (append_property path name v) new = (n m : ℕ) × IsObjectAt old path n × PropertyPut old new n (length (elements_at old n)) name v m
 
 -- the edits were made in order, each in the tree that the one before it made
 pub data AreMade : List Node → List Operation → List Node → Type 0 where

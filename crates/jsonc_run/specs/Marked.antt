@@ -13,13 +13,13 @@ use Rattle.jsonc_laws.specs.Marks as marks
 use Rattle.jsonc_laws.specs.Marks.{Mark, AreMarks}
 use Rattle.jsonc_laws.specs.Written.{property_written, written}
 use Rattle.jsonc_laws.specs.EntryLaws.{LosesMarks}
-use Rattle.jsonc_run.specs.Edits.{Operation, replace, remove, remove_comment, set_root, clear_root, replace_property, ensure_root, set_value, ensure_value, set_boolean, ensure_multiline, insert_element, append_element}
+use Rattle.jsonc_run.specs.Edits.{Operation, replace, remove, remove_comment, set_root, clear_root, replace_property, ensure_root, set_value, ensure_value, set_boolean, ensure_multiline, insert_element, append_element, insert_property, append_property}
 use Rattle.jsonc_run.specs.Written.{MayBeMade}
 
 -- One stretch of the marks has given way to the literals that are written for the new value, or for the new name and value of a property; in a document
 -- that had no value these have come. Or those of an entry have left, with comments beside it; or one comment has left. All others stay, in order. An
 -- empty array or object has none. Of a cleared root none stay. One truth value has given way to another. Lines change none. Of a value that comes into an array
--- the literals have come.
+-- the literals have come, and of a property that comes into an object its name and the literals of its value.
 abbrev pub IsMarked : List Mark → Operation → List Mark → Type 0
 IsMarked x (replace path v) y = (was : List Mark) × MarksDifferIn was (written v) x y
 IsMarked x (remove path) y = (top : Top) × LosesMarks top x y
@@ -34,6 +34,8 @@ IsMarked x (set_boolean path b) y = (was : Bool) × MarksDifferIn (written (bool
 IsMarked x (ensure_multiline path) y = y ≡ x
 IsMarked x (insert_element path i v) y = MarksDifferIn [] (written v) x y
 IsMarked x (append_element path v) y = MarksDifferIn [] (written v) x y
+IsMarked x (insert_property path i name v) y = MarksDifferIn [] (property_written name v) x y
+IsMarked x (append_property path name v) y = MarksDifferIn [] (property_written name v) x y
 
 -- so it is for each of the edits, one after another
 pub data AreMarked : List Mark → List Operation → List Mark → Type 0 where

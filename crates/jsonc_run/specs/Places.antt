@@ -25,6 +25,10 @@ IsContainerAt ns path n = IsAt ns path n × IsTrue (holds_values (content_at ns 
 abbrev pub IsArrayAt : List Node → List ℕ → ℕ → Type 0
 IsArrayAt ns path n = IsAt ns path n × (content_at ns n ≡ array)
 
+-- the object that a path leads to
+abbrev pub IsObjectAt : List Node → List ℕ → ℕ → Type 0
+IsObjectAt ns path n = IsAt ns path n × (content_at ns n ≡ object)
+
 -- the property at this place in an object; what it holds may be missing
 pub record IsPropertyOf (ns : List Node) (c i r : ℕ) : Type 0 where
   pub of_object : content_at ns c ≡ object

@@ -17,10 +17,10 @@ use Rattle.jsonc_run.specs.declared.edit.Over.{Over}
 use Rattle.jsonc_run.specs.declared.edit.Over.TheVariants as over
 use Rattle.jsonc_run.specs.declared.edit.Shape.{Shape}
 use Rattle.jsonc_run.specs.Shapes.{is_of}
-use Rattle.jsonc_run.specs.Places.{comment_at, IsArrayAt, IsBooleanAt, IsContainerAt, IsEntryAt, IsPropertyAt}
-use Rattle.jsonc_run.specs.Edits.{Operation, replace, remove, remove_comment, set_root, clear_root, replace_property, ensure_root, set_value, ensure_value, set_boolean, ensure_multiline, insert_element, append_element, AreMade}
+use Rattle.jsonc_run.specs.Places.{comment_at, IsArrayAt, IsBooleanAt, IsContainerAt, IsEntryAt, IsObjectAt, IsPropertyAt}
+use Rattle.jsonc_run.specs.Edits.{Operation, replace, remove, remove_comment, set_root, clear_root, replace_property, ensure_root, set_value, ensure_value, set_boolean, ensure_multiline, insert_element, append_element, insert_property, append_property, AreMade}
 
--- a node stands where the edit is to be made, an entry, a property, a truth value, an array or object, an array, or there is
+-- a node stands where the edit is to be made, an entry, a property, a truth value, an array or object, an array, an object, or there is
 -- the comment; edits of the root always have their place
 abbrev pub HasItsPlace : List Node → Operation → Type 0
 HasItsPlace ns (replace path v) = (n : ℕ) × IsAt ns path n
@@ -36,6 +36,8 @@ HasItsPlace ns (set_boolean path b) = (n : ℕ) × IsBooleanAt ns path n
 HasItsPlace ns (ensure_multiline path) = (n : ℕ) × IsContainerAt ns path n
 HasItsPlace ns (insert_element path i v) = (n : ℕ) × IsArrayAt ns path n
 HasItsPlace ns (append_element path v) = (n : ℕ) × IsArrayAt ns path n
+HasItsPlace ns (insert_property path i name v) = (n : ℕ) × IsObjectAt ns path n
+HasItsPlace ns (append_property path name v) = (n : ℕ) × IsObjectAt ns path n
 
 -- an empty value has to be set: the document has none, or one of another shape that is to give way
 abbrev pub WantsEmpty : Shape → Over → List Node → Type 0
@@ -57,13 +59,17 @@ MayWantMemory ns (set_boolean path b) = (n : ℕ) × IsBooleanAt ns path n × Wa
 MayWantMemory ns (ensure_multiline path) = (n : ℕ) × IsContainerAt ns path n × IsUnspread ns n OutOfMemory
 MayWantMemory ns (insert_element path i v) = (n : ℕ) × IsArrayAt ns path n × (refusal ns n ≡ OutOfMemory)
 MayWantMemory ns (append_element path v) = (n : ℕ) × IsArrayAt ns path n × (refusal ns n ≡ OutOfMemory)
+MayWantMemory ns (insert_property path i name v) = (n : ℕ) × IsObjectAt ns path n × (refusal ns n ≡ OutOfMemory)
+MayWantMemory ns (append_property path name v) = (n : ℕ) × IsObjectAt ns path n × (refusal ns n ≡ OutOfMemory)
 
--- the array or object of the entry that is to leave, or that is to be on several lines, or the array that a value is to come into, lacks a bracket
+-- the array or object of the entry that is to leave, or that is to be on several lines, or that a value or property is to come into, lacks a bracket
 abbrev pub LacksBrackets : List Node → Operation → Type 0
 LacksBrackets ns (remove path) = (n : ℕ) × IsEntryAt ns path n × IsKeptFor ns n MissingBrackets
 LacksBrackets ns (ensure_multiline path) = (n : ℕ) × IsContainerAt ns path n × IsUnspread ns n MissingBrackets
 LacksBrackets ns (insert_element path i v) = (n : ℕ) × IsArrayAt ns path n × (refusal ns n ≡ MissingBrackets)
 LacksBrackets ns (append_element path v) = (n : ℕ) × IsArrayAt ns path n × (refusal ns n ≡ MissingBrackets)
+LacksBrackets ns (insert_property path i name v) = (n : ℕ) × IsObjectAt ns path n × (refusal ns n ≡ MissingBrackets)
+LacksBrackets ns (append_property path name v) = (n : ℕ) × IsObjectAt ns path n × (refusal ns n ≡ MissingBrackets)
 LacksBrackets ns e = ⊥
 
 -- the property whose value is to be of a shape lacks its name, or its colon

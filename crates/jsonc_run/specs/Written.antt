@@ -23,6 +23,7 @@ use Rattle.jsonc_laws.specs.EntryLaws.{LosesEntry, root_with}
 use Rattle.jsonc_laws.specs.Properties.{PropertyChanged, ReplacesMember}
 use Rattle.jsonc_multiline.specs.Laws.{SpreadAt}
 use Rattle.jsonc_insertion_laws.specs.Laws.{item_count, ElementComesAt, GainsItem}
+use Rattle.jsonc_insertion_laws.specs.Members.{member_count, GainsMember, PropertyComesAt}
 use Rattle.jsonc_remove.specs.Laws.{EntryTaken, ValueTaken}
 use Rattle.jsonc_run.specs.declared.edit.Over.{Over}
 use Rattle.jsonc_run.specs.declared.edit.Over.TheVariants as over
@@ -30,7 +31,7 @@ use Rattle.jsonc_run.specs.declared.edit.Shape.{Shape}
 use Rattle.jsonc_edit.specs.declared.error.EditError.{EditError}
 use Rattle.jsonc_run.specs.Refusals.{WantsMemoryOrPlace}
 use Rattle.jsonc_run.specs.Shapes.{has_shape, empty_of}
-use Rattle.jsonc_run.specs.Edits.{Operation, replace, remove, remove_comment, set_root, clear_root, replace_property, ensure_root, set_value, ensure_value, set_boolean, ensure_multiline, insert_element, append_element}
+use Rattle.jsonc_run.specs.Edits.{Operation, replace, remove, remove_comment, set_root, clear_root, replace_property, ensure_root, set_value, ensure_value, set_boolean, ensure_multiline, insert_element, append_element, insert_property, append_property}
 
 -- documents of these options can hold what the edit writes: its value, and the name of its property
 abbrev pub MayBeMade : Options → Operation → Type 0
@@ -47,6 +48,8 @@ MayBeMade o (set_boolean path b) = Unit {0}
 MayBeMade o (ensure_multiline path) = Unit {0}
 MayBeMade o (insert_element path i v) = IsWritable o v
 MayBeMade o (append_element path v) = IsWritable o v
+MayBeMade o (insert_property path i name v) = IsCharacters name × IsWritable o v
+MayBeMade o (append_property path name v) = IsCharacters name × IsWritable o v
 
 -- the second value is the empty one of the shape, where there was none, or one of another shape that was to give way; any other has stayed
 pub data EnsuredValue (shape : Shape) : Over → Option Plain → Option Plain → Type 0 where
@@ -68,7 +71,7 @@ pub record ReplacesHeld (path : List ℕ) (i : ℕ) (was now x y : Plain) : Type
 -- a value of a shape is to be there, it is the first or an empty one; where the value of a property is set, or is to be of a shape, it is the first, but that
 -- the property has this value, or, if it had none of the shape, an empty one; where a truth value is set, it is the first, but that at the path, where one
 -- stood, this one stands; lines change nothing; where a value comes into an array, it is the first, but that the array at the path has it, at its number or as
--- its last.
+-- its last; and so where a property comes into an object.
 pub data IsChanged : Option Plain → Operation → Option Plain → Type 0 where
   by_value : {given_up v x y : Plain} {path : List ℕ} → Changed given_up v path x y → IsChanged (Some x) (replace path v) (Some y)
   by_entry : (path : List ℕ) (i : ℕ) {x y : Plain} → LosesEntry path i x y → IsChanged (Some x) (remove (path ++ i ∷ [])) (Some y)
@@ -86,7 +89,12 @@ pub data IsChanged : Option Plain → Operation → Option Plain → Type 0 wher
   by_boolean : {was b : Bool} {x y : Plain} {path : List ℕ} → Changed (boolean was) (boolean b) path x y → IsChanged (Some x) (set_boolean path b) (Some y)
   by_lines : {w : Option Plain} {path : List ℕ} → IsChanged w (ensure_multiline path) w
   by_inserting : {i : ℕ} {v x y : Plain} {path : List ℕ} → GainsItem path i v x y → IsChanged (Some x) (insert_element path i v) (Some y)
-  by_appending : {i : ℕ} {v x y : Plain} {path : List ℕ} (gains : GainsItem path i v x y) → item_count gains.old ≤ i → IsChanged (Some x) (append_element path v) (Some y)
+  by_appending : {i : ℕ} {v x y : Plain} {path : List ℕ} (gains : GainsItem path i v x y) → item_count gains.old ≤ i
+      → IsChanged (Some x) (append_element path v) (Some y)
+  by_inserting_member : {i : ℕ} {name : List ℕ} {v x y : Plain} {path : List ℕ} → GainsMember path i name v x y
+      → IsChanged (Some x) (insert_property path i name v) (Some y)
+  by_appending_member : {i : ℕ} {name : List ℕ} {v x y : Plain} {path : List ℕ} (gains : GainsMember path i name v x y) → member_count gains.old ≤ i
+      → IsChanged (Some x) (append_property path name v) (Some y)
 
 -- the edits, one after another, make the second value of the first
 pub data AreChanged : Option Plain → List Operation → Option Plain → Type 0 where
@@ -134,8 +142,8 @@ pub data PropertyGivenWay (name : List ℕ) (v : Plain) (t u : OrderedTree) : Li
 -- What stays where an edit is made: all leaves around a value that gives way, or a truth value that becomes another, and around a comment with the blanks
 -- before it; in a sound document all around an entry with what leaves with it, around the document's value, around a property that gives way to one that may
 -- be written, and around a property's value; and of an array or object
--- that is put on several lines all but blanks, and around a value that comes into an array; behind all elements all greater numbers do the same. Of a cleared
--- root nothing stays.
+-- that is put on several lines all but blanks, and around a value that comes into an array, or a property into an object; behind all elements all greater
+-- numbers do the same. Of a cleared root nothing stays.
 abbrev pub StayAround : OrderedTree → Operation → OrderedTree → Type 0
 StayAround t (replace path v) u = ValueGivesWay path v t u
 StayAround t (remove path) u = (o : Options) → SoundTree o t → EntryLeft t u path
@@ -150,6 +158,8 @@ StayAround t (set_boolean path b) u = (was : Bool) × (given : ValueGivesWay pat
 StayAround t (ensure_multiline path) u = (o : Options) → SoundTree o t → SpreadAt path t u
 StayAround t (insert_element path i v) u = (o : Options) → SoundTree o t → ElementComesAt o path i v t u
 StayAround t (append_element path v) u = (o : Options) → SoundTree o t → (n : ℕ) × ((i : ℕ) → n ≤ i → ElementComesAt o path i v t u)
+StayAround t (insert_property path i name v) u = (o : Options) → SoundTree o t → PropertyComesAt o path i name v t u
+StayAround t (append_property path name v) u = (o : Options) → SoundTree o t → (n : ℕ) × ((i : ℕ) → n ≤ i → PropertyComesAt o path i name v t u)
 
 -- so it is for each of the edits, one after another
 pub data AllStayAround : OrderedTree → List Operation → OrderedTree → Type 0 where

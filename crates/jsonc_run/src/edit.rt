@@ -64,4 +64,9 @@ pub enum Edit<A: Allocator> {
     InsertElement(Vec<usize, A>, usize, CstInputValue<A>),
     /// A value comes into the array at a path, behind its last element.
     AppendElement(Vec<usize, A>, CstInputValue<A>),
+    /// A property of this name and value comes into the object at a path, before its property of this
+    /// number, counted from 0, or behind the last where it has fewer. The object is put on several lines.
+    InsertProperty(Vec<usize, A>, usize, String<A>, CstInputValue<A>),
+    /// A property of this name and value comes into the object at a path, behind its last property.
+    AppendProperty(Vec<usize, A>, String<A>, CstInputValue<A>),
 }

@@ -21,6 +21,7 @@ use crate::edit::{Edit, Over, Shape};
 use crate::entries::{find_entry, find_property};
 use crate::inserting::{append_element_at, insert_element_at};
 use crate::lines::ensure_multiline_at;
+use crate::members::{append_property_at, insert_property_at};
 use crate::values::{ensure_value_at, set_boolean_at, set_value_at};
 use jsonc_edit::{EditError, find, remove_comment, replace};
 use jsonc_input::CstInputValue;
@@ -86,6 +87,12 @@ fn make_by_kind<A: Allocator + Copy>(
             insert_element_at(alloc, tree, path, *index, value)
         }
         Edit::AppendElement(path, value) => append_element_at(alloc, tree, path, value),
+        Edit::InsertProperty(path, index, name, value) => {
+            insert_property_at(alloc, tree, path, *index, name, value)
+        }
+        Edit::AppendProperty(path, name, value) => {
+            append_property_at(alloc, tree, path, name, value)
+        }
     }
 }
 

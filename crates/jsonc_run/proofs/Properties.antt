@@ -1,0 +1,95 @@
+-- Properties that come into objects at paths.
+use Rattle.std.proofs.Common.{◌≡◌, ℕ, ◌≤◌, ◌<◌, ◌+◌, true, List, length, Option, Some, refl, sym, ap, subst, arith}
+use Rattle.jsonc_text.specs.Options.{Options}
+use Rattle.jsonc_text.specs.Plain.{Plain, object}
+use Rattle.jsonc_text.proofs.UniqueValues.{document_unique}
+use Rattle.jsonc_tree.specs.Content as content
+use Rattle.jsonc_tree.specs.OrderedTree.{OrderedTree, ordered_tree}
+use Rattle.jsonc_tree.specs.Tree.{Node, children_at, content_at, IsTree}
+use Rattle.jsonc_build.specs.Shape.{printed_text}
+use Rattle.jsonc_nodes.specs.Siblings.{elements_at}
+use Rattle.jsonc_from_input.specs.Texts.{IsCharacters}
+use Rattle.jsonc_laws.specs.Changes.{Changed}
+use Rattle.jsonc_laws.specs.SoundTrees.{SoundTree}
+use Rattle.jsonc_edit.specs.Paths.{FindsExactly, IsAt}
+use Rattle.jsonc_edit.specs.Writing.{IsWritable}
+use Rattle.jsonc_edit.specs.declared.error.EditError.{EditError}
+use Rattle.jsonc_edit.specs.declared.error.EditError.TheVariants.{OutOfMemory, MissingBrackets, MissingName, NoSuchPlace}
+use Rattle.jsonc_edit.proofs.FittingNodes.{over_there}
+use Rattle.jsonc_insert.specs.Inserted.{refusal}
+use Rattle.jsonc_insert.specs.Planned.{has_brackets}
+use Rattle.jsonc_multiline.proofs.Documents.{over_at}
+use Rattle.jsonc_members.specs.Inserted.{PropertyPut}
+use Rattle.jsonc_members.proofs.Past.{past_the_end}
+use Rattle.jsonc_members.proofs.Spreading.{wants_memory_alone}
+use Rattle.jsonc_insertion_laws.specs.Members.{member_count, IsMemberInserted, PropertyComesAt}
+use Rattle.jsonc_insertion_laws.proofs.Named.{inserts_member}
+use Rattle.jsonc_member_laws.proofs.Coming.{properties_come_at}
+use Rattle.jsonc_run.specs.Edits.{append_property, insert_property}
+use Rattle.jsonc_run.specs.Places.{IsObjectAt}
+use Rattle.jsonc_run.specs.Refusals.{IsToldBy}
+use Rattle.jsonc_run.proofs.Inserted.{fewer, no_other}
+use Rattle.jsonc_run.proofs.PathValues.{value_once}
+
+-- the object at a path is what stands there, if it is one
+pub object_found : (ns : List Node) (path : List ℕ) (at found : Option ℕ) → FindsExactly at (IsAt ns path) → FindsExactly found (λ n. (at ≡ Some n) × (content_at ns n ≡ content.object)) → FindsExactly found (IsObjectAt ns path)
+object_found ns path at found standing finds = λ n. (
+  λ e. let it = (finds n).0 e in ((standing n).0 it.0, it.1),
+  λ h. (finds n).1 ((standing n).1 h.0, h.1),
+)
+
+-- it is one of the nodes
+pub object_there : (ns : List Node) → IsTree ns → (path : List ℕ) (n : ℕ) → IsObjectAt ns path n → n < length ns
+object_there ns tree path n at = over_there ns tree n (over_at ns tree path n at.0)
+
+-- what came at the number of the children came behind the last property
+pub comes_last : (old new : List Node) (c : ℕ) (name : List ℕ) (v : Plain) (m : ℕ) → IsTree old → c < length old → has_brackets old (children_at old c) ≡ true → PropertyPut old new c (length (children_at old c)) name v m → PropertyPut old new c (length (elements_at old c)) name v m
+comes_last old new c name v m tree there brackets put = past_the_end old new c (length (children_at old c)) (length (elements_at old c)) name v m tree there brackets (fewer old c) (omega arith) put
+
+-- why nothing came in
+module _ (ns : List Node) (path : List ℕ) (n : ℕ) (name : List ℕ) (v : Plain) (at : IsObjectAt ns path n) where
+  pub told_in : (i : ℕ) (e : EditError) → e ≡ refusal ns n → IsToldBy ns (insert_property path i name v) e
+  told_in i OutOfMemory is = (n, at, sym is)
+  told_in i MissingBrackets is = (n, at, sym is)
+  told_in i MissingName is = absurd ((no_other (has_brackets ns (children_at ns n)) MissingName is).0 refl)
+  told_in i NoSuchPlace is = absurd ((no_other (has_brackets ns (children_at ns n)) NoSuchPlace is).1 refl)
+
+  pub told_behind : (e : EditError) → e ≡ refusal ns n → IsToldBy ns (append_property path name v) e
+  told_behind OutOfMemory is = (n, at, sym is)
+  told_behind MissingBrackets is = (n, at, sym is)
+  told_behind MissingName is = absurd ((no_other (has_brackets ns (children_at ns n)) MissingName is).0 refl)
+  told_behind NoSuchPlace is = absurd ((no_other (has_brackets ns (children_at ns n)) NoSuchPlace is).1 refl)
+
+-- what a property that came into the object at the path of a sound document makes of it
+pub record CameIn (o : Options) (path : List ℕ) (i : ℕ) (name : List ℕ) (v : Plain) (t u : OrderedTree) : Type 0 where
+  pub come : PropertyComesAt o path i name v t u
+  pub is : IsMemberInserted o path i name v t u come
+
+-- and one that came behind all
+pub record CameLast (o : Options) (path : List ℕ) (name : List ℕ) (v : Plain) (t u : OrderedTree) : Type 0 where
+  pub i : ℕ
+  pub came : CameIn o path i name v t u
+  pub far : member_count came.is.gains.old ≤ i
+
+module _ (o : Options) (old new : List Node) (path : List ℕ) (n m : ℕ) (name : List ℕ) (v : Plain) (tree : IsTree old) (sound : SoundTree o (ordered_tree old 0)) (at : IsObjectAt old path n) where
+  -- behind all properties all greater numbers do the same
+  pub behind_all : (i j : ℕ) → length (elements_at old n) ≤ i → length (elements_at old n) ≤ j → PropertyPut old new n i name v m → PropertyPut old new n j name v m
+  behind_all i j h k put =
+      past_the_end old new n i j name v m tree (object_there old tree path n at) (wants_memory_alone o old path n tree sound at.0 at.1).0 h k put
+
+  module _ (texts : IsCharacters name) (may : IsWritable o v) where
+    pub came_in : (i : ℕ) → PropertyPut old new n i name v m → CameIn o path i name v (ordered_tree old 0) (ordered_tree new 0)
+    came_in i put =
+        let come = properties_come_at o old new path n i name v m tree sound at.0 at.1 put in
+        record { come = come; is = inserts_member o path i name v (ordered_tree old 0) (ordered_tree new 0) come sound texts may }
+
+    pub came_last : PropertyPut old new n (length (elements_at old n)) name v m → CameLast o path name v (ordered_tree old 0) (ordered_tree new 0)
+    came_last put =
+        let len : ℕ = length (elements_at old n) in
+        let first = came_in len put in
+        let k : ℕ = member_count first.is.gains.old in
+        let came = came_in (len + k) (behind_all len (len + k) (omega arith) (omega arith) put) in
+        let before : first.is.before ≡ came.is.before = let e : Some first.is.before ≡ Some came.is.before = document_unique o (printed_text (ordered_tree old 0)) (Some first.is.before) (Some came.is.before) first.is.old_text came.is.old_text in cc in
+        let members : object first.is.gains.old ≡ object came.is.gains.old = value_once (subst (λ z. Changed (object first.is.gains.old) (object first.is.gains.new) path z first.is.after) before first.is.gains.changed) came.is.gains.changed in
+        let same : first.is.gains.old ≡ came.is.gains.old = cc in
+        record { i = len + k; came = came; far = omega (arith, ap member_count same) }
