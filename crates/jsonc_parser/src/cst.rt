@@ -21,8 +21,8 @@ pub use jsonc_cst::cst::{
 };
 pub use jsonc_run::{Edit, Over, Shape};
 pub use jsonc_typed::{
-    EnsureMultiline, InsertElement, IsDocument, Remove, RemoveLeaf, ReplaceProperty, ReplaceWith,
-    SetBoolean, SetNewline, SetProperty, SetRawValue, SetRoot, SetToken, SetTrailingCommas,
-    SetWhitespace,
+    EnsureMultiline, InsertElement, InsertProperty, IsDocument, Remove, RemoveLeaf,
+    ReplaceProperty, ReplaceWith, SetBoolean, SetNewline, SetProperty, SetRawValue, SetRoot,
+    SetToken, SetTrailingCommas, SetWhitespace,
 };
 pub use lists::run;

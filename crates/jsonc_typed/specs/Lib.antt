@@ -4,6 +4,7 @@ pub mod Edits
 pub mod Inserting
 pub mod Lines
 pub mod Marked
+pub mod Members
 pub mod Raw
 pub mod Removing
 pub mod Setting

@@ -1,0 +1,10 @@
+use Rattle.std.proofs.Common.{ℕ, length, OnOk, chars, subst}
+use Rattle.jsonc_input.specs.Views.{plain}
+use Rattle.jsonc_nodes.specs.Siblings.{elements_at}
+use Rattle.jsonc_typed.specs.Members.{PutsNamedAtItsPath}
+use Rattle.jsonc_typed.proofs.members.CstObjectInsertProperty.append.Goals as goal
+
+pub returns-clause-written : goal.returns-clause-written
+returns-clause-written g c = λ o.
+    let old = c.args.doc.now.tree.nodes in
+    subst (λ (n : ℕ). OnOk c.append_to-put.result (PutsNamedAtItsPath o old c.append_to-put.new.tree.nodes n (length (elements_at old n)) (chars c.args.name.now) (plain c.args.value))) c.object_number-number.ensures.number (c.append_to-put.ensures.written o)

@@ -1,0 +1,9 @@
+use Rattle.std.proofs.Common.{ℕ, OnOk, chars, subst}
+use Rattle.jsonc_input.specs.Views.{plain}
+use Rattle.jsonc_typed.specs.Members.{PutsNamedAtItsPath}
+use Rattle.jsonc_typed.proofs.members.CstObjectInsertProperty.insert.Goals as goal
+
+pub returns-clause-written : goal.returns-clause-written
+returns-clause-written g c = λ o.
+    let old = c.args.doc.now.tree.nodes in
+    subst (λ (n : ℕ). OnOk c.insert_at-put.result (PutsNamedAtItsPath o old c.insert_at-put.new.tree.nodes n c.args.index (chars c.args.name.now) (plain c.args.value))) c.object_number-number.ensures.number (c.insert_at-put.ensures.written o)

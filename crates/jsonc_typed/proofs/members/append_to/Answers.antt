@@ -1,0 +1,26 @@
+use Rattle.std.proofs.Common.{ℕ, IfOk, chars, subst}
+use Rattle.jsonc_input.specs.Views.{plain}
+use Rattle.jsonc_typed.specs.Members.{NamedComesInAt, PropertyStandsAt}
+use Rattle.jsonc_typed.proofs.NamedIn.{appended, appended_property, appended_written}
+use Rattle.jsonc_typed.proofs.members.append_to.Goals as goal
+
+pub returns-clause-put : goal.returns-clause-put
+returns-clause-put g c =
+    let old = c.args.tree.now.nodes in
+    let new = c.insert_at.new.tree.nodes in
+    appended old new c.args.object (chars c.args.name.now) (plain c.args.value.now) c.len.ensures.tree c.requires.there c.insert_at.result c.insert_at.ensures.brackets
+    (subst (λ (k : ℕ). IfOk c.insert_at.result (NamedComesInAt old new c.args.object k (chars c.args.name.now) (plain c.args.value.now))) c.child_count-count.ensures c.insert_at.ensures.put)
+
+pub returns-clause-property : goal.returns-clause-property
+returns-clause-property g c =
+    let old = c.args.tree.now.nodes in
+    let new = c.insert_at.new.tree.nodes in
+    appended_property old new c.args.object (chars c.args.name.now) (plain c.args.value.now) c.len.ensures.tree c.requires.there c.insert_at.result
+    (subst (λ (k : ℕ). IfOk c.insert_at.result (PropertyStandsAt old new c.args.object k)) c.child_count-count.ensures c.insert_at.ensures.property)
+
+pub returns-clause-written : goal.returns-clause-written
+returns-clause-written g c = λ o.
+    let old = c.args.tree.now.nodes in
+    let new = c.insert_at.new.tree.nodes in
+    appended_written old new c.args.object (chars c.args.name.now) (plain c.args.value.now) c.len.ensures.tree c.requires.there c.requires.object o c.insert_at.result c.insert_at.ensures.brackets
+    (subst (λ (k : ℕ). IfOk c.insert_at.result (NamedComesInAt old new c.args.object k (chars c.args.name.now) (plain c.args.value.now))) c.child_count-count.ensures c.insert_at.ensures.put)

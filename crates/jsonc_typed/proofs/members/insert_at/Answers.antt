@@ -1,0 +1,50 @@
+use Rattle.std.proofs.Common.{ℕ, length, min, chars, sym, subst}
+use Rattle.jsonc_input.specs.Views.{plain}
+use Rattle.jsonc_nodes.specs.Siblings.{elements_at}
+use Rattle.jsonc_edit.specs.Paths.{IsElementOf}
+use Rattle.jsonc_members.specs.Inserted.{PropertyPut}
+use Rattle.jsonc_typed.proofs.NamedIn.{put_element, put_for_memory, put_others, put_property, put_stays, put_there, put_written}
+use Rattle.jsonc_typed.proofs.Kept.{nodes_stay, stay_kept}
+use Rattle.jsonc_typed.proofs.members.insert_at.Goals as goal
+
+pub property_at-requires-there : goal.property_at-requires-there
+property_at-requires-there g c =
+    put_there c.args.tree.now.nodes c.insert_property.new.tree.nodes c.args.object c.args.index (chars c.args.name.now) (plain c.args.value.now) c.in-Ok.property c.len.ensures.tree c.requires.there c.in-Ok.ensures.brackets c.in-Ok.ensures.put
+
+pub property_at-requires-property : goal.property_at-requires-property
+property_at-requires-property g c =
+    put_property c.args.tree.now.nodes c.insert_property.new.tree.nodes c.args.object c.args.index (chars c.args.name.now) (plain c.args.value.now) c.in-Ok.property c.len.ensures.tree c.requires.there c.in-Ok.ensures.brackets c.in-Ok.ensures.put
+
+pub returns-in-Ok-clause-put : goal.returns-in-Ok-clause-put
+returns-in-Ok-clause-put g c =
+    let old = c.args.tree.now.nodes in
+    let new = c.insert_property.new.tree.nodes in
+    subst (λ (m : ℕ). PropertyPut old new c.args.object c.args.index (chars c.args.name.now) (plain c.args.value.now) m) (sym c.property_at.ensures.number) c.in-Ok.ensures.put
+
+pub returns-in-Ok-clause-property : goal.returns-in-Ok-clause-property
+returns-in-Ok-clause-property g c =
+    let old = c.args.tree.now.nodes in
+    let new = c.insert_property.new.tree.nodes in
+    subst (λ (m : ℕ). IsElementOf new c.args.object (min c.args.index (length (elements_at old c.args.object))) m) (sym c.property_at.ensures.number)
+    (put_element old new c.args.object c.args.index (chars c.args.name.now) (plain c.args.value.now) c.in-Ok.property c.len.ensures.tree c.requires.there c.in-Ok.ensures.brackets c.in-Ok.ensures.put)
+
+pub returns-in-Ok-clause-written : goal.returns-in-Ok-clause-written
+returns-in-Ok-clause-written g c = λ o.
+    put_written c.args.tree.now.nodes c.insert_property.new.tree.nodes c.args.object (chars c.args.name.now) (plain c.args.value.now) c.len.ensures.tree c.requires.object o c.args.index c.in-Ok.property c.in-Ok.ensures.put
+
+pub returns-in-Ok-clause-others : goal.returns-in-Ok-clause-others
+returns-in-Ok-clause-others g c =
+    put_others c.args.tree.now.nodes c.insert_property.new.tree.nodes c.args.object c.args.index (chars c.args.name.now) (plain c.args.value.now) c.in-Ok.property c.len.ensures.tree c.requires.there c.in-Ok.ensures.brackets c.in-Ok.ensures.put
+
+pub returns-in-Ok-clause-stays : goal.returns-in-Ok-clause-stays
+returns-in-Ok-clause-stays g c =
+    nodes_stay c.args.tree.now.nodes c.insert_property.new.tree.nodes
+    (put_stays c.args.tree.now.nodes c.insert_property.new.tree.nodes c.args.object c.args.index (chars c.args.name.now) (plain c.args.value.now) c.in-Ok.property c.len.ensures.tree c.requires.there c.in-Ok.ensures.brackets c.in-Ok.ensures.put)
+
+pub returns-in-Err-clause-stays : goal.returns-in-Err-clause-stays
+returns-in-Err-clause-stays g c =
+    nodes_stay c.args.tree.now.nodes c.insert_property.new.tree.nodes (stay_kept c.args.tree.now.nodes c.insert_property.new.tree.nodes c.in-Err.ensures.kept)
+
+pub returns-in-Err-clause-memory : goal.returns-in-Err-clause-memory
+returns-in-Err-clause-memory g c = λ o.
+    put_for_memory c.args.tree.now.nodes c.insert_property.new.tree.nodes c.args.object (chars c.args.name.now) (plain c.args.value.now) c.len.ensures.tree c.requires.object o c.in-Err.error c.in-Err.ensures.told
