@@ -31,8 +31,8 @@ use Rattle.jsonc_edit.proofs.Elements.{taken, left}
 use Rattle.jsonc_edit.proofs.FittingFinds.{passes, fails, none_is_some}
 use Rattle.jsonc_edit.proofs.Uniqueness.{element_parent}
 use Rattle.jsonc_edit.proofs.Walk.{Shows-row_below}
-use Rattle.jsonc_run.specs.Shapes.{is_of}
-use Rattle.jsonc_run.specs.declared.edit.Shape.TheVariants.{Object}
+use Rattle.jsonc_named.specs.Shapes.{is_of}
+use Rattle.jsonc_named.specs.declared.shape.Shape.TheVariants.{Object}
 use Rattle.jsonc_run.proofs.Ensured.{held}
 use Rattle.jsonc_run.proofs.Roots.{root_is, value_stands}
 use Rattle.jsonc_set.specs.Kinds as kinds
@@ -124,7 +124,7 @@ module _ (o : Options) (ns : List Node) (tree : IsTree ns) (sound : SoundTree o 
       let h = held o ns tree sound n at in
       let same : Some h.value ≡ Some (plain.object ms) = document_unique o (printed_text (ordered_tree ns 0)) (Some h.value) (Some (plain.object ms)) h.text is in
       let value : h.value ≡ plain.object ms = cc in
-      no_object_read ns n read (object_is (content_at ns n) (h.told Object ∙ ap (Rattle.jsonc_run.specs.Shapes.is_object) value))
+      no_object_read ns n read (object_is (content_at ns n) (h.told Object ∙ ap (Rattle.jsonc_named.specs.Shapes.is_object) value))
 
   pub no_object : object_if (typed_if ns (value_at ns 0)) ≡ None → HasNoObject o (ordered_tree ns 0)
   no_object read = from_value (value_at ns 0) refl read

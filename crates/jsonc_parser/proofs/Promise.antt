@@ -17,7 +17,9 @@ use Rattle.jsonc_laws.specs.Written.{property_written, written}
 use Rattle.jsonc_laws.proofs.GivingWay.{other_comments, others_alone}
 use Rattle.jsonc_laws.proofs.Laid.{writes_no_comments}
 use Rattle.jsonc_laws.proofs.Printed.{prints_its_marks}
-use Rattle.jsonc_run.specs.Edits.{Operation, replace, remove, remove_comment, set_root, clear_root, replace_property, ensure_root, set_value, ensure_value, set_boolean, ensure_multiline, insert_element, append_element, insert_property, append_property}
+use Rattle.jsonc_named.specs.Laws.{name_comes, some_leave}
+use Rattle.jsonc_named.specs.Shapes.{empty_of}
+use Rattle.jsonc_run.specs.Edits.{Operation, replace, remove, remove_comment, set_root, clear_root, replace_property, ensure_root, set_value, ensure_value, set_boolean, ensure_multiline, insert_element, append_element, insert_property, append_property, ensure_property}
 use Rattle.jsonc_run.specs.Marked.{IsMarked, AreMarked, none_marked, first_marked, MarkAll}
 use Rattle.jsonc_run.specs.Written.{MayBeMade, WriteAll}
 use Rattle.jsonc_parser.specs.Promise.{CommentsStay, all_stay, others_stay, IsEditedText}
@@ -52,6 +54,8 @@ edit_takes x y (insert_element path i v) d = one_stretch [] (written v) x y d (w
 edit_takes x y (append_element path v) d = one_stretch [] (written v) x y d (writes_no_comments v)
 edit_takes x y (insert_property path i name v) d = one_stretch [] (property_written name v) x y d (writes_no_comments v)
 edit_takes x y (append_property path name v) d = one_stretch [] (property_written name v) x y d (writes_no_comments v)
+edit_takes x y (ensure_property path name shape how) (some_leave was d) = one_stretch was [] x y d refl
+edit_takes x y (ensure_property path name shape how) (name_comes d) = one_stretch [] (property_written name (empty_of shape)) x y d (writes_no_comments (empty_of shape))
 edit_takes x y (ensure_multiline path) same = record { front = []; gone = []; back = comments_of x; before = refl; after = ap comments_of same }
 
 comments_stay : {x y : List Mark} {es : List Operation} → AreMarked x es y → CommentsStay (comments_of x) es (comments_of y)

@@ -23,8 +23,8 @@ use Rattle.jsonc_set.proofs.WrittenBoolean.{boolean_gives_way}
 use Rattle.jsonc_run.specs.Edits.{set_boolean, IsMade}
 use Rattle.jsonc_run.specs.Places.{IsBooleanAt}
 use Rattle.jsonc_run.specs.Refusals.{IsToldBy}
-use Rattle.jsonc_run.specs.Written.{ValueGivesWay}
-use Rattle.jsonc_run.proofs.PathValues.{value_of_text, value_at_path, value_once}
+use Rattle.jsonc_named.specs.Values.{ValueGivesWay}
+use Rattle.jsonc_named.proofs.PathValues.{value_of_text, value_at_path, value_once}
 
 -- what is found at a path, if it is a truth value
 pub boolean_found : (ns : List Node) (path : List ℕ) (at found : Option ℕ) → FindsExactly at (IsAt ns path) → FindsExactly found (λ n. (at ≡ Some n) × (is_boolean (content_at ns n) ≡ true)) → FindsExactly found (IsBooleanAt ns path)

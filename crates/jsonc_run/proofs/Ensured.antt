@@ -24,34 +24,14 @@ use Rattle.jsonc_edit.proofs.FittingFinds.{passes, fails, none_is_some}
 use Rattle.jsonc_edit.proofs.Walk.{Shows-row_below}
 use Rattle.jsonc_set.specs.Kinds.{FoundOrCreated, FoundOrSet, KeptOrReplaced}
 use Rattle.jsonc_set.specs.RootSet.{FirstValue}
-use Rattle.jsonc_run.specs.declared.edit.Over.{Over}
-use Rattle.jsonc_run.specs.declared.edit.Over.TheVariants as over
-use Rattle.jsonc_run.specs.declared.edit.Shape.{Shape}
-use Rattle.jsonc_run.specs.declared.edit.Shape.TheVariants.{Object, Array}
-use Rattle.jsonc_run.specs.Shapes.{has_shape, is_of, empty_of}
+use Rattle.jsonc_named.specs.declared.shape.Over.{Over}
+use Rattle.jsonc_named.specs.declared.shape.Over.TheVariants as over
+use Rattle.jsonc_named.specs.declared.shape.Shape.{Shape}
+use Rattle.jsonc_named.specs.declared.shape.Shape.TheVariants.{Object, Array}
+use Rattle.jsonc_named.specs.Shapes.{has_shape, is_of, empty_of}
 use Rattle.jsonc_run.specs.Edits.{RootEnsured}
 use Rattle.jsonc_run.specs.Written.{RootValueEnsured, all_kept, empty_set}
 use Rattle.jsonc_run.proofs.Roots.{root_is, root_value_set}
-
--- an empty value may be written
-pub empty_writable : (o : Options) (shape : Shape) → IsWritable o (empty_of shape)
-empty_writable o Object = record { texts = tt; numbers = tt }
-empty_writable o Array = record { texts = tt; numbers = tt }
-
--- a node has the shape of its value
-pub same_shape : {o : Options} {content : Content} {below : OrderedTree} {x : Plain} (shape : Shape) → ValueOf o content below x → is_of shape content ≡ has_shape shape x
-same_shape Object (values.string h) = refl
-same_shape Object values.number = refl
-same_shape Object values.boolean = refl
-same_shape Object values.null = refl
-same_shape Object (values.array h) = refl
-same_shape Object (values.object h) = refl
-same_shape Array (values.string h) = refl
-same_shape Array values.number = refl
-same_shape Array values.boolean = refl
-same_shape Array values.null = refl
-same_shape Array (values.array h) = refl
-same_shape Array (values.object h) = refl
 
 module _ (o : Options) (ns : List Node) where
   -- what a row holds is the value of its first element

@@ -7,7 +7,8 @@ use Rattle.jsonc_nodes.specs.Siblings.{elements_at}
 use Rattle.jsonc_edit.specs.Paths.{IsAt, FindsExactly}
 use Rattle.jsonc_edit.proofs.Elements.{Some_same}
 use Rattle.jsonc_edit.proofs.FittingFinds.{none_is_some}
-use Rattle.jsonc_run.specs.Places.{IsEntryAt, the_value, an_entry, IsEntryOf, IsPropertyAt, a_property, IsPropertyOf}
+use Rattle.jsonc_named.specs.Places.{IsPropertyAt, a_property, IsPropertyOf}
+use Rattle.jsonc_run.specs.Places.{IsEntryAt, the_value, an_entry, IsEntryOf}
 
 not_empty : (front : List ℕ) (i : ℕ) → front ++ i ∷ [] ≡ [] → ⊥
 not_empty [] i e = cc

@@ -28,7 +28,7 @@ use Rattle.jsonc_insertion_laws.proofs.Written.{inserts_element}
 use Rattle.jsonc_run.specs.Edits.{append_element, insert_element}
 use Rattle.jsonc_run.specs.Places.{IsArrayAt}
 use Rattle.jsonc_run.specs.Refusals.{IsToldBy}
-use Rattle.jsonc_run.proofs.PathValues.{value_once}
+use Rattle.jsonc_named.proofs.PathValues.{value_once}
 
 -- the array at a path is what stands there, if it is one
 pub array_found : (ns : List Node) (path : List ℕ) (at found : Option ℕ) → FindsExactly at (IsAt ns path) → FindsExactly found (λ n. (at ≡ Some n) × (content_at ns n ≡ content.array)) → FindsExactly found (IsArrayAt ns path)

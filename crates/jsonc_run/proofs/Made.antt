@@ -10,7 +10,8 @@ use Rattle.jsonc_remove.specs.Removed.{IsKeptFor, TakesElement}
 use Rattle.jsonc_edit.specs.Reading.{IsReplaced}
 use Rattle.jsonc_set.specs.RootSet.{FirstValue}
 use Rattle.jsonc_text.specs.Plain.{Plain}
-use Rattle.jsonc_run.specs.Places.{IsEntryAt, IsPropertyAt, a_property}
+use Rattle.jsonc_named.specs.Places.{IsPropertyAt, a_property}
+use Rattle.jsonc_run.specs.Places.{IsEntryAt}
 use Rattle.jsonc_run.specs.Edits.{Operation, remove, AreMade, none_made, first_made, IsMade, RootSet}
 use Rattle.jsonc_run.specs.Refusals.{IsToldBy}
 

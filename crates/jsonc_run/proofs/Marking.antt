@@ -26,29 +26,20 @@ use Rattle.jsonc_multiline.proofs.SameDocument.{keeps_document}
 use Rattle.jsonc_remove.proofs.Lost.{removes_entry}
 use Rattle.jsonc_remove.proofs.LostValue.{removes_value}
 use Rattle.jsonc_set.proofs.PropertyRows.{spaces_marks}
-use Rattle.jsonc_run.specs.declared.edit.Over.{Over}
-use Rattle.jsonc_run.specs.declared.edit.Shape.{Shape}
-use Rattle.jsonc_run.specs.declared.edit.Shape.TheVariants.{Object, Array}
-use Rattle.jsonc_run.specs.Shapes.{empty_of}
-use Rattle.jsonc_run.specs.Edits.{Operation, replace, remove, remove_comment, set_root, clear_root, replace_property, ensure_root, set_value, ensure_value, set_boolean, ensure_multiline, insert_element, append_element, insert_property, append_property, AreMade, none_made, first_made}
-use Rattle.jsonc_run.specs.Written.{MayBeMade, EntryLeft, entry_left, value_left, ValueGivesWay, RootValueSet, given_way, has_come, RootValueEnsured, all_kept, empty_set, PropertyGivenWay, property_given, ValueEnsured, all_stays, empty_given, StayAround}
+use Rattle.jsonc_named.specs.declared.shape.Over.{Over}
+use Rattle.jsonc_named.specs.declared.shape.Shape.{Shape}
+use Rattle.jsonc_named.specs.declared.shape.Shape.TheVariants.{Object, Array}
+use Rattle.jsonc_named.specs.Shapes.{empty_of}
+use Rattle.jsonc_run.specs.Edits.{Operation, replace, remove, remove_comment, set_root, clear_root, replace_property, ensure_root, set_value, ensure_value, set_boolean, ensure_multiline, insert_element, append_element, insert_property, append_property, ensure_property, AreMade, none_made, first_made}
+use Rattle.jsonc_named.specs.Values.{ValueGivesWay, ValueEnsured, all_stays, empty_given}
+use Rattle.jsonc_run.specs.Written.{MayBeMade, EntryLeft, entry_left, value_left, RootValueSet, given_way, has_come, RootValueEnsured, all_kept, empty_set, PropertyGivenWay, property_given, StayAround}
 use Rattle.jsonc_run.specs.Marked.{IsMarked, AreMarked, none_marked, first_marked, MarkAll}
 use Rattle.jsonc_insertion_laws.proofs.Named.{inserts_member}
 use Rattle.jsonc_insertion_laws.proofs.Written.{inserts_element}
 use Rattle.jsonc_run.proofs.Inserted.{gained_marks}
-use Rattle.jsonc_run.proofs.Ensured.{empty_writable}
+use Rattle.jsonc_named.proofs.Values.{empty_writable, ensured_marks, marks_given, value_marked}
+use Rattle.jsonc_named.proofs.Writing.{around_marks}
 use Rattle.jsonc_run.proofs.Written.{is_written, stays_around, write_all}
-
--- where spaces come, and then of the leaves some give way to others, so do their marks
-marks_given : (was now : Top) (t spaced u : OrderedTree) → SpacesPut t spaced → DiffersIn (leaves_of was) (leaves_of now) (leaves spaced) (leaves u) → MarksDifferIn (marks_under was) (marks_under now) (marks t) (marks u)
-marks_given was now t spaced u puts differs =
-    let m = (marks_follow (leaves_of was) (leaves_of now) (leaves spaced) (leaves u) differs).0 in
-    subst (λ l. MarksDifferIn (marks_under was) (marks_under now) l (marks u)) (spaces_marks puts) m
-
--- a value that gives way leaves its marks to those of the new one
-value_marked : (o : Options) (t u : OrderedTree) (path : List ℕ) (v : Plain) → IsWritable o v → ValueGivesWay path v t u → (was : List Mark) × MarksDifferIn was (written v) (marks t) (marks u)
-value_marked o t u path v may g =
-    (marks_under g.was, subst (λ l. MarksDifferIn (marks_under g.was) l (marks t) (marks u)) (laid_as_written g.layout v may.texts) (marks_given g.was (laid g.layout v) t g.spaced u g.spaces g.around))
 
 -- a first value's marks come in
 root_marked : (o : Options) (t u : OrderedTree) (v : Plain) → IsWritable o v → RootValueSet v t u → IsMarked (marks t) (set_root v) (marks u)
@@ -65,11 +56,6 @@ ensured_marked : (o : Options) (t u : OrderedTree) (shape : Shape) (how : Over) 
 ensured_marked o t u shape how (all_kept same) = ([], record { front = []; back = marks t; before = refl; after = ap marks same })
 ensured_marked o t u Object how (empty_set set) = root_marked o t u (empty_of Object) (empty_writable o Object) set
 ensured_marked o t u Array how (empty_set set) = root_marked o t u (empty_of Array) (empty_writable o Array) set
-
-held_marked : (o : Options) (t u : OrderedTree) (path : List ℕ) (shape : Shape) → ValueEnsured path shape t u → IsMarked (marks t) (ensure_value path shape) (marks u)
-held_marked o t u path shape (all_stays same) = ([], record { front = []; back = marks t; before = refl; after = ap marks same })
-held_marked o t u path Object (empty_given g) = value_marked o t u path (empty_of Object) (empty_writable o Object) g
-held_marked o t u path Array (empty_given g) = value_marked o t u path (empty_of Array) (empty_writable o Array) g
 
 -- a property that gives way leaves its marks to those of the new one
 property_marked : (o : Options) (t u : OrderedTree) (path name : List ℕ) (v : Plain) → IsCharacters name → IsWritable o v → PropertyGivenWay name v t u path → IsMarked (marks t) (replace_property path name v) (marks u)
@@ -92,7 +78,7 @@ one_marked o t u clear_root may s bare = ap marks bare ∙ root_marks none
 one_marked o t u (replace_property path name v) may s given = property_marked o t u path name v may.0 may.1 (given o s may.0 may.1)
 one_marked o t u (ensure_root shape how) may s set = ensured_marked o t u shape how (set o s)
 one_marked o t u (set_value path v) may s g = value_marked o t u path v may (g o s)
-one_marked o t u (ensure_value path shape) may s g = held_marked o t u path shape (g o s)
+one_marked o t u (ensure_value path shape) may s g = ensured_marks o t u path shape (g o s)
 one_marked o t u (set_boolean path b) may s (was, g, is) = (was, subst (λ (w : Top). MarksDifferIn (marks_under w) (written (Plain.boolean b)) (marks t) (marks u)) is (marks_given g.was (laid g.layout (Plain.boolean b)) t g.spaced u g.spaces g.around))
 one_marked o t u (ensure_multiline path) may s g = (keeps_document o t u path s (g o s)).marks
 one_marked o t u (insert_element path i v) may s g = gained_marks (written v) _ _ t u (inserts_element o path i v t u (g o s) s may).marks
@@ -103,6 +89,7 @@ one_marked o t u (insert_property path i name v) may s g = gained_marks (propert
 one_marked o t u (append_property path name v) may s g =
     let far = g o s in
     gained_marks (property_written name v) _ _ t u (inserts_member o path far.0 name v t u (far.1 far.0 (omega arith)) s may.0 may.1).marks
+one_marked o t u (ensure_property path name shape how) may s g = around_marks o t u path name shape s may (g o s may)
 
 all_marked : (o : Options) (old new : List Node) (es : List Operation) → IsTree old → AreMade old es new → SoundTree o (ordered_tree old 0) → All (MayBeMade o) es → AreMarked (marks (ordered_tree old 0)) es (marks (ordered_tree new 0))
 all_marked o old _ [] tree none_made s may = none_marked

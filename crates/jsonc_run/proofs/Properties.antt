@@ -25,11 +25,14 @@ use Rattle.jsonc_members.proofs.Spreading.{wants_memory_alone}
 use Rattle.jsonc_insertion_laws.specs.Members.{member_count, IsMemberInserted, PropertyComesAt}
 use Rattle.jsonc_insertion_laws.proofs.Named.{inserts_member}
 use Rattle.jsonc_member_laws.proofs.Coming.{properties_come_at}
-use Rattle.jsonc_run.specs.Edits.{append_property, insert_property}
+use Rattle.jsonc_named.specs.declared.shape.Over.{Over}
+use Rattle.jsonc_named.specs.declared.shape.Shape.{Shape}
+use Rattle.jsonc_named.specs.Named.{IsUnensured}
+use Rattle.jsonc_run.specs.Edits.{append_property, ensure_property, insert_property}
 use Rattle.jsonc_run.specs.Places.{IsObjectAt}
 use Rattle.jsonc_run.specs.Refusals.{IsToldBy}
 use Rattle.jsonc_run.proofs.Inserted.{fewer, no_other}
-use Rattle.jsonc_run.proofs.PathValues.{value_once}
+use Rattle.jsonc_named.proofs.PathValues.{value_once}
 
 -- the object at a path is what stands there, if it is one
 pub object_found : (ns : List Node) (path : List ℕ) (at found : Option ℕ) → FindsExactly at (IsAt ns path) → FindsExactly found (λ n. (at ≡ Some n) × (content_at ns n ≡ content.object)) → FindsExactly found (IsObjectAt ns path)
@@ -59,6 +62,14 @@ module _ (ns : List Node) (path : List ℕ) (n : ℕ) (name : List ℕ) (v : Pla
   told_behind MissingBrackets is = (n, at, sym is)
   told_behind MissingName is = absurd ((no_other (has_brackets ns (children_at ns n)) MissingName is).0 refl)
   told_behind NoSuchPlace is = absurd ((no_other (has_brackets ns (children_at ns n)) NoSuchPlace is).1 refl)
+
+-- or why the first property of a name was not as it was to be
+module _ (ns : List Node) (path : List ℕ) (n : ℕ) (name : List ℕ) (shape : Shape) (how : Over) (at : IsObjectAt ns path n) where
+  pub told_for : (e : EditError) → IsUnensured how ns n name e → IsToldBy ns (ensure_property path name shape how) e
+  told_for OutOfMemory why = (n, at)
+  told_for MissingBrackets why = (n, at, why)
+  told_for MissingName why = (n, at, why)
+  told_for NoSuchPlace why = absurd why
 
 -- what a property that came into the object at the path of a sound document makes of it
 pub record CameIn (o : Options) (path : List ℕ) (i : ℕ) (name : List ℕ) (v : Plain) (t u : OrderedTree) : Type 0 where

@@ -17,7 +17,7 @@ use Rattle.jsonc_edit.specs.Writing.{IsWritable}
 use Rattle.jsonc_edit.proofs.GivingWay.{in_place}
 use Rattle.jsonc_set.specs.Giving.{property_top, IsPropertyReplaced}
 use Rattle.jsonc_set.proofs.WrittenProperty.{writes_property}
-use Rattle.jsonc_run.specs.Places.{IsPropertyAt, a_property}
+use Rattle.jsonc_named.specs.Places.{IsPropertyAt, a_property}
 use Rattle.jsonc_run.specs.Written.{PropertyGivenWay, property_given}
 
 -- the new property is laid out as the document tells

@@ -17,35 +17,23 @@ use Rattle.jsonc_edit.proofs.Uniqueness.{element_parent}
 use Rattle.jsonc_remove.specs.Removed.{has_brackets, IsKeptFor}
 use Rattle.jsonc_multiline.specs.Multiline.{IsUnspread}
 use Rattle.jsonc_multiline.proofs.LineEnds.{has_its_brackets}
-use Rattle.jsonc_run.specs.Edits.{Operation, remove, ensure_value, ensure_multiline, insert_element, append_element, insert_property, append_property, AreMade, none_made, first_made}
+use Rattle.jsonc_named.proofs.Writing as named_laws
+use Rattle.jsonc_run.specs.Edits.{Operation, remove, ensure_value, ensure_multiline, insert_element, append_element, insert_property, append_property, ensure_property, AreMade, none_made, first_made}
 use Rattle.jsonc_insert.specs.Inserted.{refusal}
 use Rattle.jsonc_insertion_laws.proofs.Containers.{wants_memory_alone}
 use Rattle.jsonc_members.proofs.Spreading as objects
-use Rattle.jsonc_run.specs.Places.{IsArrayAt, IsContainerAt, IsEntryAt, IsObjectAt, IsPropertyAt, an_entry, a_property, in_array, in_object, the_value}
+use Rattle.jsonc_named.specs.Places.{IsPropertyAt, a_property}
+use Rattle.jsonc_run.specs.Places.{IsArrayAt, IsContainerAt, IsEntryAt, IsObjectAt, an_entry, in_array, in_object, the_value}
 use Rattle.jsonc_run.specs.Refusals.{IsToldBy, LacksBrackets, LacksName, WantsMemoryOrPlace}
 use Rattle.jsonc_run.specs.Written.{IsRefusedAfter}
-use Rattle.jsonc_run.proofs.PropertyValues.{value_held}
+use Rattle.jsonc_named.proofs.PropertyValues.{held_by_name, value_held}
 use Rattle.jsonc_run.proofs.Written.{write_all}
 
--- behind the first node that passes stands nothing where none passes
-none_behind : (test : ℕ → Bool) (xs : List ℕ) → list_any test xs ≡ false → behind_first test xs ≡ []
-none_behind test [] e = refl
-none_behind test (x ∷ xs) e =
-    elim (cases_Bool (test x)) [
-      | inl h ↦ absurd (let wrong : true ≡ false = sym (ap (λ b. b || list_any test xs) h) ∙ e in cc)
-      | inr h ↦ ap (λ b. cond b xs (behind_first test xs)) h ∙ none_behind test xs (sym (ap (λ b. b || list_any test xs) h) ∙ e)
-    ]
+not_brackets : MissingBrackets ≡ OutOfMemory → ⊥
+not_brackets e = cc
 
-not_true : (b : Bool) → not b ≡ true → b ≡ false
-not_true true e = absurd (false≢true e)
-not_true false e = refl
-
-module _ (ns : List Node) where
-  -- a property that holds a value has its name and its colon
-  held_by_name : (n v : ℕ) → find (is_element_at ns) (behind_colon ns n) ≡ Some v → lacks_name_at ns n ≡ true → ⊥
-  held_by_name n v held lacks =
-      let none : behind_colon ns n ≡ [] = none_behind (is_colon_at ns) (behind_name ns n) (not_true (list_any (is_colon_at ns) (behind_name ns n)) lacks) in
-      let wrong : None ≡ Some v = sym (ap (find (is_element_at ns)) none) ∙ held in cc
+not_name : MissingName ≡ OutOfMemory → ⊥
+not_name e = cc
 
 module _ (o : Options) (ns : List Node) (tree : IsTree ns) (sound : SoundTree o (ordered_tree ns 0)) where
   -- an entry of an array or object at a path stands between brackets
@@ -87,10 +75,12 @@ module _ (o : Options) (ns : List Node) (tree : IsTree ns) (sound : SoundTree o 
   brackets_there (append_element path v) (n, at, k) = array_kept path n at k
   brackets_there (insert_property path i name v) (n, at, k) = object_kept path n at k
   brackets_there (append_property path name v) (n, at, k) = object_kept path n at k
+  brackets_there (ensure_property path name shape how) (n, at, k) = not_brackets (named_laws.wants_memory o ns path n name how MissingBrackets tree sound at.0 at.1 k)
   brackets_there _ k = k
 
   named : (e : Operation) → LacksName ns e → ⊥
   named (ensure_value path shape) (n, at, k) = name_there path n at k
+  named (ensure_property path name shape how) (n, at, k) = not_name (named_laws.wants_memory o ns path n name how MissingName tree sound at.0 at.1 k)
   named _ k = k
 
   -- so memory or the edit's place was wanted

@@ -25,7 +25,8 @@ use Rattle.jsonc_edit.proofs.ReplacedValues.{changed, put}
 use Rattle.jsonc_edit.proofs.Walk.{Shows-row_below, document_is}
 use Rattle.jsonc_set.proofs.Coming.{comes_among_rows}
 use Rattle.jsonc_run.specs.Edits.{RootSet}
-use Rattle.jsonc_run.specs.Written.{ValueGivesWay, RootValueSet, given_way, has_come}
+use Rattle.jsonc_named.specs.Values.{ValueGivesWay}
+use Rattle.jsonc_run.specs.Written.{RootValueSet, given_way, has_come}
 
 -- what is found is the first that passes
 module _ (test : ℕ → Bool) where
@@ -40,20 +41,6 @@ module _ (test : ℕ → Bool) where
 -- the root's value is what stands at the empty path
 pub value_stands : (ns : List Node) → IsTree ns → (n : ℕ) → value_at ns 0 ≡ Some n → IsAt ns [] n
 value_stands ns tree n e = (n, first_found (is_element_at ns) (children_at ns 0) n (sym (ap (λ w. value_by w ns 0) tree.root_first) ∙ e), itself)
-
--- a value that was replaced has given way
-pub value_gives_way : (old new : List Node) (path : List ℕ) (n m : ℕ) (v : Plain) → IsTree old → IsAt old path n → IsReplaced old new n v m → ValueGivesWay path v (ordered_tree old 0) (ordered_tree new 0)
-value_gives_way old new path n m v tree at r =
-    let top = laid (layout_for old r.0 n) v in
-    let change = changed old new n m top tree r.2 path at in
-    record {
-      was = top_at old n;
-      layout = layout_for old r.0 n;
-      spaced = ordered_tree r.2.spaced 0;
-      spaces = put old new n m top tree r.2 path at;
-      changed = change;
-      around = document_differs change;
-    }
 
 pub root_is : (ns : List Node) → IsTree ns → ordered_tree ns 0 ≡ root_with (row_below ns 0)
 root_is ns tree = sym (document_is ns tree (row_below ns 0) (Shows-row_below ns tree 0 tree.first))

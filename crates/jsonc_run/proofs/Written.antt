@@ -34,16 +34,18 @@ use Rattle.jsonc_set.proofs.Gaining.{gives_first_value, leaves_bare}
 use Rattle.jsonc_set.proofs.PropertyRows.{some_value_of, prints_value}
 use Rattle.jsonc_set.proofs.WrittenBoolean.{writes_boolean}
 use Rattle.jsonc_set.proofs.WrittenProperty.{writes_property}
-use Rattle.jsonc_run.specs.Places.{IsEntryAt, the_value, an_entry, IsEntryOf, in_array, in_object, IsBooleanAt, IsPropertyAt, a_property}
-use Rattle.jsonc_run.specs.Edits.{Operation, replace, remove, remove_comment, set_root, clear_root, replace_property, ensure_root, set_value, ensure_value, set_boolean, ensure_multiline, insert_element, append_element, insert_property, append_property, AreMade, none_made, first_made, RootSet, IsMade}
-use Rattle.jsonc_run.specs.Written.{MayBeMade, IsChanged, by_value, by_entry, by_all, by_comment, by_root, by_clearing, by_property, by_ensuring, by_setting, by_ensuring_held, by_boolean, by_lines, by_inserting, by_appending, by_inserting_member, by_appending_member, AreChanged, unchanged, first_changed}
-use Rattle.jsonc_run.specs.declared.edit.Over.{Over}
-use Rattle.jsonc_run.specs.declared.edit.Over.TheVariants as over
-use Rattle.jsonc_run.specs.declared.edit.Shape.{Shape}
-use Rattle.jsonc_run.specs.Shapes.{empty_of}
-use Rattle.jsonc_run.specs.Written.{comes_first, has_it, may_stay, must_give_way}
+use Rattle.jsonc_named.specs.Places.{IsPropertyAt, a_property}
+use Rattle.jsonc_run.specs.Places.{IsEntryAt, the_value, an_entry, IsEntryOf, in_array, in_object, IsBooleanAt}
+use Rattle.jsonc_run.specs.Edits.{Operation, replace, remove, remove_comment, set_root, clear_root, replace_property, ensure_root, set_value, ensure_value, set_boolean, ensure_multiline, insert_element, append_element, insert_property, append_property, ensure_property, AreMade, none_made, first_made, RootSet, IsMade}
+use Rattle.jsonc_run.specs.Written.{MayBeMade, IsChanged, by_value, by_entry, by_all, by_comment, by_root, by_clearing, by_property, by_ensuring, by_setting, by_ensuring_held, by_boolean, by_lines, by_inserting, by_appending, by_inserting_member, by_appending_member, by_ensuring_named, AreChanged, unchanged, first_changed}
+use Rattle.jsonc_named.specs.declared.shape.Over.{Over}
+use Rattle.jsonc_named.specs.declared.shape.Over.TheVariants as over
+use Rattle.jsonc_named.specs.declared.shape.Shape.{Shape}
+use Rattle.jsonc_named.specs.Shapes.{empty_of}
+use Rattle.jsonc_named.specs.Shapes.{comes_first, has_it, may_stay, must_give_way}
 use Rattle.jsonc_run.specs.Written.{EntryLeft, entry_left, value_left, StayAround, AllStayAround, all_stay, first_stay, AreWritten, WriteAll}
-use Rattle.jsonc_run.proofs.Ensured.{empty_writable, same_shape, held, Ensured, created, stayed, other_stayed, replaced, ensured, value_ensured}
+use Rattle.jsonc_named.proofs.Values.{empty_writable, same_shape}
+use Rattle.jsonc_run.proofs.Ensured.{held, Ensured, created, stayed, other_stayed, replaced, ensured, value_ensured}
 use Rattle.jsonc_insert.proofs.Past.{past_the_end}
 use Rattle.jsonc_insertion_laws.proofs.Comes.{elements_come_at}
 use Rattle.jsonc_insertion_laws.proofs.Containers.{has_its_brackets}
@@ -52,11 +54,15 @@ use Rattle.jsonc_run.proofs.Inserted.{came_in, came_last}
 use Rattle.jsonc_run.proofs.Properties as properties
 use Rattle.jsonc_member_laws.proofs.Coming.{properties_come_at}
 use Rattle.jsonc_run.proofs.Booleans.{boolean_given, boolean_changed}
-use Rattle.jsonc_run.proofs.PathValues.{gives_way_to_itself, value_of_text, value_at_path, value_once}
+use Rattle.jsonc_named.proofs.PathValues.{gives_way_to_itself, value_of_text, value_at_path, value_once}
 use Rattle.jsonc_run.proofs.PropertyMade.{property_gives_way}
-use Rattle.jsonc_run.proofs.ValueMade as property_values
-use Rattle.jsonc_run.proofs.ValueMade.{replaces_held, set_replaced, stays_ensured}
-use Rattle.jsonc_run.proofs.Roots.{value_stands, value_gives_way, root_value_set, whole_changed, emptied, no_leaves}
+use Rattle.jsonc_named.proofs.Values as property_values
+use Rattle.jsonc_named.proofs.Values.{shape_written}
+use Rattle.jsonc_named.proofs.Writing.{writes_named}
+use Rattle.jsonc_named.proofs.Values.{replaces_held, stays_ensured}
+use Rattle.jsonc_run.proofs.ValueMade.{set_replaced}
+use Rattle.jsonc_named.proofs.Values.{value_gives_way}
+use Rattle.jsonc_run.proofs.Roots.{value_stands, root_value_set, whole_changed, emptied, no_leaves}
 
 -- an entry is an element of an array or object
 entry_held : (ns : List Node) (c i n : ℕ) → IsEntryOf ns c i n → IsTrue (holds_values (content_at ns c)) × IsElementOf ns c i n
@@ -96,6 +102,7 @@ stays_around old new (append_element path v) tree after (n, m, at, put) = λ o s
 stays_around old new (insert_property path i name v) tree after (n, m, at, put) = λ o sound. properties_come_at o old new path n i name v m tree sound at.0 at.1 put
 stays_around old new (append_property path name v) tree after (n, m, at, put) = λ o sound.
     (length (elements_at old n), λ i far. properties_come_at o old new path n i name v m tree sound at.0 at.1 (properties.behind_all o old new path n m name v tree sound at (length (elements_at old n)) i (omega arith) far put))
+stays_around old new (ensure_property path name shape how) tree after (n, m, at, ensured) = λ o sound texts. (writes_named o old new path n name shape how m tree sound at.0 at.1 texts ensured).around
 
 -- under all options the leaves around stay
 pub stay_around : (old new : List Node) (es : List Operation) → IsTree old → AreMade old es new → AllStayAround (ordered_tree old 0) es (ordered_tree new 0)
@@ -185,36 +192,10 @@ module _ (o : Options) where
       }
 
   -- or is of a shape
-  shape_written : (old new : List Node) (path : List ℕ) (r : ℕ) (shape : Shape) → IsTree old → SoundTree o (ordered_tree old 0) → IsPropertyAt old path r → property_values.Ensured old new path shape → IsWritten o (ensure_value path shape) (ordered_tree old 0) (ordered_tree new 0)
-  shape_written old new _ r shape tree s (a_property front c i at inside) (property_values.has_stayed n stands is same) =
-      let path : List ℕ = front ++ i ∷ [] in
-      let known = document_printed o (ordered_tree old 0) s.shaped s.lines in
-      let value = some_value_of o (gives_way_to_itself old tree path n stands) known.0 known.2 in
-      let text = prints_value o (ordered_tree old 0) (Some value.0) s value.1 in
-      let held = value_at_path o old tree path n stands value.0 value.1 in
-      subst (λ (ns : List Node). IsWritten o (ensure_value path shape) (ordered_tree old 0) (ordered_tree ns 0)) (sym same)
-      (record {
-        before = Some value.0;
-        after = Some value.0;
-        old_text = text;
-        new_text = text;
-        changed = by_ensuring_held front i (has_it (sym (same_shape shape held.has) ∙ is)) (replaces_held o old tree front c i at inside.of_object value.0 value.0 value.1 held.at);
-        sound = s;
-      })
-  shape_written old new _ r shape tree s (a_property front c i at inside) (property_values.has_given_way n m stands is given) =
-      let path : List ℕ = front ++ i ∷ [] in
-      let w = replaced_written o old new n m (empty_of shape) tree given path s stands (empty_writable o shape) in
-      let value = value_of_text o (ordered_tree old 0) s w.before w.old_text in
-      let held = value_at_path o old tree path n stands w.before value in
-      let changed = subst (λ x. Changed x (empty_of shape) path w.before w.after) (value_once w.changed held.at) w.changed in
-      record {
-        before = Some w.before;
-        after = Some w.after;
-        old_text = w.old_text;
-        new_text = w.new_text;
-        changed = by_ensuring_held front i (must_give_way (sym (same_shape shape held.has) ∙ is)) (replaces_held o old tree front c i at inside.of_object w.before w.after value changed);
-        sound = w.sound;
-      }
+  held_written : (old new : List Node) (path : List ℕ) (r : ℕ) (shape : Shape) → IsTree old → SoundTree o (ordered_tree old 0) → IsPropertyAt old path r → property_values.Ensured old new path shape → IsWritten o (ensure_value path shape) (ordered_tree old 0) (ordered_tree new 0)
+  held_written old new _ r shape tree s (a_property front c i at inside) ensured =
+      let w = shape_written o old new front c i r shape tree s at inside ensured in
+      record { before = Some w.before; after = Some w.after; old_text = w.old_text; new_text = w.new_text; changed = by_ensuring_held front i w.ensured w.replaces; sound = w.sound }
 
   -- the truth value at a path is the one that was set
   boolean_written : (old new : List Node) (path : List ℕ) (n : ℕ) (b : Bool) → IsTree old → SoundTree o (ordered_tree old 0) → IsBooleanAt old path n → BooleanSet old new n b → IsWritten o (set_boolean path b) (ordered_tree old 0) (ordered_tree new 0)
@@ -241,7 +222,7 @@ module _ (o : Options) where
   is_written old new (set_value path v) tree after (r, at, set) s may =
       let given = set_replaced o old new tree s path r at v set in
       value_written old new path r v tree s at given.0 given.1 given.2 may given.3
-  is_written old new (ensure_value path shape) tree after (r, at, ensured) s may = shape_written old new path r shape tree s at (property_values.value_ensured o old new tree s path r at shape ensured)
+  is_written old new (ensure_value path shape) tree after (r, at, ensured) s may = held_written old new path r shape tree s at (property_values.value_ensured o old new tree s path r at shape ensured)
   is_written old new (set_boolean path b) tree after (n, at, set) s may = boolean_written old new path n b tree s at set
   is_written old new (ensure_multiline path) tree after (n, at, made) s may =
       let w = keeps_document o (ordered_tree old 0) (ordered_tree new 0) path s (spread_at o old new path n tree after s at.0 at.1 made) in
@@ -260,6 +241,9 @@ module _ (o : Options) where
       let last = properties.came_last o old new path n m name v tree s at may.0 may.1 put in
       let w = last.came.is in
       record { before = Some w.before; after = Some w.after; old_text = w.old_text; new_text = w.new_text; changed = by_appending_member w.gains last.far; sound = w.sound }
+  is_written old new (ensure_property path name shape how) tree after (n, m, at, ensured) s may =
+      let w = writes_named o old new path n name shape how m tree s at.0 at.1 may ensured in
+      record { before = Some w.before; after = Some w.after; old_text = w.old_text; new_text = w.new_text; changed = by_ensuring_named w.ensures; sound = w.sound }
 
   all_written : (old new : List Node) (es : List Operation) → IsTree old → AreMade old es new → SoundTree o (ordered_tree old 0) → All (MayBeMade o) es → AreWritten o es (ordered_tree old 0) (ordered_tree new 0)
   all_written old _ [] tree none_made s may =

@@ -4,7 +4,7 @@ use Rattle.jsonc_text.specs.Plain.{Plain}
 use Rattle.jsonc_input.specs.Views.{chars_of, plain}
 use Rattle.jsonc_tree.specs.Changes.{Splices}
 use Rattle.jsonc_tree.specs.Tree.{Node, children_at, IsTree}
-use Rattle.jsonc_nodes.specs.Properties.{lacks_name_at, value_at}
+use Rattle.jsonc_nodes.specs.Properties.{value_at}
 use Rattle.jsonc_nodes.specs.Siblings.{elements_at}
 use Rattle.jsonc_edit.specs.Comments.{CommentTaken}
 use Rattle.jsonc_edit.specs.Paths.{IsAt}
@@ -16,21 +16,24 @@ use Rattle.jsonc_remove.specs.Removed.{TakesElement}
 use Rattle.jsonc_set.specs.Booleans.{BooleanSet}
 use Rattle.jsonc_set.specs.Giving.{IsPropertyReplaced}
 use Rattle.jsonc_set.specs.Kinds.{FoundOrCreated, FoundOrSet}
-use Rattle.jsonc_set.specs.PropertyValues.{HeldOrSet, LastValue}
+use Rattle.jsonc_set.specs.PropertyValues.{LastValue}
 use Rattle.jsonc_set.specs.RootSet.{FirstValue}
 use Rattle.jsonc_run.specs.declared.edit.Edit.{Edit}
-use Rattle.jsonc_run.specs.declared.edit.Edit.TheVariants.{Replace, Remove, RemoveComment, SetRoot, ClearRoot, ReplaceProperty, EnsureRoot, SetValue, EnsureValue, SetBoolean, EnsureMultiline, InsertElement, AppendElement, InsertProperty, AppendProperty}
-use Rattle.jsonc_run.specs.declared.edit.Over.{Over}
-use Rattle.jsonc_run.specs.declared.edit.Over.TheVariants as over
-use Rattle.jsonc_run.specs.declared.edit.Shape.{Shape}
-use Rattle.jsonc_run.specs.Places.{comment_at, IsArrayAt, IsBooleanAt, IsContainerAt, IsEntryAt, IsObjectAt, IsPropertyAt}
-use Rattle.jsonc_run.specs.Shapes.{is_of, empty_of}
+use Rattle.jsonc_run.specs.declared.edit.Edit.TheVariants.{Replace, Remove, RemoveComment, SetRoot, ClearRoot, ReplaceProperty, EnsureRoot, SetValue, EnsureValue, SetBoolean, EnsureMultiline, InsertElement, AppendElement, InsertProperty, AppendProperty, EnsureProperty}
+use Rattle.jsonc_named.specs.declared.shape.Over.{Over}
+use Rattle.jsonc_named.specs.declared.shape.Over.TheVariants as over
+use Rattle.jsonc_named.specs.declared.shape.Shape.{Shape}
+use Rattle.jsonc_named.specs.Named.{NamedEnsured, PropertyValueEnsured}
+use Rattle.jsonc_named.specs.Places.{IsPropertyAt}
+use Rattle.jsonc_run.specs.Places.{comment_at, IsArrayAt, IsBooleanAt, IsContainerAt, IsEntryAt, IsObjectAt}
+use Rattle.jsonc_named.specs.Shapes.{is_of, empty_of}
 
 -- What an edit asks for: that the value at the path gives way to this one, that the entry at the path leaves, or the comment of this number; that the
 -- document's value is this one, or that all leaves the document; that the property at the path gives way to one of this name and value; that the document has
 -- a value of a shape; that the value of the property at the path is this one, or is of a shape; that the truth value at the path becomes this one;
 -- that the array or object at the path is on several lines; that the value comes into the array at the path, as its element of this number or behind the last;
--- that a property of this name and value so comes into the object at the path.
+-- that a property of this name and value so comes into the object at the path; that the first property of this name in the object at the path has a value of
+-- a shape.
 pub data Operation : Type 0 where
   replace : List ℕ → Plain → Operation
   remove : List ℕ → Operation
@@ -47,6 +50,7 @@ pub data Operation : Type 0 where
   append_element : List ℕ → Plain → Operation
   insert_property : List ℕ → ℕ → List ℕ → Plain → Operation
   append_property : List ℕ → List ℕ → Plain → Operation
+  ensure_property : List ℕ → List ℕ → Shape → Over → Operation
 
 module _ {A : Type 0} where
   abbrev pub operation_of : Edit A → Operation
@@ -65,6 +69,7 @@ module _ {A : Type 0} where
   operation_of (AppendElement path value) = append_element path.items (plain value)
   operation_of (InsertProperty path index name value) = insert_property path.items index (chars_of name) (plain value)
   operation_of (AppendProperty path name value) = append_property path.items (chars_of name) (plain value)
+  operation_of (EnsureProperty path name shape how) = ensure_property path.items (chars_of name) shape how
 
   abbrev pub operations_of : List (Edit A) → List Operation
   operations_of edits = map operation_of edits
@@ -85,11 +90,6 @@ abbrev pub PropertyValueSet : List Node → List Node → ℕ → Plain → Opti
 PropertyValueSet old new r v None = (m : ℕ) × LastValue old new r v m
 PropertyValueSet old new r v (Some n) = (m : ℕ) × IsReplaced old new n v m
 
--- the property r has a name and a colon; where its value is of the shape nothing has changed, and in the place of another, or where there was none, an empty
--- one has been set
-abbrev pub PropertyValueEnsured : Shape → List Node → List Node → ℕ → Type 0
-PropertyValueEnsured shape old new r = (lacks_name_at old r ≡ false) × (m : ℕ) × HeldOrSet (is_of shape) (empty_of shape) old new r (value_at old r) m
-
 -- The edit was made: the node n, which stood at the path, has given way to m, which is the value, laid out as the old
 -- nodes tell; or n, the entry at the path, has been taken out with what leaves with it; or n, the comment of this
 -- number, has been taken out of the document; or the document's value has been set; or all the root's children have
@@ -97,7 +97,8 @@ PropertyValueEnsured shape old new r = (lacks_name_at old r ≡ false) × (m : �
 -- had none of another that was to stay; or the value of r, the property at the path, has been set, or is of the shape;
 -- or n, the truth value at the path, has become this one; or the array or object at the path has been put on several
 -- lines, or was on several; or into n, the array at the path, the value has come as m, at this number or behind all elements;
--- or into n, the object at the path, the property has come so.
+-- or into n, the object at the path, the property has come so; or the first property of the name in n, the object at the
+-- path, has a value of the shape, or another that was to stay, or has come.
 abbrev pub IsMade : List Node → Operation → List Node → Type 0
 IsMade old (replace path v) new = (n m : ℕ) × IsAt old path n × IsReplaced old new n v m
 IsMade old (remove path) new = (n : ℕ) × IsEntryAt old path n × TakesElement old new n
@@ -114,6 +115,7 @@ IsMade old (insert_element path i v) new = (n m : ℕ) × IsArrayAt old path n �
 IsMade old (append_element path v) new = (n m : ℕ) × IsArrayAt old path n × ElementPut old new n (length (elements_at old n)) v m
 IsMade old (insert_property path i name v) new = (n m : ℕ) × IsObjectAt old path n × PropertyPut old new n i name v m
 IsMade old (append_property path name v) new = (n m : ℕ) × IsObjectAt old path n × PropertyPut old new n (length (elements_at old n)) name v m
+IsMade old (ensure_property path name shape how) new = (n : ℕ) × (m : Option ℕ) × IsObjectAt old path n × NamedEnsured shape how old new n name m
 
 -- the edits were made in order, each in the tree that the one before it made
 pub data AreMade : List Node → List Operation → List Node → Type 0 where

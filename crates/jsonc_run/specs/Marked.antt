@@ -13,7 +13,8 @@ use Rattle.jsonc_laws.specs.Marks as marks
 use Rattle.jsonc_laws.specs.Marks.{Mark, AreMarks}
 use Rattle.jsonc_laws.specs.Written.{property_written, written}
 use Rattle.jsonc_laws.specs.EntryLaws.{LosesMarks}
-use Rattle.jsonc_run.specs.Edits.{Operation, replace, remove, remove_comment, set_root, clear_root, replace_property, ensure_root, set_value, ensure_value, set_boolean, ensure_multiline, insert_element, append_element, insert_property, append_property}
+use Rattle.jsonc_named.specs.Laws.{ChangesMarks}
+use Rattle.jsonc_run.specs.Edits.{Operation, replace, remove, remove_comment, set_root, clear_root, replace_property, ensure_root, set_value, ensure_value, set_boolean, ensure_multiline, insert_element, append_element, insert_property, append_property, ensure_property}
 use Rattle.jsonc_run.specs.Written.{MayBeMade}
 
 -- One stretch of the marks has given way to the literals that are written for the new value, or for the new name and value of a property; in a document
@@ -36,6 +37,7 @@ IsMarked x (insert_element path i v) y = MarksDifferIn [] (written v) x y
 IsMarked x (append_element path v) y = MarksDifferIn [] (written v) x y
 IsMarked x (insert_property path i name v) y = MarksDifferIn [] (property_written name v) x y
 IsMarked x (append_property path name v) y = MarksDifferIn [] (property_written name v) x y
+IsMarked x (ensure_property path name shape how) y = ChangesMarks name shape x y
 
 -- so it is for each of the edits, one after another
 pub data AreMarked : List Mark → List Operation → List Mark → Type 0 where

@@ -1,11 +1,12 @@
 -- What the path or the number of an edit leads to.
 use Rattle.std.specs.Prelude.{◌≡◌, ℕ, true, List, [], ◌∷◌, ◌++◌, Option, filter, IsTrue}
 use Rattle.std.specs.List.{slice_get}
-use Rattle.jsonc_tree.specs.Content.{array, object, property}
+use Rattle.jsonc_tree.specs.Content.{array, object}
 use Rattle.jsonc_tree.specs.Tree.{Node, content_at}
 use Rattle.jsonc_tree.specs.Order.{in_order}
 use Rattle.jsonc_nodes.specs.Kinds.{is_comment_at}
 use Rattle.jsonc_edit.specs.Paths.{IsAt, IsElementOf}
+use Rattle.jsonc_named.specs.Places.{IsPropertyOf}
 use Rattle.jsonc_lines.specs.Kinds.{holds_values}
 use Rattle.jsonc_set.specs.Booleans.{is_boolean}
 
@@ -29,20 +30,10 @@ IsArrayAt ns path n = IsAt ns path n × (content_at ns n ≡ array)
 abbrev pub IsObjectAt : List Node → List ℕ → ℕ → Type 0
 IsObjectAt ns path n = IsAt ns path n × (content_at ns n ≡ object)
 
--- the property at this place in an object; what it holds may be missing
-pub record IsPropertyOf (ns : List Node) (c i r : ℕ) : Type 0 where
-  pub of_object : content_at ns c ≡ object
-  pub element : IsElementOf ns c i r
-  pub is : content_at ns r ≡ property
-
 -- what stands at this place in an array, or the property at this place in an object
 pub data IsEntryOf (ns : List Node) (c i n : ℕ) : Type 0 where
   in_array : content_at ns c ≡ array → IsElementOf ns c i n → IsEntryOf ns c i n
   in_object : IsPropertyOf ns c i n → IsEntryOf ns c i n
-
--- the property that a path leads to: its front leads to an object, and its last step to a property of that
-pub data IsPropertyAt (ns : List Node) : List ℕ → ℕ → Type 0 where
-  a_property : (front : List ℕ) (c i : ℕ) {r : ℕ} → IsAt ns front c → IsPropertyOf ns c i r → IsPropertyAt ns (front ++ i ∷ []) r
 
 -- what leaves with a path: the document's value, or the entry of an array or object that the last step leads to
 pub data IsEntryAt (ns : List Node) : List ℕ → ℕ → Type 0 where

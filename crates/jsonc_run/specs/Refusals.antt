@@ -13,12 +13,14 @@ use Rattle.jsonc_multiline.specs.Multiline.{IsUnspread}
 use Rattle.jsonc_remove.specs.Removed.{IsKeptFor}
 use Rattle.jsonc_set.specs.Booleans.{WantsSpaceFor}
 use Rattle.jsonc_set.specs.Kinds.{LacksKind}
-use Rattle.jsonc_run.specs.declared.edit.Over.{Over}
-use Rattle.jsonc_run.specs.declared.edit.Over.TheVariants as over
-use Rattle.jsonc_run.specs.declared.edit.Shape.{Shape}
-use Rattle.jsonc_run.specs.Shapes.{is_of}
-use Rattle.jsonc_run.specs.Places.{comment_at, IsArrayAt, IsBooleanAt, IsContainerAt, IsEntryAt, IsObjectAt, IsPropertyAt}
-use Rattle.jsonc_run.specs.Edits.{Operation, replace, remove, remove_comment, set_root, clear_root, replace_property, ensure_root, set_value, ensure_value, set_boolean, ensure_multiline, insert_element, append_element, insert_property, append_property, AreMade}
+use Rattle.jsonc_named.specs.declared.shape.Over.{Over}
+use Rattle.jsonc_named.specs.declared.shape.Over.TheVariants as over
+use Rattle.jsonc_named.specs.declared.shape.Shape.{Shape}
+use Rattle.jsonc_named.specs.Named.{IsUnensured}
+use Rattle.jsonc_named.specs.Shapes.{is_of}
+use Rattle.jsonc_named.specs.Places.{IsPropertyAt}
+use Rattle.jsonc_run.specs.Places.{comment_at, IsArrayAt, IsBooleanAt, IsContainerAt, IsEntryAt, IsObjectAt}
+use Rattle.jsonc_run.specs.Edits.{Operation, replace, remove, remove_comment, set_root, clear_root, replace_property, ensure_root, set_value, ensure_value, set_boolean, ensure_multiline, insert_element, append_element, insert_property, append_property, ensure_property, AreMade}
 
 -- a node stands where the edit is to be made, an entry, a property, a truth value, an array or object, an array, an object, or there is
 -- the comment; edits of the root always have their place
@@ -38,6 +40,7 @@ HasItsPlace ns (insert_element path i v) = (n : ℕ) × IsArrayAt ns path n
 HasItsPlace ns (append_element path v) = (n : ℕ) × IsArrayAt ns path n
 HasItsPlace ns (insert_property path i name v) = (n : ℕ) × IsObjectAt ns path n
 HasItsPlace ns (append_property path name v) = (n : ℕ) × IsObjectAt ns path n
+HasItsPlace ns (ensure_property path name shape how) = (n : ℕ) × IsObjectAt ns path n
 
 -- an empty value has to be set: the document has none, or one of another shape that is to give way
 abbrev pub WantsEmpty : Shape → Over → List Node → Type 0
@@ -61,6 +64,7 @@ MayWantMemory ns (insert_element path i v) = (n : ℕ) × IsArrayAt ns path n ×
 MayWantMemory ns (append_element path v) = (n : ℕ) × IsArrayAt ns path n × (refusal ns n ≡ OutOfMemory)
 MayWantMemory ns (insert_property path i name v) = (n : ℕ) × IsObjectAt ns path n × (refusal ns n ≡ OutOfMemory)
 MayWantMemory ns (append_property path name v) = (n : ℕ) × IsObjectAt ns path n × (refusal ns n ≡ OutOfMemory)
+MayWantMemory ns (ensure_property path name shape how) = (n : ℕ) × IsObjectAt ns path n
 
 -- the array or object of the entry that is to leave, or that is to be on several lines, or that a value or property is to come into, lacks a bracket
 abbrev pub LacksBrackets : List Node → Operation → Type 0
@@ -70,11 +74,13 @@ LacksBrackets ns (insert_element path i v) = (n : ℕ) × IsArrayAt ns path n ×
 LacksBrackets ns (append_element path v) = (n : ℕ) × IsArrayAt ns path n × (refusal ns n ≡ MissingBrackets)
 LacksBrackets ns (insert_property path i name v) = (n : ℕ) × IsObjectAt ns path n × (refusal ns n ≡ MissingBrackets)
 LacksBrackets ns (append_property path name v) = (n : ℕ) × IsObjectAt ns path n × (refusal ns n ≡ MissingBrackets)
+LacksBrackets ns (ensure_property path name shape how) = (n : ℕ) × IsObjectAt ns path n × IsUnensured how ns n name MissingBrackets
 LacksBrackets ns e = ⊥
 
--- the property whose value is to be of a shape lacks its name, or its colon
+-- the property whose value is to be of a shape lacks its name, or its colon, at a path or as the first of its name
 abbrev pub LacksName : List Node → Operation → Type 0
 LacksName ns (ensure_value path shape) = (n : ℕ) × IsPropertyAt ns path n × (lacks_name_at ns n ≡ true)
+LacksName ns (ensure_property path name shape how) = (n : ℕ) × IsObjectAt ns path n × IsUnensured how ns n name MissingName
 LacksName ns e = ⊥
 
 -- why the edit was not made: memory was wanted, it has no place, or a bracket or a name is missing; nothing else is told

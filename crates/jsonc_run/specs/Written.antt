@@ -24,14 +24,18 @@ use Rattle.jsonc_laws.specs.Properties.{PropertyChanged, ReplacesMember}
 use Rattle.jsonc_multiline.specs.Laws.{SpreadAt}
 use Rattle.jsonc_insertion_laws.specs.Laws.{item_count, ElementComesAt, GainsItem}
 use Rattle.jsonc_insertion_laws.specs.Members.{member_count, GainsMember, PropertyComesAt}
+use Rattle.jsonc_named.specs.Laws as named
+use Rattle.jsonc_named.specs.Members.{EnsuresMember}
+use Rattle.jsonc_named.specs.Shapes.{EnsuredValue}
+use Rattle.jsonc_named.specs.Values.{ReplacesHeld, ValueEnsured, ValueGivesWay}
 use Rattle.jsonc_remove.specs.Laws.{EntryTaken, ValueTaken}
-use Rattle.jsonc_run.specs.declared.edit.Over.{Over}
-use Rattle.jsonc_run.specs.declared.edit.Over.TheVariants as over
-use Rattle.jsonc_run.specs.declared.edit.Shape.{Shape}
+use Rattle.jsonc_named.specs.declared.shape.Over.{Over}
+use Rattle.jsonc_named.specs.declared.shape.Over.TheVariants as over
+use Rattle.jsonc_named.specs.declared.shape.Shape.{Shape}
 use Rattle.jsonc_edit.specs.declared.error.EditError.{EditError}
 use Rattle.jsonc_run.specs.Refusals.{WantsMemoryOrPlace}
-use Rattle.jsonc_run.specs.Shapes.{has_shape, empty_of}
-use Rattle.jsonc_run.specs.Edits.{Operation, replace, remove, remove_comment, set_root, clear_root, replace_property, ensure_root, set_value, ensure_value, set_boolean, ensure_multiline, insert_element, append_element, insert_property, append_property}
+use Rattle.jsonc_named.specs.Shapes.{has_shape, empty_of}
+use Rattle.jsonc_run.specs.Edits.{Operation, replace, remove, remove_comment, set_root, clear_root, replace_property, ensure_root, set_value, ensure_value, set_boolean, ensure_multiline, insert_element, append_element, insert_property, append_property, ensure_property}
 
 -- documents of these options can hold what the edit writes: its value, and the name of its property
 abbrev pub MayBeMade : Options → Operation → Type 0
@@ -50,20 +54,7 @@ MayBeMade o (insert_element path i v) = IsWritable o v
 MayBeMade o (append_element path v) = IsWritable o v
 MayBeMade o (insert_property path i name v) = IsCharacters name × IsWritable o v
 MayBeMade o (append_property path name v) = IsCharacters name × IsWritable o v
-
--- the second value is the empty one of the shape, where there was none, or one of another shape that was to give way; any other has stayed
-pub data EnsuredValue (shape : Shape) : Over → Option Plain → Option Plain → Type 0 where
-  comes_first : {how : Over} → EnsuredValue shape how None (Some (empty_of shape))
-  has_it : {how : Over} {x : Plain} → has_shape shape x ≡ true → EnsuredValue shape how (Some x) (Some x)
-  may_stay : {x : Plain} → has_shape shape x ≡ false → EnsuredValue shape over.Keep (Some x) (Some x)
-  must_give_way : {x : Plain} → has_shape shape x ≡ false → EnsuredValue shape over.Replace (Some x) (Some (empty_of shape))
-
--- of the object at the path the value of the property at this place has given way to another, and nothing else has
-pub record ReplacesHeld (path : List ℕ) (i : ℕ) (was now x y : Plain) : Type 0 where
-  pub old : Members
-  pub new : Members
-  pub changed : MemberChanged was now i old new
-  pub inside : Changed (object old) (object new) path x y
+MayBeMade o (ensure_property path name shape how) = IsCharacters name
 
 -- The edit makes the second value of the first: where another value is written, this is the first, but that at the path the new value stands; where an entry
 -- leaves, it is the first without the entry, or none without the document's value; where a comment leaves, it is the first, if there is one; where the
@@ -71,7 +62,8 @@ pub record ReplacesHeld (path : List ℕ) (i : ℕ) (was now x y : Plain) : Type
 -- a value of a shape is to be there, it is the first or an empty one; where the value of a property is set, or is to be of a shape, it is the first, but that
 -- the property has this value, or, if it had none of the shape, an empty one; where a truth value is set, it is the first, but that at the path, where one
 -- stood, this one stands; lines change nothing; where a value comes into an array, it is the first, but that the array at the path has it, at its number or as
--- its last; and so where a property comes into an object.
+-- its last; and so where a property comes into an object; where the first property of a name is to have a value of a shape, it is the first, but for that
+-- property.
 pub data IsChanged : Option Plain → Operation → Option Plain → Type 0 where
   by_value : {given_up v x y : Plain} {path : List ℕ} → Changed given_up v path x y → IsChanged (Some x) (replace path v) (Some y)
   by_entry : (path : List ℕ) (i : ℕ) {x y : Plain} → LosesEntry path i x y → IsChanged (Some x) (remove (path ++ i ∷ [])) (Some y)
@@ -95,6 +87,8 @@ pub data IsChanged : Option Plain → Operation → Option Plain → Type 0 wher
       → IsChanged (Some x) (insert_property path i name v) (Some y)
   by_appending_member : {i : ℕ} {name : List ℕ} {v x y : Plain} {path : List ℕ} (gains : GainsMember path i name v x y) → member_count gains.old ≤ i
       → IsChanged (Some x) (append_property path name v) (Some y)
+  by_ensuring_named : {path name : List ℕ} {shape : Shape} {how : Over} {x y : Plain} → EnsuresMember path name shape how x y
+      → IsChanged (Some x) (ensure_property path name shape how) (Some y)
 
 -- the edits, one after another, make the second value of the first
 pub data AreChanged : Option Plain → List Operation → Option Plain → Type 0 where
@@ -106,16 +100,6 @@ pub data EntryLeft (t u : OrderedTree) : List ℕ → Type 0 where
   entry_left : (path : List ℕ) (i : ℕ) (top : Top) → EntryTaken path i top t u → EntryLeft t u (path ++ i ∷ [])
   value_left : (top : Top) → ValueTaken top t u → EntryLeft t u []
 
--- spaces have come into the document, and then of its leaves those of the value at the path have given way to those of this one, in some layout; all leaves
--- before and after stay
-pub record ValueGivesWay (path : List ℕ) (v : Plain) (t u : OrderedTree) : Type 0 where
-  pub was : Top
-  pub layout : Layout
-  pub spaced : OrderedTree
-  pub spaces : SpacesPut t spaced
-  pub changed : DocumentChanged was (laid layout v) path spaced u
-  pub around : DiffersIn (leaves_of was) (leaves_of (laid layout v)) (leaves spaced) (leaves u)
-
 -- the document's value has given way to this one; or this one has come into the row of a root that had none, with ends of lines beside it
 pub data RootValueSet (v : Plain) (t u : OrderedTree) : Type 0 where
   given_way : ValueGivesWay [] v t u → RootValueSet v t u
@@ -125,11 +109,6 @@ pub data RootValueSet (v : Plain) (t u : OrderedTree) : Type 0 where
 pub data RootValueEnsured (shape : Shape) (t u : OrderedTree) : Type 0 where
   all_kept : u ≡ t → RootValueEnsured shape t u
   empty_set : RootValueSet (empty_of shape) t u → RootValueEnsured shape t u
-
--- all has stayed, or the value at the path has given way to the empty value of a shape
-pub data ValueEnsured (path : List ℕ) (shape : Shape) (t u : OrderedTree) : Type 0 where
-  all_stays : u ≡ t → ValueEnsured path shape t u
-  empty_given : ValueGivesWay path (empty_of shape) t u → ValueEnsured path shape t u
 
 -- spaces have come into the document, and then in the row of the object at the path, between its front and its rest, a property has given way to one of this
 -- name and value, in some layout; all leaves before and after stay
@@ -160,6 +139,7 @@ StayAround t (insert_element path i v) u = (o : Options) → SoundTree o t → E
 StayAround t (append_element path v) u = (o : Options) → SoundTree o t → (n : ℕ) × ((i : ℕ) → n ≤ i → ElementComesAt o path i v t u)
 StayAround t (insert_property path i name v) u = (o : Options) → SoundTree o t → PropertyComesAt o path i name v t u
 StayAround t (append_property path name v) u = (o : Options) → SoundTree o t → (n : ℕ) × ((i : ℕ) → n ≤ i → PropertyComesAt o path i name v t u)
+StayAround t (ensure_property path name shape how) u = (o : Options) → SoundTree o t → IsCharacters name → named.StaysAround o path name shape t u
 
 -- so it is for each of the edits, one after another
 pub data AllStayAround : OrderedTree → List Operation → OrderedTree → Type 0 where

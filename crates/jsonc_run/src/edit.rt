@@ -1,23 +1,8 @@
 //! What an edit asks for.
 
 use jsonc_input::CstInputValue;
+use jsonc_named::{Over, Shape};
 use std::alloc::Allocator;
-
-/// The kind of an array or object that is to be there.
-#[derive(Clone, Copy, Debug, PartialEq, Eq)]
-pub enum Shape {
-    Object,
-    Array,
-}
-
-/// What becomes of a value of another kind than the one that is to be there.
-#[derive(Clone, Copy, Debug, PartialEq, Eq)]
-pub enum Over {
-    /// It stays.
-    Keep,
-    /// It gives way.
-    Replace,
-}
 
 /// An edit of a document.
 ///
@@ -69,4 +54,8 @@ pub enum Edit<A: Allocator> {
     InsertProperty(Vec<usize, A>, usize, String<A>, CstInputValue<A>),
     /// A property of this name and value comes into the object at a path, behind its last property.
     AppendProperty(Vec<usize, A>, String<A>, CstInputValue<A>),
+    /// The first property of this name in the object at a path has an array or an object as its value: a
+    /// value of another kind stays or gives way to an empty one, and where none has the name, one with an
+    /// empty value comes behind the last property.
+    EnsureProperty(Vec<usize, A>, String<A>, Shape, Over),
 }

@@ -5,7 +5,8 @@ ghost use Rattle.jsonc_tree.specs.Content.{property};
 ghost use Rattle.jsonc_tree.specs.Tree.{content_at};
 ghost use Rattle.jsonc_nodes.specs.Siblings.{IsThere};
 ghost use Rattle.jsonc_edit.specs.Paths.{FindsExactly};
-ghost use Rattle.jsonc_run.specs.Places.{IsEntryAt, IsEntryOf, IsPropertyAt, IsPropertyOf};
+ghost use Rattle.jsonc_named.specs.Places.{IsPropertyAt, IsPropertyOf};
+ghost use Rattle.jsonc_run.specs.Places.{IsEntryAt, IsEntryOf};
 
 use jsonc_edit::find;
 use jsonc_nodes::element_at;

@@ -13,15 +13,16 @@ ghost use Rattle.jsonc_run.specs.Edits.{replace as asked, remove as asked_out, r
 ghost use Rattle.jsonc_run.specs.Edits.{set_root as asked_of_root, replace_property as asked_of_property, ensure_root as asked_for};
 ghost use Rattle.jsonc_laws.specs.SoundTrees.{SoundTree};
 ghost use Rattle.jsonc_run.specs.Refusals.{IsToldBy, StopsAt, WantsMemoryOrPlace};
-ghost use Rattle.jsonc_run.specs.Shapes.{empty_of, is_of};
+ghost use Rattle.jsonc_named.specs.Shapes.{empty_of, is_of};
 ghost use Rattle.jsonc_run.specs.Written.{IsRefusedAfter, WriteAll};
 
 use crate::comments::find_comment;
-use crate::edit::{Edit, Over, Shape};
+use crate::edit::Edit;
+use jsonc_named::{Over, Shape};
 use crate::entries::{find_entry, find_property};
 use crate::inserting::{append_element_at, insert_element_at};
 use crate::lines::ensure_multiline_at;
-use crate::members::{append_property_at, insert_property_at};
+use crate::members::{append_property_at, ensure_property_at, insert_property_at};
 use crate::values::{ensure_value_at, set_boolean_at, set_value_at};
 use jsonc_edit::{EditError, find, remove_comment, replace};
 use jsonc_input::CstInputValue;
@@ -92,6 +93,9 @@ fn make_by_kind<A: Allocator + Copy>(
         }
         Edit::AppendProperty(path, name, value) => {
             append_property_at(alloc, tree, path, name, value)
+        }
+        Edit::EnsureProperty(path, name, shape, over) => {
+            ensure_property_at(alloc, tree, path, name, *shape, *over)
         }
     }
 }

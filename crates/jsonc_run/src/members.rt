@@ -8,13 +8,14 @@ ghost use Rattle.jsonc_tree.specs.OrderedTree.{ordered_tree};
 ghost use Rattle.jsonc_tree.specs.Tree.{content_at, IsTree};
 ghost use Rattle.jsonc_nodes.specs.Siblings.{IsThere};
 ghost use Rattle.jsonc_edit.specs.Paths.{FindsExactly};
-ghost use Rattle.jsonc_run.specs.Edits.{append_property as asked_behind, insert_property as asked_in, IsMade};
+ghost use Rattle.jsonc_run.specs.Edits.{append_property as asked_behind, ensure_property as asked_for, insert_property as asked_in, IsMade};
 ghost use Rattle.jsonc_run.specs.Places.{IsObjectAt};
 ghost use Rattle.jsonc_run.specs.Refusals.{IsToldBy};
 
 use jsonc_edit::{EditError, find};
 use jsonc_input::CstInputValue;
 use jsonc_members::insert_property;
+use jsonc_named::{Over, Shape, ensure_property};
 use jsonc_tree::{Kind, Tree};
 use std::alloc::Allocator;
 
@@ -89,6 +90,31 @@ pub(crate) fn append_property_at<A: Allocator + Copy>(
     // There are no more properties than children.
     let count = tree.child_count(object);
     match insert_property(alloc, tree, object, count, name, value) {
+        Ok(_) => Ok(()),
+        Err(error) => Err(error),
+    }
+}
+
+// Sees that the first property of a name in the object at a path has a value of a shape.
+pub(crate) fn ensure_property_at<A: Allocator + Copy>(
+    alloc: A,
+    tree: &mut Tree<A>,
+    path: &[usize],
+    name: &str,
+    shape: Shape,
+    over: Over,
+) -> Result<(), EditError>
+    ensures made { OnOk result (IsMade tree.old.nodes (asked_for path.now (chars name.now) shape over) tree.new.nodes) }
+    ensures told { IfErr result (IsToldBy tree.old.nodes (asked_for path.now (chars name.now) shape over)) }
+    ensures kept { OnErr result (Keeps (length tree.old.nodes) tree.old.nodes tree.new.nodes) }
+    ensures document { OnErr result (ordered_tree tree.new.nodes 0 ≡ ordered_tree tree.old.nodes 0) }
+    ensures tree { IsTree tree.new.nodes }
+{
+    let _ = tree.len();
+    let Some(object) = find_object(tree, path) else {
+        return Err(EditError::NoSuchPlace);
+    };
+    match ensure_property(alloc, tree, object, name, shape, over) {
         Ok(_) => Ok(()),
         Err(error) => Err(error),
     }

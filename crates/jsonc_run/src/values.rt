@@ -15,9 +15,9 @@ ghost use Rattle.jsonc_set.specs.PropertyValues.{HeldOrSet, IsUnset};
 ghost use Rattle.jsonc_run.specs.Edits.{set_value as asked_value, ensure_value as asked_shape, set_boolean as asked_boolean, IsMade};
 ghost use Rattle.jsonc_run.specs.Places.{IsBooleanAt};
 ghost use Rattle.jsonc_run.specs.Refusals.{IsToldBy};
-ghost use Rattle.jsonc_run.specs.Shapes.{empty_of, is_of};
+ghost use Rattle.jsonc_named.specs.Shapes.{empty_of, is_of};
 
-use crate::edit::Shape;
+use jsonc_named::Shape;
 use crate::entries::find_property;
 use jsonc_edit::{EditError, find};
 use jsonc_input::CstInputValue;

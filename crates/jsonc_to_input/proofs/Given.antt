@@ -37,7 +37,7 @@ pieces_wider (Pieces.piece p ps e) = Pieces.piece (piece_wider p) (pieces_wider 
 quote_wider : (o : Options) (q : ℕ) → IsQuote o q → IsQuote all_on q
 quote_wider o q h = grind arith
 
-stands_for : (o : Options) (s v : List ℕ) → IsStringText o s v → StandsFor s v
+pub stands_for : (o : Options) (s v : List ℕ) → IsStringText o s v → StandsFor s v
 stands_for o s v (q, t, quote, e, pieces) = ([], (q, t, quote_wider o q quote, e, pieces_wider pieces))
 
 -- what is passed over gives nothing, and is no property

@@ -1,6 +1,6 @@
 use Rattle.std.proofs.Common.{List, ℕ, OnOk, chars, sym, subst}
 use Rattle.jsonc_input.specs.Views.{chars_of, plain}
-use Rattle.jsonc_run.specs.Edits.{operation_of, append_property, insert_property, set_value, IsMade}
+use Rattle.jsonc_run.specs.Edits.{operation_of, append_property, ensure_property, insert_property, set_value, IsMade}
 use Rattle.jsonc_run.proofs.making.make_by_kind.Goals as goal
 
 pub returns-in-SetValue-clause-made : goal.returns-in-SetValue-clause-made
@@ -22,3 +22,10 @@ returns-in-AppendProperty-clause-made g c =
     let at : Made c.in-AppendProperty.path.items (chars c.deref-in-AppendProperty-2.result.now) = subst (λ (path : List ℕ). Made path (chars c.deref-in-AppendProperty-2.result.now)) c.deref-in-AppendProperty.ensures.value c.append_property_at.ensures.made in
     let given : Made c.in-AppendProperty.path.items (chars_of c.in-AppendProperty.name) = subst (λ (s : List ℕ). Made c.in-AppendProperty.path.items (chars s)) c.deref-in-AppendProperty-2.ensures at in
     subst (λ e. OnOk c.append_property_at.result (IsMade c.args.tree.now.nodes (operation_of e) c.append_property_at.new.tree.nodes)) (sym c.in-AppendProperty.is) given
+
+pub returns-in-EnsureProperty-clause-made : goal.returns-in-EnsureProperty-clause-made
+returns-in-EnsureProperty-clause-made g c =
+    let Made : List ℕ → List ℕ → Type 0 = λ path name. OnOk c.ensure_property_at.result (IsMade c.args.tree.now.nodes (ensure_property path name c.in-EnsureProperty.shape c.in-EnsureProperty.over) c.ensure_property_at.new.tree.nodes) in
+    let at : Made c.in-EnsureProperty.path.items (chars c.deref-in-EnsureProperty-2.result.now) = subst (λ (path : List ℕ). Made path (chars c.deref-in-EnsureProperty-2.result.now)) c.deref-in-EnsureProperty.ensures.value c.ensure_property_at.ensures.made in
+    let given : Made c.in-EnsureProperty.path.items (chars_of c.in-EnsureProperty.name) = subst (λ (s : List ℕ). Made c.in-EnsureProperty.path.items (chars s)) c.deref-in-EnsureProperty-2.ensures at in
+    subst (λ e. OnOk c.ensure_property_at.result (IsMade c.args.tree.now.nodes (operation_of e) c.ensure_property_at.new.tree.nodes)) (sym c.in-EnsureProperty.is) given

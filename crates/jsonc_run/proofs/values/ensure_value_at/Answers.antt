@@ -1,7 +1,7 @@
 use Rattle.std.proofs.Common.{rules, IfErr}
 use Rattle.jsonc_set.specs.PropertyValues.{IsUnset}
-use Rattle.jsonc_run.specs.Places.{IsPropertyAt}
-use Rattle.jsonc_run.specs.Shapes.{is_of}
+use Rattle.jsonc_named.specs.Places.{IsPropertyAt}
+use Rattle.jsonc_named.specs.Shapes.{is_of}
 use Rattle.jsonc_run.proofs.Made.{no_place}
 use Rattle.jsonc_run.proofs.ValueMade.{property_kind, unset_answer}
 use Rattle.jsonc_run.proofs.values.ensure_value_at.Goals as goal

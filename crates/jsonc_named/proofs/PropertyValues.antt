@@ -1,13 +1,15 @@
 -- The value of a property of a sound document stands at the property's path.
-use Rattle.std.proofs.Common.{◌≡◌, ℕ, Bool, false, not, List, [], ◌∷◌, filter, slice_get, Some, refl, sym, ap, subst, ◌∙◌}
+use Rattle.std.proofs.Common.{◌≡◌, ℕ, Bool, true, false, not, ◌||◌, cond, List, [], ◌∷◌, filter, slice_get, Some, None, inl, inr, refl, sym, ap, subst, ◌∙◌}
+use Rattle.std.proofs.lemmas.Bool.{cases_Bool, false≢true}
+use Rattle.std.specs.List.{find, list_any}
 use Rattle.jsonc_text.specs.Options.{Options}
 use Rattle.jsonc_tree.specs.Content.{Content, property, token}
 use Rattle.jsonc_tree.specs.OrderedTree.{OrderedTree, none, more, Shows, shows_none, shows_more, ordered_tree}
 use Rattle.jsonc_tree.specs.Tree.{Node, content_at, children_at, IsTree}
 use Rattle.jsonc_build.specs.Shape as shape
 use Rattle.jsonc_build.specs.Shape.{IsTrivia, Trivia, nothing, trivia, token_then}
-use Rattle.jsonc_nodes.specs.Kinds.{is_element, is_element_at}
-use Rattle.jsonc_nodes.specs.Properties.{value_at}
+use Rattle.jsonc_nodes.specs.Kinds.{is_colon_at, is_element, is_element_at}
+use Rattle.jsonc_nodes.specs.Properties.{behind_colon, behind_first, behind_name, lacks_name_at, value_at}
 use Rattle.jsonc_nodes.proofs.Held.{held_in, value_is_held}
 use Rattle.jsonc_laws.specs.Alone as alone
 use Rattle.jsonc_laws.specs.Alone.{ValueAlone, RowAlone, PropertyAlone}
@@ -28,8 +30,8 @@ use Rattle.jsonc_edit.proofs.Uniqueness.{element_parent}
 use Rattle.jsonc_edit.proofs.Walk.{Shows-row_below}
 use Rattle.jsonc_tree.proofs.Order.{parent_there}
 use Rattle.jsonc_set.proofs.PropertyRows.{parted, object_row, inside_of}
-use Rattle.jsonc_run.specs.Places.{IsPropertyOf, IsPropertyAt, a_property}
-use Rattle.jsonc_run.proofs.PathValues.{gives_way_to_itself}
+use Rattle.jsonc_named.specs.Places.{IsPropertyOf, IsPropertyAt, a_property}
+use Rattle.jsonc_named.proofs.PathValues.{gives_way_to_itself}
 
 -- a value is an element
 alone_element : {o : Options} {content : Content} {below : OrderedTree} → ValueAlone o content below → IsElement content
@@ -46,14 +48,14 @@ property_part e (alone.comma g) = cc
 
 module _ (o : Options) (ns : List Node) where
   -- the first node of a row
-  record First (xs : List ℕ) (content : Content) (after : OrderedTree) : Type 0 where
-    node : ℕ
-    rest : List ℕ
-    is : xs ≡ node ∷ rest
-    kind : content_at ns node ≡ content
-    shown : Shows ns rest after
+  pub record First (xs : List ℕ) (content : Content) (after : OrderedTree) : Type 0 where
+    pub node : ℕ
+    pub rest : List ℕ
+    pub is : xs ≡ node ∷ rest
+    pub kind : content_at ns node ≡ content
+    pub shown : Shows ns rest after
 
-  first_shown : (xs : List ℕ) (t : OrderedTree) → Shows ns xs t → (content : Content) (below after : OrderedTree) → t ≡ more content below after → First xs content after
+  pub first_shown : (xs : List ℕ) (t : OrderedTree) → Shows ns xs t → (content : Content) (below after : OrderedTree) → t ≡ more content below after → First xs content after
   first_shown _ _ shows_none content below after e = cc
   first_shown _ _ (shows_more {n = n} {rest = rest} {below = b} {after = a} p q) content below after e =
       let kind : content_at ns n ≡ content = cc in
@@ -113,7 +115,7 @@ module _ (o : Options) (ns : List Node) where
     pub at : IsAt ns path value
 
   module _ (tree : IsTree ns) (sound : SoundTree o (ordered_tree ns 0)) where
-    property_row : (front : List ℕ) (c i r : ℕ) → IsAt ns front c → IsPropertyOf ns c i r → PropertyAlone o (row_below ns r)
+    pub property_row : (front : List ℕ) (c i r : ℕ) → IsAt ns front c → IsPropertyOf ns c i r → PropertyAlone o (row_below ns r)
     property_row front c i r at inside =
         let row = object_row o inside.of_object (value_alone o (document_held o (gives_way_to_itself ns tree front c at) sound.shaped).1) in
         let near = parted ns tree r c (element_parent ns tree c i r inside.element) in
@@ -127,3 +129,23 @@ module _ (o : Options) (ns : List Node) where
         let one = holds_one (children_at ns r) (row_below ns r) (Shows-row_below ns tree r there) (property_row front c i r at inside) in
         let holds = value_is_held ns r inside.is ∙ one.held in
         record { value = one.value; holds = holds; at = at_further ns c i one.value front at (StepsTo.in_object {r = r} inside.of_object inside.element (inside.is, one.second, holds)) }
+
+-- behind the first node that passes stands nothing where none passes
+none_behind : (test : ℕ → Bool) (xs : List ℕ) → list_any test xs ≡ false → behind_first test xs ≡ []
+none_behind test [] e = refl
+none_behind test (x ∷ xs) e =
+    elim (cases_Bool (test x)) [
+      | inl h ↦ absurd (let wrong : true ≡ false = sym (ap (λ b. b || list_any test xs) h) ∙ e in cc)
+      | inr h ↦ ap (λ b. cond b xs (behind_first test xs)) h ∙ none_behind test xs (sym (ap (λ b. b || list_any test xs) h) ∙ e)
+    ]
+
+not_true : (b : Bool) → not b ≡ true → b ≡ false
+not_true true e = absurd (false≢true e)
+not_true false e = refl
+
+module _ (ns : List Node) where
+  -- a property that holds a value has its name and its colon
+  pub held_by_name : (n v : ℕ) → find (is_element_at ns) (behind_colon ns n) ≡ Some v → lacks_name_at ns n ≡ true → ⊥
+  held_by_name n v held lacks =
+      let none : behind_colon ns n ≡ [] = none_behind (is_colon_at ns) (behind_name ns n) (not_true (list_any (is_colon_at ns) (behind_name ns n)) lacks) in
+      let wrong : None ≡ Some v = sym (ap (find (is_element_at ns)) none) ∙ held in cc

@@ -1,0 +1,106 @@
+-- A property with an empty value that has come into an object: which node that value is.
+use Rattle.std.proofs.Common.{◌≡◌, ℕ, ◌<◌, ◌≤◌, Bool, true, false, not, cond, List, [], ◌∷◌, length, filter, Option, Some, None, Result, Ok, Err, refl, sym, ap, subst, ◌∙◌, arith}
+use Rattle.std.proofs.lemmas.List.Filters.{length-filter_both}
+use Rattle.std.specs.List.{find}
+use Rattle.jsonc_text.specs.Options.{all_on}
+use Rattle.jsonc_text.specs.Plain.{Plain}
+use Rattle.jsonc_tree.specs.Content as content
+use Rattle.jsonc_tree.specs.Content.{Content, property, token, whitespace}
+use Rattle.jsonc_tree.specs.OrderedTree.{OrderedTree, none, more, Shows, Top}
+use Rattle.jsonc_tree.specs.Tree.{Node, content_at, children_at, parent_at, IsTree}
+use Rattle.jsonc_tree.proofs.Order.{parent_there}
+use Rattle.jsonc_nodes.specs.Kinds.{is_colon, is_colon_at, is_element, is_element_at}
+use Rattle.jsonc_nodes.specs.Properties.{behind_first, is_name, is_name_at, value_at}
+use Rattle.jsonc_nodes.specs.Siblings.{elements_at}
+use Rattle.jsonc_nodes.proofs.Held.{held_in, value_is_held}
+use Rattle.jsonc_from_input.specs.Laid.{laid, laid_property, string_leaf}
+use Rattle.jsonc_from_input.specs.Layout.{Layout}
+use Rattle.jsonc_edit.specs.Changes.{row_below, top_at}
+use Rattle.jsonc_edit.proofs.FittingFinds.{passes, fails}
+use Rattle.jsonc_edit.proofs.Uniqueness.{element_parent}
+use Rattle.jsonc_edit.proofs.Walk.{Shows-row_below}
+use Rattle.jsonc_insert.specs.Planned.{has_brackets}
+use Rattle.jsonc_members.specs.Inserted.{PropertyPut}
+use Rattle.jsonc_members.specs.Told.{layout_inside}
+use Rattle.jsonc_members.proofs.Changing.{is_property}
+use Rattle.jsonc_members.proofs.Numbering.{takes_number}
+use Rattle.jsonc_members.proofs.Past.{past_the_end}
+use Rattle.jsonc_named.specs.declared.shape.Shape.{Shape}
+use Rattle.jsonc_named.specs.declared.shape.Shape.TheVariants.{Object, Array}
+use Rattle.jsonc_named.specs.Shapes.{is_of, empty_of}
+use Rattle.jsonc_named.proofs.PropertyValues.{first_shown}
+
+-- the node of an empty value is of the shape
+empty_laid : (layout : Layout) (shape : Shape) → (is_element (laid layout (empty_of shape)).content ≡ true) × (is_of shape (laid layout (empty_of shape)).content ≡ true)
+empty_laid layout Object = (refl, refl)
+empty_laid layout Array = (refl, refl)
+
+module _ (ns : List Node) where
+  begins : (test : ℕ → Bool) (n : ℕ) (rest : List ℕ) → test n ≡ true → behind_first test (n ∷ rest) ≡ rest
+  begins test n rest h = ap (λ b. cond b rest (behind_first test rest)) h
+
+  -- what a row holds that is a name, a colon, a space and a value
+  record HoldsLast (xs : List ℕ) (value : Content) : Type 0 where
+    node : ℕ
+    held : held_in ns xs ≡ Some node
+    kind : content_at ns node ≡ value
+
+  holds_last : (xs : List ℕ) (name : List ℕ) (space : List ℕ) (value : Content) (below : OrderedTree) → is_element value ≡ true
+      → Shows ns xs (more (content.string name) none (more (token 0x3A) none (more (whitespace space) none (more value below none)))) → HoldsLast xs value
+  holds_last xs name space value below is p =
+      let after_space : OrderedTree = more value below none in
+      let after_colon : OrderedTree = more (whitespace space) none after_space in
+      let after_name : OrderedTree = more (token 0x3A) none after_colon in
+      let a = first_shown all_on ns xs (more (content.string name) none after_name) p (content.string name) none after_name refl in
+      let b = first_shown all_on ns a.rest after_name a.shown (token 0x3A) none after_colon refl in
+      let c = first_shown all_on ns b.rest after_colon b.shown (whitespace space) none after_space refl in
+      let d = first_shown all_on ns c.rest after_space c.shown value below none refl in
+      let past_name : behind_first (is_name_at ns) xs ≡ a.rest = ap (behind_first (is_name_at ns)) a.is ∙ begins (is_name_at ns) a.node a.rest (ap is_name a.kind) in
+      let past_colon : behind_first (is_colon_at ns) a.rest ≡ b.rest = ap (behind_first (is_colon_at ns)) b.is ∙ begins (is_colon_at ns) b.node b.rest (ap is_colon b.kind) in
+      let found : find (is_element_at ns) b.rest ≡ Some d.node =
+      ap (find (is_element_at ns)) c.is ∙ sym (fails (is_element_at ns) c.node c.rest (ap is_element c.kind))
+      ∙ ap (find (is_element_at ns)) d.is ∙ passes (is_element_at ns) d.node d.rest (ap is_element d.kind ∙ is) in
+      record {
+        node = d.node;
+        held = ap (find (is_element_at ns)) (ap (behind_first (is_colon_at ns)) past_name ∙ past_colon) ∙ found;
+        kind = d.kind;
+      }
+
+-- a container has no more elements than children
+fewer : (ns : List Node) (c : ℕ) → length (elements_at ns c) ≤ length (children_at ns c)
+fewer ns c = omega (arith, length-filter_both (is_element_at ns) (λ n. not (is_element_at ns n)) (λ n. refl) (children_at ns c))
+
+-- the property that has come at the number of the children holds its value
+pub record HoldsEmpty (new : List Node) (p : ℕ) (shape : Shape) : Type 0 where
+  pub value : ℕ
+  pub holds : value_at new p ≡ Some value
+  pub shaped : is_of shape (content_at new value) ≡ true
+
+module _ (old new : List Node) (c i : ℕ) (name : List ℕ) (shape : Shape) (p : ℕ) (tree : IsTree old) (there : c < length old) (brackets : has_brackets old (children_at old c) ≡ true) (e : PropertyPut old new c i name (empty_of shape) p) where
+  pub property_there : p < length new
+  property_there = (parent_there new e.tree p c (element_parent new e.tree c _ p (takes_number old new c i name (empty_of shape) p tree there brackets e))).0
+
+  layout : Layout
+  layout = layout_inside e.lined c e.was
+
+  is : top_at new p ≡ laid_property layout name (empty_of shape)
+  is = is_property old new c i name (empty_of shape) p tree there e
+
+  pub holds_empty : HoldsEmpty new p shape
+  holds_empty =
+      let value : Top = laid layout (empty_of shape) in
+      let empty = empty_laid layout shape in
+      let kind : content_at new p ≡ property = ap (λ (t : Top). t.content) is in
+      let below : row_below new p ≡ (laid_property layout name (empty_of shape)).below = ap (λ (t : Top). t.below) is in
+      let shown = subst (λ t. Shows new (children_at new p) t) below (Shows-row_below new e.tree p property_there) in
+      let last = holds_last new (children_at new p) _ _ value.content value.below empty.0 shown in
+      record {
+        value = last.node;
+        holds = value_is_held new p kind ∙ last.held;
+        shaped = ap (is_of shape) last.kind ∙ empty.1;
+      }
+
+  pub put_last : i ≡ length (children_at old c) → PropertyPut old new c (length (elements_at old c)) name (empty_of shape) p
+  put_last at =
+      past_the_end old new c i (length (elements_at old c)) name (empty_of shape) p tree there brackets
+      (subst (λ k. length (elements_at old c) ≤ k) (sym at) (fewer old c)) (omega arith) e

@@ -1,0 +1,6 @@
+pub mod PathValues
+pub mod PropertyValues
+pub mod Values
+pub mod Names
+pub mod Creating
+pub mod Writing

@@ -1,0 +1,20 @@
+use Rattle.std.proofs.Common.{chars}
+use Rattle.jsonc_run.specs.Places.{IsObjectAt}
+use Rattle.jsonc_run.proofs.Properties.{told_for}
+use Rattle.jsonc_run.proofs.Made.{no_place}
+use Rattle.jsonc_run.proofs.members.ensure_property_at.Goals as goal
+
+pub returns-in_default-clause-told : goal.returns-in_default-clause-told
+returns-in_default-clause-told g c =
+    no_place c.find_object.result (IsObjectAt c.args.tree.now.nodes c.args.path.now) c.find_object.ensures.found c.in_default.not-Some
+
+pub ensure_property-requires-clause-object : goal.ensure_property-requires-clause-object
+ensure_property-requires-clause-object g c = ((c.find_object.ensures.found c.in-Some.object).0 c.in-Some.is).1
+
+pub returns-in-Ok-clause-made : goal.returns-in-Ok-clause-made
+returns-in-Ok-clause-made g c =
+    (c.in-Some.object, c.in-Ok.field-0, (c.find_object.ensures.found c.in-Some.object).0 c.in-Some.is, c.in-Ok.ensures.ensured)
+
+pub returns-in-Err-clause-told : goal.returns-in-Err-clause-told
+returns-in-Err-clause-told g c =
+    told_for c.args.tree.now.nodes c.args.path.now c.in-Some.object (chars c.args.name.now) c.args.shape c.args.over ((c.find_object.ensures.found c.in-Some.object).0 c.in-Some.is) c.in-Err.error c.in-Err.ensures.told
