@@ -125,7 +125,7 @@ fn read_insertion(alloc: Global, words: &[&str]) -> Result<Option<Edit<Global>>,
     }
 }
 
-/// A property that comes into an object.
+/// A property that comes into an object, or whose value is to be of a shape.
 fn read_new_member(alloc: Global, words: &[&str]) -> Result<Option<Edit<Global>>, CaseError> {
     match words {
         ["AppendProperty", path, name, value @ ..] => {
@@ -140,6 +140,12 @@ fn read_new_member(alloc: Global, words: &[&str]) -> Result<Option<Edit<Global>>
             let name = read_name(alloc, name)?;
             let value = read_value(alloc, value)?;
             Ok(Some(Edit::InsertProperty(path, index, name, value)))
+        }
+        ["EnsureProperty", path, name, shape, over] => {
+            let path = read_path(alloc, path)?;
+            let name = read_name(alloc, name)?;
+            let (shape, over) = (read_shape(shape)?, read_over(over)?);
+            Ok(Some(Edit::EnsureProperty(path, name, shape, over)))
         }
         _ => Ok(None),
     }

@@ -1,19 +1,18 @@
 -- A property with an empty value that has come into an object: which node that value is.
-use Rattle.std.proofs.Common.{◌≡◌, ℕ, ◌<◌, ◌≤◌, Bool, true, false, not, cond, List, [], ◌∷◌, length, filter, Option, Some, None, Result, Ok, Err, refl, sym, ap, subst, ◌∙◌, arith}
+use Rattle.std.proofs.Common.{◌≡◌, ℕ, ◌<◌, ◌≤◌, Bool, true, not, cond, List, ◌∷◌, length, Some, refl, sym, ap, subst, ◌∙◌, arith}
 use Rattle.std.proofs.lemmas.List.Filters.{length-filter_both}
 use Rattle.std.specs.List.{find}
 use Rattle.jsonc_text.specs.Options.{all_on}
-use Rattle.jsonc_text.specs.Plain.{Plain}
 use Rattle.jsonc_tree.specs.Content as content
 use Rattle.jsonc_tree.specs.Content.{Content, property, token, whitespace}
 use Rattle.jsonc_tree.specs.OrderedTree.{OrderedTree, none, more, Shows, Top}
-use Rattle.jsonc_tree.specs.Tree.{Node, content_at, children_at, parent_at, IsTree}
+use Rattle.jsonc_tree.specs.Tree.{Node, content_at, children_at, IsTree}
 use Rattle.jsonc_tree.proofs.Order.{parent_there}
 use Rattle.jsonc_nodes.specs.Kinds.{is_colon, is_colon_at, is_element, is_element_at}
 use Rattle.jsonc_nodes.specs.Properties.{behind_first, is_name, is_name_at, value_at}
 use Rattle.jsonc_nodes.specs.Siblings.{elements_at}
 use Rattle.jsonc_nodes.proofs.Held.{held_in, value_is_held}
-use Rattle.jsonc_from_input.specs.Laid.{laid, laid_property, string_leaf}
+use Rattle.jsonc_from_input.specs.Laid.{laid, laid_property}
 use Rattle.jsonc_from_input.specs.Layout.{Layout}
 use Rattle.jsonc_edit.specs.Changes.{row_below, top_at}
 use Rattle.jsonc_edit.proofs.FittingFinds.{passes, fails}
@@ -45,26 +44,38 @@ module _ (ns : List Node) where
     held : held_in ns xs ≡ Some node
     kind : content_at ns node ≡ value
 
+  -- step by step, from the value back
+  last_value : (xs : List ℕ) (value : Content) (below : OrderedTree) → is_element value ≡ true → Shows ns xs (more value below none) → (n : ℕ) × (find (is_element_at ns) xs ≡ Some n) × (content_at ns n ≡ value)
+  last_value xs value below is p =
+      let d = first_shown all_on ns xs (more value below none) p value below none refl in
+      (d.node, ap (find (is_element_at ns)) d.is ∙ passes (is_element_at ns) d.node d.rest (ap is_element d.kind ∙ is), d.kind)
+
+  behind_space : (xs : List ℕ) (space : List ℕ) (value : Content) (below : OrderedTree) → is_element value ≡ true → Shows ns xs (more (whitespace space) none (more value below none)) → (n : ℕ) × (find (is_element_at ns) xs ≡ Some n) × (content_at ns n ≡ value)
+  behind_space xs space value below is p =
+      let c = first_shown all_on ns xs (more (whitespace space) none (more value below none)) p (whitespace space) none (more value below none) refl in
+      let d = last_value c.rest value below is c.shown in
+      (d.0, ap (find (is_element_at ns)) c.is ∙ fails (is_element_at ns) c.node c.rest (ap is_element c.kind) ∙ d.1, d.2)
+
+  behind_colon_too : (xs : List ℕ) (space : List ℕ) (value : Content) (below : OrderedTree) → is_element value ≡ true → Shows ns xs (more (token 0x3A) none (more (whitespace space) none (more value below none)))
+      → (n : ℕ) × (find (is_element_at ns) (behind_first (is_colon_at ns) xs) ≡ Some n) × (content_at ns n ≡ value)
+  behind_colon_too xs space value below is p =
+      let rest : OrderedTree = more (whitespace space) none (more value below none) in
+      let b = first_shown all_on ns xs (more (token 0x3A) none rest) p (token 0x3A) none rest refl in
+      let d = behind_space b.rest space value below is b.shown in
+      let past : behind_first (is_colon_at ns) xs ≡ b.rest = ap (behind_first (is_colon_at ns)) b.is ∙ begins (is_colon_at ns) b.node b.rest (ap is_colon b.kind) in
+      (d.0, ap (find (is_element_at ns)) past ∙ d.1, d.2)
+
   holds_last : (xs : List ℕ) (name : List ℕ) (space : List ℕ) (value : Content) (below : OrderedTree) → is_element value ≡ true
       → Shows ns xs (more (content.string name) none (more (token 0x3A) none (more (whitespace space) none (more value below none)))) → HoldsLast xs value
   holds_last xs name space value below is p =
-      let after_space : OrderedTree = more value below none in
-      let after_colon : OrderedTree = more (whitespace space) none after_space in
-      let after_name : OrderedTree = more (token 0x3A) none after_colon in
-      let a = first_shown all_on ns xs (more (content.string name) none after_name) p (content.string name) none after_name refl in
-      let b = first_shown all_on ns a.rest after_name a.shown (token 0x3A) none after_colon refl in
-      let c = first_shown all_on ns b.rest after_colon b.shown (whitespace space) none after_space refl in
-      let d = first_shown all_on ns c.rest after_space c.shown value below none refl in
-      let past_name : behind_first (is_name_at ns) xs ≡ a.rest = ap (behind_first (is_name_at ns)) a.is ∙ begins (is_name_at ns) a.node a.rest (ap is_name a.kind) in
-      let past_colon : behind_first (is_colon_at ns) a.rest ≡ b.rest = ap (behind_first (is_colon_at ns)) b.is ∙ begins (is_colon_at ns) b.node b.rest (ap is_colon b.kind) in
-      let found : find (is_element_at ns) b.rest ≡ Some d.node =
-      ap (find (is_element_at ns)) c.is ∙ sym (fails (is_element_at ns) c.node c.rest (ap is_element c.kind))
-      ∙ ap (find (is_element_at ns)) d.is ∙ passes (is_element_at ns) d.node d.rest (ap is_element d.kind ∙ is) in
-      record {
-        node = d.node;
-        held = ap (find (is_element_at ns)) (ap (behind_first (is_colon_at ns)) past_name ∙ past_colon) ∙ found;
-        kind = d.kind;
-      }
+      let rest : OrderedTree = more (token 0x3A) none (more (whitespace space) none (more value below none)) in
+      let a = first_shown all_on ns xs (more (content.string name) none rest) p (content.string name) none rest refl in
+      let d = behind_colon_too a.rest space value below is a.shown in
+      let past : behind_first (is_name_at ns) xs ≡ a.rest = ap (behind_first (is_name_at ns)) a.is ∙ begins (is_name_at ns) a.node a.rest (ap is_name a.kind) in
+      record { node = d.0; held = ap (λ l. find (is_element_at ns) (behind_first (is_colon_at ns) l)) past ∙ d.1; kind = d.2 }
+
+pub some_same : (n m : ℕ) → Some n ≡ Some m → n ≡ m
+some_same n m e = cc
 
 -- a container has no more elements than children
 fewer : (ns : List Node) (c : ℕ) → length (elements_at ns c) ≤ length (children_at ns c)
@@ -80,7 +91,7 @@ module _ (old new : List Node) (c i : ℕ) (name : List ℕ) (shape : Shape) (p 
   pub property_there : p < length new
   property_there = (parent_there new e.tree p c (element_parent new e.tree c _ p (takes_number old new c i name (empty_of shape) p tree there brackets e))).0
 
-  layout : Layout
+  abbrev layout : Layout
   layout = layout_inside e.lined c e.was
 
   is : top_at new p ≡ laid_property layout name (empty_of shape)

@@ -1,12 +1,12 @@
 -- The first property of a name in an object of a sound document is the first of that name in the object's value.
-use Rattle.std.proofs.Common.{◌≡◌, ◌≢◌, ℕ, ◌<◌, Bool, true, false, not, List, [], ◌∷◌, suc, length, filter, slice_get, get_or, Option, Some, None, IsTrue, refl, sym, ap, subst, ◌∙◌, arith}
+use Rattle.std.proofs.Common.{◌≡◌, ◌≢◌, ℕ, true, false, List, [], ◌∷◌, suc, filter, slice_get, Option, Some, None, IsTrue, refl, sym, ap, subst, ◌∙◌, arith}
 use Rattle.std.specs.List.{All, find}
 use Rattle.jsonc_text.specs.Options.{Options}
 use Rattle.jsonc_text.specs.Plain.{Plain, Members, member}
 use Rattle.jsonc_tree.specs.Content as content
 use Rattle.jsonc_tree.specs.Content.{Content, property}
 use Rattle.jsonc_tree.specs.OrderedTree.{OrderedTree, none, more, Shows, shows_none, shows_more}
-use Rattle.jsonc_tree.specs.Tree.{Node, content_at, children_at, IsTree}
+use Rattle.jsonc_tree.specs.Tree.{Node, content_at, children_at}
 use Rattle.jsonc_tree.specs.Values as values
 use Rattle.jsonc_tree.specs.Values.{is_passed_over, IsNameLeaf, MembersOf, PropertyOf}
 use Rattle.jsonc_build.specs.Shape.{IsNameBefore}
@@ -19,7 +19,6 @@ use Rattle.jsonc_to_input.proofs.Given.{stands_for}
 use Rattle.jsonc_laws.specs.Alone as alone
 use Rattle.jsonc_laws.specs.Alone.{PropertyAlone}
 use Rattle.jsonc_laws.proofs.FirstNodes.{name_element, no_element}
-use Rattle.jsonc_edit.specs.Changes.{row_below}
 use Rattle.jsonc_edit.proofs.Elements.{taken, left}
 use Rattle.jsonc_edit.proofs.FittingFinds.{passes}
 use Rattle.jsonc_named.specs.Members.{LacksMember, no_more, other_name, IsFirstMember, first_is, first_later}
@@ -72,21 +71,19 @@ module _ (o : Options) (ns : List Node) where
       names_once (content_at ns leaf) name other (subst (λ m. Names (content_at ns m) name) same l.named) named
 
   -- each property of a row is one of a sound document
-  pub IsWhole : ℕ → Type 0
+  abbrev pub IsWhole : ℕ → Type 0
   IsWhole n = content_at ns n ≡ property → (row : OrderedTree) → Shows ns (children_at ns n) row → PropertyAlone o row
 
   -- what was found among these nodes, and of these properties none or one has the name
-  pub Among : List ℕ → List ℕ → Option ℕ → Members → Type 0
+  abbrev pub Among : List ℕ → List ℕ → Option ℕ → Members → Type 0
   Among xs name None ms = LacksMember name ms
   Among xs name (Some r) ms = (i : ℕ) × (slice_get (filter (is_element_at ns) xs) i ≡ Some r) × IsFirstMember name i ms
 
   past_other : (n : ℕ) (xs name : List ℕ) (found : Option ℕ) (ms : Members) → is_element_at ns n ≡ false → Among xs name found ms → Among (n ∷ xs) name found ms
-  unfolding Among
   past_other n xs name None ms is a = a
   past_other n xs name (Some r) ms is (i, e, first) = (i, ap (λ l. slice_get l i) (left (is_element_at ns) n xs is) ∙ e, first)
 
   past_property : (n : ℕ) (xs name : List ℕ) (found : Option ℕ) (m : List ℕ) (v : Plain) (ms : Members) → is_element_at ns n ≡ true → m ≢ name → Among xs name found ms → Among (n ∷ xs) name found (member m v ms)
-  unfolding Among
   past_property n xs name None m v ms is ne a = other_name ne a
   past_property n xs name (Some r) m v ms is ne (i, e, first) = (suc i, ap (λ l. slice_get l (suc i)) (taken (is_element_at ns) n xs is) ∙ e, first_later ne first)
 
@@ -107,12 +104,11 @@ module _ (o : Options) (ns : List Node) where
 
   not_first : (n : ℕ) (xs : List ℕ) (name : List ℕ) (found : Option ℕ) (ms : Members) → (content_at ns n ≡ property → ⊥) → is_element_at ns n ≡ false → FirstNamed ns name (n ∷ xs) found
       → ((rest : Option ℕ) → FirstNamed ns name xs rest → Among xs name rest ms) → Among (n ∷ xs) name found ms
-  not_first n xs name _ ms no is (names.here named) others = absurd (no named.0)
-  not_first n xs name found ms no is (names.later other f) others = past_other n xs name found ms is (others found f)
+  not_first n xs name _ ms other_kind is (names.here named) others = absurd (other_kind named.0)
+  not_first n xs name found ms other_kind is (names.later other f) others = past_other n xs name found ms is (others found f)
 
   one_first : (n : ℕ) (xs : List ℕ) (name : List ℕ) (found : Option ℕ) (m : List ℕ) (v : Plain) (ms : Members) → content_at ns n ≡ property → NameLeaf (children_at ns n) m → FirstNamed ns name (n ∷ xs) found
       → ((rest : Option ℕ) → FirstNamed ns name xs rest → Among xs name rest ms) → Among (n ∷ xs) name found (member m v ms)
-  unfolding Among
   one_first n xs name _ m v ms is leaf (names.here named) others =
       let same : m ≡ name = has_no_other n m name leaf named.1 in
       (0, ap (λ l. slice_get l 0) (taken (is_element_at ns) n xs (ap is_element is)), subst (λ k. IsFirstMember k 0 (member m v ms)) same first_is)
@@ -123,7 +119,6 @@ module _ (o : Options) (ns : List Node) where
   others_whole n xs whole = λ k d h. whole (suc k) d (omega (arith, h))
 
   pub members_found : (xs : List ℕ) (row same : OrderedTree) (ms : Members) (name : List ℕ) (found : Option ℕ) → Shows ns xs row → MembersOf o same ms → row ≡ same → All IsWhole xs → FirstNamed ns name xs found → Among xs name found ms
-  unfolding Among IsWhole
   members_found _ _ _ _ name _ shows_none values.no_more_members e whole names.none = no_more
   members_found _ _ _ _ name found shows_none (values.pass_to_members h g) e whole f = cc
   members_found _ _ _ _ name found shows_none (values.one_member h g) e whole f = cc

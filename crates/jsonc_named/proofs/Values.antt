@@ -1,5 +1,5 @@
 -- What becomes of a document where the value of a property is set, or has to be an array or an object.
-use Rattle.std.proofs.Common.{◌≡◌, ℕ, Bool, true, false, List, [], ◌∷◌, ◌++◌, Option, Some, None, refl, sym, ap, subst, ◌∙◌}
+use Rattle.std.proofs.Common.{◌≡◌, ℕ, Bool, true, false, List, [], ◌∷◌, ◌++◌, Some, refl, sym, ap, subst, ◌∙◌}
 use Rattle.jsonc_text.specs.Options.{Options}
 use Rattle.jsonc_text.specs.Plain.{Plain, Members}
 use Rattle.jsonc_text.specs.Grammar.{IsDocument}
@@ -10,7 +10,6 @@ use Rattle.jsonc_tree.specs.Values as values
 use Rattle.jsonc_tree.specs.Values.{ValueOf, DocumentValueOf}
 use Rattle.jsonc_build.specs.Shape.{printed_text}
 use Rattle.jsonc_build.proofs.ShapeValues.{document_printed}
-use Rattle.jsonc_nodes.specs.Properties.{value_at}
 use Rattle.jsonc_from_input.specs.Laid.{laid}
 use Rattle.jsonc_laws.proofs.GivingWay.{marks_follow}
 use Rattle.jsonc_laws.proofs.Laid.{laid_as_written}
@@ -32,12 +31,11 @@ use Rattle.jsonc_edit.proofs.ReplacedValues.{changed, put, replaced_written}
 use Rattle.jsonc_set.specs.Kinds.{KeptOrReplaced}
 use Rattle.jsonc_set.specs.PropertyValues.{HeldOrSet}
 use Rattle.jsonc_set.proofs.PropertyRows.{prints_value, some_value_of, spaces_marks}
-use Rattle.jsonc_named.specs.declared.shape.Over.{Over}
 use Rattle.jsonc_named.specs.declared.shape.Over.TheVariants as over
 use Rattle.jsonc_named.specs.declared.shape.Shape.{Shape}
 use Rattle.jsonc_named.specs.declared.shape.Shape.TheVariants.{Object, Array}
 use Rattle.jsonc_named.specs.Named.{PropertyValueEnsured}
-use Rattle.jsonc_named.specs.Places.{IsPropertyAt, IsPropertyOf, a_property}
+use Rattle.jsonc_named.specs.Places.{IsPropertyAt, IsPropertyOf}
 use Rattle.jsonc_named.specs.Shapes.{has_shape, is_of, empty_of, EnsuredValue, has_it, must_give_way}
 use Rattle.jsonc_named.specs.Values.{ReplacesHeld, ValueGivesWay, ValueEnsured, all_stays, empty_given}
 use Rattle.jsonc_named.proofs.PathValues.{gives_way_to_itself, value_at_path, value_of_text, value_once}

@@ -1,15 +1,15 @@
 -- What becomes of a sound document where the value of the first property of a name is to be of a shape.
-use Rattle.std.proofs.Common.{◌≡◌, ◌≢◌, ℕ, ◌<◌, ◌≤◌, Bool, true, false, List, [], ◌∷◌, ◌++◌, suc, length, min, filter, slice_get, get_or, Option, Some, None, inl, inr, refl, sym, ap, subst, ◌∙◌, arith}
+use Rattle.std.proofs.Common.{◌≡◌, ℕ, ◌<◌, ◌≤◌, Bool, true, List, [], ◌∷◌, ◌++◌, zero, suc, length, min, filter, slice_get, get_or, Option, Some, None, inl, inr, refl, sym, ap, subst, ◌∙◌, arith}
 use Rattle.std.proofs.Math.Nat.{min-eq_right}
-use Rattle.std.proofs.lemmas.Bool.{cases_Bool, false≢true}
+use Rattle.std.proofs.lemmas.Bool.{cases_Bool}
 use Rattle.std.specs.List.{All}
 use Rattle.jsonc_text.specs.Options.{Options}
-use Rattle.jsonc_text.specs.Plain.{Plain, Members, no_members, member}
+use Rattle.jsonc_text.specs.Plain.{Plain, Members}
 use Rattle.jsonc_text.specs.Grammar.{IsDocument}
 use Rattle.jsonc_text.proofs.UniqueValues.{document_unique}
 use Rattle.jsonc_tree.specs.Content as content
 use Rattle.jsonc_tree.specs.Content.{Content}
-use Rattle.jsonc_tree.specs.OrderedTree.{OrderedTree, Shows, ordered_tree}
+use Rattle.jsonc_tree.specs.OrderedTree.{OrderedTree, ordered_tree}
 use Rattle.jsonc_tree.specs.Tree.{Node, content_at, children_at, IsTree}
 use Rattle.jsonc_tree.specs.Values as values
 use Rattle.jsonc_tree.specs.Values.{ValueOf, MembersOf, DocumentValueOf}
@@ -20,7 +20,7 @@ use Rattle.jsonc_build.proofs.ShapeValues.{document_printed}
 use Rattle.jsonc_nodes.specs.Kinds.{is_element, is_element_at}
 use Rattle.jsonc_nodes.specs.Names as names
 use Rattle.jsonc_nodes.specs.Names.{FirstInObject, FirstNamed, IsNamed}
-use Rattle.jsonc_nodes.specs.Properties.{lacks_name_at, value_at, value_by}
+use Rattle.jsonc_nodes.specs.Properties.{lacks_name_at, value_by}
 use Rattle.jsonc_nodes.specs.Siblings.{elements_at}
 use Rattle.jsonc_from_input.specs.Texts.{IsCharacters}
 use Rattle.jsonc_laws.specs.Alone.{PropertyAlone}
@@ -30,20 +30,18 @@ use Rattle.jsonc_laws.specs.Marks.{marks}
 use Rattle.jsonc_laws.specs.SoundTrees.{SoundTree}
 use Rattle.jsonc_laws.specs.Written.{property_written}
 use Rattle.jsonc_edit.specs.Changes.{row_below}
-use Rattle.jsonc_edit.specs.Paths.{IsAt, IsElementOf}
+use Rattle.jsonc_edit.specs.Paths.{IsAt}
 use Rattle.jsonc_edit.specs.declared.error.EditError.{EditError}
 use Rattle.jsonc_edit.specs.declared.error.EditError.TheVariants.{OutOfMemory, MissingBrackets, MissingName, NoSuchPlace}
 use Rattle.jsonc_edit.proofs.Elements.{taken, left}
 use Rattle.jsonc_edit.proofs.FittingNodes.{over_there}
 use Rattle.jsonc_edit.proofs.Uniqueness.{element_parent}
 use Rattle.jsonc_edit.proofs.Walk.{Shows-row_below}
-use Rattle.jsonc_insert.specs.Planned.{has_brackets}
 use Rattle.jsonc_insertion_laws.specs.Members as inserted
 use Rattle.jsonc_insertion_laws.specs.Members.{member_count, IsMemberInserted, MemberComes, PropertyComesAt}
 use Rattle.jsonc_insertion_laws.proofs.Marked.{marks_come_in}
 use Rattle.jsonc_insertion_laws.proofs.Members.{members_counted}
 use Rattle.jsonc_insertion_laws.proofs.Named.{inserts_member}
-use Rattle.jsonc_members.specs.Inserted.{PropertyPut}
 use Rattle.jsonc_members.proofs.Past.{past_the_end}
 use Rattle.jsonc_members.proofs.Spreading.{wants_memory_alone}
 use Rattle.jsonc_member_laws.proofs.Coming.{properties_come_at}
@@ -51,10 +49,10 @@ use Rattle.jsonc_set.proofs.PropertyRows.{counted_elements, over_at, prints_valu
 use Rattle.jsonc_named.specs.declared.shape.Over.{Over}
 use Rattle.jsonc_named.specs.declared.shape.Over.TheVariants as over
 use Rattle.jsonc_named.specs.declared.shape.Shape.{Shape}
-use Rattle.jsonc_named.specs.Laws.{FindsMember, FoundAmong, IsFoundAt, IsNamedWritten, StaysAround, all_stays, value_given, property_come, ChangesMarks, some_leave, name_comes, WantsMemoryAlone, WritesNamed}
+use Rattle.jsonc_named.specs.Laws.{FindsMember, FoundAmong, IsNamedWritten, StaysAround, all_stays, value_given, property_come, ChangesMarks, some_leave, name_comes, WantsMemoryAlone, WritesNamed}
 use Rattle.jsonc_named.specs.Members.{LacksMember, no_more, other_name, IsFirstMember, first_is, first_later, MemberEnsured, comes_last, this_member, later_member}
-use Rattle.jsonc_named.specs.Named.{ComesNamed, EnsuredFor, IsUnensured, NamedEnsured, PropertyValueIs}
-use Rattle.jsonc_named.specs.Places.{IsPropertyAt, IsPropertyOf, a_property}
+use Rattle.jsonc_named.specs.Named.{ComesNamed, EnsuredFor, IsUnensured, PropertyValueIs}
+use Rattle.jsonc_named.specs.Places.{IsPropertyOf, a_property}
 use Rattle.jsonc_named.specs.Shapes.{has_shape, empty_of, EnsuredValue, has_it, may_stay}
 use Rattle.jsonc_named.specs.Values as giving
 use Rattle.jsonc_named.specs.Values.{ValueEnsured}
@@ -67,7 +65,7 @@ use Rattle.jsonc_named.proofs.Values.{empty_writable, ensured_marks, shape_writt
 module _ (test : ℕ → Bool) where
   at_filter : (xs : List ℕ) (k d : ℕ) → k < length xs → test (get_or xs k d) ≡ true → (i : ℕ) × (slice_get (filter test xs) i ≡ Some (get_or xs k d))
   at_filter [] k d h is = absurd (omega (arith, h))
-  at_filter (x ∷ xs) 0 d h is = (0, ap (λ l. slice_get l 0) (taken test x xs is))
+  at_filter (x ∷ xs) zero d h is = (0, ap (λ l. slice_get l 0) (taken test x xs is))
   at_filter (x ∷ xs) (suc k) d h is =
       let later = at_filter xs k d (omega (arith, h)) is in
       elim (cases_Bool (test x)) [
@@ -87,7 +85,7 @@ object_same : (ms ns : Members) → Plain.object ms ≡ Plain.object ns → ms �
 object_same ms ns e = cc
 
 -- what is found has the name
-first_named : (ns : List Node) (name xs : List ℕ) (found : Option ℕ) (r : ℕ) → found ≡ Some r → FirstNamed ns name xs found → IsNamed ns name r
+pub first_named : (ns : List Node) (name xs : List ℕ) (found : Option ℕ) (r : ℕ) → found ≡ Some r → FirstNamed ns name xs found → IsNamed ns name r
 first_named ns name _ _ r e names.none = let wrong : None ≡ Some r = e in cc
 first_named ns name _ _ r e (names.here {n = n} is) = let same : n ≡ r = cc in subst (IsNamed ns name) same is
 first_named ns name _ _ r e (names.later {rest = rest} {found = found} other f) = first_named ns name rest found r e f
@@ -115,7 +113,6 @@ module _ (o : Options) (ns : List Node) (path : List ℕ) (c : ℕ) (tree : IsTr
   there = over_there ns tree c (over_at ns tree path c at)
 
   whole : All (IsWhole o ns) (children_at ns c)
-  unfolding IsWhole
   whole = λ k d h kind row p.
       let r = get_or (children_at ns c) k d in
       let element = at_filter (is_element_at ns) (children_at ns c) k d h (ap is_element kind) in
@@ -146,14 +143,13 @@ module _ (o : Options) (ns : List Node) (path : List ℕ) (c : ℕ) (tree : IsTr
         below = inside.2;
       }
 
+  found_among : (name : List ℕ) (found : Option ℕ) → Among o ns (children_at ns c) name found object_there.members → FoundAmong ns c name found object_there.members
+  found_among name None a = a
+  found_among name (Some r) a = a
+
   among : (name : List ℕ) (found : Option ℕ) → FirstInObject ns c name found → FoundAmong ns c name found object_there.members
   among name found first =
       found_among name found (members_found o ns (children_at ns c) (row_below ns c) (row_below ns c) object_there.members name found (Shows-row_below ns tree c there) object_there.below refl whole first)
-    where
-      found_among : (name : List ℕ) (found : Option ℕ) → Among o ns (children_at ns c) name found object_there.members → FoundAmong ns c name found object_there.members
-      unfolding Among
-      found_among name None a = a
-      found_among name (Some r) a = a
 
 pub finds_member : (o : Options) (ns : List Node) (path : List ℕ) (c : ℕ) (name : List ℕ) (found : Option ℕ) → FindsMember o ns path c name found
 finds_member o ns path c name found tree s at is first =
@@ -161,7 +157,7 @@ finds_member o ns path c name found tree s at is first =
     record { value = it.value; text = it.text; members = it.members; at = it.at_path; among = among o ns path c tree s at is name found first }
 
 module _ (o : Options) (old new : List Node) (path : List ℕ) (c : ℕ) (name : List ℕ) (shape : Shape) (how : Over) (tree : IsTree old) (s : SoundTree o (ordered_tree old 0)) (at : IsAt old path c) (is : content_at old c ≡ content.object) where
-  was : ObjectThere o old path c tree s at is
+  abbrev was : ObjectThere o old path c tree s at is
   was = object_there o old path c tree s at is
 
   -- what changes in the object's properties changes in these

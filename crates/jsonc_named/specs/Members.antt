@@ -1,5 +1,5 @@
 -- The properties of a value by their names: where the first of a name stands, and what it is to hold.
-use Rattle.std.specs.Prelude.{◌≡◌, ◌≢◌, ℕ, suc, List, Option, Some, None}
+use Rattle.std.specs.Prelude.{◌≢◌, ℕ, suc, List, Some}
 use Rattle.jsonc_text.specs.Plain.{Plain, object, Members, no_members, member}
 use Rattle.jsonc_laws.specs.Changes.{Changed}
 use Rattle.jsonc_named.specs.declared.shape.Over.{Over}

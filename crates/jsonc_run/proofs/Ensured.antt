@@ -5,7 +5,7 @@ use Rattle.std.specs.List.{find}
 use Rattle.jsonc_text.specs.Options.{Options}
 use Rattle.jsonc_text.specs.Plain.{Plain}
 use Rattle.jsonc_text.specs.Grammar.{IsDocument}
-use Rattle.jsonc_tree.specs.Content.{Content, root}
+use Rattle.jsonc_tree.specs.Content.{root}
 use Rattle.jsonc_tree.specs.OrderedTree.{OrderedTree, none, more, Shows, shows_none, shows_more, ordered_tree}
 use Rattle.jsonc_tree.specs.Tree.{Node, content_at, children_at, IsTree}
 use Rattle.jsonc_tree.specs.Values as values
@@ -18,7 +18,6 @@ use Rattle.jsonc_laws.proofs.FirstNodes.{value_of_element}
 use Rattle.jsonc_laws.specs.SoundTrees.{SoundTree}
 use Rattle.jsonc_edit.specs.Changes.{row_below}
 use Rattle.jsonc_edit.specs.Reading.{IsReplaced}
-use Rattle.jsonc_edit.specs.Writing.{IsWritable}
 use Rattle.jsonc_edit.proofs.Elements.{Some_same}
 use Rattle.jsonc_edit.proofs.FittingFinds.{passes, fails, none_is_some}
 use Rattle.jsonc_edit.proofs.Walk.{Shows-row_below}
@@ -27,8 +26,8 @@ use Rattle.jsonc_set.specs.RootSet.{FirstValue}
 use Rattle.jsonc_named.specs.declared.shape.Over.{Over}
 use Rattle.jsonc_named.specs.declared.shape.Over.TheVariants as over
 use Rattle.jsonc_named.specs.declared.shape.Shape.{Shape}
-use Rattle.jsonc_named.specs.declared.shape.Shape.TheVariants.{Object, Array}
 use Rattle.jsonc_named.specs.Shapes.{has_shape, is_of, empty_of}
+use Rattle.jsonc_named.proofs.Values.{same_shape}
 use Rattle.jsonc_run.specs.Edits.{RootEnsured}
 use Rattle.jsonc_run.specs.Written.{RootValueEnsured, all_kept, empty_set}
 use Rattle.jsonc_run.proofs.Roots.{root_is, root_value_set}

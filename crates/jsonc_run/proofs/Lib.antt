@@ -2,8 +2,6 @@ pub mod Made
 pub mod EntryPaths
 pub mod Roots
 pub mod PropertyMade
-pub mod PathValues
-pub mod PropertyValues
 pub mod ValueMade
 pub mod Booleans
 pub mod OnLines

@@ -7,20 +7,18 @@ use Rattle.jsonc_tree.specs.OrderedTree.{OrderedTree, none, leaves, ordered_tree
 use Rattle.jsonc_tree.specs.Tree.{Node, IsTree}
 use Rattle.jsonc_from_input.specs.Laid.{laid, laid_property}
 use Rattle.jsonc_from_input.specs.Texts.{IsCharacters}
-use Rattle.jsonc_laws.specs.ChangeLaws.{DiffersIn}
-use Rattle.jsonc_laws.specs.TreeChanges.{leaves_of, property_of}
+use Rattle.jsonc_laws.specs.TreeChanges.{property_of}
 use Rattle.jsonc_laws.specs.SoundTrees.{SoundTree}
 use Rattle.jsonc_laws.specs.MarkChanges.{MarksDifferIn, marks_under}
 use Rattle.jsonc_laws.specs.Marks.{Mark, marks, trimmed}
 use Rattle.jsonc_laws.specs.Written.{property_written, written}
-use Rattle.jsonc_laws.proofs.GivingWay.{marks_follow, one_mark_leaves}
+use Rattle.jsonc_laws.proofs.GivingWay.{one_mark_leaves}
 use Rattle.jsonc_laws.proofs.Laid.{laid_as_written, laid_as_written_named}
 use Rattle.jsonc_laws.proofs.OneList.{marks_unique}
 use Rattle.jsonc_laws.proofs.Printed.{prints_its_marks}
 use Rattle.jsonc_laws.specs.EntryLaws.{root_with}
 use Rattle.jsonc_laws.proofs.FirstValue.{marks_with_first}
 use Rattle.jsonc_laws.proofs.RootRows.{root_marks}
-use Rattle.jsonc_edit.specs.Spaced.{SpacesPut}
 use Rattle.jsonc_edit.specs.Writing.{IsWritable}
 use Rattle.jsonc_multiline.proofs.SameDocument.{keeps_document}
 use Rattle.jsonc_remove.proofs.Lost.{removes_entry}
@@ -31,7 +29,6 @@ use Rattle.jsonc_named.specs.declared.shape.Shape.{Shape}
 use Rattle.jsonc_named.specs.declared.shape.Shape.TheVariants.{Object, Array}
 use Rattle.jsonc_named.specs.Shapes.{empty_of}
 use Rattle.jsonc_run.specs.Edits.{Operation, replace, remove, remove_comment, set_root, clear_root, replace_property, ensure_root, set_value, ensure_value, set_boolean, ensure_multiline, insert_element, append_element, insert_property, append_property, ensure_property, AreMade, none_made, first_made}
-use Rattle.jsonc_named.specs.Values.{ValueGivesWay, ValueEnsured, all_stays, empty_given}
 use Rattle.jsonc_run.specs.Written.{MayBeMade, EntryLeft, entry_left, value_left, RootValueSet, given_way, has_come, RootValueEnsured, all_kept, empty_set, PropertyGivenWay, property_given, StayAround}
 use Rattle.jsonc_run.specs.Marked.{IsMarked, AreMarked, none_marked, first_marked, MarkAll}
 use Rattle.jsonc_insertion_laws.proofs.Named.{inserts_member}

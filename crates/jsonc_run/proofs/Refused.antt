@@ -1,12 +1,10 @@
 -- In a sound document no edit is refused for a bracket or a name: arrays and objects have their brackets, and properties their names.
-use Rattle.std.proofs.Common.{◌≡◌, ℕ, Bool, true, false, not, ◌||◌, cond, IsTrue, List, [], ◌∷◌, Some, None, inl, inr, Result, Ok, Err, IfErr, refl, sym, ap, subst, ◌∙◌}
-use Rattle.std.proofs.lemmas.Bool.{cases_Bool, false≢true}
-use Rattle.std.specs.List.{find, list_any}
+use Rattle.std.proofs.Common.{◌≡◌, ℕ, true, not, IsTrue, List, [], Some, Result, Ok, Err, IfErr, sym, ap, subst, ◌∙◌}
+use Rattle.std.proofs.lemmas.Bool.{false≢true}
 use Rattle.jsonc_text.specs.Options.{Options}
 use Rattle.jsonc_tree.specs.OrderedTree.{ordered_tree}
 use Rattle.jsonc_tree.specs.Tree.{Node, content_at, IsTree}
-use Rattle.jsonc_nodes.specs.Kinds.{is_colon_at, is_element_at}
-use Rattle.jsonc_nodes.specs.Properties.{behind_colon, behind_first, behind_name, lacks_name_at, value_by}
+use Rattle.jsonc_nodes.specs.Properties.{lacks_name_at, value_by}
 use Rattle.jsonc_lines.specs.Kinds.{holds_values}
 use Rattle.jsonc_laws.specs.SoundTrees.{SoundTree}
 use Rattle.jsonc_edit.specs.declared.error.EditError.{EditError}

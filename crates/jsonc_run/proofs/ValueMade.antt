@@ -1,32 +1,23 @@
 -- What becomes of a document where the value of the property at a path is set, or has to be an array or an object.
-use Rattle.std.proofs.Common.{◌≡◌, ℕ, Bool, true, false, List, [], ◌∷◌, ◌++◌, Option, Some, None, IfSome, IfNone, IfErr, Result, Ok, Err, refl, ap, subst, ◌∙◌}
+use Rattle.std.proofs.Common.{◌≡◌, ℕ, List, Option, Some, None, IfSome, IfNone, IfErr, Result, Ok, Err, subst}
 use Rattle.jsonc_text.specs.Options.{Options}
-use Rattle.jsonc_text.specs.Plain.{Plain, Members}
-use Rattle.jsonc_tree.specs.Content.{Content, object, property}
-use Rattle.jsonc_tree.specs.OrderedTree.{OrderedTree, ordered_tree}
+use Rattle.jsonc_text.specs.Plain.{Plain}
+use Rattle.jsonc_tree.specs.Content.{property}
+use Rattle.jsonc_tree.specs.OrderedTree.{ordered_tree}
 use Rattle.jsonc_tree.specs.Tree.{Node, content_at, IsTree}
-use Rattle.jsonc_tree.specs.Values as values
-use Rattle.jsonc_tree.specs.Values.{ValueOf, DocumentValueOf}
 use Rattle.jsonc_nodes.specs.Properties.{value_at}
-use Rattle.jsonc_laws.specs.Changes as changes
-use Rattle.jsonc_laws.specs.Changes.{MemberChanged, Changed}
 use Rattle.jsonc_laws.specs.SoundTrees.{SoundTree}
 use Rattle.jsonc_edit.specs.Paths.{IsAt}
 use Rattle.jsonc_edit.specs.Reading.{IsReplaced}
 use Rattle.jsonc_edit.specs.declared.error.EditError.{EditError}
 use Rattle.jsonc_edit.specs.declared.error.EditError.TheVariants.{OutOfMemory, MissingBrackets, MissingName, NoSuchPlace}
-use Rattle.jsonc_set.specs.Kinds.{KeptOrReplaced}
-use Rattle.jsonc_set.specs.PropertyValues.{HeldOrSet, IsUnset, LastValue}
+use Rattle.jsonc_set.specs.PropertyValues.{IsUnset, LastValue}
 use Rattle.jsonc_named.specs.declared.shape.Shape.{Shape}
-use Rattle.jsonc_named.specs.Named.{PropertyValueEnsured}
 use Rattle.jsonc_run.specs.Edits.{ensure_value, PropertyValueSet}
 use Rattle.jsonc_named.specs.Places.{IsPropertyAt, a_property}
 use Rattle.jsonc_run.specs.Refusals.{IsToldBy}
-use Rattle.jsonc_named.specs.Shapes.{is_of, empty_of}
-use Rattle.jsonc_named.specs.Values.{ReplacesHeld, ValueEnsured, all_stays, empty_given}
-use Rattle.jsonc_named.proofs.PathValues.{value_at_path, value_once}
+use Rattle.jsonc_named.specs.Shapes.{is_of}
 use Rattle.jsonc_named.proofs.PropertyValues.{value_held}
-use Rattle.jsonc_named.proofs.Values.{value_gives_way}
 
 -- a property at a path is one
 pub property_kind : (ns : List Node) (path : List ℕ) (r : ℕ) → IsPropertyAt ns path r → content_at ns r ≡ property

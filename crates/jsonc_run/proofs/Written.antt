@@ -8,7 +8,6 @@ use Rattle.jsonc_text.proofs.UniqueValues.{document_unique}
 use Rattle.jsonc_tree.specs.OrderedTree.{OrderedTree, ordered_tree}
 use Rattle.jsonc_tree.specs.Tree.{Node, content_at, children_at, IsTree}
 use Rattle.jsonc_build.specs.Shape.{printed_text}
-use Rattle.jsonc_laws.specs.Changes.{Changed}
 use Rattle.jsonc_laws.specs.SoundTrees.{SoundTree}
 use Rattle.jsonc_build.proofs.ShapeValues.{document_printed}
 use Rattle.jsonc_edit.specs.Changes.{top_at}
@@ -31,7 +30,6 @@ use Rattle.jsonc_remove.proofs.Roots.{value_taken}
 use Rattle.jsonc_set.specs.Booleans.{BooleanSet}
 use Rattle.jsonc_set.specs.Giving.{IsPropertyReplaced}
 use Rattle.jsonc_set.proofs.Gaining.{gives_first_value, leaves_bare}
-use Rattle.jsonc_set.proofs.PropertyRows.{some_value_of, prints_value}
 use Rattle.jsonc_set.proofs.WrittenBoolean.{writes_boolean}
 use Rattle.jsonc_set.proofs.WrittenProperty.{writes_property}
 use Rattle.jsonc_named.specs.Places.{IsPropertyAt, a_property}
@@ -54,7 +52,7 @@ use Rattle.jsonc_run.proofs.Inserted.{came_in, came_last}
 use Rattle.jsonc_run.proofs.Properties as properties
 use Rattle.jsonc_member_laws.proofs.Coming.{properties_come_at}
 use Rattle.jsonc_run.proofs.Booleans.{boolean_given, boolean_changed}
-use Rattle.jsonc_named.proofs.PathValues.{gives_way_to_itself, value_of_text, value_at_path, value_once}
+use Rattle.jsonc_named.proofs.PathValues.{value_of_text}
 use Rattle.jsonc_run.proofs.PropertyMade.{property_gives_way}
 use Rattle.jsonc_named.proofs.Values as property_values
 use Rattle.jsonc_named.proofs.Values.{shape_written}

@@ -1,5 +1,5 @@
 -- What edits ask for, and that they are made in order.
-use Rattle.std.specs.Prelude.{◌≡◌, ℕ, Bool, false, List, [], ◌∷◌, length, Option, Some, None, map}
+use Rattle.std.specs.Prelude.{◌≡◌, ℕ, Bool, List, [], ◌∷◌, length, Option, Some, None, map}
 use Rattle.jsonc_text.specs.Plain.{Plain}
 use Rattle.jsonc_input.specs.Views.{chars_of, plain}
 use Rattle.jsonc_tree.specs.Changes.{Splices}

@@ -1,5 +1,4 @@
 pub mod Places
-pub mod Shapes
 pub mod Edits
 pub mod Refusals
 pub mod Written

@@ -1,16 +1,16 @@
 -- What edits that were made in order make of a document: of its value, its leaves and its text.
-use Rattle.std.specs.Prelude.{◌≡◌, ◌≤◌, ℕ, Bool, true, false, List, [], ◌∷◌, ◌++◌, Option, Some, None}
+use Rattle.std.specs.Prelude.{◌≡◌, ◌≤◌, ℕ, Bool, List, [], ◌∷◌, ◌++◌, Option, Some, None}
 use Rattle.std.specs.List.{All}
 use Rattle.jsonc_text.specs.Options.{Options}
-use Rattle.jsonc_text.specs.Plain.{Plain, boolean, object, Members}
+use Rattle.jsonc_text.specs.Plain.{Plain, boolean}
 use Rattle.jsonc_text.specs.Grammar.{IsDocument}
 use Rattle.jsonc_tree.specs.Tree.{Node}
 use Rattle.jsonc_tree.specs.OrderedTree.{OrderedTree, none, leaves, ordered_tree, Top}
 use Rattle.jsonc_build.specs.Shape.{printed_text}
 use Rattle.jsonc_laws.specs.Booleans.{boolean_leaf}
-use Rattle.jsonc_laws.specs.Changes.{Changed, MemberChanged}
+use Rattle.jsonc_laws.specs.Changes.{Changed}
 use Rattle.jsonc_laws.specs.ChangeLaws.{DiffersIn}
-use Rattle.jsonc_laws.specs.TreeChanges.{leaves_of, property_of, DocumentChanged}
+use Rattle.jsonc_laws.specs.TreeChanges.{leaves_of, property_of}
 use Rattle.jsonc_from_input.specs.Layout.{Layout}
 use Rattle.jsonc_laws.specs.SoundTrees.{SoundTree}
 use Rattle.jsonc_edit.specs.Comments.{LosesComment}
@@ -34,7 +34,7 @@ use Rattle.jsonc_named.specs.declared.shape.Over.TheVariants as over
 use Rattle.jsonc_named.specs.declared.shape.Shape.{Shape}
 use Rattle.jsonc_edit.specs.declared.error.EditError.{EditError}
 use Rattle.jsonc_run.specs.Refusals.{WantsMemoryOrPlace}
-use Rattle.jsonc_named.specs.Shapes.{has_shape, empty_of}
+use Rattle.jsonc_named.specs.Shapes.{empty_of}
 use Rattle.jsonc_run.specs.Edits.{Operation, replace, remove, remove_comment, set_root, clear_root, replace_property, ensure_root, set_value, ensure_value, set_boolean, ensure_multiline, insert_element, append_element, insert_property, append_property, ensure_property}
 
 -- documents of these options can hold what the edit writes: its value, and the name of its property

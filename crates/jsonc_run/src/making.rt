@@ -18,7 +18,6 @@ ghost use Rattle.jsonc_run.specs.Written.{IsRefusedAfter, WriteAll};
 
 use crate::comments::find_comment;
 use crate::edit::Edit;
-use jsonc_named::{Over, Shape};
 use crate::entries::{find_entry, find_property};
 use crate::inserting::{append_element_at, insert_element_at};
 use crate::lines::ensure_multiline_at;
@@ -26,6 +25,7 @@ use crate::members::{append_property_at, ensure_property_at, insert_property_at}
 use crate::values::{ensure_value_at, set_boolean_at, set_value_at};
 use jsonc_edit::{EditError, find, remove_comment, replace};
 use jsonc_input::CstInputValue;
+use jsonc_named::{Over, Shape};
 use jsonc_remove::remove;
 use jsonc_set::{
     array_value_or_create, array_value_or_set, clear_root, object_value_or_create,

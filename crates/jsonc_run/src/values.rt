@@ -17,10 +17,10 @@ ghost use Rattle.jsonc_run.specs.Places.{IsBooleanAt};
 ghost use Rattle.jsonc_run.specs.Refusals.{IsToldBy};
 ghost use Rattle.jsonc_named.specs.Shapes.{empty_of, is_of};
 
-use jsonc_named::Shape;
 use crate::entries::find_property;
 use jsonc_edit::{EditError, find};
 use jsonc_input::CstInputValue;
+use jsonc_named::Shape;
 use jsonc_set::{property_array_or_set, property_object_or_set, set_boolean, set_property_value};
 use jsonc_tree::{Kind, Tree};
 use std::alloc::Allocator;
