@@ -1,0 +1,8 @@
+use Rattle.std.proofs.Common.{IfErr, List, Option, subst, ◌∙◌}
+use Rattle.jsonc_cst.specs.declared.cst.node.CstNode.{CstNode}
+use Rattle.jsonc_sorting.specs.Asking.{IsUnkeyed}
+use Rattle.jsonc_sorting.proofs.elements.ElementSort.by_key.Goals as goal
+
+pub returns-clause-refused : goal.returns-clause-refused
+returns-clause-refused g c =
+    subst (λ (nodes : List (Option CstNode)). IfErr c.sort_by_key.result (IsUnkeyed g.F.Fn c.args.key (g.D.IsDocument.same c.args.doc.now) nodes)) (c.deref.ensures.value ∙ c.in_ok-nodes.ensures.nodes) c.sort_by_key.ensures.refused
