@@ -1,5 +1,5 @@
 -- Orders of keys, and keys that were refused.
-use Rattle.std.proofs.Common.{◌≡◌, ℕ, Bool, List, Option, Result, length, refl, sym, ap, subst, ◌∙◌}
+use Rattle.std.proofs.Common.{◌≡◌, ℕ, Bool, List, Option, Result, length, subst}
 use denote.Ref.{Bor}
 use denote.Param.Members.{Shared}
 use Rattle.jsonc_order.specs.Keys.{AreKeys, IsFirstRefused, WhyNone}

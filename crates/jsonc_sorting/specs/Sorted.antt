@@ -1,5 +1,5 @@
 -- What a sort makes of a document.
-use Rattle.std.specs.Prelude.{◌≡◌, ◌<◌, ℕ, Bool, List, [], length}
+use Rattle.std.specs.Prelude.{◌≡◌, ◌<◌, ℕ, Bool, List, length, Option}
 use Rattle.jsonc_text.specs.Options.{Options}
 use Rattle.jsonc_tree.specs.OrderedTree.{OrderedTree, ordered_tree}
 use Rattle.jsonc_tree.specs.Tree.{Node}
@@ -10,13 +10,13 @@ use Rattle.jsonc_sort.specs.Paths.{KeepsOutside, SaysSorted, SortedAt}
 use Rattle.jsonc_sort.specs.Rearranged.{IsOrderIn, Rearranged, headers_of}
 use Rattle.jsonc_sort.specs.Sorting.{Headers}
 use Rattle.jsonc_cst.specs.declared.cst.CstRootNode.{CstRootNode}
+use Rattle.jsonc_cst.specs.declared.cst.node.CstArray.{CstArray}
 use Rattle.jsonc_cst.specs.declared.cst.node.CstNode.{CstNode}
+use Rattle.jsonc_cst.specs.declared.cst.node.CstObject.{CstObject}
+use Rattle.jsonc_cst.specs.declared.cst.node.CstObjectProp.{CstObjectProp}
 use Rattle.jsonc_cst.specs.Document.{nodes_of}
-use Rattle.jsonc_cst.specs.Nodes.{number_of}
-
--- where no comment is pinned
-abbrev pub unpinned : Bool → Headers
-unpinned groups = headers_of [] groups
+use Rattle.jsonc_cst.specs.Nodes.{array_node, number_of, object_node}
+use Rattle.jsonc_sorting.specs.Rows.{elements_asked, properties_asked, starts_of}
 
 -- the entries at the path have come in this order, no leaf outside of them has changed, and the text is a document again that says so
 pub record IsSortedAt (o : Options) (path order : List ℕ) (t u : OrderedTree) : Type 0 where
@@ -41,3 +41,21 @@ pub record HasSorted {A : Type 0} (old new : CstRootNode A) (node : CstNode) (h 
   pub order : List ℕ
   pub wanted : IsWanted order
   pub placed : IsPlaced (nodes_of old) (nodes_of new) (number_of node) h order
+
+-- so many comments are pinned above each as a rule has said, and blank lines part the elements, or do not
+abbrev pub HasSortedBy : {A : Type 0} → CstRootNode A → CstRootNode A → CstNode → (List (Option ℕ) → Type 0) → Bool → (List ℕ → Type 0) → Type 0
+HasSortedBy old new node ArePinned groups IsWanted =
+    (pins : List (Option ℕ)) × ArePinned pins × HasSorted old new node (headers_of pins groups) IsWanted
+
+-- So the elements of an array, by what a rule pins of them and what is wanted of them and their groups; and the properties of an object.
+abbrev pub ElementsSorted : {A : Type 0} → CstRootNode A → CstRootNode A → CstArray → (CstNode → List (Option CstNode) → List (Option ℕ) → Type 0) → Bool
+    → (List (Option CstNode) → List ℕ → List ℕ → Type 0) → Type 0
+ElementsSorted old new array ArePinned groups IsWanted =
+    HasSortedBy old new (array_node array) (ArePinned (array_node array) (elements_asked old (array_node array))) groups
+    (IsWanted (elements_asked old (array_node array)) (starts_of old (array_node array) groups))
+
+abbrev pub PropertiesSorted : {A : Type 0} → CstRootNode A → CstRootNode A → CstObject → (CstNode → List (Option CstObjectProp) → List (Option ℕ) → Type 0) → Bool
+    → (List (Option CstObjectProp) → List ℕ → List ℕ → Type 0) → Type 0
+PropertiesSorted old new object ArePinned groups IsWanted =
+    HasSortedBy old new (object_node object) (ArePinned (object_node object) (properties_asked old (object_node object))) groups
+    (IsWanted (properties_asked old (object_node object)) (starts_of old (object_node object) groups))

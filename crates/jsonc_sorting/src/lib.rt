@@ -9,10 +9,12 @@
 #![tactic(auto)]
 
 mod elements;
+mod headers;
 mod placing;
 mod properties;
 mod rows;
 mod sorting;
 
 pub use elements::{ElementSort, SortElements};
+pub use headers::{BlankLineHeaders, HeaderRule, HeadersBy, NoHeaders};
 pub use properties::{PropertySort, SortProperties};

@@ -10,9 +10,10 @@ ghost use Rattle.jsonc_cst.specs.Nodes.{number_of};
 ghost use Rattle.jsonc_cst.specs.Tree.{NodesAreTree};
 ghost use Rattle.jsonc_typed.specs.Edits.{StillHolds};
 ghost use Rattle.jsonc_order.specs.Keys.{AreKeys};
+ghost use Rattle.jsonc_sort.specs.Rearranged.{headers_of};
 ghost use Rattle.jsonc_sorting.specs.Asking.{IsInItsOrder, IsInKeyOrder, IsUnkeyed, MayBeCompared, MayBeKeyed};
 ghost use Rattle.jsonc_sorting.specs.Rows.{starts_of};
-ghost use Rattle.jsonc_sorting.specs.Sorted.{unpinned, HasSorted};
+ghost use Rattle.jsonc_sorting.specs.Sorted.{HasSorted};
 
 use crate::placing::put_in_order;
 use crate::rows::starts_of;
@@ -32,8 +33,8 @@ fn order_of<A: Allocator + Copy, D: IsDocument<A>, N: IsNode, C: Fn(&D, N, N) ->
     requires held { All (λ o. IfSome o (λ x. Holds doc.now (N.node_of x))) nodes.now }
     requires asked { MayBeCompared C.Fn compare.now (D.same doc.now) (λ x. Holds doc.now (N.node_of x)) }
     ensures all { IfOk result (λ v. IsPermutation (range_with_len 0 (length nodes.now)) v.items) }
-    ensures order { IfOk result (λ v.
-        IsInItsOrder C.Fn compare.now (D.same doc.now) (λ x. Holds doc.now (N.node_of x)) nodes.now starts.now v.items) }
+    ensures order { IfOk result (λ v. IsInItsOrder C.Fn compare.now (D.same doc.now)
+        (λ x. Holds doc.now (N.node_of x)) nodes.now starts.now v.items) }
     ensures memory { IfErr result (λ e. e ≡ EditError.OutOfMemory) }
 {
     let Ok(order) = order_by(doc.alloc, D::of(doc), nodes, starts, compare) else {
@@ -52,6 +53,7 @@ pub(crate) fn sort_by<
     doc: &mut CstRootNode<A>,
     container: CstNode,
     nodes: &[Option<N>],
+    pinned: &[Option<usize>],
     groups: bool,
     compare: &C,
 ) -> Result<(), EditError>
@@ -60,7 +62,7 @@ pub(crate) fn sort_by<
     requires held { All (λ o. IfSome o (λ x. Holds doc.old (N.node_of x))) nodes.now }
     requires count { length nodes.now ≡ length (elements_at (nodes_of doc.old) (number_of container)) }
     requires asked { MayBeCompared C.Fn compare.now (D.same doc.old) (λ x. Holds doc.old (N.node_of x)) }
-    ensures sorted { OnOk result (HasSorted doc.old doc.new container (unpinned groups)
+    ensures sorted { OnOk result (HasSorted doc.old doc.new container (headers_of pinned.now groups)
         (IsInItsOrder C.Fn compare.now (D.same doc.old) (λ x. Holds doc.old (N.node_of x)) nodes.now
         (starts_of doc.old container groups))) }
     ensures memory { IfErr result (λ e. e ≡ EditError.OutOfMemory) }
@@ -72,7 +74,7 @@ pub(crate) fn sort_by<
     let starts = starts_of(doc, container, groups)?;
     let order = order_of(doc, nodes, &starts, compare)?;
     let number = container.number();
-    let placed = put_in_order(doc.alloc, &mut doc.tree, number, &[], groups, &order);
+    let placed = put_in_order(doc.alloc, &mut doc.tree, number, pinned, groups, &order);
     doc.nodes_are_tree();
     placed
 }
@@ -135,6 +137,7 @@ pub(crate) fn sort_by_key<
     doc: &mut CstRootNode<A>,
     container: CstNode,
     nodes: &[Option<N>],
+    pinned: &[Option<usize>],
     groups: bool,
     key: &F,
 ) -> Result<(), EditError>
@@ -143,7 +146,7 @@ pub(crate) fn sort_by_key<
     requires held { All (λ o. IfSome o (λ x. Holds doc.old (N.node_of x))) nodes.now }
     requires count { length nodes.now ≡ length (elements_at (nodes_of doc.old) (number_of container)) }
     requires asked { MayBeKeyed F.Fn key.now (D.same doc.old) (λ x. Holds doc.old (N.node_of x)) }
-    ensures sorted { OnOk result (HasSorted doc.old doc.new container (unpinned groups)
+    ensures sorted { OnOk result (HasSorted doc.old doc.new container (headers_of pinned.now groups)
         (IsInKeyOrder F.Fn key.now (D.same doc.old) K.cmp nodes.now (starts_of doc.old container groups))) }
     ensures refused { IfErr result (IsUnkeyed F.Fn key.now (D.same doc.old) nodes.now) }
     ensures stays { StillHolds doc.old doc.new }
@@ -154,7 +157,7 @@ pub(crate) fn sort_by_key<
     let starts = starts_of(doc, container, groups)?;
     let order = order_of_keys(doc, nodes, &starts, key)?;
     let number = container.number();
-    let placed = put_in_order(doc.alloc, &mut doc.tree, number, &[], groups, &order);
+    let placed = put_in_order(doc.alloc, &mut doc.tree, number, pinned, groups, &order);
     doc.nodes_are_tree();
     placed
 }
