@@ -38,8 +38,8 @@ module _ {A : Type 0} where
 -- by a rule, which is asked of a node and the comments above it
 module _ {F D N : Type 0} (g : Shared F (Bor D × (N × (Bor (List CstComment) × Unit {0}))) ℕ) (rule : F) (doc : D) where
   -- it may be asked of this document and nodes of it
-  abbrev pub MayBePinned : (N → Type 0) → (CstComment → Type 0) → Type 0
-  MayBePinned Held HeldComment =
+  abbrev pub MayPin : (N → Type 0) → (CstComment → Type 0) → Type 0
+  MayPin Held HeldComment =
       (d : Bor D) (x : N) (above : Bor (List CstComment)) → d.now ≡ doc → Held x → All HeldComment above.now → g.pre rule (d, (x, (above, tt)))
 
   -- the rule is asked where comments stand above a node, and has answered so many

@@ -48,14 +48,14 @@ HasSortedBy old new node ArePinned groups IsWanted =
     (pins : List (Option ℕ)) × ArePinned pins × HasSorted old new node (headers_of pins groups) IsWanted
 
 -- So the elements of an array, by what a rule pins of them and what is wanted of them and their groups; and the properties of an object.
-abbrev pub ElementsSorted : {A : Type 0} → CstRootNode A → CstRootNode A → CstArray → (CstNode → List (Option CstNode) → List (Option ℕ) → Type 0) → Bool
-    → (List (Option CstNode) → List ℕ → List ℕ → Type 0) → Type 0
+abbrev pub ElementsSorted : {A : Type 0} → CstRootNode A → CstRootNode A → CstArray → (CstNode → List (Option CstNode) → List (Option ℕ) → Type 0)
+    → Bool → (List (Option CstNode) → List ℕ → List ℕ → Type 0) → Type 0
 ElementsSorted old new array ArePinned groups IsWanted =
     HasSortedBy old new (array_node array) (ArePinned (array_node array) (elements_asked old (array_node array))) groups
     (IsWanted (elements_asked old (array_node array)) (starts_of old (array_node array) groups))
 
-abbrev pub PropertiesSorted : {A : Type 0} → CstRootNode A → CstRootNode A → CstObject → (CstNode → List (Option CstObjectProp) → List (Option ℕ) → Type 0) → Bool
-    → (List (Option CstObjectProp) → List ℕ → List ℕ → Type 0) → Type 0
+abbrev pub PropertiesSorted : {A : Type 0} → CstRootNode A → CstRootNode A → CstObject → (CstNode → List (Option CstObjectProp) → List (Option ℕ) → Type 0)
+    → Bool → (List (Option CstObjectProp) → List ℕ → List ℕ → Type 0) → Type 0
 PropertiesSorted old new object ArePinned groups IsWanted =
     HasSortedBy old new (object_node object) (ArePinned (object_node object) (properties_asked old (object_node object))) groups
     (IsWanted (properties_asked old (object_node object)) (starts_of old (object_node object) groups))

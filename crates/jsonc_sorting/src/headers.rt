@@ -8,7 +8,7 @@ ghost use Rattle.jsonc_cst.specs.declared.cst.node.CstNode.{CstNode};
 ghost use Rattle.jsonc_cst.specs.Document.{nodes_of, Holds};
 ghost use Rattle.jsonc_cst.specs.Nodes.{typed_at};
 ghost use Rattle.jsonc_sorting.specs.Pins.{blank_line_pin, comment_if, comments_of, leads_of};
-ghost use Rattle.jsonc_sorting.specs.Pins.{ArePins, HoldsComment, IsPin, MayBePinned};
+ghost use Rattle.jsonc_sorting.specs.Pins.{ArePins, HoldsComment, IsPin, MayPin};
 
 use jsonc_cst::cst::{CstComment, CstLeafNode, CstNode, CstRootNode, EditError, IsNode, node_at};
 use jsonc_sort::{LeadRead, comments_above, read_leads};
@@ -92,7 +92,7 @@ fn pin_of<A: Allocator, D: IsDocument<A>, N: IsNode, F: Fn(&D, N, &[CstComment])
 ) -> Option<usize>
     requires node { IfSome node (λ x. Holds doc.now (N.node_of x)) }
     requires comments { All (HoldsComment doc.now) comments.now }
-    requires asked { MayBePinned F.Fn rule.now (D.same doc.now) (λ x. Holds doc.now (N.node_of x)) (HoldsComment doc.now) }
+    requires asked { MayPin F.Fn rule.now (D.same doc.now) (λ x. Holds doc.now (N.node_of x)) (HoldsComment doc.now) }
     ensures { IsPin F.Fn rule.now (D.same doc.now) node comments.now result }
 {
     let Some(node) = node else {
@@ -124,7 +124,7 @@ fn pins_by<A: Allocator + Copy, D: IsDocument<A>, N: IsNode, F: Fn(&D, N, &[CstC
 ) -> Result<Vec<Option<usize>, A>, AllocError>
     requires held { All (λ o. IfSome o (λ x. Holds doc.now (N.node_of x))) nodes.now }
     requires comments { All (HoldsComment doc.now) comments.now }
-    requires asked { MayBePinned F.Fn rule.now (D.same doc.now) (λ x. Holds doc.now (N.node_of x)) (HoldsComment doc.now) }
+    requires asked { MayPin F.Fn rule.now (D.same doc.now) (λ x. Holds doc.now (N.node_of x)) (HoldsComment doc.now) }
     ensures { IfOk result (λ v. ArePins F.Fn rule.now (D.same doc.now) nodes.now 0 leads.now comments.now v.items) }
 {
     let mut pins = Vec::new(doc.alloc);
@@ -246,7 +246,7 @@ impl<
     N: IsNode,
     F: Fn(&D, N, &[CstComment]) -> usize + Drop,
 > HeaderRule<A, D, N> for HeadersBy<F> {
-    ghost may_ask = { λ rule d. MayBePinned F.Fn rule.rule (D.same d) (λ x. Holds d (N.node_of x)) (HoldsComment d) };
+    ghost may_ask = { λ rule d. MayPin F.Fn rule.rule (D.same d) (λ x. Holds d (N.node_of x)) (HoldsComment d) };
 
     ghost pins = { λ rule d container nodes pins.
         ArePins F.Fn rule.rule (D.same d) nodes 0 (leads_of d container) (comments_of d container) pins };

@@ -6,7 +6,7 @@ ghost use Rattle.jsonc_nodes.specs.Siblings.{elements_at};
 ghost use Rattle.jsonc_sort.specs.Above.{leads_read};
 ghost use Rattle.jsonc_order.specs.Groups.{group_starts};
 ghost use Rattle.jsonc_cst.specs.Document.{nodes_of, Holds};
-ghost use Rattle.jsonc_cst.specs.Nodes.{array_node, object_node, object_prop_node};
+ghost use Rattle.jsonc_cst.specs.Nodes.{array_node, number_of, object_node, object_prop_node};
 ghost use Rattle.jsonc_sorting.specs.Rows.{elements_asked, is_parted, properties_asked, property_if, starts_of};
 
 use jsonc_cst::cst::{
@@ -66,7 +66,7 @@ pub(crate) fn elements_asked<A: Allocator + Copy>(
     ensures nodes { IfOk result (λ v. v.items ≡ elements_asked doc.now (array_node array)) }
     ensures held { IfOk result (λ v. All (λ o. IfSome o (Holds doc.now)) v.items) }
     ensures count { IfOk result
-        (λ v. length v.items ≡ length (elements_at (nodes_of doc.now) array.number)) }
+        (λ v. length v.items ≡ length (elements_at (nodes_of doc.now) (number_of (array_node array)))) }
     ensures memory { IfErr result (λ e. e ≡ EditError.OutOfMemory) }
 {
     let elements = array.elements(doc)?;
@@ -95,7 +95,7 @@ pub(crate) fn properties_asked<A: Allocator + Copy>(
     ensures nodes { IfOk result (λ v. v.items ≡ properties_asked doc.now (object_node object)) }
     ensures held { IfOk result (λ v. All (λ o. IfSome o (λ p. Holds doc.now (object_prop_node p))) v.items) }
     ensures count { IfOk result
-        (λ v. length v.items ≡ length (elements_at (nodes_of doc.now) object.number)) }
+        (λ v. length v.items ≡ length (elements_at (nodes_of doc.now) (number_of (object_node object)))) }
     ensures memory { IfErr result (λ e. e ≡ EditError.OutOfMemory) }
 {
     let elements = object.children_exclude_trivia_and_tokens(doc)?;
