@@ -1,5 +1,5 @@
 //! Tests of edits: of the pieces of documents, of values that come into arrays, of arrays and objects on several
-//! lines, and of trailing commas, and of memory that is refused.
+//! lines, of trailing commas and of sorts, and of memory that is refused.
 //!
 //! `docs/BENCH.md` says what each test is of.
 #![tactic(auto)]
@@ -12,5 +12,7 @@ mod commas;
 mod pieces;
 #[cfg(test)]
 mod reading;
+#[cfg(test)]
+mod sorts;
 #[cfg(test)]
 mod spread;

@@ -20,6 +20,10 @@ pub use jsonc_cst::cst::{
     PreviousSiblingIterator, Readings, Shown, TrailingCommaMode, input,
 };
 pub use jsonc_run::{Edit, Over, Shape};
+pub use jsonc_sorting::{
+    BlankLineHeaders, ElementSort, HeaderRule, HeadersBy, NoHeaders, PropertySort, SortElements,
+    SortProperties,
+};
 pub use jsonc_typed::{
     EnsureMultiline, InsertElement, InsertProperty, IsDocument, Remove, RemoveLeaf,
     ReplaceProperty, ReplaceWith, SetBoolean, SetNewline, SetProperty, SetRawValue, SetRoot,

@@ -7,8 +7,9 @@ use Rattle.std.proofs.lemmas.List.Elements.{All-append, All-cons, All-nil}
 use Rattle.jsonc_tree.specs.Content.{Content}
 use Rattle.jsonc_nodes.specs.Kinds.{is_element}
 use Rattle.jsonc_sort.specs.Leads.{LeadParts, lead_parts}
+use Rattle.jsonc_sort.specs.Above.{leads, leads_from}
 use Rattle.jsonc_sort.specs.Parts.{Part, Parts, is_none, part_with, parts, tail_length}
-use Rattle.jsonc_sort.specs.Places.{AreEntries, ArePlaces, IsLast, IsNext, IsRead, before_element, end_after, end_past, entries_past, entry_of, gap_behind, is_last_at, tail_of}
+use Rattle.jsonc_sort.specs.Places.{AreEntries, ArePlaces, IsLast, IsNext, IsRead, before_element, end_after, end_past, entries_past, entry_of, gap_behind, lead_at, leads_past, is_last_at, tail_of}
 use Rattle.jsonc_sort.specs.Sorting.{Entry, Headers, end_of, entries, entries_from, first_pin, row_end}
 use Rattle.jsonc_sort.specs.declared.places.Places.{Places}
 
@@ -154,6 +155,10 @@ module _ (at : ℕ → Content) where
           ap (λ (w : Parts). entries_from at groups pins w.lead w.rest) found
           ∙ ap (λ (x : Entry). x ∷ entries_from at groups (drop 1 pins) (drop long q.lead) q.rest) (entry pins e)
           ∙ ap (λ (w : Parts). entry_of row p ∷ entries_from at groups (drop 1 pins) w.lead w.rest) (sym behind);
+      lead = ap (λ (w : Parts). leads_from w.lead w.rest) found
+          ∙ ap (λ k. slice_range row k element ∷ leads_from (drop long q.lead) q.rest) (sym r.begins)
+          ∙ ap (λ k. slice_range row p.lead k ∷ leads_from (drop long q.lead) q.rest) (sym r.stands)
+          ∙ ap (λ (w : Parts). lead_at row p ∷ leads_from w.lead w.rest) (sym behind);
       behind = ap (λ (w : Parts). end_of w.lead w.rest) found ∙ ap (λ (w : Parts). end_of w.lead w.rest) (sym behind);
     }
 
@@ -170,6 +175,7 @@ end_more from (x ∷ ps) p = end_more x.end ps p
 module _ (at : ℕ → Content) (h : Headers) (row : List ℕ) where
   pub record Entered (places : List Places) (from : ℕ) : Type 0 where
     pub are : map (entry_of row) places ++ entries_past at row from h.groups (drop (length places) h.pinned) ≡ entries at h row
+    pub leads : map (lead_at row) places ++ leads_past at row from ≡ leads at row
     pub behind : end_past at row from ≡ row_end at row
     pub last : from ≡ end_after 0 places
     pub read : All (IsRead at row) places
@@ -177,7 +183,7 @@ module _ (at : ℕ → Content) (h : Headers) (row : List ℕ) where
 
   pub entered_none : (places : List Places) (from : ℕ) → places ≡ [] → from ≡ 0 → Entered places from
   entered_none places from e f =
-      subst (λ ps. Entered ps from) (sym e) (subst (Entered []) (sym f) (record { are = refl; behind = refl; last = refl; read = All-nil (IsRead at row); within = omega arith }))
+      subst (λ ps. Entered ps from) (sym e) (subst (Entered []) (sym f) (record { are = refl; leads = refl; behind = refl; last = refl; read = All-nil (IsRead at row); within = omega arith }))
 
   pub entered_more : (places next : List Places) (from to : ℕ) (pin : Option ℕ) (p : Places) → Entered places from → first_pin (drop (length places) h.pinned) ≡ pin → IsNext at row from h.groups pin p → next ≡ places ++ p ∷ [] → to ≡ p.end → Entered next to
   entered_more places next from to pin p s e n f g =
@@ -190,6 +196,10 @@ module _ (at : ℕ → Content) (h : Headers) (row : List ℕ) where
             ∙ ap (λ l. map (entry_of row) places ++ entry_of row p ∷ entries_past at row p.end h.groups l) (sym one)
             ∙ ap (λ l. map (entry_of row) places ++ l) (sym (n.entry (drop (length places) h.pinned) e))
             ∙ s.are;
+        leads = ap (λ l. l ++ leads_past at row p.end) (map-append (lead_at row) places (p ∷ []))
+            ∙ append_assoc (map (lead_at row) places) (lead_at row p ∷ []) (leads_past at row p.end)
+            ∙ ap (λ l. map (lead_at row) places ++ l) (sym n.lead)
+            ∙ s.leads;
         behind = sym n.behind ∙ s.behind;
         last = sym (end_more 0 places p);
         read = All-append (IsRead at row) places (p ∷ []) s.read (All-cons (IsRead at row) p [] n.read (All-nil (IsRead at row)));
@@ -200,6 +210,7 @@ module _ (at : ℕ → Content) (h : Headers) (row : List ℕ) where
   pub entered_all : (places : List Places) (from : ℕ) → Entered places from → IsLast at row from → AreEntries at h row places
   entered_all places from s l = record {
     are = sym (append-nil (map (entry_of row) places)) ∙ ap (λ (ps : List Part). map (entry_of row) places ++ entries_from at h.groups (drop (length places) h.pinned) (parts at (drop from row)).lead ps) (sym l.none) ∙ s.are;
+    leads = sym (append-nil (map (lead_at row) places)) ∙ ap (λ (ps : List Part). map (lead_at row) places ++ leads_from (parts at (drop from row)).lead ps) (sym l.none) ∙ s.leads;
     behind = ap (λ k. drop k row) (sym s.last) ∙ sym l.behind ∙ s.behind;
     read = s.read;
   }

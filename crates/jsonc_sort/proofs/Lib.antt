@@ -22,3 +22,4 @@ pub mod AtPaths
 pub mod SortedDocuments
 pub mod LeadPlaces
 pub mod Lasts
+pub mod Telling

@@ -69,11 +69,15 @@ PassesFilling test = (top : Top) → IsTrue (is_filling top.content) → test to
 
 -- each other node is there as often as it was, with what is below it: each such test is passed as often
 abbrev pub KeepsNodes : (ℕ → Top) → Sort → (Top → Bool) → Type 0
-KeepsNodes top s test = IsOrderOf top s.row s.order → PassesFilling test → count_by (λ slot. test (top_in top slot)) (slots_of top s) ≡ count_by (λ n. test (top n)) s.row
+KeepsNodes top s test =
+    IsOrderOf top s.row s.order → PassesFilling test
+    → count_by (λ slot. test (top_in top slot)) (slots_of top s) ≡ count_by (λ n. test (top n)) s.row
 
 -- and so is each mark, where nothing is below whitespace, ends of lines and commas
 abbrev pub KeepsMarks : (ℕ → Top) → Sort → (Mark → Bool) → Type 0
-KeepsMarks top s test = ((n : ℕ) → IsTrue (is_filling (content_of top n)) → (top n).below ≡ none) → IsOrderOf top s.row s.order → count_by test (marks (row_after top s)) ≡ count_by test (marks (row_before top s))
+KeepsMarks top s test =
+    ((n : ℕ) → IsTrue (is_filling (content_of top n)) → (top n).below ≡ none) → IsOrderOf top s.row s.order
+    → count_by test (marks (row_after top s)) ≡ count_by test (marks (row_before top s))
 
 -- the values of a list in an order, which names each by its number
 abbrev pub item_at : ℕ → Items → Plain
@@ -109,11 +113,14 @@ SortsMembers o top s ms = IsOrderOf top s.row s.order → MembersOf o (row_befor
 
 -- where the row is one of the container, node by node, and its leaves end, the sorted row is
 abbrev pub KeepsRow : Options → RowKind → (ℕ → Top) → Sort → Option ℕ → Type 0
-KeepsRow o kind top s n = IsOrderOf top s.row s.order → RowAlone o kind nothing_yet (closed kind top (all_stay s.row)) → LeavesEnd o (leaves (closed kind top (all_stay s.row))) n → RowAlone o kind nothing_yet (closed kind top (slots_of top s))
+KeepsRow o kind top s n =
+    IsOrderOf top s.row s.order → RowAlone o kind nothing_yet (closed kind top (all_stay s.row))
+    → LeavesEnd o (leaves (closed kind top (all_stay s.row))) n → RowAlone o kind nothing_yet (closed kind top (slots_of top s))
 
 -- where the line comments of the row end with their lines, those of the sorted row do
 abbrev pub KeepsLines : RowKind → (ℕ → Top) → Sort → Type 0
-KeepsLines kind top s = IsOrderOf top s.row s.order → LinesEndLoosely true false (closed kind top (all_stay s.row)) → LinesEndLoosely true false (closed kind top (slots_of top s))
+KeepsLines kind top s =
+    IsOrderOf top s.row s.order → LinesEndLoosely true false (closed kind top (all_stay s.row)) → LinesEndLoosely true false (closed kind top (slots_of top s))
 
 -- where a container of a sound document is sorted, the document stays sound
 abbrev pub StaysSound : Options → OrderedTree → Type 0
@@ -133,4 +140,5 @@ SortsValue o t x = DocumentValueOf o t (Some x) → (kind : RowKind) (top : ℕ 
 -- and where it is sound it has each mark as often as before
 abbrev pub KeepsAllMarks : Options → OrderedTree → (Mark → Bool) → Type 0
 KeepsAllMarks o t test = SoundTree o t → (kind : RowKind) (top : ℕ → Top) (s : Sort) (path : List ℕ) (u : OrderedTree)
-    → DocumentChanged (container_before kind top s) (container_after kind top s) path t u → IsOrderOf top s.row s.order → count_by test (marks u) ≡ count_by test (marks t)
+    → DocumentChanged (container_before kind top s) (container_after kind top s) path t u → IsOrderOf top s.row s.order
+    → count_by test (marks u) ≡ count_by test (marks t)

@@ -2,6 +2,7 @@ pub mod Slots
 pub mod Parts
 pub mod Leads
 pub mod Sorting
+pub mod Above
 pub mod Places
 pub mod Plans
 pub mod Rearranged

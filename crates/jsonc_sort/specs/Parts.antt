@@ -1,12 +1,13 @@
--- What stands between the brackets of an array or object, in parts: its elements, what belongs to each, and what is between. A row is a list of nodes by their numbers; `at` tells
--- what each is.
+-- What stands between the brackets of an array or object, in parts: its elements, what belongs to each, and what is between.
+-- A row is a list of nodes by their numbers; `at` tells what each is.
 use Rattle.std.specs.Prelude.{ℕ, suc, ◌+◌, ◌-◌, Bool, true, false, not, ◌&&◌, ◌||◌, List, [], ◌∷◌, length, take, drop, if◌then◌else◌}
 use Rattle.std.specs.List.{list_all, list_any, suffix_len, take_while}
 use Rattle.jsonc_tree.specs.Content.{Content}
 use Rattle.jsonc_lines.specs.Kinds.{is_comma}
 use Rattle.jsonc_nodes.specs.Kinds.{is_beside, is_element, is_newline, is_whitespace}
 
--- an element; what belongs to it behind it: through its comma, and the comments on its line; and what stands behind that, up to the next element or the last bracket
+-- an element; what belongs to it behind it: through its comma, and the comments on its line;
+-- and what stands behind that, up to the next element or the last bracket
 pub record Part : Type 0 where
   pub element : ℕ
   pub tail : List ℕ
@@ -70,7 +71,8 @@ module _ (at : ℕ → Content) where
   part_with n last gap = record { element = n; tail = take (tail_length last gap) gap; behind = drop (tail_length last gap) gap }
 
   abbrev pub with_node : ℕ → Parts → Parts
-  with_node n p = if is_element (at n) then record { lead = []; rest = part_with n (is_none p.rest) p.lead ∷ p.rest } else record { lead = n ∷ p.lead; rest = p.rest }
+  with_node n p =
+      if is_element (at n) then record { lead = []; rest = part_with n (is_none p.rest) p.lead ∷ p.rest } else record { lead = n ∷ p.lead; rest = p.rest }
 
   abbrev pub parts : List ℕ → Parts
   parts [] = record { lead = []; rest = [] }

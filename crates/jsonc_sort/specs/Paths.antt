@@ -1,10 +1,11 @@
 -- Laws of arrays and objects of a document whose elements come in another order, by the numbers of nodes.
-use Rattle.std.specs.Prelude.{◌≡◌, ℕ, Bool, List, count_by, Some, IsTrue}
+use Rattle.std.specs.Prelude.{◌≡◌, ◌<◌, ℕ, Bool, List, count_by, length, Some, IsTrue}
 use Rattle.jsonc_text.specs.Options.{Options}
 use Rattle.jsonc_text.specs.Plain.{Plain}
 use Rattle.jsonc_text.specs.Grammar.{IsDocument}
 use Rattle.jsonc_tree.specs.OrderedTree.{OrderedTree, Top, leaves, ordered_tree}
 use Rattle.jsonc_tree.specs.Tree.{Node, content_at, IsTree}
+use Rattle.jsonc_nodes.specs.Siblings.{elements_at}
 use Rattle.jsonc_lines.specs.Kinds.{holds_values}
 use Rattle.jsonc_build.specs.Shape.{printed_text}
 use Rattle.jsonc_laws.specs.ChangeLaws.{DiffersIn}
@@ -16,6 +17,10 @@ use Rattle.jsonc_edit.specs.Paths.{IsAt}
 use Rattle.jsonc_sort.specs.Sorting.{Headers}
 use Rattle.jsonc_sort.specs.Rearranged.{IsOrderIn, Rearranged}
 use Rattle.jsonc_sort.specs.Laws.{IsOrderOf, Sort, SortsEntries, container_after, container_before}
+
+-- where c has less than two elements, all nodes are as they were
+abbrev pub FewStay : List Node → List Node → ℕ → Headers → List ℕ → Type 0
+FewStay old new c h order = length (elements_at old c) < 2 → IsOrderIn old c order → Rearranged old new c h order → new ≡ old
 
 -- the array or object at the path has been sorted, and nothing outside of it has changed
 pub record SortedAt (path order : List ℕ) (t u : OrderedTree) : Type 0 where

@@ -5,6 +5,7 @@ use Rattle.jsonc_tree.specs.Content.{Content}
 use Rattle.jsonc_nodes.specs.Kinds.{is_element}
 use Rattle.jsonc_sort.specs.Parts.{has_comma, is_comma_at, is_newline_at, is_whitespace_at, parts, tail_length}
 use Rattle.jsonc_sort.specs.Leads.{LeadParts, blank_lines, is_comment_at, lead_parts}
+use Rattle.jsonc_sort.specs.Above.{leads, leads_from}
 use Rattle.jsonc_sort.specs.Sorting.{Entry, Headers, end_of, entries, entries_from, first_pin, row_end, without_comma}
 use Rattle.jsonc_sort.specs.declared.places.Places.{Places}
 use Rattle.jsonc_sort.specs.declared.leads.Lead.{Lead}
@@ -27,6 +28,10 @@ entry_of row p = record {
   element = slice_index row p.element;
   tail = tail_of row p;
 }
+
+-- what stands before its element
+abbrev pub lead_at : List ℕ → Places → List ℕ
+lead_at row p = slice_range row p.lead p.element
 
 -- it has a comma
 abbrev pub has_comma_of : Places → Bool
@@ -99,9 +104,12 @@ module _ (at : ℕ → Content) where
     pub far : tail_length at (is_last_at row element) (gap_behind row element) ≤ length (gap_behind row element)
     pub read : IsRead row p
 
-  -- the entries that begin from a place of a row on, whatever is pinned before them, and what stands behind the last
+  -- the entries that begin from a place of a row on, whatever is pinned before them, their leads, and what stands behind the last
   abbrev pub entries_past : List ℕ → ℕ → Bool → List (Option ℕ) → List Entry
   entries_past row from groups pins = entries_from at groups pins (parts at (drop from row)).lead (parts at (drop from row)).rest
+
+  abbrev pub leads_past : List ℕ → ℕ → List (List ℕ)
+  leads_past row from = leads_from (parts at (drop from row)).lead (parts at (drop from row)).rest
 
   abbrev pub end_past : List ℕ → ℕ → List ℕ
   end_past row from = end_of (parts at (drop from row)).lead (parts at (drop from row)).rest
@@ -112,6 +120,7 @@ module _ (at : ℕ → Content) where
     pub read : IsRead row p
     pub entry : (pins : List (Option ℕ)) → first_pin pins ≡ pin
         → entries_past row from groups pins ≡ entry_of row p ∷ entries_past row p.end groups (drop 1 pins)
+    pub lead : leads_past row from ≡ lead_at row p ∷ leads_past row p.end
     pub behind : end_past row from ≡ end_past row p.end
 
   -- no entry begins from there on
@@ -122,5 +131,6 @@ module _ (at : ℕ → Content) where
   -- these are the entries of a row
   pub record AreEntries (h : Headers) (row : List ℕ) (places : List Places) : Type 0 where
     pub are : map (entry_of row) places ≡ entries at h row
+    pub leads : map (lead_at row) places ≡ leads at row
     pub behind : drop (end_after 0 places) row ≡ row_end at row
     pub read : All (IsRead row) places

@@ -9,7 +9,8 @@ use Rattle.jsonc_sort.specs.Slots.{Slot, stays, comes, all_stay}
 use Rattle.jsonc_sort.specs.Parts.{Part, has_comma, is_comma_at, is_whitespace_at, parts}
 use Rattle.jsonc_sort.specs.Leads.{LeadParts, blank_lines, lead_parts}
 
--- how a sort treats what stands before elements: how many comments are pinned before each, or none where no rule asks; and whether blank lines part the elements
+-- how a sort treats what stands before elements: how many comments are pinned before each, or none where no rule asks;
+-- and whether blank lines part the elements
 pub record Headers : Type 0 where
   pub pinned : List (Option ℕ)
   pub groups : Bool
@@ -46,7 +47,9 @@ is_unchanged order = bytes_eq order (range_with_len 0 (length order))
 module _ (at : ℕ → Content) where
   abbrev pub entries_from : Bool → List (Option ℕ) → List ℕ → List Part → List Entry
   entries_from groups pins lead [] = []
-  entries_from groups pins lead (part ∷ rest) = record { lead = lead_parts at groups (first_pin pins) lead; element = part.element; tail = part.tail } ∷ entries_from groups (drop 1 pins) part.behind rest
+  entries_from groups pins lead (part ∷ rest) =
+      record { lead = lead_parts at groups (first_pin pins) lead; element = part.element; tail = part.tail }
+      ∷ entries_from groups (drop 1 pins) part.behind rest
 
   -- the entries of a row, and what is behind them, where nothing moves
   abbrev pub entries : Headers → List ℕ → List Entry
@@ -59,7 +62,8 @@ module _ (at : ℕ → Content) where
   abbrev pub without_comma : List ℕ → List ℕ
   without_comma [] = []
   without_comma (n ∷ []) = if is_comma_at at n then [] else n ∷ []
-  without_comma (n ∷ m ∷ rest) = if is_comma_at at n then m ∷ rest else (if is_whitespace_at at n && is_comma_at at m then rest else n ∷ without_comma (m ∷ rest))
+  without_comma (n ∷ m ∷ rest) =
+      if is_comma_at at n then m ∷ rest else (if is_whitespace_at at n && is_comma_at at m then rest else n ∷ without_comma (m ∷ rest))
 
   -- a tail that has its comma, or gets one directly behind the element; or one that has none, or loses it
   abbrev pub tail_with : Bool → List ℕ → List Slot
@@ -73,7 +77,8 @@ module _ (at : ℕ → Content) where
 
   -- an entry in the place of another: what stays is that of the place, what travels that of the element
   abbrev pub placed_one : Bool → Bool → Entry × Entry → List Slot
-  placed_one first comma p = all_stay p.0.lead.front ++ all_stay (travelling first p.1.lead.travels) ++ all_stay p.0.lead.indent ++ stays p.1.element ∷ tail_with comma p.1.tail
+  placed_one first comma p =
+      all_stay p.0.lead.front ++ all_stay (travelling first p.1.lead.travels) ++ all_stay p.0.lead.indent ++ stays p.1.element ∷ tail_with comma p.1.tail
 
   -- each with its comma, the last with one if the last has had one
   abbrev pub placed : Bool → Bool → List (Entry × Entry) → List Slot

@@ -90,7 +90,8 @@ tied = a_number (codes "11") ∷ comma ∷ blank ∷ nought ∷ comma ∷ blank 
 
 -- `[`, a line `  // h`, a line `  // x`, a line `  2,`, a line `  1`, `]`
 abbrev pub headed_twice : List Top
-headed_twice = lf ∷ indent ∷ remark (codes "// h") ∷ lf ∷ indent ∷ remark (codes "// x") ∷ lf ∷ indent ∷ two ∷ comma ∷ lf ∷ indent ∷ one ∷ lf ∷ []
+headed_twice =
+    lf ∷ indent ∷ remark (codes "// h") ∷ lf ∷ indent ∷ remark (codes "// x") ∷ lf ∷ indent ∷ two ∷ comma ∷ lf ∷ indent ∷ one ∷ lf ∷ []
 
 -- `[2,`, a blank line, ` 1]`
 abbrev pub apart : List Top
@@ -105,7 +106,9 @@ loose_sorted = one ∷ comma ∷ blank ∷ remark (codes "// c") ∷ blank ∷ l
 
 -- `{`, a line `  // h`, a blank line, a line `  "b": 1,`, a line `  // x`, a line `  "a": 2`, `}`
 abbrev pub headed : List Top
-headed = lf ∷ indent ∷ remark (codes "// h") ∷ lf ∷ lf ∷ indent ∷ property name_b one ∷ comma ∷ lf ∷ indent ∷ remark (codes "// x") ∷ lf ∷ indent ∷ property name_a two ∷ lf ∷ []
+headed =
+    lf ∷ indent ∷ remark (codes "// h") ∷ lf ∷ lf ∷ indent ∷ property name_b one ∷ comma ∷ lf
+    ∷ indent ∷ remark (codes "// x") ∷ lf ∷ indent ∷ property name_a two ∷ lf ∷ []
 
 -- `[3, 1,`, a blank line, ` 2, 0]`
 abbrev pub grouped : List Top

@@ -8,7 +8,7 @@ ghost use Rattle.jsonc_laws.specs.Marks.{Mark};
 ghost use Rattle.jsonc_laws.specs.Rows.{RowKind};
 ghost use Rattle.jsonc_sort.specs.Laws.{KeepsAllMarks, KeepsLines, KeepsMarks, KeepsNodes, KeepsRow};
 ghost use Rattle.jsonc_sort.specs.Laws.{Sort, SortsItems, SortsMembers, SortsValue, StaysSound};
-ghost use Rattle.jsonc_sort.specs.Paths.{KeepsOutside, SortedAt, SortsAt, SortsDocument};
+ghost use Rattle.jsonc_sort.specs.Paths.{FewStay, KeepsOutside, SortedAt, SortsAt, SortsDocument};
 ghost use Rattle.jsonc_sort.specs.Sorting.{Headers};
 ghost use Rattle.jsonc_sort.specs.Worked.{WorkedDocuments, WorkedHeaders, WorkedSorts};
 
@@ -57,6 +57,11 @@ pub fn sorted_documents()
     ensures sound { (o : Options) (t : OrderedTree) → StaysSound o t }
     ensures value { (o : Options) (t : OrderedTree) (x : Plain) → SortsValue o t x }
     ensures marks { (o : Options) (t : OrderedTree) (test : Mark → Bool) → KeepsAllMarks o t test }
+{}
+
+/// Where an array or object has less than two elements, all nodes are as they were.
+pub fn few_elements_stay()
+    ensures { (old new : List Node) (c : ℕ) (h : Headers) (order : List ℕ) → FewStay old new c h order }
 {}
 
 /// Where the elements of an array or object at a path of a sound document come in another order, the

@@ -32,8 +32,8 @@ fn ended_behind<A: Allocator>(tree: &Tree<A>, node: usize, ended: bool) -> bool
     is_newline(tree, node)
 }
 
-// Whether two ends of lines have nothing but whitespace between them.
-fn has_blank_line<A: Allocator>(tree: &Tree<A>, row: &[usize]) -> bool
+/// Whether two ends of lines have nothing but whitespace between them.
+pub(crate) fn has_blank_line<A: Allocator>(tree: &Tree<A>, row: &[usize]) -> bool
     ensures { result ≡ has_blank_line (content_at tree.now.nodes) row.now }
 {
     let mut ended = false;
@@ -74,8 +74,8 @@ fn spaces<A: Allocator>(tree: &Tree<A>, row: &[usize]) -> usize
         .count()
 }
 
-// How many comments there are.
-fn comments<A: Allocator>(tree: &Tree<A>, row: &[usize]) -> usize
+/// How many comments there are.
+pub(crate) fn comments<A: Allocator>(tree: &Tree<A>, row: &[usize]) -> usize
     ensures { result ≡ comments (content_at tree.now.nodes) row.now }
 {
     row.iter().filter(|node| is_comment(tree, **node)).count()
@@ -176,8 +176,8 @@ fn header_length<A: Allocator>(
     header_by(tree, pinned, row)
 }
 
-// How many nodes stand before the first end of a line, or all.
-fn before_newline<A: Allocator>(tree: &Tree<A>, row: &[usize]) -> usize
+/// How many nodes stand before the first end of a line, or all.
+pub(crate) fn before_newline<A: Allocator>(tree: &Tree<A>, row: &[usize]) -> usize
     ensures count { result ≡ position_or_len (is_newline_at (content_at tree.now.nodes)) row.now }
     ensures within { result ≤ length row.now }
 {

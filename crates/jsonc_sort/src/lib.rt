@@ -10,8 +10,12 @@
 //! [`rearrange`] reads the entries of a row by their places (`specs/Places.antt`), plans the row in another
 //! order from its end on (`specs/Plans.antt`), and lets it take its place at once
 //! (`specs/Rearranged.antt`), so a refusal leaves the document as it was.
+//!
+//! [`read_leads`] and [`comments_above`] tell what stands before each element, for rules of headers and groups
+//! (`specs/Above.antt`).
 #![tactic(auto)]
 
+mod above;
 mod kinds;
 pub mod laws;
 mod leads;
@@ -20,4 +24,5 @@ mod parts;
 mod places;
 mod plan;
 
+pub use above::{LeadRead, comments_above, read_leads};
 pub use order::rearrange;

@@ -1,0 +1,16 @@
+use Rattle.std.proofs.Common.{rules, [], ◌∷◌, ◌++◌, ◌+◌, subst, sym, ◌≡◌, List, Option}
+use Rattle.jsonc_order.proofs.Told.{AreKeysBelow, first_refused, one_more}
+use Rattle.jsonc_order.proofs.keys.keys_of.Goals as goal
+
+pub returns-in-Err-clause-refused : goal.returns-in-Err-clause-refused
+returns-in-Err-clause-refused g c =
+    first_refused g.F.Fn c.args.key.now c.args.doc.now c.args.nodes.now c.loop-place.place c.loop-place.keys.items c.in-Err.error c.loop-place.invariant.1 c.in-Err.ensures.refused
+
+pub loop-place-preserved : goal.loop-place-preserved
+loop-place-preserved g c =
+    let was = c.loop-place.keys.items in
+    let pushed : c.push.new.self.items ≡ was ++ c.in-Ok.found ∷ [] = search rules in (
+      search rules,
+      subst (λ (ks : List (Option g.row.K.Denot)). AreKeysBelow g.F.Fn c.args.key.now c.args.doc.now c.args.nodes.now (c.loop-place.place + 1) ks) (sym pushed)
+          (one_more g.F.Fn c.args.key.now c.args.doc.now c.args.nodes.now c.loop-place.place was c.in-Ok.found c.loop-place.invariant.0 c.loop-place.invariant.1 c.in-Ok.ensures.key),
+    )

@@ -1,0 +1,4 @@
+pub mod Asking
+pub mod Groups
+pub mod Keys
+pub mod Order

@@ -1,0 +1,7 @@
+use Rattle.std.proofs.Common.{arith}
+use Rattle.jsonc_tree.specs.Tree.{content_at}
+use Rattle.jsonc_sort.proofs.Telling.{told_all}
+use Rattle.jsonc_sort.proofs.above.read_row.Goals as goal
+
+pub returns : goal.returns
+returns g c = told_all (content_at c.args.tree.now.nodes) c.args.row.now _ c.loop-entry.entry-index c.loop-entry.told.items (omega arith) c.loop-entry.invariant

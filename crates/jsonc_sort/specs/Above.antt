@@ -1,0 +1,44 @@
+-- What rules of headers and groups are asked with: whether a blank line stands before an element, and how many comments stand above it.
+use Rattle.std.specs.Prelude.{ℕ, List, [], ◌∷◌, drop, filter, map, take, if◌then◌else◌}
+use Rattle.std.specs.List.{flat_map, list_any}
+use Rattle.jsonc_tree.specs.Content.{Content}
+use Rattle.jsonc_tree.specs.Tree.{Node, children_at, content_at}
+use Rattle.jsonc_remove.specs.Removed.{has_brackets}
+use Rattle.jsonc_multiline.specs.Lines.{between}
+use Rattle.jsonc_sort.specs.Parts.{Part, is_newline_at, parts, up_to_spaces}
+use Rattle.jsonc_sort.specs.Leads.{comments, first_line, has_blank_line, is_comment_at}
+use Rattle.jsonc_sort.specs.declared.above.LeadRead.{LeadRead}
+
+-- what stands before each element
+abbrev pub leads_from : List ℕ → List Part → List (List ℕ)
+leads_from lead [] = []
+leads_from lead (part ∷ rest) = lead ∷ leads_from part.behind rest
+
+module _ (at : ℕ → Content) where
+  abbrev pub leads : List ℕ → List (List ℕ)
+  leads row = leads_from (parts at row).lead (parts at row).rest
+
+  -- of a lead in which a line ends, what is behind that end, up to the whitespace directly before the element
+  abbrev pub above_from : List ℕ → List ℕ
+  above_from rest = take (up_to_spaces at rest) rest
+
+  abbrev pub above : List ℕ → List ℕ
+  above lead = if list_any (is_newline_at at) lead then above_from (drop (first_line at lead) lead) else []
+
+  abbrev pub comments_above : List ℕ → List ℕ
+  comments_above lead = filter (is_comment_at at) (above lead)
+
+  -- what a rule is asked with
+  abbrev pub lead_read : List ℕ → LeadRead
+  lead_read lead = record { blank_line = has_blank_line at lead; comments = comments at (above lead) }
+
+-- of each element of c, which has its brackets; else of none
+abbrev pub leads_at : List Node → ℕ → List (List ℕ)
+leads_at ns c = if has_brackets ns c then leads (content_at ns) (between (children_at ns c)) else []
+
+-- the comments above its elements, one element's after another's
+abbrev pub all_comments_above : List Node → ℕ → List ℕ
+all_comments_above ns c = flat_map (comments_above (content_at ns)) (leads_at ns c)
+
+abbrev pub leads_read : List Node → ℕ → List LeadRead
+leads_read ns c = map (lead_read (content_at ns)) (leads_at ns c)

@@ -1,0 +1,5 @@
+pub mod Placed
+pub mod Keyed
+pub mod Pinned
+pub mod Commented
+pub mod Wired

@@ -1,0 +1,30 @@
+-- Elements that come in an order: what becomes of a document and its nodes.
+use Rattle.std.proofs.Common.{ℕ, List, IsTrue, inl, inr}
+use Rattle.std.proofs.lemmas.Bool.{cases_Bool}
+use Rattle.jsonc_text.specs.Options.{Options}
+use Rattle.jsonc_tree.specs.OrderedTree.{ordered_tree}
+use Rattle.jsonc_tree.specs.Tree.{Node, content_at, IsTree}
+use Rattle.jsonc_lines.specs.Kinds.{holds_values}
+use Rattle.jsonc_sort.specs.Rearranged.{moves, IsOrderIn, Rearranged}
+use Rattle.jsonc_sort.specs.Sorting.{Headers}
+use Rattle.jsonc_sort.proofs.AtPaths.{sorts_at}
+use Rattle.jsonc_sort.proofs.Orders.{few_stay}
+use Rattle.jsonc_sort.proofs.SortedDocuments.{keeps_outside, sorts_document}
+use Rattle.jsonc_typed.proofs.Kept.{Stays, stay_both, stay_kept, stay_same, stay_spliced}
+use Rattle.jsonc_sorting.specs.Sorted.{IsPlaced, SortsAtItsPath}
+
+module _ (old new : List Node) (c : ℕ) (h : Headers) (order : List ℕ) (before : IsTree old) (after : IsTree new) (holds : IsTrue (holds_values (content_at old c))) (all : IsOrderIn old c order) where
+  written : Rearranged old new c h order → (o : Options) → SortsAtItsPath o old new c order
+  written made o = λ sound path at.
+      let s = sorts_at o old new path c h order before after sound at holds all made in
+      record { sorted = s; outside = keeps_outside s; says = sorts_document o (ordered_tree old 0) (ordered_tree new 0) path order sound s }
+
+  pub is_placed : Rearranged old new c h order → IsPlaced old new c h order
+  is_placed made = record { all = all; made = made; few = λ less. few_stay old new c h order less all made; written = written made }
+
+  pub rearranged_stays : Rearranged old new c h order → Stays old new
+  rearranged_stays made =
+      elim (cases_Bool (moves old c order)) [
+        | inl is ↦ let row = made.is is in stay_both old row.ready new (stay_kept old row.ready row.prepared.keeps) (stay_spliced row.ready new _ _ _ _ row.put)
+        | inr other ↦ stay_same old new (made.was other)
+      ]

@@ -1,0 +1,13 @@
+use Rattle.std.proofs.Common.{rules, inr, subst}
+use Rattle.jsonc_order.specs.Keys.{AreKeys, WhyNone}
+use Rattle.jsonc_sorting.proofs.Keyed.{first_refused}
+use Rattle.jsonc_sorting.proofs.sorting.keys_asked.Goals as goal
+
+pub returns-in-Ok-clause-keys : goal.returns-in-Ok-clause-keys
+returns-in-Ok-clause-keys g c =
+    subst (λ (d : g.row.D.Denot). AreKeys g.F.Fn c.args.key.now d c.args.nodes.now c.in-Ok.keys.items) c.of.ensures c.in-Ok.ensures.keys
+
+pub returns-in-Err-Refused-clause-refused : goal.returns-in-Err-Refused-clause-refused
+returns-in-Err-Refused-clause-refused g c =
+    inr (first_refused g.F.Fn c.args.key.now (g.D.IsDocument.same c.args.doc.now) c.args.nodes.now c.in-Err-Refused.field-0 c.in-Err-Refused.error (search rules)
+    (subst (λ (d : g.row.D.Denot). WhyNone g.F.Fn c.args.key.now d c.args.nodes.now c.in-Err-Refused.field-0) c.of.ensures c.in-Err-Refused.ensures.refused))

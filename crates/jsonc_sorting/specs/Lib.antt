@@ -1,0 +1,4 @@
+pub mod Asking
+pub mod Pins
+pub mod Rows
+pub mod Sorted
