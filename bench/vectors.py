@@ -6,7 +6,7 @@ import re
 EDITS = {'Replace', 'Remove', 'RemoveComment', 'SetRoot', 'ClearRoot', 'ReplaceProperty', 'EnsureRoot',
          'SetValue', 'EnsureValue', 'SetBoolean', 'EnsureMultiline', 'AppendElement', 'InsertElement',
          'RawSet', 'RawRemove', 'RawRemoveName', 'RawReplaceName', 'RawRemoveValue'}
-COMMANDS_TO_COME = {b'set': 3, b'append': 2, b'sort': 1}
+COMMANDS_TO_COME = {b'sort': 1}
 
 
 def unescaped(field):

@@ -1,5 +1,5 @@
-//! Checks and prints JSON documents, and takes properties out of them: `jsonc check`, `jsonc print` and
-//! `jsonc remove NAME`, from standard input to standard output.
+//! Checks and prints JSON documents, and changes them: `jsonc check`, `jsonc print`, `jsonc set NAME JSON`,
+//! `jsonc append JSON` and `jsonc remove NAME`, from standard input to standard output.
 #![tactic(auto)]
 
 use jsonc_engine::calls::{FromReader, ToWriter};

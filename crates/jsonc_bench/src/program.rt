@@ -11,7 +11,7 @@ use std::alloc::{AllocError, Global};
 /// Whether the words name a command that the program is to have and has not yet.
 fn is_command_to_come(words: &[&str]) -> bool {
     match words {
-        ["sort"] | ["append", _] | ["set", _, _] => true,
+        ["sort"] => true,
         _ => false,
     }
 }

@@ -1,22 +1,14 @@
--- How a run ends that has read its input: what it wrote, and what it is told as.
-use Rattle.std.proofs.Common.{◌≡◌, ℕ, ◌==◌, Bool, true, false, List, [], ◌∷◌, length, map, Option, Some, None, Result, Ok, Err, IfErr, IfSome, OnErr, OnOk, refl, sym, ap, subst, ◌∙◌, chars}
+-- What a run has written, of the input that was read.
+use Rattle.std.proofs.Common.{◌≡◌, ℕ, ◌==◌, Bool, List, [], ◌∷◌, Option, Some, Result, Ok, Err, IfSome, OnOk, IsTrue, refl, sym, ap, subst}
 use Rattle.std.proofs.lemmas.Bool.{false≢true}
-use Rattle.std.specs.Borrow.{Bor}
 use Rattle.std.specs.List.{slice_get}
-use Rattle.std.specs.Prelude.{IsErrOf}
 use Rattle.std.specs.Io.KnownBytes.{Appends}
 use Rattle.jsonc_text.specs.Options.{Options, all_on}
-use Rattle.jsonc_edit.specs.declared.error.EditError.TheVariants.{OutOfMemory}
-use Rattle.jsonc_engine.specs.declared.command.Command.{Command}
-use Rattle.jsonc_engine.specs.declared.command.Command.TheVariants.{Check, Print, Remove}
 use Rattle.jsonc_engine.specs.declared.fault.Fault.{Fault}
-use Rattle.jsonc_engine.specs.declared.fault.Fault.TheVariants.{Edit, Write}
-use Rattle.jsonc_engine.specs.Command.{words_of}
-use Rattle.jsonc_engine.specs.Fault.{EndsRun, IsFaultOn}
+use Rattle.jsonc_engine.specs.Command.{Request, check, print, set, append, remove, words_of, writes}
 use Rattle.jsonc_engine.specs.Input.{IsInput, IsInputOf}
-use Rattle.jsonc_engine.specs.Output.{IsLeft, PutsWithout}
-use Rattle.jsonc_engine.specs.Removal.{IsNoObject, IsWithoutFirst}
-use Rattle.jsonc_engine.proofs.Removals.{fault_of, of_input}
+use Rattle.jsonc_engine.specs.Output.{IsLeft, Puts}
+use Rattle.jsonc_engine.proofs.Changes.{of_input}
 
 -- words name one command
 first_letter : List (List ℕ) → ℕ
@@ -24,78 +16,51 @@ first_letter [] = 0
 first_letter ([] ∷ ws) = 0
 first_letter ((c ∷ cs) ∷ ws) = c
 
-prints_no_check : words_of Print ≡ words_of Check → ⊥
-unfolding first_letter
-prints_no_check e = false≢true (ap (λ (n : ℕ). n == 99) (ap first_letter e))
+begin_with : ℕ → List (List ℕ) → Bool
+begin_with c ws = first_letter ws == c
 
-module _ (ws : List (List ℕ)) (command : Command) (named : ws ≡ words_of command) where
-  pub prints_alone : command ≡ Print → (name : Bor (List ℕ)) → ws ≡ words_of (Remove name) → ⊥
-  prints_alone is name other =
-      let same : words_of Print ≡ words_of (Remove name) = sym (ap words_of is) ∙ sym named ∙ other in
-      let wrong : 1 ≡ 2 = ap length same in cc
-
-  pub prints_unchecked : command ≡ Print → ws ≡ words_of Check → ⊥
-  prints_unchecked is other = prints_no_check (sym (ap words_of is) ∙ sym named ∙ other)
-
-  module _ (name : Bor (List ℕ)) (is : command ≡ Remove name) where
-    pub removes_unprinted : ws ≡ words_of Print → ⊥
-    removes_unprinted other =
-        let same : words_of (Remove name) ≡ words_of Print = sym (ap words_of is) ∙ sym named ∙ other in
-        let wrong : 2 ≡ 1 = ap length same in cc
-
-    pub removes_unchecked : ws ≡ words_of Check → ⊥
-    removes_unchecked other =
-        let same : words_of (Remove name) ≡ words_of Check = sym (ap words_of is) ∙ sym named ∙ other in
-        let wrong : 2 ≡ 1 = ap length same in cc
-
-    pub removes_it : (again : Bor (List ℕ)) → ws ≡ words_of (Remove again) → name.now ≡ again.now
-    removes_it again other =
-        let same : words_of (Remove name) ≡ words_of (Remove again) = sym (ap words_of is) ∙ sym named ∙ other in
-        let both : Some name.now ≡ Some again.now = ap (λ (l : List (List ℕ)). slice_get l 1) same in cc
+pub same_request : (r q : Request) → words_of r ≡ words_of q → r ≡ q
+unfolding first_letter begin_with
+same_request check check e = refl
+same_request check print e = absurd (false≢true (ap (begin_with 112) e))
+same_request check (set n j) e = absurd (false≢true (ap (begin_with 115) e))
+same_request check (append j) e = absurd (false≢true (ap (begin_with 97) e))
+same_request check (remove n) e = absurd (false≢true (ap (begin_with 114) e))
+same_request print check e = absurd (false≢true (ap (begin_with 99) e))
+same_request print print e = refl
+same_request print (set n j) e = absurd (false≢true (ap (begin_with 115) e))
+same_request print (append j) e = absurd (false≢true (ap (begin_with 97) e))
+same_request print (remove n) e = absurd (false≢true (ap (begin_with 114) e))
+same_request (set n j) check e = absurd (false≢true (ap (begin_with 99) e))
+same_request (set n j) print e = absurd (false≢true (ap (begin_with 112) e))
+same_request (set n j) (set m k) e =
+    let name : Some n ≡ Some m = ap (λ (l : List (List ℕ)). slice_get l 1) e in
+    let json : Some j ≡ Some k = ap (λ (l : List (List ℕ)). slice_get l 2) e in cc
+same_request (set n j) (append k) e = absurd (false≢true (ap (begin_with 97) e))
+same_request (set n j) (remove m) e = absurd (false≢true (ap (begin_with 114) e))
+same_request (append j) check e = absurd (false≢true (ap (begin_with 99) e))
+same_request (append j) print e = absurd (false≢true (ap (begin_with 112) e))
+same_request (append j) (set m k) e = absurd (false≢true (ap (begin_with 115) e))
+same_request (append j) (append k) e = let json : Some j ≡ Some k = ap (λ (l : List (List ℕ)). slice_get l 1) e in cc
+same_request (append j) (remove m) e = absurd (false≢true (ap (begin_with 114) e))
+same_request (remove n) check e = absurd (false≢true (ap (begin_with 99) e))
+same_request (remove n) print e = absurd (false≢true (ap (begin_with 112) e))
+same_request (remove n) (set m k) e = absurd (false≢true (ap (begin_with 115) e))
+same_request (remove n) (append k) e = absurd (false≢true (ap (begin_with 97) e))
+same_request (remove n) (remove m) e = let name : Some n ≡ Some m = ap (λ (l : List (List ℕ)). slice_get l 1) e in cc
 
 -- what holds of the input that was read holds of all that the source had
 module _ (known : Option (List ℕ)) (read input : List ℕ) (o : Options) (all : o ≡ all_on) (value : input ≡ read) (bytes : IfSome known (λ i. read ≡ i)) where
   pub input_known : IsInputOf o input → IfSome known IsInput
   input_known h = of_input known read IsInput bytes (subst (λ (b : List ℕ). IsInput b) value (subst (λ (p : Options). IsInputOf p input) all h))
 
-  pub no_object_known : IsNoObject o input → IfSome known (IsNoObject all_on)
-  no_object_known h = of_input known read (IsNoObject all_on) bytes (subst (λ (b : List ℕ). IsNoObject all_on b) value (subst (λ (p : Options). IsNoObject p input) all h))
+  pub puts_known : (r q : Request) → words_of r ≡ words_of q → (a b : Option (List ℕ)) (text : List ℕ) → IsLeft o r input text → (IsTrue (writes r) → Appends a b text) → IsTrue (writes q) → IfSome known (Puts q a b)
+  puts_known r q e a b text left put writing =
+      let there : IsLeft all_on r read text = subst (λ (i : List ℕ). IsLeft all_on r i text) value (subst (λ (p : Options). IsLeft p r input text) all left) in
+      let same = same_request r q e in
+      of_input known read (Puts q a b) bytes (text, subst (λ (p : Request). IsLeft all_on p read text) same there, put (subst (λ (p : Request). IsTrue (writes p)) (sym same) writing))
 
-  module _ (a b : Option (List ℕ)) (text : List ℕ) (command : Command) (left : IsLeft o command input text) where
-    pub printed_known : command ≡ Print → Appends a b text → IfSome known (Appends a b)
-    printed_known is put =
-        let same : text ≡ input = subst (λ (c : Command). IsLeft o c input text) is left in
-        of_input known read (Appends a b) bytes (subst (λ (l : List ℕ). Appends a b l) (same ∙ value) put)
-
-    pub removed_known : (name again : Bor (List ℕ)) → command ≡ Remove name → name.now ≡ again.now → Appends a b text → IfSome known (PutsWithout (chars again.now) a b)
-    removed_known name again is same put =
-        let without : IsWithoutFirst o (chars name.now) input text = subst (λ (c : Command). IsLeft o c input text) is left in
-        let taken : IsWithoutFirst all_on (chars again.now) input text = subst (λ (n : List ℕ). IsWithoutFirst all_on (chars n) input text) same (subst (λ (p : Options). IsWithoutFirst p (chars name.now) input text) all without) in
-        of_input known read (PutsWithout (chars again.now) a b) bytes (subst (λ (l : List ℕ). PutsWithout (chars again.now) a b l) value (text, taken, put))
-
--- what was written last ends the run
-module _ {P : Type 0} where
-  pub ok_so : {Q : Type 0} (r : Result (Unit {0}) Fault) → (Q → P) → OnOk r Q → OnOk r P
-  ok_so (Ok x) f h = f h
-  ok_so (Err e) f h = tt
-
-  pub ok_always : {T : Type 0} (r : Result T Fault) → P → OnOk r P
-  ok_always (Ok x) h = h
-  ok_always (Err e) h = tt
-
--- what a refusal of memory is told of
-pub memory_told : {T : Type 0} (o : Options) (input : List ℕ) (r : Result T Fault) → IfErr r (λ f. f ≡ Edit OutOfMemory) → IfErr r (IsFaultOn o input)
-memory_told o input (Ok x) is = tt
-memory_told o input (Err e) is = subst (λ (f : Fault). IsFaultOn o input f) (sym is) tt
-
-pub ends_written : (r : Result (Unit {0}) Fault) → OnErr r (IsErrOf r Write) → IfErr r EndsRun
-ends_written (Ok x) cause = tt
-ends_written (Err e) cause = subst EndsRun (sym (fault_of e Write cause)) tt
-
-pub kept_unless : {P : Type 0} (r : Result (Unit {0}) Fault) → OnErr r (IsErrOf r Write) → OnOk r P → ¬ (IsErrOf r Write) → P
-kept_unless (Ok x) cause kept other = kept
-kept_unless (Err e) cause kept other = absurd (other cause)
-
-pub unwritten_unless : (P : Type 0) (r : Result (Unit {0}) Fault) → OnErr r (IsErrOf r Write) → OnErr r (¬ (IsErrOf r Write) → P)
-unwritten_unless P (Ok x) cause = tt
-unwritten_unless P (Err e) cause = λ other. absurd (other cause)
+-- what holds anyway
+pub ok_always : {T P : Type 0} (r : Result T Fault) → P → OnOk r P
+ok_always (Ok x) h = h
+ok_always (Err e) h = tt

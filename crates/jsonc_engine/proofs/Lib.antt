@@ -1,4 +1,6 @@
 mod Reading
 mod Removing
-mod Removals
+mod Arguments
+mod Making
+mod Changes
 mod Ending

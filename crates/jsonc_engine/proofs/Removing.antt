@@ -62,7 +62,7 @@ read_object content.object n x e = (refl, ap (number_or n) e)
 read_object _ n x e = let wrong : false ≡ true = ap is_read e in cc
 
 module _ (ns : List Node) where
-  object_read : (w : Option ℕ) (x : CstObject) → object_if (typed_if ns w) ≡ Some x → (w ≡ Some x.number) × (content_at ns x.number ≡ object)
+  pub object_read : (w : Option ℕ) (x : CstObject) → object_if (typed_if ns w) ≡ Some x → (w ≡ Some x.number) × (content_at ns x.number ≡ object)
   unfolding is_read
   object_read None x e = let wrong : false ≡ true = ap is_read e in cc
   object_read (Some n) x e =
@@ -95,6 +95,10 @@ module _ (ns : List Node) where
   first_element v _ _ names.none = tt
   first_element v _ _ (names.here {n = n} {rest = rest} is) = (0, ap (λ l. slice_get l 0) (taken (is_element_at ns) n rest (ap is_element is.0)))
   first_element v _ _ (names.later {n = n} {rest = rest} {found = found} other f) = one_later n rest found (first_element v rest found f)
+
+  pub found_element : (v : List ℕ) (c n : ℕ) → FirstInObject ns c v (Some n) → (i : ℕ) × IsElementOf ns c i n
+  unfolding Found
+  found_element v c n first = first_element v (children_at ns c) (Some n) first
 
   -- where a row holds a value, an element is in it
   holds_one : (o : Options) (x : Plain) (xs : List ℕ) (row : OrderedTree) → Shows ns xs row → HoldsValue o row x → find (is_element_at ns) xs ≡ None → ⊥
@@ -149,8 +153,7 @@ module _ (o : Options) (old new : List Node) (tree : IsTree old) (name : List �
 
   module _ (n : ℕ) (first : FirstInObject old c name (Some n)) where
     element : (i : ℕ) × IsElementOf old c i n
-    unfolding Found
-    element = first_element old name (children_at old c) (Some n) first
+    element = found_element old name c n first
 
     -- else the first of them does
     pub one_loses : IsElementGone o old new n → LosesFirst o name old new
@@ -177,3 +180,7 @@ module _ (o : Options) (old new : List Node) (tree : IsTree old) (name : List �
 module _ {A : Type 0} where
   pub first_found : (d : CstRootNode A) (c : CstObject) (name : List ℕ) (found : Option CstObjectProp) (p : CstObjectProp) → IsFirstNamed d c name found → found ≡ Some p → FirstInObject (nodes_of d) c.number name (Some p.number)
   first_found d c name found p first is = subst (λ (f : Option CstObjectProp). IsFirstNamed d c name f) is first
+
+  -- or that none was
+  pub none_found : (d : CstRootNode A) (c : CstObject) (name : List ℕ) (found : Option CstObjectProp) → IsFirstNamed d c name found → found ≡ None → FirstInObject (nodes_of d) c.number name None
+  none_found d c name found first is = subst (λ (f : Option CstObjectProp). IsFirstNamed d c name f) is first

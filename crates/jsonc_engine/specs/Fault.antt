@@ -1,8 +1,11 @@
 -- What a fault prints, and what it says of the input.
-use Rattle.std.specs.Prelude.{ℕ, List, ◌++◌, codes, IsUtf8}
+use Rattle.std.specs.Prelude.{◌≡◌, ℕ, Bool, false, List, Some, ◌++◌, ◌⊎◌, chars, codes, IsUtf8}
+use Rattle.jsonc_run.specs.Shapes.{is_array, is_object}
+use Rattle.jsonc_engine.specs.Argument.{IsFaultOfArgument}
+use Rattle.jsonc_engine.specs.Command.{Request, set, append, remove}
 use Rattle.jsonc_engine.specs.Input.{IsRefusalOf}
 use Rattle.jsonc_engine.specs.Removal.{IsNoObject}
-use Rattle.jsonc_engine.specs.Parser.{Options, OutOfMemory, edit_error_text, error_text}
+use Rattle.jsonc_engine.specs.Parser.{IsDocument, Options, OutOfMemory, Plain, all_on, edit_error_text, error_text}
 use Rattle.jsonc_engine.specs.declared.fault.Fault.{Fault}
 use Rattle.jsonc_engine.specs.declared.fault.Fault.TheVariants.{Argument, Edit, Input, NoValue, NotArray, NotObject, NotUtf8, Read, Usage, Write}
 
@@ -19,27 +22,79 @@ fault_line Read = codes "jsonc: read failed"
 fault_line Write = codes "jsonc: write failed"
 fault_line Usage = codes "usage: jsonc check|print|set NAME JSON|append JSON|remove NAME|sort"
 
--- the fault is true of the input's bytes, and a run over them under the options can end with it
-abbrev pub IsFaultOn : Options → List ℕ → Fault → Type 0
-IsFaultOn o input (Input error) = IsRefusalOf o input error
-IsFaultOn o input NotObject = IsNoObject o input
-IsFaultOn o input NotUtf8 = ¬ (IsUtf8 input)
-IsFaultOn o input (Edit OutOfMemory) = Unit {0}
-IsFaultOn o input other = ⊥
+-- the text of these bytes is a document whose value is of another kind
+abbrev pub HasAnother : (Plain → Bool) → Options → List ℕ → Type 0
+HasAnother kind o bytes = (x : Plain) × IsDocument o (chars bytes) (Some x) × (kind x ≡ false)
+
+-- the command finds no object in the document: `set` makes one where the document has no value, and `remove` does not
+abbrev pub FindsNoObject : Options → Request → List ℕ → Type 0
+FindsNoObject o (set name json) input = HasAnother is_object o input
+FindsNoObject o (remove name) input = IsNoObject o input
+FindsNoObject o request input = ⊥
+
+-- it finds no array, and makes one where the document has no value
+abbrev pub FindsNoArray : Options → Request → List ℕ → Type 0
+FindsNoArray o (append json) input = HasAnother is_array o input
+FindsNoArray o request input = ⊥
+
+-- the fault is true of the input's bytes, and what a command makes of them under the options can end with it
+abbrev pub IsFaultOn : Options → Request → List ℕ → Fault → Type 0
+IsFaultOn o request input (Input error) = IsRefusalOf o input error
+IsFaultOn o request input NotObject = FindsNoObject o request input
+IsFaultOn o request input NotArray = FindsNoArray o request input
+IsFaultOn o request input NotUtf8 = ¬ (IsUtf8 input)
+IsFaultOn o request input (Edit OutOfMemory) = Unit {0}
+IsFaultOn o request input other = ⊥
+
+-- it is true of the command's JSON text, or of the input's bytes
+abbrev pub IsCause : Options → Request → List ℕ → Fault → Type 0
+IsCause o request input fault = IsFaultOfArgument request fault ⊎ IsFaultOn o request input fault
+
+-- bytes that are not UTF-8 are told as such, where the command's JSON text has a value
+abbrev pub IsNoText : Request → Fault → Type 0
+IsNoText request fault = IsFaultOfArgument request fault ⊎ (fault ≡ NotUtf8)
+
+-- what the fault of a run tells of the input's bytes is true
+abbrev pub TellsOfInput : Request → List ℕ → Fault → Type 0
+TellsOfInput request input Read = Unit {0}
+TellsOfInput request input Write = Unit {0}
+TellsOfInput request input (Argument error) = Unit {0}
+TellsOfInput request input NoValue = Unit {0}
+TellsOfInput request input other = IsFaultOn all_on request input other
+
+-- and what it tells of the command's JSON text
+abbrev pub TellsOfArgument : Request → Fault → Type 0
+TellsOfArgument request (Argument error) = IsFaultOfArgument request (Argument error)
+TellsOfArgument request NoValue = IsFaultOfArgument request NoValue
+TellsOfArgument request other = Unit {0}
 
 -- a run of the program can end with the fault
 abbrev pub EndsRun : Fault → Type 0
-EndsRun (Input error) = Unit {0}
 EndsRun (Edit OutOfMemory) = Unit {0}
-EndsRun NotObject = Unit {0}
-EndsRun NotUtf8 = Unit {0}
-EndsRun Read = Unit {0}
-EndsRun Write = Unit {0}
-EndsRun Usage = Unit {0}
-EndsRun other = ⊥
+EndsRun (Edit other) = ⊥
+EndsRun other = Unit {0}
+
+-- with these nothing has been read
+abbrev pub EndsUnread : Fault → Type 0
+EndsUnread (Argument error) = Unit {0}
+EndsUnread NoValue = Unit {0}
+EndsUnread Usage = Unit {0}
+EndsUnread other = ⊥
 
 -- taking a property out can end with the fault
 abbrev pub EndsRemoval : Fault → Type 0
 EndsRemoval NotObject = Unit {0}
 EndsRemoval (Edit OutOfMemory) = Unit {0}
 EndsRemoval other = ⊥
+
+-- setting one can end with it, where the text of these bytes is that of the document
+abbrev pub EndsSetting : Options → List ℕ → Fault → Type 0
+EndsSetting o bytes NotObject = HasAnother is_object o bytes
+EndsSetting o bytes (Edit OutOfMemory) = Unit {0}
+EndsSetting o bytes other = ⊥
+
+-- and so can appending an element
+abbrev pub EndsAppending : Options → List ℕ → Fault → Type 0
+EndsAppending o bytes NotArray = HasAnother is_array o bytes
+EndsAppending o bytes (Edit OutOfMemory) = Unit {0}
+EndsAppending o bytes other = ⊥

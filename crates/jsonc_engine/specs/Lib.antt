@@ -1,7 +1,11 @@
+pub mod Appending
+pub mod Argument
 pub mod Calls
+pub mod Change
 pub mod Command
 pub mod Fault
 pub mod Input
 pub mod Output
 pub mod Parser
 pub mod Removal
+pub mod Setting

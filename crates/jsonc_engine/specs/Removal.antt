@@ -5,7 +5,7 @@ use Rattle.jsonc_text.specs.Options.{Options}
 use Rattle.jsonc_text.specs.Plain as plain
 use Rattle.jsonc_text.specs.Plain.{Members}
 use Rattle.jsonc_tree.specs.Content.{object}
-use Rattle.jsonc_tree.specs.OrderedTree.{OrderedTree, ordered_tree, printed}
+use Rattle.jsonc_tree.specs.OrderedTree.{OrderedTree, ordered_tree}
 use Rattle.jsonc_tree.specs.Tree.{Node, content_at}
 use Rattle.jsonc_build.specs.Shape.{printed_text}
 use Rattle.jsonc_nodes.specs.Names.{FirstInObject}
@@ -37,15 +37,6 @@ LosesIfSound o name old new = SoundTree o (ordered_tree old 0) → LosesFirst o 
 -- what is printed is no document whose value is an object
 abbrev pub HasNoObject : Options → OrderedTree → Type 0
 HasNoObject o tree = (ms : Members) → IsDocument o (printed_text tree) (Some (plain.object ms)) → ⊥
-
--- the input is a document, and the output what is left of it without its first property of this name
-pub record IsWithoutFirst (o : Options) (name input output : List ℕ) : Type 0 where
-  pub old : List Node
-  pub new : List Node
-  pub reads : printed (ordered_tree old 0) ≡ input
-  pub sound : SoundTree o (ordered_tree old 0)
-  pub loses : LosesFirst o name old new
-  pub prints : printed (ordered_tree new 0) ≡ output
 
 -- the text of these bytes is no document whose value is an object
 abbrev pub IsNoObject : Options → List ℕ → Type 0

@@ -1,13 +1,21 @@
 //! Commands that change the document.
 ghost use Rattle.std.specs.Prelude.{◌≡◌, chars, IfErr, IsErrOf, OnErr, OnOk};
 ghost use Rattle.jsonc_text.specs.Options.{Options};
+ghost use Rattle.jsonc_input.specs.Views.{plain};
 ghost use Rattle.jsonc_laws.specs.SoundTrees.{SoundTree};
-ghost use Rattle.jsonc_cst.specs.Document.{nodes_of, tree_of};
-ghost use Rattle.jsonc_engine.specs.Fault.{EndsRemoval};
+ghost use Rattle.jsonc_cst.specs.Document.{nodes_of, printed_of, tree_of};
+ghost use Rattle.jsonc_engine.specs.Appending.{AppendsIfSound};
+ghost use Rattle.jsonc_engine.specs.Change.{IsChangeFor, MakesIfSound};
+ghost use Rattle.jsonc_engine.specs.Command.{Request};
+ghost use Rattle.jsonc_engine.specs.Fault.{EndsAppending, EndsRemoval, EndsSetting, IsFaultOn};
 ghost use Rattle.jsonc_engine.specs.Removal.{HasNoObject, LosesIfSound};
+ghost use Rattle.jsonc_engine.specs.Setting.{SetsIfSound};
 
+use crate::argument::Change;
 use crate::fault::Fault;
-use jsonc_parser::cst::{CstRootNode, Remove};
+use jsonc_parser::cst::{
+    CstInputValue, CstRootNode, InsertElement, InsertProperty, Remove, SetProperty, SetRoot,
+};
 use std::alloc::Allocator;
 
 /// Takes the first property of a name out of the document's object, with what leaves with it. Where the
@@ -15,7 +23,7 @@ use std::alloc::Allocator;
 ///
 /// It is `Fault::NotObject` where the document's value is no object, or there is none. Memory may be wanted
 /// for the decoded names and for a space, which is `Fault::Edit`. A refusal leaves the document as it was.
-pub(crate) fn remove_property<A: Allocator + Copy>(
+fn remove_property<A: Allocator + Copy>(
     document: &mut CstRootNode<A>,
     name: &str,
 ) -> Result<(), Fault>
@@ -36,5 +44,91 @@ pub(crate) fn remove_property<A: Allocator + Copy>(
     match property.remove(document) {
         Ok(()) => Ok(()),
         Err(error) => Err(Fault::Edit(error)),
+    }
+}
+
+/// Puts a value behind the last element of the document's array. A document without a value first gets an
+/// empty array.
+///
+/// It is `Fault::NotArray` where the document's value is another. Memory may be wanted, which is
+/// `Fault::Edit`; then a document without a value may have got the empty array.
+fn append_element<A: Allocator + Copy>(
+    document: &mut CstRootNode<A>,
+    value: CstInputValue<A>,
+) -> Result<(), Fault>
+    ensures appended { (o : Options)
+        → OnOk result (AppendsIfSound o (plain value) (nodes_of document.old) (nodes_of document.new)) }
+    ensures told { (o : Options)
+        → SoundTree o (tree_of document.old) → IfErr result (EndsAppending o (printed_of document.old)) }
+{
+    let _ = document.tree.len();
+    let array = match document.array_value_or_create() {
+        Ok(Some(array)) => array,
+        Ok(None) => return Err(Fault::NotArray),
+        Err(error) => return Err(Fault::Edit(error)),
+    };
+    let _ = document.tree.len();
+    match array.append(document, value) {
+        Ok(_) => Ok(()),
+        Err(error) => Err(Fault::Edit(error)),
+    }
+}
+
+/// Sets the value of the first property of a name in the document's object, or puts such a property behind its
+/// last one. A document without a value first gets an empty object.
+///
+/// It is `Fault::NotObject` where the document's value is another. Memory may be wanted, which is
+/// `Fault::Edit`; then a document without a value may have got the empty object.
+fn set_property<A: Allocator + Copy>(
+    document: &mut CstRootNode<A>,
+    name: &str,
+    value: CstInputValue<A>,
+) -> Result<(), Fault>
+    ensures set { (o : Options)
+        → OnOk result (SetsIfSound o (chars name.now) (plain value) (nodes_of document.old) (nodes_of document.new)) }
+    ensures told { (o : Options)
+        → SoundTree o (tree_of document.old) → IfErr result (EndsSetting o (printed_of document.old)) }
+{
+    let _ = document.tree.len();
+    let object = match document.object_value_or_create() {
+        Ok(Some(object)) => object,
+        Ok(None) => return Err(Fault::NotObject),
+        Err(error) => return Err(Fault::Edit(error)),
+    };
+    let _ = document.tree.len();
+    let found = match object.get(document, name) {
+        Ok(found) => found,
+        Err(error) => return Err(Fault::Edit(error)),
+    };
+    match found {
+        Some(property) => match property.set_value(document, value) {
+            Ok(_) => Ok(()),
+            Err(error) => Err(Fault::Edit(error)),
+        },
+        None => match object.append(document, name, value) {
+            Ok(_) => Ok(()),
+            Err(error) => Err(Fault::Edit(error)),
+        },
+    }
+}
+
+/// Makes a change of the document.
+pub(crate) fn make<A: Allocator + Copy>(
+    document: &mut CstRootNode<A>,
+    change: Change<'_, A>,
+) -> Result<(), Fault>
+    ensures made { (o : Options) (request : Request)
+        → IsChangeFor request change.entry
+        → OnOk result (MakesIfSound o request (nodes_of document.old) (nodes_of document.new)) }
+    ensures told { (o : Options) (request : Request)
+        → IsChangeFor request change.entry
+        → SoundTree o (tree_of document.old)
+        → IfErr result (IsFaultOn o request (printed_of document.old)) }
+{
+    match change {
+        Change::Stay => Ok(()),
+        Change::Set(name, value) => set_property(document, name, value),
+        Change::Append(value) => append_element(document, value),
+        Change::Remove(name) => remove_property(document, name),
     }
 }

@@ -1,18 +1,19 @@
 //! One run of the program, over any source and sink.
-ghost use Rattle.std.specs.Borrow.{Bor};
-ghost use Rattle.std.specs.Prelude.{◌≡◌, ◌↔◌, ◌<◌, ℕ, List, None, chars, vec_len, IfSome, IfOk, IfErr, OnOk, OnErr, IsErrOf, IsUtf8};
+ghost use Rattle.std.specs.Prelude.{◌≡◌, ◌↔◌, ◌<◌, IsTrue, false, vec_len, IfSome, IfOk, IfErr, OnOk, OnErr, IsErrOf, IsUtf8};
 ghost use Rattle.std.specs.Io.KnownBytes.{Appends};
 ghost use Rattle.jsonc_engine.specs.Calls.{one_more};
-ghost use Rattle.jsonc_engine.specs.Command.{Name};
-ghost use Rattle.jsonc_engine.specs.Fault.{EndsRun, IsFaultOn};
-ghost use Rattle.jsonc_engine.specs.Input.{IsInput, IsInputOf, IsRefusal};
-ghost use Rattle.jsonc_engine.specs.Output.{IsLeft, IsOutput, IsWritten, PutsWithout};
-ghost use Rattle.jsonc_engine.specs.Removal.{IsNoObject};
-ghost use Rattle.jsonc_engine.specs.Parser.{ParseError, all_on, parse_options, printed_of};
+ghost use Rattle.jsonc_engine.specs.Change.{IsChangeFor};
+ghost use Rattle.jsonc_engine.specs.Command.{Name, Request, request_of, writes};
+ghost use Rattle.jsonc_engine.specs.Fault.{EndsRun, EndsUnread, IsCause, IsFaultOn, IsNoText, TellsOfArgument};
+ghost use Rattle.jsonc_engine.specs.Fault.{TellsOfInput};
+ghost use Rattle.jsonc_engine.specs.Input.{IsInput, IsInputOf};
+ghost use Rattle.jsonc_engine.specs.Output.{IsLeft, IsOutput, IsWritten, Puts};
+ghost use Rattle.jsonc_engine.specs.Parser.{all_on, parse_options, printed_of};
 
+use crate::argument::{Change, change_of};
 use crate::calls::{Sink, Source};
 use crate::command::Command;
-use crate::edit::remove_property;
+use crate::edit::make;
 use crate::fault::Fault;
 use jsonc_parser::ParseOptions;
 use jsonc_parser::cst::{CstRootNode, EditError};
@@ -85,21 +86,43 @@ fn text_of<A: Allocator + Copy>(document: &CstRootNode<A>) -> Result<Option<Stri
     }
 }
 
-/// The document of the input's bytes, as the command leaves it, given what their text may hold beyond JSON.
+/// Writes the document where the command does.
+fn write_for<A: Allocator, K: Sink>(
+    sink: &mut K,
+    command: Command,
+    document: &CstRootNode<A>,
+) -> Result<(), Fault>
+    ensures written { OnOk result (IsTrue (writes (request_of command.entry))
+        → Appends (K.contents sink.old) (K.contents sink.new) (printed_of document.now)) }
+    ensures flushed { OnOk result (IsTrue (writes (request_of command.entry)) → K.is_flushed sink.new) }
+    ensures unwritten { writes (request_of command.entry) ≡ false → sink.new ≡ sink.old }
+    ensures kept { OnOk result (K.failed_writes sink.new ≡ K.failed_writes sink.old) }
+    ensures cause { OnErr result (IsErrOf result Fault.Write) }
+    ensures failed { OnErr result (K.failed_writes sink.new ≡ one_more (K.failed_writes sink.old)) }
+{
+    if !command.writes() {
+        return Ok(());
+    }
+    write_document(sink, document)
+}
+
+/// The document of the input's bytes, with a change made, given what their text may hold beyond JSON.
 ///
-/// The bytes may be refused as `Fault::NotUtf8` or `Fault::Input`, and what the command changes as its page says.
+/// The bytes may be refused as `Fault::NotUtf8` or `Fault::Input`, and the change as its page says.
 fn document_after<A: Allocator + Copy>(
     alloc: A,
     options: &ParseOptions,
-    command: Command,
+    change: Change<'_, A>,
     input: &[u8],
 ) -> Result<CstRootNode<A>, Fault>
-    ensures left { IfOk result (λ document.
-        IsLeft (parse_options options.now) command.entry input.now (printed_of document)) }
+    ensures left { (request : Request)
+        → IsChangeFor request change.entry
+        → IfOk result (λ document. IsLeft (parse_options options.now) request input.now (printed_of document)) }
     ensures accepted { OnOk result (IsInputOf (parse_options options.now) input.now) }
-    ensures not_utf8 { IsErrOf result Fault.NotUtf8 ↔ ¬ (IsUtf8 input.now) }
-    ensures no_object { IsErrOf result Fault.NotObject → IsNoObject (parse_options options.now) input.now }
-    ensures refused { IfErr result (IsFaultOn (parse_options options.now) input.now) }
+    ensures not_utf8 { ¬ (IsUtf8 input.now) → IfErr result (λ fault. fault ≡ Fault.NotUtf8) }
+    ensures refused { (request : Request)
+        → IsChangeFor request change.entry
+        → IfErr result (IsFaultOn (parse_options options.now) request input.now) }
 {
     let Ok(text) = str::from_utf8(input) else {
         return Err(Fault::NotUtf8);
@@ -108,41 +131,41 @@ fn document_after<A: Allocator + Copy>(
         Ok(document) => document,
         Err(error) => return Err(Fault::Input(error)),
     };
-    match command {
-        Command::Check => Ok(document),
-        Command::Print => Ok(document),
-        Command::Remove(name) => match remove_property(&mut document, name) {
-            Ok(()) => Ok(document),
-            Err(fault) => Err(fault),
-        },
+    match make(&mut document, change) {
+        Ok(()) => Ok(document),
+        Err(fault) => Err(fault),
     }
 }
 
 /// What the command writes, given the bytes of the input and what their text may hold beyond JSON, or `None` where
-/// it writes nothing.
+/// it writes nothing. The command's own JSON text may hold all that can be allowed.
 ///
-/// The bytes may be refused as `Fault::NotUtf8` or `Fault::Input`, and memory for what is written as `Fault::Edit`.
+/// That text may be refused as `Fault::Argument` or `Fault::NoValue`, the bytes as `Fault::NotUtf8` or
+/// `Fault::Input`, the command as `Fault::NotObject` or `Fault::NotArray`, and memory as `Fault::Edit`, or as the
+/// error of a parse.
 pub fn run_with<A: Allocator + Copy>(
     alloc: A,
     options: &ParseOptions,
     command: Command,
     input: &[u8],
 ) -> Result<Option<String<A>>, Fault>
-    ensures written { IfOk result (IsWritten (parse_options options.now) command.entry input.now) }
+    ensures written { IfOk result (IsWritten (parse_options options.now) (request_of command.entry) input.now) }
     ensures accepted { OnOk result (IsInputOf (parse_options options.now) input.now) }
-    ensures not_utf8 { IsErrOf result Fault.NotUtf8 ↔ ¬ (IsUtf8 input.now) }
-    ensures no_object { IsErrOf result Fault.NotObject → IsNoObject (parse_options options.now) input.now }
-    ensures refused { IfErr result (IsFaultOn (parse_options options.now) input.now) }
+    ensures not_utf8 { ¬ (IsUtf8 input.now) → IfErr result (IsNoText (request_of command.entry)) }
+    ensures refused { IfErr result (IsCause (parse_options options.now) (request_of command.entry) input.now) }
 {
-    let document = match document_after(alloc, options, command, input) {
+    let change = match change_of(alloc, command) {
+        Ok(change) => change,
+        Err(fault) => return Err(fault),
+    };
+    let document = match document_after(alloc, options, change, input) {
         Ok(document) => document,
         Err(fault) => return Err(fault),
     };
-    match command {
-        Command::Check => Ok(None),
-        Command::Print => text_of(&document),
-        Command::Remove(_) => text_of(&document),
+    if !command.writes() {
+        return Ok(None);
     }
+    text_of(&document)
 }
 
 /// The same under the default options, which allow comments and all else.
@@ -151,11 +174,10 @@ pub fn run_on<A: Allocator + Copy>(
     command: Command,
     input: &[u8],
 ) -> Result<Option<String<A>>, Fault>
-    ensures written { IfOk result (IsWritten all_on command.entry input.now) }
+    ensures written { IfOk result (IsWritten all_on (request_of command.entry) input.now) }
     ensures accepted { OnOk result (IsInput input.now) }
-    ensures not_utf8 { IsErrOf result Fault.NotUtf8 ↔ ¬ (IsUtf8 input.now) }
-    ensures no_object { IsErrOf result Fault.NotObject → IsNoObject all_on input.now }
-    ensures refused { IfErr result (IsFaultOn all_on input.now) }
+    ensures not_utf8 { ¬ (IsUtf8 input.now) → IfErr result (IsNoText (request_of command.entry)) }
+    ensures refused { IfErr result (IsCause all_on (request_of command.entry) input.now) }
 {
     run_with(alloc, &ParseOptions::default(), command, input)
 }
@@ -163,35 +185,33 @@ pub fn run_on<A: Allocator + Copy>(
 /// Does what the words ask: reads the source to its end, and writes what the command makes of it to the sink.
 ///
 /// Words that name no command are `Fault::Usage`, failed calls `Fault::Read` and `Fault::Write`; else the faults
-/// are those of `run_on`. The document is written piece by piece, which wants no memory.
+/// are those of `run_on`. A command's JSON text is read before the source is. The document is written piece by
+/// piece, which wants no memory.
 pub fn engine<A: Allocator + Copy, S: Source, K: Sink>(
     alloc: A,
     words: &[&str],
     source: &mut S,
     sink: &mut K,
 ) -> Result<(), Fault>
-    // Words that name no command are refused before anything is read, and no others.
-    ensures usage { IsErrOf result Fault.Usage ↔ ((command : Command) → ¬ (Name words.now command)) }
-    ensures unread { IsErrOf result Fault.Usage → source.new ≡ source.old }
+    // Words that name no command are refused, and no others, and they and a JSON text before anything is read.
+    ensures usage { IsErrOf result Fault.Usage ↔ ((request : Request) → ¬ (Name words.now request)) }
+    ensures unread { IfErr result (λ fault. EndsUnread fault → source.new ≡ source.old) }
 
     // What a success wrote.
-    ensures printed { OnOk result (Name words.now Command.Print
-        → IfSome (S.remaining source.old) (Appends (K.contents sink.old) (K.contents sink.new))) }
-    ensures flushed { OnOk result (Name words.now Command.Print → K.is_flushed sink.new) }
-    ensures removed { (name : Bor (List ℕ)) → OnOk result (Name words.now (Command.Remove name)
-        → IfSome (S.remaining source.old) (PutsWithout (chars name.now) (K.contents sink.old) (K.contents sink.new))) }
-    ensures removal_flushed { (name : Bor (List ℕ))
-        → OnOk result (Name words.now (Command.Remove name) → K.is_flushed sink.new) }
-    ensures checked { OnOk result (Name words.now Command.Check → sink.new ≡ sink.old) }
+    ensures written { (request : Request)
+        → OnOk result (Name words.now request → IsTrue (writes request)
+        → IfSome (S.remaining source.old) (Puts request (K.contents sink.old) (K.contents sink.new))) }
+    ensures flushed { (request : Request)
+        → OnOk result (Name words.now request → IsTrue (writes request) → K.is_flushed sink.new) }
+    ensures checked { (request : Request)
+        → OnOk result (Name words.now request → writes request ≡ false → sink.new ≡ sink.old) }
     ensures accepted { OnOk result (IfSome (S.remaining source.old) IsInput) }
 
     // The cause that a refusal names holds, and it names no other.
-    ensures no_object { IsErrOf result Fault.NotObject
-        → IfSome (S.remaining source.old) (IsNoObject all_on) }
-    ensures input { (error : ParseError) → IsErrOf result (Fault.Input error)
-        → IfSome (S.remaining source.old) (λ input. IsRefusal input error) }
-    ensures not_utf8 { IsErrOf result Fault.NotUtf8
-        → IfSome (S.remaining source.old) (λ input. ¬ (IsUtf8 input)) }
+    ensures refused { (request : Request)
+        → Name words.now request
+        → IfErr result (λ fault. IfSome (S.remaining source.old) (λ input. TellsOfInput request input fault)) }
+    ensures argument { (request : Request) → Name words.now request → IfErr result (TellsOfArgument request) }
     ensures read { IsErrOf result Fault.Read
         → S.failed_reads source.new ≡ one_more (S.failed_reads source.old) }
     ensures write { IsErrOf result Fault.Write
@@ -210,19 +230,15 @@ pub fn engine<A: Allocator + Copy, S: Source, K: Sink>(
     let Some(command) = Command::from_words(words) else {
         return Err(Fault::Usage);
     };
+    let change = match change_of(alloc, command) {
+        Ok(change) => change,
+        Err(fault) => return Err(fault),
+    };
     let input = read_whole(alloc, source)?;
-    let document = match document_after(
-        alloc,
-        &ParseOptions::default(),
-        command,
-        input.as_slice(),
-    ) {
+    let options = ParseOptions::default();
+    let document = match document_after(alloc, &options, change, input.as_slice()) {
         Ok(document) => document,
         Err(fault) => return Err(fault),
     };
-    match command {
-        Command::Check => Ok(()),
-        Command::Print => write_document(sink, &document),
-        Command::Remove(_) => write_document(sink, &document),
-    }
+    write_for(sink, command, &document)
 }

@@ -2,6 +2,7 @@
 //! name, and the bytes that are written or the fault that is printed.
 #![tactic(auto)]
 
+mod argument;
 pub mod calls;
 pub mod command;
 mod edit;

@@ -41,11 +41,14 @@ pub enum Call {
     Layout,
     BytesToBytes,
     Removal,
+    Appended,
+    Set,
+    SetFirst,
     WholeRun,
 }
 
 /// All of them, each with its name.
-pub const CALLS: [(Call, &str); 16] = [
+pub const CALLS: [(Call, &str); 19] = [
     (Call::Decode, "decode"),
     (Call::DecodeProvided, "decode provided"),
     (Call::Scan, "scan"),
@@ -61,6 +64,9 @@ pub const CALLS: [(Call, &str); 16] = [
     (Call::Layout, "layout"),
     (Call::BytesToBytes, "bytes to bytes"),
     (Call::Removal, "removal"),
+    (Call::Appended, "appended"),
+    (Call::Set, "set"),
+    (Call::SetFirst, "set first"),
     (Call::WholeRun, "whole run"),
 ];
 
@@ -72,6 +78,11 @@ const PLAIN: &str =
 const SETTINGS: &str = "{a: 1 /*c*/ \"b\\u0020\": [] \"\\u0062\": 2 d: 3}";
 
 const SETTINGS_WITHOUT: &str = "{a: 1 /*c*/ \"b\\u0020\": [] d: 3}";
+
+/// An array with a comment behind its last element, and with one more element.
+const COMMENT_INSIDE: &str = "[1 //c\n]";
+
+const COMMENT_BEFORE: &str = "[1, //c\n  2\n]";
 
 /// One with comments, an escape and looser spelling.
 const LOOSE: &str = "// one\n[{a: '\\x62', 0x1F: +.5, c: Infinity,}, /* two */ [NaN -1]]";
@@ -104,7 +115,10 @@ pub fn outcome_of<A: Allocator + Copy>(call: Call, alloc: A) -> Outcome {
         Call::MapChanges => changed_map(alloc),
         Call::Layout => laid_out(alloc),
         Call::BytesToBytes => bytes_to_bytes(alloc),
-        Call::Removal => removal(alloc),
+        Call::Removal => changed(alloc, Command::Remove("b"), SETTINGS, SETTINGS_WITHOUT),
+        Call::Appended => changed(alloc, Command::Append("2"), COMMENT_INSIDE, COMMENT_BEFORE),
+        Call::Set => changed(alloc, Command::Set("a", "1"), "{\"a\":0}", "{\"a\":1}"),
+        Call::SetFirst => changed(alloc, Command::Set("a", "1"), "", "{\n  \"a\": 1\n}\n"),
         Call::WholeRun => whole_run(alloc),
     }
 }
@@ -229,6 +243,7 @@ fn token_copy<A: Allocator + Copy>(alloc: A) -> Outcome {
 fn of_fault(fault: Fault) -> Outcome {
     match fault {
         Fault::Input(error) => Outcome::from(error),
+        Fault::Argument(error) => Outcome::from(error),
         Fault::Edit(error) => Outcome::from(error),
         _ => Outcome::Other,
     }
@@ -242,9 +257,9 @@ fn bytes_to_bytes<A: Allocator + Copy>(alloc: A) -> Outcome {
     }
 }
 
-fn removal<A: Allocator + Copy>(alloc: A) -> Outcome {
-    match run_on(alloc, Command::Remove("b"), SETTINGS.as_bytes()) {
-        Ok(Some(written)) => Outcome::of(written.as_str() == SETTINGS_WITHOUT),
+fn changed<A: Allocator + Copy>(alloc: A, command: Command, input: &str, wanted: &str) -> Outcome {
+    match run_on(alloc, command, input.as_bytes()) {
+        Ok(Some(written)) => Outcome::of(written.as_str() == wanted),
         Ok(None) => Outcome::Other,
         Err(fault) => of_fault(fault),
     }

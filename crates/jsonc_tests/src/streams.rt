@@ -64,10 +64,31 @@ impl Write for Writer {
     }
 }
 
+/// A command over a text, what it writes, and how many writes and a flush that takes.
+struct Case {
+    words: &'static [&'static str],
+    written: &'static [u8],
+    writes: usize,
+}
+
 const TEXT: &[u8] = b"[1, [2], \"three\", {\"four\": 5}]";
 
-/// A run of `print`, with so many reads and so many writes and flushes that succeed, and what it wrote.
-fn run(alloc: Global, reads: usize, writes: usize) -> (Result<(), Fault>, Vec<u8>) {
+// The text has 19 pieces, of which the two strings take two writes each.
+const PRINT: Case = Case {
+    words: &["print"],
+    written: TEXT,
+    writes: 22,
+};
+
+// One element more is three pieces more.
+const APPEND: Case = Case {
+    words: &["append", "6"],
+    written: b"[1, [2], \"three\", {\"four\": 5}, 6]",
+    writes: 25,
+};
+
+/// A run of a command, with so many reads and so many writes and flushes that succeed, and what it wrote.
+fn run(alloc: Global, words: &[&str], reads: usize, writes: usize) -> (Result<(), Fault>, Vec<u8>) {
     let mut source = FromReader::new(Reader {
         rest: TEXT,
         calls: Calls { left: reads },
@@ -76,7 +97,7 @@ fn run(alloc: Global, reads: usize, writes: usize) -> (Result<(), Fault>, Vec<u8
         bytes: Vec::new(alloc),
         calls: Calls { left: writes },
     });
-    let ended = engine(alloc, &["print"], &mut source, &mut sink);
+    let ended = engine(alloc, words, &mut source, &mut sink);
     let ToWriter { writer, .. } = sink;
     (ended, writer.bytes)
 }
@@ -90,43 +111,71 @@ fn is_told(ended: &Result<(), Fault>, line: &str) -> bool {
 }
 
 /// After so many reads the next one fails, and nothing is written.
-fn fails_to_read(alloc: Global, reads: usize) -> bool {
-    let (ended, written) = run(alloc, reads, 100);
+fn fails_to_read(alloc: Global, case: &Case, reads: usize) -> bool {
+    let (ended, written) = run(alloc, case.words, reads, 100);
     is_told(&ended, "jsonc: read failed") && written.is_empty()
 }
 
-/// After so many writes the next one fails, and what they took is a beginning of the text.
-fn fails_to_write(alloc: Global, writes: usize) -> bool {
-    let (ended, written) = run(alloc, 100, writes);
+/// After so many writes the next one fails, and what they took is a beginning of what is to be written.
+fn fails_to_write(alloc: Global, case: &Case, writes: usize) -> bool {
+    let (ended, written) = run(alloc, case.words, 100, writes);
     let count = written.len();
-    let is_beginning = TEXT.starts_with(written.as_slice());
+    let is_beginning = case.written.starts_with(written.as_slice());
     is_told(&ended, "jsonc: write failed")
         && is_beginning
         && count >= writes
         && count <= writes * STEP
 }
 
-fn writes_all(alloc: Global, reads: usize, writes: usize) -> bool {
-    let (ended, written) = run(alloc, reads, writes);
-    ended.is_ok() && written.as_slice() == TEXT
+fn writes_all(alloc: Global, case: &Case, reads: usize, writes: usize) -> bool {
+    let (ended, written) = run(alloc, case.words, reads, writes);
+    ended.is_ok() && written.as_slice() == case.written
 }
 
 #[test]
 fn a_failed_read_leaves_nothing_written(rt: HostRuntime) -> Result<(), Fail> {
     // Seven reads bring the text: six of five bytes, and one that finds the end.
     for reads in 0..7usize {
-        assert!(rt; fails_to_read(rt.alloc(), reads), "after {reads} reads");
+        assert!(rt;
+            fails_to_read(rt.alloc(), &PRINT, reads),
+            "print after {reads} reads"
+        );
+        assert!(rt;
+            fails_to_read(rt.alloc(), &APPEND, reads),
+            "append after {reads} reads"
+        );
     }
-    assert!(rt; writes_all(rt.alloc(), 7, 100));
+    assert!(rt; writes_all(rt.alloc(), &PRINT, 7, 100));
+    assert!(rt; writes_all(rt.alloc(), &APPEND, 7, 100));
     Ok(())
 }
 
 #[test]
 fn a_failed_write_leaves_a_beginning(rt: HostRuntime) -> Result<(), Fail> {
-    // The text has 19 pieces, of which the two strings take two writes each, and then it is flushed.
-    for writes in 0..22usize {
-        assert!(rt; fails_to_write(rt.alloc(), writes), "after {writes} writes");
+    for writes in 0..PRINT.writes {
+        assert!(rt;
+            fails_to_write(rt.alloc(), &PRINT, writes),
+            "print after {writes} writes"
+        );
     }
-    assert!(rt; writes_all(rt.alloc(), 100, 22));
+    for writes in 0..APPEND.writes {
+        assert!(rt;
+            fails_to_write(rt.alloc(), &APPEND, writes),
+            "append after {writes} writes"
+        );
+    }
+    assert!(rt; writes_all(rt.alloc(), &PRINT, 100, PRINT.writes));
+    assert!(rt; writes_all(rt.alloc(), &APPEND, 100, APPEND.writes));
+    Ok(())
+}
+
+#[test]
+fn a_json_text_is_read_before_the_input(rt: HostRuntime) -> Result<(), Fail> {
+    // The first read would fail.
+    let (ended, written) = run(rt.alloc(), &["set", "a", "@"], 0, 100);
+    let line = "jsonc: argument: Unexpected token on line 1 column 1";
+    assert!(rt; is_told(&ended, line) && written.is_empty());
+    let (ended, written) = run(rt.alloc(), &["append", "/**/"], 0, 100);
+    assert!(rt; is_told(&ended, "jsonc: argument: no value") && written.is_empty());
     Ok(())
 }

@@ -7,12 +7,12 @@ use Rattle.jsonc_typed.proofs.NamedIn.{put_element, put_for_memory, put_others, 
 use Rattle.jsonc_typed.proofs.Kept.{nodes_stay, stay_kept}
 use Rattle.jsonc_typed.proofs.members.insert_at.Goals as goal
 
-pub property_at-requires-there : goal.property_at-requires-there
-property_at-requires-there g c =
+pub property_at-requires-clause-there : goal.property_at-requires-clause-there
+property_at-requires-clause-there g c =
     put_there c.args.tree.now.nodes c.insert_property.new.tree.nodes c.args.object c.args.index (chars c.args.name.now) (plain c.args.value.now) c.in-Ok.property c.len.ensures.tree c.requires.there c.in-Ok.ensures.brackets c.in-Ok.ensures.put
 
-pub property_at-requires-property : goal.property_at-requires-property
-property_at-requires-property g c =
+pub property_at-requires-clause-property : goal.property_at-requires-clause-property
+property_at-requires-clause-property g c =
     put_property c.args.tree.now.nodes c.insert_property.new.tree.nodes c.args.object c.args.index (chars c.args.name.now) (plain c.args.value.now) c.in-Ok.property c.len.ensures.tree c.requires.there c.in-Ok.ensures.brackets c.in-Ok.ensures.put
 
 pub returns-in-Ok-clause-put : goal.returns-in-Ok-clause-put

@@ -26,3 +26,7 @@ pub returns-clause-marked_so_far : goal.returns-clause-marked_so_far
 returns-clause-marked_so_far g c =
     λ o. some_marked o c.args.doc.now.tree.nodes c.run-done.new.tree.nodes (operations_of c.args.edits.items) c.len.ensures.tree c.run-done.result
     (subst (λ (l : List Operation). IfErr c.run-done.result (λ e. StopsAt c.args.doc.now.tree.nodes l e.0 e.1 c.run-done.new.tree.nodes)) (ap operations_of c.deref.ensures.value) c.run-done.ensures.stopped)
+
+pub returns-clause-stopped : goal.returns-clause-stopped
+returns-clause-stopped g c =
+    subst (λ (l : List Operation). IfErr c.run-done.result (λ e. StopsAt c.args.doc.now.tree.nodes l e.0 e.1 c.run-done.new.tree.nodes)) (ap operations_of c.deref.ensures.value) c.run-done.ensures.stopped

@@ -1,0 +1,156 @@
+-- The value of a command's JSON text may be written into any document that allows all.
+use Rattle.std.proofs.Common.{◌≡◌, ℕ, Bool, true, false, cond, List, chars, Option, Some, None, option_map, refl, sym, ap, subst, ◌∙◌}
+use Rattle.std.specs.Borrow.{Bor}
+use Rattle.std.specs.Str.{bytes_eq}
+use Rattle.jsonc_text.specs.Options.{Options, all_on}
+use Rattle.jsonc_text.specs.Plain.{Plain, Items, no_items, item, Members, no_members, member, collapse, collapse_items, collapse_members, last_of, without}
+use Rattle.jsonc_text.specs.Words.{Keyword}
+use Rattle.jsonc_text.specs.Lexemes.{LexemeKind, Lexeme}
+use Rattle.jsonc_text.specs.Numbers.{Number}
+use Rattle.jsonc_text.specs.Grammar as grammar
+use Rattle.jsonc_text.specs.Grammar.{IsValue, AreElements, AreProperties, IsProperty, IsDocument, literal_value}
+use Rattle.jsonc_text.proofs.NumberFrames.{number_whole}
+use Rattle.jsonc_tree.specs.OrderedTree.{OrderedTree}
+use Rattle.jsonc_tree.specs.Values.{DocumentValueOf}
+use Rattle.jsonc_build.specs.Shape.{DocumentShaped}
+use Rattle.jsonc_input.specs.Views.{plain}
+use Rattle.jsonc_input.specs.declared.value.CstInputValue.{CstInputValue}
+use Rattle.jsonc_from_input.proofs.Texts.{of_texts}
+use Rattle.jsonc_to_input.specs.Taken.{IsTaken}
+use Rattle.jsonc_edit.specs.Writing.{IsOfNumbers, AreOfNumbers, AreNamedOfNumbers}
+use Rattle.jsonc_cst.proofs.Colons.{taken_is_the_value}
+use Rattle.jsonc_engine.specs.declared.argument.Change.TheVariants.{Append, Remove, Set, Stay}
+use Rattle.jsonc_engine.specs.declared.command.Command.{Command}
+use Rattle.jsonc_engine.specs.declared.command.Command.TheVariants as command
+use Rattle.jsonc_engine.specs.declared.fault.Fault.{Fault}
+use Rattle.jsonc_engine.specs.Argument.{IsArgument, IsFaultOfArgument, IsFaultOfJson}
+use Rattle.jsonc_engine.specs.Change.{IsChangeFor, for_check, for_print, for_set, for_append, for_remove}
+use Rattle.jsonc_engine.specs.Command.{request_of}
+
+module _ (o : Options) where
+  -- a literal's number is one
+  literal_numbers : (k : LexemeKind) (t r : List ℕ) (v : Plain) → Lexeme o k t r → literal_value k ≡ Some v → IsOfNumbers o v
+  literal_numbers (LexemeKind.string s) t r v l e = let same : Plain.string s ≡ v = cc in subst (IsOfNumbers o) same tt
+  literal_numbers (LexemeKind.number s) t r v l e =
+      let same : Plain.number s ≡ v = cc in subst (IsOfNumbers o) same (number_whole s r (subst (λ (x : List ℕ). Number o x r) l.0 l.1))
+  literal_numbers (LexemeKind.keyword (Keyword.boolean b)) t r v l e = let same : Plain.boolean b ≡ v = cc in subst (IsOfNumbers o) same tt
+  literal_numbers (LexemeKind.keyword Keyword.null) t r v l e = let same : Plain.null ≡ v = cc in subst (IsOfNumbers o) same tt
+  literal_numbers (LexemeKind.word s) t r v l e = cc
+  literal_numbers (LexemeKind.punctuation c) t r v l e = cc
+
+  -- each number in the value of a text is one
+  mutual
+    value_numbers : {v : Plain} {t r : List ℕ} → IsValue o t v r → IsOfNumbers o v
+    value_numbers {v} {t} {r} (grammar.literal k l e) = literal_numbers k t r v l e
+    value_numbers (grammar.empty_array g) = tt
+    value_numbers (grammar.array g e) = elements_numbers e
+    value_numbers (grammar.empty_object g) = tt
+    value_numbers (grammar.object g e) = properties_numbers e
+
+    elements_numbers : {vs : Items} {t r : List ℕ} → AreElements o t vs r → AreOfNumbers o vs
+    elements_numbers (grammar.last_element v c) = (value_numbers v, tt)
+    elements_numbers (grammar.element v s e) = (value_numbers v, elements_numbers e)
+
+    properties_numbers : {ms : Members} {t r : List ℕ} → AreProperties o t ms r → AreNamedOfNumbers o ms
+    properties_numbers (grammar.last_property p c) = (property_numbers p, tt)
+    properties_numbers (grammar.property p s e) = (property_numbers p, properties_numbers e)
+
+    property_numbers : {name : List ℕ} {v : Plain} {t r : List ℕ} → IsProperty o t name v r → IsOfNumbers o v
+    property_numbers (grammar.named n g h v) = value_numbers v
+
+  -- so it is where of equal names the last value stands at the first place
+  one_of : (b : Bool) (v w : Plain) → IsOfNumbers o v → IsOfNumbers o w → IsOfNumbers o (cond b v w)
+  one_of true v w h g = h
+  one_of false v w h g = g
+
+  one_list : (b : Bool) (ms ns : Members) → AreNamedOfNumbers o ms → AreNamedOfNumbers o ns → AreNamedOfNumbers o (cond b ms ns)
+  one_list true ms ns h g = h
+  one_list false ms ns h g = g
+
+  last_numbers : (name : List ℕ) (v : Plain) (ms : Members) → IsOfNumbers o v → AreNamedOfNumbers o ms → IsOfNumbers o (last_of name v ms)
+  last_numbers name v no_members h g = h
+  last_numbers name v (member n w ms) h g = last_numbers name (cond (bytes_eq n name) w v) ms (one_of (bytes_eq n name) w v g.0 h) g.1
+
+  without_numbers : (name : List ℕ) (ms : Members) → AreNamedOfNumbers o ms → AreNamedOfNumbers o (without name ms)
+  without_numbers name no_members g = tt
+  without_numbers name (member n w ms) g =
+      let rest = without_numbers name ms g.1 in
+      one_list (bytes_eq n name) (without name ms) (member n w (without name ms)) rest (g.0, rest)
+
+  mutual
+    collapsed_numbers : (v : Plain) → IsOfNumbers o v → IsOfNumbers o (collapse v)
+    collapsed_numbers Plain.null h = tt
+    collapsed_numbers (Plain.boolean b) h = tt
+    collapsed_numbers (Plain.number s) h = h
+    collapsed_numbers (Plain.string s) h = tt
+    collapsed_numbers (Plain.array vs) h = collapsed_items vs h
+    collapsed_numbers (Plain.object ms) h = collapsed_members ms h
+
+    collapsed_items : (vs : Items) → AreOfNumbers o vs → AreOfNumbers o (collapse_items vs)
+    collapsed_items no_items h = tt
+    collapsed_items (item v vs) h = (collapsed_numbers v h.0, collapsed_items vs h.1)
+
+    collapsed_members : (ms : Members) → AreNamedOfNumbers o ms → AreNamedOfNumbers o (collapse_members ms)
+    collapsed_members no_members h = tt
+    collapsed_members (member name v ms) h =
+        let rest = collapsed_members ms h.1 in
+        (last_numbers name (collapse v) (collapse_members ms) (collapsed_numbers v h.0) rest, without_numbers name (collapse_members ms) rest)
+
+  document_numbers : (t : List ℕ) (v : Plain) → IsDocument o t (Some v) → IsOfNumbers o v
+  document_numbers t v d = value_numbers d.3
+
+-- what the document of a JSON text tells of its value
+module _ {A : Type 0} (json : List ℕ) (o : Options) (all : o ≡ all_on) (tree : OrderedTree) (shaped : DocumentShaped o tree)
+    (value : (w : Option Plain) × IsDocument o (chars json) w × DocumentValueOf o tree w) where
+  told : (taken : Option (CstInputValue A)) → IsTaken tree taken → option_map plain taken ≡ option_map collapse value.0
+  told taken is = taken_is_the_value o tree value.0 taken shaped value.2 is
+
+  argument_by : (w : Option Plain) → IsDocument o (chars json) w → (v : CstInputValue A) → option_map plain (Some v) ≡ option_map collapse w → IsArgument json (plain v)
+  argument_by None d v e = cc
+  argument_by (Some x) d v e =
+      let same : plain v ≡ collapse x = cc in
+      let document : IsDocument all_on (chars json) (Some x) = subst (λ (p : Options). IsDocument p (chars json) (Some x)) all d in
+      record {
+        value = x;
+        document = document;
+        collapsed = same;
+        writable = record {
+          texts = of_texts A v;
+          numbers = subst (IsOfNumbers all_on) (sym same) (collapsed_numbers all_on x (document_numbers all_on (chars json) x document));
+        };
+      }
+
+  pub argument_is : (taken : Option (CstInputValue A)) (v : CstInputValue A) → taken ≡ Some v → IsTaken tree taken → IsArgument json (plain v)
+  argument_is taken v e is = argument_by value.0 value.1 v (ap (option_map plain) (sym e) ∙ told taken is)
+
+  valueless_by : (w : Option Plain) → IsDocument o (chars json) w → (taken : Option (CstInputValue A)) → taken ≡ None → option_map plain taken ≡ option_map collapse w
+      → IsDocument all_on (chars json) None
+  valueless_by None d taken e h = subst (λ (p : Options). IsDocument p (chars json) None) all d
+  valueless_by (Some x) d taken e h = let wrong : None ≡ Some (collapse x) = sym (ap (option_map plain) e) ∙ h in cc
+
+  pub no_argument : (taken : Option (CstInputValue A)) → taken ≡ None → IsTaken tree taken → IsDocument all_on (chars json) None
+  no_argument taken e is = valueless_by value.0 value.1 taken e (told taken is)
+
+-- what a command asks for
+module _ {A : Type 0} (c : Command) where
+  pub check_change : c ≡ command.Check → IsChangeFor {A = A} (request_of c) Stay
+  check_change is = subst (λ (x : Command). IsChangeFor {A = A} (request_of x) Stay) (sym is) for_check
+
+  pub print_change : c ≡ command.Print → IsChangeFor {A = A} (request_of c) Stay
+  print_change is = subst (λ (x : Command). IsChangeFor {A = A} (request_of x) Stay) (sym is) for_print
+
+  pub set_change : (name json : Bor (List ℕ)) (value : CstInputValue A) → c ≡ command.Set name json → IsArgument json.now (plain value) → IsChangeFor (request_of c) (Set name value)
+  set_change name json value is h = subst (λ (x : Command). IsChangeFor (request_of x) (Set name value)) (sym is) (for_set name json.now value h)
+
+  pub append_change : (json : Bor (List ℕ)) (value : CstInputValue A) → c ≡ command.Append json → IsArgument json.now (plain value) → IsChangeFor (request_of c) (Append value)
+  append_change json value is h = subst (λ (x : Command). IsChangeFor (request_of x) (Append value)) (sym is) (for_append json.now value h)
+
+  pub remove_change : (name : Bor (List ℕ)) → c ≡ command.Remove name → IsChangeFor {A = A} (request_of c) (Remove name)
+  remove_change name is = subst (λ (x : Command). IsChangeFor {A = A} (request_of x) (Remove name)) (sym is) (for_remove name)
+
+-- and what its JSON text is refused for
+pub set_fault : (c : Command) (name json : Bor (List ℕ)) (f : Fault) → c ≡ command.Set name json → IsFaultOfJson json.now f → IsFaultOfArgument (request_of c) f
+set_fault c name json f is h = subst (λ (x : Command). IsFaultOfArgument (request_of x) f) (sym is) (json.now, refl, h)
+
+pub append_fault : (c : Command) (json : Bor (List ℕ)) (f : Fault) → c ≡ command.Append json → IsFaultOfJson json.now f → IsFaultOfArgument (request_of c) f
+append_fault c json f is h = subst (λ (x : Command). IsFaultOfArgument (request_of x) f) (sym is) (json.now, refl, h)

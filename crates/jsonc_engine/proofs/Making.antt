@@ -1,0 +1,209 @@
+-- The array or object that a document has, or that comes first, and what is put into it.
+use Rattle.std.proofs.Common.{◌≡◌, ℕ, Bool, true, false, List, [], ◌∷◌, length, Option, Some, None, IfSome, if◌then◌else◌, refl, sym, ap, subst, ◌∙◌}
+use Rattle.jsonc_text.specs.Options.{Options}
+use Rattle.jsonc_text.specs.Plain.{Plain}
+use Rattle.jsonc_tree.specs.Content as content
+use Rattle.jsonc_tree.specs.Content.{Content, array, object, property}
+use Rattle.jsonc_tree.specs.OrderedTree.{ordered_tree, printed}
+use Rattle.jsonc_tree.specs.Tree.{Node, content_at, children_at, IsTree}
+use Rattle.jsonc_nodes.specs.Names.{FirstNamed, FirstInObject}
+use Rattle.jsonc_nodes.specs.Names as names
+use Rattle.jsonc_nodes.specs.Properties.{value_at}
+use Rattle.jsonc_nodes.specs.Siblings.{elements_at}
+use Rattle.jsonc_from_input.specs.Texts.{IsCharacters}
+use Rattle.jsonc_laws.specs.SoundTrees.{SoundTree}
+use Rattle.jsonc_edit.specs.Paths.{IsAt, IsElementOf}
+use Rattle.jsonc_edit.specs.Writing.{IsWritable}
+use Rattle.jsonc_edit.specs.declared.error.EditError.{EditError}
+use Rattle.jsonc_edit.specs.declared.error.EditError.TheVariants.{OutOfMemory}
+use Rattle.jsonc_edit.proofs.FittingFinds.{none_is_some}
+use Rattle.jsonc_set.specs.Kinds.{FoundOrCreated}
+use Rattle.jsonc_run.specs.Places.{IsPropertyOf, a_property}
+use Rattle.jsonc_run.specs.Shapes.{has_shape, is_of, empty_of}
+use Rattle.jsonc_run.specs.declared.edit.Shape.{Shape}
+use Rattle.jsonc_run.specs.declared.edit.Shape.TheVariants.{Object, Array}
+use Rattle.jsonc_run.proofs.Ensured.{held}
+use Rattle.jsonc_run.proofs.PropertyValues.{value_held}
+use Rattle.jsonc_run.proofs.Roots.{value_stands}
+use Rattle.jsonc_cst.specs.declared.cst.node.CstArray.{CstArray}
+use Rattle.jsonc_cst.specs.declared.cst.node.CstObject.{CstObject}
+use Rattle.jsonc_cst.specs.declared.cst.node.CstNode.{CstNode}
+use Rattle.jsonc_cst.specs.Nodes.{array_node, number_of, object_node, typed}
+use Rattle.jsonc_cst.specs.Readings.{array_if, object_if, typed_if}
+use Rattle.jsonc_typed.specs.Inserting.{PutsAtItsPath, PutsButForMemory}
+use Rattle.jsonc_typed.specs.Members.{PutsNamedAtItsPath}
+use Rattle.jsonc_typed.specs.Setting.{FindsOrCreatesArray, FindsOrCreatesObject, FirstArrayAround, FirstArrayWritten, FirstObjectAround, FirstObjectWritten, FirstOrSame}
+use Rattle.jsonc_typed.specs.Values.{HeldIsMarked, HeldIsWritten}
+use Rattle.jsonc_engine.specs.declared.fault.Fault.TheVariants.{Edit, NotArray, NotObject}
+use Rattle.jsonc_engine.specs.Appending.{AppendsLast}
+use Rattle.jsonc_engine.specs.Fault.{EndsAppending, EndsSetting, HasAnother}
+use Rattle.jsonc_engine.specs.Setting.{HasSet, SetsFirst, SetOrAppended}
+use Rattle.jsonc_engine.proofs.Removing.{object_read, found_element}
+
+-- a node that reads as an array is one
+number_or : ℕ → Option CstArray → ℕ
+number_or n None = n
+number_or n (Some x) = x.number
+
+is_read : Option CstArray → Bool
+is_read None = false
+is_read (Some x) = true
+
+read_array : (c : Content) (n : ℕ) (x : CstArray) → array_if (Some (typed c n)) ≡ Some x → (c ≡ array) × (n ≡ x.number)
+unfolding number_or is_read
+read_array content.array n x e = (refl, ap (number_or n) e)
+read_array _ n x e = let wrong : false ≡ true = ap is_read e in cc
+
+pub array_read : (ns : List Node) (w : Option ℕ) (x : CstArray) → array_if (typed_if ns w) ≡ Some x → (w ≡ Some x.number) × (content_at ns x.number ≡ array)
+unfolding is_read
+array_read ns None x e = let wrong : false ≡ true = ap is_read e in cc
+array_read ns (Some n) x e =
+    let is = read_array (content_at ns n) n x e in
+    (ap Some is.1, subst (λ m. content_at ns m ≡ array) is.1 is.0)
+
+-- what was found stands there
+pub array_stands : (ns : List Node) (found : Option CstArray) (x : CstArray) → found ≡ Some x → IfSome found (λ a. typed_if ns (value_at ns 0) ≡ Some (array_node a))
+    → typed_if ns (value_at ns 0) ≡ Some (array_node x)
+array_stands ns found x e h = subst (λ (f : Option CstArray). IfSome f (λ a. typed_if ns (value_at ns 0) ≡ Some (array_node a))) e h
+
+pub object_stands : (ns : List Node) (found : Option CstObject) (x : CstObject) → found ≡ Some x → IfSome found (λ a. typed_if ns (value_at ns 0) ≡ Some (object_node a))
+    → typed_if ns (value_at ns 0) ≡ Some (object_node x)
+object_stands ns found x e h = subst (λ (f : Option CstObject). IfSome f (λ a. typed_if ns (value_at ns 0) ≡ Some (object_node a))) e h
+
+-- what is told where another value stands
+if_none : (b : Bool) (n : ℕ) → None ≡ (if b then Some n else None) → b ≡ false
+if_none true n e = none_is_some n e
+if_none false n e = refl
+
+module _ (o : Options) (old made : List Node) where
+  -- a document that has got its first value, or is the same, is sound where it was
+  sound_by : (v : Plain) (w : Option ℕ) → FirstOrSame old made o v w → SoundTree o (ordered_tree old 0) → SoundTree o (ordered_tree made 0)
+  sound_by v None first s = (first s).after.sound
+  sound_by v (Some n) same s = subst (λ (ns : List Node). SoundTree o (ordered_tree ns 0)) (sym same) s
+
+  -- where none of the shape was found another value stands
+  another_by : (shape : Shape) → IsTree old → SoundTree o (ordered_tree old 0) → (w : Option ℕ) → value_at old 0 ≡ w
+      → FoundOrCreated (is_of shape) (empty_of shape) old made w None → HasAnother (has_shape shape) o (printed (ordered_tree old 0))
+  another_by shape tree s None e (m, told, f) = none_is_some m told
+  another_by shape tree s (Some n) e (told, same) =
+      let h = held o old tree s n e in
+      (h.value, h.text, sym (h.told shape) ∙ if_none (is_of shape (content_at old n)) n told)
+
+  pub sound_array : FirstArrayWritten old made o → SoundTree o (ordered_tree old 0) → SoundTree o (ordered_tree made 0)
+  sound_array first s = sound_by (empty_of Array) (value_at old 0) first s
+
+  pub sound_object : FirstObjectWritten old made o → SoundTree o (ordered_tree old 0) → SoundTree o (ordered_tree made 0)
+  sound_object first s = sound_by (empty_of Object) (value_at old 0) first s
+
+  pub no_array : IsTree old → SoundTree o (ordered_tree old 0) → (found : Option CstArray) → found ≡ None → FindsOrCreatesArray old made found
+      → EndsAppending o (printed (ordered_tree old 0)) NotArray
+  no_array tree s found none h =
+      another_by Array tree s (value_at old 0) refl (subst (λ (f : Option CstArray). FindsOrCreatesArray old made f) none h)
+
+  pub no_object : IsTree old → SoundTree o (ordered_tree old 0) → (found : Option CstObject) → found ≡ None → FindsOrCreatesObject old made found
+      → EndsSetting o (printed (ordered_tree old 0)) NotObject
+  no_object tree s found none h =
+      another_by Object tree s (value_at old 0) refl (subst (λ (f : Option CstObject). FindsOrCreatesObject old made f) none h)
+
+-- want of memory can end an edit
+pub memory_appending : (o : Options) (bytes : List ℕ) (e : EditError) → e ≡ OutOfMemory → EndsAppending o bytes (Edit e)
+memory_appending o bytes e is = subst (λ (x : EditError). EndsAppending o bytes (Edit x)) (sym is) tt
+
+pub memory_setting : (o : Options) (bytes : List ℕ) (e : EditError) → e ≡ OutOfMemory → EndsSetting o bytes (Edit e)
+memory_setting o bytes e is = subst (λ (x : EditError). EndsSetting o bytes (Edit x)) (sym is) tt
+
+-- what is put into the array
+module _ (o : Options) (old made : List Node) (tree : IsTree made) (x : CstArray) (stands : typed_if made (value_at made 0) ≡ Some (array_node x))
+    (first : FirstArrayWritten old made o) (s : SoundTree o (ordered_tree old 0)) where
+  abbrev c : ℕ
+  c = x.number
+
+  is : (value_at made 0 ≡ Some c) × (content_at made c ≡ array)
+  is = array_read made (value_at made 0) x (ap array_if stands)
+
+  at : IsAt made [] c
+  at = value_stands made tree c is.0
+
+  pub appends_last : (new : List Node) (v : Plain) → FirstArrayAround old made o → PutsAtItsPath o made new c (length (elements_at made c)) v → AppendsLast o v old new
+  appends_last new v around put = record {
+    made = made;
+    first = first;
+    around = around;
+    c = c;
+    value = is.0;
+    is_array = is.1;
+    put = λ may. put (sound_array o old made first s) may [] at;
+  }
+
+  pub array_memory : (e : EditError) → PutsButForMemory o made c e → EndsAppending o (printed (ordered_tree old 0)) (Edit e)
+  array_memory e told = memory_appending o (printed (ordered_tree old 0)) e (told (sound_array o old made first s) [] at)
+
+-- a property that was found is one
+Property : List Node → Option ℕ → Type 0
+Property ns None = Unit {0}
+Property ns (Some n) = content_at ns n ≡ property
+
+found_property : (ns : List Node) (v xs : List ℕ) (found : Option ℕ) → FirstNamed ns v xs found → Property ns found
+unfolding Property
+found_property ns v _ _ names.none = tt
+found_property ns v _ _ (names.here is) = is.0
+found_property ns v _ _ (names.later {rest = rest} {found = found} other f) = found_property ns v rest found f
+
+-- what is set in the object
+module _ (o : Options) (old made : List Node) (tree : IsTree made) (x : CstObject) (stands : typed_if made (value_at made 0) ≡ Some (object_node x))
+    (first : FirstObjectWritten old made o) (s : SoundTree o (ordered_tree old 0)) where
+  abbrev k : ℕ
+  k = x.number
+
+  is_found : (value_at made 0 ≡ Some k) × (content_at made k ≡ object)
+  is_found = object_read made (value_at made 0) x (ap object_if stands)
+
+  stands_there : IsAt made [] k
+  stands_there = value_stands made tree k is_found.0
+
+  sound : SoundTree o (ordered_tree made 0)
+  sound = sound_object o old made first s
+
+  module _ (new : List Node) (name : List ℕ) (v : Plain) (around : FirstObjectAround old made o) where
+    sets_by : (found : Option ℕ) → FirstInObject made k name found → (IsWritable o v → SetOrAppended o name v made new k found) → SetsFirst o name v old new
+    sets_by found named set = record {
+      made = made;
+      first = first;
+      around = around;
+      c = k;
+      value = is_found.0;
+      is_object = is_found.1;
+      found = found;
+      named = named;
+      set = set;
+    }
+
+    pub appends_property : FirstInObject made k name None → IsCharacters name → PutsNamedAtItsPath o made new k (length (elements_at made k)) name v → SetsFirst o name v old new
+    appends_property named texts put = sets_by None named (λ may. put sound texts may [] stands_there)
+
+    module _ (p : ℕ) (now : CstNode) (named : FirstInObject made k name (Some p)) where
+      element : (i : ℕ) × IsElementOf made k i p
+      element = found_element made name k p named
+
+      inside : IsPropertyOf made k element.0 p
+      unfolding Property
+      inside = record { of_object = is_found.1; element = element.1; is = found_property made name (children_at made k) (Some p) named }
+
+      sets_value : IsWritable o v → HeldIsWritten made new o p v now → HeldIsMarked made new p v → HasSet o v made new k p
+      sets_value may written marked =
+          let h = value_held o made tree sound (element.0 ∷ []) p (a_property [] k element.0 stands_there inside) in
+          record {
+            i = element.0;
+            n = h.value;
+            m = number_of now;
+            element = element.1;
+            holds = h.holds;
+            written = written h.value h.holds (element.0 ∷ []) sound h.at may;
+            marked = marked h.value h.holds (element.0 ∷ []) h.at may.texts;
+          }
+
+      pub sets_property : HeldIsWritten made new o p v now → HeldIsMarked made new p v → SetsFirst o name v old new
+      sets_property written marked = sets_by (Some p) named (λ may. sets_value may written marked)
+
+  pub object_memory : (e : EditError) → PutsButForMemory o made k e → EndsSetting o (printed (ordered_tree old 0)) (Edit e)
+  object_memory e told = memory_setting o (printed (ordered_tree old 0)) e (told sound [] stands_there)

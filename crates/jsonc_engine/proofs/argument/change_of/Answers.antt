@@ -1,0 +1,23 @@
+use Rattle.jsonc_engine.proofs.Arguments.{append_change, append_fault, check_change, print_change, remove_change, set_change, set_fault}
+use Rattle.jsonc_engine.proofs.argument.change_of.Goals as goal
+
+pub returns-in-Check-clause-change : goal.returns-in-Check-clause-change
+returns-in-Check-clause-change g c = check_change c.args.command c.in-Check.is
+
+pub returns-in-Print-clause-change : goal.returns-in-Print-clause-change
+returns-in-Print-clause-change g c = print_change c.args.command c.in-Print.is
+
+pub returns-in-Ok-clause-change : goal.returns-in-Ok-clause-change
+returns-in-Ok-clause-change g c = set_change c.args.command c.in-Set.name c.in-Set.json c.in-Ok.value c.in-Set.is c.in-Ok.ensures.value
+
+pub returns-in-Err-clause-refused : goal.returns-in-Err-clause-refused
+returns-in-Err-clause-refused g c = set_fault c.args.command c.in-Set.name c.in-Set.json c.in-Err.fault c.in-Set.is c.in-Err.ensures.refused
+
+pub returns-in-Ok-value_of-clause-change : goal.returns-in-Ok-value_of-clause-change
+returns-in-Ok-value_of-clause-change g c = append_change c.args.command c.in-Append.json c.in-Ok-value_of.value c.in-Append.is c.in-Ok-value_of.ensures.value
+
+pub returns-in-Err-value_of-clause-refused : goal.returns-in-Err-value_of-clause-refused
+returns-in-Err-value_of-clause-refused g c = append_fault c.args.command c.in-Append.json c.in-Err-value_of.fault c.in-Append.is c.in-Err-value_of.ensures.refused
+
+pub returns-in-Remove-clause-change : goal.returns-in-Remove-clause-change
+returns-in-Remove-clause-change g c = remove_change c.args.command c.in-Remove.name c.in-Remove.is

@@ -1,0 +1,20 @@
+use Rattle.jsonc_input.specs.Views.{plain}
+use Rattle.jsonc_cst.specs.Document.{nodes_of}
+use Rattle.jsonc_engine.proofs.Making.{appends_last, array_memory, array_stands, no_array}
+use Rattle.jsonc_engine.proofs.edit.append_element.Goals as goal
+
+pub returns-in-Ok-None-clause-told : goal.returns-in-Ok-None-clause-told
+returns-in-Ok-None-clause-told g c = λ o sound.
+    no_array o (nodes_of c.args.document.now) (nodes_of c.array_value_or_create.new.self) c.len.ensures.tree sound c.in-Ok-None.field-0 c.in-Ok-None.field-0-is c.in-Ok-None.ensures.value
+
+pub returns-in-Ok-clause-appended : goal.returns-in-Ok-clause-appended
+returns-in-Ok-clause-appended g c = λ o sound.
+    let made = nodes_of c.array_value_or_create.new.self in
+    appends_last o (nodes_of c.args.document.now) made c.len-2.ensures.tree c.in-Ok-Some.array (array_stands (nodes_of c.array_value_or_create.new.self) c.in-Ok-Some.field-0 c.in-Ok-Some.array c.in-Ok-Some.field-0-is c.in-Ok-Some.ensures.stands)
+    (c.in-Ok-Some.ensures.written o) sound (nodes_of c.append.new.doc) (plain c.args.value) (c.in-Ok-Some.ensures.around o) (c.in-Ok.ensures.written o)
+
+pub returns-in-Err-append-clause-told : goal.returns-in-Err-append-clause-told
+returns-in-Err-append-clause-told g c = λ o sound.
+    let made = nodes_of c.array_value_or_create.new.self in
+    array_memory o (nodes_of c.args.document.now) made c.len-2.ensures.tree c.in-Ok-Some.array (array_stands (nodes_of c.array_value_or_create.new.self) c.in-Ok-Some.field-0 c.in-Ok-Some.array c.in-Ok-Some.field-0-is c.in-Ok-Some.ensures.stands)
+    (c.in-Ok-Some.ensures.written o) sound c.in-Err-append.error (c.in-Err-append.ensures.memory o)

@@ -1,0 +1,28 @@
+-- What `append` makes of a document.
+use Rattle.std.specs.Prelude.{◌≡◌, ℕ, List, [], Some, length}
+use Rattle.jsonc_text.specs.Options.{Options}
+use Rattle.jsonc_text.specs.Plain.{Plain}
+use Rattle.jsonc_tree.specs.Content.{array}
+use Rattle.jsonc_tree.specs.OrderedTree.{ordered_tree}
+use Rattle.jsonc_tree.specs.Tree.{Node, content_at}
+use Rattle.jsonc_nodes.specs.Properties.{value_at}
+use Rattle.jsonc_nodes.specs.Siblings.{elements_at}
+use Rattle.jsonc_laws.specs.SoundTrees.{SoundTree}
+use Rattle.jsonc_edit.specs.Writing.{IsWritable}
+use Rattle.jsonc_typed.specs.Inserting.{IsPutIn}
+use Rattle.jsonc_typed.specs.Setting.{FirstArrayAround, FirstArrayWritten}
+
+-- The document's value is an array, an empty one that has come first where it had none, and v, where it may be written, has come behind its last element: the text
+-- is a document again, sound, whose value has v more, and of the literals and comments those of v have come.
+pub record AppendsLast (o : Options) (v : Plain) (old new : List Node) : Type 0 where
+  pub made : List Node
+  pub first : FirstArrayWritten old made o
+  pub around : FirstArrayAround old made o
+  pub c : ℕ
+  pub value : value_at made 0 ≡ Some c
+  pub is_array : content_at made c ≡ array
+  pub put : IsWritable o v → IsPutIn o [] (length (elements_at made c)) v (ordered_tree made 0) (ordered_tree new 0)
+
+-- so it is if the document was sound
+abbrev pub AppendsIfSound : Options → Plain → List Node → List Node → Type 0
+AppendsIfSound o v old new = SoundTree o (ordered_tree old 0) → AppendsLast o v old new

@@ -1,0 +1,47 @@
+-- What a command makes of a document.
+use Rattle.std.specs.Borrow.{Bor}
+use Rattle.std.specs.Prelude.{◌≡◌, ℕ, List, chars}
+use Rattle.jsonc_text.specs.Options.{Options}
+use Rattle.jsonc_text.specs.Plain.{Plain}
+use Rattle.jsonc_input.specs.Views.{plain}
+use Rattle.jsonc_input.specs.declared.value.CstInputValue.{CstInputValue}
+use Rattle.jsonc_tree.specs.OrderedTree.{ordered_tree, printed}
+use Rattle.jsonc_tree.specs.Tree.{Node}
+use Rattle.jsonc_laws.specs.SoundTrees.{SoundTree}
+use Rattle.jsonc_engine.specs.declared.argument.Change.{Change}
+use Rattle.jsonc_engine.specs.declared.argument.Change.TheVariants.{Append, Remove, Set, Stay}
+use Rattle.jsonc_engine.specs.Appending.{AppendsLast}
+use Rattle.jsonc_engine.specs.Argument.{IsArgument}
+use Rattle.jsonc_engine.specs.Command.{Request, check, print, set, append, remove}
+use Rattle.jsonc_engine.specs.Removal.{LosesFirst}
+use Rattle.jsonc_engine.specs.Setting.{SetsFirst}
+
+-- the change is what the command asks for, with the value of its JSON text
+pub data IsChangeFor {A : Type 0} : Request → Change A → Type 0 where
+  for_check : IsChangeFor check Stay
+  for_print : IsChangeFor print Stay
+  for_set : (name : Bor (List ℕ)) (json : List ℕ) (value : CstInputValue A) → IsArgument json (plain value)
+      → IsChangeFor (set name.now json) (Set name value)
+  for_append : (json : List ℕ) (value : CstInputValue A) → IsArgument json (plain value) → IsChangeFor (append json) (Append value)
+  for_remove : (name : Bor (List ℕ)) → IsChangeFor (remove name.now) (Remove name)
+
+-- what a command makes of a sound document
+abbrev pub Makes : Options → Request → List Node → List Node → Type 0
+Makes o check old new = new ≡ old
+Makes o print old new = new ≡ old
+Makes o (set name json) old new = (v : Plain) × IsArgument json v × SetsFirst o (chars name) v old new
+Makes o (append json) old new = (v : Plain) × IsArgument json v × AppendsLast o v old new
+Makes o (remove name) old new = LosesFirst o (chars name) old new
+
+-- so it is if the document was sound
+abbrev pub MakesIfSound : Options → Request → List Node → List Node → Type 0
+MakesIfSound o request old new = SoundTree o (ordered_tree old 0) → Makes o request old new
+
+-- the input is a document of the options, and the output what it prints when the command is done
+pub record IsMadeOf (o : Options) (request : Request) (input output : List ℕ) : Type 0 where
+  pub old : List Node
+  pub new : List Node
+  pub reads : printed (ordered_tree old 0) ≡ input
+  pub sound : SoundTree o (ordered_tree old 0)
+  pub makes : Makes o request old new
+  pub prints : printed (ordered_tree new 0) ≡ output
