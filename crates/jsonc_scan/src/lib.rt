@@ -9,6 +9,7 @@ mod faults;
 pub mod laws;
 mod lexeme;
 mod number;
+mod plain;
 mod reads;
 pub mod scanner;
 mod stops;
