@@ -6,6 +6,7 @@
 
 mod comment;
 mod faults;
+pub mod found;
 pub mod laws;
 mod lexeme;
 mod number;
