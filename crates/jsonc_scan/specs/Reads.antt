@@ -4,6 +4,7 @@ use Rattle.jsonc_scan.specs.declared.lexeme.Lexeme.{Lexeme}
 use Rattle.jsonc_scan.specs.declared.lexeme.Lexeme.TheVariants.{Word, Boolean, Number, Null, CommentLine, CommentBlock}
 use Rattle.jsonc_scan.specs.declared.lexeme.Read.{Read}
 use Rattle.jsonc_scan.specs.declared.lexeme.Mark.{Mark}
+use Rattle.jsonc_scan.specs.declared.plain.PlainNumber.{PlainNumber}
 use Rattle.jsonc_scan.specs.declared.string.StringRead.{StringRead}
 use Rattle.jsonc_string.specs.Escapes.{IsLentUnescaped, StringHoldsBackslash}
 use Rattle.jsonc_string.specs.declared.decode.Decoded.{Decoded}
@@ -59,6 +60,10 @@ IsFractionAnyhow bytes start end = (o : Options) → Reaches (Fraction o) bytes 
 
 abbrev pub IsNumberAnyhow : List ℕ → ℕ → ℕ → Type 0
 IsNumberAnyhow bytes start end = (o : Options) → Between (IsNumber o) bytes start end
+
+-- the number stands at a place and ends where it was read to, under all options
+abbrev pub IsPlainNumber : List ℕ → ℕ → PlainNumber → Type 0
+IsPlainNumber bytes start n = (o : Options) → Between (IsScanned o (lexeme (number (chars n.text.now)))) bytes start n.end
 
 -- `Infinity` or `NaN` after a sign, under all options that allow them
 abbrev pub IsSignedName : List ℕ → ℕ → ℕ → Type 0

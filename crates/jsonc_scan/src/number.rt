@@ -15,7 +15,7 @@ ghost use Rattle.std.specs.Str.{IsAscii};
 
 use crate::faults::{fault, fault_at};
 use crate::lexeme::{Lexeme, Read};
-use crate::plain::plain_number_end;
+use crate::plain::plain_number;
 use crate::word::keyword_end;
 use jsonc_text::chars::{digits_end, has_byte, hex_digits_end};
 use jsonc_text::errors::{ParseError, ParseErrorKind};
@@ -66,6 +66,7 @@ fn has_hex_digit(text: &str, place: usize) -> bool
 }
 
 /// The place after the digits at a place, at least one, or none.
+#[inline(always)]
 pub(crate) fn some_digits_end(text: &str, start: usize) -> Option<usize>
     requires { IsCharBoundary text.now start }
     ensures found { IfSome result (Between (AllOf is_digit) text.now start) }
@@ -241,6 +242,7 @@ pub(crate) fn has_hexadecimal_mark(text: &str, start: usize) -> bool
 }
 
 /// The place after the digits before a point, or none where no digit stands.
+#[inline(always)]
 pub(crate) fn whole_part_end(text: &str, start: usize) -> Option<usize>
     requires boundary { IsCharBoundary text.now start }
     requires mark { LacksHexadecimalMark text.now start }
@@ -392,11 +394,13 @@ pub(crate) fn read_number<'a>(
     ensures fault { IfErr result (IsTextFault text.now) }
     ensures told { IfErr result (IsFaultOfNumber (parse_options options.now) text.now start) }
 {
-    let Some(end) = plain_number_end(text, start) else {
+    let Some(number) = plain_number(text, start) else {
         return read_other_number(text, start, options);
     };
-    let lexeme = Lexeme::Number(&text[start..end]);
-    Ok(Read { lexeme, end })
+    Ok(Read {
+        lexeme: Lexeme::Number(number.text),
+        end: number.end,
+    })
 }
 
 /// The place after the text `name` at a place, where it ends as an unsigned number does, or none.

@@ -3,7 +3,7 @@
 //! What is none of these may still be a number, or begins one that is refused: `number_end` says which.
 ghost use Rattle.std.specs.Prelude.{◌≡◌, ◌+◌, IfSome, IsCharBoundary};
 ghost use Rattle.jsonc_string.specs.Between.{Between, Reaches};
-ghost use Rattle.jsonc_scan.specs.Reads.{IsFractionAnyhow, IsNumberAnyhow, IsUnsignedAnyhow};
+ghost use Rattle.jsonc_scan.specs.Reads.{IsFractionAnyhow, IsNumberAnyhow, IsPlainNumber, IsUnsignedAnyhow};
 ghost use Rattle.jsonc_text.specs.Numbers.{Exponent};
 
 use crate::number::{has_either, has_hexadecimal_mark, some_digits_end, whole_part_end};
@@ -68,7 +68,7 @@ fn digits_end(text: &str, start: usize) -> Option<usize>
 
 /// The place after the number of JSON at a place, if one stands there.
 #[inline(always)]
-pub(crate) fn plain_number_end(text: &str, start: usize) -> Option<usize>
+fn number_end(text: &str, start: usize) -> Option<usize>
     requires { IsCharBoundary text.now start }
     ensures { IfSome result (IsNumberAnyhow text.now start) }
 {
@@ -82,4 +82,24 @@ pub(crate) fn plain_number_end(text: &str, start: usize) -> Option<usize>
         return None;
     };
     Some(end)
+}
+
+/// The text of a number, and the place after it.
+#[derive(Clone, Copy)]
+pub(crate) struct PlainNumber<'a> {
+    pub text: &'a str,
+    pub end: usize,
+}
+
+/// The number of JSON at a place, if one stands there.
+#[inline(always)]
+pub(crate) fn plain_number<'a>(text: &'a str, start: usize) -> Option<PlainNumber<'a>>
+    requires { IsCharBoundary text.now start }
+    ensures { IfSome result (IsPlainNumber text.now start) }
+{
+    let Some(end) = number_end(text, start) else {
+        return None;
+    };
+    let text = &text[start..end];
+    Some(PlainNumber { text, end })
 }

@@ -3,6 +3,7 @@ ghost use Rattle.std.specs.Prelude.{◌≡◌, ◌≢◌, ◌≤◌, ◌<◌, Is
 
 use crate::found::{TokenContent, TokenKind};
 use crate::lexeme::{mark_token, token_of};
+use crate::plain::plain_number;
 use crate::reads::{quote_at, read_lexeme, read_punctuation};
 use crate::string::{read_string, read_string_twice};
 use jsonc_text::chars::{blanks_end, has_byte};
@@ -88,8 +89,9 @@ impl<'a, A: Allocator> Scanner<'a, A> {
 
 impl<'a, A: Allocator + Copy> Scanner<'a, A> {
     ghost use Rattle.jsonc_text.specs.Faults.{IsFault, kind_of};
-    ghost use Rattle.jsonc_scan.specs.Scanner.{text_of, start_of, end_of, token_of, PassesBlanks, StandsAt, NothingStands, GoesOn, IsLent, HoldsEscape, IsTrueThere, ComesNext, IsMarkHere};
+    ghost use Rattle.jsonc_scan.specs.Scanner.{text_of, start_of, end_of, options_of, token_of, PassesBlanks, StandsAt, NothingStands, GoesOn, IsLent, HoldsEscape, IsTrueThere, ComesNext, IsMarkHere};
     ghost use Rattle.jsonc_scan.specs.Found.{token_found};
+    ghost use Rattle.jsonc_string.specs.Between.{LacksAt};
     ghost use Rattle.jsonc_text.specs.Lexemes.{is_punctuation};
     ghost use Rattle.jsonc_text.specs.Tokens.{scanned_of};
 
@@ -145,6 +147,36 @@ impl<'a, A: Allocator + Copy> Scanner<'a, A> {
             self.byte_index = start + 1;
             return Ok(Some(content.mark_kind(mark)));
         }
+        if let Some(number) = plain_number(self.file_text, start) {
+            self.byte_index = number.end;
+            content.text = number.text;
+            return Ok(Some(TokenKind::Number));
+        }
+        self.step_other(content)
+    }
+
+    /// The same where the scanner stands, at no punctuation.
+    #[inline(always)]
+    fn step_other(
+        &mut self,
+        content: &mut TokenContent<'a, A>,
+    ) -> Result<Option<TokenKind>, ParseError>
+        requires begins { GoesOn self.old }
+        requires here { end_of self.old ≡ start_of self.old }
+        requires mark { LacksAt is_punctuation (text_of self.old) (start_of self.old) }
+        ensures text { text_of self.new ≡ text_of self.old }
+        ensures options { options_of self.new ≡ options_of self.old }
+        ensures start { start_of self.new ≡ start_of self.old }
+        ensures found { IfOk result (λ f. StandsAt self.new (token_found content.new f)) }
+        ensures lent { IfOk result (λ f. IsLent self.new (token_found content.new f)) }
+        ensures nothing { IfErr result (λ e. kind_of e ≢ ParseErrorKind.OutOfMemory → NothingStands self.new) }
+        ensures fault { IfErr result (IsFault (text_of self.new)) }
+        ensures told { IfErr result (λ e. kind_of e ≢ ParseErrorKind.OutOfMemory → IsTrueThere self.new e) }
+        ensures memory { IfErr result (λ e. kind_of e ≡ ParseErrorKind.OutOfMemory → HoldsEscape self.new) }
+        ensures keeps { token_of self.new ≡ token_of self.old }
+        ensures stays { OnErr result (end_of self.new ≡ start_of self.new) }
+    {
+        let start = self.token_start;
         if let Some(quote) = quote_at(self.file_text, start, &self.options) {
             let read = read_string(self.alloc, self.file_text, start, quote, &self.options)?;
             self.byte_index = read.end;
@@ -184,6 +216,11 @@ impl<'a, A: Allocator + Copy> Scanner<'a, A> {
             self.byte_index = start + 1;
             self.current_token = Some(mark_token(mark));
             return Ok(Some(mark_token(mark)));
+        }
+        if let Some(number) = plain_number(self.file_text, start) {
+            self.byte_index = number.end;
+            self.current_token = Some(Token::Number(number.text));
+            return Ok(Some(Token::Number(number.text)));
         }
         if let Some(quote) = quote_at(self.file_text, start, &self.options) {
             let read = read_string_twice(self.alloc, self.file_text, start, quote, &self.options)?;

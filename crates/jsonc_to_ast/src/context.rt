@@ -151,6 +151,27 @@ impl<'a, A: Allocator + Copy> Context<'a, A> {
         ParseError::out_of_memory()
     }
 
+    /// Whether a value would have too many containers and properties around it.
+    #[inline(always)]
+    pub(crate) fn nests_too_deep(&self, around: usize) -> bool
+        ensures deep { IsTrue result → 512 < around }
+        ensures within { result ≡ false → around ≤ 512 }
+    {
+        around > MAXIMUM_NESTING
+    }
+
+    /// The fault of a value that too many containers and properties are around. The innermost of
+    /// them begins at the place.
+    #[cold]
+    pub(crate) fn nesting_fault(&self, start: usize) -> ParseError
+        requires { Spans (text_in self.now) start (token_end self.now) }
+        ensures fault { IsFault (text_in self.now) result }
+        ensures kind { kind_of result ≡ ParseErrorKind.NestingDepthExceeded }
+        ensures range { range_of result ≡ record { start = start; end = token_end self.now } }
+    {
+        self.fault_from(start, ParseErrorKind::NestingDepthExceeded)
+    }
+
     /// Refuses a value that too many containers and properties are around.
     /// The innermost of them begins at the place.
     #[inline(always)]
@@ -162,8 +183,8 @@ impl<'a, A: Allocator + Copy> Context<'a, A> {
         ensures kind { IfErr result (λ e. kind_of e ≡ ParseErrorKind.NestingDepthExceeded) }
         ensures range { IfErr result (λ e. range_of e ≡ record { start = start; end = token_end self.now }) }
     {
-        if around > MAXIMUM_NESTING {
-            return Err(self.fault_from(start, ParseErrorKind::NestingDepthExceeded));
+        if self.nests_too_deep(around) {
+            return Err(self.nesting_fault(start));
         }
         Ok(())
     }

@@ -1,5 +1,5 @@
 //! Values read by recursive descent.
-ghost use Rattle.std.specs.Prelude.{◌≡◌, ◌+◌, ◌≤◌, IfOk, IfErr, OnOk, IfSome, Some, true, option_map, is_some, chars};
+ghost use Rattle.std.specs.Prelude.{◌≡◌, ◌+◌, ◌≤◌, IfOk, IfErr, OnOk, IfSome, IfNone, Some, true, option_map, is_some, chars};
 ghost use Rattle.jsonc_text.specs.Faults.{IsFault, kind_of};
 ghost use Rattle.jsonc_text.specs.Grammar.{IsDocument};
 ghost use Rattle.jsonc_text.specs.OptionsOf.{parse_options};
@@ -43,6 +43,7 @@ fn leaf<'a, A: Allocator>(
     ensures located { option_map located result
         ≡ option_map (leaf_at range) (leaf_value (scanned_of (token_held token content.old))) }
     ensures spelled { IfSome result (λ v. spelled v ≡ spelled_of range (token_held token content.old)) }
+    ensures stays { IfNone result (content.new ≡ content.old) }
 {
     match token {
         TokenKind::String => {
@@ -81,8 +82,8 @@ fn parse_leaf<'a, A: Allocator + Copy>(
         → IsUnexpected context.old (last context.old token) e) }
 {
     let range = context.range();
-    let kind = context.unexpected(token);
     let Some(value) = leaf(token, &mut context.content, range) else {
+        let kind = context.unexpected(token);
         return Err(context.fault_here(kind));
     };
     Ok(value)
@@ -137,7 +138,9 @@ fn parse_array<'a, A: Allocator + Copy>(
     let mut elements = Vec::new(context.alloc);
     let mut next = context.first_item(Container::Array, Some(start))?;
     while let Some(token) = next {
-        context.check_nesting(start, count + 1)?;
+        if context.nests_too_deep(count + 1) {
+            return Err(context.nesting_fault(start));
+        }
         let value = parse_value(context, token, count + 1)?;
         let Ok(()) = push_value(&mut elements, value) else {
             return Err(context.out_of_memory());
@@ -202,7 +205,9 @@ fn parse_property<'a, A: Allocator + Copy>(
     let name = context.name(token)?;
     context.pass_colon()?;
     let found = context.scan()?;
-    context.check_nesting(start, count + 1)?;
+    if context.nests_too_deep(count + 1) {
+        return Err(context.nesting_fault(start));
+    }
     let Some(token) = found else {
         return Err(context.fault_here(ParseErrorKind::ExpectedObjectValue));
     };

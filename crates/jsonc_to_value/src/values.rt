@@ -1,5 +1,5 @@
 //! Values read by recursive descent.
-ghost use Rattle.std.specs.Prelude.{◌≡◌, ◌+◌, ◌<◌, ◌≤◌, IfOk, IfErr, OnOk, false, option_map, chars};
+ghost use Rattle.std.specs.Prelude.{◌≡◌, ◌+◌, ◌<◌, ◌≤◌, IfOk, IfErr, IfNone, OnOk, false, option_map, chars};
 ghost use Rattle.std.specs.Str.{IsUtf8};
 ghost use Rattle.std.specs.Cow.{cow_str_bytes};
 ghost use Rattle.jsonc_text.specs.Faults.{IsFault, kind_of, range_of};
@@ -34,7 +34,8 @@ fn leaf<'a, A: Allocator>(
     token: TokenKind,
     content: &mut TokenContent<'a, A>,
 ) -> Option<JsonValue<'a, A>>
-    ensures { option_map plain result ≡ leaf_value (scanned_of (token_held token content.old)) }
+    ensures value { option_map plain result ≡ leaf_value (scanned_of (token_held token content.old)) }
+    ensures stays { IfNone result (content.new ≡ content.old) }
 {
     match token {
         TokenKind::String => Some(JsonValue::String(content.take_string())),
@@ -60,8 +61,8 @@ fn parse_leaf<'a, A: Allocator + Copy>(
     ensures told { IfErr result (λ e. OpensNone (last context.old token)
         → IsUnexpected context.old (last context.old token) e) }
 {
-    let kind = context.unexpected(token);
     let Some(value) = leaf(token, &mut context.content) else {
+        let kind = context.unexpected(token);
         return Err(context.fault_here(kind));
     };
     Ok(value)

@@ -40,8 +40,8 @@ parse_array-loop-next-init g t c =
       written = subst (λ vs. AreWrittenIn c.args.context.now (spelled_in_elements vs)) (sym c.new-elements.ensures.items) (All-nil (IsWritten (options_in c.args.context.now) (text_in c.args.context.now)));
     }
 
-pub parse_array-check_nesting-requires : goal.parse_array-check_nesting-requires
-parse_array-check_nesting-requires g t c =
+pub parse_array-nesting_fault-requires : goal.parse_array-nesting_fault-requires
+parse_array-nesting_fault-requires g t c =
     let inv = c.loop-next.invariant.so_far in
     let now = c.loop-next.context in
     start_spans c.args.context.now now c.token_start-start.result c.token_start-start.ensures inv.kept (omega (arith, inv.on, now.scanner.order))
@@ -145,13 +145,13 @@ pub parse_array-returns-in_err-next-clause-refused : goal.parse_array-returns-in
 parse_array-returns-in_err-next-clause-refused g t c =
     err_of (Tells (NoValueHere c.args.context.now c.args.count)) c.in_err-next.field-0.0 c.from_residual.result c.from_residual.ensures.1 (still (nothing_in_array c.args.context.now c.args.count c.requires.token) c.in_err-next.ensures.refused)
 
-pub parse_array-returns-in_err-check_nesting-clause-refused : goal.parse_array-returns-in_err-check_nesting-clause-refused
-parse_array-returns-in_err-check_nesting-clause-refused g t c =
+pub parse_array-returns-then-nests_too_deep-clause-refused : goal.parse_array-returns-then-nests_too_deep-clause-refused
+parse_array-returns-then-nests_too_deep-clause-refused g t c =
     let old = c.args.context.now in
     let now = c.loop-next.context in
     let inv = c.loop-next.invariant in
     let left = subst (λ n. ElementsLeft old now n c.args.count) (ap (found_in c.loop-next.context) c.in-Some.is) inv.left in
-    err_of (Tells (NoValueHere c.args.context.now c.args.count)) c.in_err-check_nesting.field-0.0 c.from_residual-in_err-check_nesting.result c.from_residual-in_err-check_nesting.ensures.1 (inr (nesting_refused old now inv.so_far.kept (last c.loop-next.context c.in-Some.token) c.args.count left c.in_err-check_nesting.ensures.refused))
+    (inr (nesting_refused old now inv.so_far.kept (last c.loop-next.context c.in-Some.token) c.args.count left (c.nests_too_deep.ensures.deep c.if-nests_too_deep.true)))
 
 pub parse_array-returns-in_err-value-clause-refused : goal.parse_array-returns-in_err-value-clause-refused
 parse_array-returns-in_err-value-clause-refused g t c =
@@ -258,15 +258,14 @@ parse_array-returns-in_err-next-clause-told g t c =
     err_of (StopsAtContainer old true c.args.count) e c.from_residual.result c.from_residual.ensures.1
     (λ q d s many starts. first_stops true Array old c.args.count q d s e c.requires.token (room_whole Array c.args.count c.requires.around) many starts (λ q. c.in_err-next.ensures.told q _ (ap (rest (text_in old)) (sym c.token_start-start.ensures))))
 
-pub parse_array-returns-in_err-check_nesting-clause-told : goal.parse_array-returns-in_err-check_nesting-clause-told
-parse_array-returns-in_err-check_nesting-clause-told g t c =
+pub parse_array-returns-then-nests_too_deep-clause-told : goal.parse_array-returns-then-nests_too_deep-clause-told
+parse_array-returns-then-nests_too_deep-clause-told g t c =
     let old = c.args.context.now in
     let now = c.loop-next.context in
     let inv = c.loop-next.invariant in
     let reading = subst (λ n. GoesOn true Array old now n c.args.count) (ap (found_in c.loop-next.context) c.in-Some.is) inv.reading in
-    let e = c.in_err-check_nesting.field-0.0 in
-    err_of (StopsAtContainer old true c.args.count) e c.from_residual-in_err-check_nesting.result c.from_residual-in_err-check_nesting.ensures.1
-    (λ q d s many starts. deep_stops old now (last c.loop-next.context c.in-Some.token) c.token_start-start.result c.args.count q d s e inv.so_far.kept (subst (AtHand 0x5D now) (ap (found_in c.loop-next.context) c.in-Some.is) inv.so_far.hand) c.token_start-start.ensures many c.in_err-check_nesting.ensures.refused c.in_err-check_nesting.ensures.kind c.in_err-check_nesting.ensures.range (reading q d s many starts))
+    let e = c.nesting_fault.result in
+    (λ q d s many starts. deep_stops old now (last c.loop-next.context c.in-Some.token) c.token_start-start.result c.args.count q d s e inv.so_far.kept (subst (AtHand 0x5D now) (ap (found_in c.loop-next.context) c.in-Some.is) inv.so_far.hand) c.token_start-start.ensures many (c.nests_too_deep.ensures.deep c.if-nests_too_deep.true) c.nesting_fault.ensures.kind c.nesting_fault.ensures.range (reading q d s many starts))
 
 pub parse_array-returns-in_err-value-clause-told : goal.parse_array-returns-in_err-value-clause-told
 parse_array-returns-in_err-value-clause-told g t c =
@@ -358,14 +357,13 @@ parse_property-returns-in_err-found-clause-told g t c =
     err_of (StopsAtItem Object old (last c.args.context.now c.args.token) true c.args.count) e c.from_residual-in_err-found.result c.from_residual-in_err-found.ensures.1
     (λ q d s many starts. no_token_stops true old (last c.args.context.now c.args.token) q d s c.requires.token starts (name_at c.in_ok-name.name) c.in_ok-name.ensures.name c.pass_colon.new.self (kept_given c.args.context.now c.name.new.self c.pass_colon.new.self c.name.ensures.gives c.pass_colon.ensures.kept) (colon_given c.args.context.now c.name.new.self c.pass_colon.new.self c.name.ensures.gives c.in_ok-pass_colon.ensures.found) e c.in_err-found.ensures.told)
 
-pub parse_property-returns-in_err-check_nesting-clause-told : goal.parse_property-returns-in_err-check_nesting-clause-told
-parse_property-returns-in_err-check_nesting-clause-told g t c =
+pub parse_property-returns-then-nests_too_deep-clause-told : goal.parse_property-returns-then-nests_too_deep-clause-told
+parse_property-returns-then-nests_too_deep-clause-told g t c =
     let old = c.args.context.now in
     let found = c.in_ok-found.ensures in
-    let nesting = c.in_err-check_nesting.ensures in
-    let e = c.in_err-check_nesting.field-0.0 in
-    let deep = nesting.refused in
-    err_of (StopsAtItem Object old (last c.args.context.now c.args.token) true c.args.count) e c.from_residual-in_err-check_nesting.result c.from_residual-in_err-check_nesting.ensures.1
+    let nesting = c.nesting_fault.ensures in
+    let e = c.nesting_fault.result in
+    let deep = c.nests_too_deep.ensures.deep c.if-nests_too_deep.true in
     (λ q d s many starts. deep_property_stops old (last c.args.context.now c.args.token) q d s c.requires.token starts (name_at c.in_ok-name.name) c.in_ok-name.ensures.name c.pass_colon.new.self (kept_given c.args.context.now c.name.new.self c.pass_colon.new.self c.name.ensures.gives c.pass_colon.ensures.kept) (colon_given c.args.context.now c.name.new.self c.pass_colon.new.self c.name.ensures.gives c.in_ok-pass_colon.ensures.found) c.scan.new.self (found_in c.scan.new.self c.in_ok-found.found) found.kept found.found found.lexeme
     e c.token_start-start.result c.token_start-start.ensures (omega (arith, many, deep)) nesting.kind nesting.range)
 
@@ -373,7 +371,7 @@ pub parse_property-returns-in_default-clause-told : goal.parse_property-returns-
 parse_property-returns-in_default-clause-told g t c = λ q d s many starts.
     let old = c.args.context.now in
     let found = c.in_ok-found.ensures in
-    let small = c.in_ok-check_nesting.ensures.within in
+    let small = c.nests_too_deep.ensures.within c.if-nests_too_deep.false in
     no_value_stops true old (last c.args.context.now c.args.token) q d s c.requires.token starts (name_at c.in_ok-name.name) c.in_ok-name.ensures.name c.pass_colon.new.self (kept_given c.args.context.now c.name.new.self c.pass_colon.new.self c.name.ensures.gives c.pass_colon.ensures.kept) (colon_given c.args.context.now c.name.new.self c.pass_colon.new.self c.name.ensures.gives c.in_ok-pass_colon.ensures.found) c.scan.new.self (found_in c.scan.new.self c.in_ok-found.found) found.kept found.found found.lexeme
     (ap (found_in c.scan.new.self) c.in_default.is) c.fault_here.result (omega (arith, many, small)) c.fault_here.ensures.kind c.fault_here.ensures.range
 
@@ -399,10 +397,10 @@ parse_array-returns-in_err-next-clause-fault g t c =
     let e = c.in_err-next.field-0.0 in
     err_of (IsFault (text_in c.args.context.now)) e c.from_residual.result c.from_residual.ensures.1 c.in_err-next.ensures.fault
 
-pub parse_array-returns-in_err-check_nesting-clause-fault : goal.parse_array-returns-in_err-check_nesting-clause-fault
-parse_array-returns-in_err-check_nesting-clause-fault g t c =
-    let e = c.in_err-check_nesting.field-0.0 in
-    err_of (IsFault (text_in c.args.context.now)) e c.from_residual-in_err-check_nesting.result c.from_residual-in_err-check_nesting.ensures.1 (subst (λ b. IsFault b e) (c.loop-next.invariant.so_far.kept.text) c.in_err-check_nesting.ensures.fault)
+pub parse_array-returns-then-nests_too_deep-clause-fault : goal.parse_array-returns-then-nests_too_deep-clause-fault
+parse_array-returns-then-nests_too_deep-clause-fault g t c =
+    let e = c.nesting_fault.result in
+    (subst (λ b. IsFault b e) (c.loop-next.invariant.so_far.kept.text) c.nesting_fault.ensures.fault)
 
 pub parse_array-returns-in_err-value-clause-fault : goal.parse_array-returns-in_err-value-clause-fault
 parse_array-returns-in_err-value-clause-fault g t c =
@@ -444,10 +442,10 @@ parse_property-returns-in_err-found-clause-fault g t c =
     let e = c.in_err-found.field-0.0 in
     err_of (IsFault (text_in c.args.context.now)) e c.from_residual-in_err-found.result c.from_residual-in_err-found.ensures.1 (subst (λ b. IsFault b e) ((kept_given c.args.context.now c.name.new.self c.pass_colon.new.self c.name.ensures.gives c.pass_colon.ensures.kept).text) c.in_err-found.ensures.fault)
 
-pub parse_property-returns-in_err-check_nesting-clause-fault : goal.parse_property-returns-in_err-check_nesting-clause-fault
-parse_property-returns-in_err-check_nesting-clause-fault g t c =
-    let e = c.in_err-check_nesting.field-0.0 in
-    err_of (IsFault (text_in c.args.context.now)) e c.from_residual-in_err-check_nesting.result c.from_residual-in_err-check_nesting.ensures.1 (subst (λ b. IsFault b e) (c.in_ok-found.ensures.kept.text ∙ (kept_given c.args.context.now c.name.new.self c.pass_colon.new.self c.name.ensures.gives c.pass_colon.ensures.kept).text) c.in_err-check_nesting.ensures.fault)
+pub parse_property-returns-then-nests_too_deep-clause-fault : goal.parse_property-returns-then-nests_too_deep-clause-fault
+parse_property-returns-then-nests_too_deep-clause-fault g t c =
+    let e = c.nesting_fault.result in
+    (subst (λ b. IsFault b e) (c.in_ok-found.ensures.kept.text ∙ (kept_given c.args.context.now c.name.new.self c.pass_colon.new.self c.name.ensures.gives c.pass_colon.ensures.kept).text) c.nesting_fault.ensures.fault)
 
 pub parse_property-returns-in_default-clause-fault : goal.parse_property-returns-in_default-clause-fault
 parse_property-returns-in_default-clause-fault g t c =
@@ -493,8 +491,8 @@ parse_property-returns-clause-kept g t c =
     let new = c.parse_value.new.context in
     kept_on c.args.context.now mid new (kept_given c.args.context.now c.name.new.self c.pass_colon.new.self c.name.ensures.gives c.pass_colon.ensures.kept) (kept_on mid c.scan.new.self new c.scan.ensures.kept c.in_ok-value.ensures.kept)
 
-pub parse_property-check_nesting-requires : goal.parse_property-check_nesting-requires
-parse_property-check_nesting-requires g t c =
+pub parse_property-nesting_fault-requires : goal.parse_property-nesting_fault-requires
+parse_property-nesting_fault-requires g t c =
     let old = c.args.context.now in
     let mid = c.pass_colon.new.self in
     let now = c.scan.new.self in
@@ -510,3 +508,10 @@ parse_value-returns-in_default-clause-found g t c =
 
 pub parse_value-returns-in_default-clause-within : goal.parse_value-returns-in_default-clause-within
 parse_value-returns-in_default-clause-within g t c = ok_of c.parse_leaf.result (λ v none. omega (arith, none, c.requires.around)) c.parse_leaf.ensures.within
+
+pub parse_array-parse_value-requires : goal.parse_array-parse_value-requires
+parse_array-parse_value-requires g t c =
+    let now = c.loop-next.context in
+    let small : c.args.count + 1 ≤ 512 = c.nests_too_deep.ensures.within c.if-nests_too_deep.false in
+    let token = subst (AtHand 0x5D now) (ap (found_in now) c.in-Some.is) c.loop-next.invariant.so_far.hand in
+    λ κs lives. (omega (arith, small, c.decreases), (lives, (token, small)))

@@ -1,6 +1,6 @@
 use Rattle.std.proofs.Common.{refl, true}
 use Rattle.jsonc_scan.proofs.Between.{after_minus, unsigned}
-use Rattle.jsonc_scan.proofs.plain.plain_number_end.Goals as goal
+use Rattle.jsonc_scan.proofs.plain.number_end.Goals as goal
 
 pub returns-then-has_byte : goal.returns-then-has_byte
 returns-then-has_byte c = λ o. after_minus o _ _ _ (c.if-has_byte.ensures.here refl) (c.in-Some.ensures o true)
