@@ -1,10 +1,9 @@
 -- A parser that has given away what its last token holds; and tokens by their kinds.
-use Rattle.std.proofs.Common.{ℕ, ◌⊎◌, ◌≡◌, ◌≤◌, ◌∙◌, sym, ap, subst, refl, arith, Bool, false, List, [], ◌++◌, Option, None, Some, IfSome, is_some}
+use Rattle.std.proofs.Common.{ℕ, ◌⊎◌, ◌≡◌, ◌∙◌, sym, ap, subst, refl, arith, Bool, false, List, [], Option, None, Some, IfSome, is_some}
 use Rattle.std.proofs.lemmas.List.{append-nil}
 use Rattle.std.proofs.lemmas.List.Elements.{All-nil}
 use Rattle.std.specs.declared.borrow.CowStr.{CowStr}
 use Rattle.jsonc_text.specs.declared.errors.ParseError.{ParseError}
-use Rattle.jsonc_text.specs.declared.tokens.Token.{Token}
 use Rattle.jsonc_text.specs.declared.tokens.Token.TheVariants as token
 use Rattle.jsonc_text.specs.Places.{AreTokens, is_comment}
 use Rattle.jsonc_text.specs.Text.{rest}

@@ -1,5 +1,4 @@
 use Rattle.std.proofs.Common.{refl, true}
-use Rattle.jsonc_scan.specs.Scanner.{text_of}
 use Rattle.jsonc_to_ast.specs.Context.{last, found_in}
 use Rattle.jsonc_to_ast.proofs.Collecting.{ok_is}
 use Rattle.jsonc_to_ast.proofs.Given.{is_bracket, is_brace, kept_self, kept_given, colon_given, no_colon_given, stops_given}
