@@ -104,7 +104,8 @@ impl<'a, A: Allocator> TokenContent<'a, A> {
 }
 
 impl<'a, A: Allocator + Copy> TokenContent<'a, A> {
-    /// The token of a kind that holds this. Only the copy of a string that owns its text takes memory, and can be refused.
+    /// The token of a kind that holds this. Only the copy of a string that owns its text takes memory,
+    /// and can be refused.
     pub fn token(&self, kind: TokenKind) -> Result<Token<'a, A>, AllocError>
         ensures same { IfOk result (λ t. scanned_of t ≡ scanned_of (token_held kind self.now)) }
         ensures owned { IfOk result (λ t. IsOwned t → IsOwned (token_held kind self.now)) }
