@@ -1,4 +1,5 @@
 pub mod Between
+pub mod Found
 pub mod Laws
 pub mod Reads
 pub mod Refusals

@@ -4,6 +4,7 @@ use Rattle.jsonc_scan.specs.declared.lexeme.Lexeme.{Lexeme}
 use Rattle.jsonc_scan.specs.declared.lexeme.Lexeme.TheVariants.{Word, Boolean, Number, Null, CommentLine, CommentBlock}
 use Rattle.jsonc_scan.specs.declared.lexeme.Read.{Read}
 use Rattle.jsonc_scan.specs.declared.lexeme.Mark.{Mark}
+use Rattle.jsonc_scan.specs.declared.plain.PlainNumber.{PlainNumber}
 use Rattle.jsonc_scan.specs.declared.string.StringRead.{StringRead}
 use Rattle.jsonc_string.specs.Escapes.{IsLentUnescaped, StringHoldsBackslash}
 use Rattle.jsonc_string.specs.declared.decode.Decoded.{Decoded}
@@ -11,7 +12,7 @@ use Rattle.std.specs.Cow.{cow_str_bytes, IsOwnedStr}
 use Rattle.jsonc_text.specs.Options.{Options}
 use Rattle.jsonc_text.specs.Lexemes.{Scanned, lexeme, line_comment, block_comment, punctuation, string, word, number, keyword, is_punctuation, Lexeme as IsLexeme, IsScanned}
 use Rattle.jsonc_text.specs.Words.{boolean, null}
-use Rattle.jsonc_string.specs.Between.{Between, NoneFrom, LacksAt}
+use Rattle.jsonc_string.specs.Between.{Between, Reaches, NoneFrom, LacksAt}
 use Rattle.jsonc_scan.specs.Between.{HasAt, IsWhole, IsAlone}
 use Rattle.jsonc_text.specs.Chars.{Steps}
 use Rattle.jsonc_text.specs.Numbers.{Fraction, Unsigned, is_x, Number as IsNumber}
@@ -49,6 +50,20 @@ IsReadName bytes start read = (o : Options) → IsTrue o.non_finite_numbers → 
 -- a number without its sign, with a sign before it or not
 abbrev pub IsUnsigned : Options → List ℕ → ℕ → ℕ → Type 0
 IsUnsigned o bytes start end = (signed : Bool) → Between (Unsigned o signed) bytes start end
+
+-- a number without its sign, a fraction and a number, each under all options
+abbrev pub IsUnsignedAnyhow : List ℕ → ℕ → ℕ → Type 0
+IsUnsignedAnyhow bytes start end = (o : Options) → IsUnsigned o bytes start end
+
+abbrev pub IsFractionAnyhow : List ℕ → ℕ → ℕ → Type 0
+IsFractionAnyhow bytes start end = (o : Options) → Reaches (Fraction o) bytes start end
+
+abbrev pub IsNumberAnyhow : List ℕ → ℕ → ℕ → Type 0
+IsNumberAnyhow bytes start end = (o : Options) → Between (IsNumber o) bytes start end
+
+-- the number stands at a place and ends where it was read to, under all options
+abbrev pub IsPlainNumber : List ℕ → ℕ → PlainNumber → Type 0
+IsPlainNumber bytes start n = (o : Options) → Between (IsScanned o (lexeme (number (chars n.text.now)))) bytes start n.end
 
 -- `Infinity` or `NaN` after a sign, under all options that allow them
 abbrev pub IsSignedName : List ℕ → ℕ → ℕ → Type 0

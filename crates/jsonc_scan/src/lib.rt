@@ -6,9 +6,11 @@
 
 mod comment;
 mod faults;
+pub mod found;
 pub mod laws;
 mod lexeme;
 mod number;
+mod plain;
 mod reads;
 pub mod scanner;
 mod stops;

@@ -15,13 +15,14 @@ ghost use Rattle.std.specs.Str.{IsAscii};
 
 use crate::faults::{fault, fault_at};
 use crate::lexeme::{Lexeme, Read};
+use crate::plain::plain_number;
 use crate::word::keyword_end;
 use jsonc_text::chars::{digits_end, has_byte, hex_digits_end};
 use jsonc_text::errors::{ParseError, ParseErrorKind};
 use jsonc_text::options::ParseOptions;
 
 /// Whether one of two ASCII characters stands at a place.
-fn has_either(text: &str, place: usize, first: u8, second: u8) -> bool
+pub(crate) fn has_either(text: &str, place: usize, first: u8, second: u8) -> bool
     requires boundary { IsCharBoundary text.now place }
     requires ascii { (first < 128) × (second < 128) }
     ensures here { IsTrue result → HasAt (λ c. c == first || c == second) text.now place }
@@ -65,7 +66,8 @@ fn has_hex_digit(text: &str, place: usize) -> bool
 }
 
 /// The place after the digits at a place, at least one, or none.
-fn some_digits_end(text: &str, start: usize) -> Option<usize>
+#[inline(always)]
+pub(crate) fn some_digits_end(text: &str, start: usize) -> Option<usize>
     requires { IsCharBoundary text.now start }
     ensures found { IfSome result (Between (AllOf is_digit) text.now start) }
     ensures none { IfNone result (LacksAt is_digit text.now start) }
@@ -228,7 +230,7 @@ fn bare_end(
 }
 
 /// Whether `0x` stands at a place.
-fn has_hexadecimal_mark(text: &str, start: usize) -> bool
+pub(crate) fn has_hexadecimal_mark(text: &str, start: usize) -> bool
     requires { IsCharBoundary text.now start }
     ensures here { IsTrue result → HasHexadecimalMark text.now start }
     ensures other { result ≡ false → LacksHexadecimalMark text.now start }
@@ -240,7 +242,8 @@ fn has_hexadecimal_mark(text: &str, start: usize) -> bool
 }
 
 /// The place after the digits before a point, or none where no digit stands.
-fn whole_part_end(text: &str, start: usize) -> Option<usize>
+#[inline(always)]
+pub(crate) fn whole_part_end(text: &str, start: usize) -> Option<usize>
     requires boundary { IsCharBoundary text.now start }
     requires mark { LacksHexadecimalMark text.now start }
     ensures found { IfSome result (Between Whole text.now start) }
@@ -359,8 +362,10 @@ pub(crate) fn begins_number(text: &str, start: usize) -> bool
     has_digit(text, start + 1)
 }
 
-/// The number at a place, where a sign, a digit, or a point with a digit stands.
-pub(crate) fn read_number<'a>(
+/// The number at a place where no number of JSON stands, but a sign, a digit, or a point with a digit.
+#[cold]
+#[inline(never)]
+fn read_other_number<'a>(
     text: &'a str,
     start: usize,
     options: &ParseOptions,
@@ -374,6 +379,28 @@ pub(crate) fn read_number<'a>(
     let end = number_end(text, start, options)?;
     let lexeme = Lexeme::Number(&text[start..end]);
     Ok(Read { lexeme, end })
+}
+
+/// The number at a place, where a sign, a digit, or a point with a digit stands.
+#[inline(always)]
+pub(crate) fn read_number<'a>(
+    text: &'a str,
+    start: usize,
+    options: &ParseOptions,
+) -> Result<Read<'a>, ParseError>
+    requires { IsCharBoundary text.now start }
+    ensures found { IfOk result (IsRead (parse_options options.now) text.now start) }
+    ensures none { IfErr result (λ _. NoNumber (parse_options options.now) text.now start) }
+    ensures fault { IfErr result (IsTextFault text.now) }
+    ensures told { IfErr result (IsFaultOfNumber (parse_options options.now) text.now start) }
+{
+    let Some(number) = plain_number(text, start) else {
+        return read_other_number(text, start, options);
+    };
+    Ok(Read {
+        lexeme: Lexeme::Number(number.text),
+        end: number.end,
+    })
 }
 
 /// The place after the text `name` at a place, where it ends as an unsigned number does, or none.

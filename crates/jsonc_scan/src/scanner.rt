@@ -1,7 +1,9 @@
 //! Turning a text into tokens.
 ghost use Rattle.std.specs.Prelude.{◌≡◌, ◌≢◌, ◌≤◌, ◌<◌, IsCharBoundary, IsTrue, IfOk, IfErr, OnErr, None, option_map};
 
+use crate::found::{TokenContent, TokenKind};
 use crate::lexeme::{mark_token, token_of};
+use crate::plain::plain_number;
 use crate::reads::{quote_at, read_lexeme, read_punctuation};
 use crate::string::{read_string, read_string_twice};
 use jsonc_text::chars::{blanks_end, has_byte};
@@ -87,7 +89,9 @@ impl<'a, A: Allocator> Scanner<'a, A> {
 
 impl<'a, A: Allocator + Copy> Scanner<'a, A> {
     ghost use Rattle.jsonc_text.specs.Faults.{IsFault, kind_of};
-    ghost use Rattle.jsonc_scan.specs.Scanner.{text_of, start_of, end_of, token_of, PassesBlanks, StandsAt, NothingStands, GoesOn, IsLent, HoldsEscape, IsTrueThere, ComesNext, IsMarkHere};
+    ghost use Rattle.jsonc_scan.specs.Scanner.{text_of, start_of, end_of, options_of, token_of, PassesBlanks, StandsAt, NothingStands, GoesOn, IsLent, HoldsEscape, IsTrueThere, ComesNext, IsMarkHere};
+    ghost use Rattle.jsonc_scan.specs.Found.{token_found};
+    ghost use Rattle.jsonc_string.specs.Between.{LacksAt};
     ghost use Rattle.jsonc_text.specs.Lexemes.{is_punctuation};
     ghost use Rattle.jsonc_text.specs.Tokens.{scanned_of};
 
@@ -113,15 +117,18 @@ impl<'a, A: Allocator + Copy> Scanner<'a, A> {
         self.byte_index += 1;
     }
 
-    /// Moves to the next token, and gives it away; or none at the end of the text. The last token
-    /// that the scanner keeps stays what it was.
+    /// Moves to the next token, and answers its kind; or none at the end of the text. What the token
+    /// holds is put into `content`. The last token that the scanner keeps stays what it was.
     ///
     /// After an error the scanner stands where the refused token begins.
     #[inline(always)]
-    pub fn step(&mut self) -> Result<Option<Token<'a, A>>, ParseError>
+    pub fn step(
+        &mut self,
+        content: &mut TokenContent<'a, A>,
+    ) -> Result<Option<TokenKind>, ParseError>
         ensures blanks { PassesBlanks self.old self.new }
-        ensures found { IfOk result (StandsAt self.new) }
-        ensures lent { IfOk result (IsLent self.new) }
+        ensures found { IfOk result (λ f. StandsAt self.new (token_found content.new f)) }
+        ensures lent { IfOk result (λ f. IsLent self.new (token_found content.new f)) }
         ensures nothing { IfErr result (λ e. kind_of e ≢ ParseErrorKind.OutOfMemory → NothingStands self.new) }
         ensures begins { IfErr result (λ _. GoesOn self.new) }
         ensures fault { IfErr result (IsFault (text_of self.new)) }
@@ -138,16 +145,47 @@ impl<'a, A: Allocator + Copy> Scanner<'a, A> {
         }
         if let Some(mark) = read_punctuation(self.file_text, start) {
             self.byte_index = start + 1;
-            return Ok(Some(mark_token(mark)));
+            return Ok(Some(content.mark_kind(mark)));
         }
+        if let Some(number) = plain_number(self.file_text, start) {
+            self.byte_index = number.end;
+            content.text = number.text;
+            return Ok(Some(TokenKind::Number));
+        }
+        self.step_other(content)
+    }
+
+    /// The same where the scanner stands, at no punctuation.
+    #[inline(always)]
+    fn step_other(
+        &mut self,
+        content: &mut TokenContent<'a, A>,
+    ) -> Result<Option<TokenKind>, ParseError>
+        requires begins { GoesOn self.old }
+        requires here { end_of self.old ≡ start_of self.old }
+        requires mark { LacksAt is_punctuation (text_of self.old) (start_of self.old) }
+        ensures text { text_of self.new ≡ text_of self.old }
+        ensures options { options_of self.new ≡ options_of self.old }
+        ensures start { start_of self.new ≡ start_of self.old }
+        ensures found { IfOk result (λ f. StandsAt self.new (token_found content.new f)) }
+        ensures lent { IfOk result (λ f. IsLent self.new (token_found content.new f)) }
+        ensures nothing { IfErr result (λ e. kind_of e ≢ ParseErrorKind.OutOfMemory → NothingStands self.new) }
+        ensures fault { IfErr result (IsFault (text_of self.new)) }
+        ensures told { IfErr result (λ e. kind_of e ≢ ParseErrorKind.OutOfMemory → IsTrueThere self.new e) }
+        ensures memory { IfErr result (λ e. kind_of e ≡ ParseErrorKind.OutOfMemory → HoldsEscape self.new) }
+        ensures keeps { token_of self.new ≡ token_of self.old }
+        ensures stays { OnErr result (end_of self.new ≡ start_of self.new) }
+    {
+        let start = self.token_start;
         if let Some(quote) = quote_at(self.file_text, start, &self.options) {
             let read = read_string(self.alloc, self.file_text, start, quote, &self.options)?;
             self.byte_index = read.end;
-            return Ok(Some(Token::String(read.string)));
+            content.string = read.string;
+            return Ok(Some(TokenKind::String));
         }
         let read = read_lexeme(self.file_text, start, &self.options)?;
         self.byte_index = read.end;
-        Ok(Some(token_of(read.lexeme)))
+        Ok(Some(content.hold(read.lexeme)))
     }
 
     /// Moves to the next token, and answers it; or none at the end of the text.
@@ -178,6 +216,11 @@ impl<'a, A: Allocator + Copy> Scanner<'a, A> {
             self.byte_index = start + 1;
             self.current_token = Some(mark_token(mark));
             return Ok(Some(mark_token(mark)));
+        }
+        if let Some(number) = plain_number(self.file_text, start) {
+            self.byte_index = number.end;
+            self.current_token = Some(Token::Number(number.text));
+            return Ok(Some(Token::Number(number.text)));
         }
         if let Some(quote) = quote_at(self.file_text, start, &self.options) {
             let read = read_string_twice(self.alloc, self.file_text, start, quote, &self.options)?;

@@ -1,5 +1,6 @@
 pub mod Grammar
 pub mod Gaps
+pub mod Given
 pub mod Noting
 pub mod GapEnds
 pub mod Lent

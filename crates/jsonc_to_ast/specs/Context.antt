@@ -1,5 +1,5 @@
 -- What a parser has before it.
-use Rattle.std.specs.Prelude.{ℕ, ◌≡◌, ◌≢◌, ◌≤◌, ◌⊎◌, Bool, false, List, ◌∷◌, length, Option, Some, None, is_some}
+use Rattle.std.specs.Prelude.{ℕ, ◌≡◌, ◌≢◌, ◌≤◌, ◌⊎◌, Bool, false, List, ◌∷◌, length, Option, Some, None, is_some, Result, Ok, Err}
 use Rattle.jsonc_text.specs.Lexemes.{LexemeKind, lexeme, punctuation}
 use Rattle.jsonc_text.specs.declared.common.Range.{Range}
 use Rattle.jsonc_text.specs.declared.tokens.Token.{Token}
@@ -7,6 +7,8 @@ use Rattle.jsonc_text.specs.Options.{Options}
 use Rattle.jsonc_text.specs.Places.{is_comment}
 use Rattle.jsonc_text.specs.Tokens.{scanned_of}
 use Rattle.jsonc_scan.specs.Scanner.{text_of, start_of, end_of, options_of, StandsAt}
+use Rattle.jsonc_scan.specs.Found.{token_held, token_found}
+use Rattle.jsonc_scan.specs.declared.found.TokenKind.{TokenKind}
 use Rattle.jsonc_text.specs.Gaps.{Gap}
 use Rattle.jsonc_text.specs.Grammar.{IsName, Separates, Closes}
 use Rattle.jsonc_to_ast.specs.declared.container.Container.{Container}
@@ -46,6 +48,26 @@ module _ {A : Type 0} where
   -- whether comments are collected apart
   abbrev pub comments_asked : Context A → Bool
   comments_asked c = is_some c.comments
+
+  -- the last token, if it is of this kind
+  abbrev pub last : Context A → TokenKind → Token A
+  last c k = token_held k c.content
+
+  -- what was found: the last token, or none
+  abbrev pub found_in : Context A → Option TokenKind → Option (Token A)
+  found_in c = token_found c.content
+
+  -- so, where a call went well
+  abbrev pub found_by : {E : Type 0} → Context A → Result (Option TokenKind) E → Result (Option (Token A)) E
+  found_by c (Ok f) = Ok (found_in c f)
+  found_by c (Err e) = Err e
+
+  -- nothing but what is held of the last token has changed
+  pub record GivesAway (old new : Context A) : Type 0 where
+    pub scanner : new.scanner ≡ old.scanner
+    pub tokens : new.tokens ≡ old.tokens
+    pub comments : new.comments_are_tokens ≡ old.comments_are_tokens
+    pub apart : new.comments ≡ old.comments
 
   -- the token is the last one
   abbrev pub IsToken : Context A → Token A → Type 0

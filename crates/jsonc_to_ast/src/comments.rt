@@ -2,28 +2,31 @@
 ghost use Rattle.std.specs.Prelude.{◌≡◌, IfSome, IfNone, OnOk, false};
 ghost use Rattle.jsonc_text.specs.Places.{is_comment};
 ghost use Rattle.jsonc_text.specs.Tokens.{scanned_of};
+ghost use Rattle.jsonc_scan.specs.Found.{token_held};
 ghost use Rattle.jsonc_to_ast.specs.Comments.{comment_at, comments_in, placed_from, PutsUnder};
 
 use crate::collect::CommentMap;
 use jsonc_ast::ast::{Comment, CommentBlock, CommentLine};
+use jsonc_scan::found::{TokenContent, TokenKind};
 use jsonc_text::common::Range;
-use jsonc_text::tokens::Token;
 use std::alloc::{AllocError, Allocator};
 use std::collections::HashMap;
 use std::mem::replace;
 use std::rc::Rc;
 
-/// The comment that a token is, with its range.
+/// The comment that a token of a kind is, with its range.
 pub(crate) fn comment_of<'a, A: Allocator>(
-    token: &Token<'a, A>,
+    token: TokenKind,
+    content: &TokenContent<'a, A>,
     range: Range,
 ) -> Option<Comment<'a>>
-    ensures some { IfSome result (λ c. comment_at c ≡ placed_from (scanned_of token.now) range) }
-    ensures none { IfNone result (is_comment (scanned_of token.now) ≡ false) }
+    ensures some { IfSome result (λ c. comment_at c ≡ placed_from (scanned_of (token_held token content.now)) range) }
+    ensures none { IfNone result (is_comment (scanned_of (token_held token content.now)) ≡ false) }
 {
+    let text = content.text;
     match token {
-        Token::CommentLine(text) => Some(Comment::Line(CommentLine { range, text: *text })),
-        Token::CommentBlock(text) => Some(Comment::Block(CommentBlock { range, text: *text })),
+        TokenKind::CommentLine => Some(Comment::Line(CommentLine { range, text })),
+        TokenKind::CommentBlock => Some(Comment::Block(CommentBlock { range, text })),
         _ => None,
     }
 }

@@ -6,13 +6,14 @@ ghost use Rattle.jsonc_scan.specs.Scanner.{options_of};
 
 use crate::collect::{CollectOptions, CommentCollectionStrategy, CommentMap};
 use crate::comments::{GapComments, comment_of};
-use crate::container::{Container, is_colon, is_comma, is_comment, loose_name};
+use crate::container::Container;
 use jsonc_ast::ast::{ObjectPropName, StringLit, WordLit};
+use jsonc_scan::found::{TokenContent, TokenKind};
 use jsonc_scan::scanner::Scanner;
 use jsonc_text::common::Range;
 use jsonc_text::errors::{ParseError, ParseErrorKind};
 use jsonc_text::options::ParseOptions;
-use jsonc_text::tokens::{Token, TokenAndRange};
+use jsonc_text::tokens::TokenAndRange;
 use std::alloc::Allocator;
 
 /// How many containers, or containers and properties, may be around a value.
@@ -21,6 +22,8 @@ pub const MAXIMUM_NESTING: usize = 512;
 #[derive(Drop)]
 pub struct Context<'a, A: Allocator> {
     pub scanner: Scanner<'a, A>,
+    /// What the last token holds.
+    pub content: TokenContent<'a, A>,
     pub alloc: A,
     pub options: ParseOptions,
     pub tokens: Option<Vec<TokenAndRange<'a, A>, A>>,
@@ -38,7 +41,7 @@ impl<'a, A: Allocator + Copy> Context<'a, A> {
     ghost use Rattle.jsonc_text.specs.Places.{is_comment as is_a_comment};
     ghost use Rattle.jsonc_text.specs.Text.{Spans};
     ghost use Rattle.jsonc_text.specs.Tokens.{scanned_of};
-    ghost use Rattle.jsonc_to_ast.specs.Context.{text_in, options_in, token_end, token_range, tokens_asked, comments_asked, Keeps, Finds, LeadsToFirst, LeadsAfterComma, LeadsToNext, PassesColon, IsToken, IsNameHere, IsNoComment, AtEnd, ClosesNone, Comes};
+    ghost use Rattle.jsonc_to_ast.specs.Context.{text_in, options_in, token_end, token_range, tokens_asked, comments_asked, last, found_in, found_by, GivesAway, Keeps, Finds, LeadsToFirst, LeadsAfterComma, LeadsToNext, PassesColon, IsToken, IsNameHere, IsNoComment, AtEnd, ClosesNone, Comes};
     ghost use Rattle.jsonc_scan.specs.Scanner.{ComesNext};
     ghost use Rattle.jsonc_ast.specs.Views.{name_at};
     ghost use Rattle.jsonc_to_ast.specs.Containers.{misplaced_kind, begins};
@@ -76,6 +79,7 @@ impl<'a, A: Allocator + Copy> Context<'a, A> {
         };
         Context {
             scanner: Scanner::with_options(alloc, text, options.copied()),
+            content: TokenContent::new(),
             alloc,
             options: options.copied(),
             tokens,
@@ -147,6 +151,27 @@ impl<'a, A: Allocator + Copy> Context<'a, A> {
         ParseError::out_of_memory()
     }
 
+    /// Whether a value would have too many containers and properties around it.
+    #[inline(always)]
+    pub(crate) fn nests_too_deep(&self, around: usize) -> bool
+        ensures deep { IsTrue result → 512 < around }
+        ensures within { result ≡ false → around ≤ 512 }
+    {
+        around > MAXIMUM_NESTING
+    }
+
+    /// The fault of a value that too many containers and properties are around. The innermost of
+    /// them begins at the place.
+    #[cold]
+    pub(crate) fn nesting_fault(&self, start: usize) -> ParseError
+        requires { Spans (text_in self.now) start (token_end self.now) }
+        ensures fault { IsFault (text_in self.now) result }
+        ensures kind { kind_of result ≡ ParseErrorKind.NestingDepthExceeded }
+        ensures range { range_of result ≡ record { start = start; end = token_end self.now } }
+    {
+        self.fault_from(start, ParseErrorKind::NestingDepthExceeded)
+    }
+
     /// Refuses a value that too many containers and properties are around.
     /// The innermost of them begins at the place.
     #[inline(always)]
@@ -158,8 +183,8 @@ impl<'a, A: Allocator + Copy> Context<'a, A> {
         ensures kind { IfErr result (λ e. kind_of e ≡ ParseErrorKind.NestingDepthExceeded) }
         ensures range { IfErr result (λ e. range_of e ≡ record { start = start; end = token_end self.now }) }
     {
-        if around > MAXIMUM_NESTING {
-            return Err(self.fault_from(start, ParseErrorKind::NestingDepthExceeded));
+        if self.nests_too_deep(around) {
+            return Err(self.nesting_fault(start));
         }
         Ok(())
     }
@@ -178,13 +203,14 @@ impl<'a, A: Allocator + Copy> Context<'a, A> {
 
     /// Collects the last token, where tokens are asked for.
     #[inline(always)]
-    fn collect(&mut self, token: &Token<'a, A>) -> Result<(), ParseError>
+    fn collect(&mut self, token: TokenKind) -> Result<(), ParseError>
         ensures scanner { self.new.scanner ≡ self.old.scanner }
+        ensures content { self.new.content ≡ self.old.content }
         ensures tokens { tokens_asked self.new ≡ tokens_asked self.old }
         ensures comments { self.new.comments_are_tokens ≡ self.old.comments_are_tokens }
         ensures apart { self.new.comments ≡ self.old.comments }
-        ensures collected { OnOk result (CollectsLast self.old self.new (scanned_of token.now)) }
-        ensures lent { OnOk result (IsLentHere self.old (Some token.now) → StaysLent self.old self.new) }
+        ensures collected { OnOk result (CollectsLast self.old self.new (scanned_of (last self.old token))) }
+        ensures lent { OnOk result (IsLentHere self.old (Some (last self.old token)) → StaysLent self.old self.new) }
         ensures memory { IfErr result (λ e. kind_of e ≡ ParseErrorKind.OutOfMemory) }
         ensures fault { IfErr result (IsFault (text_in self.old)) }
     {
@@ -192,7 +218,7 @@ impl<'a, A: Allocator + Copy> Context<'a, A> {
         let Some(tokens) = &mut self.tokens else {
             return Ok(());
         };
-        let Ok(token) = token.try_clone() else {
+        let Ok(token) = self.content.token(token) else {
             return Err(self.out_of_memory());
         };
         let Ok(()) = tokens.push(TokenAndRange { range, token }) else {
@@ -202,16 +228,17 @@ impl<'a, A: Allocator + Copy> Context<'a, A> {
     }
 
     /// Notes a comment, the last token, where comments are asked for apart.
-    fn note(&mut self, comment: &Token<'a, A>) -> Result<(), ParseError>
+    fn note(&mut self, comment: TokenKind) -> Result<(), ParseError>
         ensures scanner { self.new.scanner ≡ self.old.scanner }
+        ensures content { self.new.content ≡ self.old.content }
         ensures tokens { self.new.tokens ≡ self.old.tokens }
         ensures comments { self.new.comments_are_tokens ≡ self.old.comments_are_tokens }
         ensures apart { comments_asked self.new ≡ comments_asked self.old }
-        ensures noted { OnOk result (NotesComment self.old self.new (scanned_of comment.now)) }
+        ensures noted { OnOk result (NotesComment self.old self.new (scanned_of (last self.old comment))) }
         ensures memory { IfErr result (λ e. kind_of e ≡ ParseErrorKind.OutOfMemory) }
         ensures fault { IfErr result (IsFault (text_in self.old)) }
     {
-        let Some(comment) = comment_of(comment, self.range()) else {
+        let Some(comment) = comment_of(comment, &self.content, self.range()) else {
             return Ok(());
         };
         let Some(comments) = &mut self.comments else {
@@ -228,6 +255,7 @@ impl<'a, A: Allocator + Copy> Context<'a, A> {
     #[inline(always)]
     fn end_gap(&mut self) -> Result<(), ParseError>
         ensures scanner { self.new.scanner ≡ self.old.scanner }
+        ensures content { self.new.content ≡ self.old.content }
         ensures tokens { self.new.tokens ≡ self.old.tokens }
         ensures comments { self.new.comments_are_tokens ≡ self.old.comments_are_tokens }
         ensures apart { comments_asked self.new ≡ comments_asked self.old }
@@ -264,15 +292,16 @@ impl<'a, A: Allocator + Copy> Context<'a, A> {
 
     /// Passes a comment, the last token, where comments are allowed.
     #[cold]
-    fn pass_comment(&mut self, comment: &Token<'a, A>) -> Result<(), ParseError>
+    fn pass_comment(&mut self, comment: TokenKind) -> Result<(), ParseError>
         ensures scanner { self.new.scanner ≡ self.old.scanner }
+        ensures content { self.new.content ≡ self.old.content }
         ensures tokens { tokens_asked self.new ≡ tokens_asked self.old }
         ensures comments { self.new.comments_are_tokens ≡ self.old.comments_are_tokens }
         ensures apart { comments_asked self.new ≡ comments_asked self.old }
-        ensures noted { OnOk result (NotesComment self.old self.new (scanned_of comment.now)) }
-        ensures collected { OnOk result (CollectsComment self.old self.new (scanned_of comment.now)) }
+        ensures noted { OnOk result (NotesComment self.old self.new (scanned_of (last self.old comment))) }
+        ensures collected { OnOk result (CollectsComment self.old self.new (scanned_of (last self.old comment))) }
         ensures omitted { OnOk result (OmitsComment self.old self.new) }
-        ensures lent { OnOk result (IsLentHere self.old (Some comment.now) → StaysLent self.old self.new) }
+        ensures lent { OnOk result (IsLentHere self.old (Some (last self.old comment)) → StaysLent self.old self.new) }
         ensures allowed { OnOk result (IsTrue (options_in self.old).comments) }
         ensures refused { IfErr result (RefusesComment self.old) }
         ensures fault { IfErr result (IsFault (text_in self.old)) }
@@ -287,32 +316,30 @@ impl<'a, A: Allocator + Copy> Context<'a, A> {
         Ok(())
     }
 
-    /// Passes a gap, and answers the token after it, or none at the end of the text.
-    pub fn scan(&mut self) -> Result<Option<Token<'a, A>>, ParseError>
+    /// Passes a gap, and answers the kind of the token after it, or none at the end of the text.
+    pub fn scan(&mut self) -> Result<Option<TokenKind>, ParseError>
         ensures kept { Keeps self.old self.new }
-        ensures found { IfOk result (Finds (Gap (options_in self.old)) self.old self.new) }
-        ensures lexeme { IfOk result IsNoComment }
-        ensures lent { IfOk result (IsLentHere self.new) }
+        ensures found { IfOk (found_by self.new result) (Finds (Gap (options_in self.old)) self.old self.new) }
+        ensures lexeme { IfOk (found_by self.new result) IsNoComment }
+        ensures lent { IfOk (found_by self.new result) (IsLentHere self.new) }
         ensures collects { OnOk result (Collects self.old self.new) }
         ensures refused { IfErr result (Tells (NoTokenAfter self.old)) }
         ensures fault { IfErr result (IsFault (text_in self.old)) }
         ensures told { IfErr result (StopsAnyhow self.old) }
     {
         loop {
-            let Some(token) = self.scanner.step()? else {
+            let Some(token) = self.scanner.step(&mut self.content)? else {
                 return Ok(None);
             };
-            if !is_comment(&token) {
+            if !self.is_comment(token) {
                 if !self.collects() {
                     return Ok(Some(token));
                 }
-                let lexeme = token;
-                self.collect(&lexeme)?;
+                self.collect(token)?;
                 self.end_gap()?;
-                return Ok(Some(lexeme));
+                return Ok(Some(token));
             }
-            let comment = token;
-            self.pass_comment(&comment)?;
+            self.pass_comment(token)?;
         }
     }
 
@@ -337,7 +364,7 @@ impl<'a, A: Allocator + Copy> Context<'a, A> {
         requires tokens { tokens_asked self.old ≡ false }
         requires comments { comments_asked self.old ≡ false }
         ensures kept { Keeps self.old self.new }
-        ensures found { Finds (Gap (options_in self.old)) self.old self.new (Some Token.Comma) }
+        ensures found { Finds (Gap (options_in self.old)) self.old self.new (Some (last self.new TokenKind.Comma)) }
         ensures collects { Collects self.old self.new }
     {
         self.scanner.pass_mark(b',');
@@ -356,7 +383,7 @@ impl<'a, A: Allocator + Copy> Context<'a, A> {
         self.scanner.pass_mark(b':');
     }
 
-    /// Passes what stands after an opening bracket: answers the token that the first element or
+    /// Passes what stands after an opening bracket: answers the kind of the token that the first element or
     /// property begins with, or none past the closing bracket. Where the text ends in the
     /// container, the fault is told from the place where that began, if one is given.
     #[inline(always)]
@@ -364,22 +391,22 @@ impl<'a, A: Allocator + Copy> Context<'a, A> {
         &mut self,
         container: Container,
         start: Option<usize>,
-    ) -> Result<Option<Token<'a, A>>, ParseError>
+    ) -> Result<Option<TokenKind>, ParseError>
         requires { IfSome start (λ i. Spans (text_in self.old) i (token_end self.old)) }
         ensures kept { Keeps self.old self.new }
-        ensures found { IfOk result (LeadsToFirst container self.old self.new) }
-        ensures only { IfOk result (WhereSome (OnlyFirst container self.old self.new)) }
-        ensures lent { IfOk result (IsLentHere self.new) }
+        ensures found { IfOk (found_by self.new result) (LeadsToFirst container self.old self.new) }
+        ensures only { IfOk (found_by self.new result) (WhereSome (OnlyFirst container self.old self.new)) }
+        ensures lent { IfOk (found_by self.new result) (IsLentHere self.new) }
         ensures collects { OnOk result (Collects self.old self.new) }
         ensures refused { IfErr result (Tells (NothingFirst container self.old)) }
         ensures fault { IfErr result (IsFault (text_in self.old)) }
         ensures told { IfErr result (StopsInside container start (Due.first container) self.old) }
-        ensures stands { IfOk result (λ f. IfSome f (ClosesNone container)) }
+        ensures stands { IfOk (found_by self.new result) (λ f. IfSome f (ClosesNone container)) }
     {
         let Some(first) = self.scan()? else {
             return Err(self.unterminated(container, start));
         };
-        if container.is_closed_by(&first) {
+        if self.closes(container, first) {
             return Ok(None);
         }
         Ok(Some(first))
@@ -391,24 +418,24 @@ impl<'a, A: Allocator + Copy> Context<'a, A> {
         &mut self,
         container: Container,
         start: Option<usize>,
-    ) -> Result<Option<Token<'a, A>>, ParseError>
+    ) -> Result<Option<TokenKind>, ParseError>
         requires { IfSome start (λ i. Spans (text_in self.old) i (token_end self.old)) }
         ensures kept { Keeps self.old self.new }
-        ensures found { IfOk result (LeadsAfterComma container self.old self.new) }
-        ensures only { IfOk result (WhereSome (OnlyAfterComma container self.old self.new)) }
-        ensures lent { IfOk result (IsLentHere self.new) }
+        ensures found { IfOk (found_by self.new result) (LeadsAfterComma container self.old self.new) }
+        ensures only { IfOk (found_by self.new result) (WhereSome (OnlyAfterComma container self.old self.new)) }
+        ensures lent { IfOk (found_by self.new result) (IsLentHere self.new) }
         ensures collects { OnOk result (Collects self.old self.new) }
         ensures refused { IfErr result (Tells (NothingAfterComma container self.old)) }
         ensures fault { IfErr result (IsFault (text_in self.old)) }
         ensures told { IfErr result (λ e. IsBracket 0x2C self.old
             → StopsInside container start (Due.further container (here self.old)) self.old e) }
-        ensures stands { IfOk result (λ f. IfSome f (ClosesNone container)) }
+        ensures stands { IfOk (found_by self.new result) (λ f. IfSome f (ClosesNone container)) }
     {
         let comma = self.range();
         let Some(token) = self.scan()? else {
             return Err(self.unterminated(container, start));
         };
-        if !container.is_closed_by(&token) {
+        if !self.closes(container, token) {
             return Ok(Some(token));
         }
         if !self.options.allow_trailing_commas {
@@ -419,39 +446,39 @@ impl<'a, A: Allocator + Copy> Context<'a, A> {
 
     /// What is wrong with the last token where a comma must stand, after what ended at a place.
     #[cold]
-    fn missing_comma(&self, container: Container, token: &Token<'a, A>, end: usize) -> ParseError
+    fn missing_comma(&self, container: Container, token: TokenKind, end: usize) -> ParseError
         requires { Spans (text_in self.now) end (token_end self.now) }
         ensures fault { IsFault (text_in self.now) result }
-        ensures comma { IsTrue (begins container (scanned_of token.now))
+        ensures comma { IsTrue (begins container (scanned_of (last self.now token)))
             → IsFaultOf ParseErrorKind.ExpectedComma (record { start = end; end = end }) result }
-        ensures misplaced { begins container (scanned_of token.now) ≡ false
-            → IsFaultOf (misplaced_kind container (scanned_of token.now)) (token_range self.now) result }
+        ensures misplaced { begins container (scanned_of (last self.now token)) ≡ false
+            → IsFaultOf (misplaced_kind container (scanned_of (last self.now token))) (token_range self.now) result }
     {
-        if container.begins_with(token) {
+        if self.begins(container, token) {
             return self.fault(Range::from_byte_index(end), ParseErrorKind::ExpectedComma);
         }
-        self.fault_here(container.misplaced(token))
+        self.fault_here(self.misplaced(container, token))
     }
 
-    /// Passes what stands after an element or a property: answers the token that the next one
-    /// begins with, or none past the closing bracket.
+    /// Passes what stands after an element or a property: answers the kind of the token that the
+    /// next one begins with, or none past the closing bracket.
     #[inline(always)]
     pub fn next_item(
         &mut self,
         container: Container,
         start: Option<usize>,
-    ) -> Result<Option<Token<'a, A>>, ParseError>
+    ) -> Result<Option<TokenKind>, ParseError>
         requires { IfSome start (λ i. Spans (text_in self.old) i (token_end self.old)) }
         ensures kept { Keeps self.old self.new }
-        ensures found { IfOk result (LeadsToNext container self.old self.new) }
-        ensures only { IfOk result (WhereSome (OnlyNext container self.old self.new)) }
-        ensures lent { IfOk result (IsLentHere self.new) }
+        ensures found { IfOk (found_by self.new result) (LeadsToNext container self.old self.new) }
+        ensures only { IfOk (found_by self.new result) (WhereSome (OnlyNext container self.old self.new)) }
+        ensures lent { IfOk (found_by self.new result) (IsLentHere self.new) }
         ensures collects { OnOk result (Collects self.old self.new) }
         ensures refused { IfErr result (Tells (NothingNext container self.old)) }
         ensures fault { IfErr result (IsFault (text_in self.old)) }
         ensures told { IfErr result (StopsInside container start (Due.comma container (after self.old)) self.old) }
-        ensures stands { IfOk result (λ f. IfSome f (ClosesNone container)) }
-        ensures comes { IfOk result (λ f. IfSome f (Comes self.old self.new)) }
+        ensures stands { IfOk (found_by self.new result) (λ f. IfSome f (ClosesNone container)) }
+        ensures comes { IfOk (found_by self.new result) (λ f. IfSome f (Comes self.old self.new)) }
     {
         if self.has_next(b',') {
             self.pass_next_comma();
@@ -461,35 +488,39 @@ impl<'a, A: Allocator + Copy> Context<'a, A> {
         let Some(token) = self.scan()? else {
             return Err(self.unterminated(container, start));
         };
-        if container.is_closed_by(&token) {
+        if self.closes(container, token) {
             return Ok(None);
         }
-        if is_comma(&token) {
+        if self.is_comma(token) {
             return self.item_after_comma(container, start);
         }
         if !self.options.allow_missing_commas {
-            return Err(self.missing_comma(container, &token, end));
+            return Err(self.missing_comma(container, token, end));
         }
         Ok(Some(token))
     }
 
-    /// The name that the last token is, where the options allow it.
+    /// The name that the last token is, where the options allow it. A string is given away.
     #[inline(always)]
-    pub fn name(&self, token: Token<'a, A>) -> Result<ObjectPropName<'a, A>, ParseError>
-        requires { IsToken self.now token }
-        ensures name { IfOk result (λ n. IsNameHere self.now (name_at n)) }
-        ensures range { IfOk result (λ n. (name_at n).range ≡ token_range self.now) }
-        ensures written { IfOk result (λ n. IsLentHere self.now (Some token.entry)
-            → IsWritten (options_in self.now) (text_in self.now) n) }
-        ensures refused { IfErr result (λ _. NoName self.now) }
-        ensures fault { IfErr result (IsFault (text_in self.now)) }
-        ensures told { IfErr result (IsWrongName self.now token.entry) }
+    pub fn name(&mut self, token: TokenKind) -> Result<ObjectPropName<'a, A>, ParseError>
+        requires { IsToken self.old (last self.old token) }
+        ensures gives { GivesAway self.old self.new }
+        ensures name { IfOk result (λ n. IsNameHere self.old (name_at n)) }
+        ensures range { IfOk result (λ n. (name_at n).range ≡ token_range self.old) }
+        ensures written { IfOk result (λ n. IsLentHere self.old (Some (last self.old token))
+            → IsWritten (options_in self.old) (text_in self.old) n) }
+        ensures refused { IfErr result (λ _. NoName self.old) }
+        ensures fault { IfErr result (IsFault (text_in self.old)) }
+        ensures told { IfErr result (IsWrongName self.old (last self.old token)) }
     {
         let range = self.range();
         match token {
-            Token::String(value) => Ok(ObjectPropName::String(StringLit { range, value })),
+            TokenKind::String => {
+                let value = self.content.take_string();
+                Ok(ObjectPropName::String(StringLit { range, value }))
+            }
             token => {
-                let Some(value) = loose_name(&token) else {
+                let Some(value) = self.loose_name(token) else {
                     return Err(self.fault_here(ParseErrorKind::UnexpectedTokenInObject));
                 };
                 if !self.options.allow_loose_object_property_names {
@@ -517,7 +548,7 @@ impl<'a, A: Allocator + Copy> Context<'a, A> {
         let Some(token) = self.scan()? else {
             return Err(self.fault_here(ParseErrorKind::ExpectedColonAfterObjectKey));
         };
-        if !is_colon(&token) {
+        if !self.is_colon(token) {
             return Err(self.fault_here(ParseErrorKind::ExpectedColonAfterObjectKey));
         }
         Ok(())

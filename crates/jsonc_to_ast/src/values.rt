@@ -1,12 +1,13 @@
 //! Values read by recursive descent.
-ghost use Rattle.std.specs.Prelude.{◌≡◌, ◌+◌, ◌≤◌, IfOk, IfErr, OnOk, IfSome, Some, true, option_map, is_some, chars};
+ghost use Rattle.std.specs.Prelude.{◌≡◌, ◌+◌, ◌≤◌, IfOk, IfErr, OnOk, IfSome, IfNone, Some, true, option_map, is_some, chars};
 ghost use Rattle.jsonc_text.specs.Faults.{IsFault, kind_of};
 ghost use Rattle.jsonc_text.specs.Grammar.{IsDocument};
 ghost use Rattle.jsonc_text.specs.OptionsOf.{parse_options};
 ghost use Rattle.jsonc_text.specs.Plain.{around};
 ghost use Rattle.jsonc_text.specs.Tokens.{scanned_of};
 ghost use Rattle.jsonc_to_ast.specs.Collected.{HoldsCollected, is_separate, HoldsComments, Collects, ShowsNoted};
-ghost use Rattle.jsonc_to_ast.specs.Context.{text_in, options_in, token_start, token_end, comments_asked, Keeps, AtEnd, IsToken, IsBracket, OpensNone};
+ghost use Rattle.jsonc_to_ast.specs.Context.{text_in, options_in, token_start, token_end, comments_asked, Keeps, AtEnd, IsToken, IsBracket, OpensNone, GivesAway, last};
+ghost use Rattle.jsonc_scan.specs.Found.{token_held};
 ghost use Rattle.jsonc_ast.specs.Located.{leaf_at, range_at, value_at, IsLocatedDocument};
 ghost use Rattle.jsonc_to_ast.specs.Reads.{Reads, ReadsMember};
 ghost use Rattle.jsonc_to_ast.specs.Refusals.{NoLiteral, NoPropertyHere, NoValueHere, RefusesText, Tells};
@@ -20,29 +21,45 @@ ghost use Rattle.jsonc_to_ast.specs.Results.{located_in, plain_in};
 ghost use Rattle.jsonc_to_ast.specs.Written.{AreWritten, AreWrittenIn, IsLentHere, spelled_of};
 
 use crate::collect::{CollectOptions, ParseResult};
-use crate::container::{Container, unexpected};
+use crate::container::Container;
 use crate::context::Context;
 use jsonc_ast::ast::{
     BooleanLit, NullKeyword, NumberLit, ObjectProp, StringLit, Value, array_of, object_of,
     property_of, push_property, push_value,
 };
+use jsonc_scan::found::{TokenContent, TokenKind};
 use jsonc_text::common::Range;
 use jsonc_text::errors::{ParseError, ParseErrorKind};
 use jsonc_text::options::ParseOptions;
-use jsonc_text::tokens::Token;
 use std::alloc::Allocator;
 
-/// The value that a token is by itself.
+/// The value that a token of a kind is by itself. A string is given away.
 #[inline(always)]
-fn leaf<'a, A: Allocator>(token: Token<'a, A>, range: Range) -> Option<Value<'a, A>>
-    ensures located { option_map located result ≡ option_map (leaf_at range) (leaf_value (scanned_of token.entry)) }
-    ensures spelled { IfSome result (λ v. spelled v ≡ spelled_of range token.entry) }
+fn leaf<'a, A: Allocator>(
+    token: TokenKind,
+    content: &mut TokenContent<'a, A>,
+    range: Range,
+) -> Option<Value<'a, A>>
+    ensures located { option_map located result
+        ≡ option_map (leaf_at range) (leaf_value (scanned_of (token_held token content.old))) }
+    ensures spelled { IfSome result (λ v. spelled v ≡ spelled_of range (token_held token content.old)) }
+    ensures stays { IfNone result (content.new ≡ content.old) }
 {
     match token {
-        Token::String(value) => Some(Value::StringLit(StringLit { range, value })),
-        Token::Number(value) => Some(Value::NumberLit(NumberLit { range, value })),
-        Token::Boolean(value) => Some(Value::BooleanLit(BooleanLit { range, value })),
-        Token::Null => Some(Value::NullKeyword(NullKeyword { range })),
+        TokenKind::String => {
+            let value = content.take_string();
+            Some(Value::StringLit(StringLit { range, value }))
+        }
+        TokenKind::Number => {
+            let value = content.text;
+            Some(Value::NumberLit(NumberLit { range, value }))
+        }
+        TokenKind::True => Some(Value::BooleanLit(BooleanLit { range, value: true })),
+        TokenKind::False => Some(Value::BooleanLit(BooleanLit {
+            range,
+            value: false,
+        })),
+        TokenKind::Null => Some(Value::NullKeyword(NullKeyword { range })),
         _ => None,
     }
 }
@@ -50,20 +67,23 @@ fn leaf<'a, A: Allocator>(token: Token<'a, A>, range: Range) -> Option<Value<'a,
 /// The value that the last token is by itself.
 #[inline(always)]
 fn parse_leaf<'a, A: Allocator + Copy>(
-    context: &Context<'a, A>,
-    token: Token<'a, A>,
+    context: &mut Context<'a, A>,
+    token: TokenKind,
 ) -> Result<Value<'a, A>, ParseError>
-    requires { IsToken context.now token }
-    ensures found { IfOk result (λ v. Reads context.now context.now (located v)) }
-    ensures written { IfOk result (λ v. IsLentHere context.now (Some token.entry)
-        → AreWrittenIn context.now (spelled v)) }
+    requires { IsToken context.old (last context.old token) }
+    ensures gives { GivesAway context.old context.new }
+    ensures found { IfOk result (λ v. Reads context.old context.old (located v)) }
+    ensures written { IfOk result (λ v. IsLentHere context.old (Some (last context.old token))
+        → AreWrittenIn context.old (spelled v)) }
     ensures within { IfOk result (λ v. around (plain v) ≡ 0) }
-    ensures refused { IfErr result (λ _. NoLiteral context.now) }
-    ensures fault { IfErr result (IsFault (text_in context.now)) }
-    ensures told { IfErr result (λ e. OpensNone token.entry → IsUnexpected context.now token.entry e) }
+    ensures refused { IfErr result (λ _. NoLiteral context.old) }
+    ensures fault { IfErr result (IsFault (text_in context.old)) }
+    ensures told { IfErr result (λ e. OpensNone (last context.old token)
+        → IsUnexpected context.old (last context.old token) e) }
 {
-    let kind = unexpected(&token);
-    let Some(value) = leaf(token, context.range()) else {
+    let range = context.range();
+    let Some(value) = leaf(token, &mut context.content, range) else {
+        let kind = context.unexpected(token);
         return Err(context.fault_here(kind));
     };
     Ok(value)
@@ -74,24 +94,24 @@ fn parse_leaf<'a, A: Allocator + Copy>(
 #[inline(always)]
 fn parse_value<'a, A: Allocator + Copy>(
     context: &mut Context<'a, A>,
-    token: Token<'a, A>,
+    token: TokenKind,
     count: usize,
 ) -> Result<Value<'a, A>, ParseError>
-    requires token { IsToken context.old token }
+    requires token { IsToken context.old (last context.old token) }
     requires around { count ≤ 512 }
     ensures kept { OnOk result (Keeps context.old context.new) }
     ensures collects { OnOk result (Collects context.old context.new) }
     ensures found { IfOk result (λ v. Reads context.old context.new (located v)) }
-    ensures written { IfOk result (λ v. IsLentHere context.old (Some token.entry)
+    ensures written { IfOk result (λ v. IsLentHere context.old (Some (last context.old token))
         → AreWrittenIn context.old (spelled v)) }
     ensures within { IfOk result (λ v. around (plain v) + count ≤ 512) }
     ensures refused { IfErr result (Tells (NoValueHere context.old count)) }
     ensures fault { IfErr result (IsFault (text_in context.old)) }
-    ensures told { IfErr result (StopsAtValue context.old token.entry true count) }
+    ensures told { IfErr result (StopsAtValue context.old (last context.old token) true count) }
 {
     match token {
-        Token::OpenBracket => parse_array(context, count),
-        Token::OpenBrace => parse_object(context, count),
+        TokenKind::OpenBracket => parse_array(context, count),
+        TokenKind::OpenBrace => parse_object(context, count),
         token => parse_leaf(context, token),
     }
 }
@@ -118,7 +138,9 @@ fn parse_array<'a, A: Allocator + Copy>(
     let mut elements = Vec::new(context.alloc);
     let mut next = context.first_item(Container::Array, Some(start))?;
     while let Some(token) = next {
-        context.check_nesting(start, count + 1)?;
+        if context.nests_too_deep(count + 1) {
+            return Err(context.nesting_fault(start));
+        }
         let value = parse_value(context, token, count + 1)?;
         let Ok(()) = push_value(&mut elements, value) else {
             return Err(context.out_of_memory());
@@ -164,26 +186,28 @@ fn parse_object<'a, A: Allocator + Copy>(
 #[inline(always)]
 fn parse_property<'a, A: Allocator + Copy>(
     context: &mut Context<'a, A>,
-    token: Token<'a, A>,
+    token: TokenKind,
     count: usize,
 ) -> Result<ObjectProp<'a, A>, ParseError>
-    requires token { IsToken context.old token }
+    requires token { IsToken context.old (last context.old token) }
     requires around { count ≤ 513 }
     ensures kept { OnOk result (Keeps context.old context.new) }
     ensures collects { OnOk result (Collects context.old context.new) }
     ensures found { IfOk result (λ p. ReadsMember context.old context.new (member_of p)) }
-    ensures written { IfOk result (λ p. IsLentHere context.old (Some token.entry)
+    ensures written { IfOk result (λ p. IsLentHere context.old (Some (last context.old token))
         → AreWrittenIn context.old (spelled_in_property p)) }
     ensures within { IfOk result (λ p. around (value_at (member_of p).value) + (count + 1) ≤ 512) }
     ensures refused { IfErr result (Tells (NoPropertyHere context.old count)) }
     ensures fault { IfErr result (IsFault (text_in context.old)) }
-    ensures told { IfErr result (StopsAtItem Object context.old token.entry true count) }
+    ensures told { IfErr result (StopsAtItem Object context.old (last context.old token) true count) }
 {
     let start = context.scanner.token_start();
     let name = context.name(token)?;
     context.pass_colon()?;
     let found = context.scan()?;
-    context.check_nesting(start, count + 1)?;
+    if context.nests_too_deep(count + 1) {
+        return Err(context.nesting_fault(start));
+    }
     let Some(token) = found else {
         return Err(context.fault_here(ParseErrorKind::ExpectedObjectValue));
     };

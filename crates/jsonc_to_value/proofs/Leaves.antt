@@ -4,22 +4,27 @@ use Rattle.jsonc_text.specs.declared.errors.ParseError.{ParseError}
 use Rattle.jsonc_text.specs.declared.tokens.Token.{Token}
 use Rattle.jsonc_text.specs.declared.tokens.Token.TheVariants as token
 use Rattle.jsonc_text.specs.Options.{Options}
-use Rattle.jsonc_text.specs.Grammar.{literal, empty_array, array, empty_object, object, literal_value}
+use Rattle.jsonc_text.specs.Grammar.{IsValue, literal, empty_array, array, empty_object, object, literal_value}
 use Rattle.jsonc_text.specs.Lexemes.{Scanned, lexeme, line_comment, block_comment, LexemeKind, punctuation, Lexeme, IsScanned}
-use Rattle.jsonc_text.specs.Plain.{Plain, depth, collapse}
+use Rattle.jsonc_text.specs.Plain.{Plain, depth, collapse, string}
 use Rattle.jsonc_text.specs.Tokens.{scanned_of}
 use Rattle.jsonc_text.specs.Words.{boolean, null}
 use Rattle.jsonc_value.specs.declared.value.JsonValue.{JsonValue}
 use Rattle.jsonc_ast.specs.Views.{Grown}
 use Rattle.jsonc_to_ast.specs.declared.context.Context.{Context}
-use Rattle.jsonc_to_ast.specs.Context.{options_in, IsToken}
+use Rattle.jsonc_scan.specs.Scanner.{end_of}
+use Rattle.jsonc_text.specs.Text.{rest}
+use Rattle.jsonc_to_ast.specs.Context.{text_in, options_in, token_end, IsToken, GivesAway, last}
 use Rattle.jsonc_to_ast.specs.Refusals.{here, after, NoLiteral}
 use Rattle.jsonc_to_ast.specs.Scanned.{leaf_value}
 use Rattle.jsonc_to_ast.proofs.NoValues.{bracket_token, brace_token}
 use Rattle.jsonc_to_ast.proofs.Refusals.{one_token}
 use Rattle.jsonc_to_value.specs.Reads.{Reads, ReadsElement}
 use Rattle.jsonc_to_value.specs.Refusals.{NoValue, NoValueHere}
-use Rattle.jsonc_to_value.specs.Views.{plain}
+use Rattle.jsonc_to_value.specs.Views.{plain, name_of}
+use Rattle.std.specs.declared.borrow.CowStr.{CowStr}
+use Rattle.jsonc_scan.specs.declared.found.TokenKind.{TokenKind}
+use Rattle.jsonc_scan.specs.declared.found.TokenKind.TheVariants as kind
 
 -- the lexeme that has the value
 record IsLeafOf (w : Scanned) (v : Plain) : Type 0 where
@@ -71,6 +76,25 @@ module _ {A : Type 0} where
   fewer c d (Err e) count small h = tt
   fewer c d (Ok v) count small h = record { value = h.value; stands = h.stands; collapsed = h.collapsed; within = omega (arith, h.within, small); on = h.on }
 
+  -- it is read as well where what the token holds was given away
+  pub reads_self : (old new : Context A) (count : ℕ) (v : JsonValue A) → GivesAway old new → Reads old old count v → Reads old new count v
+  reads_self old new count v given h =
+      let same : token_end new ≡ token_end old = ap end_of given.scanner in record {
+        value = h.value;
+        stands = subst (λ j. IsValue (options_in old) (here old) h.value (rest (text_in old) j)) (sym same) h.stands;
+        collapsed = h.collapsed;
+        within = h.within;
+        on = omega (arith, same);
+      }
+
+  pub leaf_self : (old new : Context A) (r : Result (JsonValue A) ParseError) (count : ℕ) → count ≤ 512 → GivesAway old new → IfOk r (Reads old old 512) → IfOk r (Reads old new count)
+  leaf_self old new (Err e) count small given h = tt
+  leaf_self old new (Ok v) count small given h = reads_self old new count v given (fewer old old (Ok v) count small h)
+
+  pub element_self : (old new : Context A) {X : Type 0} (xs ys : List (JsonValue A)) (count : ℕ) (r : Result X ParseError) → GivesAway old new → OnOk r (ReadsElement old old count xs ys) → OnOk r (ReadsElement old new count xs ys)
+  element_self old new xs ys count (Err e) given h = tt
+  element_self old new xs ys count (Ok u) given h = (h.0, reads_self old new count h.0 given h.1, h.2)
+
   pub no_literal_here : (c : Context A) (t : Token A) (f : Option (JsonValue A)) → IsToken c t → f ≡ None → option_map plain f ≡ leaf_value (scanned_of t) → NoLiteral c
   no_literal_here c t f at none h k v x l e =
       let both : None ≡ Some v = sym (ap (option_map plain) none) ∙ h ∙ ap leaf_value (one_token c t at k x l) ∙ e in cc
@@ -85,3 +109,7 @@ module _ {A : Type 0} where
       → OnOk r (Grown plain xs ys v) → OnOk r (ReadsElement c c count xs ys)
   leaf_element c t v xs ys count (Err e) at is small grown = tt
   leaf_element c t v xs ys count (Ok u) at is small grown = (v, fewer c c (Ok v) count small (leaf_reads c t (Some v) v at refl is), grown)
+
+  -- the value of a string token, whose string was given away
+  pub string_value : (c : Context A) (k : TokenKind) (s : CowStr A) → k ≡ kind.String → s ≡ c.content.string → leaf_value (scanned_of (last c k)) ≡ Some (string (name_of s))
+  string_value c k s is e = ap (λ k. leaf_value (scanned_of (last c k))) is ∙ ap (λ s. Some (string (name_of s))) (sym e)

@@ -1,12 +1,13 @@
 //! Values read by recursive descent.
-ghost use Rattle.std.specs.Prelude.{◌≡◌, ◌+◌, ◌<◌, ◌≤◌, IfOk, IfErr, OnOk, false, option_map, chars};
+ghost use Rattle.std.specs.Prelude.{◌≡◌, ◌+◌, ◌<◌, ◌≤◌, IfOk, IfErr, IfNone, OnOk, false, option_map, chars};
 ghost use Rattle.std.specs.Str.{IsUtf8};
 ghost use Rattle.std.specs.Cow.{cow_str_bytes};
 ghost use Rattle.jsonc_text.specs.Faults.{IsFault, kind_of, range_of};
 ghost use Rattle.jsonc_text.specs.OptionsOf.{parse_options};
 ghost use Rattle.jsonc_text.specs.Plain.{array, object};
 ghost use Rattle.jsonc_text.specs.Tokens.{scanned_of};
-ghost use Rattle.jsonc_to_ast.specs.Context.{text_in, token_range, Keeps, IsToken, IsBracket, OpensNone};
+ghost use Rattle.jsonc_scan.specs.Found.{token_held};
+ghost use Rattle.jsonc_to_ast.specs.Context.{text_in, token_range, Keeps, IsToken, IsBracket, OpensNone, GivesAway, last};
 ghost use Rattle.jsonc_to_ast.specs.Refusals.{NoLiteral, Tells, WantsMemory};
 ghost use Rattle.jsonc_to_ast.specs.Scanned.{leaf_value};
 ghost use Rattle.jsonc_to_ast.specs.Told.{IsTold, IsUnexpected, StopsAtContainer, StopsAtItem, StopsAtValue};
@@ -17,26 +18,31 @@ ghost use Rattle.jsonc_to_value.specs.Refusals.{NoValueHere, NoPropertyHere, Ref
 ghost use Rattle.jsonc_to_value.specs.Views.{plain, name_of, inserted, items_plain, members_plain};
 
 use jsonc_ast::ast::ObjectPropName;
+use jsonc_scan::found::{TokenContent, TokenKind};
 use jsonc_text::errors::{ParseError, ParseErrorKind};
 use jsonc_text::options::ParseOptions;
-use jsonc_text::tokens::Token;
 use jsonc_to_ast::collect::CollectOptions;
-use jsonc_to_ast::container::{Container, unexpected};
+use jsonc_to_ast::container::Container;
 use jsonc_to_ast::context::Context;
 use jsonc_value::{JsonArray, JsonObject, JsonValue, Map};
 use std::alloc::Allocator;
 use std::borrow::CowStr;
 
-/// The value that a token is by itself.
+/// The value that a token of a kind is by itself. A string is given away.
 #[inline(always)]
-fn leaf<'a, A: Allocator>(token: Token<'a, A>) -> Option<JsonValue<'a, A>>
-    ensures { option_map plain result ≡ leaf_value (scanned_of token.entry) }
+fn leaf<'a, A: Allocator>(
+    token: TokenKind,
+    content: &mut TokenContent<'a, A>,
+) -> Option<JsonValue<'a, A>>
+    ensures value { option_map plain result ≡ leaf_value (scanned_of (token_held token content.old)) }
+    ensures stays { IfNone result (content.new ≡ content.old) }
 {
     match token {
-        Token::String(string) => Some(JsonValue::String(string)),
-        Token::Number(number) => Some(JsonValue::Number(number)),
-        Token::Boolean(boolean) => Some(JsonValue::Boolean(boolean)),
-        Token::Null => Some(JsonValue::Null),
+        TokenKind::String => Some(JsonValue::String(content.take_string())),
+        TokenKind::Number => Some(JsonValue::Number(content.text)),
+        TokenKind::True => Some(JsonValue::Boolean(true)),
+        TokenKind::False => Some(JsonValue::Boolean(false)),
+        TokenKind::Null => Some(JsonValue::Null),
         _ => None,
     }
 }
@@ -44,17 +50,19 @@ fn leaf<'a, A: Allocator>(token: Token<'a, A>) -> Option<JsonValue<'a, A>>
 /// The value that the last token is by itself.
 #[inline(always)]
 fn parse_leaf<'a, A: Allocator + Copy>(
-    context: &Context<'a, A>,
-    token: Token<'a, A>,
+    context: &mut Context<'a, A>,
+    token: TokenKind,
 ) -> Result<JsonValue<'a, A>, ParseError>
-    requires { IsToken context.now token }
-    ensures found { IfOk result (Reads context.now context.now 512) }
-    ensures refused { IfErr result (λ _. NoLiteral context.now) }
-    ensures fault { IfErr result (IsFault (text_in context.now)) }
-    ensures told { IfErr result (λ e. OpensNone token.entry → IsUnexpected context.now token.entry e) }
+    requires { IsToken context.old (last context.old token) }
+    ensures gives { GivesAway context.old context.new }
+    ensures found { IfOk result (Reads context.old context.old 512) }
+    ensures refused { IfErr result (λ _. NoLiteral context.old) }
+    ensures fault { IfErr result (IsFault (text_in context.old)) }
+    ensures told { IfErr result (λ e. OpensNone (last context.old token)
+        → IsUnexpected context.old (last context.old token) e) }
 {
-    let kind = unexpected(&token);
-    let Some(value) = leaf(token) else {
+    let Some(value) = leaf(token, &mut context.content) else {
+        let kind = context.unexpected(token);
         return Err(context.fault_here(kind));
     };
     Ok(value)
@@ -160,20 +168,20 @@ fn check_depth<'a, A: Allocator + Copy>(
 #[inline(always)]
 fn parse_value<'a, A: Allocator + Copy>(
     context: &mut Context<'a, A>,
-    token: Token<'a, A>,
+    token: TokenKind,
     count: usize,
 ) -> Result<JsonValue<'a, A>, ParseError>
-    requires token { IsToken context.old token }
+    requires token { IsToken context.old (last context.old token) }
     requires around { count ≤ 512 }
     ensures kept { OnOk result (Keeps context.old context.new) }
     ensures found { IfOk result (Reads context.old context.new count) }
     ensures refused { IfErr result (Tells (NoValueHere context.old count)) }
     ensures fault { IfErr result (IsFault (text_in context.old)) }
-    ensures told { IfErr result (StopsAtValue context.old token.entry false count) }
+    ensures told { IfErr result (StopsAtValue context.old (last context.old token) false count) }
 {
     match token {
-        Token::OpenBracket => parse_array(context, count),
-        Token::OpenBrace => parse_object(context, count),
+        TokenKind::OpenBracket => parse_array(context, count),
+        TokenKind::OpenBrace => parse_object(context, count),
         token => parse_leaf(context, token),
     }
 }
@@ -185,22 +193,29 @@ fn parse_value<'a, A: Allocator + Copy>(
 fn parse_element<'a, A: Allocator + Copy>(
     context: &mut Context<'a, A>,
     elements: &mut Vec<JsonValue<'a, A>, A>,
-    token: Token<'a, A>,
+    token: TokenKind,
     count: usize,
 ) -> Result<(), ParseError>
-    requires token { IsToken context.old token }
+    requires token { IsToken context.old (last context.old token) }
     requires around { count ≤ 512 }
     ensures kept { OnOk result (Keeps context.old context.new) }
     ensures found { OnOk result (ReadsElement context.old context.new count elements.old.items elements.new.items) }
     ensures refused { IfErr result (Tells (NoValueHere context.old count)) }
     ensures fault { IfErr result (IsFault (text_in context.old)) }
-    ensures told { IfErr result (StopsAtValue context.old token.entry false count) }
+    ensures told { IfErr result (StopsAtValue context.old (last context.old token) false count) }
 {
     match token {
-        Token::String(string) => push_value(context, elements, JsonValue::String(string)),
-        Token::Number(number) => push_value(context, elements, JsonValue::Number(number)),
-        Token::Boolean(boolean) => push_value(context, elements, JsonValue::Boolean(boolean)),
-        Token::Null => push_value(context, elements, JsonValue::Null),
+        TokenKind::String => {
+            let string = context.content.take_string();
+            push_value(context, elements, JsonValue::String(string))
+        }
+        TokenKind::Number => {
+            let number = context.content.text;
+            push_value(context, elements, JsonValue::Number(number))
+        }
+        TokenKind::True => push_value(context, elements, JsonValue::Boolean(true)),
+        TokenKind::False => push_value(context, elements, JsonValue::Boolean(false)),
+        TokenKind::Null => push_value(context, elements, JsonValue::Null),
         token => match parse_value(context, token, count) {
             Ok(value) => push_value(context, elements, value),
             Err(error) => Err(error),
@@ -263,16 +278,16 @@ fn parse_object<'a, A: Allocator + Copy>(
 fn parse_property<'a, A: Allocator + Copy>(
     context: &mut Context<'a, A>,
     properties: &mut Map<CowStr<'a, A>, JsonValue<'a, A>, A>,
-    token: Token<'a, A>,
+    token: TokenKind,
     count: usize,
 ) -> Result<(), ParseError>
-    requires token { IsToken context.old token }
+    requires token { IsToken context.old (last context.old token) }
     requires around { count ≤ 512 }
     ensures kept { OnOk result (Keeps context.old context.new) }
     ensures found { OnOk result (PutsProperty context.old context.new count properties.old properties.new) }
     ensures refused { IfErr result (Tells (NoPropertyHere context.old count)) }
     ensures fault { IfErr result (IsFault (text_in context.old)) }
-    ensures told { IfErr result (StopsAtItem Object context.old token.entry false count) }
+    ensures told { IfErr result (StopsAtItem Object context.old (last context.old token) false count) }
 {
     let name = name_text(context.name(token)?);
     context.pass_colon()?;

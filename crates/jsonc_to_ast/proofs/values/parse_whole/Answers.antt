@@ -1,3 +1,6 @@
+use Rattle.std.proofs.Common.{ap}
+use Rattle.jsonc_to_ast.specs.Context.{last, found_in}
+use Rattle.jsonc_to_ast.proofs.Given.{none_found}
 use Rattle.jsonc_ast.specs.Views.{located}
 use Rattle.jsonc_to_ast.proofs.Leaves.{empty_document, value_document}
 use Rattle.jsonc_to_ast.proofs.Collecting.{collects_turn}
@@ -24,18 +27,18 @@ use Rattle.std.proofs.Common.{◌∙◌}
 use Rattle.jsonc_to_ast.proofs.values.parse_whole.Goals as goal
 
 pub returns-in_default-clause-end : goal.returns-in_default-clause-end
-returns-in_default-clause-end g c = subst (StandsAt c.scan.new.self.scanner) c.in_default.is c.in_ok-token.ensures.found.1
+returns-in_default-clause-end g c = subst (StandsAt c.scan.new.self.scanner) (ap (found_in c.scan.new.self) c.in_default.is) c.in_ok-token.ensures.found.1
 
 pub returns-clause-end : goal.returns-clause-end
-returns-clause-end g c = subst (StandsAt c.scan-2.new.self.scanner) c.in-None.is c.in_ok-scan.ensures.found.1
+returns-clause-end g c = subst (StandsAt c.scan-2.new.self.scanner) (ap (found_in c.scan-2.new.self) c.in-None.is) c.in_ok-scan.ensures.found.1
 
 pub returns-in_default-clause-located : goal.returns-in_default-clause-located
-returns-in_default-clause-located g c = empty_document c.args.context.now c.scan.new.self c.in_ok-token.field-0 c.requires c.scan.ensures.kept c.in_ok-token.ensures.found c.in_default.is
+returns-in_default-clause-located g c = empty_document c.args.context.now c.scan.new.self (found_in c.scan.new.self c.in_ok-token.field-0) c.requires c.scan.ensures.kept c.in_ok-token.ensures.found (ap (found_in c.scan.new.self) c.in_default.is)
 
 pub returns-clause-located : goal.returns-clause-located
 returns-clause-located g c =
-    value_document c.args.context.now c.scan.new.self c.parse_value.new.context c.scan-2.new.self c.in_ok-token.field-0 c.in_ok-scan.field-0 (located c.in_ok-value.value) c.requires
-    c.scan.ensures.kept c.in_ok-token.ensures.found c.in_ok-value.ensures.kept c.in_ok-value.ensures.found c.scan-2.ensures.kept c.in_ok-scan.ensures.found c.in-None.is
+    value_document c.args.context.now c.scan.new.self c.parse_value.new.context c.scan-2.new.self (found_in c.scan.new.self c.in_ok-token.field-0) (found_in c.scan-2.new.self c.in_ok-scan.field-0) (located c.in_ok-value.value) c.requires
+    c.scan.ensures.kept c.in_ok-token.ensures.found c.in_ok-value.ensures.kept c.in_ok-value.ensures.found c.scan-2.ensures.kept c.in_ok-scan.ensures.found (ap (found_in c.scan-2.new.self) c.in-None.is)
 
 pub returns-clause-kept : goal.returns-clause-kept
 returns-clause-kept g c =
@@ -51,7 +54,7 @@ returns-clause-collects g c =
 pub returns-clause-written : goal.returns-clause-written
 returns-clause-written g c =
     let here = c.scan.new.self in
-    let value = c.in_ok-value.ensures.written (subst (IsLentHere here) c.in-Some.is c.in_ok-token.ensures.lent) in
+    let value = c.in_ok-value.ensures.written (subst (IsLentHere here) (ap (found_in c.scan.new.self) c.in-Some.is) c.in_ok-token.ensures.lent) in
     still_written c.args.context.now here (spelled c.in_ok-value.value) c.scan.ensures.kept value
 
 pub returns-in_err-token-clause-refused : goal.returns-in_err-token-clause-refused
@@ -68,7 +71,7 @@ returns-in_err-value-clause-refused g c =
     let read = c.in_ok-token.ensures in
     let e = c.in_err-value.field-0.0 in
     err_of (RefusesText (options_in old) (text_in old)) e c.from_residual-in_err-value.result c.from_residual-in_err-value.ensures.1
-    (still (λ n. document_from_start old _ _ c.requires refl refl (document_no_value old now c.in_ok-token.field-0 c.scan.ensures.kept read.found read.lexeme c.in-Some.token c.in-Some.is n)) c.in_err-value.ensures.refused)
+    (still (λ n. document_from_start old _ _ c.requires refl refl (document_no_value old now (found_in c.scan.new.self c.in_ok-token.field-0) c.scan.ensures.kept read.found read.lexeme (last c.scan.new.self c.in-Some.token) (ap (found_in c.scan.new.self) c.in-Some.is) n)) c.in_err-value.ensures.refused)
 
 pub returns-in_err-scan-clause-refused : goal.returns-in_err-scan-clause-refused
 returns-in_err-scan-clause-refused g c =
@@ -79,17 +82,17 @@ returns-in_err-scan-clause-refused g c =
     let e = c.in_err-scan.field-0.0 in
     err_of (RefusesText (options_in old) (text_in old)) e c.from_residual-in_err-scan.result c.from_residual-in_err-scan.ensures.1
     (still
-    (λ n. document_from_start old _ _ c.requires refl refl (document_no_end old now c.in_ok-token.field-0 c.scan.ensures.kept read.found read.lexeme c.in-Some.token c.in-Some.is c.parse_value.new.context (located c.in_ok-value.value) value.kept value.found n)) c.in_err-scan.ensures.refused)
+    (λ n. document_from_start old _ _ c.requires refl refl (document_no_end old now (found_in c.scan.new.self c.in_ok-token.field-0) c.scan.ensures.kept read.found read.lexeme (last c.scan.new.self c.in-Some.token) (ap (found_in c.scan.new.self) c.in-Some.is) c.parse_value.new.context (located c.in_ok-value.value) value.kept value.found n)) c.in_err-scan.ensures.refused)
 
 pub returns-in_default-2-clause-refused : goal.returns-in_default-2-clause-refused
 returns-in_default-2-clause-refused g c =
     let old = c.args.context.now in
     let read = c.in_ok-token.ensures in
     let value = c.in_ok-value.ensures in
-    let last = c.in_ok-scan.ensures in
+    let over = c.in_ok-scan.ensures in
     inr (document_from_start old _ _ c.requires refl refl
-    (document_goes_on old c.scan.new.self c.in_ok-token.field-0 c.scan.ensures.kept read.found read.lexeme c.in-Some.token c.in-Some.is c.parse_value.new.context (located c.in_ok-value.value) value.kept value.found
-    c.scan-2.new.self c.in_ok-scan.field-0 c.scan-2.ensures.kept last.found last.lexeme c.in_default-2.not-None))
+    (document_goes_on old c.scan.new.self (found_in c.scan.new.self c.in_ok-token.field-0) c.scan.ensures.kept read.found read.lexeme (last c.scan.new.self c.in-Some.token) (ap (found_in c.scan.new.self) c.in-Some.is) c.parse_value.new.context (located c.in_ok-value.value) value.kept value.found
+    c.scan-2.new.self (found_in c.scan-2.new.self c.in_ok-scan.field-0) c.scan-2.ensures.kept over.found over.lexeme (λ e. c.in_default-2.not-None (none_found c.scan-2.new.self.content c.in_ok-scan.field-0 e))))
 
 pub returns-in_err-token-clause-told : goal.returns-in_err-token-clause-told
 returns-in_err-token-clause-told g c =
@@ -105,7 +108,7 @@ returns-in_err-value-clause-told g c =
     let e = c.in_err-value.field-0.0 in
     err_of (IsTold (options_in old) (text_in old) true) e c.from_residual-in_err-value.result c.from_residual-in_err-value.ensures.1
     (text_stops true old _ _ e refl refl c.requires
-    (root_stops true old c.scan.new.self c.in_ok-token.field-0 c.scan.ensures.kept read.found read.lexeme c.in-Some.token c.in-Some.is e refl c.in_err-value.ensures.told))
+    (root_stops true old c.scan.new.self (found_in c.scan.new.self c.in_ok-token.field-0) c.scan.ensures.kept read.found read.lexeme (last c.scan.new.self c.in-Some.token) (ap (found_in c.scan.new.self) c.in-Some.is) e refl c.in_err-value.ensures.told))
 
 pub returns-in_err-scan-clause-told : goal.returns-in_err-scan-clause-told
 returns-in_err-scan-clause-told g c =
@@ -117,19 +120,19 @@ returns-in_err-scan-clause-told g c =
     let mid = c.parse_value.new.context in
     err_of (IsTold (options_in old) (text_in old) true) e c.from_residual-in_err-scan.result c.from_residual-in_err-scan.ensures.1
     (text_stops true old _ _ e refl refl c.requires
-    (end_stops true old c.scan.new.self c.in_ok-token.field-0 c.scan.ensures.kept read.found read.lexeme c.in-Some.token c.in-Some.is mid (value_at x) value.kept (value_read c.scan.new.self mid x value.found) value.within e c.in_err-scan.ensures.told))
+    (end_stops true old c.scan.new.self (found_in c.scan.new.self c.in_ok-token.field-0) c.scan.ensures.kept read.found read.lexeme (last c.scan.new.self c.in-Some.token) (ap (found_in c.scan.new.self) c.in-Some.is) mid (value_at x) value.kept (value_read c.scan.new.self mid x value.found) value.within e c.in_err-scan.ensures.told))
 
 pub returns-in_default-2-clause-told : goal.returns-in_default-2-clause-told
 returns-in_default-2-clause-told g c =
     let old = c.args.context.now in
     let read = c.in_ok-token.ensures in
     let value = c.in_ok-value.ensures in
-    let last = c.in_ok-scan.ensures in
+    let over = c.in_ok-scan.ensures in
     let x = located c.in_ok-value.value in
     let mid = c.parse_value.new.context in
     text_stops true old _ _ c.fault_here.result refl refl c.requires
-    (second_stops true old c.scan.new.self c.in_ok-token.field-0 c.scan.ensures.kept read.found read.lexeme c.in-Some.token c.in-Some.is mid (value_at x) value.kept (value_read c.scan.new.self mid x value.found) value.within
-    c.scan-2.new.self c.in_ok-scan.field-0 c.scan-2.ensures.kept last.found last.lexeme c.in_default-2.not-None c.fault_here.result c.fault_here.ensures.kind c.fault_here.ensures.range)
+    (second_stops true old c.scan.new.self (found_in c.scan.new.self c.in_ok-token.field-0) c.scan.ensures.kept read.found read.lexeme (last c.scan.new.self c.in-Some.token) (ap (found_in c.scan.new.self) c.in-Some.is) mid (value_at x) value.kept (value_read c.scan.new.self mid x value.found) value.within
+    c.scan-2.new.self (found_in c.scan-2.new.self c.in_ok-scan.field-0) c.scan-2.ensures.kept over.found over.lexeme (λ e. c.in_default-2.not-None (none_found c.scan-2.new.self.content c.in_ok-scan.field-0 e)) c.fault_here.result c.fault_here.ensures.kind c.fault_here.ensures.range)
 
 pub returns-in_err-token-clause-fault : goal.returns-in_err-token-clause-fault
 returns-in_err-token-clause-fault g c = err_of (IsFault (text_in c.args.context.now)) c.in_err-token.field-0.0 c.from_residual.result c.from_residual.ensures.1 c.in_err-token.ensures.fault

@@ -1,5 +1,5 @@
 use Rattle.std.proofs.Common.{◌+◌, ◌-◌, ◌*◌, length}
-use Rattle.jsonc_to_ast.specs.Context.{text_in, token_start}
+use Rattle.jsonc_to_ast.specs.Context.{text_in, token_start, found_in}
 use Rattle.jsonc_to_value.proofs.Elements.{Elements}
 use Rattle.jsonc_to_value.proofs.Properties.{Properties}
 use Rattle.jsonc_to_value.proofs.values.+parse.Given as goal
@@ -20,13 +20,13 @@ abbrev pub decreases-parse_property : goal.decreases-parse_property
 decreases-parse_property g l = 4 * (513 - l.count) + 3
 
 abbrev pub invariant-parse_array-loop-next : goal.invariant-parse_array-loop-next
-invariant-parse_array-loop-next g l = Elements l.fn.context l.context l.next l.count l.elements.items
+invariant-parse_array-loop-next g l = Elements l.fn.context l.context (found_in l.context l.next) l.count l.elements.items
 
 abbrev pub decreases-parse_array-loop-next : goal.decreases-parse_array-loop-next
 decreases-parse_array-loop-next g l = length (text_in l.context) - token_start l.context
 
 abbrev pub invariant-parse_object-loop-next : goal.invariant-parse_object-loop-next
-invariant-parse_object-loop-next g l = Properties l.fn.context l.context l.next l.count l.properties
+invariant-parse_object-loop-next g l = Properties l.fn.context l.context (found_in l.context l.next) l.count l.properties
 
 abbrev pub decreases-parse_object-loop-next : goal.decreases-parse_object-loop-next
 decreases-parse_object-loop-next g l = length (text_in l.context) - token_start l.context

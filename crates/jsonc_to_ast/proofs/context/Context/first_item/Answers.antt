@@ -1,3 +1,5 @@
+use Rattle.std.proofs.Common.{ap}
+use Rattle.jsonc_to_ast.specs.Context.{last, found_in}
 use Rattle.std.proofs.Common.{inr, ◌∷◌, is_some, refl}
 use Rattle.jsonc_to_ast.specs.Reached.{container, first}
 use Rattle.jsonc_to_ast.specs.Told.{StopsInside}
@@ -20,18 +22,18 @@ pub returns-in_default-clause-refused : goal.returns-in_default-clause-refused
 returns-in_default-clause-refused g c =
     let old = c.args.self.now in
     let read = c.in_ok-first.ensures in
-    inr (nowhere_first (options_in old) c.args.container (after old) (nothing_at_end old c.scan.new.self c.in_ok-first.field-0 c.scan.ensures.kept read.found read.lexeme c.in_default.is))
+    inr (nowhere_first (options_in old) c.args.container (after old) (nothing_at_end old c.scan.new.self (found_in c.scan.new.self c.in_ok-first.field-0) c.scan.ensures.kept read.found read.lexeme (ap (found_in c.scan.new.self) c.in_default.is)))
 
 pub returns-clause-only : goal.returns-clause-only
 returns-clause-only g c =
     let read = c.in_ok-first.ensures in
-    only_first c.args.self.now c.scan.new.self c.in_ok-first.field-0 c.scan.ensures.kept read.found read.lexeme c.in-Some.first c.in-Some.is c.args.container
-    (refuted c.is_closed_by.ensures.1 c.if-is_closed_by.false)
+    only_first c.args.self.now c.scan.new.self (found_in c.scan.new.self c.in_ok-first.field-0) c.scan.ensures.kept read.found read.lexeme (last c.scan.new.self c.in-Some.first) (ap (found_in c.scan.new.self) c.in-Some.is) c.args.container
+    (refuted c.closes.ensures.1 c.if-closes.false)
 
 pub returns-clause-stands : goal.returns-clause-stands
 returns-clause-stands g c =
     let read = c.in_ok-first.ensures in
-    closes_none c.args.self.now c.scan.new.self c.in_ok-first.field-0 c.scan.ensures.kept read.found read.lexeme c.in-Some.first c.in-Some.is c.args.container (refuted c.is_closed_by.ensures.1 c.if-is_closed_by.false)
+    closes_none c.args.self.now c.scan.new.self (found_in c.scan.new.self c.in_ok-first.field-0) c.scan.ensures.kept read.found read.lexeme (last c.scan.new.self c.in-Some.first) (ap (found_in c.scan.new.self) c.in-Some.is) c.args.container (refuted c.closes.ensures.1 c.if-closes.false)
 
 pub returns-in_err-first-clause-told : goal.returns-in_err-first-clause-told
 returns-in_err-first-clause-told g c =
@@ -45,8 +47,8 @@ returns-in_default-clause-told g c =
     let new = c.scan.new.self in
     let read = c.in_ok-first.ensures in
     let kept = c.scan.ensures.kept in
-    open_stops old new c.in_ok-first.field-0 kept read.found read.lexeme c.in_default.is c.args.container c.args.start c.unterminated.result
-    (open_before old new c.args.container c.args.start c.unterminated.result kept (c.unterminated.ensures.told (end_here old new c.in_ok-first.field-0 kept read.found read.lexeme c.in_default.is))) (first c.args.container) (λ whole q. refl)
+    open_stops old new (found_in c.scan.new.self c.in_ok-first.field-0) kept read.found read.lexeme (ap (found_in c.scan.new.self) c.in_default.is) c.args.container c.args.start c.unterminated.result
+    (open_before old new c.args.container c.args.start c.unterminated.result kept (c.unterminated.ensures.told (end_here old new (found_in c.scan.new.self c.in_ok-first.field-0) kept read.found read.lexeme (ap (found_in c.scan.new.self) c.in_default.is)))) (first c.args.container) (λ whole q. refl)
 
 pub returns-in_default-clause-fault : goal.returns-in_default-clause-fault
 returns-in_default-clause-fault g c = subst (λ b. IsFault b c.unterminated.result) c.scan.ensures.kept.text c.unterminated.ensures.fault

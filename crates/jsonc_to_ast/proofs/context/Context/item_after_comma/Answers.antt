@@ -1,3 +1,4 @@
+use Rattle.jsonc_to_ast.specs.Context.{last, found_in}
 use Rattle.std.proofs.Common.{inr, sym, ap, ◌∙◌, ◌∷◌, is_some, refl}
 use Rattle.jsonc_to_ast.specs.Context.{IsBracket}
 use Rattle.jsonc_to_ast.specs.Refusals.{here}
@@ -22,25 +23,25 @@ pub returns-in_default-clause-refused : goal.returns-in_default-clause-refused
 returns-in_default-clause-refused g c =
     let old = c.args.self.now in
     let read = c.in_ok-token.ensures in
-    inr (nowhere_comma (options_in old) c.args.container (after old) (nothing_at_end old c.scan.new.self c.in_ok-token.field-0 c.scan.ensures.kept read.found read.lexeme c.in_default.is))
+    inr (nowhere_comma (options_in old) c.args.container (after old) (nothing_at_end old c.scan.new.self (found_in c.scan.new.self c.in_ok-token.field-0) c.scan.ensures.kept read.found read.lexeme (ap (found_in c.scan.new.self) c.in_default.is)))
 
-pub returns-then-not-is_closed_by-clause-only : goal.returns-then-not-is_closed_by-clause-only
-returns-then-not-is_closed_by-clause-only g c =
+pub returns-then-not-closes-clause-only : goal.returns-then-not-closes-clause-only
+returns-then-not-closes-clause-only g c =
     let read = c.in_ok-token.ensures in
-    only_after_comma c.args.self.now c.scan.new.self c.in_ok-token.field-0 c.scan.ensures.kept read.found read.lexeme c.in-Some.token c.in-Some.is c.args.container
-    (refuted c.is_closed_by.ensures.1 c.if-not-is_closed_by.true)
+    only_after_comma c.args.self.now c.scan.new.self (found_in c.scan.new.self c.in_ok-token.field-0) c.scan.ensures.kept read.found read.lexeme (last c.scan.new.self c.in-Some.token) (ap (found_in c.scan.new.self) c.in-Some.is) c.args.container
+    (refuted c.closes.ensures.1 c.if-not-closes.true)
 
 pub returns-then-not-self-clause-refused : goal.returns-then-not-self-clause-refused
 returns-then-not-self-clause-refused g c =
     let read = c.in_ok-token.ensures in
     let new = c.scan.new.self in
-    inr (trailing_refused c.args.self.now new c.in_ok-token.field-0 c.scan.ensures.kept read.found read.lexeme c.in-Some.token c.in-Some.is c.args.container
-    (c.is_closed_by.ensures.0 c.if-not-is_closed_by.false) (ap (λ p. p.trailing_commas) (sym (new.same ∙ c.scan.ensures.kept.options)) ∙ c.if-not-self.true))
+    inr (trailing_refused c.args.self.now new (found_in c.scan.new.self c.in_ok-token.field-0) c.scan.ensures.kept read.found read.lexeme (last c.scan.new.self c.in-Some.token) (ap (found_in c.scan.new.self) c.in-Some.is) c.args.container
+    (c.closes.ensures.0 c.if-not-closes.false) (ap (λ p. p.trailing_commas) (sym (new.same ∙ c.scan.ensures.kept.options)) ∙ c.if-not-self.true))
 
-pub returns-then-not-is_closed_by-clause-stands : goal.returns-then-not-is_closed_by-clause-stands
-returns-then-not-is_closed_by-clause-stands g c =
+pub returns-then-not-closes-clause-stands : goal.returns-then-not-closes-clause-stands
+returns-then-not-closes-clause-stands g c =
     let read = c.in_ok-token.ensures in
-    closes_none c.args.self.now c.scan.new.self c.in_ok-token.field-0 c.scan.ensures.kept read.found read.lexeme c.in-Some.token c.in-Some.is c.args.container (refuted c.is_closed_by.ensures.1 c.if-not-is_closed_by.true)
+    closes_none c.args.self.now c.scan.new.self (found_in c.scan.new.self c.in_ok-token.field-0) c.scan.ensures.kept read.found read.lexeme (last c.scan.new.self c.in-Some.token) (ap (found_in c.scan.new.self) c.in-Some.is) c.args.container (refuted c.closes.ensures.1 c.if-not-closes.true)
 
 pub returns-in_err-token-clause-told : goal.returns-in_err-token-clause-told
 returns-in_err-token-clause-told g c =
@@ -55,14 +56,14 @@ returns-in_default-clause-told g c = λ one.
     let new = c.scan.new.self in
     let read = c.in_ok-token.ensures in
     let kept = c.scan.ensures.kept in
-    open_stops old new c.in_ok-token.field-0 kept read.found read.lexeme c.in_default.is c.args.container c.args.start c.unterminated.result
-    (open_before old new c.args.container c.args.start c.unterminated.result kept (c.unterminated.ensures.told (end_here old new c.in_ok-token.field-0 kept read.found read.lexeme c.in_default.is))) (further c.args.container (here old)) (λ whole q. refl)
+    open_stops old new (found_in c.scan.new.self c.in_ok-token.field-0) kept read.found read.lexeme (ap (found_in c.scan.new.self) c.in_default.is) c.args.container c.args.start c.unterminated.result
+    (open_before old new c.args.container c.args.start c.unterminated.result kept (c.unterminated.ensures.told (end_here old new (found_in c.scan.new.self c.in_ok-token.field-0) kept read.found read.lexeme (ap (found_in c.scan.new.self) c.in_default.is)))) (further c.args.container (here old)) (λ whole q. refl)
 
 pub returns-then-not-self-clause-told : goal.returns-then-not-self-clause-told
 returns-then-not-self-clause-told g c = λ one q a from.
     let read = c.in_ok-token.ensures in
     let new = c.scan.new.self in
-    trailing_stops c.args.self.now new c.in_ok-token.field-0 c.scan.ensures.kept read.found read.lexeme c.in-Some.token c.in-Some.is c.args.container (c.is_closed_by.ensures.0 c.if-not-is_closed_by.false) c.fault.result
+    trailing_stops c.args.self.now new (found_in c.scan.new.self c.in_ok-token.field-0) c.scan.ensures.kept read.found read.lexeme (last c.scan.new.self c.in-Some.token) (ap (found_in c.scan.new.self) c.in-Some.is) c.args.container (c.closes.ensures.0 c.if-not-closes.false) c.fault.result
     (ap (λ p. p.trailing_commas) (sym (new.same ∙ c.scan.ensures.kept.options)) ∙ c.if-not-self.true) c.fault.ensures.kind (c.fault.ensures.range ∙ c.range-comma.ensures) (is_some c.args.start) (container c.args.container a ∷ q) one
 
 pub returns-in_default-clause-fault : goal.returns-in_default-clause-fault

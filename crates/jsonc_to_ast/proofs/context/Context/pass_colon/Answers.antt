@@ -1,3 +1,5 @@
+use Rattle.std.proofs.Common.{ap}
+use Rattle.jsonc_to_ast.specs.Context.{last, found_in}
 use Rattle.std.proofs.Common.{inr}
 use Rattle.jsonc_to_ast.specs.Reached.{colon}
 use Rattle.jsonc_to_ast.specs.Told.{StopsAtColon}
@@ -14,12 +16,12 @@ returns-in_err-token-clause-refused g c =
 pub returns-in_default-clause-refused : goal.returns-in_default-clause-refused
 returns-in_default-clause-refused g c =
     let read = c.in_ok-token.ensures in
-    inr (no_colon_at_end c.args.self.now c.scan.new.self c.in_ok-token.field-0 c.scan.ensures.kept read.found read.lexeme c.in_default.is)
+    inr (no_colon_at_end c.args.self.now c.scan.new.self (found_in c.scan.new.self c.in_ok-token.field-0) c.scan.ensures.kept read.found read.lexeme (ap (found_in c.scan.new.self) c.in_default.is))
 
 pub returns-then-not-is_colon-clause-refused : goal.returns-then-not-is_colon-clause-refused
 returns-then-not-is_colon-clause-refused g c =
     let read = c.in_ok-token.ensures in
-    inr (no_colon c.args.self.now c.scan.new.self c.in_ok-token.field-0 c.scan.ensures.kept read.found read.lexeme c.in-Some.token c.in-Some.is
+    inr (no_colon c.args.self.now c.scan.new.self (found_in c.scan.new.self c.in_ok-token.field-0) c.scan.ensures.kept read.found read.lexeme (last c.scan.new.self c.in-Some.token) (ap (found_in c.scan.new.self) c.in-Some.is)
     (refuted c.is_colon.ensures.1 c.if-not-is_colon.true))
 
 pub returns-in_err-token-clause-told : goal.returns-in_err-token-clause-told
@@ -31,12 +33,12 @@ returns-in_err-token-clause-told g c =
 pub returns-in_default-clause-told : goal.returns-in_default-clause-told
 returns-in_default-clause-told g c =
     let read = c.in_ok-token.ensures in
-    colon_end_stops c.args.self.now c.scan.new.self c.in_ok-token.field-0 c.scan.ensures.kept read.found read.lexeme c.in_default.is c.fault_here.result c.fault_here.ensures.kind c.fault_here.ensures.range
+    colon_end_stops c.args.self.now c.scan.new.self (found_in c.scan.new.self c.in_ok-token.field-0) c.scan.ensures.kept read.found read.lexeme (ap (found_in c.scan.new.self) c.in_default.is) c.fault_here.result c.fault_here.ensures.kind c.fault_here.ensures.range
 
 pub returns-then-not-is_colon-clause-told : goal.returns-then-not-is_colon-clause-told
 returns-then-not-is_colon-clause-told g c =
     let read = c.in_ok-token.ensures in
-    colon_stops c.args.self.now c.scan.new.self c.in_ok-token.field-0 c.scan.ensures.kept read.found read.lexeme c.in-Some.token c.in-Some.is c.fault_here-then-not-is_colon.result
+    colon_stops c.args.self.now c.scan.new.self (found_in c.scan.new.self c.in_ok-token.field-0) c.scan.ensures.kept read.found read.lexeme (last c.scan.new.self c.in-Some.token) (ap (found_in c.scan.new.self) c.in-Some.is) c.fault_here-then-not-is_colon.result
     (refuted c.is_colon.ensures.1 c.if-not-is_colon.true) c.fault_here-then-not-is_colon.ensures.kind c.fault_here-then-not-is_colon.ensures.range
 
 pub returns-in_default-clause-fault : goal.returns-in_default-clause-fault

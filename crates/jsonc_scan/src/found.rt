@@ -1,0 +1,138 @@
+//! What a scanner came to, for a parser: the kind of its token, and beside it what the token holds.
+ghost use Rattle.std.specs.Prelude.{◌≡◌, [], IfOk, OnErr};
+ghost use Rattle.std.specs.Cow.{cow_str_bytes};
+ghost use Rattle.jsonc_text.specs.Tokens.{scanned_of, IsOwned, lent_bytes};
+ghost use Rattle.jsonc_scan.specs.Found.{token_held};
+ghost use Rattle.jsonc_scan.specs.Reads.{mark_of, what_of};
+
+use crate::lexeme::{Lexeme, Mark};
+use jsonc_text::tokens::Token;
+use std::alloc::{AllocError, Allocator};
+use std::borrow::CowStr;
+use std::mem::replace;
+
+/// What kind of token stands at a place.
+#[derive(Clone, Copy)]
+pub enum TokenKind {
+    OpenBrace,
+    CloseBrace,
+    OpenBracket,
+    CloseBracket,
+    Comma,
+    Colon,
+    String,
+    Word,
+    True,
+    False,
+    Number,
+    Null,
+    CommentLine,
+    CommentBlock,
+}
+
+/// What the last token holds beside its kind. What one of another kind would hold is left as it was.
+#[derive(Drop)]
+pub struct TokenContent<'a, A: Allocator> {
+    /// The text of a word or of a number as it is written, and of a comment inside its marks.
+    pub text: &'a str,
+    /// The characters that a string stands for.
+    pub string: CowStr<'a, A>,
+}
+
+impl<'a, A: Allocator> TokenContent<'a, A> {
+    /// Before the first token.
+    pub fn new() -> TokenContent<'a, A>
+        ensures text { result.text.now ≡ [] }
+        ensures string { cow_str_bytes result.string ≡ [] }
+    {
+        TokenContent {
+            text: "",
+            string: CowStr::Borrowed(""),
+        }
+    }
+
+    /// Gives the string away.
+    #[inline(always)]
+    pub fn take_string(&mut self) -> CowStr<'a, A>
+        ensures { result ≡ self.old.string }
+    {
+        replace(&mut self.string, CowStr::Borrowed(""))
+    }
+
+    /// The kind of a punctuation character, which holds nothing.
+    #[inline(always)]
+    pub(crate) fn mark_kind(&self, mark: Mark) -> TokenKind
+        ensures { scanned_of (token_held result self.now) ≡ mark_of mark }
+    {
+        match mark {
+            Mark::OpenBrace => TokenKind::OpenBrace,
+            Mark::CloseBrace => TokenKind::CloseBrace,
+            Mark::OpenBracket => TokenKind::OpenBracket,
+            Mark::CloseBracket => TokenKind::CloseBracket,
+            Mark::Comma => TokenKind::Comma,
+            Mark::Colon => TokenKind::Colon,
+        }
+    }
+
+    /// Holds what a lexeme holds, and answers its kind.
+    #[inline(always)]
+    pub(crate) fn hold(&mut self, lexeme: Lexeme<'a>) -> TokenKind
+        ensures { scanned_of (token_held result self.new) ≡ what_of lexeme.entry }
+    {
+        match lexeme {
+            Lexeme::Word(text) => {
+                self.text = text;
+                TokenKind::Word
+            }
+            Lexeme::Boolean(true) => TokenKind::True,
+            Lexeme::Boolean(false) => TokenKind::False,
+            Lexeme::Number(text) => {
+                self.text = text;
+                TokenKind::Number
+            }
+            Lexeme::Null => TokenKind::Null,
+            Lexeme::CommentLine(text) => {
+                self.text = text;
+                TokenKind::CommentLine
+            }
+            Lexeme::CommentBlock(text) => {
+                self.text = text;
+                TokenKind::CommentBlock
+            }
+        }
+    }
+}
+
+impl<'a, A: Allocator + Copy> TokenContent<'a, A> {
+    /// The token of a kind that holds this. Only the copy of a string that owns its text takes memory,
+    /// and can be refused.
+    pub fn token(&self, kind: TokenKind) -> Result<Token<'a, A>, AllocError>
+        ensures same { IfOk result (λ t. scanned_of t ≡ scanned_of (token_held kind self.now)) }
+        ensures owned { IfOk result (λ t. IsOwned t → IsOwned (token_held kind self.now)) }
+        ensures lent { IfOk result (λ t. lent_bytes t ≡ lent_bytes (token_held kind self.now)) }
+        ensures refused { OnErr result (IsOwned (token_held kind self.now)) }
+    {
+        match kind {
+            TokenKind::OpenBrace => Ok(Token::OpenBrace),
+            TokenKind::CloseBrace => Ok(Token::CloseBrace),
+            TokenKind::OpenBracket => Ok(Token::OpenBracket),
+            TokenKind::CloseBracket => Ok(Token::CloseBracket),
+            TokenKind::Comma => Ok(Token::Comma),
+            TokenKind::Colon => Ok(Token::Colon),
+            TokenKind::String => match &self.string {
+                CowStr::Borrowed(s) => Ok(Token::String(CowStr::Borrowed(*s))),
+                CowStr::Owned(s) => {
+                    let copy = s.clone()?;
+                    Ok(Token::String(CowStr::Owned(copy)))
+                }
+            },
+            TokenKind::Word => Ok(Token::Word(self.text)),
+            TokenKind::True => Ok(Token::Boolean(true)),
+            TokenKind::False => Ok(Token::Boolean(false)),
+            TokenKind::Number => Ok(Token::Number(self.text)),
+            TokenKind::Null => Ok(Token::Null),
+            TokenKind::CommentLine => Ok(Token::CommentLine(self.text)),
+            TokenKind::CommentBlock => Ok(Token::CommentBlock(self.text)),
+        }
+    }
+}
