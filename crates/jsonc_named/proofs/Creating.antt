@@ -1,5 +1,5 @@
 -- A property with an empty value that has come into an object: which node that value is.
-use Rattle.std.proofs.Common.{◌≡◌, ℕ, ◌<◌, ◌≤◌, Bool, true, not, cond, List, ◌∷◌, length, Some, refl, sym, ap, subst, ◌∙◌, arith}
+use Rattle.std.proofs.Common.{◌≡◌, ℕ, ◌<◌, ◌≤◌, Bool, true, false, not, cond, List, ◌∷◌, length, Option, Some, None, Result, Ok, Err, IfOk, refl, sym, ap, subst, ◌∙◌, arith}
 use Rattle.std.proofs.lemmas.List.Filters.{length-filter_both}
 use Rattle.std.specs.List.{find}
 use Rattle.jsonc_text.specs.Options.{all_on}
@@ -24,6 +24,8 @@ use Rattle.jsonc_members.specs.Told.{layout_inside}
 use Rattle.jsonc_members.proofs.Changing.{is_property}
 use Rattle.jsonc_members.proofs.Numbering.{takes_number}
 use Rattle.jsonc_members.proofs.Past.{past_the_end}
+use Rattle.jsonc_set.specs.Kinds.{KeptOrReplaced}
+use Rattle.jsonc_set.specs.PropertyValues.{HeldOrSet}
 use Rattle.jsonc_named.specs.declared.shape.Shape.{Shape}
 use Rattle.jsonc_named.specs.declared.shape.Shape.TheVariants.{Object, Array}
 use Rattle.jsonc_named.specs.Shapes.{is_of, empty_of}
@@ -115,3 +117,17 @@ module _ (old new : List Node) (c i : ℕ) (name : List ℕ) (shape : Shape) (p 
   put_last at =
       past_the_end old new c i (length (elements_at old c)) name (empty_of shape) p tree there brackets
       (subst (λ k. length (elements_at old c) ≤ k) (sym at) (fewer old c)) (omega arith) e
+
+-- a value that was found, or has been set, is of the shape
+module _ (shape : Shape) (old new : List Node) (p : ℕ) where
+  kept_shaped : (n m : ℕ) (b : Bool) → is_of shape (content_at old n) ≡ b → KeptOrReplaced b (empty_of shape) old new n m → is_of shape (content_at new m) ≡ true
+  kept_shaped n m true is (here, same) = ap (λ k. is_of shape (content_at new k)) here ∙ ap (λ ns. is_of shape (content_at ns n)) same ∙ is
+  kept_shaped n m false is r = ap (is_of shape) (r.2.place.replaces.spliced.content m ∙ ap (λ (t : Top). t.content) r.2.place.is) ∙ (empty_laid _ shape).1
+
+  pub held_shaped : (o : Option ℕ) (m : ℕ) → HeldOrSet (is_of shape) (empty_of shape) old new p o m → is_of shape (content_at new m) ≡ true
+  held_shaped None m l = ap (is_of shape) (l.given.place.replaces.spliced.content m ∙ ap (λ (t : Top). t.content) l.given.place.is) ∙ (empty_laid _ shape).1
+  held_shaped (Some n) m r = kept_shaped n m (is_of shape (content_at old n)) refl r
+
+  pub result_shaped : {E : Type 0} (o : Option ℕ) (r : Result ℕ E) → IfOk r (HeldOrSet (is_of shape) (empty_of shape) old new p o) → IfOk r (λ m. is_of shape (content_at new m) ≡ true)
+  result_shaped o (Ok m) h = held_shaped o m h
+  result_shaped o (Err e) h = tt

@@ -77,6 +77,7 @@ fn value_or_set<A: Allocator + Copy>(
     ensures value { IfOk result
         (HeldOrSet (is_of shape) (empty_of shape) tree.old.nodes tree.new.nodes property
         (value_at tree.old.nodes property)) }
+    ensures shape { IfOk result (λ m. is_of shape (content_at tree.new.nodes m) ≡ true) }
     ensures named { OnOk result (lacks_name_at tree.old.nodes property ≡ false) }
     ensures told { IfErr result (IsUnset (is_of shape) tree.old.nodes property) }
     ensures kept { OnErr result (Keeps (length tree.old.nodes) tree.old.nodes tree.new.nodes) }
@@ -144,6 +145,7 @@ pub fn ensure_property<A: Allocator + Copy>(
     requires object { content_at tree.old.nodes object ≡ Content.object }
     ensures ensured { IfOk result
         (NamedEnsured shape over tree.old.nodes tree.new.nodes object (chars name.now)) }
+    ensures shape { IfOk result (λ a. IfSome a (λ m. is_of shape (content_at tree.new.nodes m) ≡ true)) }
     ensures told { IfErr result (IsUnensured over tree.old.nodes object (chars name.now)) }
     ensures kept { OnErr result (Keeps (length tree.old.nodes) tree.old.nodes tree.new.nodes) }
     ensures document { OnErr result (ordered_tree tree.new.nodes 0 ≡ ordered_tree tree.old.nodes 0) }
