@@ -25,7 +25,7 @@ pub use jsonc_sorting::{
     SortProperties,
 };
 pub use jsonc_typed::{
-    EnsureMultiline, InsertElement, InsertProperty, IsDocument, Remove, RemoveLeaf,
+    EnsureMultiline, EnsureProperty, InsertElement, InsertProperty, IsDocument, Remove, RemoveLeaf,
     ReplaceProperty, ReplaceWith, SetBoolean, SetNewline, SetProperty, SetRawValue, SetRoot,
     SetToken, SetTrailingCommas, SetWhitespace,
 };

@@ -1,5 +1,5 @@
 -- Elements that have come into arrays: what the new node is, and which nodes stay.
-use Rattle.std.proofs.Common.{◌≡◌, ℕ, ◌<◌, ◌≤◌, Bool, true, not, List, length, min, Result, Ok, Err, OnOk, IfOk, refl, sym, subst, ◌∙◌, arith}
+use Rattle.std.proofs.Common.{◌≡◌, ℕ, ◌<◌, ◌≤◌, true, not, List, length, min, Result, Ok, Err, OnOk, IfOk, refl, sym, subst, ◌∙◌, arith}
 use Rattle.std.proofs.Math.Nat.{min-eq_right}
 use Rattle.std.proofs.lemmas.List.Filters.{length-filter_both}
 use Rattle.jsonc_text.specs.Options.{Options}

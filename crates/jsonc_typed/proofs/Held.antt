@@ -158,7 +158,7 @@ held_is_written o old new v found m w = λ n e. of_some (λ k. Writes o old new 
 
 -- an array or object that was found, or has been set
 module _ (kind : content.Content → Bool) (v : Plain) (old new : List Node) (p : ℕ) where
-  stay_found : (o : Option ℕ) (m : ℕ) → HeldOrSet kind v old new p o m → Stays old new
+  pub stay_found : (o : Option ℕ) (m : ℕ) → HeldOrSet kind v old new p o m → Stays old new
   stay_found None m l = stay_last old new p v m l
   stay_found (Some n) m r = kept_stays kind v old new n m (kind (content_at old n)) r
 

@@ -1,5 +1,5 @@
 -- Properties that have come into objects: what the new node is, and which nodes stay.
-use Rattle.std.proofs.Common.{◌≡◌, ℕ, ◌<◌, ◌≤◌, Bool, true, not, List, length, min, Result, Ok, Err, OnOk, IfOk, refl, sym, ap, subst, ◌∙◌, arith}
+use Rattle.std.proofs.Common.{◌≡◌, ℕ, ◌<◌, ◌≤◌, true, not, List, length, min, Result, Ok, Err, OnOk, IfOk, refl, sym, ap, subst, ◌∙◌, arith}
 use Rattle.std.proofs.Math.Nat.{min-eq_right}
 use Rattle.std.proofs.lemmas.List.Filters.{length-filter_both}
 use Rattle.jsonc_text.specs.Options.{Options}
@@ -42,6 +42,7 @@ module _ (old new : List Node) (c i : ℕ) (name : List ℕ) (v : Plain) (m : �
   pub put_others : KeepsNodesBut old new c
   put_others = (changes_one_row old new c i name v m tree there e).1
 
+module _ (old new : List Node) (c i : ℕ) (name : List ℕ) (v : Plain) (m : ℕ) (tree : IsTree old) (there : c < length old) (e : PropertyPut old new c i name v m) where
   pub put_stays : Stays old new
   put_stays =
       let ready = prepared_all old e.lined e.ready tree c there e.was e.before e.prepared i name v m e.row e.made in

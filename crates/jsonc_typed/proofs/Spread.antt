@@ -1,5 +1,5 @@
 -- Arrays and objects that are put on several lines: what becomes of a document and its nodes.
-use Rattle.std.proofs.Common.{◌≡◌, ℕ, Bool, true, false, not, List, length, IsTrue, Result, Ok, Err, OnOk, OnErr, IfErr, inl, inr, refl, sym, ap, subst, ◌∙◌}
+use Rattle.std.proofs.Common.{◌≡◌, ℕ, Bool, true, false, not, List, length, IsTrue, Result, Ok, Err, OnOk, OnErr, IfErr, inl, inr, refl, ap}
 use Rattle.std.proofs.lemmas.Bool.{cases_Bool}
 use Rattle.jsonc_text.specs.Options.{Options}
 use Rattle.jsonc_tree.specs.Building.{Keeps}
@@ -7,8 +7,6 @@ use Rattle.jsonc_tree.specs.Content.{Content}
 use Rattle.jsonc_tree.specs.OrderedTree.{ordered_tree}
 use Rattle.jsonc_tree.specs.Tree.{Node, content_at, IsTree}
 use Rattle.jsonc_lines.specs.Kinds.{holds_values}
-use Rattle.jsonc_laws.specs.SoundTrees.{SoundTree}
-use Rattle.jsonc_edit.specs.Paths.{IsAt}
 use Rattle.jsonc_edit.specs.declared.error.EditError.{EditError}
 use Rattle.jsonc_edit.specs.declared.error.EditError.TheVariants.{OutOfMemory, MissingBrackets, MissingName, NoSuchPlace}
 use Rattle.jsonc_multiline.specs.Multiline.{has_line_end, IsUnspread, MadeMultiline}
@@ -18,7 +16,7 @@ use Rattle.jsonc_multiline.proofs.SameDocument.{keeps_document}
 use Rattle.jsonc_cst.specs.declared.cst.node.CstArray.{CstArray}
 use Rattle.jsonc_cst.specs.declared.cst.node.CstObject.{CstObject}
 use Rattle.jsonc_cst.specs.Nodes.{array_node, object_node, typed}
-use Rattle.jsonc_typed.specs.Lines.{IsSpreadOut, SpreadsAtItsPath, SpreadsButForMemory}
+use Rattle.jsonc_typed.specs.Lines.{SpreadsAtItsPath, SpreadsButForMemory}
 use Rattle.jsonc_typed.proofs.Kept.{Stays, stay_both, stay_kept, stay_same, stay_spliced}
 
 -- an array or object holds values

@@ -1,10 +1,9 @@
 -- Trailing commas that are set: which nodes stay, and what becomes of the document.
-use Rattle.std.proofs.Common.{◌≡◌, ◌⊎◌, inl, inr, ℕ, ◌≤◌, suc, List, [], ◌∷◌, length, refl, arith}
+use Rattle.std.proofs.Common.{◌≡◌, ◌⊎◌, inl, inr, ℕ, ◌≤◌, suc, List, [], ◌∷◌, length, arith}
 use Rattle.jsonc_text.specs.Options.{Options}
-use Rattle.jsonc_tree.specs.OrderedTree.{ordered_tree}
 use Rattle.jsonc_tree.specs.Tree.{Node, IsTree}
 use Rattle.jsonc_edit.specs.declared.modes.TrailingCommaMode.{TrailingCommaMode}
-use Rattle.jsonc_commas.specs.InTurn.{holders, AreSetInPart, AreSetInTurn}
+use Rattle.jsonc_commas.specs.InTurn.{AreSetInTurn}
 use Rattle.jsonc_commas.proofs.Documents.{keeps_document, keeps_in_part, sets_all}
 use Rattle.jsonc_commas.proofs.InOrder.{KeepsContainers}
 use Rattle.jsonc_commas.proofs.Kept.{set_keeps}

@@ -1,5 +1,5 @@
 -- Properties that come into objects.
-use Rattle.std.specs.Prelude.{◌≡◌, ℕ, List, length, min}
+use Rattle.std.specs.Prelude.{ℕ, List, length, min}
 use Rattle.jsonc_text.specs.Options.{Options}
 use Rattle.jsonc_text.specs.Plain.{Plain}
 use Rattle.jsonc_tree.specs.OrderedTree.{OrderedTree, ordered_tree}

@@ -27,7 +27,7 @@ use jsonc_tree::Tree;
 use std::alloc::Allocator;
 
 // The number of an object that the tree holds.
-fn object_number<A: Allocator>(tree: &Tree<A>, object: CstObject) -> usize
+pub(crate) fn object_number<A: Allocator>(tree: &Tree<A>, object: CstObject) -> usize
     requires { IsNodeOf tree.now.nodes (object_node object) }
     ensures number { result ≡ object.number }
     ensures there { result < length tree.now.nodes }

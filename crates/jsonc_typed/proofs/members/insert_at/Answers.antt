@@ -39,7 +39,7 @@ returns-in-Ok-clause-others g c =
 pub returns-in-Ok-clause-stays : goal.returns-in-Ok-clause-stays
 returns-in-Ok-clause-stays g c =
     nodes_stay c.args.tree.now.nodes c.insert_property.new.tree.nodes
-    (put_stays c.args.tree.now.nodes c.insert_property.new.tree.nodes c.args.object c.args.index (chars c.args.name.now) (plain c.args.value.now) c.in-Ok.property c.len.ensures.tree c.requires.there c.in-Ok.ensures.brackets c.in-Ok.ensures.put)
+    (put_stays c.args.tree.now.nodes c.insert_property.new.tree.nodes c.args.object c.args.index (chars c.args.name.now) (plain c.args.value.now) c.in-Ok.property c.len.ensures.tree c.requires.there c.in-Ok.ensures.put)
 
 pub returns-in-Err-clause-stays : goal.returns-in-Err-clause-stays
 returns-in-Err-clause-stays g c =

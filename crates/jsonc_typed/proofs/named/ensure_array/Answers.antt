@@ -1,0 +1,22 @@
+use Rattle.std.proofs.Common.{chars}
+use Rattle.jsonc_named.specs.declared.shape.Shape.TheVariants.{Array}
+use Rattle.jsonc_typed.proofs.ByName.{named_for_memory, named_stays, named_written}
+use Rattle.jsonc_typed.proofs.Kept.{nodes_stay}
+use Rattle.jsonc_typed.proofs.named.ensure_array.Goals as goal
+
+pub returns-in-Ok-Some-clause-written : goal.returns-in-Ok-Some-clause-written
+returns-in-Ok-Some-clause-written g c = λ o.
+    named_written c.args.tree.now.nodes c.ensure_property.new.tree.nodes c.args.object (chars c.args.name.now) Array c.args.over c.len.ensures.tree c.requires.object o c.in-Ok-Some.field-0 c.in-Ok-Some.ensures.ensured
+
+pub returns-in-Ok-Some-clause-stays : goal.returns-in-Ok-Some-clause-stays
+returns-in-Ok-Some-clause-stays g c =
+    nodes_stay c.args.tree.now.nodes c.ensure_property.new.tree.nodes
+    (named_stays c.args.tree.now.nodes c.ensure_property.new.tree.nodes c.args.object (chars c.args.name.now) Array c.args.over c.len.ensures.tree c.requires.there c.in-Ok-Some.field-0 c.in-Ok-Some.ensures.ensured)
+
+pub returns-in-Ok-None-clause-written : goal.returns-in-Ok-None-clause-written
+returns-in-Ok-None-clause-written g c = λ o.
+    named_written c.args.tree.now.nodes c.ensure_property.new.tree.nodes c.args.object (chars c.args.name.now) Array c.args.over c.len.ensures.tree c.requires.object o c.in-Ok-None.field-0 c.in-Ok-None.ensures.ensured
+
+pub returns-in-Err-clause-memory : goal.returns-in-Err-clause-memory
+returns-in-Err-clause-memory g c = λ o.
+    named_for_memory c.args.tree.now.nodes c.ensure_property.new.tree.nodes c.args.object (chars c.args.name.now) Array c.args.over c.len.ensures.tree c.requires.object o c.in-Err.error c.in-Err.ensures.told
