@@ -47,8 +47,8 @@ pub enum Call {
     WholeRun,
 }
 
-/// All of them, each with its name.
-pub const CALLS: [(Call, &str); 19] = [
+/// Those that want memory wherever a request is refused, each with its name.
+pub const CALLS: [(Call, &str); 16] = [
     (Call::Decode, "decode"),
     (Call::DecodeProvided, "decode provided"),
     (Call::Scan, "scan"),
@@ -64,10 +64,14 @@ pub const CALLS: [(Call, &str); 19] = [
     (Call::Layout, "layout"),
     (Call::BytesToBytes, "bytes to bytes"),
     (Call::Removal, "removal"),
+    (Call::WholeRun, "whole run"),
+];
+
+/// Those that collect a list, which asks again for less where its first request was refused.
+pub const COLLECTING: [(Call, &str); 3] = [
     (Call::Appended, "appended"),
     (Call::Set, "set"),
     (Call::SetFirst, "set first"),
-    (Call::WholeRun, "whole run"),
 ];
 
 /// A text of plain JSON, with more elements and properties than a list has room for at first.

@@ -1,7 +1,7 @@
 //! Each request for memory of a call, refused in turn.
 
-use crate::calls::{CALLS, outcome_of};
-use refusing::in_turn::refused_in_turn;
+use crate::calls::{CALLS, COLLECTING, outcome_of};
+use refusing::in_turn::{answers_in_turn, refused_in_turn};
 use std::test::Fail;
 
 #[test]
@@ -9,6 +9,15 @@ fn each_request_is_refused_in_turn(rt: HostRuntime) -> Result<(), Fail> {
     for (call, name) in CALLS {
         let count = refused_in_turn(rt.alloc(), |heap| outcome_of(call, heap));
         assert!(rt; matches!(count, Some(1..)), "{name}");
+    }
+    Ok(())
+}
+
+#[test]
+fn what_collects_a_list_wants_memory_or_answers(rt: HostRuntime) -> Result<(), Fail> {
+    for (call, name) in COLLECTING {
+        let answers = answers_in_turn(rt.alloc(), |heap| outcome_of(call, heap));
+        assert!(rt; answers, "{name}");
     }
     Ok(())
 }

@@ -65,6 +65,7 @@ impl Write for Writer {
 }
 
 /// A command over a text, what it writes, and how many writes and a flush that takes.
+#[derive(Drop)]
 struct Case {
     words: &'static [&'static str],
     written: &'static [u8],
@@ -124,7 +125,7 @@ fn fails_to_write(alloc: Global, case: &Case, writes: usize) -> bool {
     is_told(&ended, "jsonc: write failed")
         && is_beginning
         && count >= writes
-        && count <= writes * STEP
+        && count <= writes.saturating_mul(STEP)
 }
 
 fn writes_all(alloc: Global, case: &Case, reads: usize, writes: usize) -> bool {
