@@ -16,7 +16,7 @@ use Rattle.jsonc_edit.specs.Paths.{IsElementOf}
 use Rattle.jsonc_edit.specs.Writing.{IsWritable}
 use Rattle.jsonc_edit.specs.Written.{IsWrittenAt}
 use Rattle.jsonc_typed.specs.Marked.{MarksGiveWay}
-use Rattle.jsonc_typed.specs.Members.{IsNamedPutIn}
+use Rattle.jsonc_objects.specs.Members.{IsNamedPutIn}
 use Rattle.jsonc_typed.specs.Setting.{FirstObjectAround, FirstObjectWritten}
 
 -- The value of the property p, an element of the object c that is the document's value, has given way to v: the text is a document again, sound, whose value has

@@ -4,8 +4,6 @@ pub mod Edits
 pub mod Inserting
 pub mod Lines
 pub mod Marked
-pub mod Members
-pub mod Named
 pub mod Raw
 pub mod Removing
 pub mod Setting

@@ -7,9 +7,7 @@
 //! [`ReplaceWith`] and [`ReplaceProperty`] let a node give way to another, [`Remove`] and [`RemoveLeaf`]
 //! take one out, and [`SetRoot`], [`SetProperty`] and [`SetBoolean`] have what sets the document's value,
 //! that of a property, and a truth value; [`EnsureMultiline`] puts an array or object on several lines,
-//! [`InsertElement`] a value into an array, [`InsertProperty`] a property into an object, whose
-//! first property of a name has an array or object by [`EnsureProperty`], and [`SetTrailingCommas`] sets
-//! trailing commas.
+//! [`InsertElement`] a value into an array, and [`SetTrailingCommas`] sets trailing commas.
 //! [`SetRawValue`], [`SetToken`], [`SetWhitespace`] and [`SetNewline`] write one leaf anew as it stands,
 //! without memory, whatever the document makes of that (`specs/Raw.antt`). A closure that reads the
 //! document is lent one by [`IsDocument`].
@@ -19,8 +17,6 @@ mod commas;
 mod document;
 mod inserting;
 mod lines;
-mod members;
-mod named;
 mod raw;
 mod removing;
 mod replacing;
@@ -31,10 +27,8 @@ pub use commas::SetTrailingCommas;
 pub use document::IsDocument;
 pub use inserting::InsertElement;
 pub use lines::EnsureMultiline;
-pub use members::InsertProperty;
-pub use named::EnsureProperty;
 pub use raw::{SetNewline, SetRawValue, SetToken, SetWhitespace};
 pub use removing::{Remove, RemoveLeaf};
 pub use replacing::ReplaceWith;
-pub use setting::{ReplaceProperty, SetRoot};
+pub use setting::{ReplaceProperty, SetRoot, array_at, object_at};
 pub use values::{SetBoolean, SetProperty};

@@ -35,8 +35,8 @@ use jsonc_input::CstInputValue;
 use jsonc_tree::Tree;
 use std::alloc::Allocator;
 
-// The object that stands under a number.
-pub(crate) fn object_at<A: Allocator>(tree: &Tree<A>, number: usize) -> CstObject
+/// The object that stands under a number.
+pub fn object_at<A: Allocator>(tree: &Tree<A>, number: usize) -> CstObject
     requires { content_at tree.now.nodes number ≡ Content.object }
     ensures number { result.number ≡ number }
     ensures held { IsNodeOf tree.now.nodes (object_node result) }
@@ -47,8 +47,8 @@ pub(crate) fn object_at<A: Allocator>(tree: &Tree<A>, number: usize) -> CstObjec
     object
 }
 
-// The array that stands under a number.
-pub(crate) fn array_at<A: Allocator>(tree: &Tree<A>, number: usize) -> CstArray
+/// The array that stands under a number.
+pub fn array_at<A: Allocator>(tree: &Tree<A>, number: usize) -> CstArray
     requires { content_at tree.now.nodes number ≡ Content.array }
     ensures number { result.number ≡ number }
     ensures held { IsNodeOf tree.now.nodes (array_node result) }

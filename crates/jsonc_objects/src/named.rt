@@ -11,15 +11,15 @@ ghost use Rattle.jsonc_cst.specs.Nodes.{array_node, object_node, IsNodeOf};
 ghost use Rattle.jsonc_cst.specs.Tree.{NodesAreTree};
 ghost use Rattle.jsonc_typed.specs.Edits.{StillHolds, StillNodes};
 ghost use Rattle.jsonc_typed.specs.Inserting.{IsShutForMemory, PutsButForMemory};
-ghost use Rattle.jsonc_typed.specs.Named.{ArrayEnsured, NamedIsWritten, ObjectEnsured};
-ghost use Rattle.jsonc_typed.specs.Named.{HasEnsuredArray, HasEnsuredObject, HasSetArray, HasSetObject};
-ghost use Rattle.jsonc_typed.specs.Named.{HasWrittenNamed, IsUnensuredIn};
+ghost use Rattle.jsonc_objects.specs.Named.{ArrayEnsured, NamedIsWritten, ObjectEnsured};
+ghost use Rattle.jsonc_objects.specs.Named.{HasEnsuredArray, HasEnsuredObject, HasSetArray, HasSetObject};
+ghost use Rattle.jsonc_objects.specs.Named.{HasWrittenNamed, IsUnensuredIn};
 
 use crate::members::object_number;
-use crate::setting::{array_at, object_at};
 use jsonc_cst::cst::{CstArray, CstObject, CstRootNode, EditError, IsNode};
 use jsonc_named::{Over, Shape, ensure_property};
 use jsonc_tree::Tree;
+use jsonc_typed::{array_at, object_at};
 use std::alloc::Allocator;
 
 // Sees that the first property of a name in an object has an object as its value, and answers it.
@@ -160,7 +160,7 @@ pub trait EnsureProperty: IsNode {
         ensures tree { NodesAreTree doc.new };
 
     /// The value of its first property of a name, if it is an object. Where it is another, or missing, an empty
-    /// one is set, as by [`crate::SetProperty`]; where no property has the name, one with an empty one comes
+    /// one is set, as by [`jsonc_typed::SetProperty`]; where no property has the name, one with an empty one comes
     /// behind the last, as by [`crate::InsertProperty::append`].
     ///
     /// A property whose value is to be set, and that lacks its colon, is `MissingName`, and an object into
@@ -207,7 +207,7 @@ pub trait EnsureProperty: IsNode {
         ensures tree { NodesAreTree doc.new };
 
     /// The value of its first property of a name, if it is an array. Where it is another, or missing, an empty
-    /// one is set, as by [`crate::SetProperty`]; where no property has the name, one with an empty one comes
+    /// one is set, as by [`jsonc_typed::SetProperty`]; where no property has the name, one with an empty one comes
     /// behind the last, as by [`crate::InsertProperty::append`].
     ///
     /// A property whose value is to be set, and that lacks its colon, is `MissingName`, and an object into

@@ -14,10 +14,10 @@ use Rattle.jsonc_named.specs.Named.{EnsuredFor, IsUnensured, NamedEnsured}
 use Rattle.jsonc_named.specs.Shapes.{is_of, empty_of}
 use Rattle.jsonc_named.proofs.Writing.{wants_memory, writes_named}
 use Rattle.jsonc_typed.specs.Inserting.{PutsButForMemory}
-use Rattle.jsonc_typed.specs.Named.{NamedIsWritten}
+use Rattle.jsonc_objects.specs.Named.{NamedIsWritten}
 use Rattle.jsonc_typed.proofs.Held.{stay_found}
 use Rattle.jsonc_typed.proofs.Kept.{Stays, stay_same}
-use Rattle.jsonc_typed.proofs.NamedIn.{put_stays}
+use Rattle.jsonc_objects.proofs.NamedIn.{put_stays}
 
 -- a node of the shape is of the kind
 pub object_kind : (w : Content) → is_of Object w ≡ true → w ≡ content.object

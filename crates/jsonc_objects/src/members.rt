@@ -15,8 +15,8 @@ ghost use Rattle.jsonc_cst.specs.Nodes.{number_of, object_node, object_prop_node
 ghost use Rattle.jsonc_cst.specs.Tree.{NodesAreTree};
 ghost use Rattle.jsonc_typed.specs.Edits.{StillHolds, StillNodes};
 ghost use Rattle.jsonc_typed.specs.Inserting.{element_count, IsShutFor, IsShutForMemory, KeepsOthers, PutsButForMemory};
-ghost use Rattle.jsonc_typed.specs.Members.{HasNamedComeIn, IsItsProperty, IsNamedAtItsPath};
-ghost use Rattle.jsonc_typed.specs.Members.{NamedComesInAt, PropertyStandsAt, PutsNamedAtItsPath};
+ghost use Rattle.jsonc_objects.specs.Members.{HasNamedComeIn, IsItsProperty, IsNamedAtItsPath};
+ghost use Rattle.jsonc_objects.specs.Members.{NamedComesInAt, PropertyStandsAt, PutsNamedAtItsPath};
 
 use jsonc_cst::cst::{
     CstContainerNode, CstNode, CstObject, CstObjectProp, CstRootNode, EditError, IsNode, node_at,

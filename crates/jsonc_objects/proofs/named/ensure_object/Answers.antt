@@ -1,8 +1,8 @@
 use Rattle.std.proofs.Common.{chars}
 use Rattle.jsonc_named.specs.declared.shape.Shape.TheVariants.{Object}
-use Rattle.jsonc_typed.proofs.ByName.{named_for_memory, named_stays, named_written}
+use Rattle.jsonc_objects.proofs.ByName.{named_for_memory, named_stays, named_written}
 use Rattle.jsonc_typed.proofs.Kept.{nodes_stay}
-use Rattle.jsonc_typed.proofs.named.ensure_object.Goals as goal
+use Rattle.jsonc_objects.proofs.named.ensure_object.Goals as goal
 
 pub returns-in-Ok-Some-clause-written : goal.returns-in-Ok-Some-clause-written
 returns-in-Ok-Some-clause-written g c = λ o.

@@ -26,7 +26,7 @@ use Rattle.jsonc_insertion_laws.proofs.Named.{inserts_member}
 use Rattle.jsonc_member_laws.proofs.Coming.{properties_come_at}
 use Rattle.jsonc_cst.specs.declared.cst.node.CstObjectProp.{CstObjectProp}
 use Rattle.jsonc_typed.specs.Inserting.{PutsButForMemory}
-use Rattle.jsonc_typed.specs.Members.{NamedComesInAt, PropertyStandsAt, PutsNamedAtItsPath}
+use Rattle.jsonc_objects.specs.Members.{NamedComesInAt, PropertyStandsAt, PutsNamedAtItsPath}
 use Rattle.jsonc_typed.proofs.Kept.{Stays, stay_both, stay_kept, stay_spliced}
 
 module _ (old new : List Node) (c i : ℕ) (name : List ℕ) (v : Plain) (m : ℕ) (tree : IsTree old) (there : c < length old) (brackets : has_brackets old (children_at old c) ≡ true) (e : PropertyPut old new c i name v m) where

@@ -1,7 +1,7 @@
 use Rattle.std.proofs.Common.{ℕ, OnOk, chars, subst}
 use Rattle.jsonc_input.specs.Views.{plain}
-use Rattle.jsonc_typed.specs.Members.{PutsNamedAtItsPath}
-use Rattle.jsonc_typed.proofs.members.CstObjectInsertProperty.insert.Goals as goal
+use Rattle.jsonc_objects.specs.Members.{PutsNamedAtItsPath}
+use Rattle.jsonc_objects.proofs.members.CstObjectInsertProperty.insert.Goals as goal
 
 pub returns-clause-written : goal.returns-clause-written
 returns-clause-written g c = λ o.

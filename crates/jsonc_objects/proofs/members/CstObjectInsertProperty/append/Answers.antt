@@ -1,8 +1,8 @@
 use Rattle.std.proofs.Common.{ℕ, length, OnOk, chars, subst}
 use Rattle.jsonc_input.specs.Views.{plain}
 use Rattle.jsonc_nodes.specs.Siblings.{elements_at}
-use Rattle.jsonc_typed.specs.Members.{PutsNamedAtItsPath}
-use Rattle.jsonc_typed.proofs.members.CstObjectInsertProperty.append.Goals as goal
+use Rattle.jsonc_objects.specs.Members.{PutsNamedAtItsPath}
+use Rattle.jsonc_objects.proofs.members.CstObjectInsertProperty.append.Goals as goal
 
 pub returns-clause-written : goal.returns-clause-written
 returns-clause-written g c = λ o.

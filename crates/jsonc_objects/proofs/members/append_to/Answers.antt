@@ -1,8 +1,8 @@
 use Rattle.std.proofs.Common.{ℕ, IfOk, chars, subst}
 use Rattle.jsonc_input.specs.Views.{plain}
-use Rattle.jsonc_typed.specs.Members.{NamedComesInAt, PropertyStandsAt}
-use Rattle.jsonc_typed.proofs.NamedIn.{appended, appended_property, appended_written}
-use Rattle.jsonc_typed.proofs.members.append_to.Goals as goal
+use Rattle.jsonc_objects.specs.Members.{NamedComesInAt, PropertyStandsAt}
+use Rattle.jsonc_objects.proofs.NamedIn.{appended, appended_property, appended_written}
+use Rattle.jsonc_objects.proofs.members.append_to.Goals as goal
 
 pub returns-clause-put : goal.returns-clause-put
 returns-clause-put g c =

@@ -1,0 +1,2 @@
+pub mod NamedIn
+pub mod ByName
