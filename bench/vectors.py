@@ -5,6 +5,7 @@ import re
 
 EDITS = {'Replace', 'Remove', 'RemoveComment', 'SetRoot', 'ClearRoot', 'ReplaceProperty', 'EnsureRoot',
          'SetValue', 'EnsureValue', 'SetBoolean', 'EnsureMultiline', 'AppendElement', 'InsertElement',
+         'AppendProperty', 'InsertProperty', 'EnsureProperty', 'SetTrailingCommas', 'Sort', 'SortX',
          'RawSet', 'RawRemove', 'RawRemoveName', 'RawReplaceName', 'RawRemoveValue'}
 COMMANDS_TO_COME = {b'sort': 1}
 

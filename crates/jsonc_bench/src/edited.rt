@@ -1,7 +1,9 @@
 //! What edits make of a document.
+use crate::commas::set_commas;
 use crate::raw::make_raw;
 use crate::refusal::Refusal;
 use crate::show::push_fault;
+use crate::sorted::make_sort;
 use jsonc_cases::edits::Step;
 use jsonc_cases::escape::Escaped;
 use jsonc_parser::ParseOptions;
@@ -51,6 +53,8 @@ fn make_step(alloc: Global, doc: &mut CstRootNode<Global>, step: Step) -> Result
     match step {
         Step::Listed(edit) => make_listed(alloc, doc, edit),
         Step::Raw(edit) => make_raw(alloc, doc, edit),
+        Step::Sort(edit) => make_sort(alloc, doc, edit),
+        Step::Commas(path, mode) => set_commas(doc, path.as_slice(), mode),
     }
 }
 

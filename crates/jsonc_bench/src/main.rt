@@ -4,6 +4,7 @@
 #![tactic(auto)]
 
 mod answer;
+mod commas;
 mod comments;
 mod decoded;
 mod document;
@@ -18,6 +19,7 @@ mod reading;
 mod refusal;
 mod scanned;
 mod show;
+mod sorted;
 mod syntax;
 mod value;
 

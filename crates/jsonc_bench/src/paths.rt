@@ -24,6 +24,21 @@ pub fn property_at(doc: &CstRootNode<Global>, path: &[usize]) -> Result<CstObjec
     }
 }
 
+/// The value that a path leads to.
+pub fn value_at(doc: &CstRootNode<Global>, path: &[usize]) -> Result<CstNode, Refusal> {
+    let mut found = doc.value();
+    for step in path {
+        found = match found {
+            Some(node) if doc.holds(node) => value_below(doc, node, *step)?,
+            _ => None,
+        };
+    }
+    match found {
+        Some(node) => Ok(node),
+        None => Err(Refusal::Error(EditError::NoSuchPlace)),
+    }
+}
+
 /// The element at a place of an array, or the value of the property at a place of an object.
 fn value_below(
     doc: &CstRootNode<Global>,

@@ -2,7 +2,7 @@
 
 use crate::error::CaseError;
 use crate::escape::unescaped_text;
-use jsonc_parser::cst::{CstInputValue, Edit, Over, Shape};
+use jsonc_parser::cst::{CstInputValue, Edit, Over, Shape, TrailingCommaMode};
 use std::alloc::Global;
 
 /// An edit of a case.
@@ -12,6 +12,52 @@ pub enum Step {
     Listed(Edit<Global>),
     /// One that is made on a node.
     Raw(RawEdit),
+    /// A sort of an array or object.
+    Sort(SortEdit),
+    /// The trailing commas of the array or object at a path, and of all below it.
+    Commas(Vec<usize>, TrailingCommaMode),
+}
+
+/// What the texts of elements or properties are sorted by.
+#[derive(Clone, Copy, Debug, PartialEq, Eq)]
+pub enum SortKey {
+    /// The text.
+    Text,
+    /// The text, the greatest first.
+    Reversed,
+    /// The length of the text.
+    Length,
+    /// Its first byte.
+    First,
+    /// All are equal.
+    Same,
+}
+
+/// Which comments are pinned.
+#[derive(Clone, Copy, Debug, PartialEq, Eq)]
+pub enum SortRule {
+    /// None.
+    NoRule,
+    /// Those behind blank lines.
+    BlankLines,
+    /// So many above each.
+    Pins(usize),
+}
+
+/// A sort of the array or object at a path.
+#[derive(Drop)]
+pub struct SortEdit {
+    /// The path.
+    pub path: Vec<usize>,
+    /// Whether the text of a property is its name as it is written, without quotes. Else it is as it is
+    /// printed, as that of an element is.
+    pub by_name: bool,
+    /// What is compared of the texts.
+    pub key: SortKey,
+    /// Which comments are pinned.
+    pub rule: SortRule,
+    /// Whether blank lines part it.
+    pub groups: bool,
 }
 
 /// An edit of one leaf, of a property's name, or of its value by the node that this is. Leaves are
@@ -51,6 +97,13 @@ fn read_step(alloc: Global, edit: &str) -> Result<Option<Step>, CaseError> {
     if let Some(raw) = read_raw(alloc, words.as_slice())? {
         return Ok(Some(Step::Raw(raw)));
     }
+    if let Some(sort) = read_sort(alloc, words.as_slice())? {
+        return Ok(Some(Step::Sort(sort)));
+    }
+    if let ["SetTrailingCommas", path, mode] = words.as_slice() {
+        let path = read_path(alloc, path)?;
+        return Ok(Some(Step::Commas(path, read_mode(mode)?)));
+    }
     let listed = match read_edit(alloc, words.as_slice())? {
         Some(edit) => Some(edit),
         None => read_insertion(alloc, words.as_slice())?,
@@ -72,6 +125,66 @@ fn read_raw(alloc: Global, words: &[&str]) -> Result<Option<RawEdit>, CaseError>
         }
         ["RawRemoveValue", path] => Ok(Some(RawEdit::RemoveValue(read_path(alloc, path)?))),
         _ => Ok(None),
+    }
+}
+
+fn read_sort(alloc: Global, words: &[&str]) -> Result<Option<SortEdit>, CaseError> {
+    match words {
+        ["Sort", path, pin, groups] => Ok(Some(SortEdit {
+            path: read_path(alloc, path)?,
+            by_name: true,
+            key: SortKey::Text,
+            rule: if read_flag(pin)? {
+                SortRule::BlankLines
+            } else {
+                SortRule::NoRule
+            },
+            groups: read_flag(groups)?,
+        })),
+        ["SortX", path, key, rule, groups] => Ok(Some(SortEdit {
+            path: read_path(alloc, path)?,
+            by_name: *key == "text" || *key == "rev",
+            key: read_key(key)?,
+            rule: read_rule(rule)?,
+            groups: read_flag(groups)?,
+        })),
+        _ => Ok(None),
+    }
+}
+
+fn read_mode(word: &str) -> Result<TrailingCommaMode, CaseError> {
+    match word {
+        "never" => Ok(TrailingCommaMode::Never),
+        "ifmultiline" => Ok(TrailingCommaMode::IfMultiline),
+        _ => Err(CaseError::Edit),
+    }
+}
+
+fn read_flag(word: &str) -> Result<bool, CaseError> {
+    match word {
+        "0" => Ok(false),
+        "1" => Ok(true),
+        _ => Err(CaseError::Edit),
+    }
+}
+
+fn read_key(word: &str) -> Result<SortKey, CaseError> {
+    match word {
+        "text" => Ok(SortKey::Text),
+        "rev" => Ok(SortKey::Reversed),
+        "len" => Ok(SortKey::Length),
+        "first" => Ok(SortKey::First),
+        "same" => Ok(SortKey::Same),
+        _ => Err(CaseError::Edit),
+    }
+}
+
+fn read_rule(word: &str) -> Result<SortRule, CaseError> {
+    match word {
+        "-" => Ok(SortRule::NoRule),
+        "pin" => Ok(SortRule::BlankLines),
+        "max" => Ok(SortRule::Pins(usize::MAX)),
+        _ => Ok(SortRule::Pins(read_number(word)?)),
     }
 }
 

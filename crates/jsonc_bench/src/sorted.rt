@@ -1,0 +1,167 @@
+//! Sorts of arrays and objects.
+
+ghost use Rattle.jsonc_cst.specs.Document.{Holds};
+ghost use Rattle.jsonc_cst.specs.Nodes.{array_node, object_node, object_prop_node};
+
+use crate::paths::value_at;
+use crate::refusal::Refusal;
+use jsonc_cases::edits::{SortEdit, SortKey, SortRule};
+use jsonc_parser::cst::{
+    CstArray, CstComment, CstContainerNode, CstNode, CstObject, CstObjectProp, CstRootNode,
+    EditError, IsNode, ObjectPropName, SortElements, SortProperties,
+};
+use std::alloc::Global;
+use std::cmp::Reverse;
+
+/// Makes a sort.
+pub fn make_sort(
+    alloc: Global,
+    doc: &mut CstRootNode<Global>,
+    edit: SortEdit,
+) -> Result<(), Refusal> {
+    let node = value_at(doc, edit.path.as_slice())?;
+    if !doc.holds(node) {
+        return Err(Refusal::Error(EditError::NoSuchPlace));
+    }
+    match node {
+        CstNode::Container(CstContainerNode::Array(array)) => sort_array(alloc, doc, array, &edit)?,
+        CstNode::Container(CstContainerNode::Object(object)) => {
+            sort_object(alloc, doc, object, &edit)?
+        }
+        _ => return Err(Refusal::Error(EditError::NoSuchPlace)),
+    }
+    Ok(())
+}
+
+/// What is compared: the text, by which it goes, or the greatest first, or how long it is, or its first byte.
+#[derive(PartialEq, Eq, PartialOrd, Ord, Drop)]
+enum Key {
+    /// The text.
+    Text(String),
+    /// The greatest text first.
+    Reversed(Reverse<String>),
+    /// A number.
+    Number(usize),
+}
+
+fn key_of(text: String, key: SortKey) -> Key {
+    match key {
+        SortKey::Text => Key::Text(text),
+        SortKey::Reversed => Key::Reversed(Reverse(text)),
+        SortKey::Length => Key::Number(text.len()),
+        SortKey::First => match text.as_bytes().first() {
+            Some(byte) => Key::Number((*byte as usize).saturating_add(1)),
+            None => Key::Number(0),
+        },
+        SortKey::Same => Key::Number(0),
+    }
+}
+
+fn element_key(
+    alloc: Global,
+    doc: &CstRootNode<Global>,
+    node: CstNode,
+    key: SortKey,
+) -> Result<Key, EditError>
+    requires { Holds doc.now node }
+{
+    let Ok(text) = node.shown(doc).to_string(alloc) else {
+        return Err(EditError::OutOfMemory);
+    };
+    Ok(key_of(text, key))
+}
+
+/// A name as it is written, without quotes.
+fn name_of(doc: &CstRootNode<Global>, property: CstObjectProp) -> &str
+    requires { Holds doc.now (object_prop_node property) }
+{
+    match property.name(doc) {
+        Some(ObjectPropName::Word(word)) => word.raw_value(doc),
+        Some(ObjectPropName::String(string)) => {
+            let text = string.raw_value(doc);
+            match text.strip_prefix("\"") {
+                Some(rest) => rest.strip_suffix("\"").unwrap_or(rest),
+                None => match text.strip_prefix("'") {
+                    Some(rest) => rest.strip_suffix("'").unwrap_or(rest),
+                    None => text,
+                },
+            }
+        }
+        None => "",
+    }
+}
+
+fn property_key(
+    alloc: Global,
+    doc: &CstRootNode<Global>,
+    property: CstObjectProp,
+    key: SortKey,
+) -> Result<Key, EditError>
+    requires { Holds doc.now (object_prop_node property) }
+{
+    let Ok(text) = String::from_str(alloc, name_of(doc, property)) else {
+        return Err(EditError::OutOfMemory);
+    };
+    Ok(key_of(text, key))
+}
+
+fn sort_array(
+    alloc: Global,
+    doc: &mut CstRootNode<Global>,
+    array: CstArray,
+    edit: &SortEdit,
+) -> Result<(), EditError>
+    requires { Holds doc.old (array_node array) }
+{
+    let key = edit.key;
+    let by = move |doc: &CstRootNode<Global>, node: CstNode| element_key(alloc, doc, node, key);
+    let sort = array.sort_elements();
+    let sort = if edit.groups {
+        sort.within_groups()
+    } else {
+        sort
+    };
+    match edit.rule {
+        SortRule::NoRule => sort.by_key(doc, by),
+        SortRule::BlankLines => sort.pin_comment_headers().by_key(doc, by),
+        SortRule::Pins(count) => sort
+            .pin_comment_headers_with(move |_: &CstRootNode<
+                Global,
+            >, _: CstNode, _: &[CstComment]| count)
+            .by_key(doc, by),
+    }
+}
+
+fn sort_object(
+    alloc: Global,
+    doc: &mut CstRootNode<Global>,
+    object: CstObject,
+    edit: &SortEdit,
+) -> Result<(), EditError>
+    requires { Holds doc.old (object_node object) }
+{
+    let key = edit.key;
+    let by_name = edit.by_name;
+    let by = move |doc: &CstRootNode<Global>, property: CstObjectProp| {
+        if by_name {
+            property_key(alloc, doc, property, key)
+        } else {
+            element_key(alloc, doc, property.into(), key)
+        }
+    };
+    let sort = object.sort_properties();
+    let sort = if edit.groups {
+        sort.within_groups()
+    } else {
+        sort
+    };
+    match edit.rule {
+        SortRule::NoRule => sort.by_key(doc, by),
+        SortRule::BlankLines => sort.pin_comment_headers().by_key(doc, by),
+        SortRule::Pins(count) => sort
+            .pin_comment_headers_with(move |_: &CstRootNode<
+                Global,
+            >, _: CstObjectProp, _: &[CstComment]| count)
+            .by_key(doc, by),
+    }
+}
