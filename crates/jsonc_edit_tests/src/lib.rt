@@ -1,5 +1,5 @@
-//! Tests of edits: of the pieces of documents, of values that come into arrays, of arrays and objects on several
-//! lines, of trailing commas and of sorts, and of memory that is refused.
+//! Tests of edits: of the pieces of documents, of values and properties that come in, of arrays and objects on
+//! several lines, of trailing commas and of sorts, and of memory that is refused.
 //!
 //! `docs/BENCH.md` says what each test is of.
 #![tactic(auto)]
@@ -8,6 +8,8 @@
 mod appends;
 #[cfg(test)]
 mod commas;
+#[cfg(test)]
+mod members;
 #[cfg(test)]
 mod pieces;
 #[cfg(test)]
