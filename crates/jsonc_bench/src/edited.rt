@@ -1,15 +1,11 @@
 //! What edits make of a document.
-use crate::commas::set_commas;
-use crate::raw::make_raw;
-use crate::refusal::Refusal;
 use crate::show::push_fault;
-use crate::sorted::make_sort;
 use jsonc_cases::edits::Step;
 use jsonc_cases::escape::Escaped;
 use jsonc_parser::ParseOptions;
-use jsonc_parser::cst::{CstNode, CstRootNode, Edit, run};
+use jsonc_parser::cst::CstRootNode;
+use jsonc_steps::make_step;
 use std::alloc::{AllocError, Global};
-use std::cmp::Ordering;
 
 /// How the edits end, and how the document prints after those that were made; or the text's fault.
 pub fn edited(
@@ -47,29 +43,4 @@ pub fn push_end(
         made = made.saturating_add(1);
     }
     out.push_str("ok")
-}
-
-fn make_step(alloc: Global, doc: &mut CstRootNode<Global>, step: Step) -> Result<(), Refusal> {
-    match step {
-        Step::Listed(edit) => make_listed(alloc, doc, edit),
-        Step::Raw(edit) => make_raw(alloc, doc, edit),
-        Step::Sort(edit) => make_sort(alloc, doc, edit),
-        Step::Commas(path, mode) => set_commas(doc, path.as_slice(), mode),
-    }
-}
-
-/// Makes a list of this edit.
-fn make_listed(
-    alloc: Global,
-    doc: &mut CstRootNode<Global>,
-    edit: Edit<Global>,
-) -> Result<(), Refusal> {
-    let mut edits = Vec::new(alloc);
-    edits.push(edit)?;
-    // No edit sorts, so the comparison is not asked.
-    let compare = |_doc: &CstRootNode<_>, _one: CstNode, _other: CstNode| Ordering::Equal;
-    match run(doc, edits, &compare) {
-        Ok(()) => Ok(()),
-        Err((_, error)) => Err(error.into()),
-    }
 }

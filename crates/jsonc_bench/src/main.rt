@@ -4,7 +4,6 @@
 #![tactic(auto)]
 
 mod answer;
-mod commas;
 mod comments;
 mod decoded;
 mod document;
@@ -12,14 +11,10 @@ mod edited;
 mod input;
 mod lookup;
 mod member;
-mod paths;
 mod program;
-mod raw;
 mod reading;
-mod refusal;
 mod scanned;
 mod show;
-mod sorted;
 mod syntax;
 mod value;
 

@@ -14,6 +14,7 @@ use jsonc_parser::cst::{
     CstComment, CstContainerNode, CstLeafNode, CstNewlineKind, CstNode, CstObjectProp, CstRootNode,
     CstStringLit, HasChildren, IsNode, Readings,
 };
+use jsonc_steps::push_children;
 use std::alloc::{AllocError, Global};
 
 /// How the edits end, and the readings of the text's document after them and of its nodes in printed
@@ -89,23 +90,6 @@ fn push_nodes(
         push_indents(alloc, out, doc, node)?;
         push_content(out, doc, node)?;
         push_children(&mut left, doc, node)?;
-    }
-    Ok(())
-}
-
-/// Puts a node's children off, the first one last.
-pub fn push_children(
-    left: &mut Vec<CstNode>,
-    doc: &CstRootNode<Global>,
-    node: CstNode,
-) -> Result<(), AllocError>
-    requires { Holds doc.now node }
-{
-    let Ok(children) = node.children(doc) else {
-        return Err(AllocError);
-    };
-    for child in children.iter().rev() {
-        left.push(*child)?;
     }
     Ok(())
 }

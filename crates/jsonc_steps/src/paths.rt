@@ -1,10 +1,12 @@
-//! The property that a path leads to.
+//! What a path leads to, and the children of a node.
 
 ghost use Rattle.jsonc_cst.specs.Document.{Holds};
 
 use crate::refusal::Refusal;
-use jsonc_parser::cst::{CstContainerNode, CstNode, CstObjectProp, CstRootNode, EditError};
-use std::alloc::Global;
+use jsonc_parser::cst::{
+    CstContainerNode, CstNode, CstObjectProp, CstRootNode, EditError, HasChildren,
+};
+use std::alloc::{AllocError, Global};
 
 /// The property that a path leads to.
 pub fn property_at(doc: &CstRootNode<Global>, path: &[usize]) -> Result<CstObjectProp, Refusal> {
@@ -77,4 +79,21 @@ fn property_below(
         Some(property) => Ok(*property),
         None => Err(Refusal::Error(EditError::NoSuchPlace)),
     }
+}
+
+/// Puts a node's children off, the first one last.
+pub fn push_children(
+    left: &mut Vec<CstNode>,
+    doc: &CstRootNode<Global>,
+    node: CstNode,
+) -> Result<(), AllocError>
+    requires { Holds doc.now node }
+{
+    let Ok(children) = node.children(doc) else {
+        return Err(AllocError);
+    };
+    for child in children.iter().rev() {
+        left.push(*child)?;
+    }
+    Ok(())
 }

@@ -23,11 +23,12 @@ pub fn make_sort(
     if !doc.holds(node) {
         return Err(Refusal::Error(EditError::NoSuchPlace));
     }
-    match node {
-        CstNode::Container(CstContainerNode::Array(array)) => sort_array(alloc, doc, array, &edit)?,
-        CstNode::Container(CstContainerNode::Object(object)) => {
-            sort_object(alloc, doc, object, &edit)?
-        }
+    let CstNode::Container(container) = node else {
+        return Err(Refusal::Error(EditError::NoSuchPlace));
+    };
+    match container {
+        CstContainerNode::Array(array) => sort_array(alloc, doc, array, &edit)?,
+        CstContainerNode::Object(object) => sort_object(alloc, doc, object, &edit)?,
         _ => return Err(Refusal::Error(EditError::NoSuchPlace)),
     }
     Ok(())

@@ -1,7 +1,6 @@
 //! Edits of one leaf, or of a property's name or value.
 
-use crate::paths::property_at;
-use crate::reading::push_children;
+use crate::paths::{property_at, push_children};
 use crate::refusal::Refusal;
 use jsonc_cases::edits::RawEdit;
 use jsonc_parser::cst::{

@@ -17,13 +17,12 @@ pub fn set_commas(
     if !doc.holds(node) {
         return Err(Refusal::Error(EditError::NoSuchPlace));
     }
-    match node {
-        CstNode::Container(CstContainerNode::Array(array)) => {
-            array.set_trailing_commas(doc, mode)?;
-        }
-        CstNode::Container(CstContainerNode::Object(object)) => {
-            object.set_trailing_commas(doc, mode)?;
-        }
+    let CstNode::Container(container) = node else {
+        return Err(Refusal::Error(EditError::NoSuchPlace));
+    };
+    match container {
+        CstContainerNode::Array(array) => array.set_trailing_commas(doc, mode)?,
+        CstContainerNode::Object(object) => object.set_trailing_commas(doc, mode)?,
         _ => return Err(Refusal::Error(EditError::NoSuchPlace)),
     }
     Ok(())
