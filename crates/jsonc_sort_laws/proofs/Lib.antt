@@ -1,0 +1,9 @@
+pub mod Ascending
+pub mod Counted
+pub mod Stretches
+pub mod Parted
+pub mod Unmoved
+pub mod Elements
+pub mod Coming
+pub mod Once
+pub mod Typed

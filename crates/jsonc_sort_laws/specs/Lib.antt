@@ -1,0 +1,3 @@
+pub mod Again
+pub mod Groups
+pub mod Typed

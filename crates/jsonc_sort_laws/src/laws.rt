@@ -1,0 +1,58 @@
+//! Laws of groups and of second sorts: each is the contract of a function that does nothing.
+ghost use Rattle.std.specs.Prelude.{Bool, List, Option, ℕ};
+ghost use Rattle.jsonc_tree.specs.Content.{Content};
+ghost use Rattle.jsonc_tree.specs.OrderedTree.{Top};
+ghost use Rattle.jsonc_tree.specs.Tree.{Node};
+ghost use Rattle.jsonc_sort.specs.Sorting.{Headers};
+ghost use Rattle.jsonc_cst.specs.declared.cst.CstRootNode.{CstRootNode};
+ghost use Rattle.jsonc_cst.specs.declared.cst.node.CstArray.{CstArray};
+ghost use Rattle.jsonc_cst.specs.declared.cst.node.CstObject.{CstObject};
+ghost use Rattle.jsonc_sort_laws.specs.Again.{ComesInOrder, SortsOnce, SortsTextsOnce};
+ghost use Rattle.jsonc_sort_laws.specs.Groups.{GroupsStay, PartedStay, StretchesStay};
+ghost use Rattle.jsonc_sort_laws.specs.Typed.{ElementsSortOnce, PropertiesSortOnce};
+
+use jsonc_cst::cst::{CstNode, CstObjectProp};
+use jsonc_typed::IsDocument;
+use std::alloc::Allocator;
+use std::cmp::Ordering;
+
+/// Where groups are asked for, each group keeps its places: an order that goes by groups first names at each
+/// place one of the place's own group, and at the places of each group these places, each once. So it is of
+/// an array or object with its brackets, where a blank line before an element begins a group.
+pub fn groups_keep_their_places<N>()
+    ensures groups { (lt : N → N → Bool) (nodes : List (Option N)) (row : List Bool) (order : List ℕ)
+        → GroupsStay lt nodes row order }
+    ensures stretches { (lt : N → N → Bool) (nodes : List (Option N)) (row : List Bool) (order : List ℕ)
+        → StretchesStay lt nodes row order }
+    ensures parted { (ns : List Node) (c : ℕ) (lt : N → N → Bool) (nodes : List (Option N)) (order : List ℕ)
+        → PartedStay ns c lt nodes order }
+{}
+
+/// Where the elements of an array, or the properties of an object, with its brackets have come in an order,
+/// they are, read anew, the old ones in that order, and each is what it was, with what is below it.
+pub fn elements_come_in_order()
+    ensures { (old new : List Node) (c : ℕ) (h : Headers) (order : List ℕ) → ComesInOrder old new c h order }
+{}
+
+/// Where they have come in an order of what they are, each with what is below it, as by their texts, a second
+/// sort by that order changes no node. So it is without groups, and whatever comments are pinned each time.
+pub fn second_sorts_change_nothing()
+    ensures once { (lt : Top → Top → Bool) (asked : Content → Bool) (old now new : List Node) (c : ℕ) (h k : Headers)
+        (order again : List ℕ) → SortsOnce lt asked old now new c h k order again }
+    ensures texts { (lt : List ℕ → List ℕ → Bool) (asked : Content → Bool) (old now new : List Node) (c : ℕ)
+        (h k : Headers) (order again : List ℕ) → SortsTextsOnce lt asked old now new c h k order again }
+{}
+
+/// So a second sort of a typed array or object by a comparison changes no byte, where the comparison answers
+/// both times by an order of what the elements are, each with what is below it.
+pub fn second_sorts_change_no_byte<
+    A: Allocator + Copy,
+    D: IsDocument<A>,
+    C: Fn(&D, CstNode, CstNode) -> Ordering,
+    P: Fn(&D, CstObjectProp, CstObjectProp) -> Ordering,
+>()
+    ensures elements { (compare : C) (lt : Top → Top → Bool) (old now new : CstRootNode A) (array : CstArray)
+        (h k : Headers) → ElementsSortOnce C.Fn compare D.same lt old now new array h k }
+    ensures properties { (compare : P) (lt : Top → Top → Bool) (old now new : CstRootNode A) (object : CstObject)
+        (h k : Headers) → PropertiesSortOnce P.Fn compare D.same lt old now new object h k }
+{}
