@@ -68,18 +68,18 @@ module _ (old ready new : List Node) (keeps : Keeps (length old) old ready) (put
       let same : is_element_at new n ≡ is_element (content_at old n) = ap is_element (put n ∙ keeps.content n h.0) in
       let more : List Slot = elements (content_at old) slots in
       elim (cases_Bool (is_element (content_at old n))) [
-        | inl yes ↦
-            let there = headed n more xs (sym (ap (λ b. cond b (stays n ∷ more) more) yes) ∙ e) in
-            ap (λ b. cond b (n ∷ filter (is_element_at new) row) (filter (is_element_at new) row)) (same ∙ yes)
+        | inl holds ↦
+            let there = headed n more xs (sym (ap (λ b. cond b (stays n ∷ more) more) holds) ∙ e) in
+            ap (λ b. cond b (n ∷ filter (is_element_at new) row) (filter (is_element_at new) row)) (same ∙ holds)
             ∙ ap (λ l. n ∷ l) (filled_elements rest h.1 there.rest there.same) ∙ there.is
-        | inr no ↦ kept_on n row xs (same ∙ no) (filled_elements rest h.1 xs (sym (ap (λ b. cond b (stays n ∷ more) more) no) ∙ e))
+        | inr fails ↦ kept_on n row xs (same ∙ fails) (filled_elements rest h.1 xs (sym (ap (λ b. cond b (stays n ∷ more) more) fails) ∙ e))
       ]
   filled_elements (came {n = n} {content = content} {slots = slots} {row = row} later near is alone rest) h xs e =
       let same : is_element_at new n ≡ is_element content = ap is_element (put n ∙ is) in
       let more : List Slot = elements (content_at old) slots in
       elim (cases_Bool (is_element content)) [
-        | inl yes ↦ absurd (none_comes content more xs (sym (ap (λ b. cond b (comes content ∷ more) more) yes) ∙ e))
-        | inr no ↦ kept_on n row xs (same ∙ no) (filled_elements rest h.1 xs (sym (ap (λ b. cond b (comes content ∷ more) more) no) ∙ e))
+        | inl holds ↦ absurd (none_comes content more xs (sym (ap (λ b. cond b (comes content ∷ more) more) holds) ∙ e))
+        | inr fails ↦ kept_on n row xs (same ∙ fails) (filled_elements rest h.1 xs (sym (ap (λ b. cond b (comes content ∷ more) more) fails) ∙ e))
       ]
 
 -- a list with two members or more, by its ends

@@ -1,8 +1,4 @@
-pub mod Ascending
-pub mod Counted
-pub mod Stretches
 pub mod Parted
-pub mod Unmoved
 pub mod Elements
 pub mod Coming
 pub mod Once

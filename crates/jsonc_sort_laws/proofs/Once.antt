@@ -18,7 +18,7 @@ use Rattle.jsonc_sort.proofs.Placing.{order_below, order_long}
 use Rattle.jsonc_sort.proofs.Taking.{has_both}
 use Rattle.jsonc_sort_laws.specs.Again.{by_texts, text_of_top, top_if, tops_asked, ElementsCome, IsInOrderOf, SortsOnce, SortsTextsOnce}
 use Rattle.jsonc_sort_laws.proofs.Coming.{comes_in_order}
-use Rattle.jsonc_sort_laws.proofs.Unmoved.{stays_put}
+use Rattle.jsonc_order_laws.proofs.Unmoved.{stays_put}
 
 -- in one group the nodes alone are compared
 by_nodes : {N : Type 0} (lt : N → N → Bool) (nodes : List (Option N)) (i j : ℕ) → comes_before lt nodes [] i j ≡ option_before lt (node_in nodes i) (node_in nodes j)
@@ -74,20 +74,20 @@ module _ (lt : Top → Top → Bool) (asked : Content → Bool) (old now : List 
 had_brackets : (old now : List Node) (c : ℕ) (h : Headers) (order : List ℕ) → Rearranged old now c h order → IsTrue (has_brackets now c) → IsTrue (has_brackets old c)
 had_brackets old now c h order made whole =
     elim (cases_Bool (has_brackets old c)) [
-      | inl yes ↦ yes
-      | inr no ↦
-          let same : now ≡ old = made.was (no_brackets (has_brackets old c) (is_unchanged order) no) in
-          absurd (false≢true (sym no ∙ ap (λ (ns : List Node). has_brackets ns c) (sym same) ∙ whole))
+      | inl holds ↦ holds
+      | inr fails ↦
+          let same : now ≡ old = made.was (no_brackets (has_brackets old c) (is_unchanged order) fails) in
+          absurd (false≢true (sym fails ∙ ap (λ (ns : List Node). has_brackets ns c) (sym same) ∙ whole))
     ]
 
 pub sorts_once : (lt : Top → Top → Bool) (asked : Content → Bool) (old now new : List Node) (c : ℕ) (h k : Headers) (order again : List ℕ) → SortsOnce lt asked old now new c h k order again
 sorts_once lt asked old now new c h k order again o tree there first made second more =
     elim (cases_Bool (moves now c again)) [
-      | inl yes ↦
-          let both = has_both now c again yes in
+      | inl holds ↦
+          let both = has_both now c again holds in
           let come : ElementsCome old now c order = comes_in_order old now c h order tree there (had_brackets old now c h order made both.0) first.all made in
           absurd (false≢true (sym both.1 ∙ sym (again_unchanged lt asked old now c order o first come again second)))
-      | inr no ↦ more.was no
+      | inr fails ↦ more.was fails
     ]
 
 texts_order : (lt : List ℕ → List ℕ → Bool) → IsStrictWeakOrder lt → IsStrictWeakOrder (by_texts lt)

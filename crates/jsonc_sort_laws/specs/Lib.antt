@@ -1,3 +1,3 @@
 pub mod Again
-pub mod Groups
+pub mod Parted
 pub mod Typed

@@ -8,7 +8,7 @@ ghost use Rattle.jsonc_cst.specs.declared.cst.CstRootNode.{CstRootNode};
 ghost use Rattle.jsonc_cst.specs.declared.cst.node.CstArray.{CstArray};
 ghost use Rattle.jsonc_cst.specs.declared.cst.node.CstObject.{CstObject};
 ghost use Rattle.jsonc_sort_laws.specs.Again.{ComesInOrder, SortsOnce, SortsTextsOnce};
-ghost use Rattle.jsonc_sort_laws.specs.Groups.{GroupsStay, PartedStay, StretchesStay};
+ghost use Rattle.jsonc_sort_laws.specs.Parted.{PartedStay};
 ghost use Rattle.jsonc_sort_laws.specs.Typed.{ElementsSortOnce, PropertiesSortOnce};
 
 use jsonc_cst::cst::{CstNode, CstObjectProp};
@@ -16,15 +16,10 @@ use jsonc_typed::IsDocument;
 use std::alloc::Allocator;
 use std::cmp::Ordering;
 
-/// Where groups are asked for, each group keeps its places: an order that goes by groups first names at each
-/// place one of the place's own group, and at the places of each group these places, each once. So it is of
-/// an array or object with its brackets, where a blank line before an element begins a group.
-pub fn groups_keep_their_places<N>()
-    ensures groups { (lt : N → N → Bool) (nodes : List (Option N)) (row : List Bool) (order : List ℕ)
-        → GroupsStay lt nodes row order }
-    ensures stretches { (lt : N → N → Bool) (nodes : List (Option N)) (row : List Bool) (order : List ℕ)
-        → StretchesStay lt nodes row order }
-    ensures parted { (ns : List Node) (c : ℕ) (lt : N → N → Bool) (nodes : List (Option N)) (order : List ℕ)
+/// Where blank lines part the elements of an array or object with its brackets, an order of these that goes
+/// by such groups first names at the places of each group these places, each once.
+pub fn blank_lines_part_groups<N>()
+    ensures { (ns : List Node) (c : ℕ) (lt : N → N → Bool) (nodes : List (Option N)) (order : List ℕ)
         → PartedStay ns c lt nodes order }
 {}
 

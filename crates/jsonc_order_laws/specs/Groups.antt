@@ -1,13 +1,8 @@
 -- Groups of a row as stretches of its places: each from where a group begins up to where the next one does, or the row ends.
-use Rattle.std.specs.Prelude.{◌≡◌, ◌<◌, ◌≤◌, ◌-◌, ℕ, Bool, true, false, List, length, map, slice_index, slice_index_or, slice_range, IsPermutation, IsTrue, Option}
+use Rattle.std.specs.Prelude.{◌≡◌, ◌<◌, ◌≤◌, ◌-◌, ℕ, Bool, true, false, List, length, slice_index, slice_index_or, slice_range, IsPermutation, Option}
 use Rattle.std.specs.List.{range_with_len}
-use Rattle.jsonc_tree.specs.Tree.{Node}
-use Rattle.jsonc_nodes.specs.Siblings.{elements_at}
-use Rattle.jsonc_remove.specs.Removed.{has_brackets}
-use Rattle.jsonc_sort.specs.Above.{leads_read}
 use Rattle.jsonc_order.specs.Groups.{group_starts}
 use Rattle.jsonc_order.specs.Order.{comes_before, start_in, IsOrderedBy}
-use Rattle.jsonc_sorting.specs.Rows.{is_parted}
 
 -- whether it is told that a group begins at the place
 abbrev pub begins_at : List Bool → ℕ → Bool
@@ -39,12 +34,3 @@ module _ {N : Type 0} where
 
   abbrev pub StretchesStay : (N → N → Bool) → List (Option N) → List Bool → List ℕ → Type 0
   StretchesStay lt nodes row order = IsInGroups lt nodes row order → KeepsStretches row order
-
--- before which elements of c a blank line stands, and so of an order of these that goes by such groups first
-abbrev pub parted_at : List Node → ℕ → List Bool
-parted_at ns c = map is_parted (leads_read ns c)
-
-abbrev pub PartedStay : {N : Type 0} → List Node → ℕ → (N → N → Bool) → List (Option N) → List ℕ → Type 0
-PartedStay ns c lt nodes order =
-    IsTrue (has_brackets ns c) → IsOrderedBy (comes_before lt nodes (group_starts (parted_at ns c))) (length (elements_at ns c)) order
-    → KeepsStretches (parted_at ns c) order

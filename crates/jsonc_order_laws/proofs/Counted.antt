@@ -1,9 +1,9 @@
 -- Lists with each number as often are permutations of each other.
-use Rattle.std.proofs.Common.{◌≡◌, ◌≢◌, ◌==◌, ℕ, suc, ◌+◌, ◌<◌, cond, inl, inr, List, [], ◌∷◌, length, get_or, remove, slice_index, refl, sym, ◌∙◌, arith, eq-eqb, ne_eqb}
+use Rattle.std.proofs.Common.{◌≡◌, ◌≢◌, ◌==◌, ℕ, suc, ◌<◌, cond, inl, inr, List, [], ◌∷◌, length, get_or, remove, slice_index, refl, sym, arith, eq-eqb, ne_eqb}
 use Rattle.std.specs.Prelude.{IsPermutation}
 use Rattle.std.proofs.lemmas.Bool.{cases_eq}
 use Rattle.std.proofs.lemmas.List.Sorted.{IsPermutation-cons, IsPermutation-refl, IsPermutation-remove, IsPermutation-sym, IsPermutation-trans}
-use Rattle.jsonc_sort.proofs.Weights.{added, added_moved}
+use Rattle.jsonc_order_laws.proofs.Added.{added, added_moved}
 
 -- 1 of the number, else 0: added, how often it is in a list
 abbrev pub is_it : ℕ → ℕ → ℕ

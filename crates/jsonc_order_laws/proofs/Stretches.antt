@@ -7,11 +7,11 @@ use Rattle.std.proofs.lemmas.Bool.{cases_eq, cases_lt, false≢true, true≢fals
 use Rattle.std.proofs.lemmas.List.FromFn.{get_or-range_with_len, length-range_with_len}
 use Rattle.std.proofs.lemmas.List.Sorted.{length_permutation, IsNonDecreasingBy-from_all_adjacent}
 use Rattle.jsonc_order.specs.Groups.{group_starts, starts_from}
-use Rattle.jsonc_order.specs.Order.{comes_before, start_in, IsOrderedBy}
-use Rattle.jsonc_sort.proofs.Weights.{added, added_moved, added_parted}
-use Rattle.jsonc_sort_laws.specs.Groups.{begins_at, GroupsStay, IsInGroups, IsStretch, StaysInGroups, StretchesStay}
-use Rattle.jsonc_sort_laws.proofs.Ascending.{alike}
-use Rattle.jsonc_sort_laws.proofs.Counted.{by_counts, is_it, none_of}
+use Rattle.jsonc_order.specs.Order.{start_in}
+use Rattle.jsonc_order_laws.proofs.Added.{added, added_moved, added_parted}
+use Rattle.jsonc_order_laws.specs.Groups.{begins_at, GroupsStay, IsInGroups, IsStretch, StaysInGroups, StretchesStay}
+use Rattle.jsonc_order_laws.proofs.Ascending.{alike}
+use Rattle.jsonc_order_laws.proofs.Counted.{by_counts, is_it, none_of}
 
 -- where groups begin, of a row from a place on, the group before which began at another
 abbrev start_from : ℕ → ℕ → List Bool → ℕ → ℕ

@@ -1,10 +1,10 @@
 -- Two lists of the same numbers that ascend by something are alike in it, place by place.
-use Rattle.std.proofs.Common.{◌≡◌, ℕ, zero, suc, ◌+◌, ◌<◌, ◌≤◌, cond, ltb, List, [], ◌∷◌, length, get_or, inl, inr, refl, sym, ◌∙◌, arith, lt-ltb, le-ltb}
+use Rattle.std.proofs.Common.{◌≡◌, ℕ, zero, suc, ◌+◌, ◌<◌, ◌≤◌, cond, ltb, List, [], ◌∷◌, length, get_or, inl, inr, refl, sym, arith, lt-ltb, le-ltb}
 use Rattle.std.specs.Prelude.{IsPermutation}
 use Rattle.std.specs.List.Sorted.{IsNonDecreasingBy}
 use Rattle.std.proofs.lemmas.Bool.{cases_lt}
 use Rattle.std.proofs.lemmas.List.Sorted.{length_permutation}
-use Rattle.jsonc_sort.proofs.Weights.{added, added_moved}
+use Rattle.jsonc_order_laws.proofs.Added.{added, added_moved}
 
 module _ (g : ℕ → ℕ) where
   tail_rises : (x : ℕ) (xs : List ℕ) → IsNonDecreasingBy g (x ∷ xs) → IsNonDecreasingBy g xs
@@ -40,13 +40,13 @@ module _ (g : ℕ → ℕ) where
     low_there [] up i d lt h = absurd (omega arith)
     low_there (x ∷ xs) up zero d lt h =
         elim (cases_lt (g x) t) [
-          | inl yes ↦ yes
-          | inr no ↦ absurd (omega (arith, h, none_there x xs up no))
+          | inl holds ↦ holds
+          | inr fails ↦ absurd (omega (arith, h, none_there x xs up fails))
         ]
     low_there (x ∷ xs) up (suc i) d lt h =
         elim (cases_lt (g x) t) [
-          | inl yes ↦ low_there xs (tail_rises x xs up) i d (omega arith) (omega (arith, h, low_is x yes))
-          | inr no ↦ absurd (omega (arith, h, none_there x xs up no))
+          | inl holds ↦ low_there xs (tail_rises x xs up) i d (omega arith) (omega (arith, h, low_is x holds))
+          | inr fails ↦ absurd (omega (arith, h, none_there x xs up fails))
         ]
 
   no_more : (xs ys : List ℕ) → IsNonDecreasingBy g xs → IsNonDecreasingBy g ys → ((t : ℕ) → added (low t) ys ≡ added (low t) xs) → (i d a : ℕ) → i < length xs → i < length ys → g (get_or xs i d) ≡ a → g (get_or ys i d) ≤ a
