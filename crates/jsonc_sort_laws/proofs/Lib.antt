@@ -2,4 +2,3 @@ pub mod Parted
 pub mod Elements
 pub mod Coming
 pub mod Once
-pub mod Typed

@@ -15,8 +15,7 @@ use Rattle.jsonc_sort.specs.Sorting.{Headers, entries, entries_from}
 use Rattle.jsonc_sort.specs.Rearranged.{headers_of}
 use Rattle.jsonc_sort.proofs.Taking.{elements_between}
 use Rattle.jsonc_sort.proofs.Weights.{entry_count}
-use Rattle.jsonc_sorting.specs.Rows.{is_parted}
-use Rattle.jsonc_sort_laws.specs.Parted.{parted_at, PartedStay}
+use Rattle.jsonc_sort_laws.specs.Parted.{is_parted, parted_at, PartedStay}
 use Rattle.jsonc_order_laws.proofs.Stretches.{stretches_stay}
 
 leads_count : (at : ℕ → Content) (groups : Bool) (pins : List (Option ℕ)) (lead : List ℕ) (rest : List Part) → length (leads_from lead rest) ≡ length (entries_from at groups pins lead rest)

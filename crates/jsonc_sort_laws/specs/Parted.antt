@@ -7,7 +7,11 @@ use Rattle.jsonc_sort.specs.Above.{leads_read}
 use Rattle.jsonc_order.specs.Groups.{group_starts}
 use Rattle.jsonc_order.specs.Order.{comes_before, IsOrderedBy}
 use Rattle.jsonc_order_laws.specs.Groups.{KeepsStretches}
-use Rattle.jsonc_sorting.specs.Rows.{is_parted}
+use Rattle.jsonc_sort.specs.declared.above.LeadRead.{LeadRead}
+
+-- a blank line stands before the element
+abbrev pub is_parted : LeadRead → Bool
+is_parted lead = lead.blank_line
 
 -- before which elements of c a blank line stands, and so of an order of these that goes by such groups first
 abbrev pub parted_at : List Node → ℕ → List Bool

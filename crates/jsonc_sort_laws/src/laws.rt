@@ -4,17 +4,8 @@ ghost use Rattle.jsonc_tree.specs.Content.{Content};
 ghost use Rattle.jsonc_tree.specs.OrderedTree.{Top};
 ghost use Rattle.jsonc_tree.specs.Tree.{Node};
 ghost use Rattle.jsonc_sort.specs.Sorting.{Headers};
-ghost use Rattle.jsonc_cst.specs.declared.cst.CstRootNode.{CstRootNode};
-ghost use Rattle.jsonc_cst.specs.declared.cst.node.CstArray.{CstArray};
-ghost use Rattle.jsonc_cst.specs.declared.cst.node.CstObject.{CstObject};
 ghost use Rattle.jsonc_sort_laws.specs.Again.{ComesInOrder, SortsOnce, SortsTextsOnce};
 ghost use Rattle.jsonc_sort_laws.specs.Parted.{PartedStay};
-ghost use Rattle.jsonc_sort_laws.specs.Typed.{ElementsSortOnce, PropertiesSortOnce};
-
-use jsonc_cst::cst::{CstNode, CstObjectProp};
-use jsonc_typed::IsDocument;
-use std::alloc::Allocator;
-use std::cmp::Ordering;
 
 /// Where blank lines part the elements of an array or object with its brackets, an order of these that goes
 /// by such groups first names at the places of each group these places, each once.
@@ -36,18 +27,4 @@ pub fn second_sorts_change_nothing()
         (order again : List ℕ) → SortsOnce lt asked old now new c h k order again }
     ensures texts { (lt : List ℕ → List ℕ → Bool) (asked : Content → Bool) (old now new : List Node) (c : ℕ)
         (h k : Headers) (order again : List ℕ) → SortsTextsOnce lt asked old now new c h k order again }
-{}
-
-/// So a second sort of a typed array or object by a comparison changes no byte, where the comparison answers
-/// both times by an order of what the elements are, each with what is below it.
-pub fn second_sorts_change_no_byte<
-    A: Allocator + Copy,
-    D: IsDocument<A>,
-    C: Fn(&D, CstNode, CstNode) -> Ordering,
-    P: Fn(&D, CstObjectProp, CstObjectProp) -> Ordering,
->()
-    ensures elements { (compare : C) (lt : Top → Top → Bool) (old now new : CstRootNode A) (array : CstArray)
-        (h k : Headers) → ElementsSortOnce C.Fn compare D.same lt old now new array h k }
-    ensures properties { (compare : P) (lt : Top → Top → Bool) (old now new : CstRootNode A) (object : CstObject)
-        (h k : Headers) → PropertiesSortOnce P.Fn compare D.same lt old now new object h k }
 {}

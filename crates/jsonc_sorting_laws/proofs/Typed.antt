@@ -24,7 +24,7 @@ use Rattle.jsonc_cst.specs.Nodes.{array_node, number_of, object_node, object_pro
 use Rattle.jsonc_cst.proofs.Family.{number_of-typed}
 use Rattle.jsonc_sorting.specs.Rows.{property_if}
 use Rattle.jsonc_sort_laws.specs.Again.{top_if, tops_asked, IsInOrderOf}
-use Rattle.jsonc_sort_laws.specs.Typed.{ComparesTops, ElementsSortOnce, IsSortedBy, IsUntouched, PropertiesSortOnce}
+use Rattle.jsonc_sorting_laws.specs.Typed.{ComparesTops, ElementsSortOnce, IsSortedBy, IsUntouched, PropertiesSortOnce}
 use Rattle.jsonc_sort_laws.proofs.Once.{sorts_once}
 
 -- an order of what nodes are told to be
