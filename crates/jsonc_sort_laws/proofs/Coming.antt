@@ -1,5 +1,5 @@
 -- The elements of an array or object that has been sorted, read anew, are the old ones in the order.
-use Rattle.std.proofs.Common.{◌≡◌, ℕ, ◌-◌, ◌+◌, ◌<◌, ◌≤◌, Bool, true, false, not, cond, ◌&&◌, inl, inr, List, [], ◌∷◌, ◌++◌, All, length, map, filter, take, drop, reverse, slice_index, Some, IsTrue, refl, sym, ap, subst, ◌∙◌, arith, length-append, length-take, length-drop, get_or-drop}
+use Rattle.std.proofs.Common.{◌≡◌, ℕ, ◌-◌, ◌+◌, ◌<◌, ◌≤◌, Bool, true, false, not, cond, ◌&&◌, inl, inr, List, [], ◌∷◌, ◌++◌, All, length, map, filter, take, drop, reverse, slice_index, Some, IsTrue, refl, sym, ap, subst, ◌∙◌, arith, length-append, length-drop, get_or-drop}
 use Rattle.std.specs.Prelude.{IsPermutation}
 use Rattle.std.specs.List.{range_with_len, splice}
 use Rattle.std.proofs.lemmas.Bool.{and_from, and_parts, cases_Bool}

@@ -17,7 +17,7 @@ use Rattle.jsonc_sort.proofs.Held.{ByKind, HeldEntry, row_held}
 use Rattle.jsonc_sort.proofs.Values.{elements, row_elements}
 
 -- the number in a place, and that of an entry's element
-number_in : Slot → ℕ
+abbrev number_in : Slot → ℕ
 number_in (stays n) = n
 number_in (comes content) = 0
 

@@ -1,6 +1,5 @@
 -- Blank lines tell of each element of an array or object with its brackets whether it begins a group.
-use Rattle.std.proofs.Common.{◌≡◌, ℕ, suc, Bool, false, List, [], ◌∷◌, drop, length, map, filter, IsTrue, Option, sym, ap, subst, ◌∙◌, refl}
-use Rattle.std.specs.Prelude.{if◌then◌else◌}
+use Rattle.std.proofs.Common.{◌≡◌, ℕ, suc, Bool, false, List, [], ◌∷◌, drop, length, IsTrue, Option, sym, ap, subst, ◌∙◌, refl}
 use Rattle.std.proofs.lemmas.List.{length-map}
 use Rattle.jsonc_tree.specs.Content.{Content}
 use Rattle.jsonc_tree.specs.Tree.{Node, children_at, content_at}
@@ -11,7 +10,7 @@ use Rattle.jsonc_order.specs.Groups.{group_starts}
 use Rattle.jsonc_order.specs.Order.{comes_before, IsOrderedBy}
 use Rattle.jsonc_sort.specs.Above.{lead_read, leads, leads_at, leads_from, leads_read}
 use Rattle.jsonc_sort.specs.Parts.{Part, parts}
-use Rattle.jsonc_sort.specs.Sorting.{Headers, entries, entries_from}
+use Rattle.jsonc_sort.specs.Sorting.{entries_from}
 use Rattle.jsonc_sort.specs.Rearranged.{headers_of}
 use Rattle.jsonc_sort.proofs.Taking.{elements_between}
 use Rattle.jsonc_sort.proofs.Weights.{entry_count}

@@ -1,5 +1,5 @@
 -- Second sorts of typed arrays and objects.
-use Rattle.std.proofs.Common.{◌≡◌, ℕ, zero, suc, Bool, true, false, ◌&&◌, ◌||◌, ◌==◌, List, [], ◌∷◌, length, map, Option, Some, None, option_map, refl, sym, ap, subst, ◌∙◌}
+use Rattle.std.proofs.Common.{◌≡◌, ℕ, zero, suc, Bool, true, ◌&&◌, ◌||◌, ◌==◌, List, [], ◌∷◌, length, map, Option, Some, None, option_map, refl, sym, ap, subst, ◌∙◌}
 use Rattle.std.specs.Prelude.{nat_lt}
 use Rattle.std.specs.Cmp.{IsStrictWeakOrder}
 use Rattle.std.specs.declared.cmp.Ordering.{Ordering}
@@ -86,7 +86,7 @@ module _ {N : Type 0} (node_of : N → CstNode) (pick : CstNode → Option N) (a
           (still, ap (λ (ns : List Node). printed (ordered_tree ns 0)) still)
 
 -- every element of an array is asked
-every : Content → Bool
+abbrev every : Content → Bool
 every content = true
 
 elements_picked : Picks (λ x. x) Some every

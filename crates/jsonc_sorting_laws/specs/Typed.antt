@@ -32,7 +32,8 @@ module _ {A : Type 0} where
 
     -- a container of the document has been sorted by it, without groups
     abbrev pub IsSortedBy : CstRootNode A → CstRootNode A → CstNode → List (Option N) → Headers → Type 0
-    IsSortedBy old new container nodes h = HasSorted old new container h (IsInItsOrder g compare (same old) (λ x. Holds old (node_of x)) nodes (starts_of old container false))
+    IsSortedBy old new container nodes h =
+        HasSorted old new container h (IsInItsOrder g compare (same old) (λ x. Holds old (node_of x)) nodes (starts_of old container false))
 
   -- where an array has been sorted by an order of what its elements are, a second sort by it changes no byte; and so of an object
   abbrev pub IsUntouched : CstRootNode A → CstRootNode A → Type 0
@@ -46,10 +47,12 @@ module _ {A : Type 0} where
       → ComparesTops g compare same (λ x. x) lt now → IsSortedBy g compare same (λ x. x) now new (array_node array) (elements_asked now (array_node array)) k
       → IsUntouched now new
 
-  abbrev pub PropertiesSortOnce : {F D : Type 0} → Shared F (Bor D × (CstObjectProp × (CstObjectProp × Unit {0}))) Ordering → F → (CstRootNode A → D) → (Top → Top → Bool)
-      → CstRootNode A → CstRootNode A → CstRootNode A → CstObject → Headers → Headers → Type 0
+  abbrev pub PropertiesSortOnce : {F D : Type 0} → Shared F (Bor D × (CstObjectProp × (CstObjectProp × Unit {0}))) Ordering → F → (CstRootNode A → D)
+      → (Top → Top → Bool) → CstRootNode A → CstRootNode A → CstRootNode A → CstObject → Headers → Headers → Type 0
   PropertiesSortOnce g compare same lt old now new object h k =
       IsStrictWeakOrder lt → IsTree (nodes_of old) → Holds old (object_node object)
-      → ComparesTops g compare same object_prop_node lt old → IsSortedBy g compare same object_prop_node old now (object_node object) (properties_asked old (object_node object)) h
-      → ComparesTops g compare same object_prop_node lt now → IsSortedBy g compare same object_prop_node now new (object_node object) (properties_asked now (object_node object)) k
+      → ComparesTops g compare same object_prop_node lt old
+      → IsSortedBy g compare same object_prop_node old now (object_node object) (properties_asked old (object_node object)) h
+      → ComparesTops g compare same object_prop_node lt now
+      → IsSortedBy g compare same object_prop_node now new (object_node object) (properties_asked now (object_node object)) k
       → IsUntouched now new
