@@ -1,5 +1,5 @@
 -- Edits that a list makes: one more of them, what they say of nodes, and where none can be made.
-use Rattle.std.proofs.Common.{◌≡◌, ◌<◌, ◌+◌, ℕ, zero, suc, Bool, false, List, [], ◌∷◌, ◌++◌, Some, Result, Ok, Err, OnOk, OnErr, IfErr, length, get_or, take, refl, sym, ap, subst, ◌∙◌, arith}
+use Rattle.std.proofs.Common.{◌≡◌, ◌<◌, ◌+◌, ℕ, zero, suc, Bool, true, false, List, [], ◌∷◌, ◌++◌, Some, Result, Ok, Err, OnOk, OnErr, IfErr, length, get_or, take, refl, sym, ap, subst, ◌∙◌, arith}
 use Rattle.std.specs.List.{slice_get}
 use Rattle.std.specs.declared.cmp.Ordering.{Ordering}
 use denote.Ref.{Bor}
@@ -27,24 +27,24 @@ use Rattle.jsonc_parser.specs.Lists.{AreMadeAs, none_made, first_made, HaveBeenM
 
 -- an edit that is no sort asks for the same however sorts are done
 pub asks_alike : {A : Type 0} (s : Sorting) (e : Edit A) → is_sort e ≡ false → operation_of unsorted e ≡ operation_of s e
-asks_alike s (Replace path value) no = refl
-asks_alike s (Remove path) no = refl
-asks_alike s (RemoveComment number) no = refl
-asks_alike s (SetRoot value) no = refl
-asks_alike s ClearRoot no = refl
-asks_alike s (ReplaceProperty path name value) no = refl
-asks_alike s (EnsureRoot shape how) no = refl
-asks_alike s (SetValue path value) no = refl
-asks_alike s (EnsureValue path shape) no = refl
-asks_alike s (SetBoolean path value) no = refl
-asks_alike s (EnsureMultiline path) no = refl
-asks_alike s (InsertElement path index value) no = refl
-asks_alike s (AppendElement path value) no = refl
-asks_alike s (InsertProperty path index name value) no = refl
-asks_alike s (AppendProperty path name value) no = refl
-asks_alike s (EnsureProperty path name shape how) no = refl
-asks_alike s (SetTrailingCommas path mode) no = refl
-asks_alike s (Sort path pin groups) no = let wrong : Bool.true ≡ false = no in cc
+asks_alike s (Replace path value) plain = refl
+asks_alike s (Remove path) plain = refl
+asks_alike s (RemoveComment number) plain = refl
+asks_alike s (SetRoot value) plain = refl
+asks_alike s ClearRoot plain = refl
+asks_alike s (ReplaceProperty path name value) plain = refl
+asks_alike s (EnsureRoot shape how) plain = refl
+asks_alike s (SetValue path value) plain = refl
+asks_alike s (EnsureValue path shape) plain = refl
+asks_alike s (SetBoolean path value) plain = refl
+asks_alike s (EnsureMultiline path) plain = refl
+asks_alike s (InsertElement path index value) plain = refl
+asks_alike s (AppendElement path value) plain = refl
+asks_alike s (InsertProperty path index name value) plain = refl
+asks_alike s (AppendProperty path name value) plain = refl
+asks_alike s (EnsureProperty path name shape how) plain = refl
+asks_alike s (SetTrailingCommas path mode) plain = refl
+asks_alike s (Sort path pin groups) plain = let wrong : true ≡ false = plain in cc
 
 -- more than one operation on nodes
 made_tree : {old new : List Node} {es : List Operation} → IsTree old → AreMade old es new → IsTree new
@@ -73,28 +73,28 @@ taken_seen xs i x h e =
 module _ {C D A : Type 0} (call : Shared C (Bor D × (CstNode × (CstNode × Unit {0}))) Ordering) (compare : C) (same : CstRootNode A → D) where
   -- an edit that is no sort was made
   plainly_asked : (d : CstRootNode A) (s : Sorting) (e : Edit A) → is_sort e ≡ false → IsAsked call compare same d e s
-  plainly_asked d s (Replace path value) no = tt
-  plainly_asked d s (Remove path) no = tt
-  plainly_asked d s (RemoveComment number) no = tt
-  plainly_asked d s (SetRoot value) no = tt
-  plainly_asked d s ClearRoot no = tt
-  plainly_asked d s (ReplaceProperty path name value) no = tt
-  plainly_asked d s (EnsureRoot shape how) no = tt
-  plainly_asked d s (SetValue path value) no = tt
-  plainly_asked d s (EnsureValue path shape) no = tt
-  plainly_asked d s (SetBoolean path value) no = tt
-  plainly_asked d s (EnsureMultiline path) no = tt
-  plainly_asked d s (InsertElement path index value) no = tt
-  plainly_asked d s (AppendElement path value) no = tt
-  plainly_asked d s (InsertProperty path index name value) no = tt
-  plainly_asked d s (AppendProperty path name value) no = tt
-  plainly_asked d s (EnsureProperty path name shape how) no = tt
-  plainly_asked d s (SetTrailingCommas path mode) no = tt
-  plainly_asked d s (Sort path pin groups) no = let wrong : Bool.true ≡ false = no in cc
+  plainly_asked d s (Replace path value) plain = tt
+  plainly_asked d s (Remove path) plain = tt
+  plainly_asked d s (RemoveComment number) plain = tt
+  plainly_asked d s (SetRoot value) plain = tt
+  plainly_asked d s ClearRoot plain = tt
+  plainly_asked d s (ReplaceProperty path name value) plain = tt
+  plainly_asked d s (EnsureRoot shape how) plain = tt
+  plainly_asked d s (SetValue path value) plain = tt
+  plainly_asked d s (EnsureValue path shape) plain = tt
+  plainly_asked d s (SetBoolean path value) plain = tt
+  plainly_asked d s (EnsureMultiline path) plain = tt
+  plainly_asked d s (InsertElement path index value) plain = tt
+  plainly_asked d s (AppendElement path value) plain = tt
+  plainly_asked d s (InsertProperty path index name value) plain = tt
+  plainly_asked d s (AppendProperty path name value) plain = tt
+  plainly_asked d s (EnsureProperty path name shape how) plain = tt
+  plainly_asked d s (SetTrailingCommas path mode) plain = tt
+  plainly_asked d s (Sort path pin groups) plain = let wrong : true ≡ false = plain in cc
 
   pub plainly_made : {T E : Type 0} (old : CstRootNode A) (e : Edit A) (new : CstRootNode A) (r : Result T E) → is_sort e ≡ false → OnOk r (IsMade (nodes_of old) (operation_of unsorted e) (nodes_of new)) → OnOk r (IsMadeSo call compare same old e new)
-  plainly_made old e new (Ok x) no made = (operation_of unsorted e, record { sorting = unsorted; asked = plainly_asked old unsorted e no; is = refl; made = made })
-  plainly_made old e new (Err x) no made = tt
+  plainly_made old e new (Ok x) plain made = (operation_of unsorted e, record { sorting = unsorted; asked = plainly_asked old unsorted e plain; is = refl; made = made })
+  plainly_made old e new (Err x) plain made = tt
 
   -- what edits that were made say of nodes
   pub as_nodes : {old new : CstRootNode A} {es : List (Edit A)} {ops : List Operation} → AreMadeAs call compare same old es ops new → AreMade (nodes_of old) ops (nodes_of new)

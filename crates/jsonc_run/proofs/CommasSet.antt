@@ -17,24 +17,24 @@ use Rattle.jsonc_run.specs.Refusals.{IsLeft, IsToldBy, as_it_was, set_in_part}
 
 -- an edit that sets no commas, and is no sort, is made whole
 pub is_made_whole : {A : Type 0} (e : Edit A) → is_sort e ≡ false → ((path : _) (mode : TrailingCommaMode) → e ≡ SetTrailingCommas path mode → ⊥) → is_whole e ≡ true
-is_made_whole (Replace path value) no other = refl
-is_made_whole (Remove path) no other = refl
-is_made_whole (RemoveComment number) no other = refl
-is_made_whole (SetRoot value) no other = refl
-is_made_whole ClearRoot no other = refl
-is_made_whole (ReplaceProperty path name value) no other = refl
-is_made_whole (EnsureRoot shape how) no other = refl
-is_made_whole (SetValue path value) no other = refl
-is_made_whole (EnsureValue path shape) no other = refl
-is_made_whole (SetBoolean path value) no other = refl
-is_made_whole (EnsureMultiline path) no other = refl
-is_made_whole (InsertElement path index value) no other = refl
-is_made_whole (AppendElement path value) no other = refl
-is_made_whole (InsertProperty path index name value) no other = refl
-is_made_whole (AppendProperty path name value) no other = refl
-is_made_whole (EnsureProperty path name shape how) no other = refl
-is_made_whole (SetTrailingCommas path mode) no other = absurd (other path mode refl)
-is_made_whole (Sort path pin groups) no other = let wrong : true ≡ false = no in cc
+is_made_whole (Replace path value) unsorted other = refl
+is_made_whole (Remove path) unsorted other = refl
+is_made_whole (RemoveComment number) unsorted other = refl
+is_made_whole (SetRoot value) unsorted other = refl
+is_made_whole ClearRoot unsorted other = refl
+is_made_whole (ReplaceProperty path name value) unsorted other = refl
+is_made_whole (EnsureRoot shape how) unsorted other = refl
+is_made_whole (SetValue path value) unsorted other = refl
+is_made_whole (EnsureValue path shape) unsorted other = refl
+is_made_whole (SetBoolean path value) unsorted other = refl
+is_made_whole (EnsureMultiline path) unsorted other = refl
+is_made_whole (InsertElement path index value) unsorted other = refl
+is_made_whole (AppendElement path value) unsorted other = refl
+is_made_whole (InsertProperty path index name value) unsorted other = refl
+is_made_whole (AppendProperty path name value) unsorted other = refl
+is_made_whole (EnsureProperty path name shape how) unsorted other = refl
+is_made_whole (SetTrailingCommas path mode) unsorted other = absurd (other path mode refl)
+is_made_whole (Sort path pin groups) unsorted other = let wrong : true ≡ false = unsorted in cc
 
 -- the document and its nodes are as they were
 pub left_as_it_was : {T E : Type 0} (old : List Node) (e : Operation) (new : List Node) (r : Result T E) → OnErr r (Keeps (length old) old new) → OnErr r (ordered_tree new 0 ≡ ordered_tree old 0) → OnErr r (IsLeft old e new)

@@ -1,5 +1,5 @@
 -- What edits that were made in order make of the marks of a document.
-use Rattle.std.proofs.Common.{ℕ, ◌≡◌, suc, List, [], ◌∷◌, sym, refl, ap, subst, ◌∙◌, arith, chars}
+use Rattle.std.proofs.Common.{ℕ, ◌≡◌, suc, get_or, List, [], ◌∷◌, sym, refl, ap, subst, ◌∙◌, arith, chars}
 use Rattle.std.specs.List.{All}
 use Rattle.jsonc_text.specs.Options.{Options}
 use Rattle.jsonc_text.specs.Plain.{Plain}
@@ -107,8 +107,8 @@ module _ (o : Options) (old new : List Node) (tree : IsTree old) (after : IsTree
       ensured_marks o t u path shape (g o s)
   one_marked (set_boolean path b) may s made =
       let given = around (set_boolean path b) made in
-      let g = given.1.0 in
-      (given.0, subst (λ (w : Top). MarksDifferIn (marks_under w) (written (Plain.boolean b)) (marks t) (marks u)) given.1.1 (marks_given g.was (laid g.layout (Plain.boolean b)) t g.spaced u g.spaces g.around))
+      let g = given.1 in
+      (given.0, subst (λ (w : Top). MarksDifferIn (marks_under w) (written (Plain.boolean b)) (marks t) (marks u)) given.2 (marks_given g.was (laid g.layout (Plain.boolean b)) t g.spaced u g.spaces g.around))
   one_marked (ensure_multiline path) may s made =
       let g = around (ensure_multiline path) made in
       (keeps_document o t u path s (g o s)).marks
@@ -140,7 +140,7 @@ all_marked o old _ [] tree none_made s may = none_marked
 all_marked o old new (e ∷ es) tree (first_made {now = now} made after rest) s may =
     let can : MayBeMade o e = may 0 e (omega arith) in
     let sound : SoundTree (options_behind o e) (ordered_tree now 0) = (is_written o old now e tree after made s can).sound in
-    first_marked (one_marked o old now tree after e can s made) (all_marked (options_behind o e) now new es after rest sound (λ k d h. may_behind o e d (may (suc k) d (omega (arith, h)))))
+    first_marked (one_marked o old now tree after e can s made) (all_marked (options_behind o e) now new es after rest sound (λ k d h. may_behind o e (get_or es k d) (may (suc k) d (omega (arith, h)))))
 
 pub mark_all : (o : Options) (old new : List Node) (es : List Operation) → IsTree old → AreMade old es new → MarkAll o old es new
 mark_all o old new es tree made s may x y p q =

@@ -1,5 +1,5 @@
 -- What edits that were made in order make of a document.
-use Rattle.std.proofs.Common.{Result, Ok, Err, OnOk, ◌≡◌, ℕ, length, Bool, suc, List, [], ◌∷◌, ◌++◌, Option, Some, None, IsTrue, sym, refl, ap, subst, ◌∙◌, arith}
+use Rattle.std.proofs.Common.{Result, Ok, Err, OnOk, get_or, ◌≡◌, ℕ, length, Bool, suc, List, [], ◌∷◌, ◌++◌, Option, Some, None, IsTrue, sym, refl, ap, subst, ◌∙◌, arith}
 use Rattle.std.specs.List.{All}
 use Rattle.jsonc_text.specs.Options.{Options}
 use Rattle.jsonc_text.specs.Plain.{Plain}
@@ -266,7 +266,7 @@ all_written o old _ [] tree none_made s may =
 all_written o old new (e ∷ es) tree (first_made {now = now} made after rest) s may =
     let p : Options = options_behind o e in
     let first = is_written o old now e tree after made s (may 0 e (omega arith)) in
-    let others = all_written p now new es after rest first.sound (λ k d h. may_behind o e d (may (suc k) d (omega (arith, h)))) in
+    let others = all_written p now new es after rest first.sound (λ k d h. may_behind o e (get_or es k d) (may (suc k) d (omega (arith, h)))) in
     let same : others.before ≡ first.after = document_unique p (printed_text (ordered_tree now 0)) others.before first.after others.old_text first.new_text in
     record {
       before = first.before;

@@ -1,5 +1,5 @@
 -- Why an edit is not made, and what a list of edits has made until then.
-use Rattle.std.specs.Prelude.{◌≡◌, ℕ, true, List, None, length}
+use Rattle.std.specs.Prelude.{◌≡◌, ℕ, true, List, Some, None, length}
 use Rattle.jsonc_tree.specs.Building.{Keeps}
 use Rattle.jsonc_tree.specs.OrderedTree.{ordered_tree}
 use Rattle.jsonc_tree.specs.Tree.{Node}

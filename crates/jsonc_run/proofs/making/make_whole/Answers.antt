@@ -35,7 +35,7 @@ unreachable-requires g c =
     let wrong : false ≡ true = subst (λ e. is_whole e ≡ true) c.in-SetTrailingCommas.is c.requires.whole in
     cc
 
-pub unreachable-2-requires : goal.unreachable-2-requires
-unreachable-2-requires g c =
+pub unreachable-requires-in-Sort : goal.unreachable-requires-in-Sort
+unreachable-requires-in-Sort g c =
     let wrong : false ≡ true = subst (λ e. is_whole e ≡ true) c.in-Sort.is c.requires.whole in
     cc
