@@ -1,11 +1,9 @@
-use Rattle.std.proofs.Common.{List, ℕ, OnErr, OnOk, IfErr, sym, subst}
-use Rattle.jsonc_run.specs.Edits.{is_sort, is_whole, operation_of, unsorted, set_commas, IsMade}
-use Rattle.jsonc_run.specs.Refusals.{IsLeft, IsToldBy}
+use Rattle.jsonc_run.specs.Edits.{operation_of, unsorted}
 use Rattle.jsonc_run.proofs.CommasSet.{is_made_whole, left_as_it_was}
 use Rattle.jsonc_run.proofs.making.make_by_kind.Goals as goal
 
 pub make_whole-requires : goal.make_whole-requires
-make_whole-requires g c = is_made_whole c.args.edit.now c.requires.unsorted c.in_default.not-SetTrailingCommas
+make_whole-requires g c = record { whole = is_made_whole c.args.edit.now c.requires.unsorted c.in_default.not-SetTrailingCommas }
 
 pub returns-in_default-clause-left : goal.returns-in_default-clause-left
 returns-in_default-clause-left g c =
