@@ -1,3 +1,6 @@
+use Rattle.std.proofs.Common.{length, refl}
+use Rattle.jsonc_tree.proofs.Builder.{Keeps-same}
+use Rattle.jsonc_run.specs.Refusals.{as_it_was}
 use Rattle.jsonc_run.specs.Places.{IsContainerAt}
 use Rattle.jsonc_run.proofs.Made.{no_place}
 use Rattle.jsonc_parser.proofs.Sorts.{holds_them, sort_left, sort_made, sort_told}
@@ -6,6 +9,9 @@ use Rattle.jsonc_parser.proofs.cst.lists.sort_at.Goals as goal
 pub returns-in_default-clause-told : goal.returns-in_default-clause-told
 returns-in_default-clause-told g c = λ s.
     no_place c.find_container.result (IsContainerAt c.args.doc.now.tree.nodes c.args.path.now) c.find_container.ensures.found c.in_default.not-Some
+
+pub returns-in_default-clause-left : goal.returns-in_default-clause-left
+returns-in_default-clause-left g c = λ s. as_it_was (Keeps-same (length c.args.doc.now.tree.nodes) c.args.doc.now.tree.nodes) refl
 
 pub sort_container-requires-clause-holds : goal.sort_container-requires-clause-holds
 sort_container-requires-clause-holds g c =
