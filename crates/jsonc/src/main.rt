@@ -1,5 +1,5 @@
 //! Checks and prints JSON documents, and changes them: `jsonc check`, `jsonc print`, `jsonc set NAME JSON`,
-//! `jsonc append JSON` and `jsonc remove NAME`, from standard input to standard output.
+//! `jsonc append JSON`, `jsonc remove NAME` and `jsonc sort`, from standard input to standard output.
 #![tactic(auto)]
 
 use jsonc_engine::calls::{FromReader, ToWriter};

@@ -17,7 +17,9 @@ pub fn answer(alloc: Global, question: Question) -> Result<Option<String>, Alloc
     match question {
         Question::NotBuilt => Ok(None),
         Question::Print { options, input } => Ok(Some(printed(alloc, &options, input.as_slice())?)),
-        Question::Program { words, input } => { outcome(alloc, words.as_slice(), input.as_slice()) }
+        Question::Program { words, input } => {
+            Ok(Some(outcome(alloc, words.as_slice(), input.as_slice())?))
+        }
         Question::Scan { options, text } => Ok(Some(tokens(alloc, text.as_str(), &options)?)),
         Question::Value { options, text } => Ok(Some(value(alloc, text.as_str(), &options)?)),
         Question::Equal {

@@ -8,14 +8,6 @@ use jsonc_engine::fault::Fault;
 use jsonc_parser::ParseOptions;
 use std::alloc::{AllocError, Global};
 
-/// Whether the words name a command that the program is to have and has not yet.
-fn is_command_to_come(words: &[&str]) -> bool {
-    match words {
-        ["sort"] => true,
-        _ => false,
-    }
-}
-
 fn lent(alloc: Global, words: &[String]) -> Result<Vec<&str>, AllocError> {
     let mut lent = Vec::new(alloc);
     for word in words {
@@ -24,26 +16,18 @@ fn lent(alloc: Global, words: &[String]) -> Result<Vec<&str>, AllocError> {
     Ok(lent)
 }
 
-/// The status of a run, what it writes and the line that it prints; or none where the command is not built.
-pub fn outcome(
-    alloc: Global,
-    words: &[String],
-    input: &[u8],
-) -> Result<Option<String>, AllocError> {
+/// The status of a run, what it writes and the line that it prints.
+pub fn outcome(alloc: Global, words: &[String], input: &[u8]) -> Result<String, AllocError> {
     let words = lent(alloc, words)?;
-    if is_command_to_come(words.as_slice()) {
-        return Ok(None);
-    }
     let mut source = FromReader::new(input);
     let mut sink = ToWriter::new(Vec::new(alloc));
     let result = engine(alloc, words.as_slice(), &mut source, &mut sink);
     let ToWriter { writer, .. } = sink;
     let written = Escaped::field(writer.as_slice());
-    let shown = match result {
-        Ok(()) => format!(in alloc; "0\t{written}\t")?,
-        Err(fault) => told(alloc, &written, &fault)?,
-    };
-    Ok(Some(shown))
+    match result {
+        Ok(()) => format!(in alloc; "0\t{written}\t"),
+        Err(fault) => told(alloc, &written, &fault),
+    }
 }
 
 /// What printing the input under some options does, as a run of the program that prints it.

@@ -6,7 +6,7 @@ ghost use Rattle.jsonc_cst.specs.Nodes.{array_node, object_node};
 use crate::reading::read;
 use jsonc_parser::cst::{
     CstArray, CstComment, CstLeafNode, CstNode, CstObject, CstObjectProp, CstRootNode, EditError,
-    SortElements, SortProperties,
+    HasChildren, RemoveLeaf, SetTrailingCommas, SortElements, SortProperties, TrailingCommaMode,
 };
 use refusing::awaited::prints;
 use refusing::in_turn::answers_in_turn;
@@ -26,8 +26,8 @@ enum By {
     TextPinning(usize),
     /// By the first characters of their texts.
     FirstCharacter,
-    /// By keys, all of which are refused.
-    Refused,
+    /// By keys, all of which are refused so.
+    Refused(EditError),
 }
 
 /// The text of a number, or nothing of another node.
@@ -82,8 +82,8 @@ fn sort_array<A: Allocator + Copy>(
         By::FirstCharacter => {
             sort.by_key(doc, |doc: &CstRootNode<_>, node| Ok(first_of(doc, node)))
         }
-        By::Refused => sort.by_key(doc, |_: &CstRootNode<_>, _: CstNode| {
-            Err::<usize, EditError>(EditError::NoSuchPlace)
+        By::Refused(error) => sort.by_key(doc, move |_: &CstRootNode<_>, _: CstNode| {
+            Err::<usize, EditError>(error)
         }),
     }
 }
@@ -202,17 +202,46 @@ fn properties_come_in_order(rt: HostRuntime) -> Result<(), Fail> {
     Ok(())
 }
 
-#[test]
-fn a_refused_key_is_the_answer(rt: HostRuntime) -> Result<(), Fail> {
-    let mut doc = match read(rt.alloc(), HEADED) {
-        Ok(doc) => doc,
-        Err(_) => return Ok(()),
+/// Whether a sort by keys that are refused answers the refusal, and nothing changes.
+fn is_refused(alloc: Global, error: EditError) -> bool {
+    let Ok(mut doc) = read(alloc, HEADED) else {
+        return false;
     };
     let Some(array) = doc.array_value() else {
-        return Ok(());
+        return false;
     };
-    assert!(rt; sort_array(&mut doc, array, By::Refused) == Err(EditError::NoSuchPlace));
-    assert!(rt; prints(&doc, HEADED));
+    sort_array(&mut doc, array, By::Refused(error)) == Err(error) && prints(&doc, HEADED)
+}
+
+#[test]
+fn a_refused_key_is_the_answer(rt: HostRuntime) -> Result<(), Fail> {
+    assert!(rt; is_refused(rt.alloc(), EditError::NoSuchPlace));
+    assert!(rt; is_refused(rt.alloc(), EditError::OutOfMemory));
+    Ok(())
+}
+
+/// Takes the last bracket of an array of one element, and then sorts it and takes trailing commas away.
+fn sort_without_bracket<A: Allocator + Copy>(doc: CstRootNode<A>) -> Outcome {
+    let mut doc = doc;
+    let Some(array) = doc.array_value() else {
+        return Outcome::Other;
+    };
+    let Some(CstNode::Leaf(CstLeafNode::Token(bracket))) = array.child_at_index(&doc, 2) else {
+        return Outcome::Other;
+    };
+    bracket.remove(&mut doc);
+    let sorted = sort_array(&mut doc, array, By::Text);
+    let commas = array.set_trailing_commas(&mut doc, TrailingCommaMode::Never);
+    Outcome::of(matches!((sorted, commas), (Ok(()), Ok(()))) && prints(&doc, "[1"))
+}
+
+#[test]
+fn without_a_bracket_nothing_changes(rt: HostRuntime) -> Result<(), Fail> {
+    let outcome = match read(rt.alloc(), "[1]") {
+        Ok(doc) => sort_without_bracket(doc),
+        Err(outcome) => outcome,
+    };
+    assert!(rt; outcome == Outcome::Answered);
     Ok(())
 }
 

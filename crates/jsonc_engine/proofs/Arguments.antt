@@ -19,12 +19,12 @@ use Rattle.jsonc_from_input.proofs.Texts.{of_texts}
 use Rattle.jsonc_to_input.specs.Taken.{IsTaken}
 use Rattle.jsonc_edit.specs.Writing.{IsOfNumbers, AreOfNumbers, AreNamedOfNumbers}
 use Rattle.jsonc_cst.proofs.Colons.{taken_is_the_value}
-use Rattle.jsonc_engine.specs.declared.argument.Change.TheVariants.{Append, Remove, Set, Stay}
+use Rattle.jsonc_engine.specs.declared.argument.Change.TheVariants.{Append, Remove, Set, Sort, Stay}
 use Rattle.jsonc_engine.specs.declared.command.Command.{Command}
 use Rattle.jsonc_engine.specs.declared.command.Command.TheVariants as command
 use Rattle.jsonc_engine.specs.declared.fault.Fault.{Fault}
 use Rattle.jsonc_engine.specs.Argument.{IsArgument, IsFaultOfArgument, IsFaultOfJson}
-use Rattle.jsonc_engine.specs.Change.{IsChangeFor, for_check, for_print, for_set, for_append, for_remove}
+use Rattle.jsonc_engine.specs.Change.{IsChangeFor, for_check, for_print, for_set, for_append, for_remove, for_sort}
 use Rattle.jsonc_engine.specs.Command.{request_of}
 
 module _ (o : Options) where
@@ -147,6 +147,9 @@ module _ {A : Type 0} (c : Command) where
 
   pub remove_change : (name : Bor (List ℕ)) → c ≡ command.Remove name → IsChangeFor {A = A} (request_of c) (Remove name)
   remove_change name is = subst (λ (x : Command). IsChangeFor {A = A} (request_of x) (Remove name)) (sym is) (for_remove name)
+
+  pub sort_change : c ≡ command.Sort → IsChangeFor {A = A} (request_of c) Sort
+  sort_change is = subst (λ (x : Command). IsChangeFor {A = A} (request_of x) Sort) (sym is) for_sort
 
 -- and what its JSON text is refused for
 pub set_fault : (c : Command) (name json : Bor (List ℕ)) (f : Fault) → c ≡ command.Set name json → IsFaultOfJson json.now f → IsFaultOfArgument (request_of c) f

@@ -12,16 +12,17 @@ use Rattle.jsonc_build.specs.Shape.{DocumentShaped}
 use Rattle.jsonc_build.proofs.LooseLines.{document_loosens}
 use Rattle.jsonc_laws.specs.SoundTrees.{SoundTree}
 use Rattle.jsonc_edit.specs.declared.error.EditError.TheVariants.{OutOfMemory}
-use Rattle.jsonc_engine.specs.declared.argument.Change.TheVariants.{Append, Remove, Set}
+use Rattle.jsonc_engine.specs.declared.argument.Change.TheVariants.{Append, Remove, Set, Sort}
 use Rattle.jsonc_engine.specs.declared.fault.Fault.{Fault}
 use Rattle.jsonc_engine.specs.declared.fault.Fault.TheVariants.{Edit, NotObject}
 use Rattle.jsonc_engine.specs.Appending.{AppendsIfSound}
-use Rattle.jsonc_engine.specs.Change.{IsChangeFor, for_set, for_append, for_remove, MakesIfSound}
-use Rattle.jsonc_engine.specs.Command.{Request, check, print, set, append, remove}
-use Rattle.jsonc_engine.specs.Fault.{EndsRemoval, IsFaultOn}
+use Rattle.jsonc_engine.specs.Change.{IsChangeFor, for_set, for_append, for_remove, for_sort, MakesIfSound}
+use Rattle.jsonc_engine.specs.Command.{Request, check, print, set, append, remove, sort}
+use Rattle.jsonc_engine.specs.Fault.{EndsOnObject, FindsNoObject, IsFaultOn}
 use Rattle.jsonc_engine.specs.Output.{IsLeft}
 use Rattle.jsonc_engine.specs.Removal.{HasNoObject, LosesIfSound}
 use Rattle.jsonc_engine.specs.Setting.{SetsIfSound}
+use Rattle.jsonc_engine.specs.Sorting.{SortsIfSound}
 
 -- a parsed document is sound
 pub parsed_sound : (o : Options) (ns : List Node) → DocumentShaped o (ordered_tree ns 0) → DocumentLinesEnd (ordered_tree ns 0) → SoundTree o (ordered_tree ns 0)
@@ -32,12 +33,12 @@ pub ok_so : {T E : Type 0} {P Q : Type 0} (r : Result T E) → (Q → P) → OnO
 ok_so (Ok x) f h = f h
 ok_so (Err e) f h = tt
 
--- what a removal is refused for is true of the document
-remove_refused : (o : Options) (ns : List Node) (name : List ℕ) (fault : Fault) → EndsRemoval fault → (IsErrOf {T = Unit {0}} (Err fault) NotObject → HasNoObject o (ordered_tree ns 0))
-    → IsFaultOn o (remove name) (printed (ordered_tree ns 0)) fault
-remove_refused o ns name NotObject ends none = none refl
-remove_refused o ns name (Edit OutOfMemory) ends none = tt
-remove_refused o ns name _ ends none = absurd ends
+-- what a removal or a sort is refused for is true of the document
+refused_on_object : (o : Options) (ns : List Node) (request : Request) (fault : Fault) → (HasNoObject o (ordered_tree ns 0) → FindsNoObject o request (printed (ordered_tree ns 0)))
+    → EndsOnObject fault → (IsErrOf {T = Unit {0}} (Err fault) NotObject → HasNoObject o (ordered_tree ns 0)) → IsFaultOn o request (printed (ordered_tree ns 0)) fault
+refused_on_object o ns request NotObject finds ends none = finds (none refl)
+refused_on_object o ns request (Edit OutOfMemory) finds ends none = tt
+refused_on_object o ns request _ finds ends none = absurd ends
 
 module _ {A : Type 0} (o : Options) where
   -- each change is what its command makes
@@ -53,11 +54,19 @@ module _ {A : Type 0} (o : Options) where
       → MakesIfSound o request old new
   remove_makes _ old new _ (for_remove name) loses = λ sound. loses sound
 
-  -- and what refuses a removal is true of the document
-  pub remove_told : (request : Request) (ns : List Node) (name : Bor (List ℕ)) → IsChangeFor {A = A} request (Remove name) → (r : Result (Unit {0}) Fault) → IfErr r EndsRemoval
+  pub sort_makes : (request : Request) (old new : List Node) → IsChangeFor {A = A} request Sort → SortsIfSound o old new → MakesIfSound o request old new
+  sort_makes _ old new for_sort sorts = λ sound. sorts sound
+
+  -- and what refuses a removal or a sort is true of the document
+  pub remove_told : (request : Request) (ns : List Node) (name : Bor (List ℕ)) → IsChangeFor {A = A} request (Remove name) → (r : Result (Unit {0}) Fault) → IfErr r EndsOnObject
       → (IsErrOf r NotObject → HasNoObject o (ordered_tree ns 0)) → IfErr r (IsFaultOn o request (printed (ordered_tree ns 0)))
   remove_told _ ns _ (for_remove name) (Ok x) ends none = tt
-  remove_told _ ns _ (for_remove name) (Err fault) ends none = remove_refused o ns name.now fault ends none
+  remove_told _ ns _ (for_remove name) (Err fault) ends none = refused_on_object o ns (remove name.now) fault (λ h. h) ends none
+
+  pub sort_told : (request : Request) (ns : List Node) → IsChangeFor {A = A} request Sort → (r : Result (Unit {0}) Fault) → IfErr r EndsOnObject → (IsErrOf r NotObject → HasNoObject o (ordered_tree ns 0))
+      → IfErr r (IsFaultOn o request (printed (ordered_tree ns 0)))
+  sort_told _ ns for_sort (Ok x) ends none = tt
+  sort_told _ ns for_sort (Err fault) ends none = refused_on_object o ns sort fault (λ h. h) ends none
 
 -- so the document of the input is left
 pub left_by : (o : Options) (request : Request) (input : List ℕ) (old new : List Node) → printed (ordered_tree old 0) ≡ input → SoundTree o (ordered_tree old 0) → MakesIfSound o request old new
@@ -67,6 +76,7 @@ left_by o print input old new reads sound makes = ap (λ (ns : List Node). print
 left_by o (set name json) input old new reads sound makes = record { old = old; new = new; reads = reads; sound = sound; makes = makes sound; prints = refl }
 left_by o (append json) input old new reads sound makes = record { old = old; new = new; reads = reads; sound = sound; makes = makes sound; prints = refl }
 left_by o (remove name) input old new reads sound makes = record { old = old; new = new; reads = reads; sound = sound; makes = makes sound; prints = refl }
+left_by o sort input old new reads sound makes = record { old = old; new = new; reads = reads; sound = sound; makes = makes sound; prints = refl }
 
 -- what was read is the input, where that is known
 pub of_input : (known : Option (List ℕ)) (read : List ℕ) (P : List ℕ → Type 0) → IfSome known (λ input. read ≡ input) → P read → IfSome known P

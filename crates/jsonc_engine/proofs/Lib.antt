@@ -1,5 +1,6 @@
 mod Reading
 mod Removing
+mod Sorting
 mod Arguments
 mod Making
 mod Changes

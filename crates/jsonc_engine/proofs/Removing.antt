@@ -44,7 +44,7 @@ use Rattle.jsonc_cst.specs.Document.{nodes_of}
 use Rattle.jsonc_cst.specs.Readings.{object_if, typed_if, IsFirstNamed}
 use Rattle.jsonc_typed.specs.Removing.{IsElementGone, WantsMemoryAlone}
 use Rattle.jsonc_engine.specs.declared.fault.Fault.TheVariants.{Edit}
-use Rattle.jsonc_engine.specs.Fault.{EndsRemoval}
+use Rattle.jsonc_engine.specs.Fault.{EndsOnObject}
 use Rattle.jsonc_engine.specs.Removal.{HasNoObject, LosesFirst}
 
 -- a node that reads as an object is one
@@ -133,6 +133,10 @@ module _ (o : Options) (ns : List Node) (tree : IsTree ns) (sound : SoundTree o 
   pub no_object : object_if (typed_if ns (value_at ns 0)) ≡ None → HasNoObject o (ordered_tree ns 0)
   no_object read = from_value (value_at ns 0) refl read
 
+-- want of memory can end what is done to an object
+pub memory_on_object : (e : EditError) → e ≡ OutOfMemory → EndsOnObject (Edit e)
+memory_on_object e is = subst (λ (x : EditError). EndsOnObject (Edit x)) (sym is) tt
+
 -- what stands at the empty path is the root's child
 over_root : (ns : List Node) → IsTree ns → (n v : ℕ) → IsElementOf ns 0 0 v → LeadsTo ns n v [] → IsOver ns 0 n
 over_root ns tree n _ e paths.itself = IsOver.above (element_parent ns tree 0 0 n e) IsOver.itself
@@ -173,8 +177,8 @@ module _ (o : Options) (old new : List Node) (tree : IsTree old) (name : List �
     wants_memory : (e : EditError) → SoundTree o (ordered_tree old 0) → WantsMemoryAlone o old n e → e ≡ OutOfMemory
     wants_memory e sound told = told sound over
 
-    pub ends_removal : (e : EditError) → SoundTree o (ordered_tree old 0) → WantsMemoryAlone o old n e → EndsRemoval (Edit e)
-    ends_removal e sound told = subst (λ (x : EditError). EndsRemoval (Edit x)) (sym (wants_memory e sound told)) tt
+    pub ends_removal : (e : EditError) → SoundTree o (ordered_tree old 0) → WantsMemoryAlone o old n e → EndsOnObject (Edit e)
+    ends_removal e sound told = memory_on_object e (wants_memory e sound told)
 
 -- the property that was found
 module _ {A : Type 0} where

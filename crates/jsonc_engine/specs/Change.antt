@@ -9,12 +9,13 @@ use Rattle.jsonc_tree.specs.OrderedTree.{ordered_tree, printed}
 use Rattle.jsonc_tree.specs.Tree.{Node}
 use Rattle.jsonc_laws.specs.SoundTrees.{SoundTree}
 use Rattle.jsonc_engine.specs.declared.argument.Change.{Change}
-use Rattle.jsonc_engine.specs.declared.argument.Change.TheVariants.{Append, Remove, Set, Stay}
+use Rattle.jsonc_engine.specs.declared.argument.Change.TheVariants.{Append, Remove, Set, Sort, Stay}
 use Rattle.jsonc_engine.specs.Appending.{AppendsLast}
 use Rattle.jsonc_engine.specs.Argument.{IsArgument}
-use Rattle.jsonc_engine.specs.Command.{Request, check, print, set, append, remove}
+use Rattle.jsonc_engine.specs.Command.{Request, check, print, set, append, remove, sort}
 use Rattle.jsonc_engine.specs.Removal.{LosesFirst}
 use Rattle.jsonc_engine.specs.Setting.{SetsFirst}
+use Rattle.jsonc_engine.specs.Sorting.{SortsByName}
 
 -- the change is what the command asks for, with the value of its JSON text
 pub data IsChangeFor {A : Type 0} : Request → Change A → Type 0 where
@@ -24,6 +25,7 @@ pub data IsChangeFor {A : Type 0} : Request → Change A → Type 0 where
       → IsChangeFor (set name.now json) (Set name value)
   for_append : (json : List ℕ) (value : CstInputValue A) → IsArgument json (plain value) → IsChangeFor (append json) (Append value)
   for_remove : (name : Bor (List ℕ)) → IsChangeFor (remove name.now) (Remove name)
+  for_sort : IsChangeFor sort Sort
 
 -- what a command makes of a sound document
 abbrev pub Makes : Options → Request → List Node → List Node → Type 0
@@ -32,6 +34,7 @@ Makes o print old new = new ≡ old
 Makes o (set name json) old new = (v : Plain) × IsArgument json v × SetsFirst o (chars name) v old new
 Makes o (append json) old new = (v : Plain) × IsArgument json v × AppendsLast o v old new
 Makes o (remove name) old new = LosesFirst o (chars name) old new
+Makes o sort old new = SortsByName o old new
 
 -- so it is if the document was sound
 abbrev pub MakesIfSound : Options → Request → List Node → List Node → Type 0

@@ -2,7 +2,7 @@
 use Rattle.std.specs.Borrow.{Bor}
 use Rattle.std.specs.Prelude.{◌≡◌, ℕ, Bool, true, false, List, [], ◌∷◌, Option, Some, None, codes, map}
 use Rattle.jsonc_engine.specs.declared.command.Command.{Command}
-use Rattle.jsonc_engine.specs.declared.command.Command.TheVariants.{Check, Print, Set, Append, Remove}
+use Rattle.jsonc_engine.specs.declared.command.Command.TheVariants.{Check, Print, Set, Append, Remove, Sort}
 
 -- what is asked of the program: a command with the bytes of its words
 pub data Request : Type 0 where
@@ -11,6 +11,7 @@ pub data Request : Type 0 where
   set : (name json : List ℕ) → Request
   append : (json : List ℕ) → Request
   remove : (name : List ℕ) → Request
+  sort : Request
 
 abbrev pub request_of : Command → Request
 request_of Check = check
@@ -18,6 +19,7 @@ request_of Print = print
 request_of (Set name json) = set name.now json.now
 request_of (Append json) = append json.now
 request_of (Remove name) = remove name.now
+request_of Sort = sort
 
 -- the words that name a command
 abbrev pub words_of : Request → List (List ℕ)
@@ -26,6 +28,7 @@ words_of print = codes "print" ∷ []
 words_of (set name json) = codes "set" ∷ name ∷ json ∷ []
 words_of (append json) = codes "append" ∷ json ∷ []
 words_of (remove name) = codes "remove" ∷ name ∷ []
+words_of sort = codes "sort" ∷ []
 
 -- the words name the command
 abbrev pub Name : List (Bor (List ℕ)) → Request → Type 0

@@ -2,7 +2,7 @@
 use Rattle.std.specs.Prelude.{◌≡◌, ℕ, Bool, false, List, Some, ◌++◌, ◌⊎◌, chars, codes, IsUtf8}
 use Rattle.jsonc_named.specs.Shapes.{is_array, is_object}
 use Rattle.jsonc_engine.specs.Argument.{IsFaultOfArgument}
-use Rattle.jsonc_engine.specs.Command.{Request, set, append, remove}
+use Rattle.jsonc_engine.specs.Command.{Request, set, append, remove, sort}
 use Rattle.jsonc_engine.specs.Input.{IsRefusalOf}
 use Rattle.jsonc_engine.specs.Removal.{IsNoObject}
 use Rattle.jsonc_engine.specs.Parser.{IsDocument, Options, OutOfMemory, Plain, all_on, edit_error_text, error_text}
@@ -26,10 +26,11 @@ fault_line Usage = codes "usage: jsonc check|print|set NAME JSON|append JSON|rem
 abbrev pub HasAnother : (Plain → Bool) → Options → List ℕ → Type 0
 HasAnother kind o bytes = (x : Plain) × IsDocument o (chars bytes) (Some x) × (kind x ≡ false)
 
--- the command finds no object in the document: `set` makes one where the document has no value, and `remove` does not
+-- the command finds no object in the document: `set` makes one where the document has no value, and `remove` and `sort` do not
 abbrev pub FindsNoObject : Options → Request → List ℕ → Type 0
 FindsNoObject o (set name json) input = HasAnother is_object o input
 FindsNoObject o (remove name) input = IsNoObject o input
+FindsNoObject o sort input = IsNoObject o input
 FindsNoObject o request input = ⊥
 
 -- it finds no array, and makes one where the document has no value
@@ -81,11 +82,11 @@ EndsUnread NoValue = Unit {0}
 EndsUnread Usage = Unit {0}
 EndsUnread other = ⊥
 
--- taking a property out can end with the fault
-abbrev pub EndsRemoval : Fault → Type 0
-EndsRemoval NotObject = Unit {0}
-EndsRemoval (Edit OutOfMemory) = Unit {0}
-EndsRemoval other = ⊥
+-- taking a property out of the document's object, or sorting it, can end with the fault
+abbrev pub EndsOnObject : Fault → Type 0
+EndsOnObject NotObject = Unit {0}
+EndsOnObject (Edit OutOfMemory) = Unit {0}
+EndsOnObject other = ⊥
 
 -- setting one can end with it, where the text of these bytes is that of the document
 abbrev pub EndsSetting : Options → List ℕ → Fault → Type 0

@@ -9,3 +9,4 @@ pub mod Output
 pub mod Parser
 pub mod Removal
 pub mod Setting
+pub mod Sorting

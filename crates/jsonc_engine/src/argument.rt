@@ -22,6 +22,8 @@ pub(crate) enum Change<'a, A: Allocator> {
     Append(CstInputValue<A>),
     /// The first property of the name leaves.
     Remove(&'a str),
+    /// The properties come in the order of their names as they are written.
+    Sort,
 }
 
 /// The value of a command's JSON text, of equal names the last at the first place.
@@ -63,5 +65,6 @@ pub(crate) fn change_of<A: Allocator + Copy>(
             Err(fault) => Err(fault),
         },
         Command::Remove(name) => Ok(Change::Remove(name)),
+        Command::Sort => Ok(Change::Sort),
     }
 }

@@ -19,6 +19,9 @@ pub enum Command<'a> {
     /// Parses the input, takes the first property of this name out of the document's object, and writes the
     /// document. Without such a property the document stays as it is.
     Remove(&'a str),
+    /// Parses the input, sorts the properties of the document's object by their names as they are written, without
+    /// quotes, in the order of their bytes, and writes the document. Properties of one name stay in their order.
+    Sort,
 }
 
 impl<'a> Command<'a> {
@@ -36,6 +39,7 @@ impl<'a> Command<'a> {
             ["set", name, json] => Some(Command::Set(name, json)),
             ["append", json] => Some(Command::Append(json)),
             ["remove", name] => Some(Command::Remove(name)),
+            ["sort"] => Some(Command::Sort),
             _ => None,
         }
     }
@@ -50,6 +54,7 @@ impl<'a> Command<'a> {
             Command::Set(_, _) => true,
             Command::Append(_) => true,
             Command::Remove(_) => true,
+            Command::Sort => true,
         }
     }
 }

@@ -7,12 +7,13 @@ ghost use Rattle.jsonc_cst.specs.Document.{nodes_of, printed_of, tree_of};
 ghost use Rattle.jsonc_engine.specs.Appending.{AppendsIfSound};
 ghost use Rattle.jsonc_engine.specs.Change.{IsChangeFor, MakesIfSound};
 ghost use Rattle.jsonc_engine.specs.Command.{Request};
-ghost use Rattle.jsonc_engine.specs.Fault.{EndsAppending, EndsRemoval, EndsSetting, IsFaultOn};
+ghost use Rattle.jsonc_engine.specs.Fault.{EndsAppending, EndsOnObject, EndsSetting, IsFaultOn};
 ghost use Rattle.jsonc_engine.specs.Removal.{HasNoObject, LosesIfSound};
 ghost use Rattle.jsonc_engine.specs.Setting.{SetsIfSound};
 
 use crate::argument::Change;
 use crate::fault::Fault;
+use crate::sort::sort_properties;
 use jsonc_parser::cst::{
     CstInputValue, CstRootNode, InsertElement, InsertProperty, Remove, SetProperty, SetRoot,
 };
@@ -31,7 +32,7 @@ fn remove_property<A: Allocator + Copy>(
         → OnOk result (LosesIfSound o (chars name.now) (nodes_of document.old) (nodes_of document.new)) }
     ensures no_object { (o : Options) → IsErrOf result Fault.NotObject → SoundTree o (tree_of document.old)
         → HasNoObject o (tree_of document.old) }
-    ensures told { (o : Options) → SoundTree o (tree_of document.old) → IfErr result EndsRemoval }
+    ensures told { (o : Options) → SoundTree o (tree_of document.old) → IfErr result EndsOnObject }
     ensures document { OnErr result (tree_of document.new ≡ tree_of document.old) }
 {
     let _ = document.tree.len();
@@ -130,5 +131,6 @@ pub(crate) fn make<A: Allocator + Copy>(
         Change::Set(name, value) => set_property(document, name, value),
         Change::Append(value) => append_element(document, value),
         Change::Remove(name) => remove_property(document, name),
+        Change::Sort => sort_properties(document),
     }
 }

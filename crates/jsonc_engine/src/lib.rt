@@ -8,3 +8,4 @@ pub mod command;
 mod edit;
 pub mod engine;
 pub mod fault;
+mod sort;

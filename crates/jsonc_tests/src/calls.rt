@@ -44,6 +44,7 @@ pub enum Call {
     Appended,
     Set,
     SetFirst,
+    Sorted,
     WholeRun,
 }
 
@@ -68,10 +69,11 @@ pub const CALLS: [(Call, &str); 16] = [
 ];
 
 /// Those that collect a list, which asks again for less where its first request was refused.
-pub const COLLECTING: [(Call, &str); 3] = [
+pub const COLLECTING: [(Call, &str); 4] = [
     (Call::Appended, "appended"),
     (Call::Set, "set"),
     (Call::SetFirst, "set first"),
+    (Call::Sorted, "sorted"),
 ];
 
 /// A text of plain JSON, with more elements and properties than a list has room for at first.
@@ -87,6 +89,11 @@ const SETTINGS_WITHOUT: &str = "{a: 1 /*c*/ \"b\\u0020\": [] d: 3}";
 const COMMENT_INSIDE: &str = "[1 //c\n]";
 
 const COMMENT_BEFORE: &str = "[1, //c\n  2\n]";
+
+/// An object with a comment behind its first property, and with its properties in the order of their names.
+const UNSORTED: &str = "{\"b\": 1, // one\n \"a\": 2}";
+
+const SORTED: &str = "{\"a\": 2,\n \"b\": 1 // one\n}";
 
 /// One with comments, an escape and looser spelling.
 const LOOSE: &str = "// one\n[{a: '\\x62', 0x1F: +.5, c: Infinity,}, /* two */ [NaN -1]]";
@@ -123,6 +130,7 @@ pub fn outcome_of<A: Allocator + Copy>(call: Call, alloc: A) -> Outcome {
         Call::Appended => changed(alloc, Command::Append("2"), COMMENT_INSIDE, COMMENT_BEFORE),
         Call::Set => changed(alloc, Command::Set("a", "1"), "{\"a\":0}", "{\"a\":1}"),
         Call::SetFirst => changed(alloc, Command::Set("a", "1"), "", "{\n  \"a\": 1\n}\n"),
+        Call::Sorted => changed(alloc, Command::Sort, UNSORTED, SORTED),
         Call::WholeRun => whole_run(alloc),
     }
 }

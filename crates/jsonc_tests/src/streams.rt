@@ -64,19 +64,24 @@ impl Write for Writer {
     }
 }
 
-/// A command over a text, what it writes, and how many writes and a flush that takes.
+/// A command over a text, how many reads bring that, what it writes, and how many writes and a flush that takes.
 #[derive(Drop)]
 struct Case {
     words: &'static [&'static str],
+    input: &'static [u8],
+    reads: usize,
     written: &'static [u8],
     writes: usize,
 }
 
 const TEXT: &[u8] = b"[1, [2], \"three\", {\"four\": 5}]";
 
-// The text has 19 pieces, of which the two strings take two writes each.
+// Seven reads bring the text: six of five bytes, and one that finds the end. It has 19 pieces, of which the two
+// strings take two writes each.
 const PRINT: Case = Case {
     words: &["print"],
+    input: TEXT,
+    reads: 7,
     written: TEXT,
     writes: 22,
 };
@@ -84,14 +89,32 @@ const PRINT: Case = Case {
 // One element more is three pieces more.
 const APPEND: Case = Case {
     words: &["append", "6"],
+    input: TEXT,
+    reads: 7,
     written: b"[1, [2], \"three\", {\"four\": 5}, 6]",
     writes: 25,
 };
 
-/// A run of a command, with so many reads and so many writes and flushes that succeed, and what it wrote.
-fn run(alloc: Global, words: &[&str], reads: usize, writes: usize) -> (Result<(), Fault>, Vec<u8>) {
+// It has 16 pieces when it is sorted, of which the comment takes two writes.
+const SORT: Case = Case {
+    words: &["sort"],
+    input: b"{\"b\": 1, // one\n \"a\": 2}",
+    reads: 6,
+    written: b"{\"a\": 2,\n \"b\": 1 // one\n}",
+    writes: 18,
+};
+
+/// A run of a command over a text, with so many reads and so many writes and flushes that succeed, and what it
+/// wrote.
+fn run(
+    alloc: Global,
+    words: &[&str],
+    input: &'static [u8],
+    reads: usize,
+    writes: usize,
+) -> (Result<(), Fault>, Vec<u8>) {
     let mut source = FromReader::new(Reader {
-        rest: TEXT,
+        rest: input,
         calls: Calls { left: reads },
     });
     let mut sink = ToWriter::new(Writer {
@@ -113,13 +136,13 @@ fn is_told(ended: &Result<(), Fault>, line: &str) -> bool {
 
 /// After so many reads the next one fails, and nothing is written.
 fn fails_to_read(alloc: Global, case: &Case, reads: usize) -> bool {
-    let (ended, written) = run(alloc, case.words, reads, 100);
+    let (ended, written) = run(alloc, case.words, case.input, reads, 100);
     is_told(&ended, "jsonc: read failed") && written.is_empty()
 }
 
 /// After so many writes the next one fails, and what they took is a beginning of what is to be written.
 fn fails_to_write(alloc: Global, case: &Case, writes: usize) -> bool {
-    let (ended, written) = run(alloc, case.words, 100, writes);
+    let (ended, written) = run(alloc, case.words, case.input, 100, writes);
     let count = written.len();
     let is_beginning = case.written.starts_with(written.as_slice());
     is_told(&ended, "jsonc: write failed")
@@ -129,14 +152,13 @@ fn fails_to_write(alloc: Global, case: &Case, writes: usize) -> bool {
 }
 
 fn writes_all(alloc: Global, case: &Case, reads: usize, writes: usize) -> bool {
-    let (ended, written) = run(alloc, case.words, reads, writes);
+    let (ended, written) = run(alloc, case.words, case.input, reads, writes);
     ended.is_ok() && written.as_slice() == case.written
 }
 
 #[test]
 fn a_failed_read_leaves_nothing_written(rt: HostRuntime) -> Result<(), Fail> {
-    // Seven reads bring the text: six of five bytes, and one that finds the end.
-    for reads in 0..7usize {
+    for reads in 0..PRINT.reads {
         assert!(rt;
             fails_to_read(rt.alloc(), &PRINT, reads),
             "print after {reads} reads"
@@ -146,8 +168,15 @@ fn a_failed_read_leaves_nothing_written(rt: HostRuntime) -> Result<(), Fail> {
             "append after {reads} reads"
         );
     }
-    assert!(rt; writes_all(rt.alloc(), &PRINT, 7, 100));
-    assert!(rt; writes_all(rt.alloc(), &APPEND, 7, 100));
+    for reads in 0..SORT.reads {
+        assert!(rt;
+            fails_to_read(rt.alloc(), &SORT, reads),
+            "sort after {reads} reads"
+        );
+    }
+    assert!(rt; writes_all(rt.alloc(), &PRINT, PRINT.reads, 100));
+    assert!(rt; writes_all(rt.alloc(), &APPEND, APPEND.reads, 100));
+    assert!(rt; writes_all(rt.alloc(), &SORT, SORT.reads, 100));
     Ok(())
 }
 
@@ -165,18 +194,25 @@ fn a_failed_write_leaves_a_beginning(rt: HostRuntime) -> Result<(), Fail> {
             "append after {writes} writes"
         );
     }
+    for writes in 0..SORT.writes {
+        assert!(rt;
+            fails_to_write(rt.alloc(), &SORT, writes),
+            "sort after {writes} writes"
+        );
+    }
     assert!(rt; writes_all(rt.alloc(), &PRINT, 100, PRINT.writes));
     assert!(rt; writes_all(rt.alloc(), &APPEND, 100, APPEND.writes));
+    assert!(rt; writes_all(rt.alloc(), &SORT, 100, SORT.writes));
     Ok(())
 }
 
 #[test]
 fn a_json_text_is_read_before_the_input(rt: HostRuntime) -> Result<(), Fail> {
     // The first read would fail.
-    let (ended, written) = run(rt.alloc(), &["set", "a", "@"], 0, 100);
+    let (ended, written) = run(rt.alloc(), &["set", "a", "@"], TEXT, 0, 100);
     let line = "jsonc: argument: Unexpected token on line 1 column 1";
     assert!(rt; is_told(&ended, line) && written.is_empty());
-    let (ended, written) = run(rt.alloc(), &["append", "/**/"], 0, 100);
+    let (ended, written) = run(rt.alloc(), &["append", "/**/"], TEXT, 0, 100);
     assert!(rt; is_told(&ended, "jsonc: argument: no value") && written.is_empty());
     Ok(())
 }

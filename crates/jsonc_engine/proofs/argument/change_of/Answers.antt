@@ -1,4 +1,4 @@
-use Rattle.jsonc_engine.proofs.Arguments.{append_change, append_fault, check_change, print_change, remove_change, set_change, set_fault}
+use Rattle.jsonc_engine.proofs.Arguments.{append_change, append_fault, check_change, print_change, remove_change, set_change, set_fault, sort_change}
 use Rattle.jsonc_engine.proofs.argument.change_of.Goals as goal
 
 pub returns-in-Check-clause-change : goal.returns-in-Check-clause-change
@@ -21,3 +21,6 @@ returns-in-Err-value_of-clause-refused g c = append_fault c.args.command c.in-Ap
 
 pub returns-in-Remove-clause-change : goal.returns-in-Remove-clause-change
 returns-in-Remove-clause-change g c = remove_change c.args.command c.in-Remove.name c.in-Remove.is
+
+pub returns-in-Sort-clause-change : goal.returns-in-Sort-clause-change
+returns-in-Sort-clause-change g c = sort_change c.args.command c.in-Sort.is

@@ -1,7 +1,7 @@
 use Rattle.std.proofs.Common.{subst}
 use Rattle.jsonc_cst.specs.Document.{nodes_of}
 use Rattle.jsonc_engine.specs.Change.{IsChangeFor}
-use Rattle.jsonc_engine.proofs.Changes.{append_makes, ok_so, remove_makes, remove_told, set_makes}
+use Rattle.jsonc_engine.proofs.Changes.{append_makes, ok_so, remove_makes, remove_told, set_makes, sort_makes, sort_told}
 use Rattle.jsonc_engine.proofs.edit.make.Goals as goal
 
 pub returns-in-Set-clause-made : goal.returns-in-Set-clause-made
@@ -23,3 +23,13 @@ pub returns-in-Remove-clause-told : goal.returns-in-Remove-clause-told
 returns-in-Remove-clause-told g c = λ o request is sound.
     remove_told o request (nodes_of c.args.document.now) c.in-Remove.name (subst (IsChangeFor request) c.in-Remove.is is) c.remove_property.result (c.remove_property.ensures.told o sound)
     (λ none. c.remove_property.ensures.no_object o none sound)
+
+pub returns-in-Sort-clause-made : goal.returns-in-Sort-clause-made
+returns-in-Sort-clause-made g c = λ o request is.
+    ok_so c.sort_properties.result (sort_makes o request (nodes_of c.args.document.now) (nodes_of c.sort_properties.new.document) (subst (IsChangeFor request) c.in-Sort.is is))
+    (c.sort_properties.ensures.sorted o)
+
+pub returns-in-Sort-clause-told : goal.returns-in-Sort-clause-told
+returns-in-Sort-clause-told g c = λ o request is sound.
+    sort_told o request (nodes_of c.args.document.now) (subst (IsChangeFor request) c.in-Sort.is is) c.sort_properties.result c.sort_properties.ensures.told
+    (λ none. c.sort_properties.ensures.no_object o none sound)

@@ -1,0 +1,17 @@
+use Rattle.std.proofs.Common.{rules, sym, ◌∙◌}
+use Rattle.jsonc_cst.specs.Document.{nodes_of}
+use Rattle.jsonc_engine.proofs.Removing.{memory_on_object, no_object}
+use Rattle.jsonc_engine.proofs.Sorting.{sorts_by_name}
+use Rattle.jsonc_engine.proofs.sort.sort_properties.Goals as goal
+
+pub returns-in_default-clause-no_object : goal.returns-in_default-clause-no_object
+returns-in_default-clause-no_object g c = λ o _ sound.
+    no_object o (nodes_of c.args.document.now) c.len.ensures.tree sound (sym c.object_value.ensures.value ∙ c.in_default.is)
+
+pub returns-in-Ok-clause-sorted : goal.returns-in-Ok-clause-sorted
+returns-in-Ok-clause-sorted g c = λ o.
+    sorts_by_name _ _ c.args.document.now c.by.new.doc c.in-Some.object o c.sort_properties.result.object c.sort_properties.result.groups c.len.ensures.tree (sym c.object_value.ensures.value ∙ c.in-Some.is)
+    c.sort_properties.ensures.object c.sort_properties.ensures.groups c.in-Ok.ensures.sorted (λ d p q r at hp hq post. search rules)
+
+pub returns-in-Err-clause-told : goal.returns-in-Err-clause-told
+returns-in-Err-clause-told g c = memory_on_object c.in-Err.error c.in-Err.ensures.memory

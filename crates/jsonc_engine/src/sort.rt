@@ -1,0 +1,82 @@
+//! Properties that are sorted by their names as they are written.
+ghost use Rattle.std.specs.Prelude.{◌≡◌, IfErr, IsErrOf, OnErr, OnOk};
+ghost use Rattle.std.specs.Cmp.Lexicographic.{slice_cmp};
+ghost use Rattle.std.specs.Ordering.{nat_cmp};
+ghost use Rattle.jsonc_text.specs.Options.{Options};
+ghost use Rattle.jsonc_laws.specs.SoundTrees.{SoundTree};
+ghost use Rattle.jsonc_cst.specs.Document.{nodes_of, tree_of, Holds};
+ghost use Rattle.jsonc_cst.specs.Nodes.{object_prop_node};
+ghost use Rattle.jsonc_engine.specs.Fault.{EndsOnObject};
+ghost use Rattle.jsonc_engine.specs.Removal.{HasNoObject};
+ghost use Rattle.jsonc_engine.specs.Sorting.{SortsIfSound, between_quotes, written_name};
+
+use crate::fault::Fault;
+use jsonc_parser::cst::{CstObjectProp, CstRootNode, ObjectPropName, SortProperties};
+use std::alloc::Allocator;
+use std::cmp::Ordering;
+
+/// The bytes of a string as it is written, without its quotes.
+fn between_quotes(text: &str) -> &[u8]
+    ensures { result.now ≡ between_quotes text.now }
+{
+    let bytes = text.as_bytes();
+    if bytes.len() < 2 {
+        return &[];
+    }
+    &bytes[1..bytes.len() - 1]
+}
+
+/// The name of a property as it is written, without quotes, or nothing where it has none.
+fn written_name<A: Allocator>(document: &CstRootNode<A>, property: CstObjectProp) -> &[u8]
+    requires { Holds document.now (object_prop_node property) }
+    ensures { result.now ≡ written_name (nodes_of document.now) property.number }
+{
+    match property.name(document) {
+        Some(ObjectPropName::String(string)) => between_quotes(string.raw_value(document)),
+        Some(ObjectPropName::Word(word)) => word.raw_value(document).as_bytes(),
+        None => &[],
+    }
+}
+
+/// Compares the names of two properties as they are written, without quotes, byte by byte.
+fn compare_names<A: Allocator>(
+    document: &CstRootNode<A>,
+    one: CstObjectProp,
+    other: CstObjectProp,
+) -> Ordering
+    requires one { Holds document.now (object_prop_node one) }
+    requires other { Holds document.now (object_prop_node other) }
+    ensures { result ≡ slice_cmp nat_cmp (written_name (nodes_of document.now) one.number)
+        (written_name (nodes_of document.now) other.number) }
+{
+    let name = written_name(document, one);
+    name.cmp(&written_name(document, other))
+}
+
+/// Sorts the properties of the document's object by their names as they are written, without quotes, byte by byte.
+/// What belongs to a property goes with it, and properties of one name stay in their order.
+///
+/// It is `Fault::NotObject` where the document's value is no object, or there is none. Memory may be wanted,
+/// which is `Fault::Edit`. A refusal leaves the document as it was.
+pub(crate) fn sort_properties<A: Allocator + Copy>(
+    document: &mut CstRootNode<A>,
+) -> Result<(), Fault>
+    ensures sorted { (o : Options)
+        → OnOk result (SortsIfSound o (nodes_of document.old) (nodes_of document.new)) }
+    ensures no_object { (o : Options) → IsErrOf result Fault.NotObject → SoundTree o (tree_of document.old)
+        → HasNoObject o (tree_of document.old) }
+    ensures told { IfErr result EndsOnObject }
+    ensures document { OnErr result (tree_of document.new ≡ tree_of document.old) }
+{
+    let _ = document.tree.len();
+    let Some(object) = document.object_value() else {
+        return Err(Fault::NotObject);
+    };
+    match object.sort_properties().by(
+        document,
+        |document: &CstRootNode<_>, one, other| compare_names(document, one, other),
+    ) {
+        Ok(()) => Ok(()),
+        Err(error) => Err(Fault::Edit(error)),
+    }
+}

@@ -1,0 +1,4 @@
+pub mod Parted
+pub mod Elements
+pub mod Coming
+pub mod Once

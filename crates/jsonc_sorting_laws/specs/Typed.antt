@@ -1,0 +1,58 @@
+-- Second sorts of typed arrays and objects, by closures that answer by what the nodes are, each with what is below it.
+use Rattle.std.specs.Prelude.{◌≡◌, Bool, false, List, Option}
+use Rattle.std.specs.Cmp.{IsStrictWeakOrder}
+use Rattle.std.specs.declared.cmp.Ordering.{Ordering}
+use denote.Ref.{Bor}
+use denote.Param.Members.{Shared}
+use Rattle.jsonc_tree.specs.OrderedTree.{Top}
+use Rattle.jsonc_tree.specs.Tree.{IsTree}
+use Rattle.jsonc_edit.specs.Changes.{top_at}
+use Rattle.jsonc_order.specs.Asking.{ComparesBy}
+use Rattle.jsonc_sort.specs.Sorting.{Headers}
+use Rattle.jsonc_cst.specs.declared.cst.CstRootNode.{CstRootNode}
+use Rattle.jsonc_cst.specs.declared.cst.node.CstArray.{CstArray}
+use Rattle.jsonc_cst.specs.declared.cst.node.CstNode.{CstNode}
+use Rattle.jsonc_cst.specs.declared.cst.node.CstObject.{CstObject}
+use Rattle.jsonc_cst.specs.declared.cst.node.CstObjectProp.{CstObjectProp}
+use Rattle.jsonc_cst.specs.Document.{nodes_of, printed_of, Holds}
+use Rattle.jsonc_cst.specs.Nodes.{array_node, number_of, object_node, object_prop_node}
+use Rattle.jsonc_sorting.specs.Asking.{IsInItsOrder}
+use Rattle.jsonc_sorting.specs.Rows.{elements_asked, properties_asked, starts_of}
+use Rattle.jsonc_sorting.specs.Sorted.{HasSorted}
+
+module _ {A : Type 0} where
+  -- what a node of a document is, with what is below it
+  abbrev pub top_of : CstRootNode A → CstNode → Top
+  top_of d node = top_at (nodes_of d) (number_of node)
+
+  module _ {F D N : Type 0} (g : Shared F (Bor D × (N × (N × Unit {0}))) Ordering) (compare : F) (same : CstRootNode A → D) (node_of : N → CstNode) where
+    -- of this document and its nodes a comparison answers by an order of what these are
+    abbrev pub ComparesTops : (Top → Top → Bool) → CstRootNode A → Type 0
+    ComparesTops lt d = ComparesBy g compare (same d) (λ x. Holds d (node_of x)) (λ x y. lt (top_of d (node_of x)) (top_of d (node_of y)))
+
+    -- a container of the document has been sorted by it, without groups
+    abbrev pub IsSortedBy : CstRootNode A → CstRootNode A → CstNode → List (Option N) → Headers → Type 0
+    IsSortedBy old new container nodes h =
+        HasSorted old new container h (IsInItsOrder g compare (same old) (λ x. Holds old (node_of x)) nodes (starts_of old container false))
+
+  -- where an array has been sorted by an order of what its elements are, a second sort by it changes no byte; and so of an object
+  abbrev pub IsUntouched : CstRootNode A → CstRootNode A → Type 0
+  IsUntouched old new = (nodes_of new ≡ nodes_of old) × (printed_of new ≡ printed_of old)
+
+  abbrev pub ElementsSortOnce : {F D : Type 0} → Shared F (Bor D × (CstNode × (CstNode × Unit {0}))) Ordering → F → (CstRootNode A → D) → (Top → Top → Bool)
+      → CstRootNode A → CstRootNode A → CstRootNode A → CstArray → Headers → Headers → Type 0
+  ElementsSortOnce g compare same lt old now new array h k =
+      IsStrictWeakOrder lt → IsTree (nodes_of old) → Holds old (array_node array)
+      → ComparesTops g compare same (λ x. x) lt old → IsSortedBy g compare same (λ x. x) old now (array_node array) (elements_asked old (array_node array)) h
+      → ComparesTops g compare same (λ x. x) lt now → IsSortedBy g compare same (λ x. x) now new (array_node array) (elements_asked now (array_node array)) k
+      → IsUntouched now new
+
+  abbrev pub PropertiesSortOnce : {F D : Type 0} → Shared F (Bor D × (CstObjectProp × (CstObjectProp × Unit {0}))) Ordering → F → (CstRootNode A → D)
+      → (Top → Top → Bool) → CstRootNode A → CstRootNode A → CstRootNode A → CstObject → Headers → Headers → Type 0
+  PropertiesSortOnce g compare same lt old now new object h k =
+      IsStrictWeakOrder lt → IsTree (nodes_of old) → Holds old (object_node object)
+      → ComparesTops g compare same object_prop_node lt old
+      → IsSortedBy g compare same object_prop_node old now (object_node object) (properties_asked old (object_node object)) h
+      → ComparesTops g compare same object_prop_node lt now
+      → IsSortedBy g compare same object_prop_node now new (object_node object) (properties_asked now (object_node object)) k
+      → IsUntouched now new
