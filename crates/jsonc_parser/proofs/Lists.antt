@@ -2,6 +2,7 @@
 use Rattle.std.proofs.Common.{◌≡◌, ◌<◌, ◌+◌, ℕ, zero, suc, Bool, true, false, List, [], ◌∷◌, ◌++◌, Some, Result, Ok, Err, OnOk, OnErr, IfErr, length, get_or, take, refl, sym, ap, subst, ◌∙◌, arith}
 use Rattle.std.specs.List.{slice_get}
 use Rattle.std.specs.declared.cmp.Ordering.{Ordering}
+use Rattle.std.specs.declared.vec.Vec.{Vec}
 use denote.Ref.{Bor}
 use denote.Param.Members.{Shared}
 use Rattle.jsonc_text.specs.Options.{Options}
@@ -13,7 +14,7 @@ use Rattle.jsonc_laws.specs.Marks.{AreMarks}
 use Rattle.jsonc_run.specs.declared.edit.Edit.{Edit}
 use Rattle.jsonc_run.specs.declared.edit.Edit.TheVariants.{Replace, Remove, RemoveComment, SetRoot, ClearRoot, ReplaceProperty, EnsureRoot, SetValue, EnsureValue, SetBoolean, EnsureMultiline, InsertElement, AppendElement, InsertProperty, AppendProperty, EnsureProperty, SetTrailingCommas, Sort}
 use Rattle.jsonc_run.specs.Edits as nodes
-use Rattle.jsonc_run.specs.Edits.{Operation, Sorting, is_sort, operation_of, set_commas, set_some_commas, unsorted, AreMade, IsMade}
+use Rattle.jsonc_run.specs.Edits.{Operation, Sorting, is_sort, operation_of, rearrange, set_commas, set_some_commas, unsorted, AreMade, IsMade}
 use Rattle.jsonc_run.specs.Marked.{MarkAll}
 use Rattle.jsonc_run.specs.Refusals.{IsLeft, IsToldBy, as_it_was, set_in_part}
 use Rattle.jsonc_run.specs.Written.{AreWritten, WriteAll, options_after}
@@ -23,7 +24,7 @@ use Rattle.jsonc_run.proofs.Written.{write_all}
 use Rattle.jsonc_cst.specs.declared.cst.CstRootNode.{CstRootNode}
 use Rattle.jsonc_cst.specs.declared.cst.node.CstNode.{CstNode}
 use Rattle.jsonc_cst.specs.Document.{nodes_of}
-use Rattle.jsonc_parser.specs.Lists.{AreMadeAs, none_made, first_made, HaveBeenMade, HaveStopped, IsAsked, IsDone, no_more, and_commas, IsMadeAs, IsMadeSo}
+use Rattle.jsonc_parser.specs.Lists.{AreMadeAs, none_made, first_made, HaveBeenMade, HaveStopped, IsAsked, IsDone, no_more, and_commas, IsMadeAs, IsMadeSo, IsSorting}
 
 -- an edit that is no sort asks for the same however sorts are done
 pub asks_alike : {A : Type 0} (s : Sorting) (e : Edit A) → is_sort e ≡ false → operation_of unsorted e ≡ operation_of s e
@@ -45,6 +46,58 @@ asks_alike s (AppendProperty path name value) plain = refl
 asks_alike s (EnsureProperty path name shape how) plain = refl
 asks_alike s (SetTrailingCommas path mode) plain = refl
 asks_alike s (Sort path pin groups) plain = let wrong : true ≡ false = plain in cc
+
+-- what is no sort
+pub no_sort : {A : Type 0} (e : Edit A) → ((path : Vec ℕ A) (pin groups : Bool) → e ≡ Sort path pin groups → ⊥) → is_sort e ≡ false
+no_sort (Replace path value) other = refl
+no_sort (Remove path) other = refl
+no_sort (RemoveComment number) other = refl
+no_sort (SetRoot value) other = refl
+no_sort ClearRoot other = refl
+no_sort (ReplaceProperty path name value) other = refl
+no_sort (EnsureRoot shape how) other = refl
+no_sort (SetValue path value) other = refl
+no_sort (EnsureValue path shape) other = refl
+no_sort (SetBoolean path value) other = refl
+no_sort (EnsureMultiline path) other = refl
+no_sort (InsertElement path index value) other = refl
+no_sort (AppendElement path value) other = refl
+no_sort (InsertProperty path index name value) other = refl
+no_sort (AppendProperty path name value) other = refl
+no_sort (EnsureProperty path name shape how) other = refl
+no_sort (SetTrailingCommas path mode) other = refl
+no_sort (Sort path pin groups) other = absurd (other path pin groups refl)
+
+-- what is said of an edit that is no sort, however sorts are done
+pub told_alike : {T A : Type 0} (ns : List Node) (s : Sorting) (e : Edit A) (r : Result T EditError) → is_sort e ≡ false → IfErr r (IsToldBy ns (operation_of unsorted e)) → IfErr r (IsToldBy ns (operation_of s e))
+told_alike ns s e r plain told = subst (λ (op : Operation). IfErr r (IsToldBy ns op)) (asks_alike s e plain) told
+
+pub left_alike : {T E A : Type 0} (old new : List Node) (s : Sorting) (e : Edit A) (r : Result T E) → is_sort e ≡ false → OnErr r (IsLeft old (operation_of unsorted e) new) → OnErr r (IsLeft old (operation_of s e) new)
+left_alike old new s e r plain left = subst (λ (op : Operation). OnErr r (IsLeft old op new)) (asks_alike s e plain) left
+
+-- what is said of a sort, as its edit is seen
+module _ {A : Type 0} (e : Edit A) (path : Vec ℕ A) (pin groups : Bool) (is : e ≡ Sort path pin groups) (seen : List ℕ) (same_path : seen ≡ path.items) where
+  sort_asks : (s : Sorting) → rearrange seen s.headers s.order ≡ operation_of s e
+  sort_asks s = ap (λ p. rearrange p s.headers s.order) same_path ∙ sym (ap (operation_of s) is)
+
+  pub sort_told : {T : Type 0} (ns : List Node) (s : Sorting) (r : Result T EditError) → IfErr r (IsToldBy ns (rearrange seen s.headers s.order)) → IfErr r (IsToldBy ns (operation_of s e))
+  sort_told ns s r told = subst (λ (op : Operation). IfErr r (IsToldBy ns op)) (sort_asks s) told
+
+  pub sort_left : {T E : Type 0} (old new : List Node) (s : Sorting) (r : Result T E) → OnErr r (IsLeft old (rearrange seen s.headers s.order) new) → OnErr r (IsLeft old (operation_of s e) new)
+  sort_left old new s r left = subst (λ (op : Operation). OnErr r (IsLeft old op new)) (sort_asks s) left
+
+  pub sort_made : {C D T E : Type 0} (call : Shared C (Bor D × (CstNode × (CstNode × Unit {0}))) Ordering) (compare : C) (same : CstRootNode A → D) (old new : CstRootNode A) (r : Result T E)
+      → OnOk r ((s : Sorting) × IsSorting call compare same old seen pin groups s × IsMade (nodes_of old) (rearrange seen s.headers s.order) (nodes_of new)) → OnOk r (IsMadeSo call compare same old e new)
+  sort_made call compare same old new (Err x) made = tt
+  sort_made call compare same old new (Ok x) (s, sorting, made) = (
+    rearrange seen s.headers s.order,
+    record {
+      sorting = s;
+      asked = subst (λ (d : Edit A). IsAsked call compare same old d s) (sym is) (subst (λ p. IsSorting call compare same old p pin groups s) same_path sorting);
+      is = sort_asks s;
+      made = made;
+    },
+  )
 
 -- more than one operation on nodes
 made_tree : {old new : List Node} {es : List Operation} → IsTree old → AreMade old es new → IsTree new
@@ -105,6 +158,14 @@ module _ {C D A : Type 0} (call : Shared C (Bor D × (CstNode × (CstNode × Uni
   pub made_more : {old now new : CstRootNode A} (es : List (Edit A)) (ops : List Operation) (e : Edit A) (op : Operation) → AreMadeAs call compare same old es ops now → IsMadeAs call compare same now e op new → IsTree (nodes_of new) → AreMadeAs call compare same old (es ++ e ∷ []) (ops ++ op ∷ []) new
   made_more [] [] e op none_made made tree = first_made made tree none_made
   made_more (d ∷ ds) (p ∷ ps) e op (first_made first t rest) made tree = first_made first t (made_more ds ps e op rest made tree)
+
+  -- so for the next of a list
+  pub more_made_after : (old now new : CstRootNode A) (es : List (Edit A)) (k : ℕ) (e : Edit A) (ops : List Operation) → k < length es → e ≡ get_or es k e → AreMadeAs call compare same old (take k es) ops now → IsMadeSo call compare same now e new → IsTree (nodes_of new)
+      → (all : List Operation) × AreMadeAs call compare same old (take (k + 1) es) all new
+  more_made_after old now new es k e ops there is made (op, next) tree = (
+    ops ++ op ∷ [],
+    subst (λ (l : List (Edit A)). AreMadeAs call compare same old l (ops ++ op ∷ []) new) (taken_seen es k e there is) (made_more (take k es) ops e op made next tree),
+  )
 
   -- all of them
   pub have_been_made : (old new : CstRootNode A) (es : List (Edit A)) (ops : List Operation) → IsTree (nodes_of old) → AreMadeAs call compare same old es ops new → HaveBeenMade call compare same old es new
