@@ -158,6 +158,8 @@ module _ {C D A : Type 0} (call : Shared C (Bor D × (CstNode × (CstNode × Uni
   pub made_more : {old now new : CstRootNode A} (es : List (Edit A)) (ops : List Operation) (e : Edit A) (op : Operation) → AreMadeAs call compare same old es ops now → IsMadeAs call compare same now e op new → IsTree (nodes_of new) → AreMadeAs call compare same old (es ++ e ∷ []) (ops ++ op ∷ []) new
   made_more [] [] e op none_made made tree = first_made made tree none_made
   made_more (d ∷ ds) (p ∷ ps) e op (first_made first t rest) made tree = first_made first t (made_more ds ps e op rest made tree)
+  made_more [] (p ∷ ps) e op wrong made tree = elim wrong [ ]
+  made_more (d ∷ ds) [] e op wrong made tree = elim wrong [ ]
 
   -- so for the next of a list
   pub more_made_after : (old now new : CstRootNode A) (es : List (Edit A)) (k : ℕ) (e : Edit A) (ops : List Operation) → k < length es → e ≡ get_or es k e → AreMadeAs call compare same old (take k es) ops now → IsMadeSo call compare same now e new → IsTree (nodes_of new)

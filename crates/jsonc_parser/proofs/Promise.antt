@@ -1,5 +1,5 @@
 -- From a parsed text to the text after edits.
-use Rattle.std.proofs.Common.{ℕ, ◌≡◌, ◌+◌, ◌∙◌, ◌&&◌, Bool, true, false, cond, List, [], ◌∷◌, ◌++◌, count_by, sym, refl, ap, subst, chars}
+use Rattle.std.proofs.Common.{arith, ℕ, ◌≡◌, ◌+◌, ◌∙◌, ◌&&◌, Bool, true, false, cond, List, [], ◌∷◌, ◌++◌, count_by, sym, refl, ap, subst, chars}
 use Rattle.std.proofs.lemmas.List.{append-nil}
 use Rattle.std.proofs.lemmas.List.Recursion.{is_count_by}
 use Rattle.std.proofs.lemmas.List.Sums.{sum_by-cons}
@@ -48,7 +48,7 @@ nothing_leaves x y same = record { front = []; gone = []; back = comments_of x; 
 -- a test is passed by as many comments as there are marks that are comments and pass it
 either : (b : Bool) (n : ℕ) → cond b 1 0 + n ≡ cond b (1 + n) n
 either true n = refl
-either false n = refl
+either false n = let same : 0 + n ≡ n = omega arith in same
 
 comments_counted : (test : Mark → Bool) (x : List Mark) → count_by test (comments_of x) ≡ count_by (λ m. is_comment m && test m) x
 comments_counted test x = is_count_by (λ m. is_comment m && test m) refl step x
