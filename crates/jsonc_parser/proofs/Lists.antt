@@ -155,7 +155,7 @@ module _ {C D A : Type 0} (call : Shared C (Bor D × (CstNode × (CstNode × Uni
   as_nodes (first_made is after rest) = nodes.first_made is.made after (as_nodes rest)
 
   -- one more edit
-  pub made_more : {old now new : CstRootNode A} (es : List (Edit A)) (ops : List Operation) (e : Edit A) (op : Operation) → AreMadeAs call compare same old es ops now → IsMadeAs call compare same now e op new → IsTree (nodes_of new) → AreMadeAs call compare same old (es ++ e ∷ []) (ops ++ op ∷ []) new
+  pub made_more : (es : List (Edit A)) (ops : List Operation) (e : Edit A) (op : Operation) {old now new : CstRootNode A} → AreMadeAs call compare same old es ops now → IsMadeAs call compare same now e op new → IsTree (nodes_of new) → AreMadeAs call compare same old (es ++ e ∷ []) (ops ++ op ∷ []) new
   made_more [] [] e op none_made made tree = first_made made tree none_made
   made_more (d ∷ ds) (p ∷ ps) e op (first_made first t rest) made tree = first_made first t (made_more ds ps e op rest made tree)
   made_more [] (p ∷ ps) e op wrong made tree = elim wrong [ ]

@@ -55,7 +55,7 @@ comments_counted test x = is_count_by (λ m. is_comment m && test m) refl step x
   where
     step : (m : Mark) (xs : List Mark) → count_by test (comments_of (m ∷ xs)) ≡ cond (is_comment m && test m) (1 + count_by test (comments_of xs)) (count_by test (comments_of xs))
     step (Mark.literal s) xs = refl
-    step (Mark.comment s) xs = sum_by-cons (λ m. cond (test m) 1 0) (Mark.comment s) (comments_of xs) ∙ either (test (Mark.comment s)) (count_by test (comments_of xs))
+    step (Mark.comment s) xs = sum_by-cons {X = Mark} (λ m. cond (test m) 1 0) (Mark.comment s) (comments_of xs) ∙ either (test (Mark.comment s)) (count_by test (comments_of xs))
 
 comments_as_often : (test : Mark → Bool) (x y : List Mark) → ((test : Mark → Bool) → count_by test y ≡ count_by test x) → count_by test (comments_of y) ≡ count_by test (comments_of x)
 comments_as_often test x y same = comments_counted test y ∙ same (λ m. is_comment m && test m) ∙ sym (comments_counted test x)
