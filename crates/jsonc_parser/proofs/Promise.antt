@@ -51,7 +51,7 @@ either true n = refl
 either false n = let same : 0 + n ≡ n = omega arith in same
 
 comments_counted : (test : Mark → Bool) (x : List Mark) → count_by test (comments_of x) ≡ count_by (λ m. is_comment m && test m) x
-comments_counted test x = is_count_by (λ m. is_comment m && test m) refl step x
+comments_counted test x = is_count_by (λ (xs : List Mark). count_by test (comments_of xs)) (λ m. is_comment m && test m) refl step x
   where
     step : (m : Mark) (xs : List Mark) → count_by test (comments_of (m ∷ xs)) ≡ cond (is_comment m && test m) (1 + count_by test (comments_of xs)) (count_by test (comments_of xs))
     step (Mark.literal s) xs = refl
