@@ -136,14 +136,19 @@ fn sorts_keep_groups_and_headers_where_asked(rt: HostRuntime) -> Result<(), Fail
     Ok(())
 }
 
+/// Whether the one edit of a list has no place in the document `1`, which stays as it is.
+fn has_no_place(alloc: Global, edits: Result<Vec<Edit<Global>>, AllocError>) -> bool {
+    let (Ok(doc), Ok(edits)) = (read(alloc, "1"), edits) else {
+        return false;
+    };
+    let mut doc = doc;
+    make(&mut doc, edits) == Err((0, EditError::NoSuchPlace)) && prints(&doc, "1")
+}
+
 #[test]
 fn neither_is_made_of_a_number(rt: HostRuntime) -> Result<(), Fail> {
-    for edits in [sort(rt.alloc(), false, false), first_comma(rt.alloc())] {
-        let (Ok(mut doc), Ok(edits)) = (read(rt.alloc(), "1"), edits) else {
-            return Err(Fail);
-        };
-        assert!(rt; make(&mut doc, edits) == Err((0, EditError::NoSuchPlace)));
-        assert!(rt; prints(&doc, "1"));
-    }
+    let alloc = rt.alloc();
+    assert!(rt; has_no_place(alloc, sort(alloc, false, false)));
+    assert!(rt; has_no_place(alloc, first_comma(alloc)));
     Ok(())
 }
