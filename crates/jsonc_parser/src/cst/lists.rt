@@ -62,6 +62,26 @@ fn make<A: Allocator + Copy, D: IsDocument<A>, C: Fn(&D, CstNode, CstNode) -> Or
     }
 }
 
+// Makes edits in order.
+fn make_all<A: Allocator + Copy, D: IsDocument<A>, C: Fn(&D, CstNode, CstNode) -> Ordering>(
+    doc: &mut CstRootNode<A>,
+    edits: &[Edit<A>],
+    compare: &C,
+) -> Result<(), (usize, EditError)>
+    requires callable { MayBeAsked C.Fn compare.now D.same }
+    ensures made { OnOk result (HaveBeenMade C.Fn compare.now D.same doc.old edits.now doc.new) }
+    ensures stopped { IfErr result
+        (λ e. HaveStopped C.Fn compare.now D.same doc.old edits.now e.0 e.1 doc.new) }
+{
+    let _ = doc.tree.len();
+    for (count, edit) in edits.iter().enumerate() {
+        if let Err(stop) = make(doc, edit, compare) {
+            return Err((count, stop));
+        }
+    }
+    Ok(())
+}
+
 /// Makes edits in order, each in the document that the ones before it made: its path, or its number of a
 /// comment, is one of that document.
 ///
@@ -91,13 +111,7 @@ pub fn run<A: Allocator + Copy, D: IsDocument<A>, C: Fn(&D, CstNode, CstNode) ->
         (λ e. HaveStopped C.Fn compare.now D.same doc.old edits.items e.0 e.1 doc.new) }
     ensures tree { NodesAreTree doc.new }
 {
-    let _ = doc.tree.len();
-    for (count, edit) in edits.iter().enumerate() {
-        if let Err(stop) = make(doc, edit, compare) {
-            doc.nodes_are_tree();
-            return Err((count, stop));
-        }
-    }
+    let done = make_all(doc, &edits, compare);
     doc.nodes_are_tree();
-    Ok(())
+    done
 }
