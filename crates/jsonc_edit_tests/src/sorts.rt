@@ -230,7 +230,13 @@ fn sort_without_bracket<A: Allocator + Copy>(doc: CstRootNode<A>) -> Outcome {
         return Outcome::Other;
     };
     bracket.remove(&mut doc);
+    if !doc.holds(array.into()) {
+        return Outcome::Other;
+    }
     let sorted = sort_array(&mut doc, array, By::Text);
+    if !doc.holds(array.into()) {
+        return Outcome::Other;
+    }
     let commas = array.set_trailing_commas(&mut doc, TrailingCommaMode::Never);
     Outcome::of(matches!((sorted, commas), (Ok(()), Ok(()))) && prints(&doc, "[1"))
 }
