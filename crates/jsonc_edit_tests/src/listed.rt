@@ -119,7 +119,12 @@ fn commas_are_refused_in_turn(rt: HostRuntime) -> Result<(), Fail> {
 #[test]
 fn sorts_are_refused_in_turn(rt: HostRuntime) -> Result<(), Fail> {
     let (old, new) = ("[2,\n\n 1]", "[1,\n 2]");
-    assert!(rt; answers_in_turn(rt.alloc(), |heap| made(heap, sort(heap, false, false), old, new)));
+    assert!(rt;
+        answers_in_turn(
+            rt.alloc(),
+            |heap| made(heap, sort(heap, false, false), old, new)
+        )
+    );
     Ok(())
 }
 
@@ -127,7 +132,9 @@ fn sorts_are_refused_in_turn(rt: HostRuntime) -> Result<(), Fail> {
 fn sorts_keep_groups_and_headers_where_asked(rt: HostRuntime) -> Result<(), Fail> {
     let alloc = rt.alloc();
     let old = "[3, 1,\n\n 2, 0]";
-    assert!(rt; made(alloc, sort(alloc, false, true), old, "[1, 3,\n\n 0, 2]") == Outcome::Answered);
+    assert!(rt;
+        made(alloc, sort(alloc, false, true), old, "[1, 3,\n\n 0, 2]") == Outcome::Answered
+    );
     let old = "{\n  // h\n\n  \"b\": 1,\n  // x\n  \"a\": 2\n}";
     let new = "{\n  // x\n  \"a\": 2,\n  // h\n\n  \"b\": 1\n}";
     assert!(rt; made(alloc, sort(alloc, false, false), old, new) == Outcome::Answered);

@@ -24,8 +24,9 @@ fn make_listed(
 ) -> Result<(), Refusal> {
     let mut edits = Vec::new(alloc);
     edits.push(edit)?;
-    let compare =
-        |doc: &CstRootNode<Global>, one: CstNode, other: CstNode| compare_nodes(alloc, doc, one, other);
+    let compare = |doc: &CstRootNode<Global>, one: CstNode, other: CstNode| compare_nodes(
+        alloc, doc, one, other,
+    );
     match run(doc, edits, &compare) {
         Ok(()) => Ok(()),
         Err((_, error)) => Err(error.into()),
