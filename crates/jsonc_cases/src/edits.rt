@@ -12,10 +12,8 @@ pub enum Step {
     Listed(Edit<Global>),
     /// One that is made on a node.
     Raw(RawEdit),
-    /// A sort of an array or object.
+    /// A sort of an array or object, by keys.
     Sort(SortEdit),
-    /// The trailing commas of the array or object at a path, and of all below it.
-    Commas(Vec<usize>, TrailingCommaMode),
 }
 
 /// What the texts of elements or properties are sorted by.
@@ -100,10 +98,6 @@ fn read_step(alloc: Global, edit: &str) -> Result<Option<Step>, CaseError> {
     if let Some(sort) = read_sort(alloc, words.as_slice())? {
         return Ok(Some(Step::Sort(sort)));
     }
-    if let ["SetTrailingCommas", path, mode] = words.as_slice() {
-        let path = read_path(alloc, path)?;
-        return Ok(Some(Step::Commas(path, read_mode(mode)?)));
-    }
     let listed = match read_edit(alloc, words.as_slice())? {
         Some(edit) => Some(edit),
         None => read_insertion(alloc, words.as_slice())?,
@@ -130,17 +124,6 @@ fn read_raw(alloc: Global, words: &[&str]) -> Result<Option<RawEdit>, CaseError>
 
 fn read_sort(alloc: Global, words: &[&str]) -> Result<Option<SortEdit>, CaseError> {
     match words {
-        ["Sort", path, pin, groups] => Ok(Some(SortEdit {
-            path: read_path(alloc, path)?,
-            by_name: true,
-            key: SortKey::Text,
-            rule: if read_flag(pin)? {
-                SortRule::BlankLines
-            } else {
-                SortRule::NoRule
-            },
-            groups: read_flag(groups)?,
-        })),
         ["SortX", path, key, rule, groups] => Ok(Some(SortEdit {
             path: read_path(alloc, path)?,
             by_name: *key == "text" || *key == "rev",
@@ -233,6 +216,15 @@ fn read_insertion(alloc: Global, words: &[&str]) -> Result<Option<Edit<Global>>,
             let path = read_path(alloc, path)?;
             let index = read_number(index)?;
             Ok(Some(Edit::InsertElement(path, index, read_value(alloc, value)?)))
+        }
+        ["SetTrailingCommas", path, mode] => {
+            let path = read_path(alloc, path)?;
+            Ok(Some(Edit::SetTrailingCommas(path, read_mode(mode)?)))
+        }
+        ["Sort", path, pin, groups] => {
+            let path = read_path(alloc, path)?;
+            let (pin, groups) = (read_flag(pin)?, read_flag(groups)?);
+            Ok(Some(Edit::Sort(path, pin, groups)))
         }
         _ => read_new_member(alloc, words),
     }

@@ -9,6 +9,8 @@ mod appends;
 #[cfg(test)]
 mod commas;
 #[cfg(test)]
+mod listed;
+#[cfg(test)]
 mod members;
 #[cfg(test)]
 mod pieces;

@@ -1,2 +1,3 @@
-pub mod Marked
+pub mod Lists
+pub mod Sorts
 pub mod Promise

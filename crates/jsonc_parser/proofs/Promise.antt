@@ -1,6 +1,8 @@
 -- From a parsed text to the text after edits.
-use Rattle.std.proofs.Common.{ℕ, ◌≡◌, List, [], ◌∷◌, ◌++◌, sym, refl, ap, subst, chars}
+use Rattle.std.proofs.Common.{arith, ℕ, ◌≡◌, ◌+◌, ◌∙◌, ◌&&◌, Bool, true, false, cond, List, [], ◌∷◌, ◌++◌, count_by, sym, refl, ap, subst, chars}
 use Rattle.std.proofs.lemmas.List.{append-nil}
+use Rattle.std.proofs.lemmas.List.Recursion.{is_count_by}
+use Rattle.std.proofs.lemmas.List.Sums.{sum_by-cons}
 use Rattle.std.specs.List.{All}
 use Rattle.jsonc_text.specs.Options.{Options}
 use Rattle.jsonc_text.specs.Plain.{boolean}
@@ -10,7 +12,7 @@ use Rattle.jsonc_build.specs.Lines.{DocumentLinesEnd}
 use Rattle.jsonc_build.specs.Shape.{DocumentShaped}
 use Rattle.jsonc_build.proofs.LooseLines.{document_loosens}
 use Rattle.jsonc_laws.specs.MarkChanges.{MarksDifferIn, marks_under}
-use Rattle.jsonc_laws.specs.Marks.{Mark, AreMarks, comments_of, marks}
+use Rattle.jsonc_laws.specs.Marks.{Mark, AreMarks, comments_of, is_comment, marks}
 use Rattle.jsonc_laws.specs.Marks as mark
 use Rattle.jsonc_laws.specs.SoundTrees.{SoundTree}
 use Rattle.jsonc_laws.specs.Written.{property_written, written}
@@ -19,10 +21,10 @@ use Rattle.jsonc_laws.proofs.Laid.{writes_no_comments}
 use Rattle.jsonc_laws.proofs.Printed.{prints_its_marks}
 use Rattle.jsonc_named.specs.Laws.{name_comes, some_leave}
 use Rattle.jsonc_named.specs.Shapes.{empty_of}
-use Rattle.jsonc_run.specs.Edits.{Operation, replace, remove, remove_comment, set_root, clear_root, replace_property, ensure_root, set_value, ensure_value, set_boolean, ensure_multiline, insert_element, append_element, insert_property, append_property, ensure_property}
+use Rattle.jsonc_run.specs.Edits.{Operation, replace, remove, remove_comment, set_root, clear_root, replace_property, ensure_root, set_value, ensure_value, set_boolean, ensure_multiline, insert_element, append_element, insert_property, append_property, ensure_property, set_commas, set_some_commas, rearrange}
 use Rattle.jsonc_run.specs.Marked.{IsMarked, AreMarked, none_marked, first_marked, MarkAll}
-use Rattle.jsonc_run.specs.Written.{MayBeMade, WriteAll}
-use Rattle.jsonc_parser.specs.Promise.{CommentsStay, all_stay, others_stay, IsEditedText}
+use Rattle.jsonc_run.specs.Written.{options_after, MayBeMade, WriteAll}
+use Rattle.jsonc_parser.specs.Promise.{CommentsStay, all_rearranged, all_stay, others_stay, IsEditedText}
 
 -- of the comments x one stretch has left, and none has come
 record LosesStretch (x y : List Mark) : Type 0 where
@@ -39,30 +41,55 @@ one_stretch was now x y d none =
 all_leave : (x : List Mark) → LosesStretch (comments_of x) []
 all_leave x = record { front = []; gone = comments_of x; back = []; before = sym (append-nil (comments_of x)); after = refl }
 
-edit_takes : (x y : List Mark) (e : Operation) → IsMarked x e y → LosesStretch (comments_of x) (comments_of y)
-edit_takes x y (replace path v) (was, d) = one_stretch was (written v) x y d (writes_no_comments v)
-edit_takes x y (remove path) (top, l) = one_stretch (l.leading ++ (marks_under top ++ l.trailing)) [] x y l.gone refl
-edit_takes x y (remove_comment number) (s, d) = one_stretch (mark.Mark.comment s ∷ []) [] x y d refl
-edit_takes x y (set_root v) (was, d) = one_stretch was (written v) x y d (writes_no_comments v)
-edit_takes x y clear_root none = subst (λ z. LosesStretch (comments_of x) (comments_of z)) (sym none) (all_leave x)
-edit_takes x y (replace_property path name v) (was, d) = one_stretch was (property_written name v) x y d (writes_no_comments v)
-edit_takes x y (ensure_root shape how) (was, d) = one_stretch was [] x y d refl
-edit_takes x y (set_value path v) (was, d) = one_stretch was (written v) x y d (writes_no_comments v)
-edit_takes x y (ensure_value path shape) (was, d) = one_stretch was [] x y d refl
-edit_takes x y (set_boolean path b) (was, d) = one_stretch (written (boolean was)) (written (boolean b)) x y d refl
-edit_takes x y (insert_element path i v) d = one_stretch [] (written v) x y d (writes_no_comments v)
-edit_takes x y (append_element path v) d = one_stretch [] (written v) x y d (writes_no_comments v)
-edit_takes x y (insert_property path i name v) d = one_stretch [] (property_written name v) x y d (writes_no_comments v)
-edit_takes x y (append_property path name v) d = one_stretch [] (property_written name v) x y d (writes_no_comments v)
-edit_takes x y (ensure_property path name shape how) (some_leave was d) = one_stretch was [] x y d refl
-edit_takes x y (ensure_property path name shape how) (name_comes d) = one_stretch [] (property_written name (empty_of shape)) x y d (writes_no_comments (empty_of shape))
-edit_takes x y (ensure_multiline path) same = record { front = []; gone = []; back = comments_of x; before = refl; after = ap comments_of same }
+-- nothing leaves
+nothing_leaves : (x y : List Mark) → y ≡ x → LosesStretch (comments_of x) (comments_of y)
+nothing_leaves x y same = record { front = []; gone = []; back = comments_of x; before = refl; after = ap comments_of same }
+
+-- a test is passed by as many comments as there are marks that are comments and pass it
+either : (b : Bool) (n : ℕ) → cond b 1 0 + n ≡ cond b (1 + n) n
+either true n = refl
+either false n = let same : 0 + n ≡ n = omega arith in same
+
+comments_counted : (test : Mark → Bool) (x : List Mark) → count_by test (comments_of x) ≡ count_by (λ m. is_comment m && test m) x
+comments_counted test x = is_count_by (λ (xs : List Mark). count_by test (comments_of xs)) (λ m. is_comment m && test m) refl step x
+  where
+    step : (m : Mark) (xs : List Mark) → count_by test (comments_of (m ∷ xs)) ≡ cond (is_comment m && test m) (1 + count_by test (comments_of xs)) (count_by test (comments_of xs))
+    step (Mark.literal s) xs = refl
+    step (Mark.comment s) xs = sum_by-cons {X = Mark} (λ m. cond (test m) 1 0) (Mark.comment s) (comments_of xs) ∙ either (test (Mark.comment s)) (count_by test (comments_of xs))
+
+comments_as_often : (test : Mark → Bool) (x y : List Mark) → ((test : Mark → Bool) → count_by test y ≡ count_by test x) → count_by test (comments_of y) ≡ count_by test (comments_of x)
+comments_as_often test x y same = comments_counted test y ∙ same (λ m. is_comment m && test m) ∙ sym (comments_counted test x)
+
+module _ (x y z : List Mark) (es : List Operation) (rest : CommentsStay (comments_of y) es (comments_of z)) where
+  -- what an edit does to comments, before what the others do
+  losing : {e : Operation} → LosesStretch (comments_of x) (comments_of y) → CommentsStay (comments_of x) (e ∷ es) (comments_of z)
+  losing l = others_stay l.front l.gone l.back l.before (subst (λ c. CommentsStay c es (comments_of z)) l.after rest)
+
+  one_edit : (e : Operation) → IsMarked x e y → CommentsStay (comments_of x) (e ∷ es) (comments_of z)
+  one_edit (replace path v) (was, d) = losing (one_stretch was (written v) x y d (writes_no_comments v))
+  one_edit (remove path) (top, l) = losing (one_stretch (l.leading ++ (marks_under top ++ l.trailing)) [] x y l.gone refl)
+  one_edit (remove_comment number) (s, d) = losing (one_stretch (mark.Mark.comment s ∷ []) [] x y d refl)
+  one_edit (set_root v) (was, d) = losing (one_stretch was (written v) x y d (writes_no_comments v))
+  one_edit clear_root none = losing (subst (λ z. LosesStretch (comments_of x) (comments_of z)) (sym none) (all_leave x))
+  one_edit (replace_property path name v) (was, d) = losing (one_stretch was (property_written name v) x y d (writes_no_comments v))
+  one_edit (ensure_root shape how) (was, d) = losing (one_stretch was [] x y d refl)
+  one_edit (set_value path v) (was, d) = losing (one_stretch was (written v) x y d (writes_no_comments v))
+  one_edit (ensure_value path shape) (was, d) = losing (one_stretch was [] x y d refl)
+  one_edit (set_boolean path b) (was, d) = losing (one_stretch (written (boolean was)) (written (boolean b)) x y d refl)
+  one_edit (insert_element path i v) d = losing (one_stretch [] (written v) x y d (writes_no_comments v))
+  one_edit (append_element path v) d = losing (one_stretch [] (written v) x y d (writes_no_comments v))
+  one_edit (insert_property path i name v) d = losing (one_stretch [] (property_written name v) x y d (writes_no_comments v))
+  one_edit (append_property path name v) d = losing (one_stretch [] (property_written name v) x y d (writes_no_comments v))
+  one_edit (ensure_property path name shape how) (some_leave was d) = losing (one_stretch was [] x y d refl)
+  one_edit (ensure_property path name shape how) (name_comes d) = losing (one_stretch [] (property_written name (empty_of shape)) x y d (writes_no_comments (empty_of shape)))
+  one_edit (ensure_multiline path) same = losing (nothing_leaves x y same)
+  one_edit (set_commas path mode) same = losing (nothing_leaves x y same)
+  one_edit (set_some_commas path mode) same = losing (nothing_leaves x y same)
+  one_edit (rearrange path headers order) same = all_rearranged (λ test. comments_as_often test x y same) rest
 
 comments_stay : {x y : List Mark} {es : List Operation} → AreMarked x es y → CommentsStay (comments_of x) es (comments_of y)
 comments_stay none_marked = all_stay
-comments_stay (first_marked {x = x} {y = y} {z = z} {e = e} {es = es} m ms) =
-    let l = edit_takes x y e m in
-    others_stay l.front l.gone l.back l.before (subst (λ c. CommentsStay c es (comments_of z)) l.after (comments_stay ms))
+comments_stay (first_marked {x = x} {y = y} {z = z} {e = e} {es = es} m ms) = one_edit x y z es (comments_stay ms) e m
 
 module _ (o : Options) (text : List ℕ) (old : List Node) (es : List Operation) (new : List Node) where
   abbrev was : OrderedTree
@@ -75,7 +102,7 @@ module _ (o : Options) (text : List ℕ) (old : List Node) (es : List Operation)
   of_sound sound writes marks_all may =
       let w = writes sound may in
       let had = prints_its_marks o was sound in
-      let has = prints_its_marks o now w.sound in
+      let has = prints_its_marks (options_after o es) now w.sound in
       let m = marks_all sound may (marks was) (marks now) had has in record {
         before = w.before;
         after = w.after;

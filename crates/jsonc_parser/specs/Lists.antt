@@ -1,41 +1,92 @@
 -- What a list of edits makes of a document.
-use Rattle.std.specs.Prelude.{◌≡◌, ℕ, List}
+use Rattle.std.specs.Prelude.{◌≡◌, ℕ, Bool, List, [], ◌∷◌, ◌++◌, Some, take}
+use Rattle.std.specs.List.{slice_get}
 use Rattle.std.specs.declared.cmp.Ordering.{Ordering}
 use denote.Ref.{Bor}
 use denote.Param.Members.{Shared}
 use Rattle.jsonc_text.specs.Options.{Options}
+use Rattle.jsonc_tree.specs.Tree.{IsTree}
 use Rattle.jsonc_edit.specs.declared.error.EditError.{EditError}
-use Rattle.jsonc_run.specs.Edits.{AreMade, Operation}
-use Rattle.jsonc_run.specs.Refusals.{StopsAt}
+use Rattle.jsonc_edit.specs.declared.modes.TrailingCommaMode.{TrailingCommaMode}
+use Rattle.jsonc_sort.specs.Rearranged.{headers_of}
+use Rattle.jsonc_run.specs.declared.edit.Edit.{Edit}
+use Rattle.jsonc_run.specs.declared.edit.Edit.TheVariants.{Sort}
+use Rattle.jsonc_run.specs.Edits.{Operation, Sorting, operation_of, set_commas, set_some_commas, unsorted, IsMade}
 use Rattle.jsonc_run.specs.Marked.{MarkAll}
+use Rattle.jsonc_run.specs.Places.{IsContainerAt}
+use Rattle.jsonc_run.specs.Refusals.{IsLeft, IsToldBy}
 use Rattle.jsonc_run.specs.Written.{IsRefusedAfter, WriteAll}
 use Rattle.jsonc_cst.specs.declared.cst.CstRootNode.{CstRootNode}
 use Rattle.jsonc_cst.specs.declared.cst.node.CstNode.{CstNode}
 use Rattle.jsonc_cst.specs.Document.{nodes_of, Holds}
+use Rattle.jsonc_cst.specs.Nodes.{typed_at}
+use Rattle.jsonc_sorting.specs.Asking.{IsInItsOrder}
+use Rattle.jsonc_sorting.specs.Pins.{pins_where}
+use Rattle.jsonc_sorting.specs.Rows.{elements_asked, starts_of}
 
--- a comparison may be asked with any document and two nodes of it
-abbrev pub MayBeAsked : {C D A : Type 0} → Shared C (Bor D × (CstNode × (CstNode × Unit {0}))) Ordering → C → (CstRootNode A → D) → Type 0
-MayBeAsked {C} {D} {A} call compare same =
-    (doc : CstRootNode A) (d : Bor D) (x y : CstNode) → d.now ≡ same doc → Holds doc x → Holds doc y → call.pre compare (d, (x, (y, tt)))
+-- a comparison of two nodes of a document
+module _ {C D A : Type 0} (call : Shared C (Bor D × (CstNode × (CstNode × Unit {0}))) Ordering) (compare : C) (same : CstRootNode A → D) where
+  -- it may be asked with any document and two nodes of it
+  abbrev pub MayBeAsked : Type 0
+  MayBeAsked = (doc : CstRootNode A) (d : Bor D) (x y : CstNode) → d.now ≡ same doc → Holds doc x → Holds doc y → call.pre compare (d, (x, (y, tt)))
 
--- if the document is sound, and what these edits write may be written, then the edit after them was refused for memory or its place alone
-abbrev pub HasStoppedFor : {A : Type 0} → CstRootNode A → Options → List Operation → EditError → Type 0
-HasStoppedFor d o es why = IsRefusedAfter o (nodes_of d) es why
+  -- What a sort asks for: an array or object stands at the path; where comments are to be pinned, those that blank lines pin are; and its elements or properties
+  -- come in the order of the comparison, within groups that blank lines part, or all as one.
+  pub record IsSorting (d : CstRootNode A) (path : List ℕ) (pin groups : Bool) (s : Sorting) : Type 0 where
+    pub n : ℕ
+    pub at : IsContainerAt (nodes_of d) path n
+    pub headers : s.headers ≡ headers_of (pins_where d (typed_at (nodes_of d) n) pin) groups
+    pub order : IsInItsOrder call compare (same d) (Holds d) (elements_asked d (typed_at (nodes_of d) n)) (starts_of d (typed_at (nodes_of d) n) groups) s.order
 
-module _ {A : Type 0} (old new : CstRootNode A) where
-  -- the edits have been made in order, each in the document that the one before it made
-  abbrev pub HaveBeenMade : List Operation → Type 0
-  HaveBeenMade es = AreMade (nodes_of old) es (nodes_of new)
+  -- a sort is done as it is asked for
+  abbrev pub IsAsked : CstRootNode A → Edit A → Sorting → Type 0
+  IsAsked d (Sort path pin groups) s = IsSorting d path.items pin groups s
+  IsAsked d e s = Unit {0}
 
-  -- the first k edits have been made, the next was refused for this reason, and the document is as those k left it
-  abbrev pub HasStopped : List Operation → ℕ → EditError → Type 0
-  HasStopped es k why = StopsAt (nodes_of old) es k why (nodes_of new)
+  -- the edit was made: the operation that it asks for in the old document
+  pub record IsMadeAs (old : CstRootNode A) (e : Edit A) (operation : Operation) (new : CstRootNode A) : Type 0 where
+    pub sorting : Sorting
+    pub asked : IsAsked old e sorting
+    pub is : operation ≡ operation_of sorting e
+    pub made : IsMade (nodes_of old) operation (nodes_of new)
 
-  -- if the old document is sound, and what the edits write may be written, then the new text is a document of these options,
-  -- its value is what the edits make of the old one's, all leaves around them stay, and it is sound
-  abbrev pub HaveWritten : Options → List Operation → Type 0
-  HaveWritten o es = WriteAll o (nodes_of old) es (nodes_of new)
+  abbrev pub IsMadeSo : CstRootNode A → Edit A → CstRootNode A → Type 0
+  IsMadeSo old e new = (operation : Operation) × IsMadeAs old e operation new
 
-  -- and of the literals and comments of the text, as they are written, each edit changes what it names alone
-  abbrev pub HaveMarked : Options → List Operation → Type 0
-  HaveMarked o es = MarkAll o (nodes_of old) es (nodes_of new)
+  -- the edits were made in order, each in the document that the one before it made
+  pub data AreMadeAs : CstRootNode A → List (Edit A) → List Operation → CstRootNode A → Type 0 where
+    none_made : {d : CstRootNode A} → AreMadeAs d [] [] d
+    first_made : {old now new : CstRootNode A} {e : Edit A} {operation : Operation} {es : List (Edit A)} {operations : List Operation}
+        → IsMadeAs old e operation now → IsTree (nodes_of now) → AreMadeAs now es operations new → AreMadeAs old (e ∷ es) (operation ∷ operations) new
+
+  -- They were all made. If the old document is sound, and what the edits write may be written, then the new text is a document, its value is what the operations
+  -- make of the old one's, all leaves around them stay, and it is sound; and of the literals and comments of the text each changes what it names alone.
+  pub record HaveBeenMade (old : CstRootNode A) (edits : List (Edit A)) (new : CstRootNode A) : Type 0 where
+    pub operations : List Operation
+    pub made : AreMadeAs old edits operations new
+    pub written : (o : Options) → WriteAll o (nodes_of old) operations (nodes_of new)
+    pub marked : (o : Options) → MarkAll o (nodes_of old) operations (nodes_of new)
+
+-- of a document in which these operations were made and the next edit was refused this has been made: these; and where it was to set trailing commas perhaps
+-- those of some arrays and objects have been set
+pub data IsDone {A : Type 0} (next : Edit A) (operations : List Operation) : List Operation → Type 0 where
+  no_more : IsDone next operations operations
+  and_commas : {path : List ℕ} {mode : TrailingCommaMode} → operation_of unsorted next ≡ set_commas path mode
+      → IsDone next operations (operations ++ set_some_commas path mode ∷ [])
+
+module _ {C D A : Type 0} (call : Shared C (Bor D × (CstNode × (CstNode × Unit {0}))) Ordering) (compare : C) (same : CstRootNode A → D) where
+  -- The first k edits were made, each whole; there is one more, which was not made for this reason, and has left the document so. If the old document is sound,
+  -- then memory or its place was wanted alone; and what was done of it all is written, and changes the marks, as it is where all edits are made.
+  pub record HaveStopped (old : CstRootNode A) (edits : List (Edit A)) (k : ℕ) (why : EditError) (new : CstRootNode A) : Type 0 where
+    pub operations : List Operation
+    pub now : CstRootNode A
+    pub made : AreMadeAs call compare same old (take k edits) operations now
+    pub next : Edit A
+    pub is_next : slice_get edits k ≡ Some next
+    pub told : (s : Sorting) → IsToldBy (nodes_of now) (operation_of s next) why
+    pub left : (s : Sorting) → IsLeft (nodes_of now) (operation_of s next) (nodes_of new)
+    pub memory_or_place : (o : Options) → IsRefusedAfter o (nodes_of old) operations why
+    pub done : List Operation
+    pub are_done : IsDone next operations done
+    pub written : (o : Options) → WriteAll o (nodes_of old) done (nodes_of new)
+    pub marked : (o : Options) → MarkAll o (nodes_of old) done (nodes_of new)

@@ -8,6 +8,9 @@ pub mod OnLines
 pub mod Inserted
 pub mod Properties
 pub mod Ensured
+pub mod CommasSet
+pub mod Wider
+pub mod Sorts
 pub mod Written
 pub mod Refused
 pub mod Numbered

@@ -1,6 +1,5 @@
 -- Edits that were made: one more of them, and where none can be.
-use Rattle.std.proofs.Common.{◌≡◌, ◌<◌, ◌+◌, ℕ, zero, suc, List, Option, [], ◌∷◌, ◌++◌, Some, None, IfSome, IfNone, IfErr, OnOk, Result, Ok, Err, map, take, length, get_or, sym, ap, subst, ◌∙◌, arith}
-use Rattle.std.specs.List.{slice_get}
+use Rattle.std.proofs.Common.{◌≡◌, ℕ, List, Option, [], ◌∷◌, Some, None, IfSome, IfNone, IfErr, OnOk, Result, Ok, Err, sym, subst, ◌∙◌}
 use Rattle.jsonc_tree.specs.Tree.{Node, IsTree, parent_at}
 use Rattle.jsonc_edit.specs.Paths.{FindsExactly, IsAt, LeadsTo, StepsTo, itself, step}
 use Rattle.jsonc_edit.proofs.Uniqueness.{element_parent}
@@ -12,7 +11,7 @@ use Rattle.jsonc_set.specs.RootSet.{FirstValue}
 use Rattle.jsonc_text.specs.Plain.{Plain}
 use Rattle.jsonc_named.specs.Places.{IsPropertyAt, a_property}
 use Rattle.jsonc_run.specs.Places.{IsEntryAt}
-use Rattle.jsonc_run.specs.Edits.{Operation, remove, AreMade, none_made, first_made, IsMade, RootSet}
+use Rattle.jsonc_run.specs.Edits.{remove, IsMade, RootSet}
 use Rattle.jsonc_run.specs.Refusals.{IsToldBy}
 
 -- what a path leads to has a parent
@@ -40,27 +39,6 @@ module _ (ns : List Node) (tree : IsTree ns) where
 pub root_set : (old new : List Node) (v : Plain) (m : ℕ) (w : Option ℕ) → IfSome w (λ n. IsReplaced old new n v m) → IfNone w (FirstValue old new v m) → RootSet old new v w
 root_set old new v m None replaced first = (m, first)
 root_set old new v m (Some n) replaced first = (m, replaced)
-
--- one more edit
-pub made_more : {old now new : List Node} (es : List Operation) (e : Operation) → AreMade old es now → IsMade now e new → IsTree new → AreMade old (es ++ e ∷ []) new
-made_more [] e none_made made tree = first_made made tree none_made
-made_more (d ∷ ds) e (first_made first t rest) made tree = first_made first t (made_more ds e rest made tree)
-
--- the next of a list, as it is seen
-module _ {X Y : Type 0} (f : X → Y) where
-  pub next_seen : (xs : List X) (i : ℕ) (x : X) → i < length xs → x ≡ get_or xs i x → slice_get (map f xs) i ≡ Some (f x)
-  next_seen [] i x h e = absurd (omega (arith, h))
-  next_seen (y ∷ ys) zero x h e = ap (λ z. Some (f z)) (sym e)
-  next_seen (y ∷ ys) (suc i) x h e = next_seen ys i x (omega (arith, h)) e
-
-  taken_next : (xs : List X) (i : ℕ) (x : X) → i < length xs → x ≡ get_or xs i x → take (suc i) (map f xs) ≡ take i (map f xs) ++ f x ∷ []
-  taken_next [] i x h e = absurd (omega (arith, h))
-  taken_next (y ∷ ys) zero x h e = ap (λ z. f z ∷ []) (sym e)
-  taken_next (y ∷ ys) (suc i) x h e = ap (λ l. f y ∷ l) (taken_next ys i x (omega (arith, h)) e)
-
-  pub taken_seen : (xs : List X) (i : ℕ) (x : X) → i < length xs → x ≡ get_or xs i x → take i (map f xs) ++ f x ∷ [] ≡ take (i + 1) (map f xs)
-  taken_seen xs i x h e =
-      let next : suc i ≡ i + 1 = omega arith in subst (λ n. take i (map f xs) ++ f x ∷ [] ≡ take n (map f xs)) next (sym (taken_next xs i x h e))
 
 -- what is not found is nowhere
 pub no_place : (found : Option ℕ) (R : ℕ → Type 0) → FindsExactly found R → ((n : ℕ) → found ≡ Some n → ⊥) → (n : ℕ) × R n → ⊥

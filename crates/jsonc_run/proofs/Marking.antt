@@ -1,5 +1,5 @@
 -- What edits that were made in order make of the marks of a document.
-use Rattle.std.proofs.Common.{ℕ, ◌≡◌, suc, List, [], ◌∷◌, sym, refl, ap, subst, ◌∙◌, arith, chars}
+use Rattle.std.proofs.Common.{ℕ, ◌≡◌, suc, get_or, List, [], ◌∷◌, sym, refl, ap, subst, ◌∙◌, arith, chars}
 use Rattle.std.specs.List.{All}
 use Rattle.jsonc_text.specs.Options.{Options}
 use Rattle.jsonc_text.specs.Plain.{Plain}
@@ -28,14 +28,16 @@ use Rattle.jsonc_named.specs.declared.shape.Over.{Over}
 use Rattle.jsonc_named.specs.declared.shape.Shape.{Shape}
 use Rattle.jsonc_named.specs.declared.shape.Shape.TheVariants.{Object, Array}
 use Rattle.jsonc_named.specs.Shapes.{empty_of}
-use Rattle.jsonc_run.specs.Edits.{Operation, replace, remove, remove_comment, set_root, clear_root, replace_property, ensure_root, set_value, ensure_value, set_boolean, ensure_multiline, insert_element, append_element, insert_property, append_property, ensure_property, AreMade, none_made, first_made}
-use Rattle.jsonc_run.specs.Written.{MayBeMade, EntryLeft, entry_left, value_left, RootValueSet, given_way, has_come, RootValueEnsured, all_kept, empty_set, PropertyGivenWay, property_given, StayAround}
+use Rattle.jsonc_run.specs.Edits.{Operation, replace, remove, remove_comment, set_root, clear_root, replace_property, ensure_root, set_value, ensure_value, set_boolean, ensure_multiline, insert_element, append_element, insert_property, append_property, ensure_property, set_commas, set_some_commas, rearrange, AreMade, none_made, first_made, IsMade}
+use Rattle.jsonc_run.specs.Written.{MayBeMade, EntryLeft, entry_left, value_left, RootValueSet, given_way, has_come, RootValueEnsured, all_kept, empty_set, PropertyGivenWay, property_given, StayAround, options_after, options_behind}
 use Rattle.jsonc_run.specs.Marked.{IsMarked, AreMarked, none_marked, first_marked, MarkAll}
 use Rattle.jsonc_insertion_laws.proofs.Named.{inserts_member}
 use Rattle.jsonc_insertion_laws.proofs.Written.{inserts_element}
 use Rattle.jsonc_run.proofs.Inserted.{gained_marks}
 use Rattle.jsonc_named.proofs.Values.{empty_writable, ensured_marks, marks_given, value_marked}
 use Rattle.jsonc_named.proofs.Writing.{around_marks}
+use Rattle.jsonc_run.proofs.Wider.{may_behind}
+use Rattle.jsonc_run.proofs.Sorts.{commas_say, some_commas_say, sorted_says}
 use Rattle.jsonc_run.proofs.Written.{is_written, stays_around, write_all}
 
 -- a first value's marks come in
@@ -64,40 +66,85 @@ entry_marked : (o : Options) (t u : OrderedTree) (path : List ℕ) → SoundTree
 entry_marked o t u _ s (entry_left path i top taken) = (top, (removes_entry o t u path i top s taken).marks)
 entry_marked o t u _ s (value_left top taken) = (top, (removes_value o t u top s taken).marks)
 
-one_marked : (o : Options) (t u : OrderedTree) (e : Operation) → MayBeMade o e → SoundTree o t → StayAround t e u → IsMarked (marks t) e (marks u)
-one_marked o t u (replace path v) may s g = value_marked o t u path v may g
-one_marked o t u (remove path) may s left = entry_marked o t u path s (left o s)
-one_marked o t u (remove_comment number) may s r =
-    let m = (one_mark_leaves r.blanks r.text (leaves r.spaced) (leaves u) r.are_blanks r.around).0 in
-    (trimmed (chars r.text), subst (λ l. MarksDifferIn (Mark.comment (trimmed (chars r.text)) ∷ []) [] l (marks u)) (spaces_marks r.spaces) m)
-one_marked o t u (set_root v) may s set = root_marked o t u v may (set o s)
-one_marked o t u clear_root may s bare = ap marks bare ∙ root_marks none
-one_marked o t u (replace_property path name v) may s given = property_marked o t u path name v may.0 may.1 (given o s may.0 may.1)
-one_marked o t u (ensure_root shape how) may s set = ensured_marked o t u shape how (set o s)
-one_marked o t u (set_value path v) may s g = value_marked o t u path v may (g o s)
-one_marked o t u (ensure_value path shape) may s g = ensured_marks o t u path shape (g o s)
-one_marked o t u (set_boolean path b) may s (was, g, is) = (was, subst (λ (w : Top). MarksDifferIn (marks_under w) (written (Plain.boolean b)) (marks t) (marks u)) is (marks_given g.was (laid g.layout (Plain.boolean b)) t g.spaced u g.spaces g.around))
-one_marked o t u (ensure_multiline path) may s g = (keeps_document o t u path s (g o s)).marks
-one_marked o t u (insert_element path i v) may s g = gained_marks (written v) _ _ t u (inserts_element o path i v t u (g o s) s may).marks
-one_marked o t u (append_element path v) may s g =
-    let far = g o s in
-    gained_marks (written v) _ _ t u (inserts_element o path far.0 v t u (far.1 far.0 (omega arith)) s may).marks
-one_marked o t u (insert_property path i name v) may s g = gained_marks (property_written name v) _ _ t u (inserts_member o path i name v t u (g o s) s may.0 may.1).marks
-one_marked o t u (append_property path name v) may s g =
-    let far = g o s in
-    gained_marks (property_written name v) _ _ t u (inserts_member o path far.0 name v t u (far.1 far.0 (omega arith)) s may.0 may.1).marks
-one_marked o t u (ensure_property path name shape how) may s g = around_marks o t u path name shape s may (g o s may)
+module _ (o : Options) (old new : List Node) (tree : IsTree old) (after : IsTree new) where
+  abbrev t : OrderedTree
+  t = ordered_tree old 0
+
+  abbrev u : OrderedTree
+  u = ordered_tree new 0
+
+  around : (e : Operation) → IsMade old e new → StayAround t e u
+  around e made = stays_around old new e tree after made
+
+  one_marked : (e : Operation) → MayBeMade o e → SoundTree o t → IsMade old e new → IsMarked (marks t) e (marks u)
+  one_marked (replace path v) may s made =
+      let g = around (replace path v) made in
+      value_marked o t u path v may g
+  one_marked (remove path) may s made =
+      let left = around (remove path) made in
+      entry_marked o t u path s (left o s)
+  one_marked (remove_comment number) may s made =
+      let r = around (remove_comment number) made in
+      let m = (one_mark_leaves r.blanks r.text (leaves r.spaced) (leaves u) r.are_blanks r.around).0 in
+      (trimmed (chars r.text), subst (λ l. MarksDifferIn (Mark.comment (trimmed (chars r.text)) ∷ []) [] l (marks u)) (spaces_marks r.spaces) m)
+  one_marked (set_root v) may s made =
+      let set = around (set_root v) made in
+      root_marked o t u v may (set o s)
+  one_marked clear_root may s made =
+      let bare = around clear_root made in
+      ap marks bare ∙ root_marks none
+  one_marked (replace_property path name v) may s made =
+      let given = around (replace_property path name v) made in
+      property_marked o t u path name v may.0 may.1 (given o s may.0 may.1)
+  one_marked (ensure_root shape how) may s made =
+      let set = around (ensure_root shape how) made in
+      ensured_marked o t u shape how (set o s)
+  one_marked (set_value path v) may s made =
+      let g = around (set_value path v) made in
+      value_marked o t u path v may (g o s)
+  one_marked (ensure_value path shape) may s made =
+      let g = around (ensure_value path shape) made in
+      ensured_marks o t u path shape (g o s)
+  one_marked (set_boolean path b) may s made =
+      let given = around (set_boolean path b) made in
+      let g = given.1 in
+      (given.0, subst (λ (w : Top). MarksDifferIn (marks_under w) (written (Plain.boolean b)) (marks t) (marks u)) given.2 (marks_given g.was (laid g.layout (Plain.boolean b)) t g.spaced u g.spaces g.around))
+  one_marked (ensure_multiline path) may s made =
+      let g = around (ensure_multiline path) made in
+      (keeps_document o t u path s (g o s)).marks
+  one_marked (insert_element path i v) may s made =
+      let g = around (insert_element path i v) made in
+      gained_marks (written v) _ _ t u (inserts_element o path i v t u (g o s) s may).marks
+  one_marked (append_element path v) may s made =
+      let g = around (append_element path v) made in
+      let far = g o s in
+      gained_marks (written v) _ _ t u (inserts_element o path far.0 v t u (far.1 far.0 (omega arith)) s may).marks
+  one_marked (insert_property path i name v) may s made =
+      let g = around (insert_property path i name v) made in
+      gained_marks (property_written name v) _ _ t u (inserts_member o path i name v t u (g o s) s may.0 may.1).marks
+  one_marked (append_property path name v) may s made =
+      let g = around (append_property path name v) made in
+      let far = g o s in
+      gained_marks (property_written name v) _ _ t u (inserts_member o path far.0 name v t u (far.1 far.0 (omega arith)) s may.0 may.1).marks
+  one_marked (ensure_property path name shape how) may s made =
+      let g = around (ensure_property path name shape how) made in
+      around_marks o t u path name shape s may (g o s may)
+  one_marked (set_commas path mode) may s (n, at, set) = (commas_say o old new path n tree s at mode set).marks
+  one_marked (set_some_commas path mode) may s (n, at, part) = (some_commas_say o old new path n tree s at mode part).marks
+  one_marked (rearrange path headers order) may s made =
+      let g = around (rearrange path headers order) made in
+      (sorted_says o path order old new s (g o s).0).marks
 
 all_marked : (o : Options) (old new : List Node) (es : List Operation) → IsTree old → AreMade old es new → SoundTree o (ordered_tree old 0) → All (MayBeMade o) es → AreMarked (marks (ordered_tree old 0)) es (marks (ordered_tree new 0))
 all_marked o old _ [] tree none_made s may = none_marked
 all_marked o old new (e ∷ es) tree (first_made {now = now} made after rest) s may =
     let can : MayBeMade o e = may 0 e (omega arith) in
-    let sound : SoundTree o (ordered_tree now 0) = (is_written o old now e tree after made s can).sound in
-    first_marked (one_marked o (ordered_tree old 0) (ordered_tree now 0) e can s (stays_around old now e tree after made)) (all_marked o now new es after rest sound (λ k d h. may (suc k) d (omega (arith, h))))
+    let sound : SoundTree (options_behind o e) (ordered_tree now 0) = (is_written o old now e tree after made s can).sound in
+    first_marked (one_marked o old now tree after e can s made) (all_marked (options_behind o e) now new es after rest sound (λ k d h. may_behind o e (get_or es k d) (may (suc k) d (omega (arith, h)))))
 
 pub mark_all : (o : Options) (old new : List Node) (es : List Operation) → IsTree old → AreMade old es new → MarkAll o old es new
 mark_all o old new es tree made s may x y p q =
     let written = write_all o old new es tree made s may in
     let first : x ≡ marks (ordered_tree old 0) = marks_unique p (prints_its_marks o (ordered_tree old 0) s) in
-    let last : y ≡ marks (ordered_tree new 0) = marks_unique q (prints_its_marks o (ordered_tree new 0) written.sound) in
+    let last : y ≡ marks (ordered_tree new 0) = marks_unique q (prints_its_marks (options_after o es) (ordered_tree new 0) written.sound) in
     subst (λ l. AreMarked l es y) (sym first) (subst (λ l. AreMarked (marks (ordered_tree old 0)) es l) (sym last) (all_marked o old new es tree made s may))

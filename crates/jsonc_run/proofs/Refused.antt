@@ -23,7 +23,7 @@ use Rattle.jsonc_members.proofs.Spreading as objects
 use Rattle.jsonc_named.specs.Places.{IsPropertyAt, a_property}
 use Rattle.jsonc_run.specs.Places.{IsArrayAt, IsContainerAt, IsEntryAt, IsObjectAt, an_entry, in_array, in_object, the_value}
 use Rattle.jsonc_run.specs.Refusals.{IsToldBy, LacksBrackets, LacksName, WantsMemoryOrPlace}
-use Rattle.jsonc_run.specs.Written.{IsRefusedAfter}
+use Rattle.jsonc_run.specs.Written.{IsRefusedAfter, options_after}
 use Rattle.jsonc_named.proofs.PropertyValues.{held_by_name, value_held}
 use Rattle.jsonc_run.proofs.Written.{write_all}
 
@@ -100,4 +100,4 @@ made_tree tree (first_made is after rest) = made_tree after rest
 -- and so it is after edits that were made
 pub refused_after : (o : Options) (old now : List Node) (es : List Operation) (e : Operation) (stop : EditError) → IsTree old → AreMade old es now → IsToldBy now e stop → IsRefusedAfter o old es stop
 refused_after o old now es e stop tree made told = λ sound may.
-    refused_so o now (made_tree tree made) (write_all o old now es tree made sound may).sound e stop told
+    refused_so (options_after o es) now (made_tree tree made) (write_all o old now es tree made sound may).sound e stop told

@@ -1,5 +1,5 @@
 -- What edits that were made in order make of a document.
-use Rattle.std.proofs.Common.{Result, Ok, Err, OnOk, ◌≡◌, ℕ, length, Bool, suc, List, [], ◌∷◌, ◌++◌, Option, Some, None, IsTrue, sym, refl, ap, subst, ◌∙◌, arith}
+use Rattle.std.proofs.Common.{Result, Ok, Err, OnOk, get_or, ◌≡◌, ℕ, length, Bool, suc, List, [], ◌∷◌, ◌++◌, Option, Some, None, IsTrue, sym, refl, ap, subst, ◌∙◌, arith}
 use Rattle.std.specs.List.{All}
 use Rattle.jsonc_text.specs.Options.{Options}
 use Rattle.jsonc_text.specs.Plain.{Plain}
@@ -34,14 +34,14 @@ use Rattle.jsonc_set.proofs.WrittenBoolean.{writes_boolean}
 use Rattle.jsonc_set.proofs.WrittenProperty.{writes_property}
 use Rattle.jsonc_named.specs.Places.{IsPropertyAt, a_property}
 use Rattle.jsonc_run.specs.Places.{IsEntryAt, the_value, an_entry, IsEntryOf, in_array, in_object, IsBooleanAt}
-use Rattle.jsonc_run.specs.Edits.{Operation, replace, remove, remove_comment, set_root, clear_root, replace_property, ensure_root, set_value, ensure_value, set_boolean, ensure_multiline, insert_element, append_element, insert_property, append_property, ensure_property, AreMade, none_made, first_made, RootSet, IsMade}
-use Rattle.jsonc_run.specs.Written.{MayBeMade, IsChanged, by_value, by_entry, by_all, by_comment, by_root, by_clearing, by_property, by_ensuring, by_setting, by_ensuring_held, by_boolean, by_lines, by_inserting, by_appending, by_inserting_member, by_appending_member, by_ensuring_named, AreChanged, unchanged, first_changed}
+use Rattle.jsonc_run.specs.Edits.{Operation, replace, remove, remove_comment, set_root, clear_root, replace_property, ensure_root, set_value, ensure_value, set_boolean, ensure_multiline, insert_element, append_element, insert_property, append_property, ensure_property, set_commas, set_some_commas, rearrange, AreMade, none_made, first_made, RootSet, IsMade}
+use Rattle.jsonc_run.specs.Written.{MayBeMade, IsChanged, by_value, by_entry, by_all, by_comment, by_root, by_clearing, by_property, by_ensuring, by_setting, by_ensuring_held, by_boolean, by_lines, by_inserting, by_appending, by_inserting_member, by_appending_member, by_ensuring_named, by_commas, by_some_commas, by_sorting, AreChanged, unchanged, first_changed}
 use Rattle.jsonc_named.specs.declared.shape.Over.{Over}
 use Rattle.jsonc_named.specs.declared.shape.Over.TheVariants as over
 use Rattle.jsonc_named.specs.declared.shape.Shape.{Shape}
 use Rattle.jsonc_named.specs.Shapes.{empty_of}
 use Rattle.jsonc_named.specs.Shapes.{comes_first, has_it, may_stay, must_give_way}
-use Rattle.jsonc_run.specs.Written.{EntryLeft, entry_left, value_left, StayAround, AllStayAround, all_stay, first_stay, AreWritten, WriteAll}
+use Rattle.jsonc_run.specs.Written.{EntryLeft, entry_left, value_left, StayAround, AllStayAround, all_stay, first_stay, options_after, options_behind, AreWritten, WriteAll}
 use Rattle.jsonc_named.proofs.Values.{empty_writable, same_shape}
 use Rattle.jsonc_run.proofs.Ensured.{held, Ensured, created, stayed, other_stayed, replaced, ensured, value_ensured}
 use Rattle.jsonc_insert.proofs.Past.{past_the_end}
@@ -59,6 +59,8 @@ use Rattle.jsonc_named.proofs.Values.{shape_written}
 use Rattle.jsonc_named.proofs.Writing.{writes_named}
 use Rattle.jsonc_named.proofs.Values.{replaces_held, stays_ensured}
 use Rattle.jsonc_run.proofs.ValueMade.{set_replaced}
+use Rattle.jsonc_run.proofs.Sorts.{commas_say, some_commas_say, sorted_at, sorted_outside, sorted_says}
+use Rattle.jsonc_run.proofs.Wider.{may_behind}
 use Rattle.jsonc_named.proofs.Values.{value_gives_way}
 use Rattle.jsonc_run.proofs.Roots.{value_stands, root_value_set, whole_changed, emptied, no_leaves}
 
@@ -101,6 +103,11 @@ stays_around old new (insert_property path i name v) tree after (n, m, at, put) 
 stays_around old new (append_property path name v) tree after (n, m, at, put) = λ o sound.
     (length (elements_at old n), λ i far. properties_come_at o old new path n i name v m tree sound at.0 at.1 (properties.behind_all o old new path n m name v tree sound at (length (elements_at old n)) i (omega arith) far put))
 stays_around old new (ensure_property path name shape how) tree after (n, m, at, ensured) = λ o sound texts. (writes_named o old new path n name shape how m tree sound at.0 at.1 texts ensured).around
+stays_around old new (set_commas path mode) tree after (n, at, set) = λ o sound. (commas_say o old new path n tree sound at mode set).commas
+stays_around old new (set_some_commas path mode) tree after (n, at, part) = λ o sound. (some_commas_say o old new path n tree sound at mode part).commas
+stays_around old new (rearrange path headers order) tree after (n, at, all, made) = λ o sound.
+    let s = sorted_at o old new path n tree sound at headers order after all made in
+    (s, sorted_outside path order old new s)
 
 -- under all options the leaves around stay
 pub stay_around : (old new : List Node) (es : List Operation) → IsTree old → AreMade old es new → AllStayAround (ordered_tree old 0) es (ordered_tree new 0)
@@ -112,9 +119,9 @@ pub record IsWritten (o : Options) (e : Operation) (old new : OrderedTree) : Typ
   pub before : Option Plain
   pub after : Option Plain
   pub old_text : IsDocument o (printed_text old) before
-  pub new_text : IsDocument o (printed_text new) after
+  pub new_text : IsDocument (options_behind o e) (printed_text new) after
   pub changed : IsChanged before e after
-  pub sound : SoundTree o new
+  pub sound : SoundTree (options_behind o e) new
 
 module _ (o : Options) where
   -- so is an entry that has left
@@ -242,24 +249,34 @@ module _ (o : Options) where
   is_written old new (ensure_property path name shape how) tree after (n, m, at, ensured) s may =
       let w = writes_named o old new path n name shape how m tree s at.0 at.1 may ensured in
       record { before = Some w.before; after = Some w.after; old_text = w.old_text; new_text = w.new_text; changed = by_ensuring_named w.ensures; sound = w.sound }
+  is_written old new (set_commas path mode) tree after (n, at, set) s may =
+      let w = commas_say o old new path n tree s at mode set in
+      record { before = w.value; after = w.value; old_text = w.old_text; new_text = w.new_text; changed = by_commas; sound = w.sound }
+  is_written old new (set_some_commas path mode) tree after (n, at, part) s may =
+      let w = some_commas_say o old new path n tree s at mode part in
+      record { before = w.value; after = w.value; old_text = w.old_text; new_text = w.new_text; changed = by_some_commas; sound = w.sound }
+  is_written old new (rearrange path headers order) tree after (n, at, all, made) s may =
+      let w = sorted_says o path order old new s (sorted_at o old new path n tree s at headers order after all made) in
+      record { before = Some w.old; after = Some w.new; old_text = w.old_text; new_text = w.new_text; changed = by_sorting w.entries; sound = w.sound }
 
-  all_written : (old new : List Node) (es : List Operation) → IsTree old → AreMade old es new → SoundTree o (ordered_tree old 0) → All (MayBeMade o) es → AreWritten o es (ordered_tree old 0) (ordered_tree new 0)
-  all_written old _ [] tree none_made s may =
-      let known = document_printed o (ordered_tree old 0) s.shaped s.lines in
-      record { before = known.0; after = known.0; old_text = known.1; new_text = known.1; changed = unchanged; around = all_stay; sound = s }
-  all_written old new (e ∷ es) tree (first_made {now = now} made after rest) s may =
-      let first = is_written old now e tree after made s (may 0 e (omega arith)) in
-      let others = all_written now new es after rest first.sound (λ k d h. may (suc k) d (omega (arith, h))) in
-      let same : others.before ≡ first.after = document_unique o (printed_text (ordered_tree now 0)) others.before first.after others.old_text first.new_text in
-      record {
-        before = first.before;
-        after = others.after;
-        old_text = first.old_text;
-        new_text = others.new_text;
-        changed = first_changed first.changed (subst (λ (w : Option Plain). AreChanged w es others.after) same others.changed);
-        around = first_stay (stays_around old now e tree after made) others.around;
-        sound = others.sound;
-      }
+all_written : (o : Options) (old new : List Node) (es : List Operation) → IsTree old → AreMade old es new → SoundTree o (ordered_tree old 0) → All (MayBeMade o) es → AreWritten o es (ordered_tree old 0) (ordered_tree new 0)
+all_written o old _ [] tree none_made s may =
+    let known = document_printed o (ordered_tree old 0) s.shaped s.lines in
+    record { before = known.0; after = known.0; old_text = known.1; new_text = known.1; changed = unchanged; around = all_stay; sound = s }
+all_written o old new (e ∷ es) tree (first_made {now = now} made after rest) s may =
+    let p : Options = options_behind o e in
+    let first = is_written o old now e tree after made s (may 0 e (omega arith)) in
+    let others = all_written p now new es after rest first.sound (λ k d h. may_behind o e (get_or es k d) (may (suc k) d (omega (arith, h)))) in
+    let same : others.before ≡ first.after = document_unique p (printed_text (ordered_tree now 0)) others.before first.after others.old_text first.new_text in
+    record {
+      before = first.before;
+      after = others.after;
+      old_text = first.old_text;
+      new_text = others.new_text;
+      changed = first_changed first.changed (subst (λ (w : Option Plain). AreChanged w es others.after) same others.changed);
+      around = first_stay (stays_around old now e tree after made) others.around;
+      sound = others.sound;
+    }
 
 pub write_all : (o : Options) (old new : List Node) (es : List Operation) → IsTree old → AreMade old es new → WriteAll o old es new
 write_all o old new es tree made s may = all_written o old new es tree made s may

@@ -1,14 +1,16 @@
 -- What edits ask for, and that they are made in order.
-use Rattle.std.specs.Prelude.{◌≡◌, ℕ, Bool, List, [], ◌∷◌, length, Option, Some, None, map}
+use Rattle.std.specs.Prelude.{◌≡◌, ℕ, Bool, true, false, List, [], ◌∷◌, length, Option, Some, None}
 use Rattle.jsonc_text.specs.Plain.{Plain}
 use Rattle.jsonc_input.specs.Views.{chars_of, plain}
 use Rattle.jsonc_tree.specs.Changes.{Splices}
 use Rattle.jsonc_tree.specs.Tree.{Node, children_at, IsTree}
 use Rattle.jsonc_nodes.specs.Properties.{value_at}
 use Rattle.jsonc_nodes.specs.Siblings.{elements_at}
+use Rattle.jsonc_commas.specs.InTurn.{holders, AreSetInPart, AreSetInTurn}
 use Rattle.jsonc_edit.specs.Comments.{CommentTaken}
 use Rattle.jsonc_edit.specs.Paths.{IsAt}
 use Rattle.jsonc_edit.specs.Reading.{IsReplaced}
+use Rattle.jsonc_edit.specs.declared.modes.TrailingCommaMode.{TrailingCommaMode}
 use Rattle.jsonc_insert.specs.Inserted.{ElementPut}
 use Rattle.jsonc_members.specs.Inserted.{PropertyPut}
 use Rattle.jsonc_multiline.specs.Multiline.{MadeMultiline}
@@ -18,8 +20,10 @@ use Rattle.jsonc_set.specs.Giving.{IsPropertyReplaced}
 use Rattle.jsonc_set.specs.Kinds.{FoundOrCreated, FoundOrSet}
 use Rattle.jsonc_set.specs.PropertyValues.{LastValue}
 use Rattle.jsonc_set.specs.RootSet.{FirstValue}
+use Rattle.jsonc_sort.specs.Rearranged.{IsOrderIn, Rearranged}
+use Rattle.jsonc_sort.specs.Sorting.{Headers}
 use Rattle.jsonc_run.specs.declared.edit.Edit.{Edit}
-use Rattle.jsonc_run.specs.declared.edit.Edit.TheVariants.{Replace, Remove, RemoveComment, SetRoot, ClearRoot, ReplaceProperty, EnsureRoot, SetValue, EnsureValue, SetBoolean, EnsureMultiline, InsertElement, AppendElement, InsertProperty, AppendProperty, EnsureProperty}
+use Rattle.jsonc_run.specs.declared.edit.Edit.TheVariants.{Replace, Remove, RemoveComment, SetRoot, ClearRoot, ReplaceProperty, EnsureRoot, SetValue, EnsureValue, SetBoolean, EnsureMultiline, InsertElement, AppendElement, InsertProperty, AppendProperty, EnsureProperty, SetTrailingCommas, Sort}
 use Rattle.jsonc_named.specs.declared.shape.Over.{Over}
 use Rattle.jsonc_named.specs.declared.shape.Over.TheVariants as over
 use Rattle.jsonc_named.specs.declared.shape.Shape.{Shape}
@@ -33,7 +37,8 @@ use Rattle.jsonc_named.specs.Shapes.{is_of, empty_of}
 -- a value of a shape; that the value of the property at the path is this one, or is of a shape; that the truth value at the path becomes this one;
 -- that the array or object at the path is on several lines; that the value comes into the array at the path, as its element of this number or behind the last;
 -- that a property of this name and value so comes into the object at the path; that the first property of this name in the object at the path has a value of
--- a shape.
+-- a shape; that the trailing commas of the array or object at the path, and of those below it, are set, or, where memory was refused on the way, of the first of
+-- them; that the entries of the array or object at the path come in an order, with headers that are pinned.
 pub data Operation : Type 0 where
   replace : List ℕ → Plain → Operation
   remove : List ℕ → Operation
@@ -51,28 +56,50 @@ pub data Operation : Type 0 where
   insert_property : List ℕ → ℕ → List ℕ → Plain → Operation
   append_property : List ℕ → List ℕ → Plain → Operation
   ensure_property : List ℕ → List ℕ → Shape → Over → Operation
+  set_commas : List ℕ → TrailingCommaMode → Operation
+  set_some_commas : List ℕ → TrailingCommaMode → Operation
+  rearrange : List ℕ → Headers → List ℕ → Operation
 
-module _ {A : Type 0} where
-  abbrev pub operation_of : Edit A → Operation
-  operation_of (Replace path value) = replace path.items (plain value)
-  operation_of (Remove path) = remove path.items
-  operation_of (RemoveComment number) = remove_comment number
-  operation_of (SetRoot value) = set_root (plain value)
-  operation_of ClearRoot = clear_root
-  operation_of (ReplaceProperty path name value) = replace_property path.items (chars_of name) (plain value)
-  operation_of (EnsureRoot shape how) = ensure_root shape how
-  operation_of (SetValue path value) = set_value path.items (plain value)
-  operation_of (EnsureValue path shape) = ensure_value path.items shape
-  operation_of (SetBoolean path value) = set_boolean path.items value
-  operation_of (EnsureMultiline path) = ensure_multiline path.items
-  operation_of (InsertElement path index value) = insert_element path.items index (plain value)
-  operation_of (AppendElement path value) = append_element path.items (plain value)
-  operation_of (InsertProperty path index name value) = insert_property path.items index (chars_of name) (plain value)
-  operation_of (AppendProperty path name value) = append_property path.items (chars_of name) (plain value)
-  operation_of (EnsureProperty path name shape how) = ensure_property path.items (chars_of name) shape how
+-- how a sort was done: which comments are pinned, and whether blank lines part the entries; and the order in which these come
+pub record Sorting : Type 0 where
+  pub headers : Headers
+  pub order : List ℕ
 
-  abbrev pub operations_of : List (Edit A) → List Operation
-  operations_of edits = map operation_of edits
+-- the entries stay in their order, and nothing is pinned
+abbrev pub unsorted : Sorting
+unsorted = record { headers = record { pinned = []; groups = false }; order = [] }
+
+-- a sort is asked for
+abbrev pub is_sort : {A : Type 0} → Edit A → Bool
+is_sort (Sort path pin groups) = true
+is_sort e = false
+
+-- the edit is made whole or not at all, and no closure is asked for it
+abbrev pub is_whole : {A : Type 0} → Edit A → Bool
+is_whole (SetTrailingCommas path mode) = false
+is_whole (Sort path pin groups) = false
+is_whole e = true
+
+-- the operation of an edit, if it is no sort; a sort has been done so
+abbrev pub operation_of : {A : Type 0} → Sorting → Edit A → Operation
+operation_of s (Replace path value) = replace path.items (plain value)
+operation_of s (Remove path) = remove path.items
+operation_of s (RemoveComment number) = remove_comment number
+operation_of s (SetRoot value) = set_root (plain value)
+operation_of s ClearRoot = clear_root
+operation_of s (ReplaceProperty path name value) = replace_property path.items (chars_of name) (plain value)
+operation_of s (EnsureRoot shape how) = ensure_root shape how
+operation_of s (SetValue path value) = set_value path.items (plain value)
+operation_of s (EnsureValue path shape) = ensure_value path.items shape
+operation_of s (SetBoolean path value) = set_boolean path.items value
+operation_of s (EnsureMultiline path) = ensure_multiline path.items
+operation_of s (InsertElement path index value) = insert_element path.items index (plain value)
+operation_of s (AppendElement path value) = append_element path.items (plain value)
+operation_of s (InsertProperty path index name value) = insert_property path.items index (chars_of name) (plain value)
+operation_of s (AppendProperty path name value) = append_property path.items (chars_of name) (plain value)
+operation_of s (EnsureProperty path name shape how) = ensure_property path.items (chars_of name) shape how
+operation_of s (SetTrailingCommas path mode) = set_commas path.items mode
+operation_of s (Sort path pin groups) = rearrange path.items s.headers s.order
 
 -- the document's value, if there is one, has given way to this value; where there was none this is its first
 abbrev pub RootSet : List Node → List Node → Plain → Option ℕ → Type 0
@@ -98,7 +125,8 @@ PropertyValueSet old new r v (Some n) = (m : ℕ) × IsReplaced old new n v m
 -- or n, the truth value at the path, has become this one; or the array or object at the path has been put on several
 -- lines, or was on several; or into n, the array at the path, the value has come as m, at this number or behind all elements;
 -- or into n, the object at the path, the property has come so; or the first property of the name in n, the object at the
--- path, has a value of the shape, or another that was to stay, or has come.
+-- path, has a value of the shape, or another that was to stay, or has come; or the trailing commas of the array or object at the
+-- path and of those below it have been set, or those of the first of these; or its entries have come in the order.
 abbrev pub IsMade : List Node → Operation → List Node → Type 0
 IsMade old (replace path v) new = (n m : ℕ) × IsAt old path n × IsReplaced old new n v m
 IsMade old (remove path) new = (n : ℕ) × IsEntryAt old path n × TakesElement old new n
@@ -116,6 +144,9 @@ IsMade old (append_element path v) new = (n m : ℕ) × IsArrayAt old path n × 
 IsMade old (insert_property path i name v) new = (n m : ℕ) × IsObjectAt old path n × PropertyPut old new n i name v m
 IsMade old (append_property path name v) new = (n m : ℕ) × IsObjectAt old path n × PropertyPut old new n (length (elements_at old n)) name v m
 IsMade old (ensure_property path name shape how) new = (n : ℕ) × (m : Option ℕ) × IsObjectAt old path n × NamedEnsured shape how old new n name m
+IsMade old (set_commas path mode) new = (n : ℕ) × IsContainerAt old path n × AreSetInTurn mode old (holders old n) new
+IsMade old (set_some_commas path mode) new = (n : ℕ) × IsContainerAt old path n × AreSetInPart mode old (holders old n) new
+IsMade old (rearrange path headers order) new = (n : ℕ) × IsContainerAt old path n × IsOrderIn old n order × Rearranged old new n headers order
 
 -- the edits were made in order, each in the tree that the one before it made
 pub data AreMade : List Node → List Operation → List Node → Type 0 where

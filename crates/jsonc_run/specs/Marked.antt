@@ -1,5 +1,5 @@
 -- What edits that were made in order make of the marks of a document: its literals and comments, as they are written.
-use Rattle.std.specs.Prelude.{◌≡◌, ℕ, Bool, List, [], ◌∷◌}
+use Rattle.std.specs.Prelude.{◌≡◌, ℕ, Bool, List, [], ◌∷◌, count_by}
 use Rattle.std.specs.List.{All}
 use Rattle.jsonc_text.specs.Options.{Options}
 use Rattle.jsonc_text.specs.Plain.{boolean}
@@ -14,13 +14,14 @@ use Rattle.jsonc_laws.specs.Marks.{Mark, AreMarks}
 use Rattle.jsonc_laws.specs.Written.{property_written, written}
 use Rattle.jsonc_laws.specs.EntryLaws.{LosesMarks}
 use Rattle.jsonc_named.specs.Laws.{ChangesMarks}
-use Rattle.jsonc_run.specs.Edits.{Operation, replace, remove, remove_comment, set_root, clear_root, replace_property, ensure_root, set_value, ensure_value, set_boolean, ensure_multiline, insert_element, append_element, insert_property, append_property, ensure_property}
-use Rattle.jsonc_run.specs.Written.{MayBeMade}
+use Rattle.jsonc_run.specs.Edits.{Operation, replace, remove, remove_comment, set_root, clear_root, replace_property, ensure_root, set_value, ensure_value, set_boolean, ensure_multiline, insert_element, append_element, insert_property, append_property, ensure_property, set_commas, set_some_commas, rearrange}
+use Rattle.jsonc_run.specs.Written.{MayBeMade, options_after}
 
 -- One stretch of the marks has given way to the literals that are written for the new value, or for the new name and value of a property; in a document
 -- that had no value these have come. Or those of an entry have left, with comments beside it; or one comment has left. All others stay, in order. An
 -- empty array or object has none. Of a cleared root none stay. One truth value has given way to another. Lines change none. Of a value that comes into an array
--- the literals have come, and of a property that comes into an object its name and the literals of its value.
+-- the literals have come, and of a property that comes into an object its name and the literals of its value. Commas change none, and where entries come in an
+-- order each mark is there as often as before.
 abbrev pub IsMarked : List Mark → Operation → List Mark → Type 0
 IsMarked x (replace path v) y = (was : List Mark) × MarksDifferIn was (written v) x y
 IsMarked x (remove path) y = (top : Top) × LosesMarks top x y
@@ -38,6 +39,9 @@ IsMarked x (append_element path v) y = MarksDifferIn [] (written v) x y
 IsMarked x (insert_property path i name v) y = MarksDifferIn [] (property_written name v) x y
 IsMarked x (append_property path name v) y = MarksDifferIn [] (property_written name v) x y
 IsMarked x (ensure_property path name shape how) y = ChangesMarks name shape x y
+IsMarked x (set_commas path mode) y = y ≡ x
+IsMarked x (set_some_commas path mode) y = y ≡ x
+IsMarked x (rearrange path headers order) y = (test : Mark → Bool) → count_by test y ≡ count_by test x
 
 -- so it is for each of the edits, one after another
 pub data AreMarked : List Mark → List Operation → List Mark → Type 0 where
@@ -48,5 +52,5 @@ pub data AreMarked : List Mark → List Operation → List Mark → Type 0 where
 abbrev pub MarkAll : Options → List Node → List Operation → List Node → Type 0
 MarkAll o old es new =
     SoundTree o (ordered_tree old 0) → All (MayBeMade o) es → (x y : List Mark)
-    → AreMarks o (printed_text (ordered_tree old 0)) x → AreMarks o (printed_text (ordered_tree new 0)) y
+    → AreMarks o (printed_text (ordered_tree old 0)) x → AreMarks (options_after o es) (printed_text (ordered_tree new 0)) y
     → AreMarked x es y

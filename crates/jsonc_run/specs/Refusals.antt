@@ -1,12 +1,15 @@
 -- Why an edit is not made, and what a list of edits has made until then.
-use Rattle.std.specs.Prelude.{◌≡◌, ℕ, true, List, Some, None, take}
-use Rattle.std.specs.List.{slice_get}
+use Rattle.std.specs.Prelude.{◌≡◌, ℕ, true, List, Some, None, length}
+use Rattle.jsonc_tree.specs.Building.{Keeps}
 use Rattle.jsonc_tree.specs.OrderedTree.{ordered_tree}
 use Rattle.jsonc_tree.specs.Tree.{Node}
 use Rattle.jsonc_nodes.specs.Properties.{lacks_name_at, value_at}
 use Rattle.jsonc_edit.specs.declared.error.EditError.{EditError}
 use Rattle.jsonc_edit.specs.declared.error.EditError.TheVariants.{OutOfMemory, MissingBrackets, MissingName, NoSuchPlace}
+use Rattle.jsonc_commas.specs.InTurn.{holders, AreSetInPart}
 use Rattle.jsonc_edit.specs.Comments.{WantsSpace}
+use Rattle.jsonc_edit.specs.declared.modes.TrailingCommaMode.{TrailingCommaMode}
+use Rattle.jsonc_edit.specs.declared.modes.TrailingCommaMode.TheVariants.{IfMultiline}
 use Rattle.jsonc_edit.specs.Paths.{IsAt}
 use Rattle.jsonc_insert.specs.Inserted.{refusal}
 use Rattle.jsonc_multiline.specs.Multiline.{IsUnspread}
@@ -20,7 +23,7 @@ use Rattle.jsonc_named.specs.Named.{IsUnensured}
 use Rattle.jsonc_named.specs.Shapes.{is_of}
 use Rattle.jsonc_named.specs.Places.{IsPropertyAt}
 use Rattle.jsonc_run.specs.Places.{comment_at, IsArrayAt, IsBooleanAt, IsContainerAt, IsEntryAt, IsObjectAt}
-use Rattle.jsonc_run.specs.Edits.{Operation, replace, remove, remove_comment, set_root, clear_root, replace_property, ensure_root, set_value, ensure_value, set_boolean, ensure_multiline, insert_element, append_element, insert_property, append_property, ensure_property, AreMade}
+use Rattle.jsonc_run.specs.Edits.{Operation, replace, remove, remove_comment, set_root, clear_root, replace_property, ensure_root, set_value, ensure_value, set_boolean, ensure_multiline, insert_element, append_element, insert_property, append_property, ensure_property, set_commas, set_some_commas, rearrange}
 
 -- a node stands where the edit is to be made, an entry, a property, a truth value, an array or object, an array, an object, or there is
 -- the comment; edits of the root always have their place
@@ -41,6 +44,9 @@ HasItsPlace ns (append_element path v) = (n : ℕ) × IsArrayAt ns path n
 HasItsPlace ns (insert_property path i name v) = (n : ℕ) × IsObjectAt ns path n
 HasItsPlace ns (append_property path name v) = (n : ℕ) × IsObjectAt ns path n
 HasItsPlace ns (ensure_property path name shape how) = (n : ℕ) × IsObjectAt ns path n
+HasItsPlace ns (set_commas path mode) = (n : ℕ) × IsContainerAt ns path n
+HasItsPlace ns (set_some_commas path mode) = (n : ℕ) × IsContainerAt ns path n
+HasItsPlace ns (rearrange path headers order) = (n : ℕ) × IsContainerAt ns path n
 
 -- an empty value has to be set: the document has none, or one of another shape that is to give way
 abbrev pub WantsEmpty : Shape → Over → List Node → Type 0
@@ -65,6 +71,9 @@ MayWantMemory ns (append_element path v) = (n : ℕ) × IsArrayAt ns path n × (
 MayWantMemory ns (insert_property path i name v) = (n : ℕ) × IsObjectAt ns path n × (refusal ns n ≡ OutOfMemory)
 MayWantMemory ns (append_property path name v) = (n : ℕ) × IsObjectAt ns path n × (refusal ns n ≡ OutOfMemory)
 MayWantMemory ns (ensure_property path name shape how) = (n : ℕ) × IsObjectAt ns path n
+MayWantMemory ns (set_commas path mode) = (n : ℕ) × IsContainerAt ns path n × (mode ≡ IfMultiline)
+MayWantMemory ns (set_some_commas path mode) = ⊥
+MayWantMemory ns (rearrange path headers order) = (n : ℕ) × IsContainerAt ns path n
 
 -- the array or object of the entry that is to leave, or that is to be on several lines, or that a value or property is to come into, lacks a bracket
 abbrev pub LacksBrackets : List Node → Operation → Type 0
@@ -97,11 +106,8 @@ WantsMemoryOrPlace NoSuchPlace = Unit {0}
 WantsMemoryOrPlace MissingBrackets = ⊥
 WantsMemoryOrPlace MissingName = ⊥
 
--- The first k edits were made, each whole; there is one more, which was not made for this reason; and the document is as those k left it.
-pub record StopsAt (old : List Node) (es : List Operation) (k : ℕ) (stop : EditError) (new : List Node) : Type 0 where
-  pub now : List Node
-  pub made : AreMade old (take k es) now
-  pub next : Operation
-  pub is_next : slice_get es k ≡ Some next
-  pub told : IsToldBy now next stop
-  pub document : ordered_tree new 0 ≡ ordered_tree now 0
+-- What a refused edit leaves: the document and all nodes that were there as they were; or commas were to be set, and those of the first have been.
+pub data IsLeft (old : List Node) : Operation → List Node → Type 0 where
+  as_it_was : {e : Operation} {new : List Node} → Keeps (length old) old new → ordered_tree new 0 ≡ ordered_tree old 0 → IsLeft old e new
+  set_in_part : {path : List ℕ} {mode : TrailingCommaMode} {new : List Node} (n : ℕ) → IsContainerAt old path n → AreSetInPart mode old (holders old n) new
+      → IsLeft old (set_commas path mode) new

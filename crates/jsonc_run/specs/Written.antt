@@ -13,6 +13,7 @@ use Rattle.jsonc_laws.specs.ChangeLaws.{DiffersIn}
 use Rattle.jsonc_laws.specs.TreeChanges.{leaves_of, property_of}
 use Rattle.jsonc_from_input.specs.Layout.{Layout}
 use Rattle.jsonc_laws.specs.SoundTrees.{SoundTree}
+use Rattle.jsonc_commas.specs.Laws.{allowing, OnlyCommas}
 use Rattle.jsonc_edit.specs.Comments.{LosesComment}
 use Rattle.jsonc_from_input.specs.Laid.{laid, laid_property}
 use Rattle.jsonc_from_input.specs.Texts.{IsCharacters}
@@ -33,9 +34,13 @@ use Rattle.jsonc_named.specs.declared.shape.Over.{Over}
 use Rattle.jsonc_named.specs.declared.shape.Over.TheVariants as over
 use Rattle.jsonc_named.specs.declared.shape.Shape.{Shape}
 use Rattle.jsonc_edit.specs.declared.error.EditError.{EditError}
+use Rattle.jsonc_edit.specs.declared.modes.TrailingCommaMode.{TrailingCommaMode}
+use Rattle.jsonc_sort.specs.Laws.{SortsEntries}
+use Rattle.jsonc_sort.specs.Paths.{KeepsOutside, SortedAt}
+use Rattle.jsonc_sort.specs.Sorting.{Headers}
 use Rattle.jsonc_run.specs.Refusals.{WantsMemoryOrPlace}
 use Rattle.jsonc_named.specs.Shapes.{empty_of}
-use Rattle.jsonc_run.specs.Edits.{Operation, replace, remove, remove_comment, set_root, clear_root, replace_property, ensure_root, set_value, ensure_value, set_boolean, ensure_multiline, insert_element, append_element, insert_property, append_property, ensure_property}
+use Rattle.jsonc_run.specs.Edits.{Operation, replace, remove, remove_comment, set_root, clear_root, replace_property, ensure_root, set_value, ensure_value, set_boolean, ensure_multiline, insert_element, append_element, insert_property, append_property, ensure_property, set_commas, set_some_commas, rearrange}
 
 -- documents of these options can hold what the edit writes: its value, and the name of its property
 abbrev pub MayBeMade : Options → Operation → Type 0
@@ -55,6 +60,28 @@ MayBeMade o (append_element path v) = IsWritable o v
 MayBeMade o (insert_property path i name v) = IsCharacters name × IsWritable o v
 MayBeMade o (append_property path name v) = IsCharacters name × IsWritable o v
 MayBeMade o (ensure_property path name shape how) = IsCharacters name
+MayBeMade o (set_commas path mode) = Unit {0}
+MayBeMade o (set_some_commas path mode) = Unit {0}
+MayBeMade o (rearrange path headers order) = Unit {0}
+
+-- the mode of an edit that sets trailing commas
+abbrev pub commas_mode : Operation → Option TrailingCommaMode
+commas_mode (set_commas path mode) = Some mode
+commas_mode (set_some_commas path mode) = Some mode
+commas_mode e = None
+
+-- the options of the document behind an edit: the same, but that trailing commas are allowed where it sets some
+abbrev pub options_by : Options → Option TrailingCommaMode → Options
+options_by o None = o
+options_by o (Some mode) = allowing mode o
+
+abbrev pub options_behind : Options → Operation → Options
+options_behind o e = options_by o (commas_mode e)
+
+-- and behind edits, one after another
+abbrev pub options_after : Options → List Operation → Options
+options_after o [] = o
+options_after o (e ∷ es) = options_after (options_behind o e) es
 
 -- The edit makes the second value of the first: where another value is written, this is the first, but that at the path the new value stands; where an entry
 -- leaves, it is the first without the entry, or none without the document's value; where a comment leaves, it is the first, if there is one; where the
@@ -63,7 +90,7 @@ MayBeMade o (ensure_property path name shape how) = IsCharacters name
 -- the property has this value, or, if it had none of the shape, an empty one; where a truth value is set, it is the first, but that at the path, where one
 -- stood, this one stands; lines change nothing; where a value comes into an array, it is the first, but that the array at the path has it, at its number or as
 -- its last; and so where a property comes into an object; where the first property of a name is to have a value of a shape, it is the first, but for that
--- property.
+-- property; commas change nothing; where entries come in an order, it is the first, but that at the path they come so.
 pub data IsChanged : Option Plain → Operation → Option Plain → Type 0 where
   by_value : {given_up v x y : Plain} {path : List ℕ} → Changed given_up v path x y → IsChanged (Some x) (replace path v) (Some y)
   by_entry : (path : List ℕ) (i : ℕ) {x y : Plain} → LosesEntry path i x y → IsChanged (Some x) (remove (path ++ i ∷ [])) (Some y)
@@ -89,6 +116,9 @@ pub data IsChanged : Option Plain → Operation → Option Plain → Type 0 wher
       → IsChanged (Some x) (append_property path name v) (Some y)
   by_ensuring_named : {path name : List ℕ} {shape : Shape} {how : Over} {x y : Plain} → EnsuresMember path name shape how x y
       → IsChanged (Some x) (ensure_property path name shape how) (Some y)
+  by_commas : {w : Option Plain} {path : List ℕ} {mode : TrailingCommaMode} → IsChanged w (set_commas path mode) w
+  by_some_commas : {w : Option Plain} {path : List ℕ} {mode : TrailingCommaMode} → IsChanged w (set_some_commas path mode) w
+  by_sorting : {path order : List ℕ} {headers : Headers} {x y : Plain} → SortsEntries path order x y → IsChanged (Some x) (rearrange path headers order) (Some y)
 
 -- the edits, one after another, make the second value of the first
 pub data AreChanged : Option Plain → List Operation → Option Plain → Type 0 where
@@ -122,7 +152,7 @@ pub data PropertyGivenWay (name : List ℕ) (v : Plain) (t u : OrderedTree) : Li
 -- before it; in a sound document all around an entry with what leaves with it, around the document's value, around a property that gives way to one that may
 -- be written, and around a property's value; and of an array or object
 -- that is put on several lines all but blanks, and around a value that comes into an array, or a property into an object; behind all elements all greater
--- numbers do the same. Of a cleared root nothing stays.
+-- numbers do the same. Where commas are set, all stays but commas; and around an array or object whose entries come in an order. Of a cleared root nothing stays.
 abbrev pub StayAround : OrderedTree → Operation → OrderedTree → Type 0
 StayAround t (replace path v) u = ValueGivesWay path v t u
 StayAround t (remove path) u = (o : Options) → SoundTree o t → EntryLeft t u path
@@ -140,22 +170,25 @@ StayAround t (append_element path v) u = (o : Options) → SoundTree o t → (n 
 StayAround t (insert_property path i name v) u = (o : Options) → SoundTree o t → PropertyComesAt o path i name v t u
 StayAround t (append_property path name v) u = (o : Options) → SoundTree o t → (n : ℕ) × ((i : ℕ) → n ≤ i → PropertyComesAt o path i name v t u)
 StayAround t (ensure_property path name shape how) u = (o : Options) → SoundTree o t → IsCharacters name → named.StaysAround o path name shape t u
+StayAround t (set_commas path mode) u = (o : Options) → SoundTree o t → OnlyCommas mode t u
+StayAround t (set_some_commas path mode) u = (o : Options) → SoundTree o t → OnlyCommas mode t u
+StayAround t (rearrange path headers order) u = (o : Options) → SoundTree o t → (sorted : SortedAt path order t u) × KeepsOutside sorted
 
 -- so it is for each of the edits, one after another
 pub data AllStayAround : OrderedTree → List Operation → OrderedTree → Type 0 where
   all_stay : {t : OrderedTree} → AllStayAround t [] t
   first_stay : {t s u : OrderedTree} {e : Operation} {es : List Operation} → StayAround t e s → AllStayAround s es u → AllStayAround t (e ∷ es) u
 
--- The edits are written: the old text is a document, the new text is one, and its value is what the edits, one after another, make of the old one's. All
--- leaves around what was replaced stay. The new document is sound, so it may be edited again.
+-- The edits are written: the old text is a document, the new text is one, under the options behind the edits, and its value is what the edits, one after
+-- another, make of the old one's. All leaves around what was replaced stay. The new document is sound, so it may be edited again.
 pub record AreWritten (o : Options) (es : List Operation) (old new : OrderedTree) : Type 0 where
   pub before : Option Plain
   pub after : Option Plain
   pub old_text : IsDocument o (printed_text old) before
-  pub new_text : IsDocument o (printed_text new) after
+  pub new_text : IsDocument (options_after o es) (printed_text new) after
   pub changed : AreChanged before es after
   pub around : AllStayAround old es new
-  pub sound : SoundTree o new
+  pub sound : SoundTree (options_after o es) new
 
 -- if the old document is sound, and what these edits write may be written, then the edit after them was refused for memory or its place alone
 abbrev pub IsRefusedAfter : Options → List Node → List Operation → EditError → Type 0

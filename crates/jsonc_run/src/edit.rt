@@ -1,5 +1,6 @@
 //! What an edit asks for.
 
+use jsonc_edit::TrailingCommaMode;
 use jsonc_input::CstInputValue;
 use jsonc_named::{Over, Shape};
 use std::alloc::Allocator;
@@ -58,4 +59,14 @@ pub enum Edit<A: Allocator> {
     /// value of another kind stays or gives way to an empty one, and where none has the name, one with an
     /// empty value comes behind the last property.
     EnsureProperty(Vec<usize, A>, String<A>, Shape, Over),
+    /// The trailing commas of the array or object at a path, and of all arrays and objects below it, are
+    /// set: with `IfMultiline` one comes behind the last element or property wherever a line ends in the
+    /// row and none stands there, and with `Never` it leaves. Memory is wanted only for a comma that comes;
+    /// where it is refused, commas before may have been set.
+    SetTrailingCommas(Vec<usize, A>, TrailingCommaMode),
+    /// The elements or properties of the array or object at a path come in the order of the comparison that
+    /// the list is made with. Where the first flag is set, the comments above each of them before which a
+    /// blank line stands are pinned: they stay where they are. Where the second is, each stretch between
+    /// blank lines is sorted by itself.
+    Sort(Vec<usize, A>, bool, bool),
 }

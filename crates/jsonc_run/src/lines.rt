@@ -37,8 +37,8 @@ fn if_container<A: Allocator>(tree: &Tree<A>, found: Option<usize>) -> Option<us
     None
 }
 
-// The array or object that a path leads to.
-fn find_container<A: Allocator>(tree: &Tree<A>, path: &[usize]) -> Option<usize>
+/// The array or object that a path leads to.
+pub fn find_container<A: Allocator>(tree: &Tree<A>, path: &[usize]) -> Option<usize>
     ensures found { FindsExactly result (IsContainerAt tree.now.nodes path.now) }
     ensures there { IsThere tree.now.nodes result }
 {

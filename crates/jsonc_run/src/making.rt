@@ -1,6 +1,6 @@
 //! Edits that are made.
 
-ghost use Rattle.std.specs.Prelude.{◌≡◌, ◌∷◌, [], IfErr, IfOk, None, OnErr, OnOk, chars, length, take};
+ghost use Rattle.std.specs.Prelude.{◌≡◌, ◌∷◌, [], false, true, IfErr, IfOk, None, OnErr, OnOk, chars, length};
 ghost use Rattle.jsonc_text.specs.Options.{Options};
 ghost use Rattle.jsonc_tree.specs.Building.{Keeps};
 ghost use Rattle.jsonc_tree.specs.OrderedTree.{ordered_tree};
@@ -8,14 +8,15 @@ ghost use Rattle.jsonc_tree.specs.Tree.{IsTree};
 ghost use Rattle.jsonc_input.specs.Views.{plain};
 ghost use Rattle.jsonc_nodes.specs.Properties.{value_at};
 ghost use Rattle.jsonc_set.specs.Kinds.{FoundOrCreated, FoundOrSet, LacksKind};
-ghost use Rattle.jsonc_run.specs.Edits.{operation_of, operations_of, AreMade, IsMade};
+ghost use Rattle.jsonc_run.specs.Edits.{is_sort, is_whole, operation_of, unsorted, IsMade};
 ghost use Rattle.jsonc_run.specs.Edits.{replace as asked, remove as asked_out, remove_comment as asked_without};
 ghost use Rattle.jsonc_run.specs.Edits.{set_root as asked_of_root, replace_property as asked_of_property, ensure_root as asked_for};
 ghost use Rattle.jsonc_laws.specs.SoundTrees.{SoundTree};
-ghost use Rattle.jsonc_run.specs.Refusals.{IsToldBy, StopsAt, WantsMemoryOrPlace};
+ghost use Rattle.jsonc_run.specs.Refusals.{IsLeft, IsToldBy, WantsMemoryOrPlace};
 ghost use Rattle.jsonc_named.specs.Shapes.{empty_of, is_of};
-ghost use Rattle.jsonc_run.specs.Written.{IsRefusedAfter, WriteAll};
+ghost use Rattle.jsonc_run.specs.Written.{WriteAll};
 
+use crate::commas::set_commas_at;
 use crate::comments::find_comment;
 use crate::edit::Edit;
 use crate::entries::{find_entry, find_property};
@@ -34,34 +35,55 @@ use jsonc_set::{
 use jsonc_tree::Tree;
 use std::alloc::Allocator;
 
-/// Makes an edit. Where it is refused, the document and every node that was there are as they were.
+/// Makes an edit that is no sort. Where it is refused, the document and every node that was there are as
+/// they were; of trailing commas that were to be set those of the first arrays and objects may have been.
 pub fn make<A: Allocator + Copy>(
     alloc: A,
     tree: &mut Tree<A>,
     edit: &Edit<A>,
 ) -> Result<(), EditError>
-    ensures made { OnOk result (IsMade tree.old.nodes (operation_of edit.now) tree.new.nodes) }
-    ensures told { IfErr result (IsToldBy tree.old.nodes (operation_of edit.now)) }
+    requires unsorted { is_sort edit.now ≡ false }
+    ensures made { OnOk result (IsMade tree.old.nodes (operation_of unsorted edit.now) tree.new.nodes) }
+    ensures told { IfErr result (IsToldBy tree.old.nodes (operation_of unsorted edit.now)) }
     ensures memory_or_place { (o : Options) → SoundTree o (ordered_tree tree.old.nodes 0)
         → IfErr result WantsMemoryOrPlace }
     ensures written { (o : Options)
-        → OnOk result (WriteAll o tree.old.nodes (operation_of edit.now ∷ []) tree.new.nodes) }
-    ensures kept { OnErr result (Keeps (length tree.old.nodes) tree.old.nodes tree.new.nodes) }
-    ensures document { OnErr result (ordered_tree tree.new.nodes 0 ≡ ordered_tree tree.old.nodes 0) }
+        → OnOk result (WriteAll o tree.old.nodes (operation_of unsorted edit.now ∷ []) tree.new.nodes) }
+    ensures left { OnErr result (IsLeft tree.old.nodes (operation_of unsorted edit.now) tree.new.nodes) }
     ensures tree { IsTree tree.new.nodes }
 {
     let _ = tree.len();
     make_by_kind(alloc, tree, edit)
 }
 
-// Makes an edit, by its kind.
+// Makes it, by its kind: trailing commas alone may be set in part.
 fn make_by_kind<A: Allocator + Copy>(
     alloc: A,
     tree: &mut Tree<A>,
     edit: &Edit<A>,
 ) -> Result<(), EditError>
-    ensures made { OnOk result (IsMade tree.old.nodes (operation_of edit.now) tree.new.nodes) }
-    ensures told { IfErr result (IsToldBy tree.old.nodes (operation_of edit.now)) }
+    requires unsorted { is_sort edit.now ≡ false }
+    ensures made { OnOk result (IsMade tree.old.nodes (operation_of unsorted edit.now) tree.new.nodes) }
+    ensures told { IfErr result (IsToldBy tree.old.nodes (operation_of unsorted edit.now)) }
+    ensures left { OnErr result (IsLeft tree.old.nodes (operation_of unsorted edit.now) tree.new.nodes) }
+    ensures tree { IsTree tree.new.nodes }
+{
+    let _ = tree.len();
+    match edit {
+        Edit::SetTrailingCommas(path, mode) => set_commas_at(tree, path, *mode),
+        _ => make_whole(alloc, tree, edit),
+    }
+}
+
+// Makes an edit that is made whole or not at all.
+fn make_whole<A: Allocator + Copy>(
+    alloc: A,
+    tree: &mut Tree<A>,
+    edit: &Edit<A>,
+) -> Result<(), EditError>
+    requires whole { is_whole edit.now ≡ true }
+    ensures made { OnOk result (IsMade tree.old.nodes (operation_of unsorted edit.now) tree.new.nodes) }
+    ensures told { IfErr result (IsToldBy tree.old.nodes (operation_of unsorted edit.now)) }
     ensures kept { OnErr result (Keeps (length tree.old.nodes) tree.old.nodes tree.new.nodes) }
     ensures document { OnErr result (ordered_tree tree.new.nodes 0 ≡ ordered_tree tree.old.nodes 0) }
     ensures tree { IsTree tree.new.nodes }
@@ -97,6 +119,8 @@ fn make_by_kind<A: Allocator + Copy>(
         Edit::EnsureProperty(path, name, shape, over) => {
             ensure_property_at(alloc, tree, path, name, *shape, *over)
         }
+        Edit::SetTrailingCommas(_, _) => unreachable!(),
+        Edit::Sort(_, _, _) => unreachable!(),
     }
 }
 
@@ -274,32 +298,4 @@ fn found_or_set<A: Allocator + Copy>(
         Shape::Object => object_value_or_set(alloc, tree),
         Shape::Array => array_value_or_set(alloc, tree),
     }
-}
-
-/// Makes edits in order, each in the document that the one before it made. Where one is refused, the
-/// answer is how many were made and why the next was not, and the document is as they left it.
-///
-/// Where the document was sound the text is a document again, whose value is what the edits that were
-/// made make of the old one's.
-pub fn run<A: Allocator + Copy>(
-    alloc: A,
-    tree: &mut Tree<A>,
-    edits: &[Edit<A>],
-) -> Result<(), (usize, EditError)>
-    ensures made { OnOk result (AreMade tree.old.nodes (operations_of edits.now) tree.new.nodes) }
-    ensures stopped { IfErr result (λ e. StopsAt tree.old.nodes (operations_of edits.now) e.0 e.1 tree.new.nodes) }
-    ensures memory_or_place { (o : Options)
-        → IfErr result (λ e. IsRefusedAfter o tree.old.nodes (take e.0 (operations_of edits.now)) e.1) }
-    ensures written { (o : Options) → OnOk result (WriteAll o tree.old.nodes (operations_of edits.now) tree.new.nodes) }
-    ensures written_so_far { (o : Options)
-        → IfErr result (λ e. WriteAll o tree.old.nodes (take e.0 (operations_of edits.now)) tree.new.nodes) }
-    ensures tree { IsTree tree.new.nodes }
-{
-    let _ = tree.len();
-    for (count, edit) in edits.iter().enumerate() {
-        if let Err(stop) = make(alloc, tree, edit) {
-            return Err((count, stop));
-        }
-    }
-    Ok(())
 }

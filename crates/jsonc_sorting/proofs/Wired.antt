@@ -17,3 +17,10 @@ module _ {A N : Type 0} (old new : CstRootNode A) (groups : Bool) (ArePinned : C
         (subst (λ (xs : List (Option N)). HasSorted old new node (headers_of lent groups) (IsWanted node xs)) four
         (subst (λ (n : CstNode). HasSorted old new n (headers_of lent groups) (IsWanted n again)) two sorted)),
   )
+
+-- so of a container, by the nodes and the pins alone
+module _ {A : Type 0} (old new : CstRootNode A) (groups : Bool) (IsWanted : List (Option CstNode) → List ℕ → Type 0) (node : CstNode) (asked nodes : List (Option CstNode)) (pins lent : List (Option ℕ)) where
+  pub wired_container : {T E : Type 0} (r : Result T E) → nodes ≡ asked → lent ≡ pins → OnOk r (HasSorted old new node (headers_of lent groups) (IsWanted nodes)) → OnOk r (HasSorted old new node (headers_of pins groups) (IsWanted asked))
+  wired_container (Err e) one two sorted = tt
+  wired_container (Ok x) one two sorted =
+      subst (λ (ps : List (Option ℕ)). HasSorted old new node (headers_of ps groups) (IsWanted asked)) two (subst (λ (xs : List (Option CstNode)). HasSorted old new node (headers_of lent groups) (IsWanted xs)) one sorted)

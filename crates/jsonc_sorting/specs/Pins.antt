@@ -1,5 +1,5 @@
 -- Which comments above elements are pinned: how many of each element's stay where they are, as a header, and do not go with it.
-use Rattle.std.specs.Prelude.{◌≡◌, ℕ, suc, List, [], ◌∷◌, drop, take, Option, Some, None, if◌then◌else◌}
+use Rattle.std.specs.Prelude.{◌≡◌, ℕ, suc, Bool, List, [], ◌∷◌, drop, map, take, Option, Some, None, if◌then◌else◌}
 use Rattle.std.specs.List.{All, filter_map}
 use denote.Ref.{Bor}
 use denote.Param.Members.{Shared}
@@ -31,6 +31,10 @@ module _ {A : Type 0} where
   -- the comments above its elements, one element's after another's
   abbrev pub comments_of : CstRootNode A → CstNode → List CstComment
   comments_of d node = filter_map (λ n. comment_if (typed_at (nodes_of d) n)) (all_comments_above (nodes_of d) (number_of node))
+
+  -- where blank lines are to pin comments, those that they pin above each of its elements; else none
+  abbrev pub pins_where : CstRootNode A → CstNode → Bool → List (Option ℕ)
+  pins_where d node pin = if pin then map blank_line_pin (leads_of d node) else []
 
   abbrev pub HoldsComment : CstRootNode A → CstComment → Type 0
   HoldsComment d c = Holds d (comment_node c)

@@ -16,6 +16,7 @@ use Rattle.jsonc_cst.specs.declared.cst.node.CstObject.{CstObject}
 use Rattle.jsonc_cst.specs.declared.cst.node.CstObjectProp.{CstObjectProp}
 use Rattle.jsonc_cst.specs.Document.{nodes_of}
 use Rattle.jsonc_cst.specs.Nodes.{array_node, number_of, object_node}
+use Rattle.jsonc_sorting.specs.Pins.{pins_where}
 use Rattle.jsonc_sorting.specs.Rows.{elements_asked, properties_asked, starts_of}
 
 -- the entries at the path have come in this order, no leaf outside of them has changed, and the text is a document again that says so
@@ -59,3 +60,8 @@ abbrev pub PropertiesSorted : {A : Type 0} → CstRootNode A → CstRootNode A �
 PropertiesSorted old new object ArePinned groups IsWanted =
     HasSortedBy old new (object_node object) (ArePinned (object_node object) (properties_asked old (object_node object))) groups
     (IsWanted (properties_asked old (object_node object)) (starts_of old (object_node object) groups))
+
+-- So an array or object, with comments pinned by blank lines or not, and blank lines that part its entries or do not, by what is wanted of these and their groups.
+abbrev pub ContainerSorted : {A : Type 0} → CstRootNode A → CstRootNode A → CstNode → Bool → Bool → (List (Option CstNode) → List ℕ → List ℕ → Type 0) → Type 0
+ContainerSorted old new node pin groups IsWanted =
+    HasSorted old new node (headers_of (pins_where old node pin) groups) (IsWanted (elements_asked old node) (starts_of old node groups))

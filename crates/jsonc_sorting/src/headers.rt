@@ -36,7 +36,7 @@ fn comment_at<A: Allocator>(doc: &CstRootNode<A>, number: usize) -> Option<CstCo
 }
 
 // What stands before each element of a container.
-fn leads_of<A: Allocator + Copy>(
+pub(crate) fn leads_of<A: Allocator + Copy>(
     doc: &CstRootNode<A>,
     container: CstNode,
 ) -> Result<Vec<LeadRead, A>, EditError>
@@ -143,7 +143,7 @@ fn pins_by<A: Allocator + Copy, D: IsDocument<A>, N: IsNode, F: Fn(&D, N, &[CstC
 }
 
 // How many comments blank lines pin above each element.
-fn blank_line_pins<A: Allocator + Copy>(
+pub(crate) fn blank_line_pins<A: Allocator + Copy>(
     alloc: A,
     leads: &[LeadRead],
 ) -> Result<Vec<Option<usize>, A>, AllocError>

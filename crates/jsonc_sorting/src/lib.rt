@@ -5,9 +5,10 @@
 //! comparison or by keys. These are closures that read the document: they are asked with the document
 //! as it stands before and with nodes of it, all before anything changes (`specs/Asking.antt`). Which
 //! places come in which order is `jsonc_order`'s, what goes where with an element `jsonc_sort`'s
-//! (`specs/Sorted.antt`).
+//! (`specs/Sorted.antt`). [`sort_container`] sorts either by a comparison, for lists of edits.
 #![tactic(auto)]
 
+mod containers;
 mod elements;
 mod headers;
 mod placing;
@@ -15,6 +16,7 @@ mod properties;
 mod rows;
 mod sorting;
 
+pub use containers::sort_container;
 pub use elements::{ElementSort, SortElements};
 pub use headers::{BlankLineHeaders, HeaderRule, HeadersBy, NoHeaders};
 pub use properties::{PropertySort, SortProperties};

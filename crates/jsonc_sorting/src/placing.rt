@@ -1,6 +1,7 @@
 //! Elements that come in an order.
 
 ghost use Rattle.std.specs.Prelude.{◌≡◌, ◌<◌, IfErr, IsTrue, OnErr, OnOk, length};
+ghost use Rattle.jsonc_tree.specs.Building.{Keeps};
 ghost use Rattle.jsonc_tree.specs.OrderedTree.{ordered_tree};
 ghost use Rattle.jsonc_tree.specs.Tree.{content_at, IsTree};
 ghost use Rattle.jsonc_lines.specs.Kinds.{holds_values};
@@ -29,6 +30,7 @@ pub(crate) fn put_in_order<A: Allocator + Copy>(
         (IsPlaced tree.old.nodes tree.new.nodes container (headers_of pinned.now groups) order.now) }
     ensures memory { IfErr result (λ e. e ≡ EditError.OutOfMemory) }
     ensures stays { StillNodes tree.old.nodes tree.new.nodes }
+    ensures kept { OnErr result (Keeps (length tree.old.nodes) tree.old.nodes tree.new.nodes) }
     ensures document { OnErr result (ordered_tree tree.new.nodes 0 ≡ ordered_tree tree.old.nodes 0) }
     ensures tree { IsTree tree.new.nodes }
 {

@@ -2,6 +2,7 @@
 
 ghost use Rattle.std.specs.Prelude.{◌≡◌, IfErr, IfOk, IfSome, IsPermutation, IsTrue, OnErr, OnOk, length};
 ghost use Rattle.std.specs.List.{All, range_with_len};
+ghost use Rattle.jsonc_tree.specs.Building.{Keeps};
 ghost use Rattle.jsonc_tree.specs.Tree.{content_at};
 ghost use Rattle.jsonc_nodes.specs.Siblings.{elements_at};
 ghost use Rattle.jsonc_lines.specs.Kinds.{holds_values};
@@ -67,6 +68,7 @@ pub(crate) fn sort_by<
         (starts_of doc.old container groups))) }
     ensures memory { IfErr result (λ e. e ≡ EditError.OutOfMemory) }
     ensures stays { StillHolds doc.old doc.new }
+    ensures kept { OnErr result (Keeps (length (nodes_of doc.old)) (nodes_of doc.old) (nodes_of doc.new)) }
     ensures document { OnErr result (tree_of doc.new ≡ tree_of doc.old) }
     ensures tree { NodesAreTree doc.new }
 {

@@ -4,7 +4,6 @@
 //! tests it.
 #![tactic(auto)]
 
-mod commas;
 mod paths;
 mod raw;
 mod refusal;

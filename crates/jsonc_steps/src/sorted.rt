@@ -11,7 +11,7 @@ use jsonc_parser::cst::{
     EditError, IsNode, ObjectPropName, SortElements, SortProperties,
 };
 use std::alloc::Global;
-use std::cmp::Reverse;
+use std::cmp::{Ordering, Reverse};
 
 /// Makes a sort.
 pub fn make_sort(
@@ -104,6 +104,38 @@ fn property_key(
         return Err(EditError::OutOfMemory);
     };
     Ok(key_of(text, key))
+}
+
+/// The text by which a list of edits sorts: of a property its name as it is written, without quotes, and of
+/// an element itself. It is empty where there is no memory for it.
+fn text_of(alloc: Global, doc: &CstRootNode<Global>, node: CstNode) -> String
+    requires { Holds doc.now node }
+{
+    let text = match node {
+        CstNode::Container(CstContainerNode::ObjectProp(property)) => {
+            String::from_str(alloc, name_of(doc, property))
+        }
+        _ => node.shown(doc).to_string(alloc),
+    };
+    match text {
+        Ok(text) => text,
+        Err(_) => String::new(alloc),
+    }
+}
+
+/// Compares two elements or properties by these texts.
+pub(crate) fn compare_nodes(
+    alloc: Global,
+    doc: &CstRootNode<Global>,
+    one: CstNode,
+    other: CstNode,
+) -> Ordering
+    requires one { Holds doc.now one }
+    requires other { Holds doc.now other }
+{
+    let first = text_of(alloc, doc, one);
+    let second = text_of(alloc, doc, other);
+    first.cmp(&second)
 }
 
 fn sort_array(

@@ -1,13 +1,11 @@
 //! Edits of cases, made on documents.
 
-use crate::commas::set_commas;
 use crate::raw::make_raw;
 use crate::refusal::Refusal;
-use crate::sorted::make_sort;
+use crate::sorted::{compare_nodes, make_sort};
 use jsonc_cases::edits::Step;
 use jsonc_parser::cst::{CstNode, CstRootNode, Edit, run};
 use std::alloc::Global;
-use std::cmp::Ordering;
 
 /// Makes an edit.
 pub fn make_step(alloc: Global, doc: &mut CstRootNode<Global>, step: Step) -> Result<(), Refusal> {
@@ -15,7 +13,6 @@ pub fn make_step(alloc: Global, doc: &mut CstRootNode<Global>, step: Step) -> Re
         Step::Listed(edit) => make_listed(alloc, doc, edit),
         Step::Raw(edit) => make_raw(alloc, doc, edit),
         Step::Sort(edit) => make_sort(alloc, doc, edit),
-        Step::Commas(path, mode) => set_commas(doc, path.as_slice(), mode),
     }
 }
 
@@ -27,8 +24,9 @@ fn make_listed(
 ) -> Result<(), Refusal> {
     let mut edits = Vec::new(alloc);
     edits.push(edit)?;
-    // No edit sorts, so the comparison is not asked.
-    let compare = |_doc: &CstRootNode<_>, _one: CstNode, _other: CstNode| Ordering::Equal;
+    let compare = |doc: &CstRootNode<Global>, one: CstNode, other: CstNode| compare_nodes(
+        alloc, doc, one, other,
+    );
     match run(doc, edits, &compare) {
         Ok(()) => Ok(()),
         Err((_, error)) => Err(error.into()),

@@ -1,53 +1,117 @@
 //! Lists of edits.
 
-ghost use Rattle.std.specs.Prelude.{IfErr, OnOk, take};
-ghost use Rattle.jsonc_text.specs.Options.{Options};
-ghost use Rattle.jsonc_run.specs.Edits.{operations_of};
+ghost use Rattle.std.specs.Prelude.{◌≡◌, IfErr, OnErr, OnOk};
+ghost use Rattle.jsonc_tree.specs.Tree.{IsTree};
+ghost use Rattle.jsonc_cst.specs.Document.{nodes_of};
 ghost use Rattle.jsonc_cst.specs.Tree.{NodesAreTree};
-ghost use Rattle.jsonc_parser.specs.Lists.{HasStopped, HasStoppedFor, HaveBeenMade, HaveMarked, HaveWritten, MayBeAsked};
+ghost use Rattle.jsonc_run.specs.Edits.{operation_of, rearrange, IsMade, Sorting};
+ghost use Rattle.jsonc_run.specs.Refusals.{IsLeft, IsToldBy};
+ghost use Rattle.jsonc_parser.specs.Lists.{HaveBeenMade, HaveStopped, IsMadeSo, IsSorting, MayBeAsked};
 
-use jsonc_cst::cst::{CstNode, CstRootNode, EditError};
-use jsonc_run::Edit;
+use jsonc_cst::cst::{CstNode, CstRootNode, EditError, node_at};
+use jsonc_run::{Edit, find_container};
+use jsonc_sorting::sort_container;
 use jsonc_typed::IsDocument;
 use std::alloc::Allocator;
 use std::cmp::Ordering;
+
+// Sorts the array or object at a path.
+fn sort_at<A: Allocator + Copy, D: IsDocument<A>, C: Fn(&D, CstNode, CstNode) -> Ordering>(
+    doc: &mut CstRootNode<A>,
+    path: &[usize],
+    pin: bool,
+    groups: bool,
+    compare: &C,
+) -> Result<(), EditError>
+    requires callable { MayBeAsked C.Fn compare.now D.same }
+    ensures made { OnOk result ((s : Sorting) × IsSorting C.Fn compare.now D.same doc.old path.now pin groups s
+        × IsMade (nodes_of doc.old) (rearrange path.now s.headers s.order) (nodes_of doc.new)) }
+    ensures told { (s : Sorting)
+        → IfErr result (IsToldBy (nodes_of doc.old) (rearrange path.now s.headers s.order)) }
+    ensures left { (s : Sorting)
+        → OnErr result (IsLeft (nodes_of doc.old) (rearrange path.now s.headers s.order) (nodes_of doc.new)) }
+    ensures tree { IsTree (nodes_of doc.new) }
+{
+    let _ = doc.tree.len();
+    let Some(number) = find_container(&doc.tree, path) else {
+        return Err(EditError::NoSuchPlace);
+    };
+    let container = node_at(&doc.tree, number);
+    let sorted = sort_container(doc, container, pin, groups, compare);
+    let _ = doc.tree.len();
+    sorted
+}
+
+// Makes an edit.
+fn make<A: Allocator + Copy, D: IsDocument<A>, C: Fn(&D, CstNode, CstNode) -> Ordering>(
+    doc: &mut CstRootNode<A>,
+    edit: &Edit<A>,
+    compare: &C,
+) -> Result<(), EditError>
+    requires callable { MayBeAsked C.Fn compare.now D.same }
+    ensures made { OnOk result (IsMadeSo C.Fn compare.now D.same doc.old edit.now doc.new) }
+    ensures told { (s : Sorting) → IfErr result (IsToldBy (nodes_of doc.old) (operation_of s edit.now)) }
+    ensures left { (s : Sorting)
+        → OnErr result (IsLeft (nodes_of doc.old) (operation_of s edit.now) (nodes_of doc.new)) }
+    ensures tree { IsTree (nodes_of doc.new) }
+{
+    let _ = doc.tree.len();
+    match edit {
+        Edit::Sort(path, pin, groups) => sort_at(doc, path, *pin, *groups, compare),
+        _ => jsonc_run::make(doc.alloc, &mut doc.tree, edit),
+    }
+}
+
+// Makes edits in order.
+fn make_all<A: Allocator + Copy, D: IsDocument<A>, C: Fn(&D, CstNode, CstNode) -> Ordering>(
+    doc: &mut CstRootNode<A>,
+    edits: &[Edit<A>],
+    compare: &C,
+) -> Result<(), (usize, EditError)>
+    requires callable { MayBeAsked C.Fn compare.now D.same }
+    ensures made { OnOk result (HaveBeenMade C.Fn compare.now D.same doc.old edits.now doc.new) }
+    ensures stopped { IfErr result
+        (λ e. HaveStopped C.Fn compare.now D.same doc.old edits.now e.0 e.1 doc.new) }
+{
+    let _ = doc.tree.len();
+    for (count, edit) in edits.iter().enumerate() {
+        if let Err(stop) = make(doc, edit, compare) {
+            return Err((count, stop));
+        }
+    }
+    Ok(())
+}
 
 /// Makes edits in order, each in the document that the ones before it made: its path, or its number of a
 /// comment, is one of that document.
 ///
 /// Where one is refused, the answer is how many were made, each whole, and why the next was not, and the
-/// document is as those left it. It wants memory for what it writes; or its path leads to nothing that it
+/// document is as those left it; where the next was to set trailing commas, those of some arrays and
+/// objects may have been set. It wants memory for what it writes; or its path leads to nothing that it
 /// can be made at, or there is no such comment. Only edits of single leaves can bring about more: an array
 /// or object that an entry was to leave, or that was to be on several lines, may lack a bracket then, and
 /// a property its name or colon. In a sound document it is memory or the place alone.
 ///
 /// If the document is sound, as a parsed one is, and stays so under the edits of single leaves, then its
-/// text after the edits is a document again, whose value is what the same edits make of the old value.
+/// text after the edits is a document again, whose value is what the same edits make of the old value,
+/// under options that allow trailing commas where an edit was to set some.
 /// All leaves around what is replaced or removed stay, comments among them; of the literals and comments
 /// of the text, as they are written, each edit changes what it names alone.
 ///
-/// `compare` says how nodes are ordered that an edit sorts; none does yet, so it is not asked.
+/// `compare` says how the elements or properties are ordered that an edit sorts. It is asked with the
+/// document as it stands before that edit.
 pub fn run<A: Allocator + Copy, D: IsDocument<A>, C: Fn(&D, CstNode, CstNode) -> Ordering>(
     doc: &mut CstRootNode<A>,
     edits: Vec<Edit<A>, A>,
     compare: &C,
 ) -> Result<(), (usize, EditError)>
     requires callable { MayBeAsked C.Fn compare.now D.same }
-    ensures made { OnOk result (HaveBeenMade doc.old doc.new (operations_of edits.items)) }
-    ensures stopped { IfErr result (λ e. HasStopped doc.old doc.new (operations_of edits.items) e.0 e.1) }
-    ensures memory_or_place { (o : Options)
-        → IfErr result (λ e. HasStoppedFor doc.old o (take e.0 (operations_of edits.items)) e.1) }
-    ensures written { (o : Options) → OnOk result (HaveWritten doc.old doc.new o (operations_of edits.items)) }
-    ensures written_so_far { (o : Options)
-        → IfErr result (λ e. HaveWritten doc.old doc.new o (take e.0 (operations_of edits.items))) }
-    ensures marked { (o : Options) → OnOk result (HaveMarked doc.old doc.new o (operations_of edits.items)) }
-    ensures marked_so_far { (o : Options)
-        → IfErr result (λ e. HaveMarked doc.old doc.new o (take e.0 (operations_of edits.items))) }
+    ensures made { OnOk result (HaveBeenMade C.Fn compare.now D.same doc.old edits.items doc.new) }
+    ensures stopped { IfErr result
+        (λ e. HaveStopped C.Fn compare.now D.same doc.old edits.items e.0 e.1 doc.new) }
     ensures tree { NodesAreTree doc.new }
 {
-    let _ = compare;
-    let _ = doc.tree.len();
-    let done = jsonc_run::run(doc.alloc, &mut doc.tree, &edits);
+    let done = make_all(doc, &edits, compare);
     doc.nodes_are_tree();
     done
 }

@@ -1,31 +1,10 @@
-use Rattle.std.proofs.Common.{List, ℕ, OnOk, chars, sym, subst}
-use Rattle.jsonc_input.specs.Views.{chars_of, plain}
-use Rattle.jsonc_run.specs.Edits.{operation_of, append_property, ensure_property, insert_property, set_value, IsMade}
+use Rattle.jsonc_run.specs.Edits.{operation_of, unsorted}
+use Rattle.jsonc_run.proofs.CommasSet.{is_made_whole, left_as_it_was}
 use Rattle.jsonc_run.proofs.making.make_by_kind.Goals as goal
 
-pub returns-in-SetValue-clause-made : goal.returns-in-SetValue-clause-made
-returns-in-SetValue-clause-made g c =
-    let given : OnOk c.set_value_at.result (IsMade c.args.tree.now.nodes (set_value c.in-SetValue.path.items (plain c.in-SetValue.value)) c.set_value_at.new.tree.nodes) =
-    subst (λ (path : List ℕ). OnOk c.set_value_at.result (IsMade c.args.tree.now.nodes (set_value path (plain c.in-SetValue.value)) c.set_value_at.new.tree.nodes)) c.deref-in-SetValue.ensures.value c.set_value_at.ensures.made in
-    subst (λ e. OnOk c.set_value_at.result (IsMade c.args.tree.now.nodes (operation_of e) c.set_value_at.new.tree.nodes)) (sym c.in-SetValue.is) given
+pub make_whole-requires : goal.make_whole-requires
+make_whole-requires g c = record { whole = is_made_whole c.args.edit.now c.requires.unsorted c.in_default.not-SetTrailingCommas }
 
-pub returns-in-InsertProperty-clause-made : goal.returns-in-InsertProperty-clause-made
-returns-in-InsertProperty-clause-made g c =
-    let Made : List ℕ → List ℕ → Type 0 = λ path name. OnOk c.insert_property_at.result (IsMade c.args.tree.now.nodes (insert_property path c.in-InsertProperty.index name (plain c.in-InsertProperty.value)) c.insert_property_at.new.tree.nodes) in
-    let at : Made c.in-InsertProperty.path.items (chars c.deref-in-InsertProperty-2.result.now) = subst (λ (path : List ℕ). Made path (chars c.deref-in-InsertProperty-2.result.now)) c.deref-in-InsertProperty.ensures.value c.insert_property_at.ensures.made in
-    let given : Made c.in-InsertProperty.path.items (chars_of c.in-InsertProperty.name) = subst (λ (s : List ℕ). Made c.in-InsertProperty.path.items (chars s)) c.deref-in-InsertProperty-2.ensures at in
-    subst (λ e. OnOk c.insert_property_at.result (IsMade c.args.tree.now.nodes (operation_of e) c.insert_property_at.new.tree.nodes)) (sym c.in-InsertProperty.is) given
-
-pub returns-in-AppendProperty-clause-made : goal.returns-in-AppendProperty-clause-made
-returns-in-AppendProperty-clause-made g c =
-    let Made : List ℕ → List ℕ → Type 0 = λ path name. OnOk c.append_property_at.result (IsMade c.args.tree.now.nodes (append_property path name (plain c.in-AppendProperty.value)) c.append_property_at.new.tree.nodes) in
-    let at : Made c.in-AppendProperty.path.items (chars c.deref-in-AppendProperty-2.result.now) = subst (λ (path : List ℕ). Made path (chars c.deref-in-AppendProperty-2.result.now)) c.deref-in-AppendProperty.ensures.value c.append_property_at.ensures.made in
-    let given : Made c.in-AppendProperty.path.items (chars_of c.in-AppendProperty.name) = subst (λ (s : List ℕ). Made c.in-AppendProperty.path.items (chars s)) c.deref-in-AppendProperty-2.ensures at in
-    subst (λ e. OnOk c.append_property_at.result (IsMade c.args.tree.now.nodes (operation_of e) c.append_property_at.new.tree.nodes)) (sym c.in-AppendProperty.is) given
-
-pub returns-in-EnsureProperty-clause-made : goal.returns-in-EnsureProperty-clause-made
-returns-in-EnsureProperty-clause-made g c =
-    let Made : List ℕ → List ℕ → Type 0 = λ path name. OnOk c.ensure_property_at.result (IsMade c.args.tree.now.nodes (ensure_property path name c.in-EnsureProperty.shape c.in-EnsureProperty.over) c.ensure_property_at.new.tree.nodes) in
-    let at : Made c.in-EnsureProperty.path.items (chars c.deref-in-EnsureProperty-2.result.now) = subst (λ (path : List ℕ). Made path (chars c.deref-in-EnsureProperty-2.result.now)) c.deref-in-EnsureProperty.ensures.value c.ensure_property_at.ensures.made in
-    let given : Made c.in-EnsureProperty.path.items (chars_of c.in-EnsureProperty.name) = subst (λ (s : List ℕ). Made c.in-EnsureProperty.path.items (chars s)) c.deref-in-EnsureProperty-2.ensures at in
-    subst (λ e. OnOk c.ensure_property_at.result (IsMade c.args.tree.now.nodes (operation_of e) c.ensure_property_at.new.tree.nodes)) (sym c.in-EnsureProperty.is) given
+pub returns-in_default-clause-left : goal.returns-in_default-clause-left
+returns-in_default-clause-left g c =
+    left_as_it_was c.args.tree.now.nodes (operation_of unsorted c.args.edit.now) c.make_whole.new.tree.nodes c.make_whole.result c.make_whole.ensures.kept c.make_whole.ensures.document

@@ -1,0 +1,33 @@
+use Rattle.std.proofs.Common.{length, refl}
+use Rattle.jsonc_tree.proofs.Builder.{Keeps-same}
+use Rattle.jsonc_run.specs.Refusals.{as_it_was}
+use Rattle.jsonc_run.specs.Places.{IsContainerAt}
+use Rattle.jsonc_run.proofs.Made.{no_place}
+use Rattle.jsonc_parser.proofs.Sorts.{holds_them, sort_left, sort_made, sort_told}
+use Rattle.jsonc_parser.proofs.cst.lists.sort_at.Goals as goal
+
+pub returns-in_default-clause-told : goal.returns-in_default-clause-told
+returns-in_default-clause-told g c = λ s.
+    no_place c.find_container.result (IsContainerAt c.args.doc.now.tree.nodes c.args.path.now) c.find_container.ensures.found c.in_default.not-Some
+
+pub returns-in_default-clause-left : goal.returns-in_default-clause-left
+returns-in_default-clause-left g c = λ s. as_it_was (Keeps-same (length c.args.doc.now.tree.nodes) c.args.doc.now.tree.nodes) refl
+
+pub sort_container-sorted-requires-clause-holds : goal.sort_container-sorted-requires-clause-holds
+sort_container-sorted-requires-clause-holds g c =
+    holds_them c.args.doc.now c.args.path.now c.in-Some.number ((c.find_container.ensures.found c.in-Some.number).0 c.in-Some.is) c.node_at-container.result c.node_at-container.ensures.node
+
+pub sort_container-sorted-requires-clause-asked : goal.sort_container-sorted-requires-clause-asked
+sort_container-sorted-requires-clause-asked g c = λ d x y e hx hy. c.requires.callable c.args.doc.now d x y e hx hy
+
+pub returns-clause-made : goal.returns-clause-made
+returns-clause-made g c =
+    sort_made c.args.doc.now c.args.path.now c.in-Some.number ((c.find_container.ensures.found c.in-Some.number).0 c.in-Some.is) c.node_at-container.result c.node_at-container.ensures.node g.C.Fn c.args.compare.now g.D.IsDocument.same c.sort_container-sorted.new.doc c.args.pin c.args.groups c.sort_container-sorted.result c.sort_container-sorted.ensures.sorted
+
+pub returns-clause-told : goal.returns-clause-told
+returns-clause-told g c = λ s.
+    sort_told c.args.doc.now c.args.path.now c.in-Some.number ((c.find_container.ensures.found c.in-Some.number).0 c.in-Some.is) c.node_at-container.result c.node_at-container.ensures.node s c.sort_container-sorted.result c.sort_container-sorted.ensures.memory
+
+pub returns-clause-left : goal.returns-clause-left
+returns-clause-left g c = λ s.
+    sort_left c.args.doc.now.tree.nodes c.args.path.now s c.sort_container-sorted.new.doc.tree.nodes c.sort_container-sorted.result c.sort_container-sorted.ensures.kept c.sort_container-sorted.ensures.document

@@ -1,0 +1,39 @@
+-- Entries at a path that come in an order, and commas that are set there: what becomes of a document.
+use Rattle.std.proofs.Common.{ℕ, List}
+use Rattle.jsonc_text.specs.Options.{Options}
+use Rattle.jsonc_tree.specs.OrderedTree.{ordered_tree}
+use Rattle.jsonc_tree.specs.Tree.{Node, IsTree}
+use Rattle.jsonc_laws.specs.SoundTrees.{SoundTree}
+use Rattle.jsonc_commas.specs.InTurn.{holders, AreSetInPart, AreSetInTurn}
+use Rattle.jsonc_commas.specs.Laws.{IsInSound, SaysTheSame}
+use Rattle.jsonc_commas.proofs.Documents.{keeps_document, keeps_in_part}
+use Rattle.jsonc_edit.specs.declared.modes.TrailingCommaMode.{TrailingCommaMode}
+use Rattle.jsonc_multiline.proofs.Documents.{over_at}
+use Rattle.jsonc_run.specs.Places.{IsContainerAt}
+use Rattle.jsonc_sort.specs.Paths.{KeepsOutside, SaysSorted, SortedAt}
+use Rattle.jsonc_sort.specs.Rearranged.{IsOrderIn, Rearranged}
+use Rattle.jsonc_sort.specs.Sorting.{Headers}
+use Rattle.jsonc_sort.proofs.AtPaths.{sorts_at}
+use Rattle.jsonc_sort.proofs.SortedDocuments.{keeps_outside, sorts_document}
+
+module _ (o : Options) (old new : List Node) (path : List ℕ) (n : ℕ) (tree : IsTree old) (sound : SoundTree o (ordered_tree old 0)) (at : IsContainerAt old path n) where
+  in_sound : IsInSound o old n
+  in_sound = record { tree = tree; over = over_at old tree path n at.0; sound = sound }
+
+  -- commas that are set, all or some
+  pub commas_say : (mode : TrailingCommaMode) → AreSetInTurn mode old (holders old n) new → SaysTheSame mode o (ordered_tree old 0) (ordered_tree new 0)
+  commas_say mode set = keeps_document mode o old n in_sound new set
+
+  pub some_commas_say : (mode : TrailingCommaMode) → AreSetInPart mode old (holders old n) new → SaysTheSame mode o (ordered_tree old 0) (ordered_tree new 0)
+  some_commas_say mode part = keeps_in_part mode o old n in_sound new part
+
+  -- entries that come in an order
+  pub sorted_at : (headers : Headers) (order : List ℕ) → IsTree new → IsOrderIn old n order → Rearranged old new n headers order → SortedAt path order (ordered_tree old 0) (ordered_tree new 0)
+  sorted_at headers order after all made = sorts_at o old new path n headers order tree after sound at.0 at.1 all made
+
+-- what that says of the document
+pub sorted_outside : (path order : List ℕ) (old new : List Node) (s : SortedAt path order (ordered_tree old 0) (ordered_tree new 0)) → KeepsOutside s
+sorted_outside path order old new s = keeps_outside s
+
+pub sorted_says : (o : Options) (path order : List ℕ) (old new : List Node) → SoundTree o (ordered_tree old 0) → SortedAt path order (ordered_tree old 0) (ordered_tree new 0) → SaysSorted o path order (ordered_tree old 0) (ordered_tree new 0)
+sorted_says o path order old new sound s = sorts_document o (ordered_tree old 0) (ordered_tree new 0) path order sound s
