@@ -29,7 +29,7 @@ use Rattle.jsonc_sort_laws.proofs.Once.{sorts_once}
 
 -- an order of what nodes are told to be
 module _ {N T : Type 0} (lt : T → T → Bool) (told : N → T) where
-  told_in : (nodes : List (Option N)) (i : ℕ) → node_in (map (option_map told) nodes) i ≡ option_map told (node_in nodes i)
+  pub told_in : (nodes : List (Option N)) (i : ℕ) → node_in (map (option_map told) nodes) i ≡ option_map told (node_in nodes i)
   told_in [] i = refl
   told_in (x ∷ nodes) zero = refl
   told_in (x ∷ nodes) (suc i) = told_in nodes i
@@ -51,18 +51,18 @@ module _ {N T : Type 0} (lt : T → T → Bool) (told : N → T) where
 
 -- typed nodes for numbers, where they are asked
 module _ {N : Type 0} (node_of : N → CstNode) (pick : CstNode → Option N) (asked : Content → Bool) where
-  abbrev node_top : List Node → N → Top
+  abbrev pub node_top : List Node → N → Top
   node_top ns x = top_at ns (number_of (node_of x))
 
-  abbrev Picks : Type 0
+  abbrev pub Picks : Type 0
   Picks = (ns : List Node) (n : ℕ) → option_map (node_top ns) (pick (typed_at ns n)) ≡ top_if (asked (content_at ns n)) (top_at ns n)
 
   module _ (picks : Picks) where
-    tops_of : (ns : List Node) (es : List ℕ) → map (option_map (node_top ns)) (map pick (map (typed_at ns) es)) ≡ map (λ n. top_if (asked (content_at ns n)) (top_at ns n)) es
+    pub tops_of : (ns : List Node) (es : List ℕ) → map (option_map (node_top ns)) (map pick (map (typed_at ns) es)) ≡ map (λ n. top_if (asked (content_at ns n)) (top_at ns n)) es
     tops_of ns [] = refl
     tops_of ns (n ∷ es) = ap (λ t. t ∷ map (option_map (node_top ns)) (map pick (map (typed_at ns) es))) (picks ns n) ∙ ap (λ l. top_if (asked (content_at ns n)) (top_at ns n) ∷ l) (tops_of ns es)
 
-    count : (ns : List Node) (es : List ℕ) → length (map pick (map (typed_at ns) es)) ≡ length es
+    pub count : (ns : List Node) (es : List ℕ) → length (map pick (map (typed_at ns) es)) ≡ length es
     count ns es = length-map (map (typed_at ns) es) pick ∙ length-map es (typed_at ns)
 
     module _ {A F D : Type 0} (g : Shared F (Bor D × (N × (N × Unit {0}))) Ordering) (compare : F) (same : CstRootNode A → D) (lt : Top → Top → Bool) where
@@ -86,10 +86,10 @@ module _ {N : Type 0} (node_of : N → CstNode) (pick : CstNode → Option N) (a
           (still, ap (λ (ns : List Node). printed (ordered_tree ns 0)) still)
 
 -- every element of an array is asked
-abbrev every : Content → Bool
+abbrev pub every : Content → Bool
 every content = true
 
-elements_picked : Picks (λ x. x) Some every
+pub elements_picked : Picks (λ x. x) Some every
 elements_picked ns n = ap (λ (m : ℕ). Some (top_at ns m)) (number_of-typed (content_at ns n) n)
 
 -- of an object its properties are
@@ -97,7 +97,7 @@ property_picked : (what : Content) (n : ℕ) (f : ℕ → Top) → option_map (�
 property_picked Content.property n f = refl
 property_picked _ n f = refl
 
-properties_picked : Picks object_prop_node property_if is_property
+pub properties_picked : Picks object_prop_node property_if is_property
 properties_picked ns n = property_picked (content_at ns n) n (top_at ns)
 
 module _ {A F D : Type 0} (compare : F) (same : CstRootNode A → D) (lt : Top → Top → Bool) (old now new : CstRootNode A) (h k : Headers) where

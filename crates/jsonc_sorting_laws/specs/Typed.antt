@@ -1,13 +1,18 @@
 -- Second sorts of typed arrays and objects, by closures that answer by what the nodes are, each with what is below it.
 use Rattle.std.specs.Prelude.{◌≡◌, Bool, false, List, Option}
 use Rattle.std.specs.Cmp.{IsStrictWeakOrder}
+use Rattle.std.specs.Ordering.{is_lt}
 use Rattle.std.specs.declared.cmp.Ordering.{Ordering}
+use Rattle.std.specs.declared.result.Result.{Result}
+use Rattle.std.specs.declared.result.Result.TheVariants.{Ok}
 use denote.Ref.{Bor}
 use denote.Param.Members.{Shared}
 use Rattle.jsonc_tree.specs.OrderedTree.{Top}
 use Rattle.jsonc_tree.specs.Tree.{IsTree}
 use Rattle.jsonc_edit.specs.Changes.{top_at}
+use Rattle.jsonc_edit.specs.declared.error.EditError.{EditError}
 use Rattle.jsonc_order.specs.Asking.{ComparesBy}
+use Rattle.jsonc_order.specs.Keys.{Answers}
 use Rattle.jsonc_sort.specs.Sorting.{Headers}
 use Rattle.jsonc_cst.specs.declared.cst.CstRootNode.{CstRootNode}
 use Rattle.jsonc_cst.specs.declared.cst.node.CstArray.{CstArray}
@@ -16,7 +21,7 @@ use Rattle.jsonc_cst.specs.declared.cst.node.CstObject.{CstObject}
 use Rattle.jsonc_cst.specs.declared.cst.node.CstObjectProp.{CstObjectProp}
 use Rattle.jsonc_cst.specs.Document.{nodes_of, printed_of, Holds}
 use Rattle.jsonc_cst.specs.Nodes.{array_node, number_of, object_node, object_prop_node}
-use Rattle.jsonc_sorting.specs.Asking.{IsInItsOrder}
+use Rattle.jsonc_sorting.specs.Asking.{IsInItsOrder, IsInKeyOrder}
 use Rattle.jsonc_sorting.specs.Rows.{elements_asked, properties_asked, starts_of}
 use Rattle.jsonc_sorting.specs.Sorted.{HasSorted}
 
@@ -34,6 +39,16 @@ module _ {A : Type 0} where
     abbrev pub IsSortedBy : CstRootNode A → CstRootNode A → CstNode → List (Option N) → Headers → Type 0
     IsSortedBy old new container nodes h =
         HasSorted old new container h (IsInItsOrder g compare (same old) (λ x. Holds old (node_of x)) nodes (starts_of old container false))
+
+  module _ {F D N K : Type 0} (g : Shared F (Bor D × (N × Unit {0})) (Result K EditError)) (key : F) (same : CstRootNode A → D) (node_of : N → CstNode) (cmp : K → K → Ordering) where
+    -- the keys that are given of nodes of this document come in an order of what the nodes are
+    pub record KeysCompareTops (lt : Top → Top → Bool) (d : CstRootNode A) : Type 0 where
+      pub as : (x y : N) (k l : K) → Holds d (node_of x) → Holds d (node_of y) → Answers g key (same d) x (Ok k) → Answers g key (same d) y (Ok l)
+          → is_lt (cmp k l) ≡ lt (top_of d (node_of x)) (top_of d (node_of y))
+
+    -- a container of the document has been sorted by them, without groups
+    abbrev pub IsSortedByKey : CstRootNode A → CstRootNode A → CstNode → List (Option N) → Headers → Type 0
+    IsSortedByKey old new container nodes h = HasSorted old new container h (IsInKeyOrder g key (same old) cmp nodes (starts_of old container false))
 
   -- where an array has been sorted by an order of what its elements are, a second sort by it changes no byte; and so of an object
   abbrev pub IsUntouched : CstRootNode A → CstRootNode A → Type 0
@@ -55,4 +70,25 @@ module _ {A : Type 0} where
       → IsSortedBy g compare same object_prop_node old now (object_node object) (properties_asked old (object_node object)) h
       → ComparesTops g compare same object_prop_node lt now
       → IsSortedBy g compare same object_prop_node now new (object_node object) (properties_asked now (object_node object)) k
+      → IsUntouched now new
+
+  -- and so where they have been sorted by keys
+  abbrev pub ElementsSortOnceByKey : {F D K : Type 0} → Shared F (Bor D × (CstNode × Unit {0})) (Result K EditError) → F → (CstRootNode A → D) → (K → K → Ordering)
+      → (Top → Top → Bool) → CstRootNode A → CstRootNode A → CstRootNode A → CstArray → Headers → Headers → Type 0
+  ElementsSortOnceByKey g key same cmp lt old now new array h k =
+      IsStrictWeakOrder lt → IsTree (nodes_of old) → IsTree (nodes_of now) → Holds old (array_node array)
+      → KeysCompareTops g key same (λ x. x) cmp lt old
+      → IsSortedByKey g key same (λ x. x) cmp old now (array_node array) (elements_asked old (array_node array)) h
+      → KeysCompareTops g key same (λ x. x) cmp lt now
+      → IsSortedByKey g key same (λ x. x) cmp now new (array_node array) (elements_asked now (array_node array)) k
+      → IsUntouched now new
+
+  abbrev pub PropertiesSortOnceByKey : {F D K : Type 0} → Shared F (Bor D × (CstObjectProp × Unit {0})) (Result K EditError) → F → (CstRootNode A → D)
+      → (K → K → Ordering) → (Top → Top → Bool) → CstRootNode A → CstRootNode A → CstRootNode A → CstObject → Headers → Headers → Type 0
+  PropertiesSortOnceByKey g key same cmp lt old now new object h k =
+      IsStrictWeakOrder lt → IsTree (nodes_of old) → IsTree (nodes_of now) → Holds old (object_node object)
+      → KeysCompareTops g key same object_prop_node cmp lt old
+      → IsSortedByKey g key same object_prop_node cmp old now (object_node object) (properties_asked old (object_node object)) h
+      → KeysCompareTops g key same object_prop_node cmp lt now
+      → IsSortedByKey g key same object_prop_node cmp now new (object_node object) (properties_asked now (object_node object)) k
       → IsUntouched now new

@@ -5,9 +5,9 @@ ghost use Rattle.jsonc_sort.specs.Sorting.{Headers};
 ghost use Rattle.jsonc_cst.specs.declared.cst.CstRootNode.{CstRootNode};
 ghost use Rattle.jsonc_cst.specs.declared.cst.node.CstArray.{CstArray};
 ghost use Rattle.jsonc_cst.specs.declared.cst.node.CstObject.{CstObject};
-ghost use Rattle.jsonc_sorting_laws.specs.Typed.{ElementsSortOnce, PropertiesSortOnce};
+ghost use Rattle.jsonc_sorting_laws.specs.Typed.{ElementsSortOnce, ElementsSortOnceByKey, PropertiesSortOnce, PropertiesSortOnceByKey};
 
-use jsonc_cst::cst::{CstNode, CstObjectProp};
+use jsonc_cst::cst::{CstNode, CstObjectProp, EditError};
 use jsonc_typed::IsDocument;
 use std::alloc::Allocator;
 use std::cmp::Ordering;
@@ -24,4 +24,19 @@ pub fn second_sorts_change_no_byte<
         (h k : Headers) → ElementsSortOnce C.Fn compare D.same lt old now new array h k }
     ensures properties { (compare : P) (lt : Top → Top → Bool) (old now new : CstRootNode A) (object : CstObject)
         (h k : Headers) → PropertiesSortOnce P.Fn compare D.same lt old now new object h k }
+{}
+
+/// A second sort of a typed array or object by keys changes no byte, where the keys come both times in an
+/// order of what the elements are, each with what is below it.
+pub fn second_sorts_by_key_change_no_byte<
+    A: Allocator + Copy,
+    D: IsDocument<A>,
+    K: Ord + Drop,
+    F: Fn(&D, CstNode) -> Result<K, EditError>,
+    P: Fn(&D, CstObjectProp) -> Result<K, EditError>,
+>()
+    ensures elements { (key : F) (lt : Top → Top → Bool) (old now new : CstRootNode A) (array : CstArray)
+        (h k : Headers) → ElementsSortOnceByKey F.Fn key D.same K.cmp lt old now new array h k }
+    ensures properties { (key : P) (lt : Top → Top → Bool) (old now new : CstRootNode A) (object : CstObject)
+        (h k : Headers) → PropertiesSortOnceByKey P.Fn key D.same K.cmp lt old now new object h k }
 {}
