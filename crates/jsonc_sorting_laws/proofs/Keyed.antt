@@ -14,8 +14,8 @@ use denote.Param.Members.{Shared}
 use Rattle.jsonc_tree.specs.Content.{Content}
 use Rattle.jsonc_tree.specs.OrderedTree.{Top, ordered_tree, printed}
 use Rattle.jsonc_tree.specs.Tree.{Node, children_at, content_at, IsTree}
-use Rattle.jsonc_nodes.specs.Kinds.{is_property}
-use Rattle.jsonc_nodes.specs.Siblings.{elements_at, is_element_at, AreThere}
+use Rattle.jsonc_nodes.specs.Kinds.{is_element_at, is_property}
+use Rattle.jsonc_nodes.specs.Siblings.{elements_at, AreThere}
 use Rattle.jsonc_nodes.proofs.There.{children_there}
 use Rattle.jsonc_edit.specs.Changes.{top_at}
 use Rattle.jsonc_edit.specs.declared.error.EditError.{EditError}
@@ -35,7 +35,7 @@ use Rattle.jsonc_sorting.specs.Rows.{property_if}
 use Rattle.jsonc_sort_laws.specs.Again.{tops_asked, IsInOrderOf}
 use Rattle.jsonc_sort_laws.proofs.Once.{sorts_once}
 use Rattle.jsonc_sorting_laws.specs.Typed.{ElementsSortOnceByKey, IsSortedByKey, IsUntouched, KeysCompareTops, PropertiesSortOnceByKey}
-use Rattle.jsonc_sorting_laws.proofs.Typed.{count, elements_picked, every, node_top, properties_picked, told_in, tops_of, Picks}
+use Rattle.jsonc_sorting_laws.proofs.Typed.{count, elements_picked, every, properties_picked, told_in, tops_of, Picks}
 
 none_some : {T : Type 0} (x : T) → None ≡ Some x → ⊥
 none_some x e = cc
@@ -54,26 +54,26 @@ module _ {N : Type 0} (node_of : N → CstNode) (pick : CstNode → Option N) wh
   held_in finds ns (n ∷ es) there (suc i) x e = held_in finds ns es (λ k d l. there (suc k) d (omega (arith, l))) i x e
 
 elements_there : (ns : List Node) (c : ℕ) → IsTree ns → AreThere ns (elements_at ns c)
-elements_there ns c tree = All-filter (λ m. m < length ns) (is_element_at ns) (children_at ns c) (children_there ns tree c)
+elements_there ns c tree = All-filter (is_element_at ns) (λ m. m < length ns) (children_at ns c) (children_there ns tree c)
 
 module _ {A F D N K : Type 0} (g : Shared F (Bor D × (N × Unit {0})) (Result K EditError)) (key : F) (same : CstRootNode A → D) (node_of : N → CstNode) (cmp : K → K → Ordering) (lt : Top → Top → Bool) where
-  before : K → K → Bool
+  abbrev before : K → K → Bool
   before k l = is_lt (cmp k l)
 
   -- the keys of two nodes come in the order of what the nodes are
   module _ (d : CstRootNode A) (tell : KeysCompareTops g key same node_of cmp lt d) where
     abbrev told : N → Top
-    told = node_top node_of (nodes_of d)
+    told x = top_at (nodes_of d) (number_of (node_of x))
 
     abbrev IsHeld : Option N → Type 0
     IsHeld o = (x : N) → o ≡ Some x → Holds d (node_of x)
 
     both : (x y : Option N) (k l : Option K) → IsHeld x → IsHeld y → IsKeyOf g key (same d) x k → IsKeyOf g key (same d) y l → option_before before k l ≡ option_before lt (option_map told x) (option_map told y)
     both (Some x) (Some y) k l hx hy kx ky =
-        ap (λ (o : Option K). option_before before o l) kx.1.0 ∙ ap (λ (o : Option K). option_before before (Some kx.0) o) ky.1.0
-        ∙ tell.as x y kx.0 ky.0 (hx x refl) (hy y refl) kx.1.1 ky.1.1
-    both (Some x) None k l hx hy kx ky = ap (λ (o : Option K). option_before before o l) kx.1.0 ∙ ap (λ (o : Option K). option_before before (Some kx.0) o) ky
-    both None (Some y) k l hx hy kx ky = ap (λ (o : Option K). option_before before o l) kx ∙ ap (λ (o : Option K). option_before before None o) ky.1.0
+        ap (λ (o : Option K). option_before before o l) kx.1 ∙ ap (λ (o : Option K). option_before before (Some kx.0) o) ky.1
+        ∙ tell.tells x y kx.0 ky.0 (hx x refl) (hy y refl) kx.2 ky.2
+    both (Some x) None k l hx hy kx ky = ap (λ (o : Option K). option_before before o l) kx.1 ∙ ap (λ (o : Option K). option_before before (Some kx.0) o) ky
+    both None (Some y) k l hx hy kx ky = ap (λ (o : Option K). option_before before o l) kx ∙ ap (λ (o : Option K). option_before before None o) ky.1
     both None None k l hx hy kx ky = ap (λ (o : Option K). option_before before o l) kx ∙ ap (λ (o : Option K). option_before before None o) ky
 
     -- past the row there is neither node nor key
@@ -105,7 +105,7 @@ module _ {A F D N K : Type 0} (g : Shared F (Bor D × (N × Unit {0})) (Result K
         let held : (i : ℕ) (x : N) → node_in nodes i ≡ Some x → Holds old (node_of x) = held_in node_of pick finds ns es (elements_there ns (number_of node) tree) in
         subst (λ (n : ℕ). IsOrderedBy (comes_before lt (tops_asked asked ns (number_of node)) []) n s.order) (count node_of pick asked picks ns es)
         (subst (λ (l : List (Option Top)). IsOrderedBy (comes_before lt l []) (length nodes) s.order) (tops_of node_of pick asked picks ns es)
-        (subst (λ (f : ℕ → ℕ → Bool). IsOrderedBy f (length nodes) s.order) (λ k i j. comes old tell nodes s.wanted.0 s.wanted.1.0 held i j k) s.wanted.1.1))
+        (subst (λ (f : ℕ → ℕ → Bool). IsOrderedBy f (length nodes) s.order) (λ k i j. comes old tell nodes s.wanted.0 s.wanted.1 held i j k) s.wanted.2))
 
     once : (old now new : CstRootNode A) (node : CstNode) (h k : Headers) → IsStrictWeakOrder lt → IsTree (nodes_of old) → IsTree (nodes_of now) → Holds old node
         → KeysCompareTops g key same node_of cmp lt old

@@ -43,7 +43,7 @@ module _ {A : Type 0} where
   module _ {F D N K : Type 0} (g : Shared F (Bor D × (N × Unit {0})) (Result K EditError)) (key : F) (same : CstRootNode A → D) (node_of : N → CstNode) (cmp : K → K → Ordering) where
     -- the keys that are given of nodes of this document come in an order of what the nodes are
     pub record KeysCompareTops (lt : Top → Top → Bool) (d : CstRootNode A) : Type 0 where
-      pub as : (x y : N) (k l : K) → Holds d (node_of x) → Holds d (node_of y) → Answers g key (same d) x (Ok k) → Answers g key (same d) y (Ok l)
+      pub tells : (x y : N) (k l : K) → Holds d (node_of x) → Holds d (node_of y) → Answers g key (same d) x (Ok k) → Answers g key (same d) y (Ok l)
           → is_lt (cmp k l) ≡ lt (top_of d (node_of x)) (top_of d (node_of y))
 
     -- a container of the document has been sorted by them, without groups
