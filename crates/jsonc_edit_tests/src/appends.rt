@@ -43,6 +43,27 @@ fn appended<A: Allocator + Copy>(alloc: A) -> Outcome {
     }
 }
 
+/// Puts a value in between the two elements of a document's array.
+fn insert_into<A: Allocator + Copy>(doc: CstRootNode<A>, value: CstInputValue<A>) -> Outcome {
+    let mut doc = doc;
+    let Some(array) = doc.array_value() else {
+        return Outcome::Other;
+    };
+    match array.insert(&mut doc, 1, value) {
+        Ok(_) => Outcome::of(prints(&doc, "[1, 9,  2]")),
+        Err(error) if prints(&doc, "[1, 2]") => Outcome::from(error),
+        Err(_) => Outcome::Other,
+    }
+}
+
+fn inserted<A: Allocator + Copy>(alloc: A) -> Outcome {
+    match (read(alloc, "[1, 2]"), number(alloc, "9")) {
+        (Ok(doc), Ok(value)) => insert_into(doc, value),
+        (Err(outcome), _) => outcome,
+        (_, Err(error)) => Outcome::from(error),
+    }
+}
+
 /// The edits by which the array grows.
 fn edits<A: Allocator + Copy>(alloc: A) -> Result<Vec<Edit<A>, A>, AllocError> {
     let mut edits = Vec::new(alloc);
@@ -90,6 +111,7 @@ fn refused_at_last(alloc: Global) -> Outcome {
 #[test]
 fn values_that_come_in_are_refused_in_turn(rt: HostRuntime) -> Result<(), Fail> {
     assert!(rt; answers_in_turn(rt.alloc(), |heap| appended(heap)));
+    assert!(rt; answers_in_turn(rt.alloc(), |heap| inserted(heap)));
     assert!(rt; answers_in_turn(rt.alloc(), |heap| listed(heap)));
     assert!(rt; refused_at_last(rt.alloc()) == Outcome::Wanted);
     Ok(())

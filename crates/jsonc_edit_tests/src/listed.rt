@@ -1,12 +1,12 @@
-//! Lists of edits that set trailing commas and sort: what they print, where they stop, and the memory that
-//! they want.
+//! Lists of edits that set trailing commas, sort, and put a value in between two: what they print, where they
+//! stop, and the memory that they want.
 
 ghost use Rattle.jsonc_cst.specs.Document.{Holds};
 
 use crate::reading::read;
 use jsonc_parser::cst::{
-    CstContainerNode, CstLeafNode, CstNode, CstRootNode, Edit, EditError, ObjectPropName,
-    TrailingCommaMode, run,
+    CstContainerNode, CstInputValue, CstLeafNode, CstNode, CstRootNode, Edit, EditError,
+    ObjectPropName, TrailingCommaMode, run,
 };
 use refusing::awaited::prints;
 use refusing::in_turn::answers_in_turn;
@@ -19,6 +19,14 @@ use std::test::Fail;
 const BARE: &str = "[\n  1,\n  {\"a\": [2]}\n]";
 
 const SET: &str = "[\n  1,\n  {\"a\": [2]},\n]";
+
+/// An array on several lines in another, the same with a comma behind the last element of the outer one, and
+/// with one behind that of each.
+const NESTED: &str = "[\n  [\n    1\n  ]\n]";
+
+const OUTER_SET: &str = "[\n  [\n    1\n  ],\n]";
+
+const BOTH_SET: &str = "[\n  [\n    1,\n  ],\n]";
 
 /// The text of a number, or of a property's name, or nothing of another node.
 fn text_of<'a, A: Allocator>(doc: &'a CstRootNode<A>, node: CstNode) -> &'a str
@@ -109,10 +117,44 @@ fn made<A: Allocator + Copy>(
     }
 }
 
+/// What comes of commas in both arrays: where one is refused those before it may stand.
+fn set_both<A: Allocator + Copy>(doc: CstRootNode<A>, edits: Vec<Edit<A>, A>) -> Outcome {
+    let mut doc = doc;
+    match make(&mut doc, edits) {
+        Ok(()) => Outcome::of(prints(&doc, BOTH_SET)),
+        Err((0, error)) if prints(&doc, NESTED) || prints(&doc, OUTER_SET) => Outcome::from(error),
+        Err(_) => Outcome::Other,
+    }
+}
+
+fn both_set<A: Allocator + Copy>(alloc: A) -> Outcome {
+    match (read(alloc, NESTED), first_comma(alloc)) {
+        (Ok(doc), Ok(edits)) => set_both(doc, edits),
+        (Err(outcome), _) => outcome,
+        (_, Err(error)) => Outcome::from(error),
+    }
+}
+
+/// A 9 that comes in between the two elements of an array.
+fn insertion<A: Allocator + Copy>(alloc: A) -> Result<Vec<Edit<A>, A>, AllocError> {
+    let mut edits = Vec::new(alloc);
+    let value = CstInputValue::Number(String::from_str(alloc, "9")?);
+    edits.push(Edit::InsertElement(Vec::new(alloc), 1, value))?;
+    Ok(edits)
+}
+
+#[test]
+fn insertions_are_refused_in_turn(rt: HostRuntime) -> Result<(), Fail> {
+    let (old, new) = ("[1, 2]", "[1, 9,  2]");
+    assert!(rt; answers_in_turn(rt.alloc(), |heap| made(heap, insertion(heap), old, new)));
+    Ok(())
+}
+
 #[test]
 fn commas_are_refused_in_turn(rt: HostRuntime) -> Result<(), Fail> {
     assert!(rt; answers_in_turn(rt.alloc(), |heap| made(heap, first_comma(heap), BARE, SET)));
     assert!(rt; answers_in_turn(rt.alloc(), |heap| made(heap, commas(heap), BARE, BARE)));
+    assert!(rt; answers_in_turn(rt.alloc(), |heap| both_set(heap)));
     Ok(())
 }
 

@@ -6,7 +6,10 @@
 //! nodes that a call answers are nodes of the document that was asked. [`ReplaceWith`],
 //! [`ReplaceProperty`], [`Remove`] and [`RemoveLeaf`] are the edits of nodes, [`SetRoot`] has those of
 //! the document's value, [`SetProperty`] those of a property's, and [`SetBoolean`] that of a truth value;
-//! [`EnsureMultiline`] puts an array or object on several lines.
+//! by [`InsertElement`] a value comes into an array, and by [`InsertProperty`] a property into an object, in
+//! which [`EnsureProperty`] sees that one of a name has an array or object. [`EnsureMultiline`] puts an array
+//! or object on several lines, [`SetTrailingCommas`] sets trailing commas or takes them away, and
+//! [`SortElements`] and [`SortProperties`] sort.
 //! [`SetRawValue`], [`SetToken`], [`SetWhitespace`] and [`SetNewline`] write a leaf anew as it stands.
 //! [`run`] makes a list of edits, each at its path.
 
