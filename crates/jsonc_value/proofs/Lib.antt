@@ -1,4 +1,5 @@
 pub mod Zipped
+pub mod Held
 pub mod Lists
 pub mod Places
 pub mod Retained

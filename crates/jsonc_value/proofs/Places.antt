@@ -18,7 +18,7 @@ get_or_same (u ∷ vs) (suc i) v w e = get_or_same vs i v w (omega (arith, e))
 same_default : {V : Type 0} (vs : List V) (i : ℕ) (v : V) → i < length vs → get_or vs i v ≡ get_or vs i (get_or vs i v)
 same_default vs i v e = get_or_same vs i v (get_or vs i v) e
 
-place_absent : {K : Type 0} (p : K → Bool) (ks : List K) → list_any p ks ≡ false → position_or_len p ks ≡ length ks
+pub place_absent : {K : Type 0} (p : K → Bool) (ks : List K) → list_any p ks ≡ false → position_or_len p ks ≡ length ks
 place_absent p [] e = refl
 place_absent p (k ∷ ks) e = let both = apart (p k) (list_any p ks) e in rw both.0 (let below = place_absent p ks both.1 in omega (arith, below))
 

@@ -1,4 +1,6 @@
 pub mod formers
+pub mod Held
+pub mod Left
 pub mod Equal
 pub mod Names
 pub mod Kinds

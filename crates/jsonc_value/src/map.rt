@@ -11,30 +11,32 @@ ghost use Rattle.std.specs.Map.Iter.{deref_pair};
 ghost use Rattle.std.specs.List.{IsDistinct};
 ghost use Rattle.std.specs.Slice.Iter.{iter_rest};
 ghost use Rattle.std.specs.Vec.Iter.{into_iter_items};
-ghost use Rattle.std.specs.Vec.{vec_capacity};
 ghost use Rattle.indexmap.specs.IndexMap.{insert_entry};
-ghost use Rattle.indexmap.specs.IndexSet.{index_set_len, spare};
 ghost use Rattle.jsonc_value.specs.Names.{is_named};
 
 mod equality;
 mod iter;
+mod key_list;
 mod lends;
 mod lists;
 mod retain;
 
-use indexmap::{IndexSet, set};
-pub use iter::{IntoIter, Iter};
+#[doc(hidden)]
+pub use iter::Left;
+pub use iter::{IntoIter, IntoKeys, Iter};
+#[doc(hidden)]
+pub use key_list::{Held, KeyList};
 pub use lends::Entry;
 use std::alloc::{AllocError, AllocFailed, Allocator};
 use std::borrow::CowStr;
-use std::hash::{BuildHasherDefault, FoldHasher, Hash};
+use std::hash::Hash;
 use std::marker::Model;
 use std::{mem, slice, vec};
 
 /// A map whose pairs keep the order in which their keys were first inserted.
 #[derive(Drop)]
 pub struct Map<K: Eq + Hash, V, A: Allocator> {
-    keys: IndexSet<K, BuildHasherDefault<FoldHasher>, A>,
+    keys: KeyList<K, A>,
     // The value of each key, in the keys' order.
     values: Vec<V, A>,
 }
@@ -48,9 +50,9 @@ impl<K: Eq + Hash, V, A: Allocator> Model for Map<K, V, A> {
 
     ghost coded = { coded_list (coded× K.code V.code) };
 
-    ghost view = { λ m. zip m.keys.keys m.values.items };
+    ghost view = { λ m. zip m.keys m.values.items };
 
-    ghost invariant = { λ m. length m.values.items ≡ length m.keys.keys };
+    ghost invariant = { λ m. length m.values.items ≡ length m.keys };
 }
 
 impl<K: Eq + Hash, V, A: Allocator + Copy> Map<K, V, A> {
@@ -59,7 +61,7 @@ impl<K: Eq + Hash, V, A: Allocator + Copy> Map<K, V, A> {
         ensures { result ≡ [] }
     {
         Map {
-            keys: IndexSet::new(alloc),
+            keys: KeyList::new(alloc),
             values: Vec::new(alloc),
         }
     }
@@ -70,20 +72,17 @@ impl<K: Eq + Hash, V, A: Allocator + Copy> Map<K, V, A> {
         K: Drop,
         ensures { IfOk result (λ m. m ≡ []) }
     {
-        let keys = IndexSet::with_capacity(alloc, capacity)?;
+        let keys = KeyList::with_capacity(alloc, capacity)?;
         let values = Vec::with_capacity(alloc, capacity)?;
         Ok(Map { keys, values })
     }
 }
 
-/// How many pairs these keys and values can hold without more memory: as many as both can.
-fn pairs_held<K: Eq + Hash, V, A: Allocator>(
-    keys: &IndexSet<K, BuildHasherDefault<FoldHasher>, A>,
-    values: &Vec<V, A>,
-) -> usize
-    ensures { result ≡ min (index_set_len keys.now + spare keys.now) (vec_capacity values.now) }
+/// The lesser of two numbers of pairs: a map holds as many as both its keys and its values can.
+fn pairs_held(keys: usize, values: usize) -> usize
+    ensures { result ≡ min keys values }
 {
-    keys.capacity().min(values.capacity())
+    keys.min(values)
 }
 
 impl<K: Eq + Hash, V, A: Allocator> Map<K, V, A> {
@@ -106,11 +105,14 @@ impl<K: Eq + Hash, V, A: Allocator> Map<K, V, A> {
     pub fn capacity(&self) -> usize
         ensures { length self.now ≤ result }
     {
-        pairs_held(&self.keys, &self.values)
+        pairs_held(self.keys.capacity(), self.values.capacity())
     }
 
     /// Makes room for this many more pairs. A refusal leaves the pairs as they are.
     pub fn reserve(&mut self, additional: usize) -> Result<(), AllocError>
+    where
+        K: Drop,
+        A: Copy,
         ensures { self.new ≡ self.old }
     {
         self.keys.reserve(additional)?;
@@ -133,7 +135,7 @@ impl<K: Eq + Hash, V, A: Allocator> Map<K, V, A> {
         requires { index < length self.now }
         ensures { slice_get self.now index ≡ Some (result.0.now, result.1.now) }
     {
-        (&self.keys[index], &self.values[index])
+        (self.keys.at(index), &self.values[index])
     }
 
     /// The value of this key.
@@ -195,8 +197,8 @@ impl<K: Eq + Hash, V, A: Allocator> Map<K, V, A> {
     }
 
     /// The keys, in their order.
-    pub fn keys(&self) -> set::Iter<'_, K>
-        ensures { result ≡ keys_of self.now }
+    pub fn keys(&self) -> slice::Iter<'_, K>
+        ensures { iter_rest result ≡ keys_of self.now }
     {
         self.keys.iter()
     }
@@ -209,7 +211,7 @@ impl<K: Eq + Hash, V, A: Allocator> Map<K, V, A> {
     }
 
     /// The keys, in their order, by value.
-    pub fn into_keys(self) -> set::IntoIter<K, A>
+    pub fn into_keys(self) -> IntoKeys<K, A>
     where
         K: Drop,
         V: Drop,
@@ -255,7 +257,7 @@ impl<'a, V, A: Allocator> Map<CowStr<'a, A>, V, A> {
     }
 }
 
-impl<K: Eq + Hash + Drop, V, A: Allocator> Map<K, V, A> {
+impl<K: Eq + Hash + Drop, V, A: Allocator + Copy> Map<K, V, A> {
     /// Gives this key the value. A new key goes last; a present one keeps its place, and its old
     /// value is given back. A refusal gives the pair back and changes nothing.
     pub fn insert(&mut self, key: K, value: V) -> Result<Option<V>, AllocFailed<(K, V)>>

@@ -56,10 +56,68 @@ impl<'a, K, V> Iterator for Iter<'a, K, V> {
     }
 }
 
+/// Where the keys that are left are held.
+#[doc(hidden)]
+#[derive(Drop)]
+pub enum Left<K, A: Allocator> {
+    /// In what was a vector.
+    Few(vec::IntoIter<K, A>),
+    /// In what was a set.
+    Many(set::IntoIter<K, A>),
+}
+
+/// The keys of a map, by value.
+#[derive(Drop)]
+pub struct IntoKeys<K, A: Allocator> {
+    left: Left<K, A>,
+}
+
+impl<K, A: Allocator> Model for IntoKeys<K, A> {
+    ghost use Rattle.std.specs.Prelude.{List};
+    ghost use Rattle.jsonc_value.specs.Left.{left_keys};
+
+    ghost Value = { List K };
+
+    ghost view = { λ s. left_keys s.left };
+}
+
+impl<K, A: Allocator> IntoKeys<K, A> {
+    pub(crate) fn few(keys: vec::IntoIter<K, A>) -> Self
+        ensures { result ≡ into_iter_items keys }
+    {
+        IntoKeys {
+            left: Left::Few(keys),
+        }
+    }
+
+    pub(crate) fn many(keys: set::IntoIter<K, A>) -> Self
+        ensures { result ≡ keys }
+    {
+        IntoKeys {
+            left: Left::Many(keys),
+        }
+    }
+}
+
+impl<K: Drop, A: Allocator> Iterator for IntoKeys<K, A> {
+    type Item = K;
+
+    ghost next_gives = { TakesFirst (λ k. k) };
+
+    ghost remaining = { λ s. at_most (length s) };
+
+    fn next(&mut self) -> Option<K> {
+        match &mut self.left {
+            Left::Few(keys) => keys.next(),
+            Left::Many(keys) => keys.next(),
+        }
+    }
+}
+
 /// The pairs of a map, by value.
 #[derive(Drop)]
 pub struct IntoIter<K, V, A: Allocator> {
-    keys: set::IntoIter<K, A>,
+    keys: IntoKeys<K, A>,
     values: vec::IntoIter<V, A>,
 }
 

@@ -33,6 +33,9 @@ impl<K: Eq + Hash, V, A: Allocator> Map<K, V, A> {
 
     /// The place of this key. A refusal leaves the pairs as they are, and gives the key back.
     pub fn entry(&mut self, key: K) -> Result<Entry<'_, K, V, A>, AllocFailed<K>>
+    where
+        K: Drop,
+        A: Copy,
         ensures* unchanged_at_err { sem 𝓛 (rests_if_refused K.row V.row A.row K.Hash A.Allocator self.entry result) }
         ensures same_map { IfOk result (λ e. e.map.ghost_name ≡ self.entry.ghost_name) }
         ensures map { IfOk result (λ e. e.map.now ≡ self.old) }
@@ -46,7 +49,7 @@ impl<K: Eq + Hash, V, A: Allocator> Map<K, V, A> {
     }
 }
 
-impl<K: Eq + Hash + Drop, V: Drop, A: Allocator> Map<K, V, A> {
+impl<K: Eq + Hash + Drop, V: Drop, A: Allocator + Copy> Map<K, V, A> {
     // The place of this key, which goes last with the value where the map lacks it.
     fn place_or_insert(&mut self, key: K, value: V) -> Result<usize, AllocFailed<V>>
         ensures within { IfOk result (λ i. i < length self.new) }
@@ -70,7 +73,7 @@ impl<K: Eq + Hash + Drop, V: Drop, A: Allocator> Map<K, V, A> {
     }
 }
 
-impl<'a, K: Eq + Hash + Drop, V: Drop, A: Allocator> Entry<'a, K, V, A> {
+impl<'a, K: Eq + Hash + Drop, V: Drop, A: Allocator + Copy> Entry<'a, K, V, A> {
     ghost use Rattle.jsonc_value.specs.Lends.{entry_lends};
 
     /// The value of the key, to write: the map's own, or this one, which goes last with the key.

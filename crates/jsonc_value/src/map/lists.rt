@@ -23,7 +23,7 @@ impl<K: Eq + Hash + Drop, V: Drop, A: Allocator + Copy> Map<K, V, A> {
     }
 }
 
-impl<K: Eq + Hash + Drop, V: Drop, A: Allocator> Map<K, V, A> {
+impl<K: Eq + Hash + Drop, V: Drop, A: Allocator + Copy> Map<K, V, A> {
     /// Inserts these pairs one after another. A refusal leaves those before the refused one
     /// inserted, and gives back that one and those after it.
     pub fn extend_list<B: Allocator>(

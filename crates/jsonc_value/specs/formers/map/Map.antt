@@ -17,10 +17,7 @@ use Rattle.std.specs.Map.{values_of}
 use Rattle.std.specs.declared.alloc.Allocator as alloc
 use Rattle.std.specs.declared.cmp.PartialEq as eq
 use Rattle.std.specs.declared.hash.Hash as hash
-use Rattle.std.specs.declared.hash.BuildHasherDefault.{BuildHasherDefault}
-use Rattle.std.specs.declared.hash.FoldHasher.{FoldHasher}
 use Rattle.std.specs.HashMap.{entries_eq}
-use Rattle.std.specs.HashSet.{HashSet}
 use Rattle.std_collections.specs.formers.hash_map.HashMap.{entries_eq-map}
 use Rattle.std.specs.formers.vec.Vec as vec
 use Rattle.std_collections.specs.Layout.Former.{entry, on_value, entries_puts, values_listed, entries_recoded}
@@ -57,15 +54,15 @@ zipped_holds K X (k ∷ ks) [] even = absurd (omega arith)
 zipped_holds K X (k ∷ ks) (v ∷ vs) even = let below = zipped_holds K X ks vs (omega arith) in λ i. (one_more (below i).0, (v, (below i).1))
 
 abbrev stored : Type 0 → Type 0 → Former {0}
-stored K A = via (pair (const (HashSet K (BuildHasherDefault FoldHasher))) (vec.the_former this A)) (λ X. Inside K X A)
+stored K A = via (pair (const (List K)) (vec.the_former this A)) (λ X. Inside K X A)
     (λ X m. (m.keys, m.values)) (λ X m. record { keys = m.0; values = m.1 }) (λ X m. refl) (λ X m. refl)
 
 module _ (K A : RattleType) (G : eq.Ghosts K.Denot) (H : hash.Ghosts K.Denot) (L : alloc.Ghosts A.Denot) (R R' : RattleType) (h : R.Denot → R'.Denot) where
   pub the_places : Alike R R' h → Alike (C.the_row K R A G H L) (C.the_row K R' A G H L) ((the_former this K.Denot A.Denot).map R.Denot R'.Denot h)
   the_places a = view_places_where (stored K.Denot A.Denot) (the_former this K.Denot A.Denot) (λ X. view K.Denot X A.Denot G H L)
-      (λ X Y f m. zipped_over f m.keys.keys m.values.items)
+      (λ X Y f m. zipped_over f m.keys m.values.items)
       (λ X m. length m.values.items
-      ≡ length m.keys.keys) (λ X Y f m e. sym (length-map m.values.items f) ∙ e) (λ X m e. zipped_holds K.Denot X m.keys.keys m.values.items e)
+      ≡ length m.keys) (λ X Y f m e. sym (length-map m.values.items f) ∙ e) (λ X m e. zipped_holds K.Denot X m.keys m.values.items e)
       R.Denot R'.Denot h (C.the_row K R A G H L).coded (C.the_row K R' A G H L).coded
       (invariant K.Denot R.Denot A.Denot G H L) (invariant K.Denot R'.Denot A.Denot G H L) (λ m. ℕ_set _ _) (λ m. ℕ_set _ _)
       (λ m e. length-map m.values.items h ∙ e) (λ m e. sym (length-map m.values.items h) ∙ e) (λ m e. e)

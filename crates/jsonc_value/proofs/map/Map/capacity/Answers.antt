@@ -4,7 +4,7 @@ use Rattle.jsonc_value.proofs.map.Map.capacity.Goals as goal
 
 pub returns : goal.returns
 returns g c =
-    let ks = c.self.inside.keys.keys in
+    let ks = c.self.inside.keys in
     let vs = c.self.inside.values.items in
     let even = length_of_zip ks vs c.self.invariant in
     let seen = ap length c.self.view_is in

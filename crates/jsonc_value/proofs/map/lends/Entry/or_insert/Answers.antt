@@ -7,11 +7,11 @@ use Rattle.jsonc_value.proofs.Zipped.{length_of_zip}
 use Rattle.jsonc_value.proofs.map.lends.Entry.or_insert.Goals as goal
 
 pub index_mut-requires : goal.index_mut-requires
-index_mut-requires g c = omega (arith, c.in-Ok.ensures.within, c.map.invariant, length_of_zip c.map.inside.keys.keys c.map.inside.values.items c.map.invariant, ap length c.map.view_is)
+index_mut-requires g c = omega (arith, c.in-Ok.ensures.within, c.map.invariant, length_of_zip c.map.inside.keys c.map.inside.values.items c.map.invariant, ap length c.map.view_is)
 
 pub returns-in-Ok : goal.returns-in-Ok
 returns-in-Ok g c =
-    let ks = c.map.inside.keys.keys in
+    let ks = c.map.inside.keys in
     let vs = c.map.inside.values.items in
     let i = c.in-Ok.index in
     let now = c.index_mut.result.now in
