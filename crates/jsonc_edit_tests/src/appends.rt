@@ -64,6 +64,31 @@ fn inserted<A: Allocator + Copy>(alloc: A) -> Outcome {
     }
 }
 
+/// The same by a list of one edit.
+fn insert_listed<A: Allocator + Copy>(doc: CstRootNode<A>, edits: Vec<Edit<A>, A>) -> Outcome {
+    let mut doc = doc;
+    let compare = |_doc: &CstRootNode<_>, _one: CstNode, _other: CstNode| Ordering::Equal;
+    match run(&mut doc, edits, &compare) {
+        Ok(()) => Outcome::of(prints(&doc, "[1, 9,  2]")),
+        Err((0, error)) if prints(&doc, "[1, 2]") => Outcome::from(error),
+        Err(_) => Outcome::Other,
+    }
+}
+
+fn insertion<A: Allocator + Copy>(alloc: A) -> Result<Vec<Edit<A>, A>, AllocError> {
+    let mut edits = Vec::new(alloc);
+    edits.push(Edit::InsertElement(Vec::new(alloc), 1, number(alloc, "9")?))?;
+    Ok(edits)
+}
+
+fn inserted_by_list<A: Allocator + Copy>(alloc: A) -> Outcome {
+    match (read(alloc, "[1, 2]"), insertion(alloc)) {
+        (Ok(doc), Ok(edits)) => insert_listed(doc, edits),
+        (Err(outcome), _) => outcome,
+        (_, Err(error)) => Outcome::from(error),
+    }
+}
+
 /// The edits by which the array grows.
 fn edits<A: Allocator + Copy>(alloc: A) -> Result<Vec<Edit<A>, A>, AllocError> {
     let mut edits = Vec::new(alloc);
@@ -112,6 +137,7 @@ fn refused_at_last(alloc: Global) -> Outcome {
 fn values_that_come_in_are_refused_in_turn(rt: HostRuntime) -> Result<(), Fail> {
     assert!(rt; answers_in_turn(rt.alloc(), |heap| appended(heap)));
     assert!(rt; answers_in_turn(rt.alloc(), |heap| inserted(heap)));
+    assert!(rt; answers_in_turn(rt.alloc(), |heap| inserted_by_list(heap)));
     assert!(rt; answers_in_turn(rt.alloc(), |heap| listed(heap)));
     assert!(rt; refused_at_last(rt.alloc()) == Outcome::Wanted);
     Ok(())

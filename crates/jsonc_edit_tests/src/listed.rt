@@ -1,12 +1,12 @@
-//! Lists of edits that set trailing commas, sort, and put a value in between two: what they print, where they
-//! stop, and the memory that they want.
+//! Lists of edits that set trailing commas and sort: what they print, where they stop, and the memory that
+//! they want.
 
 ghost use Rattle.jsonc_cst.specs.Document.{Holds};
 
 use crate::reading::read;
 use jsonc_parser::cst::{
-    CstContainerNode, CstInputValue, CstLeafNode, CstNode, CstRootNode, Edit, EditError,
-    ObjectPropName, TrailingCommaMode, run,
+    CstContainerNode, CstLeafNode, CstNode, CstRootNode, Edit, EditError, ObjectPropName,
+    TrailingCommaMode, run,
 };
 use refusing::awaited::prints;
 use refusing::in_turn::answers_in_turn;
@@ -133,21 +133,6 @@ fn both_set<A: Allocator + Copy>(alloc: A) -> Outcome {
         (Err(outcome), _) => outcome,
         (_, Err(error)) => Outcome::from(error),
     }
-}
-
-/// A 9 that comes in between the two elements of an array.
-fn insertion<A: Allocator + Copy>(alloc: A) -> Result<Vec<Edit<A>, A>, AllocError> {
-    let mut edits = Vec::new(alloc);
-    let value = CstInputValue::Number(String::from_str(alloc, "9")?);
-    edits.push(Edit::InsertElement(Vec::new(alloc), 1, value))?;
-    Ok(edits)
-}
-
-#[test]
-fn insertions_are_refused_in_turn(rt: HostRuntime) -> Result<(), Fail> {
-    let (old, new) = ("[1, 2]", "[1, 9,  2]");
-    assert!(rt; answers_in_turn(rt.alloc(), |heap| made(heap, insertion(heap), old, new)));
-    Ok(())
 }
 
 #[test]
