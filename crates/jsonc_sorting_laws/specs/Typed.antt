@@ -40,7 +40,8 @@ module _ {A : Type 0} where
     IsSortedBy old new container nodes h =
         HasSorted old new container h (IsInItsOrder g compare (same old) (λ x. Holds old (node_of x)) nodes (starts_of old container false))
 
-  module _ {F D N K : Type 0} (g : Shared F (Bor D × (N × Unit {0})) (Result K EditError)) (key : F) (same : CstRootNode A → D) (node_of : N → CstNode) (cmp : K → K → Ordering) where
+  module _ {F D N K : Type 0} (g : Shared F (Bor D × (N × Unit {0})) (Result K EditError)) (key : F) (same : CstRootNode A → D) (node_of : N → CstNode)
+      (cmp : K → K → Ordering) where
     -- the keys that are given of nodes of this document come in an order of what the nodes are
     pub record KeysCompareTops (lt : Top → Top → Bool) (d : CstRootNode A) : Type 0 where
       pub tells : (x y : N) (k l : K) → Holds d (node_of x) → Holds d (node_of y) → Answers g key (same d) x (Ok k) → Answers g key (same d) y (Ok l)
@@ -73,8 +74,8 @@ module _ {A : Type 0} where
       → IsUntouched now new
 
   -- and so where they have been sorted by keys
-  abbrev pub ElementsSortOnceByKey : {F D K : Type 0} → Shared F (Bor D × (CstNode × Unit {0})) (Result K EditError) → F → (CstRootNode A → D) → (K → K → Ordering)
-      → (Top → Top → Bool) → CstRootNode A → CstRootNode A → CstRootNode A → CstArray → Headers → Headers → Type 0
+  abbrev pub ElementsSortOnceByKey : {F D K : Type 0} → Shared F (Bor D × (CstNode × Unit {0})) (Result K EditError) → F → (CstRootNode A → D)
+      → (K → K → Ordering) → (Top → Top → Bool) → CstRootNode A → CstRootNode A → CstRootNode A → CstArray → Headers → Headers → Type 0
   ElementsSortOnceByKey g key same cmp lt old now new array h k =
       IsStrictWeakOrder lt → IsTree (nodes_of old) → IsTree (nodes_of now) → Holds old (array_node array)
       → KeysCompareTops g key same (λ x. x) cmp lt old
