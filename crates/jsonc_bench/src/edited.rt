@@ -2,9 +2,9 @@
 use crate::show::push_fault;
 use jsonc_cases::edits::Step;
 use jsonc_cases::escape::Escaped;
+use jsonc_cases::make_step;
 use jsonc_parser::ParseOptions;
 use jsonc_parser::cst::CstRootNode;
-use jsonc_steps::make_step;
 use std::alloc::{AllocError, Global};
 
 /// How the edits end, and how the document prints after those that were made; or the text's fault.

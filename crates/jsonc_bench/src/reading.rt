@@ -8,13 +8,13 @@ use crate::input::push_input;
 use crate::show::{push_fault, push_string_kind};
 use jsonc_cases::edits::Step;
 use jsonc_cases::escape::Escaped;
+use jsonc_cases::push_children;
 use jsonc_lines::indents_at;
 use jsonc_parser::ParseOptions;
 use jsonc_parser::cst::{
     CstComment, CstContainerNode, CstLeafNode, CstNewlineKind, CstNode, CstObjectProp, CstRootNode,
     CstStringLit, HasChildren, IsNode, Readings,
 };
-use jsonc_steps::push_children;
 use std::alloc::{AllocError, Global};
 
 /// How the edits end, and the readings of the text's document after them and of its nodes in printed

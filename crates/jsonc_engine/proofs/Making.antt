@@ -18,22 +18,22 @@ use Rattle.jsonc_edit.specs.declared.error.EditError.{EditError}
 use Rattle.jsonc_edit.specs.declared.error.EditError.TheVariants.{OutOfMemory}
 use Rattle.jsonc_edit.proofs.FittingFinds.{none_is_some}
 use Rattle.jsonc_set.specs.Kinds.{FoundOrCreated}
-use Rattle.jsonc_named.specs.Places.{IsPropertyOf, a_property}
-use Rattle.jsonc_named.specs.Shapes.{has_shape, is_of, empty_of}
-use Rattle.jsonc_named.specs.declared.shape.Shape.{Shape}
-use Rattle.jsonc_named.specs.declared.shape.Shape.TheVariants.{Object, Array}
-use Rattle.jsonc_run.proofs.Ensured.{held}
-use Rattle.jsonc_named.proofs.PropertyValues.{value_held}
-use Rattle.jsonc_run.proofs.Roots.{value_stands}
+use Rattle.jsonc_parser.specs.Below.named.Places.{IsPropertyOf, a_property}
+use Rattle.jsonc_parser.specs.Below.named.Shapes.{has_shape, is_of, empty_of}
+use Rattle.jsonc_parser.specs.Below.named.declared.shape.Shape.{Shape}
+use Rattle.jsonc_parser.specs.Below.named.declared.shape.Shape.TheVariants.{Object, Array}
+use Rattle.jsonc_parser.proofs.Below.run.Ensured.{held}
+use Rattle.jsonc_parser.proofs.Below.named.PropertyValues.{value_held}
+use Rattle.jsonc_parser.proofs.Below.run.Roots.{value_stands}
 use Rattle.jsonc_cst.specs.declared.cst.node.CstArray.{CstArray}
 use Rattle.jsonc_cst.specs.declared.cst.node.CstObject.{CstObject}
 use Rattle.jsonc_cst.specs.declared.cst.node.CstNode.{CstNode}
 use Rattle.jsonc_cst.specs.Nodes.{array_node, number_of, object_node, typed}
 use Rattle.jsonc_cst.specs.Readings.{array_if, object_if, typed_if}
-use Rattle.jsonc_typed.specs.Inserting.{PutsAtItsPath, PutsButForMemory}
-use Rattle.jsonc_objects.specs.Members.{PutsNamedAtItsPath}
-use Rattle.jsonc_typed.specs.Setting.{FindsOrCreatesArray, FindsOrCreatesObject, FirstArrayAround, FirstArrayWritten, FirstObjectAround, FirstObjectWritten, FirstOrSame}
-use Rattle.jsonc_typed.specs.Values.{HeldIsMarked, HeldIsWritten}
+use Rattle.jsonc_parser.specs.Below.typed.Inserting.{PutsAtItsPath, PutsButForMemory}
+use Rattle.jsonc_parser.specs.Below.objects.Members.{PutsNamedAtItsPath}
+use Rattle.jsonc_parser.specs.Below.typed.Setting.{FindsOrCreatesArray, FindsOrCreatesObject, FirstArrayAround, FirstArrayWritten, FirstObjectAround, FirstObjectWritten, FirstOrSame}
+use Rattle.jsonc_parser.specs.Below.typed.Values.{HeldIsMarked, HeldIsWritten}
 use Rattle.jsonc_engine.specs.declared.fault.Fault.TheVariants.{Edit, NotArray, NotObject}
 use Rattle.jsonc_engine.specs.Appending.{AppendsLast}
 use Rattle.jsonc_engine.specs.Fault.{EndsAppending, EndsSetting, HasAnother}

@@ -31,10 +31,10 @@ use Rattle.jsonc_edit.proofs.Elements.{taken, left}
 use Rattle.jsonc_edit.proofs.FittingFinds.{passes, fails, none_is_some}
 use Rattle.jsonc_edit.proofs.Uniqueness.{element_parent}
 use Rattle.jsonc_edit.proofs.Walk.{Shows-row_below}
-use Rattle.jsonc_named.specs.Shapes.{is_of}
-use Rattle.jsonc_named.specs.declared.shape.Shape.TheVariants.{Object}
-use Rattle.jsonc_run.proofs.Ensured.{held}
-use Rattle.jsonc_run.proofs.Roots.{root_is, value_stands}
+use Rattle.jsonc_parser.specs.Below.named.Shapes.{is_of}
+use Rattle.jsonc_parser.specs.Below.named.declared.shape.Shape.TheVariants.{Object}
+use Rattle.jsonc_parser.proofs.Below.run.Ensured.{held}
+use Rattle.jsonc_parser.proofs.Below.run.Roots.{root_is, value_stands}
 use Rattle.jsonc_set.specs.Kinds as kinds
 use Rattle.jsonc_cst.specs.declared.cst.node.CstObject.{CstObject}
 use Rattle.jsonc_cst.specs.Nodes.{typed}
@@ -42,7 +42,7 @@ use Rattle.jsonc_cst.specs.declared.cst.node.CstObjectProp.{CstObjectProp}
 use Rattle.jsonc_cst.specs.declared.cst.CstRootNode.{CstRootNode}
 use Rattle.jsonc_cst.specs.Document.{nodes_of}
 use Rattle.jsonc_cst.specs.Readings.{object_if, typed_if, IsFirstNamed}
-use Rattle.jsonc_typed.specs.Removing.{IsElementGone, WantsMemoryAlone}
+use Rattle.jsonc_parser.specs.Below.typed.Removing.{IsElementGone, WantsMemoryAlone}
 use Rattle.jsonc_engine.specs.declared.fault.Fault.TheVariants.{Edit}
 use Rattle.jsonc_engine.specs.Fault.{EndsOnObject}
 use Rattle.jsonc_engine.specs.Removal.{HasNoObject, LosesFirst}
@@ -128,7 +128,7 @@ module _ (o : Options) (ns : List Node) (tree : IsTree ns) (sound : SoundTree o 
       let h = held o ns tree sound n at in
       let same : Some h.value ≡ Some (plain.object ms) = document_unique o (printed_text (ordered_tree ns 0)) (Some h.value) (Some (plain.object ms)) h.text is in
       let value : h.value ≡ plain.object ms = cc in
-      no_object_read ns n read (object_is (content_at ns n) (h.told Object ∙ ap (Rattle.jsonc_named.specs.Shapes.is_object) value))
+      no_object_read ns n read (object_is (content_at ns n) (h.told Object ∙ ap (Rattle.jsonc_parser.specs.Below.named.Shapes.is_object) value))
 
   pub no_object : object_if (typed_if ns (value_at ns 0)) ≡ None → HasNoObject o (ordered_tree ns 0)
   no_object read = from_value (value_at ns 0) refl read

@@ -35,10 +35,10 @@ use Rattle.jsonc_edit.proofs.Kept.{filter_same}
 use Rattle.jsonc_edit.proofs.Walk.{Shows-row_below}
 use Rattle.jsonc_remove.proofs.Containers.{Held, held_at}
 use Rattle.jsonc_set.proofs.PropertyRows.{over_at}
-use Rattle.jsonc_run.proofs.Roots.{value_stands}
+use Rattle.jsonc_parser.proofs.Below.run.Roots.{value_stands}
 use Rattle.jsonc_order.specs.Asking.{ComparesBy}
 use Rattle.jsonc_order.specs.Order.{IsOrderedBy, comes_before, node_in, option_before}
-use Rattle.jsonc_sort.specs.Rearranged.{Rearranged, headers_of}
+use Rattle.jsonc_parser.specs.Below.sort.Rearranged.{Rearranged, headers_of}
 use Rattle.jsonc_cst.specs.declared.cst.CstRootNode.{CstRootNode}
 use Rattle.jsonc_cst.specs.declared.cst.node.CstNode.{CstNode}
 use Rattle.jsonc_cst.specs.declared.cst.node.CstObject.{CstObject}
@@ -46,9 +46,9 @@ use Rattle.jsonc_cst.specs.declared.cst.node.CstObjectProp.{CstObjectProp}
 use Rattle.jsonc_cst.specs.Document.{nodes_of, Holds}
 use Rattle.jsonc_cst.specs.Nodes.{object_prop_node, typed, typed_at}
 use Rattle.jsonc_cst.specs.Readings.{object_if, property_under, typed_if}
-use Rattle.jsonc_sorting.specs.Asking.{IsInItsOrder}
-use Rattle.jsonc_sorting.specs.Rows.{property_if}
-use Rattle.jsonc_sorting.specs.Sorted.{PropertiesSorted}
+use Rattle.jsonc_parser.specs.Below.sorting.Asking.{IsInItsOrder}
+use Rattle.jsonc_parser.specs.Below.sorting.Rows.{property_if}
+use Rattle.jsonc_parser.specs.Below.sorting.Sorted.{PropertiesSorted}
 use Rattle.jsonc_engine.specs.Sorting.{IsByName, SortsIfSound, has_less_name, is_less, numbers_in, written_name}
 use Rattle.jsonc_engine.proofs.Removing.{object_read}
 

@@ -9,8 +9,8 @@ use Rattle.jsonc_nodes.specs.Properties.{value_at}
 use Rattle.jsonc_nodes.specs.Siblings.{elements_at}
 use Rattle.jsonc_laws.specs.SoundTrees.{SoundTree}
 use Rattle.jsonc_edit.specs.Writing.{IsWritable}
-use Rattle.jsonc_typed.specs.Inserting.{IsPutIn}
-use Rattle.jsonc_typed.specs.Setting.{FirstArrayAround, FirstArrayWritten}
+use Rattle.jsonc_parser.specs.Below.typed.Inserting.{IsPutIn}
+use Rattle.jsonc_parser.specs.Below.typed.Setting.{FirstArrayAround, FirstArrayWritten}
 
 -- The document's value is an array, an empty one that has come first where it had none, and v, where it may be written, has come behind its last element: the text
 -- is a document again, sound, whose value has v more, and of the literals and comments those of v have come.

@@ -1,6 +1,6 @@
 -- What a fault prints, and what it says of the input.
 use Rattle.std.specs.Prelude.{◌≡◌, ℕ, Bool, false, List, Some, ◌++◌, ◌⊎◌, chars, codes, IsUtf8}
-use Rattle.jsonc_named.specs.Shapes.{is_array, is_object}
+use Rattle.jsonc_parser.specs.Below.named.Shapes.{is_array, is_object}
 use Rattle.jsonc_engine.specs.Argument.{IsFaultOfArgument}
 use Rattle.jsonc_engine.specs.Command.{Request, set, append, remove, sort}
 use Rattle.jsonc_engine.specs.Input.{IsRefusalOf}

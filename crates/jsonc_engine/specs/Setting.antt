@@ -15,9 +15,9 @@ use Rattle.jsonc_edit.specs.Changes.{top_at}
 use Rattle.jsonc_edit.specs.Paths.{IsElementOf}
 use Rattle.jsonc_edit.specs.Writing.{IsWritable}
 use Rattle.jsonc_edit.specs.Written.{IsWrittenAt}
-use Rattle.jsonc_typed.specs.Marked.{MarksGiveWay}
-use Rattle.jsonc_objects.specs.Members.{IsNamedPutIn}
-use Rattle.jsonc_typed.specs.Setting.{FirstObjectAround, FirstObjectWritten}
+use Rattle.jsonc_parser.specs.Below.typed.Marked.{MarksGiveWay}
+use Rattle.jsonc_parser.specs.Below.objects.Members.{IsNamedPutIn}
+use Rattle.jsonc_parser.specs.Below.typed.Setting.{FirstObjectAround, FirstObjectWritten}
 
 -- The value of the property p, an element of the object c that is the document's value, has given way to v: the text is a document again, sound, whose value has
 -- changed there alone; the literals and comments of the old value have given way to the literals of v, and all others stay.

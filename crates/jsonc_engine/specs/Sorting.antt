@@ -11,8 +11,8 @@ use Rattle.jsonc_tree.specs.Tree.{Node, content_at}
 use Rattle.jsonc_nodes.specs.Properties.{name_at, value_at}
 use Rattle.jsonc_nodes.specs.Siblings.{elements_at}
 use Rattle.jsonc_laws.specs.SoundTrees.{SoundTree}
-use Rattle.jsonc_sort.specs.Rearranged.{Rearranged, headers_of}
-use Rattle.jsonc_sorting.specs.Sorted.{IsSortedAt}
+use Rattle.jsonc_parser.specs.Below.sort.Rearranged.{Rearranged, headers_of}
+use Rattle.jsonc_parser.specs.Below.sorting.Sorted.{IsSortedAt}
 
 -- the bytes of a string without its quotes: all but the first and the last
 abbrev pub between_quotes : List ℕ → List ℕ

@@ -18,12 +18,12 @@ use Rattle.jsonc_edit.specs.Changes.{row_below, top_at}
 use Rattle.jsonc_edit.proofs.FittingFinds.{passes, fails}
 use Rattle.jsonc_edit.proofs.Uniqueness.{element_parent}
 use Rattle.jsonc_edit.proofs.Walk.{Shows-row_below}
-use Rattle.jsonc_insert.specs.Planned.{has_brackets}
-use Rattle.jsonc_members.specs.Inserted.{PropertyPut}
-use Rattle.jsonc_members.specs.Told.{layout_inside}
-use Rattle.jsonc_members.proofs.Changing.{is_property}
-use Rattle.jsonc_members.proofs.Numbering.{takes_number}
-use Rattle.jsonc_members.proofs.Past.{past_the_end}
+use Rattle.jsonc_member_laws.specs.Below.insert.Planned.{has_brackets}
+use Rattle.jsonc_member_laws.specs.Below.members.Inserted.{PropertyPut}
+use Rattle.jsonc_member_laws.specs.Below.members.Told.{layout_inside}
+use Rattle.jsonc_member_laws.proofs.Below.members.Changing.{is_property}
+use Rattle.jsonc_member_laws.proofs.Below.members.Numbering.{takes_number}
+use Rattle.jsonc_member_laws.proofs.Below.members.Past.{past_the_end}
 use Rattle.jsonc_set.specs.Kinds.{KeptOrReplaced}
 use Rattle.jsonc_set.specs.PropertyValues.{HeldOrSet}
 use Rattle.jsonc_named.specs.declared.shape.Shape.{Shape}

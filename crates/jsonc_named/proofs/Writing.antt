@@ -37,13 +37,13 @@ use Rattle.jsonc_edit.proofs.Elements.{taken, left}
 use Rattle.jsonc_edit.proofs.FittingNodes.{over_there}
 use Rattle.jsonc_edit.proofs.Uniqueness.{element_parent}
 use Rattle.jsonc_edit.proofs.Walk.{Shows-row_below}
-use Rattle.jsonc_insertion_laws.specs.Members as inserted
-use Rattle.jsonc_insertion_laws.specs.Members.{member_count, IsMemberInserted, MemberComes, PropertyComesAt}
-use Rattle.jsonc_insertion_laws.proofs.Marked.{marks_come_in}
-use Rattle.jsonc_insertion_laws.proofs.Members.{members_counted}
-use Rattle.jsonc_insertion_laws.proofs.Named.{inserts_member}
-use Rattle.jsonc_members.proofs.Past.{past_the_end}
-use Rattle.jsonc_members.proofs.Spreading.{wants_memory_alone}
+use Rattle.jsonc_member_laws.specs.Below.insertion_laws.Members as inserted
+use Rattle.jsonc_member_laws.specs.Below.insertion_laws.Members.{member_count, IsMemberInserted, MemberComes, PropertyComesAt}
+use Rattle.jsonc_member_laws.proofs.Below.insertion_laws.Marked.{marks_come_in}
+use Rattle.jsonc_member_laws.proofs.Below.insertion_laws.Members.{members_counted}
+use Rattle.jsonc_member_laws.proofs.Below.insertion_laws.Named.{inserts_member}
+use Rattle.jsonc_member_laws.proofs.Below.members.Past.{past_the_end}
+use Rattle.jsonc_member_laws.proofs.Below.members.Spreading.{wants_memory_alone}
 use Rattle.jsonc_member_laws.proofs.Coming.{properties_come_at}
 use Rattle.jsonc_set.proofs.PropertyRows.{counted_elements, over_at, prints_value, some_value_of}
 use Rattle.jsonc_named.specs.declared.shape.Over.{Over}

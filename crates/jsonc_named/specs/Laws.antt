@@ -18,7 +18,7 @@ use Rattle.jsonc_laws.specs.Written.{property_written}
 use Rattle.jsonc_edit.specs.Paths.{IsAt, IsElementOf}
 use Rattle.jsonc_edit.specs.declared.error.EditError.{EditError}
 use Rattle.jsonc_edit.specs.declared.error.EditError.TheVariants.{OutOfMemory}
-use Rattle.jsonc_insertion_laws.specs.Members.{PropertyComesAt}
+use Rattle.jsonc_member_laws.specs.Below.insertion_laws.Members.{PropertyComesAt}
 use Rattle.jsonc_named.specs.declared.shape.Over.{Over}
 use Rattle.jsonc_named.specs.declared.shape.Shape.{Shape}
 use Rattle.jsonc_named.specs.Members.{EnsuresMember, IsFirstMember, LacksMember}

@@ -4,3 +4,4 @@ pub mod Named
 pub mod Values
 pub mod Members
 pub mod Laws
+pub mod Below

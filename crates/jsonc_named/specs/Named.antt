@@ -7,8 +7,8 @@ use Rattle.jsonc_nodes.specs.Properties.{lacks_name_at, value_at}
 use Rattle.jsonc_nodes.specs.Siblings.{elements_at}
 use Rattle.jsonc_edit.specs.declared.error.EditError.{EditError}
 use Rattle.jsonc_edit.specs.declared.error.EditError.TheVariants.{OutOfMemory, MissingBrackets, MissingName}
-use Rattle.jsonc_insert.specs.Inserted.{refusal}
-use Rattle.jsonc_members.specs.Inserted.{PropertyPut}
+use Rattle.jsonc_member_laws.specs.Below.insert.Inserted.{refusal}
+use Rattle.jsonc_member_laws.specs.Below.members.Inserted.{PropertyPut}
 use Rattle.jsonc_set.specs.PropertyValues.{HeldOrSet}
 use Rattle.jsonc_named.specs.declared.shape.Over.{Over}
 use Rattle.jsonc_named.specs.declared.shape.Over.TheVariants as over

@@ -15,5 +15,6 @@ pub mod laws;
 mod named;
 mod shape;
 
+pub use jsonc_member_laws::{insert, members};
 pub use named::ensure_property;
 pub use shape::{Over, Shape};

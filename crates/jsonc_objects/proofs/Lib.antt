@@ -1,2 +1,3 @@
 pub mod NamedIn
 pub mod ByName
+pub mod Below

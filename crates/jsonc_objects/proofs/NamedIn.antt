@@ -13,17 +13,17 @@ use Rattle.jsonc_nodes.specs.Siblings.{elements_at}
 use Rattle.jsonc_edit.specs.Paths.{IsElementOf}
 use Rattle.jsonc_edit.proofs.Uniqueness.{element_parent}
 use Rattle.jsonc_edit.specs.declared.error.EditError.{EditError}
-use Rattle.jsonc_insert.specs.Inserted.{refusal}
-use Rattle.jsonc_insert.specs.Laws.{KeepsNodesBut}
-use Rattle.jsonc_insert.specs.Planned.{has_brackets}
-use Rattle.jsonc_members.specs.Inserted.{PropertyPut}
-use Rattle.jsonc_members.proofs.Changing.{is_property}
-use Rattle.jsonc_members.proofs.Joining.{prepared_all}
-use Rattle.jsonc_members.proofs.Numbering.{changes_one_row, takes_number}
-use Rattle.jsonc_members.proofs.Past.{past_the_end}
-use Rattle.jsonc_members.proofs.Spreading.{wants_memory_alone}
-use Rattle.jsonc_insertion_laws.proofs.Named.{inserts_member}
-use Rattle.jsonc_member_laws.proofs.Coming.{properties_come_at}
+use Rattle.jsonc_named.specs.Below.insert.Inserted.{refusal}
+use Rattle.jsonc_named.specs.Below.insert.Laws.{KeepsNodesBut}
+use Rattle.jsonc_named.specs.Below.insert.Planned.{has_brackets}
+use Rattle.jsonc_named.specs.Below.members.Inserted.{PropertyPut}
+use Rattle.jsonc_named.proofs.Below.members.Changing.{is_property}
+use Rattle.jsonc_named.proofs.Below.members.Joining.{prepared_all}
+use Rattle.jsonc_named.proofs.Below.members.Numbering.{changes_one_row, takes_number}
+use Rattle.jsonc_named.proofs.Below.members.Past.{past_the_end}
+use Rattle.jsonc_named.proofs.Below.members.Spreading.{wants_memory_alone}
+use Rattle.jsonc_named.proofs.Below.insertion_laws.Named.{inserts_member}
+use Rattle.jsonc_named.proofs.Below.member_laws.Coming.{properties_come_at}
 use Rattle.jsonc_cst.specs.declared.cst.node.CstObjectProp.{CstObjectProp}
 use Rattle.jsonc_typed.specs.Inserting.{PutsButForMemory}
 use Rattle.jsonc_objects.specs.Members.{NamedComesInAt, PropertyStandsAt, PutsNamedAtItsPath}

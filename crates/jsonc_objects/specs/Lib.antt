@@ -1,2 +1,3 @@
 pub mod Members
 pub mod Named
+pub mod Below

@@ -9,8 +9,8 @@ use Rattle.jsonc_from_input.specs.Texts.{IsCharacters}
 use Rattle.jsonc_laws.specs.SoundTrees.{SoundTree}
 use Rattle.jsonc_edit.specs.Paths.{IsAt, IsElementOf}
 use Rattle.jsonc_edit.specs.Writing.{IsWritable}
-use Rattle.jsonc_insertion_laws.specs.Members.{IsMemberInserted, PropertyComesAt}
-use Rattle.jsonc_members.specs.Inserted.{PropertyPut}
+use Rattle.jsonc_named.specs.Below.insertion_laws.Members.{IsMemberInserted, PropertyComesAt}
+use Rattle.jsonc_named.specs.Below.members.Inserted.{PropertyPut}
 use Rattle.jsonc_cst.specs.declared.cst.CstRootNode.{CstRootNode}
 use Rattle.jsonc_cst.specs.declared.cst.node.CstNode.{CstNode}
 use Rattle.jsonc_cst.specs.declared.cst.node.CstObjectProp.{CstObjectProp}

@@ -10,5 +10,6 @@
 mod members;
 mod named;
 
+pub use jsonc_typed as typed;
 pub use members::InsertProperty;
 pub use named::EnsureProperty;

@@ -7,9 +7,9 @@ ghost use Rattle.jsonc_tree.specs.Content.{Content};
 ghost use Rattle.jsonc_tree.specs.OrderedTree.{ordered_tree};
 ghost use Rattle.jsonc_tree.specs.Tree.{children_at, content_at, IsTree};
 ghost use Rattle.jsonc_nodes.specs.Siblings.{elements_at};
-ghost use Rattle.jsonc_insert.specs.Inserted.{refusal};
-ghost use Rattle.jsonc_insert.specs.Planned.{has_brackets};
-ghost use Rattle.jsonc_insert.specs.Laws.{KeepsNodesBut};
+ghost use Rattle.jsonc_named.specs.Below.insert.Inserted.{refusal};
+ghost use Rattle.jsonc_named.specs.Below.insert.Planned.{has_brackets};
+ghost use Rattle.jsonc_named.specs.Below.insert.Laws.{KeepsNodesBut};
 ghost use Rattle.jsonc_cst.specs.Document.{nodes_of, tree_of, Holds};
 ghost use Rattle.jsonc_cst.specs.Nodes.{number_of, object_node, object_prop_node, IsNodeOf};
 ghost use Rattle.jsonc_cst.specs.Tree.{NodesAreTree};
@@ -22,7 +22,7 @@ use jsonc_cst::cst::{
     CstContainerNode, CstNode, CstObject, CstObjectProp, CstRootNode, EditError, IsNode, node_at,
 };
 use jsonc_input::CstInputValue;
-use jsonc_members::insert_property;
+use jsonc_named::members::insert_property;
 use jsonc_tree::Tree;
 use std::alloc::Allocator;
 

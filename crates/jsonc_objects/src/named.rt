@@ -148,7 +148,8 @@ pub trait EnsureProperty: IsNode {
         name: &str,
     ) -> Result<Option<CstObject>, EditError>
         requires { Holds doc.old (Self.node_of self) }
-        ensures ensured { IfOk result (HasEnsuredObject doc.old doc.new Over.Keep (Self.node_of self) (chars name.now)) }
+        ensures ensured { IfOk result
+            (HasEnsuredObject doc.old doc.new Over.Keep (Self.node_of self) (chars name.now)) }
         ensures written { (o : Options)
             → OnOk result
             (HasWrittenNamed doc.old doc.new o (Self.node_of self) (chars name.now) Shape.Object Over.Keep) }

@@ -19,8 +19,8 @@ use Rattle.jsonc_laws.specs.Written.{property_written, written}
 use Rattle.jsonc_laws.proofs.GivingWay.{other_comments, others_alone}
 use Rattle.jsonc_laws.proofs.Laid.{writes_no_comments}
 use Rattle.jsonc_laws.proofs.Printed.{prints_its_marks}
-use Rattle.jsonc_named.specs.Laws.{name_comes, some_leave}
-use Rattle.jsonc_named.specs.Shapes.{empty_of}
+use Rattle.jsonc_run.specs.Below.named.Laws.{name_comes, some_leave}
+use Rattle.jsonc_run.specs.Below.named.Shapes.{empty_of}
 use Rattle.jsonc_run.specs.Edits.{Operation, replace, remove, remove_comment, set_root, clear_root, replace_property, ensure_root, set_value, ensure_value, set_boolean, ensure_multiline, insert_element, append_element, insert_property, append_property, ensure_property, set_commas, set_some_commas, rearrange}
 use Rattle.jsonc_run.specs.Marked.{IsMarked, AreMarked, none_marked, first_marked, MarkAll}
 use Rattle.jsonc_run.specs.Written.{options_after, MayBeMade, WriteAll}

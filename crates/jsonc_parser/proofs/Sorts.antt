@@ -9,7 +9,7 @@ use Rattle.jsonc_tree.specs.Tree.{Node, content_at}
 use Rattle.jsonc_lines.specs.Kinds.{holds_values}
 use Rattle.jsonc_edit.specs.declared.error.EditError.{EditError}
 use Rattle.jsonc_edit.specs.declared.error.EditError.TheVariants.{OutOfMemory}
-use Rattle.jsonc_sort.specs.Rearranged.{headers_of, IsOrderIn, Rearranged}
+use Rattle.jsonc_run.specs.Below.sort.Rearranged.{headers_of, IsOrderIn, Rearranged}
 use Rattle.jsonc_run.specs.Edits.{Sorting, rearrange, IsMade}
 use Rattle.jsonc_run.specs.Places.{IsContainerAt}
 use Rattle.jsonc_run.specs.Refusals.{IsLeft, IsToldBy, as_it_was}

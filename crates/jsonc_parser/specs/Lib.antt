@@ -1,2 +1,3 @@
 pub mod Lists
 pub mod Promise
+pub mod Below

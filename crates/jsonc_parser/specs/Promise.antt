@@ -10,7 +10,7 @@ use Rattle.jsonc_build.specs.Lines.{DocumentLinesEnd}
 use Rattle.jsonc_build.specs.Shape.{DocumentShaped, printed_text}
 use Rattle.jsonc_laws.specs.Marks.{Mark, AreMarks, comments_of}
 use Rattle.jsonc_laws.specs.SoundTrees.{SoundTree}
-use Rattle.jsonc_sort.specs.Sorting.{Headers}
+use Rattle.jsonc_run.specs.Below.sort.Sorting.{Headers}
 use Rattle.jsonc_run.specs.Edits.{Operation, rearrange}
 use Rattle.jsonc_run.specs.Marked.{AreMarked, MarkAll}
 use Rattle.jsonc_run.specs.Written.{options_after, AllStayAround, AreChanged, MayBeMade, WriteAll}

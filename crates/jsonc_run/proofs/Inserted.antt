@@ -18,13 +18,13 @@ use Rattle.jsonc_edit.specs.Paths.{FindsExactly, IsAt}
 use Rattle.jsonc_edit.specs.Writing.{IsWritable}
 use Rattle.jsonc_edit.specs.declared.error.EditError.{EditError}
 use Rattle.jsonc_edit.specs.declared.error.EditError.TheVariants.{OutOfMemory, MissingBrackets, MissingName, NoSuchPlace}
-use Rattle.jsonc_insert.specs.Inserted.{refusal, ElementPut}
-use Rattle.jsonc_insert.specs.Planned.{has_brackets}
-use Rattle.jsonc_insert.proofs.Past.{past_the_end}
-use Rattle.jsonc_insertion_laws.specs.Laws.{item_count, ElementComesAt, GainsMarks, IsInserted}
-use Rattle.jsonc_insertion_laws.proofs.Comes.{elements_come_at}
-use Rattle.jsonc_insertion_laws.proofs.Containers.{has_its_brackets}
-use Rattle.jsonc_insertion_laws.proofs.Written.{inserts_element}
+use Rattle.jsonc_named.specs.Below.insert.Inserted.{refusal, ElementPut}
+use Rattle.jsonc_named.specs.Below.insert.Planned.{has_brackets}
+use Rattle.jsonc_named.proofs.Below.insert.Past.{past_the_end}
+use Rattle.jsonc_named.specs.Below.insertion_laws.Laws.{item_count, ElementComesAt, GainsMarks, IsInserted}
+use Rattle.jsonc_named.proofs.Below.insertion_laws.Comes.{elements_come_at}
+use Rattle.jsonc_named.proofs.Below.insertion_laws.Containers.{has_its_brackets}
+use Rattle.jsonc_named.proofs.Below.insertion_laws.Written.{inserts_element}
 use Rattle.jsonc_run.specs.Edits.{append_element, insert_element}
 use Rattle.jsonc_run.specs.Places.{IsArrayAt}
 use Rattle.jsonc_run.specs.Refusals.{IsToldBy}

@@ -15,3 +15,4 @@ pub mod Written
 pub mod Refused
 pub mod Numbered
 pub mod Marking
+pub mod Below

@@ -31,8 +31,8 @@ use Rattle.jsonc_named.specs.Shapes.{empty_of}
 use Rattle.jsonc_run.specs.Edits.{Operation, replace, remove, remove_comment, set_root, clear_root, replace_property, ensure_root, set_value, ensure_value, set_boolean, ensure_multiline, insert_element, append_element, insert_property, append_property, ensure_property, set_commas, set_some_commas, rearrange, AreMade, none_made, first_made, IsMade}
 use Rattle.jsonc_run.specs.Written.{MayBeMade, EntryLeft, entry_left, value_left, RootValueSet, given_way, has_come, RootValueEnsured, all_kept, empty_set, PropertyGivenWay, property_given, StayAround, options_after, options_behind}
 use Rattle.jsonc_run.specs.Marked.{IsMarked, AreMarked, none_marked, first_marked, MarkAll}
-use Rattle.jsonc_insertion_laws.proofs.Named.{inserts_member}
-use Rattle.jsonc_insertion_laws.proofs.Written.{inserts_element}
+use Rattle.jsonc_named.proofs.Below.insertion_laws.Named.{inserts_member}
+use Rattle.jsonc_named.proofs.Below.insertion_laws.Written.{inserts_element}
 use Rattle.jsonc_run.proofs.Inserted.{gained_marks}
 use Rattle.jsonc_named.proofs.Values.{empty_writable, ensured_marks, marks_given, value_marked}
 use Rattle.jsonc_named.proofs.Writing.{around_marks}

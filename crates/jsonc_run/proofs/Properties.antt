@@ -16,15 +16,15 @@ use Rattle.jsonc_edit.specs.Writing.{IsWritable}
 use Rattle.jsonc_edit.specs.declared.error.EditError.{EditError}
 use Rattle.jsonc_edit.specs.declared.error.EditError.TheVariants.{OutOfMemory, MissingBrackets, MissingName, NoSuchPlace}
 use Rattle.jsonc_edit.proofs.FittingNodes.{over_there}
-use Rattle.jsonc_insert.specs.Inserted.{refusal}
-use Rattle.jsonc_insert.specs.Planned.{has_brackets}
+use Rattle.jsonc_named.specs.Below.insert.Inserted.{refusal}
+use Rattle.jsonc_named.specs.Below.insert.Planned.{has_brackets}
 use Rattle.jsonc_multiline.proofs.Documents.{over_at}
-use Rattle.jsonc_members.specs.Inserted.{PropertyPut}
-use Rattle.jsonc_members.proofs.Past.{past_the_end}
-use Rattle.jsonc_members.proofs.Spreading.{wants_memory_alone}
-use Rattle.jsonc_insertion_laws.specs.Members.{member_count, IsMemberInserted, PropertyComesAt}
-use Rattle.jsonc_insertion_laws.proofs.Named.{inserts_member}
-use Rattle.jsonc_member_laws.proofs.Coming.{properties_come_at}
+use Rattle.jsonc_named.specs.Below.members.Inserted.{PropertyPut}
+use Rattle.jsonc_named.proofs.Below.members.Past.{past_the_end}
+use Rattle.jsonc_named.proofs.Below.members.Spreading.{wants_memory_alone}
+use Rattle.jsonc_named.specs.Below.insertion_laws.Members.{member_count, IsMemberInserted, PropertyComesAt}
+use Rattle.jsonc_named.proofs.Below.insertion_laws.Named.{inserts_member}
+use Rattle.jsonc_named.proofs.Below.member_laws.Coming.{properties_come_at}
 use Rattle.jsonc_named.specs.declared.shape.Over.{Over}
 use Rattle.jsonc_named.specs.declared.shape.Shape.{Shape}
 use Rattle.jsonc_named.specs.Named.{IsUnensured}

@@ -17,9 +17,9 @@ use Rattle.jsonc_multiline.specs.Multiline.{IsUnspread}
 use Rattle.jsonc_multiline.proofs.LineEnds.{has_its_brackets}
 use Rattle.jsonc_named.proofs.Writing as named_laws
 use Rattle.jsonc_run.specs.Edits.{Operation, remove, ensure_value, ensure_multiline, insert_element, append_element, insert_property, append_property, ensure_property, AreMade, none_made, first_made}
-use Rattle.jsonc_insert.specs.Inserted.{refusal}
-use Rattle.jsonc_insertion_laws.proofs.Containers.{wants_memory_alone}
-use Rattle.jsonc_members.proofs.Spreading as objects
+use Rattle.jsonc_named.specs.Below.insert.Inserted.{refusal}
+use Rattle.jsonc_named.proofs.Below.insertion_laws.Containers.{wants_memory_alone}
+use Rattle.jsonc_named.proofs.Below.members.Spreading as objects
 use Rattle.jsonc_named.specs.Places.{IsPropertyAt, a_property}
 use Rattle.jsonc_run.specs.Places.{IsArrayAt, IsContainerAt, IsEntryAt, IsObjectAt, an_entry, in_array, in_object, the_value}
 use Rattle.jsonc_run.specs.Refusals.{IsToldBy, LacksBrackets, LacksName, WantsMemoryOrPlace}

@@ -44,13 +44,13 @@ use Rattle.jsonc_named.specs.Shapes.{comes_first, has_it, may_stay, must_give_wa
 use Rattle.jsonc_run.specs.Written.{EntryLeft, entry_left, value_left, StayAround, AllStayAround, all_stay, first_stay, options_after, options_behind, AreWritten, WriteAll}
 use Rattle.jsonc_named.proofs.Values.{empty_writable, same_shape}
 use Rattle.jsonc_run.proofs.Ensured.{held, Ensured, created, stayed, other_stayed, replaced, ensured, value_ensured}
-use Rattle.jsonc_insert.proofs.Past.{past_the_end}
-use Rattle.jsonc_insertion_laws.proofs.Comes.{elements_come_at}
-use Rattle.jsonc_insertion_laws.proofs.Containers.{has_its_brackets}
+use Rattle.jsonc_named.proofs.Below.insert.Past.{past_the_end}
+use Rattle.jsonc_named.proofs.Below.insertion_laws.Comes.{elements_come_at}
+use Rattle.jsonc_named.proofs.Below.insertion_laws.Containers.{has_its_brackets}
 use Rattle.jsonc_nodes.specs.Siblings.{elements_at}
 use Rattle.jsonc_run.proofs.Inserted.{came_in, came_last}
 use Rattle.jsonc_run.proofs.Properties as properties
-use Rattle.jsonc_member_laws.proofs.Coming.{properties_come_at}
+use Rattle.jsonc_named.proofs.Below.member_laws.Coming.{properties_come_at}
 use Rattle.jsonc_run.proofs.Booleans.{boolean_given, boolean_changed}
 use Rattle.jsonc_named.proofs.PathValues.{value_of_text}
 use Rattle.jsonc_run.proofs.PropertyMade.{property_gives_way}

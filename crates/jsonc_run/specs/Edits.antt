@@ -11,8 +11,8 @@ use Rattle.jsonc_edit.specs.Comments.{CommentTaken}
 use Rattle.jsonc_edit.specs.Paths.{IsAt}
 use Rattle.jsonc_edit.specs.Reading.{IsReplaced}
 use Rattle.jsonc_edit.specs.declared.modes.TrailingCommaMode.{TrailingCommaMode}
-use Rattle.jsonc_insert.specs.Inserted.{ElementPut}
-use Rattle.jsonc_members.specs.Inserted.{PropertyPut}
+use Rattle.jsonc_named.specs.Below.insert.Inserted.{ElementPut}
+use Rattle.jsonc_named.specs.Below.members.Inserted.{PropertyPut}
 use Rattle.jsonc_multiline.specs.Multiline.{MadeMultiline}
 use Rattle.jsonc_remove.specs.Removed.{TakesElement}
 use Rattle.jsonc_set.specs.Booleans.{BooleanSet}

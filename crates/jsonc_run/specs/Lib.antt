@@ -3,3 +3,4 @@ pub mod Edits
 pub mod Refusals
 pub mod Written
 pub mod Marked
+pub mod Below

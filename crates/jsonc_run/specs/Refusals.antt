@@ -11,7 +11,7 @@ use Rattle.jsonc_edit.specs.Comments.{WantsSpace}
 use Rattle.jsonc_edit.specs.declared.modes.TrailingCommaMode.{TrailingCommaMode}
 use Rattle.jsonc_edit.specs.declared.modes.TrailingCommaMode.TheVariants.{IfMultiline}
 use Rattle.jsonc_edit.specs.Paths.{IsAt}
-use Rattle.jsonc_insert.specs.Inserted.{refusal}
+use Rattle.jsonc_named.specs.Below.insert.Inserted.{refusal}
 use Rattle.jsonc_multiline.specs.Multiline.{IsUnspread}
 use Rattle.jsonc_remove.specs.Removed.{IsKeptFor}
 use Rattle.jsonc_set.specs.Booleans.{WantsSpaceFor}

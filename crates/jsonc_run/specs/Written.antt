@@ -23,8 +23,8 @@ use Rattle.jsonc_laws.specs.Coming.{ValueComes}
 use Rattle.jsonc_laws.specs.EntryLaws.{LosesEntry, root_with}
 use Rattle.jsonc_laws.specs.Properties.{PropertyChanged, ReplacesMember}
 use Rattle.jsonc_multiline.specs.Laws.{SpreadAt}
-use Rattle.jsonc_insertion_laws.specs.Laws.{item_count, ElementComesAt, GainsItem}
-use Rattle.jsonc_insertion_laws.specs.Members.{member_count, GainsMember, PropertyComesAt}
+use Rattle.jsonc_named.specs.Below.insertion_laws.Laws.{item_count, ElementComesAt, GainsItem}
+use Rattle.jsonc_named.specs.Below.insertion_laws.Members.{member_count, GainsMember, PropertyComesAt}
 use Rattle.jsonc_named.specs.Laws as named
 use Rattle.jsonc_named.specs.Members.{EnsuresMember}
 use Rattle.jsonc_named.specs.Shapes.{EnsuredValue}
@@ -118,7 +118,8 @@ pub data IsChanged : Option Plain → Operation → Option Plain → Type 0 wher
       → IsChanged (Some x) (ensure_property path name shape how) (Some y)
   by_commas : {w : Option Plain} {path : List ℕ} {mode : TrailingCommaMode} → IsChanged w (set_commas path mode) w
   by_some_commas : {w : Option Plain} {path : List ℕ} {mode : TrailingCommaMode} → IsChanged w (set_some_commas path mode) w
-  by_sorting : {path order : List ℕ} {headers : Headers} {x y : Plain} → SortsEntries path order x y → IsChanged (Some x) (rearrange path headers order) (Some y)
+  by_sorting : {path order : List ℕ} {headers : Headers} {x y : Plain} → SortsEntries path order x y
+      → IsChanged (Some x) (rearrange path headers order) (Some y)
 
 -- the edits, one after another, make the second value of the first
 pub data AreChanged : Option Plain → List Operation → Option Plain → Type 0 where

@@ -14,7 +14,7 @@ ghost use Rattle.jsonc_run.specs.Refusals.{IsToldBy};
 
 use jsonc_edit::{EditError, find};
 use jsonc_input::CstInputValue;
-use jsonc_insert::insert_element;
+use jsonc_named::insert::insert_element;
 use jsonc_tree::{Kind, Tree};
 use std::alloc::Allocator;
 

@@ -14,7 +14,7 @@ ghost use Rattle.jsonc_run.specs.Refusals.{IsToldBy};
 
 use jsonc_edit::{EditError, find};
 use jsonc_input::CstInputValue;
-use jsonc_members::insert_property;
+use jsonc_named::members::insert_property;
 use jsonc_named::{Over, Shape, ensure_property};
 use jsonc_tree::{Kind, Tree};
 use std::alloc::Allocator;

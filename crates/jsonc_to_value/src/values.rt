@@ -179,9 +179,16 @@ fn parse_value<'a, A: Allocator + Copy>(
     ensures fault { IfErr result (IsFault (text_in context.old)) }
     ensures told { IfErr result (StopsAtValue context.old (last context.old token) false count) }
 {
+    // The results of the two calls are taken apart, so that those of literals can stay in registers.
     match token {
-        TokenKind::OpenBracket => parse_array(context, count),
-        TokenKind::OpenBrace => parse_object(context, count),
+        TokenKind::OpenBracket => match parse_array(context, count) {
+            Ok(value) => Ok(value),
+            Err(error) => Err(error),
+        },
+        TokenKind::OpenBrace => match parse_object(context, count) {
+            Ok(value) => Ok(value),
+            Err(error) => Err(error),
+        },
         token => parse_leaf(context, token),
     }
 }

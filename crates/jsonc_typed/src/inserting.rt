@@ -78,7 +78,9 @@ fn append_to<A: Allocator + Copy>(
     ensures element { IfOk result
         (StandsAt tree.old.nodes tree.new.nodes array (length (elements_at tree.old.nodes array))) }
     ensures written { (o : Options)
-        → OnOk result (PutsAtItsPath o tree.old.nodes tree.new.nodes array (length (elements_at tree.old.nodes array)) (plain value.now)) }
+        → OnOk result
+        (PutsAtItsPath o tree.old.nodes tree.new.nodes array
+        (length (elements_at tree.old.nodes array)) (plain value.now)) }
     ensures others { OnOk result (KeepsNodesBut tree.old.nodes tree.new.nodes array) }
     ensures told { IfErr result (λ e. e ≡ refusal tree.old.nodes array) }
     ensures memory { (o : Options) → IfErr result (PutsButForMemory o tree.old.nodes array) }
@@ -109,7 +111,9 @@ pub trait InsertElement: IsNode {
         ensures element { IfOk result
             (IsItsElement doc.old doc.new (Self.node_of self) (element_count doc.old (Self.node_of self))) }
         ensures written { (o : Options)
-            → OnOk result (IsPutAtItsPath doc.old doc.new o (Self.node_of self) (element_count doc.old (Self.node_of self)) (plain value)) }
+            → OnOk result
+            (IsPutAtItsPath doc.old doc.new o (Self.node_of self)
+            (element_count doc.old (Self.node_of self)) (plain value)) }
         ensures others { OnOk result (KeepsOthers doc.old doc.new (Self.node_of self)) }
         ensures told { IfErr result (IsShutFor doc.old (Self.node_of self)) }
         ensures memory { (o : Options) → IfErr result (IsShutForMemory doc.old o (Self.node_of self)) }

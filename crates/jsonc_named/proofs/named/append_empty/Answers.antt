@@ -1,7 +1,7 @@
 use Rattle.std.proofs.Common.{◌≡◌, ℕ, true, chars, sym, subst, ◌∙◌}
 use Rattle.jsonc_text.specs.Plain.{Plain}
 use Rattle.jsonc_tree.specs.Tree.{content_at}
-use Rattle.jsonc_members.specs.Inserted.{PropertyPut}
+use Rattle.jsonc_member_laws.specs.Below.members.Inserted.{PropertyPut}
 use Rattle.jsonc_named.specs.Shapes.{is_of}
 use Rattle.jsonc_named.proofs.Creating.{holds_empty, property_there, put_last, some_same}
 use Rattle.jsonc_named.proofs.named.append_empty.Goals as goal

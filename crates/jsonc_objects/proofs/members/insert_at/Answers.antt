@@ -2,7 +2,7 @@ use Rattle.std.proofs.Common.{ℕ, length, min, chars, sym, subst}
 use Rattle.jsonc_input.specs.Views.{plain}
 use Rattle.jsonc_nodes.specs.Siblings.{elements_at}
 use Rattle.jsonc_edit.specs.Paths.{IsElementOf}
-use Rattle.jsonc_members.specs.Inserted.{PropertyPut}
+use Rattle.jsonc_named.specs.Below.members.Inserted.{PropertyPut}
 use Rattle.jsonc_objects.proofs.NamedIn.{put_element, put_for_memory, put_others, put_property, put_stays, put_there, put_written}
 use Rattle.jsonc_typed.proofs.Kept.{nodes_stay, stay_kept}
 use Rattle.jsonc_objects.proofs.members.insert_at.Goals as goal

@@ -297,11 +297,11 @@ pub parse_value-returns-in_default-clause-told : goal.parse_value-returns-in_def
 parse_value-returns-in_default-clause-told g t c =
     err_some c.parse_leaf.result (λ e told. leaf_stops true c.args.context.now (last c.args.context.now c.args.token) e c.args.count c.requires.token c.requires.around (told (opens_none (last c.args.context.now c.args.token) (λ e. c.in_default.not-OpenBracket (is_bracket c.args.context.now.content c.args.token e)) (λ e. c.in_default.not-OpenBrace (is_brace c.args.context.now.content c.args.token e))))) c.parse_leaf.ensures.told
 
-pub parse_value-returns-in-OpenBracket-clause-told : goal.parse_value-returns-in-OpenBracket-clause-told
-parse_value-returns-in-OpenBracket-clause-told g t c = err_some c.parse_array.result (λ e told q d s many starts. told q d s many (starts.may, starts.gap)) c.parse_array.ensures.told
+pub parse_value-returns-in-Err-clause-told : goal.parse_value-returns-in-Err-clause-told
+parse_value-returns-in-Err-clause-told g t c = λ q d s many starts. c.in-Err.ensures.told q d s many (starts.may, starts.gap)
 
-pub parse_value-returns-in-OpenBrace-clause-told : goal.parse_value-returns-in-OpenBrace-clause-told
-parse_value-returns-in-OpenBrace-clause-told g t c = err_some c.parse_object.result (λ e told q d s many starts. told q d s many (starts.may, starts.gap)) c.parse_object.ensures.told
+pub parse_value-returns-in-Err-parse_object-clause-told : goal.parse_value-returns-in-Err-parse_object-clause-told
+parse_value-returns-in-Err-parse_object-clause-told g t c = λ q d s many starts. c.in-Err-parse_object.ensures.told q d s many (starts.may, starts.gap)
 
 pub parse_object-returns-in_err-next-clause-told : goal.parse_object-returns-in_err-next-clause-told
 parse_object-returns-in_err-next-clause-told g t c =

@@ -1,9 +1,9 @@
 //! Edits of cases, made on documents.
 
+use crate::edits::Step;
 use crate::raw::make_raw;
 use crate::refusal::Refusal;
 use crate::sorted::{compare_nodes, make_sort};
-use jsonc_cases::edits::Step;
 use jsonc_parser::cst::{CstNode, CstRootNode, Edit, run};
 use std::alloc::Global;
 

@@ -1,8 +1,8 @@
 //! Edits of one leaf, or of a property's name or value.
 
+use crate::edits::RawEdit;
 use crate::paths::{property_at, push_children};
 use crate::refusal::Refusal;
-use jsonc_cases::edits::RawEdit;
 use jsonc_parser::cst::{
     CstContainerNode, CstInputValue, CstLeafNode, CstNewlineKind, CstNode, CstRootNode, EditError,
     IsNode, ObjectPropName, Remove, RemoveLeaf, ReplaceWith, SetNewline, SetRawValue, SetToken,

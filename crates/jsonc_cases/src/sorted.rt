@@ -3,9 +3,9 @@
 ghost use Rattle.jsonc_cst.specs.Document.{Holds};
 ghost use Rattle.jsonc_cst.specs.Nodes.{array_node, object_node, object_prop_node};
 
+use crate::edits::{SortEdit, SortKey, SortRule};
 use crate::paths::value_at;
 use crate::refusal::Refusal;
-use jsonc_cases::edits::{SortEdit, SortKey, SortRule};
 use jsonc_parser::cst::{
     CstArray, CstComment, CstContainerNode, CstNode, CstObject, CstObjectProp, CstRootNode,
     EditError, IsNode, ObjectPropName, SortElements, SortProperties,
