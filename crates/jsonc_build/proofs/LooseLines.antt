@@ -14,7 +14,7 @@ use Rattle.jsonc_text.proofs.Steps.{many_append}
 use Rattle.jsonc_text.proofs.UniqueWords.{many_more}
 use Rattle.jsonc_tree.specs.Content.{Content, text_of}
 use Rattle.jsonc_tree.specs.OrderedTree.{OrderedTree, none, more}
-use Rattle.jsonc_to_ast.proofs.Gaps.{gap_append}
+use Rattle.jsonc_text.proofs.Gaps.{gap_append}
 use Rattle.jsonc_build.specs.Leaves.{is_inner_blank}
 use Rattle.jsonc_build.specs.Lines.{is_line_comment, ends_line, LinesEnd, DocumentLinesEnd, is_loose, ends_loosely, LinesEndLoosely, DocumentLinesEndLoosely}
 use Rattle.jsonc_build.specs.Shape as shape

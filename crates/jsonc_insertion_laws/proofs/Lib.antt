@@ -18,3 +18,4 @@ pub mod Opened
 pub mod Objects
 pub mod Places
 pub mod Worked
+pub mod Below

@@ -2,3 +2,4 @@ pub mod Coming
 pub mod Laws
 pub mod Members
 pub mod Worked
+pub mod Below

@@ -13,3 +13,6 @@
 #![tactic(auto)]
 
 pub mod laws;
+
+pub use jsonc_insert as insert;
+pub use jsonc_multiline as multiline;

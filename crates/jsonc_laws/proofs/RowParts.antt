@@ -4,7 +4,7 @@ use Rattle.jsonc_text.specs.Options.{Options}
 use Rattle.jsonc_tree.specs.Content.{Content, token}
 use Rattle.jsonc_tree.specs.OrderedTree.{OrderedTree, none, more, followed_by}
 use Rattle.jsonc_nodes.specs.Kinds.{is_beside, is_trivia}
-use Rattle.jsonc_lines.specs.Kinds.{is_comma}
+use Rattle.jsonc_nodes.specs.Kinds.{is_comma}
 use Rattle.jsonc_build.specs.Shape.{IsTrivia, token_then}
 use Rattle.jsonc_laws.specs.Rows as rows
 use Rattle.jsonc_laws.specs.Rows.{RowKind, closing, Last, may_end}

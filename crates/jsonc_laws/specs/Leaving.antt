@@ -3,7 +3,7 @@ use Rattle.std.specs.Prelude.{◌≡◌, ℕ, suc, ◌+◌, Bool, true, false, n
 use Rattle.jsonc_tree.specs.Content.{Content}
 use Rattle.jsonc_tree.specs.OrderedTree.{OrderedTree, none, more, leaves, followed_by}
 use Rattle.jsonc_nodes.specs.Kinds.{is_beside, is_element, is_trivia}
-use Rattle.jsonc_lines.specs.Kinds.{is_comma}
+use Rattle.jsonc_nodes.specs.Kinds.{is_comma}
 use Rattle.jsonc_build.specs.Shape.{token_then}
 use Rattle.jsonc_tree.specs.OrderedTree.{Top}
 use Rattle.jsonc_laws.specs.TriviaChanges.{AreTrivia, leaves_then}

@@ -1,7 +1,8 @@
 -- Kinds of nodes that a layout is told from.
-use Rattle.std.specs.Prelude.{◌==◌, Bool, true, false, ℕ, List, Option, Some, None}
-use Rattle.jsonc_tree.specs.Content.{Content, array, object, token, whitespace}
+use Rattle.std.specs.Prelude.{Bool, true, false, ℕ, List, Option, Some, None}
+use Rattle.jsonc_tree.specs.Content.{Content, array, object, whitespace}
 use Rattle.jsonc_tree.specs.Tree.{Node, content_at}
+pub use Rattle.jsonc_nodes.specs.Kinds.{is_comma}
 
 -- the text of whitespace
 abbrev pub blank_of : Content → Option (List ℕ)
@@ -11,10 +12,6 @@ blank_of _ = None
 -- the same of a node by its number
 abbrev pub blank_at : List Node → ℕ → Option (List ℕ)
 blank_at ns n = blank_of (content_at ns n)
-
-abbrev pub is_comma : Content → Bool
-is_comma (token c) = c == 0x2C
-is_comma _ = false
 
 -- an array or an object
 abbrev pub holds_values : Content → Bool

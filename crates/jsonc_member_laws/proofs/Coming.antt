@@ -9,12 +9,12 @@ use Rattle.jsonc_laws.specs.SoundTrees.{SoundTree}
 use Rattle.jsonc_edit.specs.Paths.{IsAt}
 use Rattle.jsonc_from_input.specs.Laid.{laid_property}
 use Rattle.jsonc_from_input.specs.Layout.{Layout}
-use Rattle.jsonc_insert.specs.Planned.{planned}
-use Rattle.jsonc_insert.specs.Settings.{indents_of}
+use Rattle.jsonc_insertion_laws.specs.Below.insert.Planned.{planned}
+use Rattle.jsonc_insertion_laws.specs.Below.insert.Settings.{indents_of}
 use Rattle.jsonc_insertion_laws.specs.Members.{PropertyComesAt}
 use Rattle.jsonc_insertion_laws.proofs.Filling.{Filled}
 use Rattle.jsonc_edit.proofs.FittingNodes.{over_there}
-use Rattle.jsonc_multiline.proofs.Documents.{over_at}
+use Rattle.jsonc_insertion_laws.proofs.Below.multiline.Documents.{over_at}
 use Rattle.jsonc_insertion_laws.proofs.Places.{at_still}
 use Rattle.jsonc_insertion_laws.proofs.Objects.{property_comes_at, PropertyFilled}
 use Rattle.jsonc_insertion_laws.proofs.Named.{inserts_member}

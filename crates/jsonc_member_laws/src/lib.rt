@@ -8,6 +8,6 @@
 
 pub mod laws;
 
-pub use jsonc_insert as insert;
 pub use jsonc_insertion_laws as insertion_laws;
+pub use jsonc_insertion_laws::insert;
 pub use jsonc_members as members;

@@ -16,6 +16,10 @@ abbrev pub is_colon : Content → Bool
 is_colon (token c) = c == 0x3A
 is_colon _ = false
 
+abbrev pub is_comma : Content → Bool
+is_comma (token c) = c == 0x2C
+is_comma _ = false
+
 abbrev pub is_whitespace : Content → Bool
 is_whitespace (whitespace s) = true
 is_whitespace _ = false

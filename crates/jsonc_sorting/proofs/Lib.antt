@@ -3,3 +3,4 @@ pub mod Keyed
 pub mod Pinned
 pub mod Commented
 pub mod Wired
+pub mod Below

@@ -2,3 +2,4 @@ pub mod Asking
 pub mod Pins
 pub mod Rows
 pub mod Sorted
+pub mod Below

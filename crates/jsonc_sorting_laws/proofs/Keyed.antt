@@ -21,7 +21,7 @@ use Rattle.jsonc_edit.specs.Changes.{top_at}
 use Rattle.jsonc_edit.specs.declared.error.EditError.{EditError}
 use Rattle.jsonc_order.specs.Keys.{AreKeys, IsKeyOf}
 use Rattle.jsonc_order.specs.Order.{comes_before, node_in, option_before, start_in, IsOrderedBy}
-use Rattle.jsonc_sort.specs.Sorting.{Headers}
+use Rattle.jsonc_sorting.specs.Below.sort.Sorting.{Headers}
 use Rattle.jsonc_cst.specs.declared.cst.CstRootNode.{CstRootNode}
 use Rattle.jsonc_cst.specs.declared.cst.node.CstArray.{CstArray}
 use Rattle.jsonc_cst.specs.declared.cst.node.CstNode.{CstNode}

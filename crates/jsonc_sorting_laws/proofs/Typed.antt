@@ -13,7 +13,7 @@ use Rattle.jsonc_nodes.specs.Kinds.{is_property}
 use Rattle.jsonc_nodes.specs.Siblings.{elements_at}
 use Rattle.jsonc_edit.specs.Changes.{top_at}
 use Rattle.jsonc_order.specs.Order.{comes_before, node_in, option_before, start_in, IsOrderedBy}
-use Rattle.jsonc_sort.specs.Sorting.{Headers}
+use Rattle.jsonc_sorting.specs.Below.sort.Sorting.{Headers}
 use Rattle.jsonc_cst.specs.declared.cst.CstRootNode.{CstRootNode}
 use Rattle.jsonc_cst.specs.declared.cst.node.CstArray.{CstArray}
 use Rattle.jsonc_cst.specs.declared.cst.node.CstNode.{CstNode}

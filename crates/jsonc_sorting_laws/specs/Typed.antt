@@ -13,7 +13,7 @@ use Rattle.jsonc_edit.specs.Changes.{top_at}
 use Rattle.jsonc_edit.specs.declared.error.EditError.{EditError}
 use Rattle.jsonc_order.specs.Asking.{ComparesBy}
 use Rattle.jsonc_order.specs.Keys.{Answers}
-use Rattle.jsonc_sort.specs.Sorting.{Headers}
+use Rattle.jsonc_sorting.specs.Below.sort.Sorting.{Headers}
 use Rattle.jsonc_cst.specs.declared.cst.CstRootNode.{CstRootNode}
 use Rattle.jsonc_cst.specs.declared.cst.node.CstArray.{CstArray}
 use Rattle.jsonc_cst.specs.declared.cst.node.CstNode.{CstNode}

@@ -1,14 +1,14 @@
 //! Laws of second sorts on typed nodes: each is the contract of a function that does nothing.
 ghost use Rattle.std.specs.Prelude.{Bool};
 ghost use Rattle.jsonc_tree.specs.OrderedTree.{Top};
-ghost use Rattle.jsonc_sort.specs.Sorting.{Headers};
+ghost use Rattle.jsonc_sorting.specs.Below.sort.Sorting.{Headers};
 ghost use Rattle.jsonc_cst.specs.declared.cst.CstRootNode.{CstRootNode};
 ghost use Rattle.jsonc_cst.specs.declared.cst.node.CstArray.{CstArray};
 ghost use Rattle.jsonc_cst.specs.declared.cst.node.CstObject.{CstObject};
 ghost use Rattle.jsonc_sorting_laws.specs.Typed.{ElementsSortOnce, ElementsSortOnceByKey, PropertiesSortOnce, PropertiesSortOnceByKey};
 
 use jsonc_cst::cst::{CstNode, CstObjectProp, EditError};
-use jsonc_typed::IsDocument;
+use jsonc_sorting::typed::IsDocument;
 use std::alloc::Allocator;
 use std::cmp::Ordering;
 

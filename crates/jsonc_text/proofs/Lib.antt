@@ -6,6 +6,7 @@ pub mod BlockComments
 pub mod Collapse
 pub mod Cuts
 pub mod FaultLemmas
+pub mod Gaps
 pub mod Lines
 pub mod Nesting
 pub mod NumberFrames

@@ -7,18 +7,10 @@ use Rattle.jsonc_text.specs.Text.{rest, Many, stop, step, Spans}
 use Rattle.jsonc_text.specs.Gaps.{Gap, none, blank, comment, is_blank}
 use Rattle.jsonc_text.specs.Lexemes.{Scanned, lexeme, line_comment, block_comment, IsScanned}
 use Rattle.jsonc_text.specs.Places.{is_comment}
+pub use Rattle.jsonc_text.proofs.Gaps.{blanks_gap, gap_append}
 use Rattle.jsonc_scan.specs.Scanner.{text_of, start_of, end_of, options_of, PassesBlanks, StandsAt, left}
 use Rattle.jsonc_text.specs.Tokens.{scanned_of}
 use Rattle.jsonc_ast.specs.Located.{Between}
-
-pub blanks_gap : {o : Options} {t r : List ℕ} → Many is_blank t r → Gap o t r
-blanks_gap stop = none
-blanks_gap (step h m) = blank h (blanks_gap m)
-
-pub gap_append : {o : Options} {t u r : List ℕ} → Gap o t u → Gap o u r → Gap o t r
-gap_append none h = h
-gap_append (blank e g) h = blank e (gap_append g h)
-gap_append (comment a c g) h = comment a c (gap_append g h)
 
 pub comment_gap : (o p : Options) (w : Scanned) (t r : List ℕ) → is_comment w ≡ true → IsTrue o.comments → IsScanned p w t r → Gap o t r
 comment_gap o p (lexeme k) t r e allowed h = cc

@@ -13,11 +13,11 @@ use Rattle.jsonc_nodes.specs.Siblings.{elements_at}
 use Rattle.jsonc_edit.specs.Paths.{IsElementOf}
 use Rattle.jsonc_edit.proofs.Uniqueness.{element_parent}
 use Rattle.jsonc_edit.specs.declared.error.EditError.{EditError}
-use Rattle.jsonc_insert.specs.Inserted.{refusal, ElementPut}
-use Rattle.jsonc_insert.specs.Laws.{KeepsNodesBut}
-use Rattle.jsonc_insert.specs.Planned.{has_brackets}
-use Rattle.jsonc_insert.proofs.Numbering.{changes_one_row, takes_number}
-use Rattle.jsonc_insert.proofs.Past.{past_the_end}
+use Rattle.jsonc_insertion_laws.specs.Below.insert.Inserted.{refusal, ElementPut}
+use Rattle.jsonc_insertion_laws.specs.Below.insert.Laws.{KeepsNodesBut}
+use Rattle.jsonc_insertion_laws.specs.Below.insert.Planned.{has_brackets}
+use Rattle.jsonc_insertion_laws.proofs.Below.insert.Numbering.{changes_one_row, takes_number}
+use Rattle.jsonc_insertion_laws.proofs.Below.insert.Past.{past_the_end}
 use Rattle.jsonc_cst.specs.declared.cst.node.CstNode.{CstNode}
 use Rattle.jsonc_cst.specs.Nodes.{number_of}
 use Rattle.jsonc_insertion_laws.proofs.Comes.{elements_come_at}

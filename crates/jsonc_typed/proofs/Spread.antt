@@ -9,10 +9,10 @@ use Rattle.jsonc_tree.specs.Tree.{Node, content_at, IsTree}
 use Rattle.jsonc_lines.specs.Kinds.{holds_values}
 use Rattle.jsonc_edit.specs.declared.error.EditError.{EditError}
 use Rattle.jsonc_edit.specs.declared.error.EditError.TheVariants.{OutOfMemory, MissingBrackets, MissingName, NoSuchPlace}
-use Rattle.jsonc_multiline.specs.Multiline.{has_line_end, IsUnspread, MadeMultiline}
-use Rattle.jsonc_multiline.proofs.Documents.{spread_at}
-use Rattle.jsonc_multiline.proofs.LineEnds.{has_end, has_its_brackets}
-use Rattle.jsonc_multiline.proofs.SameDocument.{keeps_document}
+use Rattle.jsonc_insertion_laws.specs.Below.multiline.Multiline.{has_line_end, IsUnspread, MadeMultiline}
+use Rattle.jsonc_insertion_laws.proofs.Below.multiline.Documents.{spread_at}
+use Rattle.jsonc_insertion_laws.proofs.Below.multiline.LineEnds.{has_end, has_its_brackets}
+use Rattle.jsonc_insertion_laws.proofs.Below.multiline.SameDocument.{keeps_document}
 use Rattle.jsonc_cst.specs.declared.cst.node.CstArray.{CstArray}
 use Rattle.jsonc_cst.specs.declared.cst.node.CstObject.{CstObject}
 use Rattle.jsonc_cst.specs.Nodes.{array_node, object_node, typed}

@@ -10,8 +10,8 @@ use Rattle.jsonc_edit.specs.Paths.{IsAt, IsElementOf}
 use Rattle.jsonc_edit.specs.Writing.{IsWritable}
 use Rattle.jsonc_edit.specs.declared.error.EditError.{EditError}
 use Rattle.jsonc_edit.specs.declared.error.EditError.TheVariants.{OutOfMemory}
-use Rattle.jsonc_insert.specs.Inserted.{refusal, ElementPut}
-use Rattle.jsonc_insert.specs.Laws.{KeepsNodesBut}
+use Rattle.jsonc_insertion_laws.specs.Below.insert.Inserted.{refusal, ElementPut}
+use Rattle.jsonc_insertion_laws.specs.Below.insert.Laws.{KeepsNodesBut}
 use Rattle.jsonc_insertion_laws.specs.Laws.{ElementComesAt, IsInserted}
 use Rattle.jsonc_cst.specs.declared.cst.CstRootNode.{CstRootNode}
 use Rattle.jsonc_cst.specs.declared.cst.node.CstNode.{CstNode}

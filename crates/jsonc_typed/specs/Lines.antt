@@ -7,8 +7,8 @@ use Rattle.jsonc_laws.specs.SoundTrees.{SoundTree}
 use Rattle.jsonc_edit.specs.Paths.{IsAt}
 use Rattle.jsonc_edit.specs.declared.error.EditError.{EditError}
 use Rattle.jsonc_edit.specs.declared.error.EditError.TheVariants.{OutOfMemory}
-use Rattle.jsonc_multiline.specs.Laws.{SaysTheSame, SpreadAt}
-use Rattle.jsonc_multiline.specs.Multiline.{has_line_end, IsUnspread, MadeMultiline}
+use Rattle.jsonc_insertion_laws.specs.Below.multiline.Laws.{SaysTheSame, SpreadAt}
+use Rattle.jsonc_insertion_laws.specs.Below.multiline.Multiline.{has_line_end, IsUnspread, MadeMultiline}
 use Rattle.jsonc_cst.specs.declared.cst.CstRootNode.{CstRootNode}
 use Rattle.jsonc_cst.specs.declared.cst.node.CstNode.{CstNode}
 use Rattle.jsonc_cst.specs.Document.{nodes_of}

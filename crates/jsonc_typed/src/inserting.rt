@@ -7,9 +7,9 @@ ghost use Rattle.jsonc_tree.specs.Content.{Content};
 ghost use Rattle.jsonc_tree.specs.OrderedTree.{ordered_tree};
 ghost use Rattle.jsonc_tree.specs.Tree.{children_at, content_at, IsTree};
 ghost use Rattle.jsonc_nodes.specs.Siblings.{elements_at};
-ghost use Rattle.jsonc_insert.specs.Inserted.{refusal};
-ghost use Rattle.jsonc_insert.specs.Planned.{has_brackets};
-ghost use Rattle.jsonc_insert.specs.Laws.{KeepsNodesBut};
+ghost use Rattle.jsonc_insertion_laws.specs.Below.insert.Inserted.{refusal};
+ghost use Rattle.jsonc_insertion_laws.specs.Below.insert.Planned.{has_brackets};
+ghost use Rattle.jsonc_insertion_laws.specs.Below.insert.Laws.{KeepsNodesBut};
 ghost use Rattle.jsonc_cst.specs.Document.{nodes_of, tree_of, Holds};
 ghost use Rattle.jsonc_cst.specs.Nodes.{array_node, number_of, IsNodeOf};
 ghost use Rattle.jsonc_cst.specs.Tree.{NodesAreTree};
@@ -20,7 +20,7 @@ ghost use Rattle.jsonc_typed.specs.Inserting.{PutsButForMemory, StandsAt};
 
 use jsonc_cst::cst::{CstArray, CstNode, CstRootNode, EditError, IsNode, node_at};
 use jsonc_input::CstInputValue;
-use jsonc_insert::insert_element;
+use jsonc_insertion_laws::insert::insert_element;
 use jsonc_tree::Tree;
 use std::alloc::Allocator;
 

@@ -5,7 +5,7 @@ ghost use Rattle.jsonc_text.specs.Options.{Options};
 ghost use Rattle.jsonc_tree.specs.OrderedTree.{ordered_tree};
 ghost use Rattle.jsonc_tree.specs.Tree.{content_at, IsTree};
 ghost use Rattle.jsonc_lines.specs.Kinds.{holds_values};
-ghost use Rattle.jsonc_multiline.specs.Multiline.{has_line_end, IsUnspread, MadeMultiline};
+ghost use Rattle.jsonc_insertion_laws.specs.Below.multiline.Multiline.{has_line_end, IsUnspread, MadeMultiline};
 ghost use Rattle.jsonc_cst.specs.Document.{tree_of, Holds};
 ghost use Rattle.jsonc_cst.specs.Tree.{NodesAreTree};
 ghost use Rattle.jsonc_typed.specs.Edits.{StillHolds, StillNodes};
@@ -30,7 +30,7 @@ fn spread<A: Allocator + Copy>(alloc: A, tree: &mut Tree<A>, number: usize) -> R
     ensures tree { IsTree tree.new.nodes }
 {
     let _ = tree.len();
-    jsonc_multiline::ensure_multiline(alloc, tree, number)
+    jsonc_insertion_laws::multiline::ensure_multiline(alloc, tree, number)
 }
 
 /// An array or object, which may be put on several lines.

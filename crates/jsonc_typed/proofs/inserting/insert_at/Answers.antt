@@ -2,7 +2,7 @@ use Rattle.std.proofs.Common.{ℕ, length, min}
 use Rattle.jsonc_input.specs.Views.{plain}
 use Rattle.jsonc_nodes.specs.Siblings.{elements_at}
 use Rattle.jsonc_edit.specs.Paths.{IsElementOf}
-use Rattle.jsonc_insert.specs.Inserted.{ElementPut}
+use Rattle.jsonc_insertion_laws.specs.Below.insert.Inserted.{ElementPut}
 use Rattle.jsonc_typed.proofs.ComingIn.{put_element, put_for_memory, put_others, put_stays, put_there, put_written}
 use Rattle.jsonc_typed.proofs.Kept.{as_typed, nodes_stay, stay_kept}
 use Rattle.jsonc_typed.proofs.inserting.insert_at.Goals as goal

@@ -1,0 +1,3 @@
+-- The crates below, for those above that name their proofs too.
+pub use Rattle.jsonc_insert.proofs as insert
+pub use Rattle.jsonc_multiline.proofs as multiline

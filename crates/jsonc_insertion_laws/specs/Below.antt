@@ -1,0 +1,3 @@
+-- The crates below, for those above that name their specs too.
+pub use Rattle.jsonc_insert.specs as insert
+pub use Rattle.jsonc_multiline.specs as multiline
