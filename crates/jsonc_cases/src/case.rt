@@ -93,47 +93,40 @@ impl<'a> Case<'a> {
     }
 }
 
-fn is_kind_to_come(kind: &str) -> bool {
-    match kind {
-        "trace" | "settings" | "detached" => true,
-        _ => false,
-    }
-}
-
 impl Question {
     fn from_fields(alloc: Global, kind: &str, fields: &[&str]) -> Result<Question, CaseError> {
-        match (kind, fields) {
-            ("scan", [options, text]) => scan(alloc, options, text),
-            ("ast", [options, collect, text]) => ast(alloc, options, collect, text),
-            ("value", [options, text]) => value(alloc, options, text),
-            ("equal", [options, one, other]) => equal(alloc, options, one, other),
-            ("jobj", [options, text, lookups]) => object(alloc, options, text, lookups),
-            ("aobj", [options, text, lookups]) => tree_object(alloc, options, text, lookups),
-            ("edit", [options, text, edits]) => edit(alloc, options, text, edits),
-            ("read", [options, text, edits]) => read(alloc, options, text, edits),
-            ("decode", [text]) => Ok(Question::Decode {
-                text: unescaped_text(alloc, text)?,
-            }),
-            ("print", [options, input]) => print(alloc, options, input),
-            ("jsonc", [words, input]) => program(alloc, words, input),
-            (
-                "scan" | "ast" | "value" | "jobj" | "aobj" | "edit" | "read" | "decode" | "jsonc",
-                _,
-            ) => Err(CaseError::FieldCount),
-            (kind, _) if is_kind_to_come(kind) => Ok(Question::NotBuilt),
+        match kind {
+            "scan" => scan(alloc, fields),
+            "ast" => ast(alloc, fields),
+            "value" => value(alloc, fields),
+            "equal" => equal(alloc, fields),
+            "jobj" => object(alloc, fields),
+            "aobj" => tree_object(alloc, fields),
+            "edit" => edit(alloc, fields),
+            "read" => read(alloc, fields),
+            "decode" => decode(alloc, fields),
+            "print" => print(alloc, fields),
+            "jsonc" => program(alloc, fields),
+            "trace" | "settings" | "detached" => Ok(Question::NotBuilt),
             _ => Err(CaseError::UnknownKind),
         }
     }
 }
 
-fn scan(alloc: Global, options: &str, text: &str) -> Result<Question, CaseError> {
+fn scan(alloc: Global, fields: &[&str]) -> Result<Question, CaseError> {
+    let [options, text] = fields else {
+        return Err(CaseError::FieldCount);
+    };
     Ok(Question::Scan {
         options: read_options(options)?,
         text: unescaped_text(alloc, text)?,
     })
 }
 
-fn ast(alloc: Global, options: &str, collect: &str, text: &str) -> Result<Question, CaseError> {
+fn ast(alloc: Global, fields: &[&str]) -> Result<Question, CaseError> {
+    let [options, collect, text] = fields else {
+        return Err(CaseError::FieldCount);
+    };
     Ok(Question::Ast {
         options: read_options(options)?,
         collect: read_collection(collect)?,
@@ -141,14 +134,20 @@ fn ast(alloc: Global, options: &str, collect: &str, text: &str) -> Result<Questi
     })
 }
 
-fn value(alloc: Global, options: &str, text: &str) -> Result<Question, CaseError> {
+fn value(alloc: Global, fields: &[&str]) -> Result<Question, CaseError> {
+    let [options, text] = fields else {
+        return Err(CaseError::FieldCount);
+    };
     Ok(Question::Value {
         options: read_options(options)?,
         text: unescaped_text(alloc, text)?,
     })
 }
 
-fn equal(alloc: Global, options: &str, one: &str, other: &str) -> Result<Question, CaseError> {
+fn equal(alloc: Global, fields: &[&str]) -> Result<Question, CaseError> {
+    let [options, one, other] = fields else {
+        return Err(CaseError::FieldCount);
+    };
     Ok(Question::Equal {
         options: read_options(options)?,
         one: unescaped_text(alloc, one)?,
@@ -156,14 +155,29 @@ fn equal(alloc: Global, options: &str, one: &str, other: &str) -> Result<Questio
     })
 }
 
-fn print(alloc: Global, options: &str, input: &str) -> Result<Question, CaseError> {
+fn decode(alloc: Global, fields: &[&str]) -> Result<Question, CaseError> {
+    let [text] = fields else {
+        return Err(CaseError::FieldCount);
+    };
+    Ok(Question::Decode {
+        text: unescaped_text(alloc, text)?,
+    })
+}
+
+fn print(alloc: Global, fields: &[&str]) -> Result<Question, CaseError> {
+    let [options, input] = fields else {
+        return Err(CaseError::FieldCount);
+    };
     Ok(Question::Print {
         options: read_options(options)?,
         input: unescaped(alloc, input)?,
     })
 }
 
-fn object(alloc: Global, options: &str, text: &str, lookups: &str) -> Result<Question, CaseError> {
+fn object(alloc: Global, fields: &[&str]) -> Result<Question, CaseError> {
+    let [options, text, lookups] = fields else {
+        return Err(CaseError::FieldCount);
+    };
     Ok(Question::Object {
         options: read_options(options)?,
         text: unescaped_text(alloc, text)?,
@@ -171,12 +185,10 @@ fn object(alloc: Global, options: &str, text: &str, lookups: &str) -> Result<Que
     })
 }
 
-fn tree_object(
-    alloc: Global,
-    options: &str,
-    text: &str,
-    lookups: &str,
-) -> Result<Question, CaseError> {
+fn tree_object(alloc: Global, fields: &[&str]) -> Result<Question, CaseError> {
+    let [options, text, lookups] = fields else {
+        return Err(CaseError::FieldCount);
+    };
     Ok(Question::TreeObject {
         options: read_options(options)?,
         text: unescaped_text(alloc, text)?,
@@ -184,7 +196,10 @@ fn tree_object(
     })
 }
 
-fn edit(alloc: Global, options: &str, text: &str, edits: &str) -> Result<Question, CaseError> {
+fn edit(alloc: Global, fields: &[&str]) -> Result<Question, CaseError> {
+    let [options, text, edits] = fields else {
+        return Err(CaseError::FieldCount);
+    };
     let Some(edits) = read_edits(alloc, edits)? else {
         return Ok(Question::NotBuilt);
     };
@@ -195,7 +210,10 @@ fn edit(alloc: Global, options: &str, text: &str, edits: &str) -> Result<Questio
     })
 }
 
-fn read(alloc: Global, options: &str, text: &str, edits: &str) -> Result<Question, CaseError> {
+fn read(alloc: Global, fields: &[&str]) -> Result<Question, CaseError> {
+    let [options, text, edits] = fields else {
+        return Err(CaseError::FieldCount);
+    };
     let Some(edits) = read_edits(alloc, edits)? else {
         return Ok(Question::NotBuilt);
     };
@@ -206,7 +224,10 @@ fn read(alloc: Global, options: &str, text: &str, edits: &str) -> Result<Questio
     })
 }
 
-fn program(alloc: Global, words: &str, input: &str) -> Result<Question, CaseError> {
+fn program(alloc: Global, fields: &[&str]) -> Result<Question, CaseError> {
+    let [words, input] = fields else {
+        return Err(CaseError::FieldCount);
+    };
     Ok(Question::Program {
         words: read_words(alloc, words)?,
         input: unescaped(alloc, input)?,

@@ -98,11 +98,7 @@ fn read_step(alloc: Global, edit: &str) -> Result<Option<Step>, CaseError> {
     if let Some(sort) = read_sort(alloc, words.as_slice())? {
         return Ok(Some(Step::Sort(sort)));
     }
-    let listed = match read_edit(alloc, words.as_slice())? {
-        Some(edit) => Some(edit),
-        None => read_insertion(alloc, words.as_slice())?,
-    };
-    Ok(listed.map(Step::Listed))
+    Ok(read_edit(alloc, words.as_slice())?.map(Step::Listed))
 }
 
 fn read_raw(alloc: Global, words: &[&str]) -> Result<Option<RawEdit>, CaseError> {
@@ -179,29 +175,44 @@ fn read_edit(alloc: Global, words: &[&str]) -> Result<Option<Edit<Global>>, Case
         }
         ["Remove", path] => Ok(Some(Edit::Remove(read_path(alloc, path)?))),
         ["RemoveComment", number] => Ok(Some(Edit::RemoveComment(read_number(number)?))),
+        ["ReplaceProperty", path, name, value @ ..] => {
+            let edit = read_new_property(alloc, path, name, value)?;
+            Ok(Some(edit))
+        }
+        ["EnsureMultiline", path] => Ok(Some(Edit::EnsureMultiline(read_path(alloc, path)?))),
+        _ => read_root_edit(alloc, words),
+    }
+}
+
+/// An edit of the document's value.
+fn read_root_edit(alloc: Global, words: &[&str]) -> Result<Option<Edit<Global>>, CaseError> {
+    match words {
         ["SetRoot", value @ ..] => Ok(Some(Edit::SetRoot(read_value(alloc, value)?))),
         ["ClearRoot"] => Ok(Some(Edit::ClearRoot)),
-        ["ReplaceProperty", path, name, value @ ..] => Ok(Some(read_new_property(
-            alloc, path, name, value,
-        )?)),
-        ["EnsureRoot", shape, over] => Ok(Some(Edit::EnsureRoot(
-            read_shape(shape)?,
-            read_over(over)?,
-        ))),
+        ["EnsureRoot", shape, over] => {
+            let (shape, over) = (read_shape(shape)?, read_over(over)?);
+            Ok(Some(Edit::EnsureRoot(shape, over)))
+        }
+        _ => read_setting(alloc, words),
+    }
+}
+
+/// An edit of a property's value, or of a truth value.
+fn read_setting(alloc: Global, words: &[&str]) -> Result<Option<Edit<Global>>, CaseError> {
+    match words {
         ["SetValue", path, value @ ..] => {
             let path = read_path(alloc, path)?;
             Ok(Some(Edit::SetValue(path, read_value(alloc, value)?)))
         }
-        ["EnsureValue", path, shape] => Ok(Some(Edit::EnsureValue(
-            read_path(alloc, path)?,
-            read_shape(shape)?,
-        ))),
-        ["SetBoolean", path, value] => Ok(Some(Edit::SetBoolean(
-            read_path(alloc, path)?,
-            read_boolean(value)?,
-        ))),
-        ["EnsureMultiline", path] => Ok(Some(Edit::EnsureMultiline(read_path(alloc, path)?))),
-        _ => Ok(None),
+        ["EnsureValue", path, shape] => {
+            let path = read_path(alloc, path)?;
+            Ok(Some(Edit::EnsureValue(path, read_shape(shape)?)))
+        }
+        ["SetBoolean", path, value] => {
+            let path = read_path(alloc, path)?;
+            Ok(Some(Edit::SetBoolean(path, read_boolean(value)?)))
+        }
+        _ => read_insertion(alloc, words),
     }
 }
 
