@@ -14,3 +14,4 @@ pub mod Due
 pub mod Put
 pub mod Meeting
 pub mod SpaceLaws
+pub mod Below

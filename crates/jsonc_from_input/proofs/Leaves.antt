@@ -1,6 +1,6 @@
 -- Nodes that are answered alone.
 use Rattle.std.proofs.Common.{◌≡◌, ℕ, List, length, Result, Ok, Err, IfOk, OnOk, sym, ap, subst, encode_utf8_all}
-use Rattle.jsonc_text.specs.Plain.{Plain}
+use Rattle.jsonc_tree.specs.Below.text.Plain.{Plain}
 use Rattle.jsonc_tree.specs.Content.{Content, string, number}
 use Rattle.jsonc_tree.specs.Changes.{Adds}
 use Rattle.jsonc_tree.specs.Tree.{Node, IsTree}

@@ -2,9 +2,9 @@
 use Rattle.std.proofs.Common.{◌≡◌, ℕ, Bool, true, false, ◌||◌, List, [], ◌++◌, chars, encode_utf8_all, refl, sym, subst, if◌then◌else◌, ◌∙◌}
 use Rattle.std.proofs.lemmas.Str.{chars-encodes}
 use Rattle.std.proofs.lemmas.List.{append-nil}
-use Rattle.jsonc_text.specs.Options.{Options}
-use Rattle.jsonc_text.specs.Strings.{IsString}
-use Rattle.jsonc_text.specs.Plain.{Plain, Items, no_items, item, Members, no_members, member}
+use Rattle.jsonc_tree.specs.Below.text.Options.{Options}
+use Rattle.jsonc_tree.specs.Below.text.Strings.{IsString}
+use Rattle.jsonc_tree.specs.Below.text.Plain.{Plain, Items, no_items, item, Members, no_members, member}
 use Rattle.jsonc_tree.specs.Content.{Content}
 use Rattle.jsonc_tree.specs.OrderedTree.{OrderedTree, none, Top}
 use Rattle.jsonc_tree.specs.Values.{IsStringText, ValueOf, ItemsOf, MembersOf, PropertyOf, HoldsValue, HasNoValue}

@@ -3,7 +3,7 @@ use Rattle.std.proofs.Common.{◌≡◌, ℕ, ◌+◌, ◌-◌, ◌<◌, ◌≤�
 use Rattle.std.proofs.lemmas.List.{drop_more, drop_all, length-drop}
 use Rattle.std.proofs.lemmas.Bool.{lt-ltb, le-ltb}
 use Rattle.std.specs.declared.string.String.{String}
-use Rattle.jsonc_text.specs.Plain.{Items, no_items, item, Members}
+use Rattle.jsonc_tree.specs.Below.text.Plain.{Items, no_items, item, Members}
 use Rattle.jsonc_tree.specs.Tree.{Node}
 use Rattle.jsonc_tree.specs.OrderedTree.{OrderedTree, none, followed_by, Top}
 use Rattle.jsonc_tree.specs.Building.{Keeps}

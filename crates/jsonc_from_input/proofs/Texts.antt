@@ -2,7 +2,7 @@
 use Rattle.std.proofs.Common.{List, [], ◌∷◌, string_bytes, sym, subst, map}
 use Rattle.std.proofs.lemmas.Str.{scalars-chars, IsUtf8-string_bytes}
 use Rattle.std.specs.declared.string.String.{String}
-use Rattle.jsonc_text.specs.Plain.{Plain}
+use Rattle.jsonc_tree.specs.Below.text.Plain.{Plain}
 use Rattle.jsonc_input.specs.Views.{plain, value_step, items_of, members_of, chars_of}
 use Rattle.jsonc_input.specs.declared.value.CstInputValue.{CstInputValue, map-CstInputValue}
 use Rattle.jsonc_input.specs.declared.value.CstInputValue.TheOpen.{CstInputValue-F}

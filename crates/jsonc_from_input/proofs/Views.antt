@@ -6,7 +6,7 @@ use Rattle.std.proofs.lemmas.Bool.{ne_eqb, eqb-true, eqb-false}
 use Rattle.std.proofs.lemmas.List.{drop_more, drop_all}
 use Rattle.std.specs.declared.string.String.{String}
 use Rattle.std.specs.declared.vec.Vec.{Vec}
-use Rattle.jsonc_text.specs.Plain.{Plain, array, object}
+use Rattle.jsonc_tree.specs.Below.text.Plain.{Plain, array, object}
 use Rattle.jsonc_input.specs.Views.{plain, items_plain, members_plain, chars_of}
 use Rattle.jsonc_input.specs.declared.value.CstInputValue.{CstInputValue, the_lemmas}
 use Rattle.jsonc_input.specs.declared.value.CstInputValue as value

@@ -1,6 +1,6 @@
 -- What the calls are given, laid out.
 use Rattle.std.specs.Prelude.{ℕ, List, chars}
-use Rattle.jsonc_text.specs.Plain.{Plain}
+use Rattle.jsonc_tree.specs.Below.text.Plain.{Plain}
 use Rattle.jsonc_tree.specs.OrderedTree.{OrderedTree, Top}
 use Rattle.jsonc_input.specs.Views.{plain, items_plain, members_plain}
 use Rattle.jsonc_input.specs.declared.value.CstInputValue.{CstInputValue}

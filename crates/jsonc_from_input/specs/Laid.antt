@@ -1,6 +1,6 @@
 -- The nodes that a value is laid out as.
 use Rattle.std.specs.Prelude.{ℕ, Bool, true, false, ◌||◌, List, [], ◌∷◌, encode_utf8_all, if◌then◌else◌}
-use Rattle.jsonc_text.specs.Plain.{Plain, Items, no_items, item, Members, no_members, member}
+use Rattle.jsonc_tree.specs.Below.text.Plain.{Plain, Items, no_items, item, Members, no_members, member}
 use Rattle.jsonc_tree.specs.Content.{Content, token, whitespace, newline}
 use Rattle.jsonc_tree.specs.OrderedTree.{OrderedTree, Top, none, more}
 use Rattle.jsonc_input.specs.Spelling.{spelled}

@@ -1,11 +1,11 @@
 -- Values whose strings, names and numbers are texts.
 use Rattle.std.specs.Prelude.{ℕ, List, IsTrue}
 use Rattle.std.specs.Str.{all_scalars}
-use Rattle.jsonc_text.specs.Options.{Options}
+use Rattle.jsonc_tree.specs.Below.text.Options.{Options}
 use Rattle.jsonc_tree.specs.Values.{ValueOf, PropertyOf}
 use Rattle.jsonc_from_input.specs.Layout.{Layout}
 use Rattle.jsonc_from_input.specs.Laid.{laid, laid_property}
-use Rattle.jsonc_text.specs.Plain.{Plain, Items, no_items, item, Members, no_members, member}
+use Rattle.jsonc_tree.specs.Below.text.Plain.{Plain, Items, no_items, item, Members, no_members, member}
 
 -- a list of characters
 abbrev pub IsCharacters : List ℕ → Type 0

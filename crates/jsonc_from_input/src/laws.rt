@@ -1,7 +1,7 @@
 //! Laws of the definitions: each is the contract of a function that does nothing.
 ghost use Rattle.std.specs.Prelude.{List, ℕ};
-ghost use Rattle.jsonc_text.specs.Options.{Options};
-ghost use Rattle.jsonc_text.specs.Plain.{Plain};
+ghost use Rattle.jsonc_tree.specs.Below.text.Options.{Options};
+ghost use Rattle.jsonc_tree.specs.Below.text.Plain.{Plain};
 ghost use Rattle.jsonc_input.specs.Views.{plain};
 ghost use Rattle.jsonc_from_input.specs.Layout.{Layout};
 ghost use Rattle.jsonc_from_input.specs.Texts.{HasLaidProperty, HasLaidValue, IsOfTexts};

@@ -8,7 +8,7 @@ use Rattle.jsonc_tree.specs.OrderedTree.{none, Top}
 use Rattle.jsonc_tree.specs.Tree.{Node, children_at}
 use Rattle.jsonc_tree.specs.declared.node.CstNewlineKind.TheVariants.{LineFeed, CarriageReturnLineFeed}
 use Rattle.jsonc_from_input.specs.Laid.{laid}
-use Rattle.jsonc_laws.specs.TreeChanges.{leaves_of}
+use Rattle.jsonc_edit.specs.Below.laws.TreeChanges.{leaves_of}
 use Rattle.jsonc_edit.specs.Changes.{top_at}
 use Rattle.jsonc_insert.specs.Trimmed.{trimmed}
 use Rattle.jsonc_insert.specs.Settings.{layout_inside}

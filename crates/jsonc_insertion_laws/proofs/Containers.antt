@@ -23,7 +23,7 @@ use Rattle.jsonc_edit.specs.Paths.{IsAt}
 use Rattle.jsonc_edit.specs.declared.error.EditError.TheVariants.{OutOfMemory, MissingBrackets}
 use Rattle.jsonc_edit.proofs.FittingNodes.{over_there}
 use Rattle.jsonc_edit.proofs.Walk.{ChangedIn, Shows-row_below, changed_over}
-use Rattle.jsonc_remove.proofs.Containers.{Brackets, brackets, held_at}
+use Rattle.jsonc_multiline.proofs.Below.remove.Containers.{Brackets, brackets, held_at}
 use Rattle.jsonc_multiline.specs.Laws.{bracketed}
 use Rattle.jsonc_multiline.proofs.Documents.{over_at}
 use Rattle.jsonc_multiline.proofs.OnLines.{standing}

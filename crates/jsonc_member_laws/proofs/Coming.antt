@@ -6,14 +6,14 @@ use Rattle.jsonc_tree.specs.Content.{object}
 use Rattle.jsonc_tree.specs.OrderedTree.{ordered_tree}
 use Rattle.jsonc_tree.specs.Tree.{Node, content_at, IsTree}
 use Rattle.jsonc_laws.specs.SoundTrees.{SoundTree}
-use Rattle.jsonc_edit.specs.Paths.{IsAt}
+use Rattle.jsonc_members.specs.Below.edit.Paths.{IsAt}
 use Rattle.jsonc_from_input.specs.Laid.{laid_property}
 use Rattle.jsonc_from_input.specs.Layout.{Layout}
 use Rattle.jsonc_insertion_laws.specs.Below.insert.Planned.{planned}
 use Rattle.jsonc_insertion_laws.specs.Below.insert.Settings.{indents_of}
 use Rattle.jsonc_insertion_laws.specs.Members.{PropertyComesAt}
 use Rattle.jsonc_insertion_laws.proofs.Filling.{Filled}
-use Rattle.jsonc_edit.proofs.FittingNodes.{over_there}
+use Rattle.jsonc_members.proofs.Below.edit.FittingNodes.{over_there}
 use Rattle.jsonc_insertion_laws.proofs.Below.multiline.Documents.{over_at}
 use Rattle.jsonc_insertion_laws.proofs.Places.{at_still}
 use Rattle.jsonc_insertion_laws.proofs.Objects.{property_comes_at, PropertyFilled}

@@ -23,7 +23,7 @@ use Rattle.jsonc_edit.specs.Paths.{IsAt}
 use Rattle.jsonc_edit.proofs.Entries.{not_both, trivia_passed, Passed}
 use Rattle.jsonc_edit.proofs.FittingFinds.{fails, found_last, IsLast, none_first, none_is_some, passes}
 use Rattle.jsonc_edit.proofs.FittingNodes.{over_there}
-use Rattle.jsonc_remove.proofs.Containers.{Brackets, brackets, held_at}
+use Rattle.jsonc_multiline.proofs.Below.remove.Containers.{Brackets, brackets, held_at}
 use Rattle.jsonc_multiline.proofs.Documents.{over_at}
 use Rattle.jsonc_insert.specs.Settings.{has_last_comma}
 

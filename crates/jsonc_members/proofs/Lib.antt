@@ -10,3 +10,4 @@ pub mod Changing
 pub mod Commas
 pub mod Fits
 pub mod SamePlans
+pub mod Below

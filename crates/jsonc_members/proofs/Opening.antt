@@ -12,7 +12,7 @@ use Rattle.jsonc_tree.specs.Tree.{Node, content_at, parent_at, children_at, plac
 use Rattle.jsonc_tree.proofs.Builder.{Keeps-same}
 use Rattle.jsonc_tree.proofs.Order.{parent_there}
 use Rattle.jsonc_edit.specs.Put.{Prepared}
-use Rattle.jsonc_remove.specs.Removed as removed
+use Rattle.jsonc_multiline.specs.Below.remove.Removed as removed
 use Rattle.jsonc_multiline.specs.Slots.{Slot, stays, AreFilled, no_more, stayed, came}
 use Rattle.jsonc_multiline.specs.Lines.{lines_for, spread_row}
 use Rattle.jsonc_multiline.specs.Multiline.{has_line_end}

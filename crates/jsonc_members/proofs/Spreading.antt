@@ -31,7 +31,7 @@ use Rattle.jsonc_edit.specs.declared.error.EditError.TheVariants.{OutOfMemory, M
 use Rattle.jsonc_edit.proofs.FittingIndents.{indents_fit}
 use Rattle.jsonc_edit.proofs.FittingNodes.{over_there}
 use Rattle.jsonc_edit.proofs.Walk.{Shows-row_below}
-use Rattle.jsonc_remove.proofs.Containers.{Brackets, brackets, held_at}
+use Rattle.jsonc_multiline.proofs.Below.remove.Containers.{Brackets, brackets, held_at}
 use Rattle.jsonc_multiline.specs.Laws.{bracketed}
 use Rattle.jsonc_multiline.specs.Lines.{between, indent_if_any, lines_for, on_line, parts, spread_row, without_back, without_front}
 use Rattle.jsonc_multiline.specs.Multiline.{has_line_end}

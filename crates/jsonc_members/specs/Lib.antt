@@ -3,3 +3,4 @@ pub mod Told
 pub mod Inserted
 pub mod Laws
 pub mod Worked
+pub mod Below

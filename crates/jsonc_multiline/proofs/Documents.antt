@@ -24,16 +24,16 @@ use Rattle.jsonc_build.specs.Shape.{token_then}
 use Rattle.jsonc_laws.specs.Rows.{holder, opening, closing}
 use Rattle.jsonc_laws.specs.SoundTrees.{SoundTree}
 use Rattle.jsonc_laws.specs.TreeChanges.{DocumentChanged}
-use Rattle.jsonc_edit.specs.Changes.{row_below, top_at, Respliced}
-use Rattle.jsonc_edit.specs.Paths.{IsAt}
-use Rattle.jsonc_edit.specs.Put.{Prepared}
-use Rattle.jsonc_edit.specs.Writing.{IsIndent}
-use Rattle.jsonc_edit.proofs.FittingIndents.{indents_fit}
-use Rattle.jsonc_edit.proofs.FittingNodes.{over_there}
-use Rattle.jsonc_edit.proofs.Kept.{at_kept, row_kept, top_stays, tree_stays}
-use Rattle.jsonc_edit.proofs.Splices.{respliced_over, respliced_row}
-use Rattle.jsonc_edit.proofs.Uniqueness.{element_parent, leads_over}
-use Rattle.jsonc_edit.proofs.Walk.{ChangedIn, Shows-row_below, changed_over}
+use Rattle.jsonc_remove.specs.Below.edit.Changes.{row_below, top_at, Respliced}
+use Rattle.jsonc_remove.specs.Below.edit.Paths.{IsAt}
+use Rattle.jsonc_remove.specs.Below.edit.Put.{Prepared}
+use Rattle.jsonc_remove.specs.Below.edit.Writing.{IsIndent}
+use Rattle.jsonc_remove.proofs.Below.edit.FittingIndents.{indents_fit}
+use Rattle.jsonc_remove.proofs.Below.edit.FittingNodes.{over_there}
+use Rattle.jsonc_remove.proofs.Below.edit.Kept.{at_kept, row_kept, top_stays, tree_stays}
+use Rattle.jsonc_remove.proofs.Below.edit.Splices.{respliced_over, respliced_row}
+use Rattle.jsonc_remove.proofs.Below.edit.Uniqueness.{element_parent, leads_over}
+use Rattle.jsonc_remove.proofs.Below.edit.Walk.{ChangedIn, Shows-row_below, changed_over}
 use Rattle.jsonc_remove.proofs.Containers.{Held, held_at, Brackets, brackets}
 use Rattle.jsonc_multiline.specs.Laws.{bracketed, SpreadAt}
 use Rattle.jsonc_multiline.specs.Lines.{Lines, between, indent_if_any, lines_for, on_line, on_lines, parts, without_back, without_front}

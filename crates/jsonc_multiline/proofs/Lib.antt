@@ -6,3 +6,4 @@ pub mod OnLines
 pub mod Documents
 pub mod SameDocument
 pub mod LineEnds
+pub mod Below

@@ -15,7 +15,7 @@ use Rattle.jsonc_multiline.specs.Laws.{HasLineEnd, StaysSpread, HasItsBrackets}
 use Rattle.jsonc_multiline.specs.Lines.{Lines, between, indent_if_any, lines_for, on_line, on_lines, parts, without_back, without_front}
 use Rattle.jsonc_multiline.specs.Multiline.{has_line_end, TakesRow}
 use Rattle.jsonc_multiline.specs.Slots.{Slot, stays, comes, AreFilled, stayed, came}
-use Rattle.jsonc_edit.proofs.FittingNodes.{over_there}
+use Rattle.jsonc_remove.proofs.Below.edit.FittingNodes.{over_there}
 use Rattle.jsonc_remove.proofs.Containers.{brackets, held_at}
 use Rattle.jsonc_multiline.proofs.Documents.{over_at}
 use Rattle.jsonc_multiline.proofs.OnLines.{or_right}

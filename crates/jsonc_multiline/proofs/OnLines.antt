@@ -9,8 +9,8 @@ use Rattle.jsonc_tree.specs.OrderedTree.{OrderedTree, none, more, grown, plant}
 use Rattle.jsonc_tree.specs.Tree.{Node, content_at, children_at, IsTree}
 use Rattle.jsonc_tree.specs.declared.node.CstNewlineKind.{CstNewlineKind}
 use Rattle.jsonc_nodes.specs.Kinds.{is_newline, is_newline_at, is_whitespace, is_whitespace_at}
-use Rattle.jsonc_edit.specs.Changes.{row_below}
-use Rattle.jsonc_edit.specs.Writing.{IsIndent}
+use Rattle.jsonc_remove.specs.Below.edit.Changes.{row_below}
+use Rattle.jsonc_remove.specs.Below.edit.Writing.{IsIndent}
 use Rattle.jsonc_multiline.specs.Slots.{Slot, stays, comes, top_in, row_in}
 use Rattle.jsonc_multiline.specs.Lines.{Lines, is_comma_at, last_line, indent_if_any, on_line, on_lines, parts, without_back, without_front}
 use Rattle.jsonc_multiline.specs.Plans.{child_slots, begins_behind}

@@ -39,7 +39,7 @@ use Rattle.jsonc_laws.proofs.SeamRows.{container_leaves, row_of}
 use Rattle.jsonc_laws.proofs.SeamStretches.{parted_row}
 use Rattle.jsonc_laws.proofs.SoundTrees.{kept_where_none_meet}
 use Rattle.jsonc_laws.proofs.Spaces.{last_of, serves_unless, stretch_no_word}
-use Rattle.jsonc_edit.proofs.OneValue.{document_once}
+use Rattle.jsonc_remove.proofs.Below.edit.OneValue.{document_once}
 use Rattle.jsonc_multiline.specs.Laws.{bracketed, solid_nodes, SpreadAt, SaysTheSame, KeepsDocument, KeepsLeavesOutside, KeepsNodesInside}
 use Rattle.jsonc_multiline.specs.Reflows.{starts_line, Reflows, ended, kept, gone, line, line_end, SpreadsOut, stays, reflows}
 use Rattle.jsonc_multiline.proofs.Reflow.{items_reflow, members_reflow, marks_reflow, lines_reflow, stretch_reflow, leaves_reflow}

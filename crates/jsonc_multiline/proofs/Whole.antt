@@ -12,7 +12,7 @@ use Rattle.jsonc_tree.proofs.Splicing.{in_at}
 use Rattle.jsonc_nodes.specs.Kinds.{is_whitespace, is_whitespace_at}
 use Rattle.jsonc_lines.specs.Kinds.{is_comma}
 use Rattle.jsonc_laws.proofs.RowParts.{first_and}
-use Rattle.jsonc_edit.proofs.Kept.{over_no_old}
+use Rattle.jsonc_remove.proofs.Below.edit.Kept.{over_no_old}
 use Rattle.jsonc_remove.specs.Removed.{has_brackets, has_two}
 use Rattle.jsonc_multiline.specs.Slots.{Slot}
 use Rattle.jsonc_multiline.specs.Lines.{Lines, between, is_comma_at, last_line, lines_for, on_line, on_lines, parts, without_back, without_front}

@@ -13,7 +13,7 @@ use Rattle.jsonc_laws.specs.Marks.{marks}
 use Rattle.jsonc_laws.specs.Rows.{RowKind, closing, container_of}
 use Rattle.jsonc_laws.specs.SoundTrees.{SoundTree}
 use Rattle.jsonc_laws.specs.TreeChanges.{leaves_of, DocumentChanged}
-use Rattle.jsonc_edit.specs.Paths.{IsAt}
+use Rattle.jsonc_remove.specs.Below.edit.Paths.{IsAt}
 use Rattle.jsonc_remove.specs.Removed.{has_brackets}
 use Rattle.jsonc_multiline.specs.Multiline.{has_line_end, MadeMultiline}
 use Rattle.jsonc_multiline.specs.Reflows.{SpreadsOut}

@@ -6,3 +6,4 @@ pub mod Plans
 pub mod Reflows
 pub mod Laws
 pub mod Worked
+pub mod Below

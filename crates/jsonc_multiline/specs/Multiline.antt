@@ -4,9 +4,9 @@ use Rattle.std.specs.List.{list_any}
 use Rattle.jsonc_tree.specs.Changes.{CanJoin, Splices}
 use Rattle.jsonc_tree.specs.Tree.{Node, children_at, IsTree}
 use Rattle.jsonc_nodes.specs.Kinds.{is_newline_at}
-use Rattle.jsonc_edit.specs.Put.{Prepared}
-use Rattle.jsonc_edit.specs.declared.error.EditError.{EditError}
-use Rattle.jsonc_edit.specs.declared.error.EditError.TheVariants.{OutOfMemory, MissingBrackets, MissingName, NoSuchPlace}
+use Rattle.jsonc_remove.specs.Below.edit.Put.{Prepared}
+use Rattle.jsonc_remove.specs.Below.edit.declared.error.EditError.{EditError}
+use Rattle.jsonc_remove.specs.Below.edit.declared.error.EditError.TheVariants.{OutOfMemory, MissingBrackets, MissingName, NoSuchPlace}
 use Rattle.jsonc_remove.specs.Removed.{has_brackets}
 use Rattle.jsonc_multiline.specs.Slots.{Slot, AreFilled}
 use Rattle.jsonc_multiline.specs.Lines.{lines_for, spread_row}

@@ -4,7 +4,7 @@ use Rattle.jsonc_tree.specs.Content.{Content, whitespace, newline}
 use Rattle.jsonc_tree.specs.OrderedTree.{OrderedTree, none, more}
 use Rattle.jsonc_tree.specs.declared.node.CstNewlineKind.{CstNewlineKind}
 use Rattle.jsonc_nodes.specs.Kinds.{is_newline}
-use Rattle.jsonc_edit.specs.Writing.{IsIndent}
+use Rattle.jsonc_remove.specs.Below.edit.Writing.{IsIndent}
 
 -- the end of a line is first in the row
 abbrev pub starts_line : OrderedTree → Bool

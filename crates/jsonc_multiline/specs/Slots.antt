@@ -3,7 +3,7 @@ use Rattle.std.specs.Prelude.{◌≡◌, ◌<◌, ◌≤◌, ℕ, List, [], ◌�
 use Rattle.jsonc_tree.specs.Content.{Content}
 use Rattle.jsonc_tree.specs.OrderedTree.{OrderedTree, Top, none, more}
 use Rattle.jsonc_tree.specs.Tree.{Node, content_at, parent_at}
-use Rattle.jsonc_edit.specs.Changes.{top_at}
+use Rattle.jsonc_remove.specs.Below.edit.Changes.{top_at}
 
 -- a place of a new row: a child that stays, or a leaf that comes
 pub data Slot : Type 0 where

@@ -4,7 +4,7 @@ use Rattle.jsonc_tree.specs.Content.{array, object, property, root, number, stri
 use Rattle.jsonc_tree.specs.OrderedTree.{printed}
 use Rattle.jsonc_tree.specs.Tree.{Node, children_at}
 use Rattle.jsonc_tree.specs.declared.node.CstNewlineKind.TheVariants.{LineFeed, CarriageReturnLineFeed}
-use Rattle.jsonc_edit.specs.Worked.{node}
+use Rattle.jsonc_remove.specs.Below.edit.Worked.{node}
 use Rattle.jsonc_multiline.specs.Slots.{row_in}
 use Rattle.jsonc_multiline.specs.Lines.{Lines, between, on_lines}
 

@@ -10,7 +10,7 @@ ghost use Rattle.jsonc_multiline.specs.Multiline.{has_line_end, IsUnspread, Made
 use crate::brackets::{has_brackets, has_line_end};
 use crate::lines::lines_for;
 use crate::plan::plan_lines;
-use jsonc_edit::EditError;
+use jsonc_remove::edit::EditError;
 use jsonc_tree::Tree;
 use std::alloc::Allocator;
 

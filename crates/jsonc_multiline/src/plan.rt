@@ -3,7 +3,7 @@
 ghost use Rattle.std.specs.Prelude.{◌≡◌, ◌==◌, ◌<◌, ◌≤◌, ◌∷◌, [], IfOk, IsTrue, OnOk, false, length};
 ghost use Rattle.jsonc_tree.specs.Content.{is_container};
 ghost use Rattle.jsonc_tree.specs.Stored.{content_of};
-ghost use Rattle.jsonc_edit.specs.Put.{Prepared};
+ghost use Rattle.jsonc_remove.specs.Below.edit.Put.{Prepared};
 ghost use Rattle.jsonc_lines.specs.Kinds.{is_comma};
 ghost use Rattle.jsonc_remove.specs.Removed.{has_brackets};
 ghost use Rattle.jsonc_multiline.specs.Lines.{last_line, new_line, without_back};

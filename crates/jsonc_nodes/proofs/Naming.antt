@@ -6,7 +6,7 @@ use Rattle.std.proofs.lemmas.Slice.Eq.{bytes_eq-Decides}
 use Rattle.std.proofs.lemmas.Str.{encodes-chars}
 use Rattle.std.specs.Str.{IsUtf8, bytes_eq}
 use lib.Utf8.{encodes}
-use Rattle.jsonc_text.proofs.UniqueStrings.{string_unique}
+use Rattle.jsonc_tree.proofs.Below.text.UniqueStrings.{string_unique}
 use Rattle.jsonc_tree.specs.Tree.{Node, content_at}
 use Rattle.jsonc_tree.specs.Content.{Content, root, object, array, property, string, word, number, boolean, null, token, whitespace, newline, comment}
 use Rattle.jsonc_nodes.specs.Names.{FirstNamed, none, here, later, HasName, IsNamed, Names, string_text, word_text}

@@ -2,11 +2,11 @@
 use Rattle.std.specs.Prelude.{◌≡◌, ◌≢◌, ℕ, Bool, true, false, List, [], ◌∷◌, Option, Some, None, chars, String, string_bytes}
 use Rattle.std.specs.declared.borrow.CowStr.{CowStr}
 use Rattle.std.specs.Cow.{cow_str_bytes}
-use Rattle.jsonc_text.specs.Options.{all_on}
-use Rattle.jsonc_text.specs.Strings.{IsString}
-use Rattle.jsonc_text.specs.Text.{rest}
-use Rattle.jsonc_text.specs.declared.errors.ParseStringErrorKind.{ParseStringErrorKind}
-use Rattle.jsonc_text.specs.declared.errors.ParseStringErrorKind.TheVariants.{OutOfMemory}
+use Rattle.jsonc_tree.specs.Below.text.Options.{all_on}
+use Rattle.jsonc_tree.specs.Below.text.Strings.{IsString}
+use Rattle.jsonc_tree.specs.Below.text.Text.{rest}
+use Rattle.jsonc_tree.specs.Below.text.declared.errors.ParseStringErrorKind.{ParseStringErrorKind}
+use Rattle.jsonc_tree.specs.Below.text.declared.errors.ParseStringErrorKind.TheVariants.{OutOfMemory}
 use Rattle.jsonc_string.specs.Told.{TellsError}
 use Rattle.jsonc_tree.specs.Content.{Content, property, string, word}
 use Rattle.jsonc_tree.specs.Order.{text_at}

@@ -13,7 +13,7 @@ ghost use Rattle.jsonc_nodes.specs.Siblings.{IsThere};
 use crate::property::name_of;
 use crate::siblings::children_from;
 use jsonc_string::provider::parse_string;
-use jsonc_text::errors::ParseStringErrorKind;
+use jsonc_tree::text::errors::ParseStringErrorKind;
 use jsonc_tree::{Kind, Tree};
 use std::alloc::{AllocError, Allocator};
 use std::borrow::CowStr;

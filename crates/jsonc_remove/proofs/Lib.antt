@@ -16,3 +16,4 @@ pub mod Entries
 pub mod Lost
 pub mod LostValue
 pub mod Roots
+pub mod Below

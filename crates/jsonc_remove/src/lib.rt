@@ -12,4 +12,5 @@ pub mod laws;
 mod leaving;
 mod removing;
 
+pub use jsonc_edit as edit;
 pub use removing::remove;

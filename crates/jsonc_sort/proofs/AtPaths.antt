@@ -24,8 +24,8 @@ use Rattle.jsonc_edit.proofs.FittingNodes.{over_there}
 use Rattle.jsonc_edit.proofs.Kept.{at_kept, top_stays, tree_stays}
 use Rattle.jsonc_edit.proofs.Splices.{respliced_over, respliced_row}
 use Rattle.jsonc_edit.proofs.Walk.{ChangedIn, Shows-row_below, changed_over}
-use Rattle.jsonc_remove.specs.Removed.{has_brackets}
-use Rattle.jsonc_remove.proofs.Containers.{Held, held_at, Brackets, brackets}
+use Rattle.jsonc_multiline.specs.Below.remove.Removed.{has_brackets}
+use Rattle.jsonc_multiline.proofs.Below.remove.Containers.{Held, held_at, Brackets, brackets}
 use Rattle.jsonc_multiline.specs.Lines.{between}
 use Rattle.jsonc_multiline.specs.Multiline.{TakesRow}
 use Rattle.jsonc_multiline.specs.Slots as multiline

@@ -7,7 +7,7 @@ use Rattle.std.proofs.lemmas.List.FromFn.{get_or-range_with_len, length-range_wi
 use Rattle.std.proofs.lemmas.Slice.Eq.{bytes_eq-Decides}
 use Rattle.jsonc_tree.specs.Tree.{Node}
 use Rattle.jsonc_nodes.specs.Siblings.{elements_at}
-use Rattle.jsonc_remove.specs.Removed.{has_brackets}
+use Rattle.jsonc_multiline.specs.Below.remove.Removed.{has_brackets}
 use Rattle.jsonc_sort.specs.Paths.{FewStay}
 use Rattle.jsonc_sort.specs.Sorting.{Headers, is_unchanged}
 use Rattle.jsonc_sort.proofs.Placing.{order_below, order_long}

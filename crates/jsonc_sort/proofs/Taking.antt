@@ -14,7 +14,7 @@ use Rattle.jsonc_nodes.specs.Kinds.{is_element, is_element_at}
 use Rattle.jsonc_nodes.specs.Siblings.{elements_at}
 use Rattle.jsonc_build.specs.Lines.{is_line_comment}
 use Rattle.jsonc_lines.specs.Breadth.{newline_kind_at}
-use Rattle.jsonc_remove.specs.Removed.{has_brackets, has_two, is_token, is_token_at}
+use Rattle.jsonc_multiline.specs.Below.remove.Removed.{has_brackets, has_two, is_token, is_token_at}
 use Rattle.jsonc_multiline.specs.Lines.{between}
 use Rattle.jsonc_multiline.specs.Plans.{IsFrom}
 use Rattle.jsonc_multiline.specs.Slots.{AreFilled, no_more, stayed, came}

@@ -4,7 +4,7 @@ use Rattle.std.specs.List.{range_with_len}
 use Rattle.jsonc_tree.specs.Tree.{Node, children_at, content_at}
 use Rattle.jsonc_nodes.specs.Siblings.{elements_at}
 use Rattle.jsonc_lines.specs.Breadth.{newline_kind_at}
-use Rattle.jsonc_remove.specs.Removed.{has_brackets}
+use Rattle.jsonc_multiline.specs.Below.remove.Removed.{has_brackets}
 use Rattle.jsonc_multiline.specs.Lines.{between}
 use Rattle.jsonc_multiline.specs.Multiline.{TakesRow}
 use Rattle.jsonc_multiline.specs.Plans.{PlannedRow}

@@ -3,7 +3,7 @@
 ghost use Rattle.std.specs.Prelude.{◌≡◌, ◌<◌, ◌∷◌, ◌++◌, [], IfOk, IsTrue, OnOk, filter, length, map};
 ghost use Rattle.std.specs.List.{flat_map, list_any};
 ghost use Rattle.jsonc_tree.specs.Tree.{content_at};
-ghost use Rattle.jsonc_remove.specs.Removed.{has_brackets};
+ghost use Rattle.jsonc_multiline.specs.Below.remove.Removed.{has_brackets};
 ghost use Rattle.jsonc_sort.specs.Above.{above, all_comments_above, comments_above, lead_read, leads, leads_read};
 ghost use Rattle.jsonc_sort.specs.Leads.{comments, is_comment_at};
 ghost use Rattle.jsonc_sort.specs.Parts.{is_newline_at};

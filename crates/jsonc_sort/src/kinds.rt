@@ -8,7 +8,7 @@ ghost use Rattle.jsonc_build.specs.Lines.{is_line_comment};
 ghost use Rattle.jsonc_lines.specs.Kinds.{is_comma};
 ghost use Rattle.jsonc_nodes.specs.Kinds.{is_beside, is_comment};
 ghost use Rattle.jsonc_nodes.specs.Siblings.{IsThere};
-ghost use Rattle.jsonc_remove.specs.Removed.{has_brackets, has_two, is_token_at};
+ghost use Rattle.jsonc_multiline.specs.Below.remove.Removed.{has_brackets, has_two, is_token_at};
 
 use jsonc_tree::{Kind, Tree};
 use std::alloc::Allocator;

@@ -1,5 +1,5 @@
 use Rattle.std.proofs.Common.{◌∙◌, ap, sym, subst, refl, chars, arith}
-use Rattle.jsonc_text.specs.Plain.{array, object}
+use Rattle.jsonc_tree.specs.Below.text.Plain.{array, object}
 use Rattle.jsonc_tree.specs.OrderedTree.{none}
 use Rattle.jsonc_tree.specs.Building.{Builds}
 use Rattle.jsonc_tree.specs.Stored.{content_of}

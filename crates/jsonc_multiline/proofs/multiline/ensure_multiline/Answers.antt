@@ -1,7 +1,7 @@
 use Rattle.std.proofs.Common.{sym, ap, ◌∙◌}
 use Rattle.jsonc_tree.specs.Tree.{children_at}
-use Rattle.jsonc_edit.proofs.GivingWay.{where_refused}
-use Rattle.jsonc_edit.proofs.Kept.{tree_stays}
+use Rattle.jsonc_remove.proofs.Below.edit.GivingWay.{where_refused}
+use Rattle.jsonc_remove.proofs.Below.edit.Kept.{tree_stays}
 use Rattle.jsonc_multiline.specs.Lines.{between, on_lines}
 use Rattle.jsonc_multiline.proofs.Whole.{row_ready, kept_through, made_multiline}
 use Rattle.jsonc_multiline.proofs.multiline.ensure_multiline.Goals as goal
