@@ -4,3 +4,4 @@ pub mod Tree
 pub mod Nodes
 pub mod Layout
 pub mod Values
+pub mod Below

@@ -14,9 +14,9 @@ use Rattle.jsonc_tree.proofs.Over.{sibling_not_over}
 use Rattle.jsonc_tree.proofs.OrderedTrees.{Shows-unique}
 use Rattle.jsonc_tree.proofs.Rows.{Shows-append, Shows-part}
 use Rattle.jsonc_nodes.specs.Kinds.{is_element_at}
-use Rattle.jsonc_build.specs.Lines.{LinesEnd, is_loose, LinesEndLoosely}
-use Rattle.jsonc_build.specs.Shape as shape
-use Rattle.jsonc_build.specs.Shape.{Trivia, token_then}
+use Rattle.jsonc_laws.specs.Below.build.Lines.{LinesEnd, is_loose, LinesEndLoosely}
+use Rattle.jsonc_laws.specs.Below.build.Shape as shape
+use Rattle.jsonc_laws.specs.Below.build.Shape.{Trivia, token_then}
 use Rattle.jsonc_laws.specs.Rows as rows
 use Rattle.jsonc_laws.specs.Rows.{RowKind, Last, closing}
 use Rattle.jsonc_laws.specs.Sound.{IsValueBefore}
@@ -29,7 +29,7 @@ use Rattle.jsonc_laws.specs.InRows.{row_around, holding}
 use Rattle.jsonc_laws.specs.SoundTrees.{SoundTree}
 use Rattle.jsonc_laws.specs.Spaces.{is_bare, is_bare_leaf, first_printed, meet}
 use Rattle.jsonc_laws.proofs.Apart.{value_alone, document_alone}
-use Rattle.jsonc_build.proofs.LooseLines.{loosens}
+use Rattle.jsonc_laws.proofs.Below.build.LooseLines.{loosens}
 use Rattle.jsonc_laws.proofs.RowsTell.{kept_by_value_in_row, kept_by_value_in_root, kept_by_value_in_property}
 use Rattle.jsonc_laws.proofs.Spaces.{first_append}
 use Rattle.jsonc_edit.specs.Due.{nearest, begins_bare, ends_bare, seen_before, seen_behind, behind_holder, behind_property}

@@ -8,7 +8,7 @@ use Rattle.jsonc_tree.specs.Content.{Content}
 use Rattle.jsonc_tree.specs.Order.{with_parent}
 use Rattle.jsonc_tree.specs.Tree.{Node, content_at, children_at, place_at, IsTree, IsOver}
 use Rattle.jsonc_tree.specs.OrderedTree.{OrderedTree, none, more, Shows, shows_none, shows_more, ordered_tree}
-use Rattle.jsonc_build.specs.Shape.{IsTrivia, Trivia, nothing, trivia, Separated, comma, no_comma, Closed, plain, trailing_comma, token_then, printed_text, ValueShaped, ElementsShaped, PropertiesShaped, DocumentShaped}
+use Rattle.jsonc_laws.specs.Below.build.Shape.{IsTrivia, Trivia, nothing, trivia, Separated, comma, no_comma, Closed, plain, trailing_comma, token_then, printed_text, ValueShaped, ElementsShaped, PropertiesShaped, DocumentShaped}
 use Rattle.jsonc_nodes.specs.Kinds.{is_element_at, is_trivia}
 use Rattle.jsonc_nodes.specs.Siblings.{siblings_after}
 use Rattle.jsonc_laws.specs.TreeChanges.{IsElement}

@@ -16,8 +16,8 @@ use Rattle.jsonc_tree.specs.Content.{Content, text_of}
 use Rattle.jsonc_tree.specs.Order.{text_at, with_parent, line_up, upward}
 use Rattle.jsonc_tree.specs.Tree.{Node, content_at, parent_at, children_at, place_at, IsTree, IsOver}
 use Rattle.jsonc_tree.specs.OrderedTree.{OrderedTree, ordered_tree}
-use Rattle.jsonc_build.specs.Leaves.{is_inner_blank}
-use Rattle.jsonc_build.specs.Shape.{IsTrivia, IsLiteralBefore, IsNameBefore, ValueShaped, DocumentShaped}
+use Rattle.jsonc_laws.specs.Below.build.Leaves.{is_inner_blank}
+use Rattle.jsonc_laws.specs.Below.build.Shape.{IsTrivia, IsLiteralBefore, IsNameBefore, ValueShaped, DocumentShaped}
 use Rattle.jsonc_nodes.specs.Kinds.{is_element_at, is_whitespace, is_whitespace_at, is_property}
 use Rattle.jsonc_nodes.specs.Properties.{element_from}
 use Rattle.jsonc_nodes.specs.Siblings.{is_no_newline_at, row_of, root_above, siblings_before, line_before}

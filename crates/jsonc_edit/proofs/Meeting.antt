@@ -9,8 +9,8 @@ use Rattle.jsonc_tree.specs.Content.{Content, property, is_container}
 use Rattle.jsonc_tree.specs.OrderedTree.{OrderedTree, none, more, own_leaf, leaves, Shows, shows_none, shows_more}
 use Rattle.jsonc_tree.specs.Siblings.{first, row_of, siblings_after}
 use Rattle.jsonc_tree.specs.Tree.{Node, content_at, children_at, place_at}
-use Rattle.jsonc_build.specs.Shape as shape
-use Rattle.jsonc_build.specs.Shape.{Trivia, IsLiteralBefore}
+use Rattle.jsonc_laws.specs.Below.build.Shape as shape
+use Rattle.jsonc_laws.specs.Below.build.Shape.{Trivia, IsLiteralBefore}
 use Rattle.jsonc_laws.specs.Rows as rows
 use Rattle.jsonc_laws.specs.Rows.{RowKind, closing, Last}
 use Rattle.jsonc_laws.specs.Adjacent.{first_char, or_else, last_printed}

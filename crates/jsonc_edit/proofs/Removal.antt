@@ -11,7 +11,7 @@ use Rattle.jsonc_tree.proofs.Around.{Shows-spliced, Replaced-splice}
 use Rattle.jsonc_tree.proofs.Order.{over_step, parent_there}
 use Rattle.jsonc_tree.proofs.Rows.{Shows-part}
 use Rattle.jsonc_nodes.specs.Kinds.{is_whitespace, is_newline, is_comment, is_trivia, is_whitespace_at, is_newline_at, is_comment_at, is_trivia_at}
-use Rattle.jsonc_build.specs.Lines.{is_line_comment}
+use Rattle.jsonc_laws.specs.Below.build.Lines.{is_line_comment}
 use Rattle.jsonc_laws.specs.TriviaChanges.{AreTrivia, leaves_then, LeavesChanged, StretchChanged, in_root, inside, EndsInComment, one_comment, line_comment}
 use Rattle.jsonc_text.specs.Options.{Options}
 use Rattle.jsonc_tree.specs.Order.{with_parent}

@@ -9,8 +9,8 @@ use Rattle.jsonc_tree.proofs.Order.{parent_there}
 use Rattle.jsonc_tree.specs.Values as values
 use Rattle.jsonc_tree.specs.Values.{HasNoValue, DocumentValueOf}
 use Rattle.jsonc_tree.proofs.Over.{over_up}
-use Rattle.jsonc_build.specs.Shape.{PrintsDocument, printed_text}
-use Rattle.jsonc_build.specs.Lines.{LinesEnd}
+use Rattle.jsonc_laws.specs.Below.build.Shape.{PrintsDocument, printed_text}
+use Rattle.jsonc_laws.specs.Below.build.Lines.{LinesEnd}
 use Rattle.jsonc_nodes.specs.Kinds.{is_element_at}
 use Rattle.jsonc_from_input.specs.Layout.{Layout}
 use Rattle.jsonc_from_input.proofs.Meanings.{laid_value}
@@ -22,7 +22,7 @@ use Rattle.jsonc_laws.proofs.LeavesAround.{document_differs}
 use Rattle.jsonc_laws.proofs.Values.{document_change}
 use Rattle.jsonc_laws.specs.SoundTrees.{SoundTree}
 use Rattle.jsonc_laws.specs.Spaces.{is_bare}
-use Rattle.jsonc_build.proofs.ShapeValues.{document_printed}
+use Rattle.jsonc_laws.proofs.Below.build.ShapeValues.{document_printed}
 use Rattle.jsonc_edit.specs.Due.{due_around}
 use Rattle.jsonc_edit.proofs.Quiet.{none_due}
 use Rattle.jsonc_edit.specs.Changes.{top_at}

@@ -11,7 +11,7 @@ use Rattle.jsonc_tree.specs.Tree.{Node, content_at, parent_at, children_at, plac
 use Rattle.jsonc_tree.specs.Values.{DocumentValueOf}
 use Rattle.jsonc_tree.proofs.Order.{parent_there}
 use Rattle.jsonc_nodes.specs.Kinds.{is_comment, is_newline, is_whitespace, is_whitespace_at}
-use Rattle.jsonc_build.specs.Lines.{is_line_comment}
+use Rattle.jsonc_laws.specs.Below.build.Lines.{is_line_comment}
 use Rattle.jsonc_laws.specs.ChangeLaws.{DiffersIn}
 use Rattle.jsonc_laws.proofs.TriviaLeaves.{document_differs}
 use Rattle.jsonc_laws.proofs.TriviaValues.{document_kept}

@@ -8,8 +8,8 @@ use Rattle.jsonc_text.specs.Numbers.{Number, NumberLit}
 use Rattle.jsonc_text.specs.Strings.{IsString}
 use Rattle.jsonc_text.specs.Plain.{Plain, Items, no_items, item, Members, no_members, member}
 use Rattle.jsonc_tree.specs.Content.{Content}
-use Rattle.jsonc_build.specs.Shape as shape
-use Rattle.jsonc_build.specs.Shape.{IsLexemeBefore, IsLiteralBefore, ValueShaped, token_then}
+use Rattle.jsonc_laws.specs.Below.build.Shape as shape
+use Rattle.jsonc_laws.specs.Below.build.Shape.{IsLexemeBefore, IsLiteralBefore, ValueShaped, token_then}
 use Rattle.jsonc_input.specs.Numbers.{IsAlwaysNumber}
 use Rattle.jsonc_input.specs.Spelling.{spelled}
 use Rattle.jsonc_input.proofs.Spelled.{spelled_string}

@@ -1,2 +1,3 @@
 -- The crates below, for those above that name their specs too.
 pub use Rattle.jsonc_laws.specs as laws
+pub use Rattle.jsonc_lines.specs as lines

@@ -9,7 +9,7 @@ use Rattle.jsonc_tree.specs.OrderedTree.{OrderedTree, leaves, ordered_tree}
 use Rattle.jsonc_tree.specs.Tree.{Node, content_at, parent_at, children_at, place_at, IsTree, IsOver}
 use Rattle.jsonc_tree.specs.Values.{DocumentValueOf}
 use Rattle.jsonc_nodes.specs.Kinds.{is_whitespace_at, is_newline_at, is_comment_at}
-use Rattle.jsonc_build.specs.Lines.{is_line_comment}
+use Rattle.jsonc_laws.specs.Below.build.Lines.{is_line_comment}
 use Rattle.jsonc_laws.specs.ChangeLaws.{DiffersIn}
 use Rattle.jsonc_laws.specs.TriviaChanges.{AreTrivia, StretchChanged, EndsInComment}
 use Rattle.jsonc_laws.specs.SoundTrees.{SoundTree}

@@ -5,7 +5,7 @@ use Rattle.jsonc_text.specs.Plain.{Plain}
 use Rattle.jsonc_tree.specs.Tree.{Node, content_at, parent_at, children_at, IsTree, IsOver}
 use Rattle.jsonc_tree.specs.OrderedTree.{OrderedTree, followed_by, ordered_tree, Shows, Top}
 use Rattle.jsonc_tree.specs.Values.{DocumentValueOf}
-use Rattle.jsonc_build.specs.Shape.{DocumentShaped}
+use Rattle.jsonc_laws.specs.Below.build.Shape.{DocumentShaped}
 use Rattle.jsonc_laws.specs.Sound.{HasValue, IsNewValue}
 use Rattle.jsonc_laws.specs.TreeChanges.{IsElement}
 use Rattle.jsonc_laws.specs.ChangeLaws.{HasChangedValue}

@@ -5,7 +5,7 @@ use Rattle.jsonc_text.specs.Plain.{Plain}
 use Rattle.jsonc_text.specs.Grammar.{IsDocument}
 use Rattle.jsonc_tree.specs.Tree.{Node}
 use Rattle.jsonc_tree.specs.OrderedTree.{OrderedTree, leaves, ordered_tree, Top}
-use Rattle.jsonc_build.specs.Shape.{printed_text}
+use Rattle.jsonc_laws.specs.Below.build.Shape.{printed_text}
 use Rattle.jsonc_laws.specs.Changes.{Changed}
 use Rattle.jsonc_laws.specs.ChangeLaws.{DiffersIn}
 use Rattle.jsonc_laws.specs.TreeChanges.{leaves_of}

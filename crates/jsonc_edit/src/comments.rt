@@ -6,7 +6,7 @@ ghost use Rattle.jsonc_tree.specs.Content.{Content};
 ghost use Rattle.jsonc_tree.specs.OrderedTree.{ordered_tree};
 ghost use Rattle.jsonc_tree.specs.Stored.{content_of};
 ghost use Rattle.jsonc_tree.specs.Tree.{children_at, content_at, parent_at, place_at, IsTree};
-ghost use Rattle.jsonc_build.specs.Lines.{is_line_comment};
+ghost use Rattle.jsonc_laws.specs.Below.build.Lines.{is_line_comment};
 ghost use Rattle.jsonc_edit.specs.Comments.{blanks_from, removed_from, newline_from, IsRemoved, TakesOut, WantsSpace};
 
 use crate::due::due_between;

@@ -54,3 +54,4 @@ pub mod WithoutValue
 pub mod FirstValue
 pub mod Between
 pub mod GivenProperties
+pub mod Below

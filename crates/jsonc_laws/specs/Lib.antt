@@ -31,3 +31,4 @@ pub mod Coming
 pub mod Values
 pub mod EntryLaws
 pub mod Properties
+pub mod Below

@@ -5,7 +5,7 @@ use Rattle.jsonc_text.specs.Plain.{Plain}
 use Rattle.jsonc_tree.specs.Content.{object}
 use Rattle.jsonc_tree.specs.OrderedTree.{ordered_tree}
 use Rattle.jsonc_tree.specs.Tree.{Node, content_at, IsTree}
-use Rattle.jsonc_laws.specs.SoundTrees.{SoundTree}
+use Rattle.jsonc_insertion_laws.specs.Below.laws.SoundTrees.{SoundTree}
 use Rattle.jsonc_members.specs.Below.edit.Paths.{IsAt}
 use Rattle.jsonc_from_input.specs.Laid.{laid_property}
 use Rattle.jsonc_from_input.specs.Layout.{Layout}

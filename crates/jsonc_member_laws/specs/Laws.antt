@@ -7,7 +7,7 @@ use Rattle.jsonc_tree.specs.OrderedTree.{ordered_tree}
 use Rattle.jsonc_tree.specs.Tree.{Node, children_at, content_at, IsTree}
 use Rattle.jsonc_nodes.specs.Siblings.{elements_at}
 use Rattle.jsonc_from_input.specs.Texts.{IsCharacters}
-use Rattle.jsonc_laws.specs.SoundTrees.{SoundTree}
+use Rattle.jsonc_insertion_laws.specs.Below.laws.SoundTrees.{SoundTree}
 use Rattle.jsonc_members.specs.Below.edit.Paths.{IsAt, IsElementOf}
 use Rattle.jsonc_members.specs.Below.edit.Writing.{IsWritable}
 use Rattle.jsonc_insertion_laws.specs.Below.insert.Planned.{has_brackets}

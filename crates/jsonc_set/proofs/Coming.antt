@@ -14,7 +14,7 @@ use Rattle.jsonc_tree.proofs.Rows.{Shows-append, followed_by-assoc}
 use Rattle.jsonc_build.specs.Shape.{IsTrivia}
 use Rattle.jsonc_nodes.specs.Kinds.{is_element_at, is_trivia}
 use Rattle.jsonc_nodes.specs.Properties.{value_at, value_by}
-use Rattle.jsonc_lines.specs.Breadth.{newline_kind_of}
+use Rattle.jsonc_edit.specs.Below.lines.Breadth.{newline_kind_of}
 use Rattle.jsonc_tree.specs.OrderedTree.{Top}
 use Rattle.jsonc_laws.specs.TriviaChanges.{AreTrivia, leaves_then}
 use Rattle.jsonc_laws.proofs.FirstNodes.{no_element}

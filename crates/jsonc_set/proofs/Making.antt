@@ -14,7 +14,7 @@ use Rattle.jsonc_from_input.specs.Layout.{Layout}
 use Rattle.jsonc_from_input.specs.Laid.{laid}
 use Rattle.jsonc_nodes.specs.Kinds.{is_element_at}
 use Rattle.jsonc_nodes.specs.Properties.{value_at, value_by}
-use Rattle.jsonc_lines.specs.Breadth.{newline_kind_of}
+use Rattle.jsonc_edit.specs.Below.lines.Breadth.{newline_kind_of}
 use Rattle.jsonc_edit.specs.Due.{listed}
 use Rattle.jsonc_edit.specs.Put.{Prepared}
 use Rattle.jsonc_edit.specs.Changes.{top_at}

@@ -6,7 +6,7 @@ use Rattle.jsonc_tree.specs.Content.{Content, newline}
 use Rattle.jsonc_tree.specs.Tree.{Node, content_at, parent_at, children_at, IsTree}
 use Rattle.jsonc_tree.specs.declared.node.CstNewlineKind.{CstNewlineKind}
 use Rattle.jsonc_nodes.specs.Kinds.{is_comment_at}
-use Rattle.jsonc_lines.specs.Breadth.{newline_kind_of}
+use Rattle.jsonc_edit.specs.Below.lines.Breadth.{newline_kind_of}
 use Rattle.jsonc_edit.specs.Due.{listed}
 use Rattle.jsonc_edit.specs.Put.{Prepared}
 use Rattle.jsonc_edit.specs.Changes.{top_at}

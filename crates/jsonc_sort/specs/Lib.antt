@@ -9,3 +9,4 @@ pub mod Rearranged
 pub mod Worked
 pub mod Laws
 pub mod Paths
+pub mod Below

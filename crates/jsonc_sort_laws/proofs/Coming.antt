@@ -20,10 +20,10 @@ use Rattle.jsonc_edit.proofs.Kept.{top_stays}
 use Rattle.jsonc_edit.proofs.Splices.{spliced_in}
 use Rattle.jsonc_edit.proofs.Walk.{top_kept}
 use Rattle.jsonc_remove.specs.Removed.{has_brackets, has_two, is_token, is_token_at}
-use Rattle.jsonc_multiline.specs.Lines.{between}
-use Rattle.jsonc_multiline.specs.Multiline.{TakesRow}
-use Rattle.jsonc_multiline.specs.Slots.{AreFilled, no_more, stayed, came}
-use Rattle.jsonc_multiline.proofs.Whole.{two_there}
+use Rattle.jsonc_sort.specs.Below.multiline.Lines.{between}
+use Rattle.jsonc_sort.specs.Below.multiline.Multiline.{TakesRow}
+use Rattle.jsonc_sort.specs.Below.multiline.Slots.{AreFilled, no_more, stayed, came}
+use Rattle.jsonc_sort.proofs.Below.multiline.Whole.{two_there}
 use Rattle.jsonc_sort.specs.Slots.{Slot, stays, comes, all_stay}
 use Rattle.jsonc_sort.specs.Sorting.{Headers, entries, is_unchanged, lines_ended, rearranged, row_end, sorted}
 use Rattle.jsonc_sort.specs.Rearranged.{IsOrderIn, Rearranged, row_sorted}

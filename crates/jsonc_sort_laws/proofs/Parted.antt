@@ -5,7 +5,7 @@ use Rattle.jsonc_tree.specs.Content.{Content}
 use Rattle.jsonc_tree.specs.Tree.{Node, children_at, content_at}
 use Rattle.jsonc_nodes.specs.Siblings.{elements_at}
 use Rattle.jsonc_remove.specs.Removed.{has_brackets}
-use Rattle.jsonc_multiline.specs.Lines.{between}
+use Rattle.jsonc_sort.specs.Below.multiline.Lines.{between}
 use Rattle.jsonc_order.specs.Groups.{group_starts}
 use Rattle.jsonc_order.specs.Order.{comes_before, IsOrderedBy}
 use Rattle.jsonc_sort.specs.Above.{lead_read, leads, leads_at, leads_from, leads_read}

@@ -8,8 +8,8 @@ use denote.Param.Members.{Shared}
 use Rattle.jsonc_order.specs.Asking.{ComparesBy}
 use Rattle.jsonc_order.specs.Keys.{AreKeys, IsFirstRefused}
 use Rattle.jsonc_order.specs.Order.{comes_before, IsOrderedBy}
-use Rattle.jsonc_edit.specs.declared.error.EditError.{EditError}
-use Rattle.jsonc_edit.specs.declared.error.EditError.TheVariants.{OutOfMemory}
+use Rattle.jsonc_cst.specs.Below.edit.declared.error.EditError.{EditError}
+use Rattle.jsonc_cst.specs.Below.edit.declared.error.EditError.TheVariants.{OutOfMemory}
 
 -- a comparison
 module _ {F D N : Type 0} (g : Shared F (Bor D × (N × (N × Unit {0}))) Ordering) (compare : F) (doc : D) (Held : N → Type 0) where

@@ -5,7 +5,7 @@ use Rattle.jsonc_tree.specs.OrderedTree.{OrderedTree, ordered_tree}
 use Rattle.jsonc_tree.specs.Tree.{Node}
 use Rattle.jsonc_nodes.specs.Siblings.{elements_at}
 use Rattle.jsonc_laws.specs.SoundTrees.{SoundTree}
-use Rattle.jsonc_edit.specs.Paths.{IsAt}
+use Rattle.jsonc_cst.specs.Below.edit.Paths.{IsAt}
 use Rattle.jsonc_sort.specs.Paths.{KeepsOutside, SaysSorted, SortedAt}
 use Rattle.jsonc_sort.specs.Rearranged.{IsOrderIn, Rearranged, headers_of}
 use Rattle.jsonc_sort.specs.Sorting.{Headers}

@@ -1,5 +1,5 @@
 use Rattle.std.proofs.Common.{[], false, IsTrue, sym, subst}
-use Rattle.jsonc_build.specs.Lines.{LinesEnd}
+use Rattle.jsonc_laws.specs.Below.build.Lines.{LinesEnd}
 use Rattle.jsonc_laws.specs.Sound.{IsValueBefore}
 use Rattle.jsonc_tree.specs.OrderedTree.{Top}
 use Rattle.jsonc_laws.specs.Spaces.{is_bare}
