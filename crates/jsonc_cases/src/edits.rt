@@ -17,7 +17,7 @@ pub enum Step {
 }
 
 /// What the texts of elements or properties are sorted by.
-#[derive(Clone, Copy, Debug, PartialEq, Eq)]
+#[derive(Clone, Copy)]
 pub enum SortKey {
     /// The text.
     Text,
@@ -32,7 +32,7 @@ pub enum SortKey {
 }
 
 /// Which comments are pinned.
-#[derive(Clone, Copy, Debug, PartialEq, Eq)]
+#[derive(Clone, Copy)]
 pub enum SortRule {
     /// None.
     NoRule,

@@ -5,7 +5,7 @@ use std::error::Error;
 use std::fmt;
 
 /// Why a line is no case. Its `Display` is what the line lacks.
-#[derive(Clone, Copy, Debug, PartialEq, Eq, Drop)]
+#[derive(Debug, Drop)]
 pub enum CaseError {
     /// The line's bytes are not UTF-8.
     NotUtf8,
