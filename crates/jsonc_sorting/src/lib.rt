@@ -19,4 +19,5 @@ mod sorting;
 pub use containers::sort_container;
 pub use elements::{ElementSort, SortElements};
 pub use headers::{BlankLineHeaders, HeaderRule, HeadersBy, NoHeaders};
+pub use jsonc_typed as typed;
 pub use properties::{PropertySort, SortProperties};
