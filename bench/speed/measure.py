@@ -36,11 +36,16 @@ def seconds(program, call, count, path):
     return used.ru_utime + used.ru_stime, written
 
 
+def least_of_three(program, call, count, path):
+    """The least processor time of three processes: others on the machine only make one longer."""
+    return min(seconds(program, call, count, path)[0] for _ in range(3))
+
+
 def calls(program, call, path):
     """How many calls are long enough to be timed, and no shorter than what the process does besides."""
-    count, besides = 1, seconds(program, call, 0, path)[0]
+    count, besides = 1, least_of_three(program, call, 0, path)
     wanted = max(LONG_ENOUGH, besides)
-    while (taken := seconds(program, call, count, path)[0] - besides) < wanted:
+    while (taken := least_of_three(program, call, count, path) - besides) < wanted:
         count = max(2 * count, min(100 * count, int(1.2 * count * wanted / max(taken, 1e-4))))
     return count
 
