@@ -4,11 +4,15 @@
 usage: measure.py OURS THEIRS PEAK FOLDER [ROUNDS]
 
 The time of a call is the processor time of a process that makes it N times, less that of one that makes it
-0 times, divided by N; of each the least of the rounds.
+0 times, divided by N; of each the least of the rounds. Where a call falls short of its target, what those
+processes took is written besides: their own time, the system's, their page faults, and, where valgrind is
+at hand, the instructions.
 """
+import collections
 import datetime
 import os
 import re
+import shutil
 import subprocess
 import sys
 
@@ -24,8 +28,20 @@ TARGETS = {'scan': 1, 'ast': 1, 'tokens': 1, 'value': 1, 'document': 4, 'print':
 LONG_ENOUGH = 0.1
 
 
-def seconds(program, call, count, path):
-    """The processor time of one process, and what it wrote."""
+class Used(collections.namedtuple('Used', 'own system faults')):
+    """Seconds of a process's own and of the system's for it, and page faults."""
+
+    @property
+    def seconds(self):
+        return self.own + self.system
+
+    def each(self, none, count):
+        """What one of so many calls took, where a process without a call took none."""
+        return Used(*((many - few) / count for many, few in zip(self, none)))
+
+
+def run(program, call, count, path):
+    """What one process took, and what it wrote."""
     with open(path, 'rb') as text:
         process = subprocess.Popen([program, call, str(count)], stdin=text, stdout=subprocess.PIPE, stderr=subprocess.PIPE)
         written, fault = process.stdout.read(), process.stderr.read()
@@ -33,34 +49,47 @@ def seconds(program, call, count, path):
         process.returncode = status
     if status:
         sys.exit('%s %s %d < %s: %s' % (program, call, count, path, fault.decode()))
-    return used.ru_utime + used.ru_stime, written
+    return Used(used.ru_utime, used.ru_stime, used.ru_minflt), written
 
 
-def least_of_three(program, call, count, path):
-    """The least processor time of three processes: others on the machine only make one longer."""
-    return min(seconds(program, call, count, path)[0] for _ in range(3))
+def least(program, call, count, path, rounds=1, known=()):
+    """The process of the least time, of some known ones and of so many rounds: others on the machine only make one longer."""
+    return min([*known, *(run(program, call, count, path)[0] for _ in range(rounds))], key=lambda used: used.seconds)
 
 
 def calls(program, call, path):
     """How many calls are long enough to be timed, and no shorter than what the process does besides."""
-    count, besides = 1, least_of_three(program, call, 0, path)
+    count, besides = 1, least(program, call, 0, path, 3).seconds
     wanted = max(LONG_ENOUGH, besides)
-    while (taken := least_of_three(program, call, count, path) - besides) < wanted:
+    while (taken := least(program, call, count, path, 3).seconds - besides) < wanted:
         count = max(2 * count, min(100 * count, int(1.2 * count * wanted / max(taken, 1e-4))))
     return count
 
 
 def timed(programs, call, path, rounds):
-    """The seconds of one call of each program."""
+    """What one call of each program took."""
     counts = [calls(program, call, path) for program in programs]
-    if len({seconds(program, call, 1, path)[1] for program in programs}) > 1:
+    if len({run(program, call, 1, path)[1] for program in programs}) > 1:
         sys.exit('the answers of %s differ on %s' % (call, path))
-    least = [[float('inf')] * 2 for _ in programs]
+    found = [[()] * 2 for _ in programs]
     for _ in range(rounds):
         for i, program in enumerate(programs):
             for j, count in enumerate((counts[i], 0)):
-                least[i][j] = min(least[i][j], seconds(program, call, count, path)[0])
-    return [(many - none) / count for (many, none), count in zip(least, counts)]
+                found[i][j] = [least(program, call, count, path, known=found[i][j])]
+    return [many[0].each(none[0], count) for (many, none), count in zip(found, counts)]
+
+
+def instructions(program, call, path):
+    """How many instructions one call takes, or none without valgrind."""
+    if not shutil.which('valgrind'):
+        return None
+    counted = []
+    for count in ('1', '0'):
+        with open(path, 'rb') as text:
+            process = subprocess.run(['valgrind', '--tool=callgrind', '--callgrind-out-file=/dev/null', program, call, count],
+                                     stdin=text, capture_output=True)
+        counted.append(int(re.search(rb'Collected : (\d+)', process.stderr).group(1)))
+    return counted[0] - counted[1]
 
 
 def peak(program, path, preload):
@@ -87,11 +116,21 @@ def marked(ratio, target, most=False):
     return ('**%.2f**' if short else '%.2f') % ratio
 
 
+def ratio(pair):
+    """Our throughput to theirs."""
+    ours, theirs = pair
+    return theirs.seconds / ours.seconds
+
+
+def path_of(folder, kind, size):
+    return os.path.join(folder, '%s-%s' % (kind, size.replace(' ', '')))
+
+
 def measured(programs, preload, folder, rounds):
-    """Seconds of both by kind, size and call, and the bytes of memory of both by kind and size."""
+    """What both took by kind, size and call, and the bytes of memory of both by kind and size."""
     times, memory, lengths = {}, {}, {}
     for (kind, size), text in documents.make().items():
-        path = os.path.join(folder, '%s-%s' % (kind, size.replace(' ', '')))
+        path = path_of(folder, kind, size)
         with open(path, 'wb') as file:
             file.write(text)
         lengths[kind, size] = len(text)
@@ -101,7 +140,7 @@ def measured(programs, preload, folder, rounds):
             if call in OF_ARRAYS and kind not in documents.ARRAYS:
                 continue
             times[kind, size, call] = timed(programs, call, path, rounds)
-            print('%-9s %-7s %-9s %6.2f' % (kind, size, call, times[kind, size, call][1] / times[kind, size, call][0]), flush=True)
+            print('%-9s %-7s %-9s %6.2f' % (kind, size, call, ratio(times[kind, size, call])), flush=True)
         memory[kind, size] = [peak(program, path, preload) for program in programs]
     return times, memory, lengths
 
@@ -112,7 +151,7 @@ def ratio_rows(times, memory):
         row = ['%s, %s' % (kind, size)]
         for call in CALLS:
             pair = times.get((kind, size, call))
-            row.append(marked(pair[1] / pair[0], TARGETS.get(call)) if pair else '–')
+            row.append(marked(ratio(pair), TARGETS.get(call)) if pair else '–')
         ours, theirs = memory[kind, size]
         rows.append(row + [marked(ours / theirs, 0.5, most=True)])
     return rows
@@ -129,7 +168,7 @@ def speed_rows(times, memory, lengths):
         row = ['%s, %s' % (kind, size)]
         for call in CALLS:
             pair = times.get((kind, size, call))
-            row.append(' / '.join(amount(call, one, lengths[kind, size]) for one in pair) if pair else '–')
+            row.append(' / '.join(amount(call, one.seconds, lengths[kind, size]) for one in pair) if pair else '–')
         rows.append(row + [' / '.join('%.1f' % (bytes / lengths[kind, size]) for bytes in memory[kind, size])])
     return rows
 
@@ -140,9 +179,45 @@ def growth_rows(times, memory):
         row = [kind]
         for call in CALLS:
             small, large = times.get((kind, '1 MB', call)), times.get((kind, '10 MB', call))
-            row.append(marked(large[0] / small[0], 12, most=True) if small and large else '–')
+            row.append(marked(large[0].seconds / small[0].seconds, 12, most=True) if small and large else '–')
         if any(cell != '–' for cell in row[1:]):
             rows.append(row)
+    return rows
+
+
+def milliseconds(seconds):
+    return '%.3g' % (seconds * 1e3) if seconds < 1 else '%.0f' % (seconds * 1e3)
+
+
+def short_rows(programs, folder, times, lengths):
+    """What the calls took that fall short of their targets."""
+    rows = []
+    for (kind, size, call), pair in times.items():
+        if ratio(pair) >= TARGETS.get(call, 0):
+            continue
+        counted = [instructions(program, call, path_of(folder, kind, size)) for program in programs]
+        rows.append([
+            '`%s`, %s, %s' % (call, kind, size),
+            '%.2f' % ratio(pair),
+            ' / '.join('-' if one is None else '%.1f' % (one / lengths[kind, size]) for one in counted),
+            ' / '.join(milliseconds(one.own) for one in pair),
+            ' / '.join(milliseconds(one.system) for one in pair),
+            ' / '.join('%.0f' % one.faults for one in pair),
+        ])
+    return rows
+
+
+def grown_rows(ours, folder, times):
+    """What grew of our calls that take more than 12 times as long on 10 MB as on 1 MB."""
+    rows = []
+    for (kind, size, call), (small, _) in times.items():
+        large = times.get((kind, '10 MB', call), [None])[0]
+        if size != '1 MB' or not large or large.seconds <= 12 * small.seconds:
+            continue
+        counted = [instructions(ours, call, path_of(folder, kind, it)) for it in ('10 MB', '1 MB')]
+        pairs = [counted, (large.own, small.own), (large.system, small.system), (large.faults, small.faults)]
+        row = ['`%s`, %s' % (call, kind), '%.2f' % (large.seconds / small.seconds)]
+        rows.append(row + ['%.1f' % (many / few) if many and few else '-' for many, few in pairs])
     return rows
 
 
@@ -152,7 +227,7 @@ def machine():
     return '%s, %d processors' % (model, os.cpu_count())
 
 
-def figures(times, memory, lengths):
+def figures(times, memory, lengths, short, grown):
     return '\n'.join([
         '## Figures',
         '',
@@ -170,12 +245,22 @@ def figures(times, memory, lengths):
         '',
         table(['Document'] + CALLS, growth_rows(times, memory)),
         '',
+        'Of the calls that fall short of their targets, ours / theirs: instructions a byte, milliseconds of a call of',
+        'the process itself and of the system, and page faults of a call.',
+        '',
+        table(['Call', 'ratio', 'instructions', 'own time', "the system's", 'page faults'], short),
+        '',
+        'Of our calls that take more than 12 times as long on 10 MB as on 1 MB, how many times as much of each.',
+        '',
+        table(['Call', 'time', 'instructions', 'own time', "the system's", 'page faults'], grown),
+        '',
     ])
 
 
 def main(ours, theirs, preload, folder, rounds='5'):
     times, memory, lengths = measured([ours, theirs], preload, folder, int(rounds))
-    written = figures(times, memory, lengths)
+    short, grown = short_rows([ours, theirs], folder, times, lengths), grown_rows(ours, folder, times)
+    written = figures(times, memory, lengths, short, grown)
     print(written)
     with open(REPORT) as report:
         text = report.read()
