@@ -5,8 +5,8 @@ usage: measure.py OURS THEIRS PEAK FOLDER [ROUNDS]
 
 The time of a call is the processor time of a process that makes it N times, less that of one that makes it
 0 times, divided by N; of each the least of the rounds. Where a call falls short of its target, what those
-processes took is written besides: their own time, the system's, their page faults, and, where valgrind is
-at hand, the instructions.
+processes took is written besides: their own time, the system's, their page faults, where valgrind is at
+hand the instructions, and the ratio where the C library keeps the pages that it has, in both programs.
 """
 import collections
 import datetime
@@ -26,6 +26,8 @@ OF_ARRAYS = ('replaced', 'siblings')
 TARGETS = {'scan': 1, 'ast': 1, 'tokens': 1, 'value': 1, 'document': 4, 'print': 2}
 # Seconds that the N calls of one process take at least.
 LONG_ENOUGH = 0.1
+# With these settings the C library gives no page back before the process ends.
+KEEPS_PAGES = {'GLIBC_TUNABLES': 'glibc.malloc.trim_threshold=4000000000:glibc.malloc.mmap_threshold=4000000000'}
 
 
 class Used(collections.namedtuple('Used', 'own system faults')):
@@ -40,10 +42,11 @@ class Used(collections.namedtuple('Used', 'own system faults')):
         return Used(*((many - few) / count for many, few in zip(self, none)))
 
 
-def run(program, call, count, path):
+def run(program, call, count, path, settings=None):
     """What one process took, and what it wrote."""
     with open(path, 'rb') as text:
-        process = subprocess.Popen([program, call, str(count)], stdin=text, stdout=subprocess.PIPE, stderr=subprocess.PIPE)
+        process = subprocess.Popen([program, call, str(count)], stdin=text, stdout=subprocess.PIPE, stderr=subprocess.PIPE,
+                                   env={**os.environ, **(settings or {})})
         written, fault = process.stdout.read(), process.stderr.read()
         _, status, used = os.wait4(process.pid, 0)
         process.returncode = status
@@ -52,31 +55,34 @@ def run(program, call, count, path):
     return Used(used.ru_utime, used.ru_stime, used.ru_minflt), written
 
 
-def least(program, call, count, path, rounds=1, known=()):
-    """The process of the least time, of some known ones and of so many rounds: others on the machine only make one longer."""
-    return min([*known, *(run(program, call, count, path)[0] for _ in range(rounds))], key=lambda used: used.seconds)
+def least(used):
+    """The least of what some processes took: others on the machine only make one longer."""
+    return min(used, key=lambda one: one.seconds)
 
 
-def calls(program, call, path):
+def calls(program, call, path, settings):
     """How many calls are long enough to be timed, and no shorter than what the process does besides."""
-    count, besides = 1, least(program, call, 0, path, 3).seconds
+    def seconds(count):
+        return least(run(program, call, count, path, settings)[0] for _ in range(3)).seconds
+
+    count, besides = 1, seconds(0)
     wanted = max(LONG_ENOUGH, besides)
-    while (taken := least(program, call, count, path, 3).seconds - besides) < wanted:
+    while (taken := seconds(count) - besides) < wanted:
         count = max(2 * count, min(100 * count, int(1.2 * count * wanted / max(taken, 1e-4))))
     return count
 
 
-def timed(programs, call, path, rounds):
-    """What one call of each program took."""
-    counts = [calls(program, call, path) for program in programs]
+def timed(programs, call, path, rounds, settings=None):
+    """What one call of each program took, in turn, so that both meet what others do on the machine."""
+    counts = [calls(program, call, path, settings) for program in programs]
     if len({run(program, call, 1, path)[1] for program in programs}) > 1:
         sys.exit('the answers of %s differ on %s' % (call, path))
-    found = [[()] * 2 for _ in programs]
+    found = [([], []) for _ in programs]
     for _ in range(rounds):
-        for i, program in enumerate(programs):
-            for j, count in enumerate((counts[i], 0)):
-                found[i][j] = [least(program, call, count, path, known=found[i][j])]
-    return [many[0].each(none[0], count) for (many, none), count in zip(found, counts)]
+        for program, count, (many, none) in zip(programs, counts, found):
+            many.append(run(program, call, count, path, settings)[0])
+            none.append(run(program, call, 0, path, settings)[0])
+    return [least(many).each(least(none), count) for (many, none), count in zip(found, counts)]
 
 
 def instructions(program, call, path):
@@ -189,16 +195,18 @@ def milliseconds(seconds):
     return '%.3g' % (seconds * 1e3) if seconds < 1 else '%.0f' % (seconds * 1e3)
 
 
-def short_rows(programs, folder, times, lengths):
+def short_rows(programs, folder, rounds, times, lengths):
     """What the calls took that fall short of their targets."""
     rows = []
     for (kind, size, call), pair in times.items():
         if ratio(pair) >= TARGETS.get(call, 0):
             continue
-        counted = [instructions(program, call, path_of(folder, kind, size)) for program in programs]
+        path = path_of(folder, kind, size)
+        counted = [instructions(program, call, path) for program in programs]
         rows.append([
             '`%s`, %s, %s' % (call, kind, size),
             '%.2f' % ratio(pair),
+            '%.2f' % ratio(timed(programs, call, path, rounds, KEEPS_PAGES)),
             ' / '.join('-' if one is None else '%.1f' % (one / lengths[kind, size]) for one in counted),
             ' / '.join(milliseconds(one.own) for one in pair),
             ' / '.join(milliseconds(one.system) for one in pair),
@@ -245,10 +253,11 @@ def figures(times, memory, lengths, short, grown):
         '',
         table(['Document'] + CALLS, growth_rows(times, memory)),
         '',
-        'Of the calls that fall short of their targets, ours / theirs: instructions a byte, milliseconds of a call of',
-        'the process itself and of the system, and page faults of a call.',
+        'Of the calls that fall short of their targets: the ratio again, and the one where the C library keeps the pages',
+        'that it has, in both programs; and, ours / theirs, instructions a byte, milliseconds of a call of the process',
+        'itself and of the system, and page faults of a call.',
         '',
-        table(['Call', 'ratio', 'instructions', 'own time', "the system's", 'page faults'], short),
+        table(['Call', 'ratio', 'pages kept', 'instructions', 'own time', "the system's", 'page faults'], short),
         '',
         'Of our calls that take more than 12 times as long on 10 MB as on 1 MB, how many times as much of each.',
         '',
@@ -258,8 +267,9 @@ def figures(times, memory, lengths, short, grown):
 
 
 def main(ours, theirs, preload, folder, rounds='5'):
-    times, memory, lengths = measured([ours, theirs], preload, folder, int(rounds))
-    short, grown = short_rows([ours, theirs], folder, times, lengths), grown_rows(ours, folder, times)
+    programs, rounds = [ours, theirs], int(rounds)
+    times, memory, lengths = measured(programs, preload, folder, rounds)
+    short, grown = short_rows(programs, folder, rounds, times, lengths), grown_rows(ours, folder, times)
     written = figures(times, memory, lengths, short, grown)
     print(written)
     with open(REPORT) as report:
