@@ -13,7 +13,6 @@ use Rattle.jsonc_nodes.specs.Siblings.{elements_at}
 use Rattle.jsonc_from_input.specs.Texts.{IsCharacters}
 use Rattle.jsonc_laws.specs.SoundTrees.{SoundTree}
 use Rattle.jsonc_edit.specs.Paths.{IsAt, IsElementOf}
-use Rattle.jsonc_edit.specs.Writing.{IsWritable}
 use Rattle.jsonc_edit.specs.declared.error.EditError.{EditError}
 use Rattle.jsonc_edit.specs.declared.error.EditError.TheVariants.{OutOfMemory}
 use Rattle.jsonc_edit.proofs.FittingFinds.{none_is_some}
@@ -28,12 +27,13 @@ use Rattle.jsonc_parser.proofs.Below.run.Roots.{value_stands}
 use Rattle.jsonc_cst.specs.declared.cst.node.CstArray.{CstArray}
 use Rattle.jsonc_cst.specs.declared.cst.node.CstObject.{CstObject}
 use Rattle.jsonc_cst.specs.declared.cst.node.CstNode.{CstNode}
-use Rattle.jsonc_cst.specs.Nodes.{array_node, number_of, object_node, typed}
+use Rattle.jsonc_cst.specs.declared.cst.node.CstObjectProp.{CstObjectProp}
+use Rattle.jsonc_cst.specs.Nodes.{array_node, object_node, typed}
 use Rattle.jsonc_cst.specs.Readings.{array_if, object_if, typed_if}
-use Rattle.jsonc_parser.specs.Below.typed.Inserting.{PutsAtItsPath, PutsButForMemory}
-use Rattle.jsonc_parser.specs.Below.objects.Members.{PutsNamedAtItsPath}
+use Rattle.jsonc_parser.specs.Below.typed.Inserting.{ComesInAt, PutsAtItsPath, PutsButForMemory}
+use Rattle.jsonc_parser.specs.Below.objects.Members.{NamedComesInAt, PutsNamedAtItsPath}
 use Rattle.jsonc_parser.specs.Below.typed.Setting.{FindsOrCreatesArray, FindsOrCreatesObject, FirstArrayAround, FirstArrayWritten, FirstObjectAround, FirstObjectWritten, FirstOrSame}
-use Rattle.jsonc_parser.specs.Below.typed.Values.{HeldIsMarked, HeldIsWritten}
+use Rattle.jsonc_parser.specs.Below.typed.Values.{HeldIsMarked, HeldIsWritten, PropertyHolds}
 use Rattle.jsonc_engine.specs.declared.fault.Fault.TheVariants.{Edit, NotArray, NotObject}
 use Rattle.jsonc_engine.specs.Appending.{AppendsLast}
 use Rattle.jsonc_engine.specs.Fault.{EndsAppending, EndsSetting, HasAnother}
@@ -69,6 +69,10 @@ array_stands ns found x e h = subst (λ (f : Option CstArray). IfSome f (λ a. t
 pub object_stands : (ns : List Node) (found : Option CstObject) (x : CstObject) → found ≡ Some x → IfSome found (λ a. typed_if ns (value_at ns 0) ≡ Some (object_node a))
     → typed_if ns (value_at ns 0) ≡ Some (object_node x)
 object_stands ns found x e h = subst (λ (f : Option CstObject). IfSome f (λ a. typed_if ns (value_at ns 0) ≡ Some (object_node a))) e h
+
+-- and so is what is said of it
+pub said_of : {T : Type 0} (found : Option T) (x : T) (P : Option T → Type 0) → found ≡ Some x → P found → P (Some x)
+said_of found x P e h = subst P e h
 
 -- what is told where another value stands
 if_none : (b : Bool) (n : ℕ) → None ≡ (if b then Some n else None) → b ≡ false
@@ -124,14 +128,18 @@ module _ (o : Options) (old made : List Node) (tree : IsTree made) (x : CstArray
   at : IsAt made [] c
   at = value_stands made tree c is.0
 
-  pub appends_last : (new : List Node) (v : Plain) → FirstArrayAround old made o → PutsAtItsPath o made new c (length (elements_at made c)) v → AppendsLast o v old new
-  appends_last new v around put = record {
+  pub appends_last : (new : List Node) (v : Plain) → FindsOrCreatesArray old made (Some x) → FirstArrayAround old made o → (now : CstNode)
+      → ComesInAt made new c (length (elements_at made c)) v now → PutsAtItsPath o made new c (length (elements_at made c)) v → AppendsLast o v old new
+  appends_last new v found around now comes put = record {
     made = made;
+    x = x;
+    found = found;
     first = first;
     around = around;
-    c = c;
     value = is.0;
     is_array = is.1;
+    now = now;
+    comes = comes;
     put = λ may. put (sound_array o old made first s) may [] at;
   }
 
@@ -164,22 +172,24 @@ module _ (o : Options) (old made : List Node) (tree : IsTree made) (x : CstObjec
   sound : SoundTree o (ordered_tree made 0)
   sound = sound_object o old made first s
 
-  module _ (new : List Node) (name : List ℕ) (v : Plain) (around : FirstObjectAround old made o) where
-    sets_by : (found : Option ℕ) → FirstInObject made k name found → (IsWritable o v → SetOrAppended o name v made new k found) → SetsFirst o name v old new
-    sets_by found named set = record {
+  module _ (new : List Node) (name : List ℕ) (v : Plain) (found : FindsOrCreatesObject old made (Some x)) (around : FirstObjectAround old made o) where
+    sets_by : (p : Option ℕ) → FirstInObject made k name p → SetOrAppended o name v made new k p → SetsFirst o name v old new
+    sets_by p named set = record {
       made = made;
+      x = x;
+      found = found;
       first = first;
       around = around;
-      c = k;
       value = is_found.0;
       is_object = is_found.1;
-      found = found;
+      property = p;
       named = named;
       set = set;
     }
 
-    pub appends_property : FirstInObject made k name None → IsCharacters name → PutsNamedAtItsPath o made new k (length (elements_at made k)) name v → SetsFirst o name v old new
-    appends_property named texts put = sets_by None named (λ may. put sound texts may [] stands_there)
+    pub appends_property : FirstInObject made k name None → IsCharacters name → (now : CstObjectProp) → NamedComesInAt made new k (length (elements_at made k)) name v now
+        → PutsNamedAtItsPath o made new k (length (elements_at made k)) name v → SetsFirst o name v old new
+    appends_property named texts now comes put = sets_by None named (record { now = now; comes = comes; put = λ may. put sound texts may [] stands_there })
 
     module _ (p : ℕ) (now : CstNode) (named : FirstInObject made k name (Some p)) where
       element : (i : ℕ) × IsElementOf made k i p
@@ -189,21 +199,22 @@ module _ (o : Options) (old made : List Node) (tree : IsTree made) (x : CstObjec
       unfolding Property
       inside = record { of_object = is_found.1; element = element.1; is = found_property made name (children_at made k) (Some p) named }
 
-      sets_value : IsWritable o v → HeldIsWritten made new o p v now → HeldIsMarked made new p v → HasSet o v made new k p
-      sets_value may written marked =
+      sets_value : PropertyHolds made new p v now → HeldIsWritten made new o p v now → HeldIsMarked made new p v → HasSet o v made new k p
+      sets_value becomes written marked =
           let h = value_held o made tree sound (element.0 ∷ []) p (a_property [] k element.0 stands_there inside) in
           record {
             i = element.0;
             n = h.value;
-            m = number_of now;
+            now = now;
             element = element.1;
             holds = h.holds;
-            written = written h.value h.holds (element.0 ∷ []) sound h.at may;
-            marked = marked h.value h.holds (element.0 ∷ []) h.at may.texts;
+            becomes = becomes;
+            written = λ may. written h.value h.holds (element.0 ∷ []) sound h.at may;
+            marked = λ may. marked h.value h.holds (element.0 ∷ []) h.at may.texts;
           }
 
-      pub sets_property : HeldIsWritten made new o p v now → HeldIsMarked made new p v → SetsFirst o name v old new
-      sets_property written marked = sets_by (Some p) named (λ may. sets_value may written marked)
+      pub sets_property : PropertyHolds made new p v now → HeldIsWritten made new o p v now → HeldIsMarked made new p v → SetsFirst o name v old new
+      sets_property becomes written marked = sets_by (Some p) named (sets_value becomes written marked)
 
   pub object_memory : (e : EditError) → PutsButForMemory o made k e → EndsSetting o (printed (ordered_tree old 0)) (Edit e)
   object_memory e told = memory_setting o (printed (ordered_tree old 0)) e (told sound [] stands_there)

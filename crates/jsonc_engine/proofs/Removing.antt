@@ -23,6 +23,7 @@ use Rattle.jsonc_nodes.specs.Properties.{value_at, value_by}
 use Rattle.jsonc_laws.proofs.FirstNodes.{value_of_element}
 use Rattle.jsonc_laws.specs.SoundTrees.{SoundTree}
 use Rattle.jsonc_edit.specs.Changes.{row_below}
+use Rattle.jsonc_remove.specs.Removed.{TakesElement}
 use Rattle.jsonc_edit.specs.Paths as paths
 use Rattle.jsonc_edit.specs.Paths.{IsAt, IsElementOf, LeadsTo}
 use Rattle.jsonc_edit.specs.declared.error.EditError.{EditError}
@@ -160,14 +161,14 @@ module _ (o : Options) (old new : List Node) (tree : IsTree old) (name : List �
     element = found_element old name c n first
 
     -- else the first of them does
-    pub one_loses : IsElementGone o old new n → LosesFirst o name old new
-    one_loses gone = record {
+    pub one_loses : TakesElement old new n → IsElementGone o old new n → LosesFirst o name old new
+    one_loses taken gone = record {
       c = c;
       value = is.0;
       is_object = is.1;
       found = Some n;
       first = first;
-      left = (element.0, element.1, gone.entry [] c element.0 stands (ap holds_values is.1) element.1);
+      left = record { i = element.0; element = element.1; taken = taken; entry = gone.entry [] c element.0 stands (ap holds_values is.1) element.1 };
     }
 
     over : IsOver old 0 n

@@ -1,5 +1,5 @@
 -- What `append` makes of a document.
-use Rattle.std.specs.Prelude.{◌≡◌, ℕ, List, [], Some, length}
+use Rattle.std.specs.Prelude.{◌≡◌, List, [], Some, length}
 use Rattle.jsonc_text.specs.Options.{Options}
 use Rattle.jsonc_text.specs.Plain.{Plain}
 use Rattle.jsonc_tree.specs.Content.{array}
@@ -9,19 +9,24 @@ use Rattle.jsonc_nodes.specs.Properties.{value_at}
 use Rattle.jsonc_nodes.specs.Siblings.{elements_at}
 use Rattle.jsonc_laws.specs.SoundTrees.{SoundTree}
 use Rattle.jsonc_edit.specs.Writing.{IsWritable}
-use Rattle.jsonc_parser.specs.Below.typed.Inserting.{IsPutIn}
-use Rattle.jsonc_parser.specs.Below.typed.Setting.{FirstArrayAround, FirstArrayWritten}
+use Rattle.jsonc_cst.specs.declared.cst.node.CstArray.{CstArray}
+use Rattle.jsonc_cst.specs.declared.cst.node.CstNode.{CstNode}
+use Rattle.jsonc_parser.specs.Below.typed.Inserting.{ComesInAt, IsPutIn}
+use Rattle.jsonc_parser.specs.Below.typed.Setting.{FindsOrCreatesArray, FirstArrayAround, FirstArrayWritten}
 
--- The document's value is an array, an empty one that has come first where it had none, and v, where it may be written, has come behind its last element: the text
--- is a document again, sound, whose value has v more, and of the literals and comments those of v have come.
+-- The document's value is an array, an empty one that has come first where it had none, and v has come behind its last element, in these two steps and no more.
+-- Where v may be written the text is a document again, sound, whose value has v more, and of the literals and comments those of v have come.
 pub record AppendsLast (o : Options) (v : Plain) (old new : List Node) : Type 0 where
   pub made : List Node
+  pub x : CstArray
+  pub found : FindsOrCreatesArray old made (Some x)
   pub first : FirstArrayWritten old made o
   pub around : FirstArrayAround old made o
-  pub c : ℕ
-  pub value : value_at made 0 ≡ Some c
-  pub is_array : content_at made c ≡ array
-  pub put : IsWritable o v → IsPutIn o [] (length (elements_at made c)) v (ordered_tree made 0) (ordered_tree new 0)
+  pub value : value_at made 0 ≡ Some x.number
+  pub is_array : content_at made x.number ≡ array
+  pub now : CstNode
+  pub comes : ComesInAt made new x.number (length (elements_at made x.number)) v now
+  pub put : IsWritable o v → IsPutIn o [] (length (elements_at made x.number)) v (ordered_tree made 0) (ordered_tree new 0)
 
 -- so it is if the document was sound
 abbrev pub AppendsIfSound : Options → Plain → List Node → List Node → Type 0

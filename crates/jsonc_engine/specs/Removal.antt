@@ -14,12 +14,19 @@ use Rattle.jsonc_laws.specs.SoundTrees.{SoundTree}
 use Rattle.jsonc_edit.specs.Changes.{top_at}
 use Rattle.jsonc_edit.specs.Paths.{IsElementOf}
 use Rattle.jsonc_remove.specs.Laws.{IsEntryRemoved}
+use Rattle.jsonc_remove.specs.Removed.{TakesElement}
 
--- nothing has changed where no property was found; else what was found has left the object, and what is left is a document without that entry
+-- the property n has left the object c, with what leaves with it and nothing else, and what is left is a document without that entry
+pub record PropertyLeft (o : Options) (old new : List Node) (c n : ℕ) : Type 0 where
+  pub i : ℕ
+  pub element : IsElementOf old c i n
+  pub taken : TakesElement old new n
+  pub entry : IsEntryRemoved o [] i (top_at old n) (ordered_tree old 0) (ordered_tree new 0)
+
+-- nothing has changed where no property was found; else what was found has left
 abbrev pub HasLeft : Options → List Node → List Node → ℕ → Option ℕ → Type 0
 HasLeft o old new c None = new ≡ old
-HasLeft o old new c (Some n) =
-    (i : ℕ) × IsElementOf old c i n × IsEntryRemoved o [] i (top_at old n) (ordered_tree old 0) (ordered_tree new 0)
+HasLeft o old new c (Some n) = PropertyLeft o old new c n
 
 -- the document's value is an object, whose first property of this name has left, if it has one
 pub record LosesFirst (o : Options) (name : List ℕ) (old new : List Node) : Type 0 where

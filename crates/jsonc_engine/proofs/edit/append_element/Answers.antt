@@ -1,6 +1,9 @@
+use Rattle.std.proofs.Common.{Option}
 use Rattle.jsonc_input.specs.Views.{plain}
+use Rattle.jsonc_cst.specs.declared.cst.node.CstArray.{CstArray}
 use Rattle.jsonc_cst.specs.Document.{nodes_of}
-use Rattle.jsonc_engine.proofs.Making.{appends_last, array_memory, array_stands, no_array}
+use Rattle.jsonc_parser.specs.Below.typed.Setting.{FindsOrCreatesArray}
+use Rattle.jsonc_engine.proofs.Making.{appends_last, array_memory, array_stands, no_array, said_of}
 use Rattle.jsonc_engine.proofs.edit.append_element.Goals as goal
 
 pub returns-in-Ok-None-clause-told : goal.returns-in-Ok-None-clause-told
@@ -11,7 +14,9 @@ pub returns-in-Ok-clause-appended : goal.returns-in-Ok-clause-appended
 returns-in-Ok-clause-appended g c = λ o sound.
     let made = nodes_of c.array_value_or_create.new.self in
     appends_last o (nodes_of c.args.document.now) made c.len-2.ensures.tree c.in-Ok-Some.array (array_stands (nodes_of c.array_value_or_create.new.self) c.in-Ok-Some.field-0 c.in-Ok-Some.array c.in-Ok-Some.field-0-is c.in-Ok-Some.ensures.stands)
-    (c.in-Ok-Some.ensures.written o) sound (nodes_of c.append.new.doc) (plain c.args.value) (c.in-Ok-Some.ensures.around o) (c.in-Ok.ensures.written o)
+    (c.in-Ok-Some.ensures.written o) sound (nodes_of c.append.new.doc) (plain c.args.value)
+    (said_of c.in-Ok-Some.field-0 c.in-Ok-Some.array (λ (f : Option CstArray). FindsOrCreatesArray (nodes_of c.args.document.now) made f) c.in-Ok-Some.field-0-is c.in-Ok-Some.ensures.value)
+    (c.in-Ok-Some.ensures.around o) c.in-Ok.field-0 c.in-Ok.ensures.put (c.in-Ok.ensures.written o)
 
 pub returns-in-Err-append-clause-told : goal.returns-in-Err-append-clause-told
 returns-in-Err-append-clause-told g c = λ o sound.

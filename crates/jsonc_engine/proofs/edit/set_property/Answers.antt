@@ -1,8 +1,10 @@
-use Rattle.std.proofs.Common.{chars}
+use Rattle.std.proofs.Common.{Option, chars}
 use Rattle.std.proofs.lemmas.Str.{scalars-chars}
 use Rattle.jsonc_input.specs.Views.{plain}
+use Rattle.jsonc_cst.specs.declared.cst.node.CstObject.{CstObject}
 use Rattle.jsonc_cst.specs.Document.{nodes_of}
-use Rattle.jsonc_engine.proofs.Making.{appends_property, no_object, object_memory, object_stands, sets_property}
+use Rattle.jsonc_parser.specs.Below.typed.Setting.{FindsOrCreatesObject}
+use Rattle.jsonc_engine.proofs.Making.{appends_property, no_object, object_memory, object_stands, said_of, sets_property}
 use Rattle.jsonc_engine.proofs.Removing.{first_found, none_found}
 use Rattle.jsonc_engine.proofs.edit.set_property.Goals as goal
 
@@ -16,8 +18,9 @@ returns-in-Ok-set_value-clause-set g c = λ o sound.
     let named = first_found document c.in-Ok-Some.object (chars c.args.name.now) c.in-Ok.found c.in-Some.property c.in-Ok.ensures.found c.in-Some.is in
     sets_property o (nodes_of c.args.document.now) (nodes_of document) c.len-2.ensures.tree c.in-Ok-Some.object
     (object_stands (nodes_of c.object_value_or_create.new.self) c.in-Ok-Some.field-0 c.in-Ok-Some.object c.in-Ok-Some.field-0-is c.in-Ok-Some.ensures.stands) (c.in-Ok-Some.ensures.written o) sound (nodes_of c.set_value.new.doc)
-    (chars c.args.name.now) (plain c.args.value) (c.in-Ok-Some.ensures.around o) c.in-Some.property.number c.in-Ok-set_value.field-0 named (c.in-Ok-set_value.ensures.written o)
-    c.in-Ok-set_value.ensures.marked
+    (chars c.args.name.now) (plain c.args.value)
+    (said_of c.in-Ok-Some.field-0 c.in-Ok-Some.object (λ (f : Option CstObject). FindsOrCreatesObject (nodes_of c.args.document.now) (nodes_of document) f) c.in-Ok-Some.field-0-is c.in-Ok-Some.ensures.value)
+    (c.in-Ok-Some.ensures.around o) c.in-Some.property.number c.in-Ok-set_value.field-0 named c.in-Ok-set_value.ensures.set (c.in-Ok-set_value.ensures.written o) c.in-Ok-set_value.ensures.marked
 
 pub returns-in-Ok-append-clause-set : goal.returns-in-Ok-append-clause-set
 returns-in-Ok-append-clause-set g c = λ o sound.
@@ -25,7 +28,9 @@ returns-in-Ok-append-clause-set g c = λ o sound.
     let named = none_found document c.in-Ok-Some.object (chars c.args.name.now) c.in-Ok.found c.in-Ok.ensures.found c.in-None.is in
     appends_property o (nodes_of c.args.document.now) (nodes_of document) c.len-2.ensures.tree c.in-Ok-Some.object
     (object_stands (nodes_of c.object_value_or_create.new.self) c.in-Ok-Some.field-0 c.in-Ok-Some.object c.in-Ok-Some.field-0-is c.in-Ok-Some.ensures.stands) (c.in-Ok-Some.ensures.written o) sound (nodes_of c.append.new.doc)
-    (chars c.args.name.now) (plain c.args.value) (c.in-Ok-Some.ensures.around o) named (scalars-chars c.args.name.now c.utf8.name) (c.in-Ok-append.ensures.written o)
+    (chars c.args.name.now) (plain c.args.value)
+    (said_of c.in-Ok-Some.field-0 c.in-Ok-Some.object (λ (f : Option CstObject). FindsOrCreatesObject (nodes_of c.args.document.now) (nodes_of document) f) c.in-Ok-Some.field-0-is c.in-Ok-Some.ensures.value)
+    (c.in-Ok-Some.ensures.around o) named (scalars-chars c.args.name.now c.utf8.name) c.in-Ok-append.field-0 c.in-Ok-append.ensures.put (c.in-Ok-append.ensures.written o)
 
 pub returns-in-Err-append-clause-told : goal.returns-in-Err-append-clause-told
 returns-in-Err-append-clause-told g c = λ o sound.
