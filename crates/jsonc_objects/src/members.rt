@@ -13,7 +13,7 @@ ghost use Rattle.jsonc_named.specs.Below.insert.Laws.{KeepsNodesBut};
 ghost use Rattle.jsonc_cst.specs.Document.{nodes_of, tree_of, Holds};
 ghost use Rattle.jsonc_cst.specs.Nodes.{number_of, object_node, object_prop_node, IsNodeOf};
 ghost use Rattle.jsonc_cst.specs.Tree.{NodesAreTree};
-ghost use Rattle.jsonc_typed.specs.Edits.{StillHolds, StillNodes};
+ghost use Rattle.jsonc_typed.specs.Edits.{KeepsElsewhere, StaysElsewhere, StillHolds, StillNodes};
 ghost use Rattle.jsonc_typed.specs.Inserting.{element_count, IsShutFor, IsShutForMemory, KeepsOthers, PutsButForMemory};
 ghost use Rattle.jsonc_objects.specs.Members.{HasNamedComeIn, IsItsProperty, IsNamedAtItsPath};
 ghost use Rattle.jsonc_objects.specs.Members.{NamedComesInAt, PropertyStandsAt, PutsNamedAtItsPath};
@@ -67,6 +67,7 @@ fn insert_at<A: Allocator + Copy>(
         → OnOk result
         (PutsNamedAtItsPath o tree.old.nodes tree.new.nodes object index (chars name.now) (plain value.now)) }
     ensures others { OnOk result (KeepsNodesBut tree.old.nodes tree.new.nodes object) }
+    ensures elsewhere { OnOk result (StaysElsewhere tree.old.nodes tree.new.nodes object) }
     ensures brackets { OnOk result (has_brackets tree.old.nodes (children_at tree.old.nodes object) ≡ true) }
     ensures told { IfErr result (λ e. e ≡ refusal tree.old.nodes object) }
     ensures memory { (o : Options) → IfErr result (PutsButForMemory o tree.old.nodes object) }
@@ -102,6 +103,7 @@ fn append_to<A: Allocator + Copy>(
         (PutsNamedAtItsPath o tree.old.nodes tree.new.nodes object (length (elements_at tree.old.nodes object))
         (chars name.now) (plain value.now)) }
     ensures others { OnOk result (KeepsNodesBut tree.old.nodes tree.new.nodes object) }
+    ensures elsewhere { OnOk result (StaysElsewhere tree.old.nodes tree.new.nodes object) }
     ensures told { IfErr result (λ e. e ≡ refusal tree.old.nodes object) }
     ensures memory { (o : Options) → IfErr result (PutsButForMemory o tree.old.nodes object) }
     ensures held { IfOk result (λ p. IsNodeOf tree.new.nodes (object_prop_node p)) }
@@ -138,6 +140,7 @@ pub trait InsertProperty: IsNode {
             (IsNamedAtItsPath doc.old doc.new o (Self.node_of self) (element_count doc.old (Self.node_of self))
             (chars name.now) (plain value)) }
         ensures others { OnOk result (KeepsOthers doc.old doc.new (Self.node_of self)) }
+        ensures elsewhere { OnOk result (KeepsElsewhere doc.old doc.new (Self.node_of self)) }
         ensures told { IfErr result (IsShutFor doc.old (Self.node_of self)) }
         ensures memory { (o : Options) → IfErr result (IsShutForMemory doc.old o (Self.node_of self)) }
         ensures held { IfOk result (λ p. Holds doc.new (object_prop_node p)) }
@@ -170,6 +173,7 @@ pub trait InsertProperty: IsNode {
             → OnOk result
             (IsNamedAtItsPath doc.old doc.new o (Self.node_of self) index (chars name.now) (plain value)) }
         ensures others { OnOk result (KeepsOthers doc.old doc.new (Self.node_of self)) }
+        ensures elsewhere { OnOk result (KeepsElsewhere doc.old doc.new (Self.node_of self)) }
         ensures told { IfErr result (IsShutFor doc.old (Self.node_of self)) }
         ensures memory { (o : Options) → IfErr result (IsShutForMemory doc.old o (Self.node_of self)) }
         ensures held { IfOk result (λ p. Holds doc.new (object_prop_node p)) }

@@ -9,7 +9,7 @@ ghost use Rattle.jsonc_named.specs.Named.{IsUnensured};
 ghost use Rattle.jsonc_cst.specs.Document.{tree_of, Holds};
 ghost use Rattle.jsonc_cst.specs.Nodes.{array_node, object_node, IsNodeOf};
 ghost use Rattle.jsonc_cst.specs.Tree.{NodesAreTree};
-ghost use Rattle.jsonc_typed.specs.Edits.{StillHolds, StillNodes};
+ghost use Rattle.jsonc_typed.specs.Edits.{KeepsElsewhere, StaysElsewhere, StillHolds, StillNodes};
 ghost use Rattle.jsonc_typed.specs.Inserting.{IsShutForMemory, PutsButForMemory};
 ghost use Rattle.jsonc_objects.specs.Named.{ArrayEnsured, NamedIsWritten, ObjectEnsured};
 ghost use Rattle.jsonc_objects.specs.Named.{HasEnsuredArray, HasEnsuredObject, HasSetArray, HasSetObject};
@@ -35,6 +35,7 @@ fn ensure_object<A: Allocator + Copy>(
     ensures ensured { IfOk result (ObjectEnsured tree.old.nodes tree.new.nodes over object (chars name.now)) }
     ensures written { (o : Options)
         → OnOk result (NamedIsWritten tree.old.nodes tree.new.nodes o object (chars name.now) Shape.Object over) }
+    ensures elsewhere { OnOk result (StaysElsewhere tree.old.nodes tree.new.nodes object) }
     ensures told { IfErr result (IsUnensured over tree.old.nodes object (chars name.now)) }
     ensures memory { (o : Options) → IfErr result (PutsButForMemory o tree.old.nodes object) }
     ensures held { IfOk result (λ a. IfSome a (λ x. IsNodeOf tree.new.nodes (object_node x))) }
@@ -64,6 +65,7 @@ fn set_object<A: Allocator + Copy>(
     ensures written { (o : Options)
         → OnOk result
         (NamedIsWritten tree.old.nodes tree.new.nodes o object (chars name.now) Shape.Object Over.Replace) }
+    ensures elsewhere { OnOk result (StaysElsewhere tree.old.nodes tree.new.nodes object) }
     ensures told { IfErr result (IsUnensured Over.Replace tree.old.nodes object (chars name.now)) }
     ensures memory { (o : Options) → IfErr result (PutsButForMemory o tree.old.nodes object) }
     ensures held { IfOk result (λ x. IsNodeOf tree.new.nodes (object_node x)) }
@@ -91,6 +93,7 @@ fn ensure_array<A: Allocator + Copy>(
     ensures ensured { IfOk result (ArrayEnsured tree.old.nodes tree.new.nodes over object (chars name.now)) }
     ensures written { (o : Options)
         → OnOk result (NamedIsWritten tree.old.nodes tree.new.nodes o object (chars name.now) Shape.Array over) }
+    ensures elsewhere { OnOk result (StaysElsewhere tree.old.nodes tree.new.nodes object) }
     ensures told { IfErr result (IsUnensured over tree.old.nodes object (chars name.now)) }
     ensures memory { (o : Options) → IfErr result (PutsButForMemory o tree.old.nodes object) }
     ensures held { IfOk result (λ a. IfSome a (λ x. IsNodeOf tree.new.nodes (array_node x))) }
@@ -120,6 +123,7 @@ fn set_array<A: Allocator + Copy>(
     ensures written { (o : Options)
         → OnOk result
         (NamedIsWritten tree.old.nodes tree.new.nodes o object (chars name.now) Shape.Array Over.Replace) }
+    ensures elsewhere { OnOk result (StaysElsewhere tree.old.nodes tree.new.nodes object) }
     ensures told { IfErr result (IsUnensured Over.Replace tree.old.nodes object (chars name.now)) }
     ensures memory { (o : Options) → IfErr result (PutsButForMemory o tree.old.nodes object) }
     ensures held { IfOk result (λ x. IsNodeOf tree.new.nodes (array_node x)) }
@@ -153,6 +157,7 @@ pub trait EnsureProperty: IsNode {
         ensures written { (o : Options)
             → OnOk result
             (HasWrittenNamed doc.old doc.new o (Self.node_of self) (chars name.now) Shape.Object Over.Keep) }
+        ensures elsewhere { OnOk result (KeepsElsewhere doc.old doc.new (Self.node_of self)) }
         ensures told { IfErr result (IsUnensuredIn doc.old Over.Keep (Self.node_of self) (chars name.now)) }
         ensures memory { (o : Options) → IfErr result (IsShutForMemory doc.old o (Self.node_of self)) }
         ensures held { IfOk result (λ a. IfSome a (λ x. Holds doc.new (object_node x))) }
@@ -177,6 +182,7 @@ pub trait EnsureProperty: IsNode {
         ensures written { (o : Options)
             → OnOk result
             (HasWrittenNamed doc.old doc.new o (Self.node_of self) (chars name.now) Shape.Object Over.Replace) }
+        ensures elsewhere { OnOk result (KeepsElsewhere doc.old doc.new (Self.node_of self)) }
         ensures told { IfErr result (IsUnensuredIn doc.old Over.Replace (Self.node_of self) (chars name.now)) }
         ensures memory { (o : Options) → IfErr result (IsShutForMemory doc.old o (Self.node_of self)) }
         ensures held { IfOk result (λ x. Holds doc.new (object_node x)) }
@@ -200,6 +206,7 @@ pub trait EnsureProperty: IsNode {
         ensures written { (o : Options)
             → OnOk result
             (HasWrittenNamed doc.old doc.new o (Self.node_of self) (chars name.now) Shape.Array Over.Keep) }
+        ensures elsewhere { OnOk result (KeepsElsewhere doc.old doc.new (Self.node_of self)) }
         ensures told { IfErr result (IsUnensuredIn doc.old Over.Keep (Self.node_of self) (chars name.now)) }
         ensures memory { (o : Options) → IfErr result (IsShutForMemory doc.old o (Self.node_of self)) }
         ensures held { IfOk result (λ a. IfSome a (λ x. Holds doc.new (array_node x))) }
@@ -224,6 +231,7 @@ pub trait EnsureProperty: IsNode {
         ensures written { (o : Options)
             → OnOk result
             (HasWrittenNamed doc.old doc.new o (Self.node_of self) (chars name.now) Shape.Array Over.Replace) }
+        ensures elsewhere { OnOk result (KeepsElsewhere doc.old doc.new (Self.node_of self)) }
         ensures told { IfErr result (IsUnensuredIn doc.old Over.Replace (Self.node_of self) (chars name.now)) }
         ensures memory { (o : Options) → IfErr result (IsShutForMemory doc.old o (Self.node_of self)) }
         ensures held { IfOk result (λ x. Holds doc.new (array_node x)) }

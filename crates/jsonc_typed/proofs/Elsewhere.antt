@@ -32,6 +32,7 @@ use Rattle.jsonc_remove.specs.Leaving.{comma_gone, first_gone, last_gone}
 use Rattle.jsonc_remove.specs.Removed.{comma_in, due_at_comma, due_at_stretch, due_before_gap, due_behind_gap, is_hollow, is_next, IsClosedUp, IsTakenFrom, LosesChild, TakesElement}
 use Rattle.jsonc_remove.proofs.Bounds.{gone_ahead, last_from}
 use Rattle.jsonc_lines.specs.Kinds.{holds_values}
+use Rattle.jsonc_insertion_laws.specs.Below.multiline.Multiline.{has_line_end, MadeMultiline}
 use Rattle.jsonc_set.specs.Booleans.{is_hex_at, BooleanSet}
 use Rattle.jsonc_set.specs.Giving.{is_bare_value, IsPropertyReplaced}
 use Rattle.jsonc_set.specs.Kinds.{KeptOrReplaced}
@@ -192,6 +193,21 @@ module _ (old : List Node) (tree : IsTree old) where
   pub alone_elsewhere : (new : List Node) (n c i j : ℕ) (xs : List ℕ) → parent_at old n ≡ Some c → IsTree new → Splices old new c i j xs → StaysElsewhere old new n
   alone_elsewhere new n c i j xs said after s = λ out. same_tree new after (same_spliced old new c i j xs s (out_up n c said out))
 
+  -- a row that was made ready, and took its place
+  pub row_elsewhere : (ready new : List Node) (c i j : ℕ) (xs : List ℕ) → IsTree new → Keeps (length old) old ready → Splices ready new c i j xs → StaysElsewhere old new c
+  row_elsewhere ready new c i j xs after keeps s = λ out. same_tree new after (same_both old ready new (same_kept ready keeps) (same_spliced ready new c i j xs s out))
+
+  -- an array or object that is put on several lines
+  spread_by : (new : List Node) (c : ℕ) (b : Bool) → has_line_end old c ≡ b → IsTree new → MadeMultiline old new c → StaysElsewhere old new c
+  spread_by new c true e after made = λ out. same_tree new after (same_list old new (made.was e))
+  spread_by new c false e after made =
+      let t = made.is (ap not e) in
+      row_elsewhere t.ready new c _ _ t.row after t.prepared.keeps t.put
+
+  pub spread_elsewhere : {T E : Type 0} (new : List Node) (c : ℕ) → IsTree new → (r : Result T E) → OnOk r (MadeMultiline old new c) → OnOk r (StaysElsewhere old new c)
+  spread_elsewhere new c after (Ok x) made = spread_by new c (has_line_end old c) refl after made
+  spread_elsewhere new c after (Err e) made = tt
+
   -- a comment that is taken out
   pub comment_elsewhere : (new : List Node) (n : ℕ) (o : Option ℕ) → parent_at old n ≡ o → IsTree new → (parent_at old n ≡ None → new ≡ old) → TakesOut old new n → StaysElsewhere old new n
   comment_elsewhere new n None e after untouched takes = λ out. same_tree new after (same_list old new (untouched e))
@@ -292,7 +308,7 @@ module _ (old : List Node) (tree : IsTree old) where
           same_both s.ready now s.spaced (same_spliced s.ready now r.container _ _ _ r.put (out_up n r.container said out)) (same_list now s.spaced e)
 
   -- the value of a property that does not stand in the document
-  out_down : (n c : ℕ) → parent_at old n ≡ Some c → Out c → Out n
+  pub out_down : (n c : ℕ) → parent_at old n ≡ Some c → Out c → Out n
   out_down _ c said out IsOver.itself = let wrong : None ≡ Some c = sym tree.root_alone ∙ said in absurd (cc)
   out_down n c said out (IsOver.above {c = p} up rest) = out (subst (IsOver old 0) (Some_same p c (sym up ∙ said)) rest)
 

@@ -13,7 +13,7 @@ ghost use Rattle.jsonc_insertion_laws.specs.Below.insert.Laws.{KeepsNodesBut};
 ghost use Rattle.jsonc_cst.specs.Document.{nodes_of, tree_of, Holds};
 ghost use Rattle.jsonc_cst.specs.Nodes.{array_node, number_of, IsNodeOf};
 ghost use Rattle.jsonc_cst.specs.Tree.{NodesAreTree};
-ghost use Rattle.jsonc_typed.specs.Edits.{StillHolds, StillNodes};
+ghost use Rattle.jsonc_typed.specs.Edits.{KeepsElsewhere, StaysElsewhere, StillHolds, StillNodes};
 ghost use Rattle.jsonc_typed.specs.Inserting.{element_count, ComesInAt, HasComeIn, IsItsElement, IsShutFor};
 ghost use Rattle.jsonc_typed.specs.Inserting.{IsPutAtItsPath, IsShutForMemory, KeepsOthers, PutsAtItsPath};
 ghost use Rattle.jsonc_typed.specs.Inserting.{PutsButForMemory, StandsAt};
@@ -49,6 +49,7 @@ fn insert_at<A: Allocator + Copy>(
     ensures written { (o : Options)
         → OnOk result (PutsAtItsPath o tree.old.nodes tree.new.nodes array index (plain value.now)) }
     ensures others { OnOk result (KeepsNodesBut tree.old.nodes tree.new.nodes array) }
+    ensures elsewhere { OnOk result (StaysElsewhere tree.old.nodes tree.new.nodes array) }
     ensures brackets { OnOk result (has_brackets tree.old.nodes (children_at tree.old.nodes array) ≡ true) }
     ensures told { IfErr result (λ e. e ≡ refusal tree.old.nodes array) }
     ensures memory { (o : Options) → IfErr result (PutsButForMemory o tree.old.nodes array) }
@@ -82,6 +83,7 @@ fn append_to<A: Allocator + Copy>(
         (PutsAtItsPath o tree.old.nodes tree.new.nodes array
         (length (elements_at tree.old.nodes array)) (plain value.now)) }
     ensures others { OnOk result (KeepsNodesBut tree.old.nodes tree.new.nodes array) }
+    ensures elsewhere { OnOk result (StaysElsewhere tree.old.nodes tree.new.nodes array) }
     ensures told { IfErr result (λ e. e ≡ refusal tree.old.nodes array) }
     ensures memory { (o : Options) → IfErr result (PutsButForMemory o tree.old.nodes array) }
     ensures held { IfOk result (IsNodeOf tree.new.nodes) }
@@ -115,6 +117,7 @@ pub trait InsertElement: IsNode {
             (IsPutAtItsPath doc.old doc.new o (Self.node_of self)
             (element_count doc.old (Self.node_of self)) (plain value)) }
         ensures others { OnOk result (KeepsOthers doc.old doc.new (Self.node_of self)) }
+        ensures elsewhere { OnOk result (KeepsElsewhere doc.old doc.new (Self.node_of self)) }
         ensures told { IfErr result (IsShutFor doc.old (Self.node_of self)) }
         ensures memory { (o : Options) → IfErr result (IsShutForMemory doc.old o (Self.node_of self)) }
         ensures held { IfOk result (Holds doc.new) }
@@ -143,6 +146,7 @@ pub trait InsertElement: IsNode {
         ensures written { (o : Options)
             → OnOk result (IsPutAtItsPath doc.old doc.new o (Self.node_of self) index (plain value)) }
         ensures others { OnOk result (KeepsOthers doc.old doc.new (Self.node_of self)) }
+        ensures elsewhere { OnOk result (KeepsElsewhere doc.old doc.new (Self.node_of self)) }
         ensures told { IfErr result (IsShutFor doc.old (Self.node_of self)) }
         ensures memory { (o : Options) → IfErr result (IsShutForMemory doc.old o (Self.node_of self)) }
         ensures held { IfOk result (Holds doc.new) }

@@ -8,7 +8,7 @@ ghost use Rattle.jsonc_lines.specs.Kinds.{holds_values};
 ghost use Rattle.jsonc_insertion_laws.specs.Below.multiline.Multiline.{has_line_end, IsUnspread, MadeMultiline};
 ghost use Rattle.jsonc_cst.specs.Document.{tree_of, Holds};
 ghost use Rattle.jsonc_cst.specs.Tree.{NodesAreTree};
-ghost use Rattle.jsonc_typed.specs.Edits.{StillHolds, StillNodes};
+ghost use Rattle.jsonc_typed.specs.Edits.{KeepsElsewhere, StaysElsewhere, StillHolds, StillNodes};
 ghost use Rattle.jsonc_typed.specs.Lines.{HasSpreadOut, IsOnLines, LacksMemoryAlone, LinesWritten};
 ghost use Rattle.jsonc_typed.specs.Lines.{SpreadsAtItsPath, SpreadsButForMemory, StaysUnspread};
 
@@ -23,6 +23,7 @@ fn spread<A: Allocator + Copy>(alloc: A, tree: &mut Tree<A>, number: usize) -> R
     ensures made { OnOk result (MadeMultiline tree.old.nodes tree.new.nodes number) }
     ensures written { (o : Options) → OnOk result (SpreadsAtItsPath o tree.old.nodes tree.new.nodes number) }
     ensures lines { OnOk result (IsTrue (has_line_end tree.new.nodes number)) }
+    ensures elsewhere { OnOk result (StaysElsewhere tree.old.nodes tree.new.nodes number) }
     ensures told { IfErr result (IsUnspread tree.old.nodes number) }
     ensures memory { (o : Options) → IfErr result (SpreadsButForMemory o tree.old.nodes number) }
     ensures stays { StillNodes tree.old.nodes tree.new.nodes }
@@ -50,6 +51,7 @@ pub trait EnsureMultiline: IsNode {
         ensures made { OnOk result (HasSpreadOut doc.old doc.new (Self.node_of self)) }
         ensures written { (o : Options) → OnOk result (LinesWritten doc.old doc.new o (Self.node_of self)) }
         ensures lines { OnOk result (IsOnLines doc.new (Self.node_of self)) }
+        ensures elsewhere { OnOk result (KeepsElsewhere doc.old doc.new (Self.node_of self)) }
         ensures told { IfErr result (StaysUnspread doc.old (Self.node_of self)) }
         ensures memory { (o : Options) → IfErr result (LacksMemoryAlone doc.old o (Self.node_of self)) }
         ensures stays { StillHolds doc.old doc.new }

@@ -3,7 +3,7 @@ use Rattle.jsonc_input.specs.Views.{plain}
 use Rattle.jsonc_nodes.specs.Siblings.{elements_at}
 use Rattle.jsonc_edit.specs.Paths.{IsElementOf}
 use Rattle.jsonc_named.specs.Below.members.Inserted.{PropertyPut}
-use Rattle.jsonc_objects.proofs.NamedIn.{put_element, put_for_memory, put_others, put_property, put_stays, put_there, put_written}
+use Rattle.jsonc_objects.proofs.NamedIn.{put_element, put_elsewhere, put_for_memory, put_others, put_property, put_stays, put_there, put_written}
 use Rattle.jsonc_typed.proofs.Kept.{nodes_stay, stay_kept}
 use Rattle.jsonc_objects.proofs.members.insert_at.Goals as goal
 
@@ -35,6 +35,10 @@ returns-in-Ok-clause-written g c = λ o.
 pub returns-in-Ok-clause-others : goal.returns-in-Ok-clause-others
 returns-in-Ok-clause-others g c =
     put_others c.args.tree.now.nodes c.insert_property.new.tree.nodes c.args.object c.args.index (chars c.args.name.now) (plain c.args.value.now) c.in-Ok.property c.len.ensures.tree c.requires.there c.in-Ok.ensures.brackets c.in-Ok.ensures.put
+
+pub returns-in-Ok-clause-elsewhere : goal.returns-in-Ok-clause-elsewhere
+returns-in-Ok-clause-elsewhere g c =
+    put_elsewhere c.args.tree.now.nodes c.insert_property.new.tree.nodes c.args.object c.args.index (chars c.args.name.now) (plain c.args.value.now) c.in-Ok.property c.len.ensures.tree c.requires.there c.in-Ok.ensures.put
 
 pub returns-in-Ok-clause-stays : goal.returns-in-Ok-clause-stays
 returns-in-Ok-clause-stays g c =

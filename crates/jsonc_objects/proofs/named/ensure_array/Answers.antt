@@ -1,6 +1,6 @@
 use Rattle.std.proofs.Common.{chars}
 use Rattle.jsonc_named.specs.declared.shape.Shape.TheVariants.{Array}
-use Rattle.jsonc_objects.proofs.ByName.{named_for_memory, named_stays, named_written}
+use Rattle.jsonc_objects.proofs.ByName.{named_elsewhere, named_for_memory, named_stays, named_written}
 use Rattle.jsonc_typed.proofs.Kept.{nodes_stay}
 use Rattle.jsonc_objects.proofs.named.ensure_array.Goals as goal
 
@@ -20,3 +20,11 @@ returns-in-Ok-None-clause-written g c = λ o.
 pub returns-in-Err-clause-memory : goal.returns-in-Err-clause-memory
 returns-in-Err-clause-memory g c = λ o.
     named_for_memory c.args.tree.now.nodes c.ensure_property.new.tree.nodes c.args.object (chars c.args.name.now) Array c.args.over c.len.ensures.tree c.requires.object o c.in-Err.error c.in-Err.ensures.told
+
+pub returns-in-Ok-Some-clause-elsewhere : goal.returns-in-Ok-Some-clause-elsewhere
+returns-in-Ok-Some-clause-elsewhere g c =
+    named_elsewhere c.args.tree.now.nodes c.ensure_property.new.tree.nodes c.args.object (chars c.args.name.now) Array c.len.ensures.tree c.ensure_property.ensures.tree c.requires.there c.args.over c.in-Ok-Some.field-0 c.in-Ok-Some.ensures.ensured
+
+pub returns-in-Ok-None-clause-elsewhere : goal.returns-in-Ok-None-clause-elsewhere
+returns-in-Ok-None-clause-elsewhere g c =
+    named_elsewhere c.args.tree.now.nodes c.ensure_property.new.tree.nodes c.args.object (chars c.args.name.now) Array c.len.ensures.tree c.ensure_property.ensures.tree c.requires.there c.args.over c.in-Ok-None.field-0 c.in-Ok-None.ensures.ensured

@@ -4,6 +4,7 @@ use Rattle.jsonc_nodes.specs.Siblings.{elements_at}
 use Rattle.jsonc_edit.specs.Paths.{IsElementOf}
 use Rattle.jsonc_insertion_laws.specs.Below.insert.Inserted.{ElementPut}
 use Rattle.jsonc_typed.proofs.ComingIn.{put_element, put_for_memory, put_others, put_stays, put_there, put_written}
+use Rattle.jsonc_typed.proofs.Elsewhere.{row_elsewhere}
 use Rattle.jsonc_typed.proofs.Kept.{as_typed, nodes_stay, stay_kept}
 use Rattle.jsonc_typed.proofs.inserting.insert_at.Goals as goal
 
@@ -31,6 +32,11 @@ returns-in-Ok-clause-written g c = λ o.
 pub returns-in-Ok-clause-others : goal.returns-in-Ok-clause-others
 returns-in-Ok-clause-others g c =
     put_others c.args.tree.now.nodes c.insert_element.new.tree.nodes c.args.array c.args.index (plain c.args.value.now) c.in-Ok.element c.len.ensures.tree c.requires.there c.in-Ok.ensures.brackets c.in-Ok.ensures.put
+
+pub returns-in-Ok-clause-elsewhere : goal.returns-in-Ok-clause-elsewhere
+returns-in-Ok-clause-elsewhere g c =
+    let put = c.in-Ok.ensures.put in
+    row_elsewhere c.args.tree.now.nodes c.len.ensures.tree put.ready c.insert_element.new.tree.nodes c.args.array _ _ put.row put.tree put.prepared.keeps put.put
 
 pub returns-in-Ok-clause-stays : goal.returns-in-Ok-clause-stays
 returns-in-Ok-clause-stays g c =

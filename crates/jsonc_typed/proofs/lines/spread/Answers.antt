@@ -1,3 +1,4 @@
+use Rattle.jsonc_typed.proofs.Elsewhere.{spread_elsewhere}
 use Rattle.jsonc_typed.proofs.Kept.{nodes_stay}
 use Rattle.jsonc_typed.proofs.Spread.{but_for_memory, lines_written, nodes_spread, on_lines}
 use Rattle.jsonc_typed.proofs.lines.spread.Goals as goal
@@ -9,6 +10,10 @@ returns-clause-written g c = λ o.
 pub returns-clause-lines : goal.returns-clause-lines
 returns-clause-lines g c =
     on_lines c.args.tree.now.nodes c.ensure_multiline.new.tree.nodes c.args.number c.len.ensures.tree c.ensure_multiline.ensures.tree c.requires.holds c.ensure_multiline.result c.ensure_multiline.ensures.made
+
+pub returns-clause-elsewhere : goal.returns-clause-elsewhere
+returns-clause-elsewhere g c =
+    spread_elsewhere c.args.tree.now.nodes c.len.ensures.tree c.ensure_multiline.new.tree.nodes c.args.number c.ensure_multiline.ensures.tree c.ensure_multiline.result c.ensure_multiline.ensures.made
 
 pub returns-clause-memory : goal.returns-clause-memory
 returns-clause-memory g c = λ o.

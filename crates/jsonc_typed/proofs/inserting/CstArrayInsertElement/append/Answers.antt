@@ -1,6 +1,7 @@
 use Rattle.std.proofs.Common.{ℕ, length, OnOk, subst}
 use Rattle.jsonc_input.specs.Views.{plain}
 use Rattle.jsonc_nodes.specs.Siblings.{elements_at}
+use Rattle.jsonc_typed.specs.Edits.{StaysElsewhere}
 use Rattle.jsonc_typed.specs.Inserting.{PutsAtItsPath}
 use Rattle.jsonc_typed.proofs.inserting.CstArrayInsertElement.append.Goals as goal
 
@@ -8,3 +9,8 @@ pub returns-clause-written : goal.returns-clause-written
 returns-clause-written g c = λ o.
     let old = c.args.doc.now.tree.nodes in
     subst (λ (n : ℕ). OnOk c.append_to-put.result (PutsAtItsPath o old c.append_to-put.new.tree.nodes n (length (elements_at old n)) (plain c.args.value))) c.array_number-number.ensures.number (c.append_to-put.ensures.written o)
+
+pub returns-clause-elsewhere : goal.returns-clause-elsewhere
+returns-clause-elsewhere g c =
+    let old = c.args.doc.now.tree.nodes in
+    subst (λ (n : ℕ). OnOk c.append_to-put.result (StaysElsewhere old c.append_to-put.new.tree.nodes n)) c.array_number-number.ensures.number c.append_to-put.ensures.elsewhere
