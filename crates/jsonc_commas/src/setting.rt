@@ -2,8 +2,6 @@
 
 ghost use Rattle.std.specs.Prelude.{◌≡◌, ◌<◌, ◌∷◌, false, IfErr, IfSome, IsTrue, OnErr, OnOk, Some, length};
 ghost use Rattle.jsonc_tree.specs.Tree.{IsOver, IsTree};
-ghost use Rattle.jsonc_tree.specs.Stored.{content_of};
-ghost use Rattle.jsonc_nodes.specs.Kinds.{is_property};
 ghost use Rattle.jsonc_nodes.specs.Siblings.{IsThere};
 ghost use Rattle.jsonc_commas.specs.InTurn.{holders, is_entered, is_met, is_reached, to_come};
 ghost use Rattle.jsonc_commas.specs.InTurn.{AreSetInPart, AreSetInTurn, IsOpen};
@@ -11,16 +9,9 @@ ghost use Rattle.jsonc_tree.specs.Order.{following, rest_at};
 
 use crate::rows::{holds_values, set_comma};
 use jsonc_edit::{EditError, TrailingCommaMode};
-use jsonc_nodes::value_of;
-use jsonc_tree::{Kind, Tree};
+use jsonc_nodes::{is_property_kind, value_of};
+use jsonc_tree::Tree;
 use std::alloc::Allocator;
-
-// Whether a node is a property.
-fn is_property<A: Allocator>(kind: &Kind<A>) -> bool
-    ensures { result ≡ is_property (content_of kind.now) }
-{
-    matches!(kind, Kind::Property(_))
-}
 
 // Whether a walk enters a node: a child of a property only where it is its value.
 fn is_entered<A: Allocator>(tree: &Tree<A>, node: usize) -> bool
@@ -31,7 +22,7 @@ fn is_entered<A: Allocator>(tree: &Tree<A>, node: usize) -> bool
     let Some(parent) = tree.parent(node) else {
         return true;
     };
-    if !is_property(tree.kind(parent)) {
+    if !is_property_kind(tree.kind(parent)) {
         return true;
     }
     match value_of(tree, parent) {

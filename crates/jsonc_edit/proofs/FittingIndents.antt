@@ -22,7 +22,7 @@ use Rattle.jsonc_nodes.specs.Kinds.{is_element_at, is_whitespace, is_whitespace_
 use Rattle.jsonc_nodes.specs.Properties.{element_from}
 use Rattle.jsonc_nodes.specs.Siblings.{is_no_newline_at, row_of, root_above, siblings_before, line_before}
 use Rattle.jsonc_lines.specs.Lines.{begins_line, first_blank_at, blanks, blanks_at, indent_at}
-use Rattle.jsonc_lines.specs.Indents.{IndentTexts, is_property_at, beyond_properties, above_properties, levels_among, levels_above, more_of, held_after, repeated, levels_in, told_by, told_at, first_indent, first_indent_in, document_indent, only_indent, single_at, indents_at}
+use Rattle.jsonc_lines.specs.Indents.{IndentTexts, is_some_property, beyond_properties, above_properties, levels_among, levels_above, more_of, held_after, repeated, levels_in, told_by, told_at, first_indent, first_indent_in, document_indent, only_indent, single_at, indents_at}
 use Rattle.jsonc_edit.specs.Changes.{row_below}
 use Rattle.jsonc_edit.specs.Writing.{IsIndent}
 use Rattle.jsonc_edit.proofs.FittingFinds.{found_one}
@@ -178,8 +178,8 @@ module _ (ns : List Node) (tree : IsTree ns) where
   among_over [] all = all
   among_over (n ∷ rest) all =
       let inner : AreIn (levels_among ns rest) = among_over rest (All-tail (IsOver ns 0) n rest all) in
-      cond_both (n == 0) [] (cond (is_property_at ns (parent_at ns n)) (levels_among ns rest) (n ∷ levels_among ns rest)) AreIn (λ e. All-nil (IsOver ns 0))
-      (λ e. cond_both (is_property_at ns (parent_at ns n)) (levels_among ns rest) (n ∷ levels_among ns rest) AreIn (λ f. inner) (λ f. All-cons (IsOver ns 0) n (levels_among ns rest) (All-head (IsOver ns 0) n rest all) inner))
+      cond_both (n == 0) [] (cond (is_some_property ns (parent_at ns n)) (levels_among ns rest) (n ∷ levels_among ns rest)) AreIn (λ e. All-nil (IsOver ns 0))
+      (λ e. cond_both (is_some_property ns (parent_at ns n)) (levels_among ns rest) (n ∷ levels_among ns rest) AreIn (λ f. inner) (λ f. All-cons (IsOver ns 0) n (levels_among ns rest) (All-head (IsOver ns 0) n rest all) inner))
 
   levels_over : (n : ℕ) → IsOver ns 0 n → AreIn (levels_above ns n)
   levels_over n over = among_over (above_properties ns n) (beyond_over (upward ns (parent_at ns n)) (upward_over (parent_at ns n) (parent_over n over)))

@@ -2,7 +2,7 @@
 
 ghost use Rattle.std.specs.Prelude.{◌≡◌};
 
-/// Whether commas stand after last elements and properties.
+/// Whether commas stand after last elements and properties. By default never.
 #[derive(Clone, Copy, Debug, PartialEq, Eq)]
 pub enum TrailingCommaMode {
     /// They never do.

@@ -5,7 +5,7 @@ use Rattle.jsonc_tree.specs.Order.{upward}
 use Rattle.jsonc_tree.specs.Tree.{Node, content_at, parent_at, IsTree}
 use Rattle.jsonc_tree.proofs.Order.{levels, one_more, levels_parent, upward_is, upward_none}
 use Rattle.jsonc_nodes.specs.Kinds.{is_property}
-use Rattle.jsonc_lines.specs.Indents.{beyond_properties, is_property_at, levels_among}
+use Rattle.jsonc_lines.specs.Indents.{beyond_properties, is_some_property, levels_among}
 
 module _ (ns : List Node) (tree : IsTree ns) where
   -- the parent is nearer to the top
@@ -43,22 +43,22 @@ module _ (ns : List Node) (tree : IsTree ns) where
   beyond_none next is = ap (beyond_properties ns) (climbed next is) ∙ sym (upward_none ns tree)
 
   -- the levels from here up
-  among_step : (next : Option ℕ) (at : ℕ) (parent : Option ℕ) → next ≡ Some at → IfSome next (λ m. m < length ns) → parent ≡ parent_at ns at → levels_among ns (upward ns next) ≡ cond (eqb at 0) [] (cond (is_property_at ns (parent_at ns at)) (levels_among ns (upward ns parent)) (at ∷ levels_among ns (upward ns parent)))
+  among_step : (next : Option ℕ) (at : ℕ) (parent : Option ℕ) → next ≡ Some at → IfSome next (λ m. m < length ns) → parent ≡ parent_at ns at → levels_among ns (upward ns next) ≡ cond (eqb at 0) [] (cond (is_some_property ns (parent_at ns at)) (levels_among ns (upward ns parent)) (at ∷ levels_among ns (upward ns parent)))
   among_step next at parent is there said = ap (levels_among ns) (climb next at parent is there said)
 
   pub among_root : (next : Option ℕ) (at : ℕ) → next ≡ Some at → IfSome next (λ m. m < length ns) → at ≡ 0 → levels_among ns (upward ns next) ≡ []
   among_root next at is there e =
       among_step next at (parent_at ns at) is there refl
-      ∙ ap (λ k. cond (eqb k 0) [] (cond (is_property_at ns (parent_at ns at)) (levels_among ns (upward ns (parent_at ns at))) (at ∷ levels_among ns (upward ns (parent_at ns at))))) e
+      ∙ ap (λ k. cond (eqb k 0) [] (cond (is_some_property ns (parent_at ns at)) (levels_among ns (upward ns (parent_at ns at))) (at ∷ levels_among ns (upward ns (parent_at ns at))))) e
 
-  pub among_over : (next : Option ℕ) (at : ℕ) (parent : Option ℕ) → next ≡ Some at → IfSome next (λ m. m < length ns) → parent ≡ parent_at ns at → (at ≡ 0 → ⊥) → is_property_at ns (parent_at ns at) ≡ true → levels_among ns (upward ns next) ≡ levels_among ns (upward ns parent)
+  pub among_over : (next : Option ℕ) (at : ℕ) (parent : Option ℕ) → next ≡ Some at → IfSome next (λ m. m < length ns) → parent ≡ parent_at ns at → (at ≡ 0 → ⊥) → is_some_property ns (parent_at ns at) ≡ true → levels_among ns (upward ns next) ≡ levels_among ns (upward ns parent)
   among_over next at parent is there said other e =
       among_step next at parent is there said
-      ∙ ap (λ b. cond b [] (cond (is_property_at ns (parent_at ns at)) (levels_among ns (upward ns parent)) (at ∷ levels_among ns (upward ns parent)))) (ne_eqb at 0 other)
+      ∙ ap (λ b. cond b [] (cond (is_some_property ns (parent_at ns at)) (levels_among ns (upward ns parent)) (at ∷ levels_among ns (upward ns parent)))) (ne_eqb at 0 other)
       ∙ ap (λ b. cond b (levels_among ns (upward ns parent)) (at ∷ levels_among ns (upward ns parent))) e
 
-  pub among_here : (next : Option ℕ) (at : ℕ) (parent : Option ℕ) → next ≡ Some at → IfSome next (λ m. m < length ns) → parent ≡ parent_at ns at → (at ≡ 0 → ⊥) → is_property_at ns (parent_at ns at) ≡ false → levels_among ns (upward ns next) ≡ at ∷ levels_among ns (upward ns parent)
+  pub among_here : (next : Option ℕ) (at : ℕ) (parent : Option ℕ) → next ≡ Some at → IfSome next (λ m. m < length ns) → parent ≡ parent_at ns at → (at ≡ 0 → ⊥) → is_some_property ns (parent_at ns at) ≡ false → levels_among ns (upward ns next) ≡ at ∷ levels_among ns (upward ns parent)
   among_here next at parent is there said other e =
       among_step next at parent is there said
-      ∙ ap (λ b. cond b [] (cond (is_property_at ns (parent_at ns at)) (levels_among ns (upward ns parent)) (at ∷ levels_among ns (upward ns parent)))) (ne_eqb at 0 other)
+      ∙ ap (λ b. cond b [] (cond (is_some_property ns (parent_at ns at)) (levels_among ns (upward ns parent)) (at ∷ levels_among ns (upward ns parent)))) (ne_eqb at 0 other)
       ∙ ap (λ b. cond b (levels_among ns (upward ns parent)) (at ∷ levels_among ns (upward ns parent))) e

@@ -14,9 +14,10 @@ pub record IndentTexts : Type 0 where
   pub current : List ℕ
   pub single : List ℕ
 
-abbrev pub is_property_at : List Node → Option ℕ → Bool
-is_property_at ns None = false
-is_property_at ns (Some n) = is_property (content_at ns n)
+-- there is such a node, and it is a property
+abbrev pub is_some_property : List Node → Option ℕ → Bool
+is_some_property ns None = false
+is_some_property ns (Some n) = is_property (content_at ns n)
 
 -- these nodes but for the properties in front
 abbrev pub beyond_properties : List Node → List ℕ → List ℕ
@@ -31,7 +32,7 @@ above_properties ns n = beyond_properties ns (upward ns (parent_at ns n))
 abbrev pub levels_among : List Node → List ℕ → List ℕ
 levels_among ns [] = []
 levels_among ns (n ∷ rest) =
-    if n == 0 then [] else (if is_property_at ns (parent_at ns n) then levels_among ns rest else n ∷ levels_among ns rest)
+    if n == 0 then [] else (if is_some_property ns (parent_at ns n) then levels_among ns rest else n ∷ levels_among ns rest)
 
 -- the nodes above a node that are levels of indent, nearest first; the property that a node stands in is none
 abbrev pub levels_above : List Node → ℕ → List ℕ

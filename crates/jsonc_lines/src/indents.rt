@@ -2,18 +2,16 @@
 ghost use Rattle.std.specs.Prelude.{◌≡◌, ◌<◌, ◌++◌, [], All, IfOk, IfSome, length};
 ghost use Rattle.std.specs.Prelude.{option_map, string_bytes, unwrap_or};
 ghost use Rattle.jsonc_tree.specs.Order.{upward};
-ghost use Rattle.jsonc_tree.specs.Stored.{content_of};
 ghost use Rattle.jsonc_tree.specs.Tree.{parent_at};
 ghost use Rattle.jsonc_lines.specs.Indents.{above_properties, document_indent, first_indent_in};
-ghost use Rattle.jsonc_nodes.specs.Kinds.{is_property};
 ghost use Rattle.jsonc_lines.specs.Indents.{held_after, indents_at};
-ghost use Rattle.jsonc_lines.specs.Indents.{is_property_at, levels_above, levels_in, more_of};
+ghost use Rattle.jsonc_lines.specs.Indents.{is_some_property, levels_above, levels_in, more_of};
 ghost use Rattle.jsonc_lines.specs.Indents.{repeated, single_at, told_at, without_front};
 ghost use Rattle.jsonc_lines.specs.IndentViews.{text_in, texts_of};
 
 use crate::indent::indent_text;
-use jsonc_nodes::{children_from, first_element_from, root_node};
-use jsonc_tree::{Kind, Tree};
+use jsonc_nodes::{children_from, first_element_from, is_property_kind, root_node};
+use jsonc_tree::Tree;
 use std::alloc::{AllocError, Allocator};
 
 /// The indent of a line, and what one level adds.
@@ -23,24 +21,14 @@ pub struct Indents<A: Allocator> {
     pub single: String<A>,
 }
 
-// Whether a node is an object property.
-fn is_property<A: Allocator>(kind: &Kind<A>) -> bool
-    ensures { result ≡ is_property (content_of kind.now) }
-{
-    match kind {
-        Kind::Property(_) => true,
-        _ => false,
-    }
-}
-
 // Whether a node is the child of an object property.
 fn stands_in_property<A: Allocator>(tree: &Tree<A>, node: usize) -> bool
     requires { node < length tree.now.nodes }
-    ensures { result ≡ is_property_at tree.now.nodes (parent_at tree.now.nodes node) }
+    ensures { result ≡ is_some_property tree.now.nodes (parent_at tree.now.nodes node) }
 {
     let _ = tree.len();
     match tree.parent(node) {
-        Some(parent) => is_property(tree.kind(parent)),
+        Some(parent) => is_property_kind(tree.kind(parent)),
         None => false,
     }
 }
@@ -54,7 +42,7 @@ fn beyond_properties<A: Allocator>(tree: &Tree<A>, node: usize) -> Option<usize>
     let _ = tree.len();
     let mut next = tree.parent(node);
     while let Some(at) = next {
-        if !is_property(tree.kind(at)) {
+        if !is_property_kind(tree.kind(at)) {
             return Some(at);
         }
         next = tree.parent(at);

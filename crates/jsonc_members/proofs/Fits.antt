@@ -22,7 +22,7 @@ use Rattle.jsonc_nodes.specs.Kinds.{is_element, is_element_at, is_newline_at, is
 use Rattle.jsonc_nodes.specs.Properties.{element_from}
 use Rattle.jsonc_nodes.specs.Siblings.{is_no_newline_at, line_before, row_of, siblings_before}
 use Rattle.jsonc_lines.specs.Breadth.{breadth_first, has_whitespace, ends_with_comma, is_in_document, is_spaced, last_element, levels}
-use Rattle.jsonc_lines.specs.Indents.{IndentTexts, held_after, indents_at, is_property_at, levels_among, levels_in, more_of, repeated, told_by}
+use Rattle.jsonc_lines.specs.Indents.{IndentTexts, held_after, indents_at, is_some_property, levels_among, levels_in, more_of, repeated, told_by}
 use Rattle.jsonc_lines.specs.Kinds.{holds_values}
 use Rattle.jsonc_lines.specs.Lines.{begins_line, blanks, blanks_at, first_blank_at, indent_at}
 use Rattle.jsonc_build.specs.Leaves.{is_inner_blank}
@@ -244,8 +244,8 @@ module _ (ns : List Node) (tree : IsTree ns) where
   among_over [] all = all
   among_over (n ∷ rest) all =
       let inner : AreIn (levels_among ns rest) = among_over rest (All-tail (IsOver ns 0) n rest all) in
-      cond_both (n == 0) [] (cond (is_property_at ns (parent_at ns n)) (levels_among ns rest) (n ∷ levels_among ns rest)) AreIn (λ e. All-nil (IsOver ns 0))
-      (λ e. cond_both (is_property_at ns (parent_at ns n)) (levels_among ns rest) (n ∷ levels_among ns rest) AreIn (λ f. inner) (λ f. All-cons (IsOver ns 0) n (levels_among ns rest) (All-head (IsOver ns 0) n rest all) inner))
+      cond_both (n == 0) [] (cond (is_some_property ns (parent_at ns n)) (levels_among ns rest) (n ∷ levels_among ns rest)) AreIn (λ e. All-nil (IsOver ns 0))
+      (λ e. cond_both (is_some_property ns (parent_at ns n)) (levels_among ns rest) (n ∷ levels_among ns rest) AreIn (λ f. inner) (λ f. All-cons (IsOver ns 0) n (levels_among ns rest) (All-head (IsOver ns 0) n rest all) inner))
 
   level_over : (level : List ℕ) → All (λ n. IsOver ns 0 n ⊎ (is_container_at ns n ≡ false)) level → All (λ n. IsOver ns 0 n ⊎ (is_container_at ns n ≡ false)) (flat_map (children_at ns) level)
   level_over [] all = All-nil (λ n. IsOver ns 0 n ⊎ (is_container_at ns n ≡ false))

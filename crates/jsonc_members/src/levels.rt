@@ -2,18 +2,16 @@
 
 ghost use Rattle.std.specs.Prelude.{◌≡◌, ◌≤◌, ◌<◌, ◌++◌, [], All, IfOk, Some, length};
 ghost use Rattle.std.specs.Prelude.{option_map, string_bytes, unwrap_or};
-ghost use Rattle.jsonc_tree.specs.Stored.{content_of};
 ghost use Rattle.jsonc_tree.specs.Tree.{parent_at};
-ghost use Rattle.jsonc_nodes.specs.Kinds.{is_property};
-ghost use Rattle.jsonc_lines.specs.Indents.{held_after, is_property_at, levels_in, more_of, repeated, without_front};
+ghost use Rattle.jsonc_lines.specs.Indents.{held_after, is_some_property, levels_in, more_of, repeated, without_front};
 ghost use Rattle.jsonc_lines.specs.IndentViews.{text_in, texts_of};
 ghost use Rattle.jsonc_members.specs.Told.{document_indent, indent_in, indents_beside, last_line, levels_inside};
 ghost use Rattle.jsonc_members.specs.Told.{single_inside, told_inside};
 
 use jsonc_insert::{first_indent, indent_of_line, is_in_document, place_in};
 use jsonc_lines::{Indents, indent_text};
-use jsonc_nodes::{children, first_element_from, is_newline};
-use jsonc_tree::{Kind, Tree};
+use jsonc_nodes::{children, first_element_from, is_newline, is_property_kind};
+use jsonc_tree::Tree;
 use std::alloc::{AllocError, Allocator};
 
 // How many nodes stand on the line that a row ends with.
@@ -41,21 +39,14 @@ fn indent_in<A: Allocator + Copy>(
     indent_of_line(alloc, tree, &row[place - count..place])
 }
 
-// Whether a node is an object property.
-fn is_property<A: Allocator>(kind: &Kind<A>) -> bool
-    ensures { result ≡ is_property (content_of kind.now) }
-{
-    matches!(kind, Kind::Property(_))
-}
-
 // Whether a node is the child of an object property.
 fn stands_in_property<A: Allocator>(tree: &Tree<A>, node: usize) -> bool
     requires { node < length tree.now.nodes }
-    ensures { result ≡ is_property_at tree.now.nodes (parent_at tree.now.nodes node) }
+    ensures { result ≡ is_some_property tree.now.nodes (parent_at tree.now.nodes node) }
 {
     let _ = tree.len();
     match tree.parent(node) {
-        Some(parent) => is_property(tree.kind(parent)),
+        Some(parent) => is_property_kind(tree.kind(parent)),
         None => false,
     }
 }

@@ -5,7 +5,7 @@
 ghost use Rattle.std.specs.Prelude.{◌≡◌};
 ghost use Rattle.jsonc_tree.specs.Stored.{content_of};
 ghost use Rattle.jsonc_nodes.specs.Kinds.{is_beside, is_colon, is_comment, is_element};
-ghost use Rattle.jsonc_nodes.specs.Kinds.{is_newline, is_trivia, is_whitespace};
+ghost use Rattle.jsonc_nodes.specs.Kinds.{is_newline, is_property, is_trivia, is_whitespace};
 ghost use Rattle.jsonc_nodes.specs.Kinds.{is_beside_at, is_colon_at, is_comment_at, is_element_at};
 ghost use Rattle.jsonc_nodes.specs.Kinds.{is_newline_at, is_trivia_at, is_whitespace_at};
 ghost use Rattle.jsonc_nodes.specs.Properties.{is_name, is_name_at};
@@ -22,6 +22,13 @@ fn is_element_kind<A: Allocator>(kind: &Kind<A>) -> bool
         Kind::Comment(_) | Kind::CommentPart(_) => false,
         _ => true,
     }
+}
+
+/// Whether this is the kind of a property.
+pub fn is_property_kind<A: Allocator>(kind: &Kind<A>) -> bool
+    ensures { result ≡ is_property (content_of kind.now) }
+{
+    matches!(kind, Kind::Property(_))
 }
 
 fn is_comment_kind<A: Allocator>(kind: &Kind<A>) -> bool

@@ -1,6 +1,5 @@
 -- The places of a new row: children that stay, by their numbers, and leaves that come.
 use Rattle.std.specs.Prelude.{ℕ, List, [], ◌∷◌, map}
-use Rattle.jsonc_tree.specs.Content.{Content}
 use Rattle.jsonc_tree.specs.OrderedTree.{OrderedTree, Top, none, more}
 pub use Rattle.jsonc_multiline.specs.Slots.{Slot, stays, comes}
 
@@ -11,9 +10,6 @@ all_stay row = map stays row
 abbrev pub top_in : (ℕ → Top) → Slot → Top
 top_in top (stays n) = top n
 top_in top (comes content) = record { content = content; below = none }
-
-abbrev pub content_in : (ℕ → Top) → Slot → Content
-content_in top slot = (top_in top slot).content
 
 -- the row of trees in these places, and then another
 abbrev pub row_then : (ℕ → Top) → List Slot → OrderedTree → OrderedTree

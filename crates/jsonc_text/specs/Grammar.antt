@@ -1,6 +1,6 @@
 -- Which texts have which values (RFC 8259, 2 to 5; trailing commas and names without quotes after JSON5, 3 and 4).
 use Rattle.std.specs.Prelude.{ℕ, ◌≡◌, Bool, true, false, List, [], ◌∷◌, ◌++◌, Option, Some, None, IsTrue, ◌⊎◌}
-use Rattle.jsonc_text.specs.Options.{Options, with_commas}
+use Rattle.jsonc_text.specs.Options.{Options}
 use Rattle.jsonc_text.specs.Gaps.{Gap}
 use Rattle.jsonc_text.specs.Words.{Keyword}
 use Rattle.jsonc_text.specs.Lexemes.{LexemeKind, Lexeme}
@@ -69,7 +69,3 @@ mutual
 abbrev pub IsDocument : Options → List ℕ → Option Plain → Type 0
 IsDocument o t None = Gap o t []
 IsDocument o t (Some v) = (u r : List ℕ) × Gap o t u × IsValue o u v r × Gap o r []
-
--- a document where a comma stands between all neighbours
-abbrev pub IsCommaSeparated : Options → List ℕ → Option Plain → Type 0
-IsCommaSeparated o = IsDocument (with_commas o)

@@ -19,7 +19,7 @@ pub type CommentMap<'a, A> = HashMap<
     A,
 >;
 
-/// What happens to comments.
+/// What happens to comments. By default they are not collected.
 #[derive(Clone, Copy, Debug, PartialEq, Eq, Drop)]
 pub enum CommentCollectionStrategy {
     /// They are passed over.
@@ -38,7 +38,7 @@ impl Default for CommentCollectionStrategy {
     }
 }
 
-/// What is collected besides the value.
+/// What is collected besides the value. By default nothing is.
 #[derive(Clone, Copy, Drop)]
 pub struct CollectOptions {
     /// What happens to comments.

@@ -10,7 +10,7 @@ use crate::token::TokenChar;
 use std::alloc::Allocator;
 use std::marker::Model;
 
-/// How a line ends.
+/// How a line ends. By default by LF.
 #[derive(Clone, Copy, PartialEq, Eq, Debug)]
 pub enum CstNewlineKind {
     LineFeed,
