@@ -50,6 +50,8 @@ impl<K: Eq + Hash + Drop, V: Drop, A: Allocator + Copy> Map<K, V, A> {
 
 impl<K: Eq + Hash + Clone + Drop, V: Clone, A: Allocator + Clone> Map<K, V, A> {
     /// A copy of the map: clones of its keys and values, pair by pair, in their order.
+    ///
+    /// The answer is `AllocError` for want of memory, and also where a clone of a key does not equal the key.
     pub fn try_clone(&self) -> Result<Self, AllocError>
         ensures { IfOk result (AllZip (IsPairClone K.is_clone V.is_clone) self.now) }
     {
