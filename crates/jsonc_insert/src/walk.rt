@@ -170,7 +170,9 @@ fn level_below<A: Allocator>(
 fn copied<A: Allocator>(alloc: A, row: &[usize]) -> Result<Vec<usize, A>, AllocError>
     ensures { IfOk result (λ v. v.items ≡ row.now) }
 {
-    row.iter().copied().collect(alloc)
+    let mut copy = Vec::new(alloc);
+    copy.extend_from_slice(row)?;
+    Ok(copy)
 }
 
 /// The first node that is what is looked for, level after level from these nodes down.

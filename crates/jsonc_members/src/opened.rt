@@ -24,12 +24,11 @@ fn enclosed<A: Allocator>(
 {
     let first = row[0];
     let last = row[row.len() - 1];
-    [first]
-        .iter()
-        .chain(inside.iter())
-        .chain([last].iter())
-        .copied()
-        .collect(alloc)
+    let mut enclosed = Vec::new(alloc);
+    enclosed.push(first)?;
+    enclosed.extend_from_slice(inside)?;
+    enclosed.push(last)?;
+    Ok(enclosed)
 }
 
 /// The row of an object on several lines, brackets among it, by the numbers of nodes: as it is where a

@@ -21,7 +21,11 @@ pub fn children<A: Allocator, B: Allocator>(
     ensures children { IfOk result (λ v. v.items ≡ children_at tree.now.nodes node) }
     ensures there { IfOk result (λ v. AreThere tree.now.nodes v.items) }
 {
-    children_from(tree, node, 0).collect(alloc)
+    let mut row = Vec::new(alloc);
+    for child in children_from(tree, node, 0) {
+        row.push(child)?;
+    }
+    Ok(row)
 }
 
 /// The elements of a node, in order.
@@ -34,9 +38,13 @@ pub fn elements<A: Allocator, B: Allocator>(
     ensures elements { IfOk result (λ v. v.items ≡ elements_at tree.now.nodes node) }
     ensures there { IfOk result (λ v. AreThere tree.now.nodes v.items) }
 {
-    children_from(tree, node, 0)
-        .filter(|child| is_element(tree, *child))
-        .collect(alloc)
+    let mut row = Vec::new(alloc);
+    for child in children_from(tree, node, 0) {
+        if is_element(tree, child) {
+            row.push(child)?;
+        }
+    }
+    Ok(row)
 }
 
 /// The element at a place among the elements of a node, counted from 0, or none where there are fewer.
