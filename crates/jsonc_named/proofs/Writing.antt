@@ -49,7 +49,7 @@ use Rattle.jsonc_set.proofs.PropertyRows.{counted_elements, over_at, prints_valu
 use Rattle.jsonc_named.specs.declared.shape.Over.{Over}
 use Rattle.jsonc_named.specs.declared.shape.Over.TheVariants as over
 use Rattle.jsonc_named.specs.declared.shape.Shape.{Shape}
-use Rattle.jsonc_named.specs.Laws.{FindsMember, FoundAmong, IsNamedWritten, StaysAround, all_stays, value_given, property_come, ChangesMarks, some_leave, name_comes, WantsMemoryAlone, WritesNamed}
+use Rattle.jsonc_named.specs.Laws.{FindsMember, FoundAmong, IsNamedWritten, StaysAround, all_stays, value_given, property_come, ChangesMarks, none_leave, some_leave, name_comes, WantsMemoryAlone, WritesNamed}
 use Rattle.jsonc_named.specs.Members.{LacksMember, no_more, other_name, IsFirstMember, first_is, first_later, MemberEnsured, comes_last, this_member, later_member}
 use Rattle.jsonc_named.specs.Named.{ComesNamed, EnsuredFor, IsUnensured, PropertyValueIs}
 use Rattle.jsonc_named.specs.Places.{IsPropertyOf, a_property}
@@ -214,11 +214,11 @@ module _ (o : Options) (old new : List Node) (path : List ℕ) (c : ℕ) (name :
         new_text = was.text;
         ensures = record { old = was.members; new = was.members; members = ensured_kept name shape was.members it.0 it.2; inside = was.at_path };
         around = all_stays refl;
-        marks = some_leave [] (record { front = []; back = marks (ordered_tree old 0); before = refl; after = refl });
+        marks = none_leave refl;
         sound = s;
       }))
 
-  stays_so : (i : ℕ) → ValueEnsured (path ++ i ∷ []) shape (ordered_tree old 0) (ordered_tree new 0) → StaysAround o path name shape (ordered_tree old 0) (ordered_tree new 0)
+  stays_so : (i : ℕ) → ValueEnsured (path ++ i ∷ []) shape (ordered_tree old 0) (ordered_tree new 0) → StaysAround o path name shape (ordered_tree old 0) (ordered_tree new 0) over.Replace
   stays_so i (giving.all_stays same) = all_stays same
   stays_so i (giving.empty_given g) = value_given i g
 
@@ -261,12 +261,12 @@ pub writes_named : (o : Options) (old new : List Node) (path : List ℕ) (c : �
 writes_named o old new path c name shape how answer tree s at is texts (found, first, by) = written_by o old new path c name shape how tree s at is texts found answer first by
 
 -- what stays around tells what becomes of the marks
-pub around_marks : (o : Options) (t u : OrderedTree) (path name : List ℕ) (shape : Shape) → SoundTree o t → IsCharacters name → StaysAround o path name shape t u → ChangesMarks name shape (marks t) (marks u)
-around_marks o t u path name shape s texts (all_stays same) = some_leave [] (record { front = []; back = marks t; before = refl; after = ap marks same })
-around_marks o t u path name shape s texts (value_given i g) =
+pub around_marks : (o : Options) (t u : OrderedTree) (path name : List ℕ) (shape : Shape) (how : Over) → SoundTree o t → IsCharacters name → StaysAround o path name shape t u how → ChangesMarks name shape (marks t) (marks u) how
+around_marks o t u path name shape how s texts (all_stays same) = none_leave (ap marks same)
+around_marks o t u path name shape _ s texts (value_given i g) =
     let left = ensured_marks o t u (path ++ i ∷ []) shape (giving.empty_given g) in
     some_leave left.0 left.1
-around_marks o t u path name shape s texts (property_come n comes) =
+around_marks o t u path name shape how s texts (property_come n comes) =
     let v : Plain = empty_of shape in
     let w = inserts_member o path n name v t u (comes n (omega arith)) s texts (empty_writable o shape) in
     name_comes (marks_come_in (property_written name v) _ _ t u w.marks)

@@ -20,6 +20,7 @@ use Rattle.jsonc_edit.specs.declared.error.EditError.{EditError}
 use Rattle.jsonc_edit.specs.declared.error.EditError.TheVariants.{OutOfMemory}
 use Rattle.jsonc_member_laws.specs.Below.insertion_laws.Members.{PropertyComesAt}
 use Rattle.jsonc_named.specs.declared.shape.Over.{Over}
+use Rattle.jsonc_named.specs.declared.shape.Over.TheVariants.{Replace}
 use Rattle.jsonc_named.specs.declared.shape.Shape.{Shape}
 use Rattle.jsonc_named.specs.Members.{EnsuresMember, IsFirstMember, LacksMember}
 use Rattle.jsonc_named.specs.Named.{IsUnensured, NamedEnsured}
@@ -44,17 +45,18 @@ abbrev pub FindsMember : Options → List Node → List ℕ → ℕ → List ℕ
 FindsMember o ns path c name found =
     IsTree ns → SoundTree o (ordered_tree ns 0) → IsAt ns path c → content_at ns c ≡ object → FirstInObject ns c name found → IsFoundAt o ns path c name found
 
--- What has stayed around: all; or all around the value of the property of this number in the object at the path, which has given way to an empty one; or all
--- around a property that has come behind the last one.
-pub data StaysAround (o : Options) (path name : List ℕ) (shape : Shape) (t u : OrderedTree) : Type 0 where
-  all_stays : u ≡ t → StaysAround o path name shape t u
-  value_given : (i : ℕ) → ValueGivesWay (path ++ i ∷ []) (empty_of shape) t u → StaysAround o path name shape t u
-  property_come : (n : ℕ) → ((i : ℕ) → n ≤ i → PropertyComesAt o path i name (empty_of shape) t u) → StaysAround o path name shape t u
+-- What has stayed around: all; or all around the value of the property of this number in the object at the path, which has given way to an empty one, where
+-- another is to; or all around a property that has come behind the last one.
+pub data StaysAround (o : Options) (path name : List ℕ) (shape : Shape) (t u : OrderedTree) : Over → Type 0 where
+  all_stays : {how : Over} → u ≡ t → StaysAround o path name shape t u how
+  value_given : (i : ℕ) → ValueGivesWay (path ++ i ∷ []) (empty_of shape) t u → StaysAround o path name shape t u Replace
+  property_come : {how : Over} (n : ℕ) → ((i : ℕ) → n ≤ i → PropertyComesAt o path i name (empty_of shape) t u) → StaysAround o path name shape t u how
 
--- one stretch of the literals and comments has left, or the name has come in
-pub data ChangesMarks (name : List ℕ) (shape : Shape) (x y : List Mark) : Type 0 where
-  some_leave : (was : List Mark) → MarksDifferIn was [] x y → ChangesMarks name shape x y
-  name_comes : MarksDifferIn [] (property_written name (empty_of shape)) x y → ChangesMarks name shape x y
+-- all literals and comments stay; or one stretch of them has left, where another value is to give way; or the name has come in
+pub data ChangesMarks (name : List ℕ) (shape : Shape) (x y : List Mark) : Over → Type 0 where
+  none_leave : {how : Over} → y ≡ x → ChangesMarks name shape x y how
+  some_leave : (was : List Mark) → MarksDifferIn was [] x y → ChangesMarks name shape x y Replace
+  name_comes : {how : Over} → MarksDifferIn [] (property_written name (empty_of shape)) x y → ChangesMarks name shape x y how
 
 -- The text was a document, and is one again, in which the first property of the name in the object at the path has a value of the shape, or the other that was
 -- to stay; all around stays; and the document is sound.
@@ -64,8 +66,8 @@ pub record IsNamedWritten (o : Options) (path name : List ℕ) (shape : Shape) (
   pub old_text : IsDocument o (printed_text t) (Some before)
   pub new_text : IsDocument o (printed_text u) (Some after)
   pub ensures : EnsuresMember path name shape how before after
-  pub around : StaysAround o path name shape t u
-  pub marks : ChangesMarks name shape (marks t) (marks u)
+  pub around : StaysAround o path name shape t u how
+  pub marks : ChangesMarks name shape (marks t) (marks u) how
   pub sound : SoundTree o u
 
 -- so it is in an object at a path of a sound document

@@ -19,7 +19,8 @@ use Rattle.jsonc_laws.specs.Written.{property_written, written}
 use Rattle.jsonc_laws.proofs.GivingWay.{other_comments, others_alone}
 use Rattle.jsonc_laws.proofs.Laid.{writes_no_comments}
 use Rattle.jsonc_laws.proofs.Printed.{prints_its_marks}
-use Rattle.jsonc_run.specs.Below.named.Laws.{name_comes, some_leave}
+use Rattle.jsonc_run.specs.Below.named.declared.shape.Over.TheVariants as over
+use Rattle.jsonc_run.specs.Below.named.Laws.{name_comes, none_leave, some_leave}
 use Rattle.jsonc_run.specs.Below.named.Shapes.{empty_of}
 use Rattle.jsonc_run.specs.Edits.{Operation, replace, remove, remove_comment, set_root, clear_root, replace_property, ensure_root, set_value, ensure_value, set_boolean, ensure_multiline, insert_element, append_element, insert_property, append_property, ensure_property, set_commas, set_some_commas, rearrange}
 use Rattle.jsonc_run.specs.Marked.{IsMarked, AreMarked, none_marked, first_marked, MarkAll}
@@ -72,7 +73,8 @@ module _ (x y z : List Mark) (es : List Operation) (rest : CommentsStay (comment
   one_edit (set_root v) (was, d) = losing (one_stretch was (written v) x y d (writes_no_comments v))
   one_edit clear_root none = losing (subst (λ z. LosesStretch (comments_of x) (comments_of z)) (sym none) (all_leave x))
   one_edit (replace_property path name v) (was, d) = losing (one_stretch was (property_written name v) x y d (writes_no_comments v))
-  one_edit (ensure_root shape how) (was, d) = losing (one_stretch was [] x y d refl)
+  one_edit (ensure_root shape over.Keep) same = losing (nothing_leaves x y same)
+  one_edit (ensure_root shape over.Replace) (was, d) = losing (one_stretch was [] x y d refl)
   one_edit (set_value path v) (was, d) = losing (one_stretch was (written v) x y d (writes_no_comments v))
   one_edit (ensure_value path shape) (was, d) = losing (one_stretch was [] x y d refl)
   one_edit (set_boolean path b) (was, d) = losing (one_stretch (written (boolean was)) (written (boolean b)) x y d refl)
@@ -80,7 +82,8 @@ module _ (x y z : List Mark) (es : List Operation) (rest : CommentsStay (comment
   one_edit (append_element path v) d = losing (one_stretch [] (written v) x y d (writes_no_comments v))
   one_edit (insert_property path i name v) d = losing (one_stretch [] (property_written name v) x y d (writes_no_comments v))
   one_edit (append_property path name v) d = losing (one_stretch [] (property_written name v) x y d (writes_no_comments v))
-  one_edit (ensure_property path name shape how) (some_leave was d) = losing (one_stretch was [] x y d refl)
+  one_edit (ensure_property path name shape how) (none_leave same) = losing (nothing_leaves x y same)
+  one_edit (ensure_property path name shape _) (some_leave was d) = losing (one_stretch was [] x y d refl)
   one_edit (ensure_property path name shape how) (name_comes d) = losing (one_stretch [] (property_written name (empty_of shape)) x y d (writes_no_comments (empty_of shape)))
   one_edit (ensure_multiline path) same = losing (nothing_leaves x y same)
   one_edit (set_commas path mode) same = losing (nothing_leaves x y same)

@@ -1,5 +1,5 @@
 -- What an edit that asks for a value of a shape has made: an empty one has come first, or taken the place of another, or all has stayed.
-use Rattle.std.proofs.Common.{◌≡◌, ℕ, Bool, true, false, not, List, Option, Some, None, inl, inr, refl, sym, ap, subst, ◌∙◌}
+use Rattle.std.proofs.Common.{◌≡◌, ℕ, Bool, true, false, not, List, [], Option, Some, None, inl, inr, refl, sym, ap, subst, ◌∙◌}
 use Rattle.std.proofs.lemmas.Bool.{cases_Bool}
 use Rattle.std.specs.List.{find}
 use Rattle.jsonc_text.specs.Options.{Options}
@@ -17,20 +17,21 @@ use Rattle.jsonc_nodes.specs.Properties.{value_at, value_by}
 use Rattle.jsonc_laws.proofs.FirstNodes.{value_of_element}
 use Rattle.jsonc_laws.specs.SoundTrees.{SoundTree}
 use Rattle.jsonc_edit.specs.Changes.{row_below}
-use Rattle.jsonc_edit.specs.Reading.{IsReplaced}
+use Rattle.jsonc_edit.specs.Reading.{layout_for, IsReplaced}
 use Rattle.jsonc_edit.proofs.Elements.{Some_same}
 use Rattle.jsonc_edit.proofs.FittingFinds.{passes, fails, none_is_some}
 use Rattle.jsonc_edit.proofs.Walk.{Shows-row_below}
 use Rattle.jsonc_set.specs.Kinds.{FoundOrCreated, FoundOrSet, KeptOrReplaced}
 use Rattle.jsonc_set.specs.RootSet.{FirstValue}
+use Rattle.jsonc_set.proofs.Coming.{comes_among_rows}
 use Rattle.jsonc_named.specs.declared.shape.Over.{Over}
 use Rattle.jsonc_named.specs.declared.shape.Over.TheVariants as over
 use Rattle.jsonc_named.specs.declared.shape.Shape.{Shape}
 use Rattle.jsonc_named.specs.Shapes.{has_shape, is_of, empty_of}
-use Rattle.jsonc_named.proofs.Values.{same_shape}
+use Rattle.jsonc_named.proofs.Values.{same_shape, value_gives_way}
 use Rattle.jsonc_run.specs.Edits.{RootEnsured}
-use Rattle.jsonc_run.specs.Written.{RootValueEnsured, all_kept, empty_set}
-use Rattle.jsonc_run.proofs.Roots.{root_is, root_value_set}
+use Rattle.jsonc_run.specs.Written.{RootValueEnsured, all_kept, empty_come, empty_given}
+use Rattle.jsonc_run.proofs.Roots.{root_is, value_stands}
 
 module _ (o : Options) (ns : List Node) where
   -- what a row holds is the value of its first element
@@ -100,8 +101,9 @@ module _ (old new : List Node) (shape : Shape) where
   ensured over.Keep (answer, g) = if_kept (value_at old 0) refl answer g
   ensured over.Replace (m, g) = if_set (value_at old 0) refl m g
 
-pub value_ensured : (o : Options) (old new : List Node) (shape : Shape) (how : Over) → IsTree old → SoundTree o (ordered_tree old 0) → Ensured old new shape how → RootValueEnsured shape (ordered_tree old 0) (ordered_tree new 0)
-value_ensured o old new shape how tree s (created m e f) = empty_set (root_value_set o old new (empty_of shape) tree s None e (m, f))
+pub value_ensured : (o : Options) (old new : List Node) (shape : Shape) (how : Over) → IsTree old → SoundTree o (ordered_tree old 0) → Ensured old new shape how → RootValueEnsured shape (ordered_tree old 0) (ordered_tree new 0) how
+value_ensured o old new shape how tree s (created m e f) =
+    empty_come (layout_for old 0 0) (row_below old 0) (row_below new 0) (root_is old tree) (root_is new f.tree) (comes_among_rows o old new (empty_of shape) m tree s e f)
 value_ensured o old new shape how tree s (stayed n e is same) = all_kept (ap (λ (ns : List Node). ordered_tree ns 0) same)
 value_ensured o old new shape _ tree s (other_stayed n e is same) = all_kept (ap (λ (ns : List Node). ordered_tree ns 0) same)
-value_ensured o old new shape _ tree s (replaced n m e is r) = empty_set (root_value_set o old new (empty_of shape) tree s (Some n) e (m, r))
+value_ensured o old new shape _ tree s (replaced n m e is r) = empty_given (value_gives_way old new [] n m (empty_of shape) tree (value_stands old tree n e) r)

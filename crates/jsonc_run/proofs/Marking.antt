@@ -6,6 +6,7 @@ use Rattle.jsonc_text.specs.Plain.{Plain}
 use Rattle.jsonc_tree.specs.OrderedTree.{OrderedTree, none, leaves, ordered_tree, Top}
 use Rattle.jsonc_tree.specs.Tree.{Node, IsTree}
 use Rattle.jsonc_from_input.specs.Laid.{laid, laid_property}
+use Rattle.jsonc_from_input.specs.Layout.{Layout}
 use Rattle.jsonc_from_input.specs.Texts.{IsCharacters}
 use Rattle.jsonc_laws.specs.TreeChanges.{property_of}
 use Rattle.jsonc_laws.specs.SoundTrees.{SoundTree}
@@ -16,6 +17,7 @@ use Rattle.jsonc_laws.proofs.GivingWay.{one_mark_leaves}
 use Rattle.jsonc_laws.proofs.Laid.{laid_as_written, laid_as_written_named}
 use Rattle.jsonc_laws.proofs.OneList.{marks_unique}
 use Rattle.jsonc_laws.proofs.Printed.{prints_its_marks}
+use Rattle.jsonc_laws.specs.Coming.{ValueComes}
 use Rattle.jsonc_laws.specs.EntryLaws.{root_with}
 use Rattle.jsonc_laws.proofs.FirstValue.{marks_with_first}
 use Rattle.jsonc_laws.proofs.RootRows.{root_marks}
@@ -25,11 +27,12 @@ use Rattle.jsonc_remove.proofs.Lost.{removes_entry}
 use Rattle.jsonc_remove.proofs.LostValue.{removes_value}
 use Rattle.jsonc_set.proofs.PropertyRows.{spaces_marks}
 use Rattle.jsonc_named.specs.declared.shape.Over.{Over}
+use Rattle.jsonc_named.specs.declared.shape.Over.TheVariants as over
 use Rattle.jsonc_named.specs.declared.shape.Shape.{Shape}
 use Rattle.jsonc_named.specs.declared.shape.Shape.TheVariants.{Object, Array}
 use Rattle.jsonc_named.specs.Shapes.{empty_of}
 use Rattle.jsonc_run.specs.Edits.{Operation, replace, remove, remove_comment, set_root, clear_root, replace_property, ensure_root, set_value, ensure_value, set_boolean, ensure_multiline, insert_element, append_element, insert_property, append_property, ensure_property, set_commas, set_some_commas, rearrange, AreMade, none_made, first_made, IsMade}
-use Rattle.jsonc_run.specs.Written.{MayBeMade, EntryLeft, entry_left, value_left, RootValueSet, given_way, has_come, RootValueEnsured, all_kept, empty_set, PropertyGivenWay, property_given, StayAround, options_after, options_behind}
+use Rattle.jsonc_run.specs.Written.{MayBeMade, EntryLeft, entry_left, value_left, RootValueSet, given_way, has_come, RootValueEnsured, all_kept, empty_come, empty_given, PropertyGivenWay, property_given, StayAround, options_after, options_behind}
 use Rattle.jsonc_run.specs.Marked.{IsMarked, AreMarked, none_marked, first_marked, MarkAll}
 use Rattle.jsonc_named.proofs.Below.insertion_laws.Named.{inserts_member}
 use Rattle.jsonc_named.proofs.Below.insertion_laws.Written.{inserts_element}
@@ -50,11 +53,24 @@ root_marked o t u v may (has_come layout row next was is comes) =
           (subst (λ x. MarksDifferIn [] (marks_under top) (marks x) (marks u)) (sym was) (subst (λ x. MarksDifferIn [] (marks_under top) (marks (root_with row)) (marks x)) (sym is) (marks_with_first top row next comes))),
     )
 
+-- where nothing leaves and nothing comes all stay
+nothing_comes : {x y : List Mark} → MarksDifferIn [] [] x y → y ≡ x
+nothing_comes d = d.after ∙ sym d.before
+
+come_marked : (o : Options) (t u : OrderedTree) (shape : Shape) (layout : Layout) (row next : OrderedTree) → t ≡ root_with row → u ≡ root_with next
+    → ValueComes (laid layout (empty_of shape)) row next → MarksDifferIn [] [] (marks t) (marks u)
+unfolding root_marked
+come_marked o t u Object layout row next was is comes = (root_marked o t u (empty_of Object) (empty_writable o Object) (has_come layout row next was is comes)).1
+come_marked o t u Array layout row next was is comes = (root_marked o t u (empty_of Array) (empty_writable o Array) (has_come layout row next was is comes)).1
+
 -- an empty array or object has no marks
-ensured_marked : (o : Options) (t u : OrderedTree) (shape : Shape) (how : Over) → RootValueEnsured shape t u → IsMarked (marks t) (ensure_root shape how) (marks u)
-ensured_marked o t u shape how (all_kept same) = ([], record { front = []; back = marks t; before = refl; after = ap marks same })
-ensured_marked o t u Object how (empty_set set) = root_marked o t u (empty_of Object) (empty_writable o Object) set
-ensured_marked o t u Array how (empty_set set) = root_marked o t u (empty_of Array) (empty_writable o Array) set
+ensured_marked : (o : Options) (t u : OrderedTree) (shape : Shape) (how : Over) → RootValueEnsured shape t u how → IsMarked (marks t) (ensure_root shape how) (marks u)
+ensured_marked o t u shape over.Keep (all_kept same) = ap marks same
+ensured_marked o t u shape over.Replace (all_kept same) = ([], record { front = []; back = marks t; before = refl; after = ap marks same })
+ensured_marked o t u shape over.Keep (empty_come layout row next was is comes) = nothing_comes (come_marked o t u shape layout row next was is comes)
+ensured_marked o t u shape over.Replace (empty_come layout row next was is comes) = ([], come_marked o t u shape layout row next was is comes)
+ensured_marked o t u Object _ (empty_given g) = value_marked o t u [] (empty_of Object) (empty_writable o Object) g
+ensured_marked o t u Array _ (empty_given g) = value_marked o t u [] (empty_of Array) (empty_writable o Array) g
 
 -- a property that gives way leaves its marks to those of the new one
 property_marked : (o : Options) (t u : OrderedTree) (path name : List ℕ) (v : Plain) → IsCharacters name → IsWritable o v → PropertyGivenWay name v t u path → IsMarked (marks t) (replace_property path name v) (marks u)
@@ -128,7 +144,7 @@ module _ (o : Options) (old new : List Node) (tree : IsTree old) (after : IsTree
       gained_marks (property_written name v) _ _ t u (inserts_member o path far.0 name v t u (far.1 far.0 (omega arith)) s may.0 may.1).marks
   one_marked (ensure_property path name shape how) may s made =
       let g = around (ensure_property path name shape how) made in
-      around_marks o t u path name shape s may (g o s may)
+      around_marks o t u path name shape how s may (g o s may)
   one_marked (set_commas path mode) may s (n, at, set) = (commas_say o old new path n tree s at mode set).marks
   one_marked (set_some_commas path mode) may s (n, at, part) = (some_commas_say o old new path n tree s at mode part).marks
   one_marked (rearrange path headers order) may s made =

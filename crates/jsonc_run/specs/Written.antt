@@ -136,10 +136,13 @@ pub data RootValueSet (v : Plain) (t u : OrderedTree) : Type 0 where
   given_way : ValueGivesWay [] v t u → RootValueSet v t u
   has_come : (layout : Layout) (row next : OrderedTree) → t ≡ root_with row → u ≡ root_with next → ValueComes (laid layout v) row next → RootValueSet v t u
 
--- all has stayed, or the empty value of a shape has been set
-pub data RootValueEnsured (shape : Shape) (t u : OrderedTree) : Type 0 where
-  all_kept : u ≡ t → RootValueEnsured shape t u
-  empty_set : RootValueSet (empty_of shape) t u → RootValueEnsured shape t u
+-- all has stayed; or the empty value of a shape has come into the row of a root that had none, with ends of lines beside it; or the document's value has given
+-- way to it, where another is to
+pub data RootValueEnsured (shape : Shape) (t u : OrderedTree) : Over → Type 0 where
+  all_kept : {how : Over} → u ≡ t → RootValueEnsured shape t u how
+  empty_come : {how : Over} (layout : Layout) (row next : OrderedTree) → t ≡ root_with row → u ≡ root_with next → ValueComes (laid layout (empty_of shape)) row next
+      → RootValueEnsured shape t u how
+  empty_given : ValueGivesWay [] (empty_of shape) t u → RootValueEnsured shape t u over.Replace
 
 -- spaces have come into the document, and then in the row of the object at the path, between its front and its rest, a property has given way to one of this
 -- name and value, in some layout; all leaves before and after stay
@@ -161,7 +164,7 @@ StayAround t (remove_comment number) u = LosesComment t u
 StayAround t (set_root v) u = (o : Options) → SoundTree o t → RootValueSet v t u
 StayAround t clear_root u = u ≡ root_with none
 StayAround t (replace_property path name v) u = (o : Options) → SoundTree o t → IsCharacters name → IsWritable o v → PropertyGivenWay name v t u path
-StayAround t (ensure_root shape how) u = (o : Options) → SoundTree o t → RootValueEnsured shape t u
+StayAround t (ensure_root shape how) u = (o : Options) → SoundTree o t → RootValueEnsured shape t u how
 StayAround t (set_value path v) u = (o : Options) → SoundTree o t → ValueGivesWay path v t u
 StayAround t (ensure_value path shape) u = (o : Options) → SoundTree o t → ValueEnsured path shape t u
 StayAround t (set_boolean path b) u = (was : Bool) × (given : ValueGivesWay path (boolean b) t u) × (given.was ≡ boolean_leaf was)
@@ -170,7 +173,7 @@ StayAround t (insert_element path i v) u = (o : Options) → SoundTree o t → E
 StayAround t (append_element path v) u = (o : Options) → SoundTree o t → (n : ℕ) × ((i : ℕ) → n ≤ i → ElementComesAt o path i v t u)
 StayAround t (insert_property path i name v) u = (o : Options) → SoundTree o t → PropertyComesAt o path i name v t u
 StayAround t (append_property path name v) u = (o : Options) → SoundTree o t → (n : ℕ) × ((i : ℕ) → n ≤ i → PropertyComesAt o path i name v t u)
-StayAround t (ensure_property path name shape how) u = (o : Options) → SoundTree o t → IsCharacters name → named.StaysAround o path name shape t u
+StayAround t (ensure_property path name shape how) u = (o : Options) → SoundTree o t → IsCharacters name → named.StaysAround o path name shape t u how
 StayAround t (set_commas path mode) u = (o : Options) → SoundTree o t → OnlyCommas mode t u
 StayAround t (set_some_commas path mode) u = (o : Options) → SoundTree o t → OnlyCommas mode t u
 StayAround t (rearrange path headers order) u = (o : Options) → SoundTree o t → (sorted : SortedAt path order t u) × KeepsOutside sorted
