@@ -14,10 +14,10 @@ loop-next-init g c =
       same = ap (λ o. beyond_properties ns (upward ns o)) (sym c.parent-next.ensures);
     }
 
-pub returns-then-not-is_property-clause-above : goal.returns-then-not-is_property-clause-above
-returns-then-not-is_property-clause-above g c =
+pub returns-then-not-is_property_kind-clause-above : goal.returns-then-not-is_property_kind-clause-above
+returns-then-not-is_property_kind-clause-above g c =
     let ns = c.args.tree.now.nodes in
-    let other = ap is_property (sym c.kind.ensures) ∙ sym c.is_property.ensures ∙ c.if-not-is_property.true in
+    let other = ap is_property (sym c.kind.ensures) ∙ sym c.is_property_kind.ensures ∙ c.if-not-is_property_kind.true in
     c.loop-next.invariant.same ∙ beyond_here ns c.len.ensures.tree c.loop-next.next c.in-Some.at c.in-Some.is c.loop-next.invariant.there other
 
 pub loop-next-smaller : goal.loop-next-smaller
@@ -26,7 +26,7 @@ loop-next-smaller g c = climb_smaller c.args.tree.now.nodes c.len.ensures.tree c
 pub loop-next-preserved : goal.loop-next-preserved
 loop-next-preserved g c =
     let ns = c.args.tree.now.nodes in
-    let over = ap is_property (sym c.kind.ensures) ∙ sym c.is_property.ensures ∙ c.if-not-is_property.false in
+    let over = ap is_property (sym c.kind.ensures) ∙ sym c.is_property_kind.ensures ∙ c.if-not-is_property_kind.false in
     record {
       there = parent_within ns c.len.ensures.tree c.in-Some.at (length ns) c.parent-next-in-Some.result c.parent-next-in-Some.ensures refl;
       same = c.loop-next.invariant.same ∙ beyond_on ns c.len.ensures.tree c.loop-next.next c.in-Some.at c.parent-next-in-Some.result c.in-Some.is c.loop-next.invariant.there c.parent-next-in-Some.ensures over;
