@@ -129,11 +129,10 @@ fn without<A: Allocator>(
 ) -> Result<Vec<usize, A>, AllocError>
     ensures { IfOk result (λ v. v.items ≡ without stretch row.now) }
 {
-    row.iter()
-        .take(stretch.from)
-        .chain(row.iter().skip(stretch.to))
-        .copied()
-        .collect(alloc)
+    let mut kept = Vec::with_capacity(alloc, row.len())?;
+    kept.extend_from_slice(&row[..stretch.from.min(row.len())])?;
+    kept.extend_from_slice(&row[stretch.to.min(row.len())..])?;
+    Ok(kept)
 }
 
 /// A row as it is when the blank lines directly inside its brackets have left.
@@ -158,10 +157,10 @@ pub(crate) fn with_at<A: Allocator>(
 ) -> Result<Vec<usize, A>, AllocError>
     ensures { IfOk result (λ v. v.items ≡ with_at place others.now row.now) }
 {
-    row.iter()
-        .take(place)
-        .chain(others.iter())
-        .chain(row.iter().skip(place))
-        .copied()
-        .collect(alloc)
+    let place = place.min(row.len());
+    let mut wider = Vec::with_capacity(alloc, row.len() + others.len())?;
+    wider.extend_from_slice(&row[..place])?;
+    wider.extend_from_slice(others)?;
+    wider.extend_from_slice(&row[place..])?;
+    Ok(wider)
 }
