@@ -84,11 +84,11 @@ fn written<A: Allocator>(
 ) -> Result<Vec<usize, A>, AllocError>
     ensures { IfOk result (λ v. v.items ≡ before.now ++ element ∷ behind.now) }
 {
-    let mut written = Vec::new(alloc);
-    written.extend_from_slice(before)?;
-    written.push(element)?;
-    written.extend_from_slice(behind)?;
-    Ok(written)
+    let mut row = Vec::new(alloc);
+    row.extend_from_slice(before)?;
+    row.push(element)?;
+    row.extend_from_slice(behind)?;
+    Ok(row)
 }
 
 // A row with a comma at a place, where one is told.

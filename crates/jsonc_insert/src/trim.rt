@@ -129,10 +129,10 @@ fn without<A: Allocator>(
 ) -> Result<Vec<usize, A>, AllocError>
     ensures { IfOk result (λ v. v.items ≡ without stretch row.now) }
 {
-    let mut left = Vec::new(alloc);
-    left.extend_from_slice(&row[..row.len().min(stretch.from)])?;
-    left.extend_from_slice(&row[row.len().min(stretch.to)..])?;
-    Ok(left)
+    let mut kept = Vec::with_capacity(alloc, row.len())?;
+    kept.extend_from_slice(&row[..stretch.from.min(row.len())])?;
+    kept.extend_from_slice(&row[stretch.to.min(row.len())..])?;
+    Ok(kept)
 }
 
 /// A row as it is when the blank lines directly inside its brackets have left.
@@ -157,8 +157,8 @@ pub(crate) fn with_at<A: Allocator>(
 ) -> Result<Vec<usize, A>, AllocError>
     ensures { IfOk result (λ v. v.items ≡ with_at place others.now row.now) }
 {
-    let place = row.len().min(place);
-    let mut wider = Vec::new(alloc);
+    let place = place.min(row.len());
+    let mut wider = Vec::with_capacity(alloc, row.len() + others.len())?;
     wider.extend_from_slice(&row[..place])?;
     wider.extend_from_slice(others)?;
     wider.extend_from_slice(&row[place..])?;

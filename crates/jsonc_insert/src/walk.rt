@@ -1,6 +1,6 @@
 //! Walks over the levels of a document, beside a row that a container is to have.
 
-ghost use Rattle.std.specs.Prelude.{◌≡◌, ◌<◌, ◌++◌, All, IfOk, IfSome, OnOk, length};
+ghost use Rattle.std.specs.Prelude.{◌≡◌, ◌<◌, All, IfOk, IfSome, length};
 ghost use Rattle.std.specs.List.{find};
 ghost use Rattle.jsonc_tree.specs.Stored.{content_of};
 ghost use Rattle.jsonc_tree.specs.Tree.{children_at, is_in, parent_at};
@@ -8,7 +8,7 @@ ghost use Rattle.jsonc_lines.specs.Breadth.{has_whitespace, is_spaced, last_elem
 ghost use Rattle.jsonc_lines.specs.Kinds.{holds_values};
 ghost use Rattle.jsonc_insert.specs.Settings.{ends_line_still, first_sought, is_child, is_sought, stays_in};
 
-use jsonc_nodes::{children_from, is_element, is_newline, is_whitespace};
+use jsonc_nodes::{children_from, is_element, is_newline, is_whitespace, push_children};
 use jsonc_tree::{Kind, Tree};
 use std::alloc::{AllocError, Allocator};
 
@@ -135,21 +135,6 @@ fn first_in<A: Allocator>(
     None
 }
 
-// Adds the children of a node to a list.
-fn push_children<A: Allocator>(
-    list: &mut Vec<usize, A>,
-    tree: &Tree<A>,
-    node: usize,
-) -> Result<(), AllocError>
-    requires { node < length tree.now.nodes }
-    ensures { OnOk result (list.new.items ≡ list.old.items ++ children_at tree.now.nodes node) }
-{
-    for child in tree.children(node) {
-        list.push(child)?;
-    }
-    Ok(())
-}
-
 // The children of these nodes, in order.
 fn level_below<A: Allocator>(
     alloc: A,
@@ -166,15 +151,6 @@ fn level_below<A: Allocator>(
     Ok(below)
 }
 
-// A list with the same numbers.
-fn copied<A: Allocator>(alloc: A, row: &[usize]) -> Result<Vec<usize, A>, AllocError>
-    ensures { IfOk result (λ v. v.items ≡ row.now) }
-{
-    let mut copy = Vec::new(alloc);
-    copy.extend_from_slice(row)?;
-    Ok(copy)
-}
-
 /// The first node that is what is looked for, level after level from these nodes down.
 pub(crate) fn first_sought<A: Allocator + Copy>(
     alloc: A,
@@ -188,8 +164,7 @@ pub(crate) fn first_sought<A: Allocator + Copy>(
     ensures first { IfOk result (λ o. o ≡ first_sought tree.now.nodes container row.now sought start.now) }
     ensures there { IfOk result (λ o. IfSome o (λ m. m < length tree.now.nodes)) }
 {
-    let first = copied(alloc, start)?;
-    let mut level = first;
+    let mut level = Vec::from_slice(alloc, start)?;
     for _depth in 0..tree.len() {
         if level.is_empty() {
             return Ok(None);

@@ -1,5 +1,5 @@
 //! What a walk over the levels of a document tells of its layout.
-ghost use Rattle.std.specs.Prelude.{◌≡◌, ◌<◌, ◌++◌, All, IfOk, IfSome, OnOk, length, reverse};
+ghost use Rattle.std.specs.Prelude.{◌≡◌, ◌<◌, All, IfOk, IfSome, length, reverse};
 ghost use Rattle.std.specs.List.{find};
 ghost use Rattle.jsonc_tree.specs.Tree.{children_at};
 ghost use Rattle.jsonc_lines.specs.Breadth.{first_sought, has_whitespace, is_sought, is_spaced};
@@ -8,7 +8,7 @@ ghost use Rattle.jsonc_lines.specs.Breadth.{uses_trailing_commas_at};
 
 use crate::kinds::holds_values;
 use crate::siblings::trailing_comma;
-use jsonc_nodes::{children_from, is_element, is_newline, is_whitespace, root_node};
+use jsonc_nodes::{children_from, is_element, is_newline, is_whitespace, push_children, root_node};
 use jsonc_tree::{CstNewlineKind, Kind, Tree};
 use std::alloc::{AllocError, Allocator};
 
@@ -75,21 +75,6 @@ fn first_in<A: Allocator>(tree: &Tree<A>, sought: Sought, level: &[usize]) -> Op
         }
     }
     None
-}
-
-// Adds the children of a node to a list.
-fn push_children<A: Allocator>(
-    list: &mut Vec<usize, A>,
-    tree: &Tree<A>,
-    node: usize,
-) -> Result<(), AllocError>
-    requires { node < length tree.now.nodes }
-    ensures { OnOk result (list.new.items ≡ list.old.items ++ children_at tree.now.nodes node) }
-{
-    for child in tree.children(node) {
-        list.push(child)?;
-    }
-    Ok(())
 }
 
 // The children of these nodes, in order.

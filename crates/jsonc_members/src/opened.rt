@@ -22,13 +22,11 @@ fn enclosed<A: Allocator>(
     ensures { IfOk result (λ v. v.items ≡
         slice_index row.now 0 ∷ (inside.now ++ slice_index row.now (length row.now - 1) ∷ [])) }
 {
-    let first = row[0];
-    let last = row[row.len() - 1];
-    let mut enclosed = Vec::new(alloc);
-    enclosed.push(first)?;
-    enclosed.extend_from_slice(inside)?;
-    enclosed.push(last)?;
-    Ok(enclosed)
+    let mut lines = Vec::new(alloc);
+    lines.push(row[0])?;
+    lines.extend_from_slice(inside)?;
+    lines.push(row[row.len() - 1])?;
+    Ok(lines)
 }
 
 /// The row of an object on several lines, brackets among it, by the numbers of nodes: as it is where a

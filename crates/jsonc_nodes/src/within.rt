@@ -1,6 +1,6 @@
 //! The elements of a container: its children but trivia and tokens.
 
-ghost use Rattle.std.specs.Prelude.{◌≡◌, ◌<◌, length, IfOk};
+ghost use Rattle.std.specs.Prelude.{◌≡◌, ◌<◌, ◌++◌, length, IfOk, OnOk};
 ghost use Rattle.std.specs.List.{slice_get};
 ghost use Rattle.jsonc_tree.specs.Tree.{children_at};
 ghost use Rattle.jsonc_nodes.specs.Siblings.{AreThere, IsThere, element_index_at, elements_at};
@@ -10,6 +10,21 @@ use crate::kinds::is_element;
 use crate::siblings::{children_from, next_siblings, previous_siblings};
 use jsonc_tree::Tree;
 use std::alloc::{AllocError, Allocator};
+
+/// Adds the children of a node to a list, in order.
+pub fn push_children<A: Allocator, B: Allocator>(
+    list: &mut Vec<usize, B>,
+    tree: &Tree<A>,
+    node: usize,
+) -> Result<(), AllocError>
+    requires { node < length tree.now.nodes }
+    ensures { OnOk result (list.new.items ≡ list.old.items ++ children_at tree.now.nodes node) }
+{
+    for child in tree.children(node) {
+        list.push(child)?;
+    }
+    Ok(())
+}
 
 /// The children of a node, in order.
 pub fn children<A: Allocator, B: Allocator>(
@@ -21,11 +36,10 @@ pub fn children<A: Allocator, B: Allocator>(
     ensures children { IfOk result (λ v. v.items ≡ children_at tree.now.nodes node) }
     ensures there { IfOk result (λ v. AreThere tree.now.nodes v.items) }
 {
-    let mut row = Vec::new(alloc);
-    for child in children_from(tree, node, 0) {
-        row.push(child)?;
-    }
-    Ok(row)
+    let _ = tree.len();
+    let mut list = Vec::new(alloc);
+    push_children(&mut list, tree, node)?;
+    Ok(list)
 }
 
 /// The elements of a node, in order.
@@ -38,13 +52,14 @@ pub fn elements<A: Allocator, B: Allocator>(
     ensures elements { IfOk result (λ v. v.items ≡ elements_at tree.now.nodes node) }
     ensures there { IfOk result (λ v. AreThere tree.now.nodes v.items) }
 {
-    let mut row = Vec::new(alloc);
-    for child in children_from(tree, node, 0) {
+    let _ = tree.len();
+    let mut list = Vec::new(alloc);
+    for child in tree.children(node) {
         if is_element(tree, child) {
-            row.push(child)?;
+            list.push(child)?;
         }
     }
-    Ok(row)
+    Ok(list)
 }
 
 /// The element at a place among the elements of a node, counted from 0, or none where there are fewer.

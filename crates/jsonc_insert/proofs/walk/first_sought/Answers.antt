@@ -34,7 +34,7 @@ loop-depth-preserved g c =
     let ns = c.args.tree.now.nodes in
     let p = is_sought ns c.args.container c.args.row.now c.args.sought in
     let level : List ℕ = c.loop-depth.level.items in
-    let below : c.in_ok-level.level.items ≡ flat_map (children_at ns) level = c.in_ok-level.ensures.below ∙ ap (flat_map (children_at ns)) c.deref-in-loop-depth.ensures.value in
+    let below : c.in_ok-level-2.level.items ≡ flat_map (children_at ns) level = c.in_ok-level-2.ensures.below ∙ ap (flat_map (children_at ns)) c.deref-in-loop-depth.ensures.value in
     let none : find p level ≡ None = ap (find p) (sym c.deref.ensures.value) ∙ sym c.in_default.ensures.first in
     record {
       there = subst (λ (xs : List ℕ). All (λ m. m < length ns) xs) (sym below) (all_below ns c.len-depth-end.ensures.tree level);
