@@ -2,6 +2,7 @@
 
 use crate::edits::edited;
 use crate::inputs::inputs;
+use crate::named_values::named_values;
 use crate::trees::changed_tree;
 use crate::typed::{children, names};
 use refusing::outcome::Outcome;
@@ -13,15 +14,17 @@ pub enum Call {
     Inputs,
     Children,
     Names,
+    NamedValues,
     TreeChanges,
     Edits,
 }
 
 /// All of them, each with its name.
-pub const CALLS: [(Call, &str); 5] = [
+pub const CALLS: [(Call, &str); 6] = [
     (Call::Inputs, "inputs"),
     (Call::Children, "children"),
     (Call::Names, "names"),
+    (Call::NamedValues, "named values"),
     (Call::TreeChanges, "tree changes"),
     (Call::Edits, "edits"),
 ];
@@ -32,6 +35,7 @@ pub fn outcome_of<A: Allocator + Copy>(call: Call, alloc: A) -> Outcome {
         Call::Inputs => inputs(alloc),
         Call::Children => children(alloc),
         Call::Names => names(alloc),
+        Call::NamedValues => named_values(alloc),
         Call::TreeChanges => changed_tree(alloc),
         Call::Edits => edited(alloc),
     }

@@ -12,6 +12,8 @@ mod inputs;
 #[cfg(test)]
 mod lists;
 #[cfg(test)]
+mod named_values;
+#[cfg(test)]
 mod node_edits;
 #[cfg(test)]
 mod raw_edits;
@@ -29,3 +31,5 @@ mod typed;
 mod typed_edits;
 #[cfg(test)]
 mod typed_lines;
+#[cfg(test)]
+mod unasked;

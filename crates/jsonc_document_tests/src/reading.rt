@@ -4,8 +4,9 @@ ghost use Rattle.jsonc_cst.specs.Document.{Holds};
 
 use jsonc_parser::ParseOptions;
 use jsonc_parser::cst::{CstNode, CstRootNode, HasChildren};
+use refusing::Refusing;
 use refusing::outcome::Outcome;
-use std::alloc::Allocator;
+use std::alloc::{Allocator, Global};
 use std::default::Default;
 
 /// A text, read with all options on.
@@ -14,6 +15,13 @@ pub fn read<A: Allocator + Copy>(alloc: A, text: &str) -> Result<CstRootNode<A>,
         Ok(doc) => Ok(doc),
         Err(error) => Err(Outcome::from(error)),
     }
+}
+
+/// How many requests a text makes.
+pub fn asked_by(alloc: Global, text: &str) -> u64 {
+    let heap = Refusing::at(alloc, u64::MAX);
+    drop(read(&heap, text));
+    heap.asked()
 }
 
 /// A text that is read, and a word that an edit of it writes.

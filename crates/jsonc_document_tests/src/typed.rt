@@ -3,12 +3,14 @@ ghost use Rattle.std.specs.Prelude.{IfOk};
 ghost use Rattle.jsonc_cst.specs.Document.{Holds};
 ghost use Rattle.jsonc_cst.specs.Nodes.{array_node, object_prop_node};
 
-use crate::reading::read;
+use crate::reading::{asked_by, read};
 use jsonc_parser::cst::{
     CstArray, CstLeafNode, CstNode, CstObjectProp, CstRootNode, EditError, HasChildren, IsNode,
     ObjectPropName,
 };
+use refusing::Refusing;
 use refusing::awaited::prints;
+use refusing::in_turn::answers_in_turn;
 use refusing::outcome::Outcome;
 use std::alloc::{Allocator, Global};
 
@@ -19,7 +21,7 @@ const TEXT: &str = "/* c */ [1, 2,\n'\\x61'] // end";
 const ARRAY: &str = "[1, 2,\n'\\x61']";
 
 /// An object over lines, with a comment at the end of one.
-const SPREAD: &str = "{\n  \"a\": 1, // x\n  \"b\": [2]\n}";
+pub const SPREAD: &str = "{\n  \"a\": 1, // x\n  \"b\": [2]\n}";
 
 /// A name in quotes with an escape, and one without quotes.
 const NAMES: &str = "{\"\\u0061\": 'x\\ty', b: [2]} // end";
@@ -151,7 +153,7 @@ pub fn names<A: Allocator + Copy>(alloc: A) -> Outcome {
 }
 
 /// The properties are children 3 and 9 of the 12 of their object.
-fn are_properties<A: Allocator + Copy>(
+pub fn are_properties<A: Allocator + Copy>(
     doc: &CstRootNode<A>,
     first: CstObjectProp,
     second: CstObjectProp,
@@ -191,7 +193,7 @@ fn properties_stand<A: Allocator + Copy>(doc: &CstRootNode<A>) -> Outcome {
 }
 
 /// Before and after the object's first property stand 3 and 8 siblings.
-fn are_counted<A: Allocator>(doc: &CstRootNode<A>, object: CstNode, first: CstNode) -> bool
+pub fn are_counted<A: Allocator>(doc: &CstRootNode<A>, object: CstNode, first: CstNode) -> bool
     requires object { Holds doc.now object }
     requires first { Holds doc.now first }
 {
@@ -204,13 +206,14 @@ fn are_counted<A: Allocator>(doc: &CstRootNode<A>, object: CstNode, first: CstNo
 }
 
 /// Behind the object's first property is a comma.
-fn are_siblings<A: Allocator>(doc: &CstRootNode<A>, first: CstNode, comma: CstNode) -> bool
+pub fn are_siblings<A: Allocator>(doc: &CstRootNode<A>, first: CstNode, comma: CstNode) -> bool
     requires first { Holds doc.now first }
     requires comma { Holds doc.now comma }
 {
     let is_beside = first.next_sibling(doc) == Some(comma)
         && comma.previous_sibling(doc) == Some(first);
-    is_beside && first.root_node(doc) == Some(doc.root()) && comma.is_comma(doc)
+    let is_comma = comma.is_comma(doc) && comma.is_token() && !comma.is_trivia();
+    is_beside && first.root_node(doc) == Some(doc.root()) && is_comma
 }
 
 fn siblings_stand<A: Allocator + Copy>(doc: &CstRootNode<A>) -> Outcome {
@@ -263,8 +266,7 @@ fn values_stand<A: Allocator + Copy>(doc: &CstRootNode<A>) -> Outcome {
     }
 }
 
-/// The rows that typed nodes stand in. Lists that are collected ask again for less where they were
-/// refused, so one refusal need not show.
+/// The rows that typed nodes stand in.
 fn typed_rows<A: Allocator + Copy>(alloc: A) -> Outcome {
     match read(alloc, SPREAD) {
         Ok(doc) => properties_stand(&doc)
@@ -274,7 +276,22 @@ fn typed_rows<A: Allocator + Copy>(alloc: A) -> Outcome {
     }
 }
 
+/// Each list in the rows wants memory where all is refused once the text is read.
+fn lists_want_memory(alloc: Global) -> bool {
+    let heap = Refusing::after(alloc, asked_by(alloc, SPREAD));
+    match read(&heap, SPREAD) {
+        Ok(doc) => {
+            properties_stand(&doc) == Outcome::Wanted
+                && siblings_stand(&doc) == Outcome::Wanted
+                && values_stand(&doc) == Outcome::Wanted
+        }
+        Err(_) => false,
+    }
+}
+
 #[test]
 fn typed_nodes_stand_in_their_rows(rt: HostRuntime) {
     assert!(rt; typed_rows::<Global>(rt.alloc()) == Outcome::Answered);
+    assert!(rt; answers_in_turn(rt.alloc(), |heap| typed_rows(heap)));
+    assert!(rt; lists_want_memory(rt.alloc()));
 }

@@ -2,17 +2,14 @@
 ghost use Rattle.jsonc_cst.specs.Document.{Holds};
 
 use crate::reading::{child_at, read};
+use crate::typed::SPREAD;
 use jsonc_parser::cst::{
     CstComment, CstInputValue, CstNewlineKind, CstNode, CstRootNode, EditError, IsNode, Readings,
 };
-use refusing::Refusing;
 use refusing::in_turn::answers_in_turn;
 use refusing::outcome::Outcome;
 use std::alloc::{Allocator, Global};
 use std::test::Fail;
-
-/// An object over lines, with a comment at the end of one.
-const SPREAD: &str = "{\n  \"a\": 1, // x\n  \"b\": [2]\n}";
 
 /// Two values under one name, of which the last counts, at the place of the first.
 const NAMED: &str = "{\"a\":1,\"b\":2,\"a\":3}";
@@ -125,31 +122,6 @@ fn named<A: Allocator + Copy>(alloc: A) -> Outcome {
     }
 }
 
-/// What is told without memory: before no part is a blank line, and only the first property has a comma.
-fn unasked<A: Allocator + Copy>(doc: &CstRootNode<A>) -> bool {
-    match (child_at(doc, 3), child_at(doc, 9)) {
-        (Some(first), Some(second)) => {
-            let has_blank = first.has_blank_line_before(doc) || second.has_blank_line_before(doc);
-            !has_blank
-                && first.trailing_comma(doc).is_some()
-                && second.trailing_comma(doc).is_none()
-        }
-        _ => false,
-    }
-}
-
-/// How many requests the text makes, where nothing more is asked for what is told then.
-fn is_told_unasked(alloc: Global) -> bool {
-    let heap = Refusing::at(alloc, u64::MAX);
-    drop(read(&heap, SPREAD));
-    let asked = heap.asked();
-    let heap = Refusing::after(alloc, asked);
-    match read(&heap, SPREAD) {
-        Ok(doc) => unasked(&doc) && heap.asked() == asked,
-        Err(_) => false,
-    }
-}
-
 #[test]
 fn lines_are_told_in_turn(rt: HostRuntime) -> Result<(), Fail> {
     assert!(rt; spread::<Global>(rt.alloc()) == Outcome::Answered);
@@ -157,9 +129,4 @@ fn lines_are_told_in_turn(rt: HostRuntime) -> Result<(), Fail> {
     assert!(rt; named::<Global>(rt.alloc()) == Outcome::Answered);
     assert!(rt; answers_in_turn(rt.alloc(), |heap| named(heap)));
     Ok(())
-}
-
-#[test]
-fn other_readings_take_no_memory(rt: HostRuntime) {
-    assert!(rt; is_told_unasked(rt.alloc()));
 }

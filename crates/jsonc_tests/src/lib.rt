@@ -1,5 +1,5 @@
-//! Tests of reading: what no clause says of texts, values, maps and trees, of memory that is refused, and of
-//! streams that fail.
+//! Tests of reading: what no clause says of texts, values, maps and trees, of what is printed, of memory that is
+//! refused, and of streams that fail.
 //!
 //! `docs/BENCH.md` says what each test is of.
 #![tactic(auto)]
@@ -14,6 +14,8 @@ mod lines;
 mod maps;
 #[cfg(test)]
 mod nodes;
+#[cfg(test)]
+mod printed;
 #[cfg(test)]
 mod refusals;
 #[cfg(test)]

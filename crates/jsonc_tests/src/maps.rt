@@ -1,11 +1,13 @@
 //! Maps and objects.
 
 use jsonc_parser::{JsonObject, JsonValue, Map};
+use refusing::Refusing;
 use refusing::awaited::Awaited;
 use refusing::outcome::Outcome;
 use std::alloc::{AllocError, Allocator, Global};
 use std::borrow::CowStr;
 use std::fmt::Write;
+use std::test::Fail;
 
 fn two_pairs<A: Allocator>(
     alloc: A,
@@ -177,4 +179,30 @@ pub fn changed_map<A: Allocator + Copy>(alloc: A) -> Outcome {
 #[test]
 fn maps_are_changed_and_copied(rt: HostRuntime) {
     assert!(rt; changed_map::<Global>(rt.alloc()) == Outcome::Answered);
+}
+
+/// A map with room for so many pairs takes as many as it says that it can hold, and asks for nothing more.
+fn is_filled_unasked(alloc: Global, room: usize) -> bool {
+    let heap = Refusing::at(alloc, u64::MAX);
+    let Ok(map) = Map::with_capacity(&heap, room) else {
+        return false;
+    };
+    let mut map = map;
+    let asked = heap.asked();
+    let capacity = map.capacity();
+    for key in 0..capacity {
+        if map.insert(key, '-').is_err() {
+            return false;
+        }
+    }
+    capacity >= room && map.len() == capacity && heap.asked() == asked
+}
+
+#[test]
+fn maps_are_filled_to_their_capacity_unasked(rt: HostRuntime) -> Result<(), Fail> {
+    // Of up to 8 pairs no hashes are kept.
+    for room in [1usize, 8, 9, 20] {
+        assert!(rt; is_filled_unasked(rt.alloc(), room), "room for {room}");
+    }
+    Ok(())
 }

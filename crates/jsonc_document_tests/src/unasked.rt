@@ -1,0 +1,151 @@
+//! What typed nodes tell without memory.
+ghost use Rattle.jsonc_cst.specs.Document.{Holds};
+ghost use Rattle.jsonc_cst.specs.Nodes.{object_prop_node};
+ghost use Rattle.jsonc_cst.specs.declared.cst.node.CstNode.{CstNode};
+
+use crate::reading::{asked_by, child_at, read};
+use crate::typed::{SPREAD, are_counted, are_properties, are_siblings};
+use jsonc_parser::cst::{
+    CstContainerNode, CstLeafNode, CstNewlineKind, CstNode, CstObject, CstObjectProp, CstRootNode,
+    HasChildren, IsNode, Readings,
+};
+use refusing::Refusing;
+use refusing::awaited::prints;
+use std::alloc::{Allocator, Global};
+
+/// Leaves of each kind, in a property and in the array of the next one.
+const LEAVES: &str = "{a: \"b\", c: [true,false,null,1 /*c*/\n]}";
+
+const OF_PROPERTY: [&str; 4] = ["a", ":", " ", "\"b\""];
+
+const OF_ARRAY: [&str; 12] = [
+    "[", "true", ",", "false", ",", "null", ",", "1", " ", "/*c*/", "\n", "]",
+];
+
+/// Whether a leaf holds this text, or what it stands for.
+fn is_leaf<A: Allocator>(doc: &CstRootNode<A>, leaf: CstLeafNode, text: &str) -> bool
+    requires { Holds doc.now (CstNode.Leaf leaf) }
+{
+    match leaf {
+        CstLeafNode::BooleanLit(boolean) => boolean.value(doc) == (text == "true"),
+        CstLeafNode::NullKeyword(_) => text == "null",
+        CstLeafNode::NumberLit(number) => number.raw_value(doc) == text,
+        CstLeafNode::StringLit(string) => string.raw_value(doc) == text,
+        CstLeafNode::WordLit(word) => word.raw_value(doc) == text,
+        CstLeafNode::Token(token) => {
+            leaf.node().token_char(doc) == Some(token.value(doc))
+                && text.starts_with(token.value(doc))
+        }
+        CstLeafNode::Whitespace(blanks) => blanks.value(doc) == text,
+        CstLeafNode::Newline(newline) => newline.kind(doc) == CstNewlineKind::LineFeed,
+        CstLeafNode::Comment(comment) => {
+            comment.raw_value(doc) == text && !comment.is_line_comment(doc)
+        }
+    }
+}
+
+/// Whether the children of a node are leaves that hold these texts and print them.
+fn are_leaves<A: Allocator>(doc: &CstRootNode<A>, node: CstNode, texts: &[&str]) -> bool
+    requires { Holds doc.now node }
+{
+    for (place, text) in texts.iter().enumerate() {
+        let Some(CstNode::Leaf(leaf)) = node.child_at_index(doc, place) else {
+            return false;
+        };
+        if !is_leaf(doc, leaf, text) || !prints(&leaf.shown(doc), text) {
+            return false;
+        }
+    }
+    node.child_at_index(doc, texts.len()) == None
+}
+
+/// The leaves of a property and of the value of the next one.
+fn leaves_told<A: Allocator>(doc: &CstRootNode<A>) -> bool {
+    let (Some(first), Some(CstNode::Container(CstContainerNode::ObjectProp(second)))) = (
+        child_at(doc, 1),
+        child_at(doc, 4),
+    ) else {
+        return false;
+    };
+    match second.value(doc) {
+        Some(array) => are_leaves(doc, first, &OF_PROPERTY) && are_leaves(doc, array, &OF_ARRAY),
+        None => false,
+    }
+}
+
+/// Above the element under a name stand its array, the property, the object and the root.
+fn is_below<A: Allocator>(doc: &CstRootNode<A>, object: CstObject, property: CstObjectProp) -> bool
+    requires { Holds doc.now (object_prop_node property) }
+{
+    let Some(array) = property.array_value(doc) else {
+        return false;
+    };
+    let Some(element) = array.child_at_index(doc, 1) else {
+        return false;
+    };
+    let mut above = element.ancestors(doc);
+    element.element_index(doc) == Some(0)
+        && element.parent(doc) == Some(CstContainerNode::Array(array))
+        && above.next() == Some(CstContainerNode::Array(array))
+        && above.next() == Some(CstContainerNode::ObjectProp(property))
+        && above.next() == Some(CstContainerNode::Object(object))
+        && above.next() == Some(CstContainerNode::Root(doc.root()))
+        && above.next() == None
+}
+
+/// Before no property is a blank line, and only the first one has a comma.
+fn lines_told<A: Allocator>(
+    doc: &CstRootNode<A>,
+    first: CstObjectProp,
+    second: CstObjectProp,
+) -> bool
+    requires first { Holds doc.now (object_prop_node first) }
+    requires second { Holds doc.now (object_prop_node second) }
+{
+    let has_blank = first.has_blank_line_before(doc) || second.has_blank_line_before(doc);
+    !has_blank && first.trailing_comma(doc).is_some() && second.trailing_comma(doc).is_none()
+}
+
+/// The properties of an object over lines, and what is around them.
+fn rows_told<A: Allocator + Copy>(doc: &CstRootNode<A>) -> bool {
+    let (
+        Some(object),
+        Some(CstNode::Container(CstContainerNode::ObjectProp(first))),
+        Some(comma),
+        Some(CstNode::Container(CstContainerNode::ObjectProp(second))),
+    ) = (
+        doc.object_value(),
+        child_at(doc, 3),
+        child_at(doc, 4),
+        child_at(doc, 9),
+    ) else {
+        return false;
+    };
+    are_siblings(doc, CstNode::from(first), comma)
+        && are_counted(doc, CstNode::from(object), CstNode::from(first))
+        && are_properties(doc, first, second)
+        && is_below(doc, object, second)
+        && lines_told(doc, first, second)
+}
+
+/// Whether this is told of a text though all is refused once it is read, and nothing asked for.
+fn is_told_unasked<T: Fn(&CstRootNode<&Refusing<Global>>) -> bool>(
+    alloc: Global,
+    text: &str,
+    told: T,
+) -> bool
+    requires { T.IsAlwaysCallable told }
+{
+    let asked = asked_by(alloc, text);
+    let heap = Refusing::after(alloc, asked);
+    match read(&heap, text) {
+        Ok(doc) => told(&doc) && heap.asked() == asked,
+        Err(_) => false,
+    }
+}
+
+#[test]
+fn other_readings_take_no_memory(rt: HostRuntime) {
+    assert!(rt; is_told_unasked(rt.alloc(), SPREAD, |doc| rows_told(doc)));
+    assert!(rt; is_told_unasked(rt.alloc(), LEAVES, |doc| leaves_told(doc)));
+}

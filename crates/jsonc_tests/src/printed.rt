@@ -1,0 +1,64 @@
+//! What is printed, in each format and of each reason for a refusal.
+
+use jsonc_engine::fault::Fault;
+use jsonc_parser::cst::{CstRootNode, EditError};
+use jsonc_parser::{ParseOptions, parse_to_value};
+use refusing::awaited::{Awaited, prints};
+use std::alloc::Global;
+use std::default::Default;
+use std::fmt;
+use std::fmt::Write;
+use std::test::Fail;
+
+/// Why a document was not changed, and what that prints.
+const EDIT_ERRORS: [(EditError, &str); 4] = [
+    (EditError::OutOfMemory, "Out of memory"),
+    (EditError::MissingBrackets, "Missing brackets"),
+    (EditError::MissingName, "Missing name"),
+    (EditError::NoSuchPlace, "No such place"),
+];
+
+#[test]
+fn reasons_of_edits_are_printed(rt: HostRuntime) -> Result<(), Fail> {
+    for (error, text) in EDIT_ERRORS {
+        assert!(rt; prints(&error, text), "{text}");
+    }
+    assert!(rt; prints(&Fault::Edit(EditError::OutOfMemory), "jsonc: Out of memory"));
+    Ok(())
+}
+
+/// A document of fewer than 60 bytes.
+const TEXT: &str = "{\"a\": [1, 0x2], // c\n b: true, 'c': null}\r\n";
+
+/// Whether something prints this, whatever the options of the format.
+fn prints_alike<T: fmt::Display>(shown: &T, text: &str) -> bool {
+    let mut printed = Awaited {
+        rest: text.as_bytes(),
+    };
+    let is_alternate = write!(printed, "{shown:#}").is_ok() && printed.rest.is_empty();
+    printed.rest = text.as_bytes();
+    let is_wide = write!(printed, "{shown:60}").is_ok() && printed.rest.is_empty();
+    printed.rest = text.as_bytes();
+    let is_precise = write!(printed, "{shown:.3}").is_ok() && printed.rest.is_empty();
+    is_alternate && is_wide && is_precise
+}
+
+fn document_prints_alike(alloc: Global) -> bool {
+    match CstRootNode::parse(alloc, TEXT, &ParseOptions::default()) {
+        Ok(document) => prints_alike(&document, TEXT),
+        Err(_) => false,
+    }
+}
+
+fn fault_prints_alike(alloc: Global) -> bool {
+    match parse_to_value(alloc, "[1,\n @]", &ParseOptions::default()) {
+        Ok(_) => false,
+        Err(error) => prints_alike(&error, "Unexpected token on line 2 column 2"),
+    }
+}
+
+#[test]
+fn options_of_a_format_change_nothing(rt: HostRuntime) {
+    assert!(rt; document_prints_alike(rt.alloc()));
+    assert!(rt; fault_prints_alike(rt.alloc()));
+}
