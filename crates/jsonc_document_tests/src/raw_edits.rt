@@ -1,9 +1,10 @@
-//! Documents after leaves of theirs were written anew or taken out as they stand.
+//! Documents after leaves of theirs were written anew or taken out as they stand, and parts that have left.
 
 use crate::reading::{child_at, prepared};
 use jsonc_parser::ParseStringErrorKind;
 use jsonc_parser::cst::{
-    CstLeafNode, CstNode, CstRootNode, EditError, IsNode, Remove, RemoveLeaf, SetRawValue,
+    CstContainerNode, CstInputValue, CstLeafNode, CstNode, CstRootNode, EditError, InsertElement,
+    IsNode, Remove, RemoveLeaf, SetRawValue,
 };
 use refusing::awaited::prints;
 use refusing::outcome::Outcome;
@@ -17,15 +18,19 @@ enum Damage {
     Bracket,
     Comma,
     Element,
+    /// An array leaves, and then takes a number: it prints this.
+    Array(&'static str),
     String,
 }
 
 /// Each with its name, the text, and the word that is written.
-const ROWS: [(Damage, &str, &str); 5] = [
+const ROWS: [(Damage, &str, &str); 7] = [
     (Damage::Comment, "[1 /*a*/]", "x"),
     (Damage::Bracket, "[1]", ""),
     (Damage::Comma, "[1,2]", ""),
     (Damage::Element, "[1, 2]", ""),
+    (Damage::Array("[1, 7]"), "[[1], 2]", "7"),
+    (Damage::Array("[\r\n1,\n  7\r\n]"), "[[\r\n1\r\n], 2]", "7"),
     (Damage::String, "[\"a\"]", "abc"),
 ];
 
@@ -81,6 +86,18 @@ fn element<A: Allocator + Copy>(doc: &mut CstRootNode<A>) -> Outcome {
     first.then(second).then(Outcome::of(is_left))
 }
 
+/// To an array that has left a number comes, on a line that ends by LF if the array has lines, and the document
+/// stays as it is.
+fn array<A: Allocator + Copy>(doc: &mut CstRootNode<A>, word: String<A>, wanted: &str) -> Outcome {
+    let Some(CstNode::Container(CstContainerNode::Array(array))) = child_at(doc, 1) else {
+        return Outcome::Other;
+    };
+    let removed = Outcome::of_answer(array.remove(doc), &());
+    let is_put = array.append(doc, CstInputValue::Number(word)).is_ok();
+    let is_grown = prints(&array.shown(doc), wanted) && prints(&*doc, "[ 2]");
+    removed.then(Outcome::of(is_put && is_grown))
+}
+
 /// A string without quotes stands for nothing.
 fn string<A: Allocator + Copy>(doc: &mut CstRootNode<A>, word: String<A>) -> Outcome {
     let Some(CstNode::Leaf(CstLeafNode::StringLit(string))) = child_at(doc, 1) else {
@@ -101,6 +118,7 @@ fn damaged<A: Allocator + Copy>(doc: CstRootNode<A>, damage: Damage, word: Strin
         Damage::Bracket => bracket(&mut doc),
         Damage::Comma => comma(&mut doc),
         Damage::Element => element(&mut doc),
+        Damage::Array(wanted) => array(&mut doc, word, wanted),
         Damage::String => string(&mut doc, word),
     }
 }

@@ -1,7 +1,7 @@
 //! Values that come into arrays, and the memory that this wants.
 
 use crate::reading::read;
-use jsonc_parser::cst::{CstInputValue, CstNode, CstRootNode, Edit, InsertElement, run};
+use jsonc_parser::cst::{CstInputValue, CstNode, CstRootNode, Edit, EditError, InsertElement, run};
 use refusing::Refusing;
 use refusing::awaited::prints;
 use refusing::in_turn::answers_in_turn;
@@ -124,6 +124,28 @@ fn listed<A: Allocator + Copy>(alloc: A) -> Outcome {
     }
 }
 
+/// Whether the list stops at its second edit where the request of this number is refused.
+fn stops_at_second(alloc: Global, number: u64) -> bool {
+    let heap = Refusing::at(alloc, number);
+    let (Ok(doc), Ok(edits)) = (read(&heap, "[1]"), edits(&heap)) else {
+        return false;
+    };
+    let mut doc = doc;
+    let compare = |_doc: &CstRootNode<_>, _one: CstNode, _other: CstNode| Ordering::Equal;
+    let done = run(&mut doc, edits, &compare);
+    done == Err((1, EditError::OutOfMemory)) && prints(&doc, "[1, 2]")
+}
+
+/// Whether it does so for some request.
+fn stops_at_second_for_some(alloc: Global) -> bool {
+    for number in 0..1000u64 {
+        if stops_at_second(alloc, number) {
+            return true;
+        }
+    }
+    false
+}
+
 /// What comes of it where every request is refused once the text is read and the value made.
 fn refused_at_last(alloc: Global) -> Outcome {
     let counted = Refusing::at(alloc, u64::MAX);
@@ -139,6 +161,7 @@ fn values_that_come_in_are_refused_in_turn(rt: HostRuntime) -> Result<(), Fail> 
     assert!(rt; answers_in_turn(rt.alloc(), |heap| inserted(heap)));
     assert!(rt; answers_in_turn(rt.alloc(), |heap| inserted_by_list(heap)));
     assert!(rt; answers_in_turn(rt.alloc(), |heap| listed(heap)));
+    assert!(rt; stops_at_second_for_some(rt.alloc()));
     assert!(rt; refused_at_last(rt.alloc()) == Outcome::Wanted);
     Ok(())
 }

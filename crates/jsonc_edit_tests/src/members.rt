@@ -8,7 +8,7 @@ use jsonc_parser::cst::{
 use refusing::awaited::prints;
 use refusing::in_turn::answers_in_turn;
 use refusing::outcome::Outcome;
-use std::alloc::{AllocError, Allocator};
+use std::alloc::{AllocError, Allocator, Global};
 use std::cmp::Ordering;
 use std::test::Fail;
 
@@ -24,17 +24,31 @@ const WITH_OBJECT: &str = "{\n  \"a\":1,\n  \"b\": {}\n}";
 
 const WITH_ARRAY: &str = "{\n  \"a\":1,\n  \"b\": []\n}";
 
-const GIVEN_WAY: &str = "{\"a\":[]}";
+/// An object whose property is no array.
+const SPACED: &str = "{\"a\": 1}";
 
-/// What an edit came to: a document prints this then, or what it did where memory was wanted.
+/// A text, the name of a property, what its value is to be, whether another value gives way, and the text then.
+type Row = (&'static str, &'static str, Shape, Over, &'static str);
+
+const BY_NAME: [Row; 6] = [
+    (SHORT, "b", Shape::Object, Over::Keep, WITH_OBJECT),
+    (SHORT, "b", Shape::Object, Over::Replace, WITH_OBJECT),
+    (SHORT, "b", Shape::Array, Over::Keep, WITH_ARRAY),
+    (SHORT, "b", Shape::Array, Over::Replace, WITH_ARRAY),
+    (SPACED, "a", Shape::Array, Over::Keep, SPACED),
+    (SPACED, "a", Shape::Array, Over::Replace, "{\"a\": []}"),
+];
+
+/// What an edit came to: a document prints the new text then, or the old one where memory was wanted.
 fn outcome<A: Allocator, T: Drop>(
     doc: &CstRootNode<A>,
     answer: Result<T, EditError>,
-    wanted: &str,
+    old: &str,
+    new: &str,
 ) -> Outcome {
     match answer {
-        Ok(_) => Outcome::of(prints(doc, wanted)),
-        Err(error) if prints(doc, SHORT) => Outcome::from(error),
+        Ok(_) => Outcome::of(prints(doc, new)),
+        Err(error) if prints(doc, old) => Outcome::from(error),
         Err(_) => Outcome::Other,
     }
 }
@@ -48,7 +62,7 @@ fn appended<A: Allocator + Copy>(alloc: A) -> Outcome {
         return Outcome::Other;
     };
     let answer = object.append(&mut doc, "b", CstInputValue::Bool(true));
-    outcome(&doc, answer, APPENDED)
+    outcome(&doc, answer, SHORT, APPENDED)
 }
 
 fn inserted<A: Allocator + Copy>(alloc: A) -> Outcome {
@@ -60,18 +74,13 @@ fn inserted<A: Allocator + Copy>(alloc: A) -> Outcome {
         return Outcome::Other;
     };
     let answer = object.insert(&mut doc, 0, "b", CstInputValue::Bool(true));
-    outcome(&doc, answer, INSERTED)
+    outcome(&doc, answer, SHORT, INSERTED)
 }
 
-/// A call by a name on the document's object, what it is to answer, and what is printed then.
-fn by_name<A: Allocator + Copy>(
-    alloc: A,
-    name: &str,
-    shape: Shape,
-    over: Over,
-    wanted: &str,
-) -> Outcome {
-    let mut doc = match read(alloc, SHORT) {
+/// The call of a row on its document's object.
+fn by_name<A: Allocator + Copy>(alloc: A, row: &Row) -> Outcome {
+    let (old, name, shape, over, new) = *row;
+    let mut doc = match read(alloc, old) {
         Ok(doc) => doc,
         Err(outcome) => return outcome,
     };
@@ -81,21 +90,33 @@ fn by_name<A: Allocator + Copy>(
     match (shape, over) {
         (Shape::Object, Over::Keep) => {
             let answer = object.object_value_or_create(&mut doc, name);
-            outcome(&doc, answer, wanted)
+            outcome(&doc, answer, old, new)
         }
         (Shape::Object, Over::Replace) => {
             let answer = object.object_value_or_set(&mut doc, name);
-            outcome(&doc, answer, wanted)
+            outcome(&doc, answer, old, new)
         }
         (Shape::Array, Over::Keep) => {
             let answer = object.array_value_or_create(&mut doc, name);
-            outcome(&doc, answer, wanted)
+            outcome(&doc, answer, old, new)
         }
         (Shape::Array, Over::Replace) => {
             let answer = object.array_value_or_set(&mut doc, name);
-            outcome(&doc, answer, wanted)
+            outcome(&doc, answer, old, new)
         }
     }
+}
+
+/// Whether no array is answered where a number stands under the name, and nothing changes.
+fn is_kept(alloc: Global) -> bool {
+    let Ok(mut doc) = read(alloc, SPACED) else {
+        return false;
+    };
+    let Some(object) = doc.object_value() else {
+        return false;
+    };
+    let found = object.array_value_or_create(&mut doc, "a");
+    matches!(found, Ok(None)) && prints(&doc, SPACED)
 }
 
 /// The edits of a list that makes an object of one property one of three, the last with an array.
@@ -160,27 +181,10 @@ fn properties_that_come_in_are_refused_in_turn(rt: HostRuntime) -> Result<(), Fa
 
 #[test]
 fn values_by_name_are_refused_in_turn(rt: HostRuntime) -> Result<(), Fail> {
-    let (object, array) = (Shape::Object, Shape::Array);
-    let (keep, replace) = (Over::Keep, Over::Replace);
-    assert!(rt;
-        answers_in_turn(
-            rt.alloc(),
-            |heap| by_name(heap, "b", object, keep, WITH_OBJECT)
-        )
-    );
-    assert!(rt;
-        answers_in_turn(
-            rt.alloc(),
-            |heap| by_name(heap, "b", array, replace, WITH_ARRAY)
-        )
-    );
-    assert!(rt;
-        answers_in_turn(
-            rt.alloc(),
-            |heap| by_name(heap, "a", array, replace, GIVEN_WAY)
-        )
-    );
-    assert!(rt; by_name(rt.alloc(), "a", array, keep, SHORT) == Outcome::Answered);
-    assert!(rt; by_name(rt.alloc(), "b", object, replace, WITH_OBJECT) == Outcome::Answered);
+    for row in &BY_NAME {
+        let answers = answers_in_turn(rt.alloc(), |heap| by_name(heap, row));
+        assert!(rt; answers, "{} to {}", row.0, row.4);
+    }
+    assert!(rt; is_kept(rt.alloc()));
     Ok(())
 }

@@ -1,7 +1,7 @@
 //! Arrays and objects that are put on several lines, and the memory that this wants.
 
 use crate::reading::read;
-use jsonc_parser::cst::{CstNode, CstRootNode, Edit, EnsureMultiline, run};
+use jsonc_parser::cst::{CstNode, CstRootNode, Edit, EditError, EnsureMultiline, run};
 use refusing::Refusing;
 use refusing::awaited::prints;
 use refusing::in_turn::answers_in_turn;
@@ -17,22 +17,35 @@ const SPREAD: &str = "{\n  \"a\":1,\n  \"b\":[2]\n}";
 
 const WIDE: &str = "{\n  \"a\":1,\n  \"b\":[\n    2\n  ]\n}";
 
-/// Puts the object of a document on several lines: it prints the text then, or what it did where memory was wanted.
-fn spread_object<A: Allocator + Copy>(doc: CstRootNode<A>, old: &str, new: &str) -> Outcome {
+/// An array on one line, and the same on several.
+const FLAT_ARRAY: &str = "[1, [2]]";
+
+const SPREAD_ARRAY: &str = "[\n  1,\n  [2]\n]";
+
+/// Puts the object or array of a document on several lines.
+fn spread_value<A: Allocator + Copy>(doc: &mut CstRootNode<A>) -> Result<(), EditError> {
+    if let Some(object) = doc.object_value() {
+        return object.ensure_multiline(doc);
+    }
+    match doc.array_value() {
+        Some(array) => array.ensure_multiline(doc),
+        None => Err(EditError::NoSuchPlace),
+    }
+}
+
+/// What comes of that: it prints the text then, or what it did where memory was wanted.
+fn spread_out<A: Allocator + Copy>(doc: CstRootNode<A>, old: &str, new: &str) -> Outcome {
     let mut doc = doc;
-    let Some(object) = doc.object_value() else {
-        return Outcome::Other;
-    };
-    match object.ensure_multiline(&mut doc) {
+    match spread_value(&mut doc) {
         Ok(()) => Outcome::of(prints(&doc, new)),
         Err(error) if prints(&doc, old) => Outcome::from(error),
         Err(_) => Outcome::Other,
     }
 }
 
-fn spread<A: Allocator + Copy>(alloc: A) -> Outcome {
-    match read(alloc, FLAT) {
-        Ok(doc) => spread_object(doc, FLAT, SPREAD),
+fn spread<A: Allocator + Copy>(alloc: A, old: &str, new: &str) -> Outcome {
+    match read(alloc, old) {
+        Ok(doc) => spread_out(doc, old, new),
         Err(outcome) => outcome,
     }
 }
@@ -71,22 +84,32 @@ fn refused_after_reading(alloc: Global, old: &str, new: &str) -> Outcome {
     let counted = Refusing::at(alloc, u64::MAX);
     drop(read(&counted, old));
     let heap = Refusing::after(alloc, counted.asked());
-    match read(&heap, old) {
-        Ok(doc) => spread_object(doc, old, new),
-        Err(_) => Outcome::Other,
-    }
+    spread(&heap, old, new)
 }
 
 #[test]
 fn lines_are_refused_in_turn(rt: HostRuntime) -> Result<(), Fail> {
-    assert!(rt; answers_in_turn(rt.alloc(), |heap| spread(heap)));
+    for (old, new) in [(FLAT, SPREAD), (FLAT_ARRAY, SPREAD_ARRAY)] {
+        assert!(rt;
+            answers_in_turn(rt.alloc(), |heap| spread(heap, old, new)),
+            "{old}"
+        );
+        assert!(rt;
+            refused_after_reading(rt.alloc(), old, new) == Outcome::Wanted,
+            "{old}"
+        );
+    }
     assert!(rt; answers_in_turn(rt.alloc(), |heap| listed(heap)));
-    assert!(rt; refused_after_reading(rt.alloc(), FLAT, SPREAD) == Outcome::Wanted);
     Ok(())
 }
 
 #[test]
 fn lines_that_stand_take_no_memory(rt: HostRuntime) -> Result<(), Fail> {
-    assert!(rt; refused_after_reading(rt.alloc(), SPREAD, SPREAD) == Outcome::Answered);
+    for text in [SPREAD, SPREAD_ARRAY] {
+        assert!(rt;
+            refused_after_reading(rt.alloc(), text, text) == Outcome::Answered,
+            "{text}"
+        );
+    }
     Ok(())
 }

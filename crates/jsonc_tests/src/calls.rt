@@ -46,10 +46,14 @@ pub enum Call {
     SetFirst,
     Sorted,
     WholeRun,
+    WholeAppend,
+    WholeSet,
+    WholeSetOfNew,
+    WholeRemoval,
 }
 
 /// Those that want memory wherever a request is refused, each with its name.
-pub const CALLS: [(Call, &str); 16] = [
+pub const CALLS: [(Call, &str); 17] = [
     (Call::Decode, "decode"),
     (Call::DecodeProvided, "decode provided"),
     (Call::Scan, "scan"),
@@ -66,14 +70,18 @@ pub const CALLS: [(Call, &str); 16] = [
     (Call::BytesToBytes, "bytes to bytes"),
     (Call::Removal, "removal"),
     (Call::WholeRun, "whole run"),
+    (Call::WholeRemoval, "whole removal"),
 ];
 
 /// Those that collect a list, which asks again for less where its first request was refused.
-pub const COLLECTING: [(Call, &str); 4] = [
+pub const COLLECTING: [(Call, &str); 7] = [
     (Call::Appended, "appended"),
     (Call::Set, "set"),
     (Call::SetFirst, "set first"),
     (Call::Sorted, "sorted"),
+    (Call::WholeAppend, "whole append"),
+    (Call::WholeSet, "whole set"),
+    (Call::WholeSetOfNew, "whole set of a new name"),
 ];
 
 /// A text of plain JSON, with more elements and properties than a list has room for at first.
@@ -94,6 +102,13 @@ const COMMENT_BEFORE: &str = "[1, //c\n  2\n]";
 const UNSORTED: &str = "{\"b\": 1, // one\n \"a\": 2}";
 
 const SORTED: &str = "{\"a\": 2,\n \"b\": 1 // one\n}";
+
+/// The same with another value, with one property more, and with one less.
+const CHANGED: &str = "{\"b\": 1, // one\n \"a\": [true]}";
+
+const LONGER: &str = "{\"b\": 1, // one\n \"a\": 2,\n \"c\": [true]}";
+
+const SHORTER: &str = "{\"b\": 1 // one\n}";
 
 /// One with comments, an escape and looser spelling.
 const LOOSE: &str = "// one\n[{a: '\\x62', 0x1F: +.5, c: Infinity,}, /* two */ [NaN -1]]";
@@ -131,7 +146,11 @@ pub fn outcome_of<A: Allocator + Copy>(call: Call, alloc: A) -> Outcome {
         Call::Set => changed(alloc, Command::Set("a", "1"), "{\"a\":0}", "{\"a\":1}"),
         Call::SetFirst => changed(alloc, Command::Set("a", "1"), "", "{\n  \"a\": 1\n}\n"),
         Call::Sorted => changed(alloc, Command::Sort, UNSORTED, SORTED),
-        Call::WholeRun => whole_run(alloc),
+        Call::WholeRun => whole_run(alloc, &["print"], PLAIN, PLAIN),
+        Call::WholeAppend => whole_run(alloc, &["append", "2"], COMMENT_INSIDE, COMMENT_BEFORE),
+        Call::WholeSet => whole_run(alloc, &["set", "a", "[true]"], UNSORTED, CHANGED),
+        Call::WholeSetOfNew => whole_run(alloc, &["set", "c", "[true]"], UNSORTED, LONGER),
+        Call::WholeRemoval => whole_run(alloc, &["remove", "a"], UNSORTED, SHORTER),
     }
 }
 
@@ -277,13 +296,20 @@ fn changed<A: Allocator + Copy>(alloc: A, command: Command, input: &str, wanted:
     }
 }
 
-fn whole_run<A: Allocator + Copy>(alloc: A) -> Outcome {
-    let mut source = FromReader::new(PLAIN.as_bytes());
+/// What comes of a run of the program: nothing is written where memory was wanted.
+fn whole_run<A: Allocator + Copy>(
+    alloc: A,
+    words: &[&str],
+    input: &'static str,
+    wanted: &'static str,
+) -> Outcome {
+    let mut source = FromReader::new(input.as_bytes());
     let mut sink = ToWriter::new(Awaited {
-        rest: PLAIN.as_bytes(),
+        rest: wanted.as_bytes(),
     });
-    match engine(alloc, &["print"], &mut source, &mut sink) {
+    match engine(alloc, words, &mut source, &mut sink) {
         Ok(()) => Outcome::of(sink.writer.rest.is_empty()),
-        Err(fault) => of_fault(fault),
+        Err(fault) if sink.writer.rest.len() == wanted.len() => of_fault(fault),
+        Err(_) => Outcome::Other,
     }
 }

@@ -76,33 +76,62 @@ struct Case {
 
 const TEXT: &[u8] = b"[1, [2], \"three\", {\"four\": 5}]";
 
-// Seven reads bring the text: six of five bytes, and one that finds the end. It has 19 pieces, of which the two
-// strings take two writes each.
-const PRINT: Case = Case {
-    words: &["print"],
-    input: TEXT,
-    reads: 7,
-    written: TEXT,
-    writes: 22,
-};
+/// An object with a comment behind its first property.
+const OBJECT: &[u8] = b"{\"b\": 1, // one\n \"a\": 2}";
 
-// One element more is three pieces more.
-const APPEND: Case = Case {
-    words: &["append", "6"],
-    input: TEXT,
-    reads: 7,
-    written: b"[1, [2], \"three\", {\"four\": 5}, 6]",
-    writes: 25,
-};
-
-// It has 16 pieces when it is sorted, of which the comment takes two writes.
-const SORT: Case = Case {
-    words: &["sort"],
-    input: b"{\"b\": 1, // one\n \"a\": 2}",
-    reads: 6,
-    written: b"{\"a\": 2,\n \"b\": 1 // one\n}",
-    writes: 18,
-};
+/// The array takes seven reads: six of five bytes, and one that finds the end. The object takes six. Each piece
+/// of what is written takes one write, but two where it is longer than five bytes, as the strings of the array
+/// and the comment are; and one call more is the flush.
+const CASES: [Case; 6] = [
+    Case {
+        words: &["print"],
+        input: TEXT,
+        reads: 7,
+        written: TEXT,
+        // 19 pieces, with two strings.
+        writes: 22,
+    },
+    Case {
+        words: &["append", "6"],
+        input: TEXT,
+        reads: 7,
+        written: b"[1, [2], \"three\", {\"four\": 5}, 6]",
+        // Three pieces more.
+        writes: 25,
+    },
+    Case {
+        words: &["sort"],
+        input: OBJECT,
+        reads: 6,
+        written: b"{\"a\": 2,\n \"b\": 1 // one\n}",
+        // 16 pieces, with the comment.
+        writes: 18,
+    },
+    Case {
+        words: &["set", "a", "[true]"],
+        input: OBJECT,
+        reads: 6,
+        written: b"{\"b\": 1, // one\n \"a\": [true]}",
+        // 17 pieces, with the comment.
+        writes: 19,
+    },
+    Case {
+        words: &["set", "c", "[true]"],
+        input: OBJECT,
+        reads: 6,
+        written: b"{\"b\": 1, // one\n \"a\": 2,\n \"c\": [true]}",
+        // 24 pieces, with the comment.
+        writes: 26,
+    },
+    Case {
+        words: &["remove", "a"],
+        input: OBJECT,
+        reads: 6,
+        written: b"{\"b\": 1 // one\n}",
+        // 9 pieces, with the comment.
+        writes: 11,
+    },
+];
 
 /// A run of a command over a text, with so many reads and so many writes and flushes that succeed, and what it
 /// wrote.
@@ -158,51 +187,39 @@ fn writes_all(alloc: Global, case: &Case, reads: usize, writes: usize) -> bool {
 
 #[test]
 fn a_failed_read_leaves_nothing_written(rt: HostRuntime) -> Result<(), Fail> {
-    for reads in 0..PRINT.reads {
+    for case in &CASES {
+        for reads in 0..case.reads {
+            assert!(rt;
+                fails_to_read(rt.alloc(), case, reads),
+                "{:?} after {reads} reads",
+                case.words
+            );
+        }
         assert!(rt;
-            fails_to_read(rt.alloc(), &PRINT, reads),
-            "print after {reads} reads"
-        );
-        assert!(rt;
-            fails_to_read(rt.alloc(), &APPEND, reads),
-            "append after {reads} reads"
-        );
-    }
-    for reads in 0..SORT.reads {
-        assert!(rt;
-            fails_to_read(rt.alloc(), &SORT, reads),
-            "sort after {reads} reads"
+            writes_all(rt.alloc(), case, case.reads, 100),
+            "{:?}",
+            case.words
         );
     }
-    assert!(rt; writes_all(rt.alloc(), &PRINT, PRINT.reads, 100));
-    assert!(rt; writes_all(rt.alloc(), &APPEND, APPEND.reads, 100));
-    assert!(rt; writes_all(rt.alloc(), &SORT, SORT.reads, 100));
     Ok(())
 }
 
 #[test]
 fn a_failed_write_leaves_a_beginning(rt: HostRuntime) -> Result<(), Fail> {
-    for writes in 0..PRINT.writes {
+    for case in &CASES {
+        for writes in 0..case.writes {
+            assert!(rt;
+                fails_to_write(rt.alloc(), case, writes),
+                "{:?} after {writes} writes",
+                case.words
+            );
+        }
         assert!(rt;
-            fails_to_write(rt.alloc(), &PRINT, writes),
-            "print after {writes} writes"
+            writes_all(rt.alloc(), case, 100, case.writes),
+            "{:?}",
+            case.words
         );
     }
-    for writes in 0..APPEND.writes {
-        assert!(rt;
-            fails_to_write(rt.alloc(), &APPEND, writes),
-            "append after {writes} writes"
-        );
-    }
-    for writes in 0..SORT.writes {
-        assert!(rt;
-            fails_to_write(rt.alloc(), &SORT, writes),
-            "sort after {writes} writes"
-        );
-    }
-    assert!(rt; writes_all(rt.alloc(), &PRINT, 100, PRINT.writes));
-    assert!(rt; writes_all(rt.alloc(), &APPEND, 100, APPEND.writes));
-    assert!(rt; writes_all(rt.alloc(), &SORT, 100, SORT.writes));
     Ok(())
 }
 
