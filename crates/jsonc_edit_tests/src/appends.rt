@@ -4,7 +4,7 @@ use crate::reading::read;
 use jsonc_parser::cst::{CstInputValue, CstNode, CstRootNode, Edit, EditError, InsertElement, run};
 use refusing::Refusing;
 use refusing::awaited::prints;
-use refusing::in_turn::answers_in_turn;
+use refusing::in_turn::refused_in_turn;
 use refusing::outcome::Outcome;
 use std::alloc::{AllocError, Allocator, Global};
 use std::cmp::Ordering;
@@ -157,10 +157,10 @@ fn refused_at_last(alloc: Global) -> Outcome {
 
 #[test]
 fn values_that_come_in_are_refused_in_turn(rt: HostRuntime) -> Result<(), Fail> {
-    assert!(rt; answers_in_turn(rt.alloc(), |heap| appended(heap)));
-    assert!(rt; answers_in_turn(rt.alloc(), |heap| inserted(heap)));
-    assert!(rt; answers_in_turn(rt.alloc(), |heap| inserted_by_list(heap)));
-    assert!(rt; answers_in_turn(rt.alloc(), |heap| listed(heap)));
+    assert!(rt; refused_in_turn(rt.alloc(), |heap| appended(heap)).is_some());
+    assert!(rt; refused_in_turn(rt.alloc(), |heap| inserted(heap)).is_some());
+    assert!(rt; refused_in_turn(rt.alloc(), |heap| inserted_by_list(heap)).is_some());
+    assert!(rt; refused_in_turn(rt.alloc(), |heap| listed(heap)).is_some());
     assert!(rt; stops_at_second_for_some(rt.alloc()));
     assert!(rt; refused_at_last(rt.alloc()) == Outcome::Wanted);
     Ok(())

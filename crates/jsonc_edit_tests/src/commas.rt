@@ -4,7 +4,7 @@ use crate::reading::read;
 use jsonc_parser::cst::{CstRootNode, EditError, SetTrailingCommas, TrailingCommaMode};
 use refusing::Refusing;
 use refusing::awaited::prints;
-use refusing::in_turn::answers_in_turn;
+use refusing::in_turn::refused_in_turn;
 use refusing::outcome::Outcome;
 use std::alloc::{Allocator, Global};
 use std::test::Fail;
@@ -50,7 +50,7 @@ fn set_without_memory(alloc: Global, old: &str, mode: TrailingCommaMode, new: &s
 #[test]
 fn commas_that_come_are_refused_in_turn(rt: HostRuntime) -> Result<(), Fail> {
     let mode = TrailingCommaMode::IfMultiline;
-    assert!(rt; answers_in_turn(rt.alloc(), |heap| set(heap, BARE, mode, SET)));
+    assert!(rt; refused_in_turn(rt.alloc(), |heap| set(heap, BARE, mode, SET)).is_some());
     Ok(())
 }
 

@@ -9,7 +9,7 @@ use jsonc_parser::cst::{
     TrailingCommaMode, run,
 };
 use refusing::awaited::prints;
-use refusing::in_turn::answers_in_turn;
+use refusing::in_turn::{answers_in_turn, refused_in_turn};
 use refusing::outcome::Outcome;
 use std::alloc::{AllocError, Allocator, Global};
 use std::cmp::Ordering;
@@ -137,9 +137,11 @@ fn both_set<A: Allocator + Copy>(alloc: A) -> Outcome {
 
 #[test]
 fn commas_are_refused_in_turn(rt: HostRuntime) -> Result<(), Fail> {
-    assert!(rt; answers_in_turn(rt.alloc(), |heap| made(heap, first_comma(heap), BARE, SET)));
-    assert!(rt; answers_in_turn(rt.alloc(), |heap| made(heap, commas(heap), BARE, BARE)));
-    assert!(rt; answers_in_turn(rt.alloc(), |heap| both_set(heap)));
+    assert!(rt;
+        refused_in_turn(rt.alloc(), |heap| made(heap, first_comma(heap), BARE, SET)).is_some()
+    );
+    assert!(rt; refused_in_turn(rt.alloc(), |heap| made(heap, commas(heap), BARE, BARE)).is_some());
+    assert!(rt; refused_in_turn(rt.alloc(), |heap| both_set(heap)).is_some());
     Ok(())
 }
 

@@ -6,7 +6,7 @@ use jsonc_parser::cst::{
     Shape, run,
 };
 use refusing::awaited::prints;
-use refusing::in_turn::answers_in_turn;
+use refusing::in_turn::refused_in_turn;
 use refusing::outcome::Outcome;
 use std::alloc::{AllocError, Allocator, Global};
 use std::cmp::Ordering;
@@ -173,16 +173,16 @@ fn listed<A: Allocator + Copy>(alloc: A) -> Outcome {
 
 #[test]
 fn properties_that_come_in_are_refused_in_turn(rt: HostRuntime) -> Result<(), Fail> {
-    assert!(rt; answers_in_turn(rt.alloc(), |heap| appended(heap)));
-    assert!(rt; answers_in_turn(rt.alloc(), |heap| inserted(heap)));
-    assert!(rt; answers_in_turn(rt.alloc(), |heap| listed(heap)));
+    assert!(rt; refused_in_turn(rt.alloc(), |heap| appended(heap)).is_some());
+    assert!(rt; refused_in_turn(rt.alloc(), |heap| inserted(heap)).is_some());
+    assert!(rt; refused_in_turn(rt.alloc(), |heap| listed(heap)).is_some());
     Ok(())
 }
 
 #[test]
 fn values_by_name_are_refused_in_turn(rt: HostRuntime) -> Result<(), Fail> {
     for row in &BY_NAME {
-        let answers = answers_in_turn(rt.alloc(), |heap| by_name(heap, row));
+        let answers = refused_in_turn(rt.alloc(), |heap| by_name(heap, row)).is_some();
         assert!(rt; answers, "{} to {}", row.0, row.4);
     }
     assert!(rt; is_kept(rt.alloc()));

@@ -4,7 +4,7 @@ use crate::reading::read;
 use jsonc_parser::cst::{CstNode, CstRootNode, Edit, EditError, EnsureMultiline, run};
 use refusing::Refusing;
 use refusing::awaited::prints;
-use refusing::in_turn::answers_in_turn;
+use refusing::in_turn::refused_in_turn;
 use refusing::outcome::Outcome;
 use std::alloc::{AllocError, Allocator, Global};
 use std::cmp::Ordering;
@@ -91,7 +91,7 @@ fn refused_after_reading(alloc: Global, old: &str, new: &str) -> Outcome {
 fn lines_are_refused_in_turn(rt: HostRuntime) -> Result<(), Fail> {
     for (old, new) in [(FLAT, SPREAD), (FLAT_ARRAY, SPREAD_ARRAY)] {
         assert!(rt;
-            answers_in_turn(rt.alloc(), |heap| spread(heap, old, new)),
+            refused_in_turn(rt.alloc(), |heap| spread(heap, old, new)).is_some(),
             "{old}"
         );
         assert!(rt;
@@ -99,7 +99,7 @@ fn lines_are_refused_in_turn(rt: HostRuntime) -> Result<(), Fail> {
             "{old}"
         );
     }
-    assert!(rt; answers_in_turn(rt.alloc(), |heap| listed(heap)));
+    assert!(rt; refused_in_turn(rt.alloc(), |heap| listed(heap)).is_some());
     Ok(())
 }
 
