@@ -106,7 +106,7 @@ const ROWS: [Row; 11] = [
 const STOPPED: Row = Row {
     steps: &[
         Step::Remove(&[0, 0, 1]),
-        Step::Replace(&[0, 0]),
+        Step::SetValue(&[0, 0]),
         Step::Remove(&[5]),
     ],
     texts: &["[{\"a\": [1, 2]}]", "[{\"a\": [1]}]", "[{\"a\": 1}]"],

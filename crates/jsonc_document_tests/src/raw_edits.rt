@@ -4,7 +4,7 @@ use crate::reading::{child_at, prepared};
 use jsonc_parser::ParseStringErrorKind;
 use jsonc_parser::cst::{
     CstContainerNode, CstInputValue, CstLeafNode, CstNode, CstRootNode, EditError, InsertElement,
-    IsNode, Remove, RemoveLeaf, SetRawValue,
+    IsNode, Remove, RemoveLeaf, ReplaceWith, SetRawValue,
 };
 use refusing::awaited::prints;
 use refusing::outcome::Outcome;
@@ -28,7 +28,7 @@ const ROWS: [(Damage, &str, &str); 7] = [
     (Damage::Comment, "[1 /*a*/]", "x"),
     (Damage::Bracket, "[1]", ""),
     (Damage::Comma, "[1,2]", ""),
-    (Damage::Element, "[1, 2]", ""),
+    (Damage::Element, "[1, 2]", "x"),
     (Damage::Array("[1, 7]"), "[[1], 2]", "7"),
     (Damage::Array("[\r\n1,\n  7\r\n]"), "[[\r\n1\r\n], 2]", "7"),
     (Damage::String, "[\"a\"]", "abc"),
@@ -75,15 +75,27 @@ fn comma<A: Allocator + Copy>(doc: &mut CstRootNode<A>) -> Outcome {
     Outcome::of(prints(&*doc, "[12]") && element_count(doc) == Some(2))
 }
 
-/// An element that has left is still there, and does not leave once more.
-fn element<A: Allocator + Copy>(doc: &mut CstRootNode<A>) -> Outcome {
-    let Some(element) = child_at(doc, 1) else {
+/// Whether a node is still there, and stands in no other.
+fn is_loose<A: Allocator>(doc: &CstRootNode<A>, node: CstNode) -> bool {
+    doc.holds(node) && node.parent(doc) == None && node.child_index(doc) == 0
+}
+
+/// An element that has left is still there, does not leave once more, gives way to nothing, and may be written
+/// anew; the document stays as it is.
+fn element<A: Allocator + Copy>(doc: &mut CstRootNode<A>, word: String<A>) -> Outcome {
+    let Some(CstNode::Leaf(CstLeafNode::NumberLit(number))) = child_at(doc, 1) else {
         return Outcome::Other;
     };
-    let first = Outcome::of_answer(element.remove(doc), &());
-    let second = Outcome::of_answer(element.remove(doc), &());
-    let is_left = prints(&element.shown(doc), "1") && prints(&*doc, "[ 2]");
-    first.then(second).then(Outcome::of(is_left))
+    let first = Outcome::of_answer(number.remove(doc), &());
+    let second = Outcome::of_answer(number.remove(doc), &());
+    let is_loose = is_loose(&*doc, number.node());
+    let replaced = Outcome::of_answer(number.replace_with(doc, CstInputValue::Null), &None);
+    number.set_raw_value(doc, word);
+    let is_left = prints(&number.shown(doc), "x") && prints(&*doc, "[ 2]");
+    first
+        .then(second)
+        .then(replaced)
+        .then(Outcome::of(is_loose && is_left))
 }
 
 /// To an array that has left a number comes, on a line that ends by LF if the array has lines, and the document
@@ -117,7 +129,7 @@ fn damaged<A: Allocator + Copy>(doc: CstRootNode<A>, damage: Damage, word: Strin
         Damage::Comment => comment(&mut doc, word),
         Damage::Bracket => bracket(&mut doc),
         Damage::Comma => comma(&mut doc),
-        Damage::Element => element(&mut doc),
+        Damage::Element => element(&mut doc, word),
         Damage::Array(wanted) => array(&mut doc, word, wanted),
         Damage::String => string(&mut doc, word),
     }

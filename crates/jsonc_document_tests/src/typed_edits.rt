@@ -78,7 +78,7 @@ const WANTING: [Row; 18] = [
 ];
 
 /// The edits that want none, though all further requests are refused.
-const UNASKED: [Row; 24] = [
+const UNASKED: [Row; 25] = [
     ("// c\n[1]", Root(RootEdit::Clear), "", ""),
     ("{ } // c", Root(RootEdit::ObjectOrCreate), "", "{ } // c"),
     ("[ ]", Root(RootEdit::ObjectOrCreate), "", "[ ]"),
@@ -98,6 +98,7 @@ const UNASKED: [Row; 24] = [
         "",
         "[/*a*/1, 2]",
     ),
+    ("[1 // c\n]", At(3, NodeEdit::Remove), "", "[1\n]"),
     ("[1,2]", At(2, NodeEdit::RemoveLeaf), "", "[12]"),
     ("[1, 2]", At(3, NodeEdit::RemoveLeaf), "", "[1,2]"),
     ("[\n1]", At(1, NodeEdit::RemoveLeaf), "", "[1]"),
