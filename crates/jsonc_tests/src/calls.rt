@@ -53,7 +53,7 @@ pub enum Call {
 }
 
 /// Those that want memory wherever a request is refused, each with its name.
-pub const CALLS: [(Call, &str); 17] = [
+pub const CALLS: [(Call, &str); 23] = [
     (Call::Decode, "decode"),
     (Call::DecodeProvided, "decode provided"),
     (Call::Scan, "scan"),
@@ -69,16 +69,11 @@ pub const CALLS: [(Call, &str); 17] = [
     (Call::Layout, "layout"),
     (Call::BytesToBytes, "bytes to bytes"),
     (Call::Removal, "removal"),
-    (Call::WholeRun, "whole run"),
-    (Call::WholeRemoval, "whole removal"),
-];
-
-/// Those that collect a list, which asks again for less where its first request was refused.
-pub const COLLECTING: [(Call, &str); 7] = [
     (Call::Appended, "appended"),
     (Call::Set, "set"),
     (Call::SetFirst, "set first"),
-    (Call::Sorted, "sorted"),
+    (Call::WholeRun, "whole run"),
+    (Call::WholeRemoval, "whole removal"),
     (Call::WholeAppend, "whole append"),
     (Call::WholeSet, "whole set"),
     (Call::WholeSetOfNew, "whole set of a new name"),
