@@ -10,8 +10,6 @@ mod edits;
 #[cfg(test)]
 mod inputs;
 #[cfg(test)]
-mod lists;
-#[cfg(test)]
 mod named_values;
 #[cfg(test)]
 mod node_edits;

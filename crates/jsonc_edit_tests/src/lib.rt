@@ -11,7 +11,11 @@ mod commas;
 #[cfg(test)]
 mod listed;
 #[cfg(test)]
+mod lists;
+#[cfg(test)]
 mod members;
+#[cfg(test)]
+mod nested;
 #[cfg(test)]
 mod pieces;
 #[cfg(test)]
