@@ -1,5 +1,5 @@
 -- Where spaces are due stays so while other nodes are made.
-use Rattle.std.proofs.Common.{◌≡◌, ℕ, ◌+◌, ◌<◌, cond, ◌&&◌, List, [], ◌∷◌, length, take, drop, reverse, Option, Some, None, refl, ap, ◌∙◌}
+use Rattle.std.proofs.Common.{◌≡◌, ℕ, ◌+◌, ◌<◌, cond, ◌&&◌, ◌||◌, List, [], ◌∷◌, length, take, drop, reverse, Option, Some, None, refl, ap, ◌∙◌}
 use Rattle.std.proofs.lemmas.List.Elements.{All-head, All-tail}
 use Rattle.std.specs.List.{find}
 use Rattle.std.specs.Option.{option_and_then}
@@ -13,7 +13,7 @@ use Rattle.jsonc_nodes.specs.Siblings.{AreThere, IsThere}
 use Rattle.jsonc_nodes.proofs.There.{All-reverse, children_there, after_there, before_there, find_there}
 use Rattle.jsonc_laws.specs.Adjacent.{or_else}
 use Rattle.jsonc_laws.specs.Spaces.{is_bare}
-use Rattle.jsonc_edit.specs.Due.{prints, prints_at, nearest, beginning_in, is_bare_at, begins_bare, ends_bare, seen_before, seen_behind, behind_holder, behind_property, due_before, due_behind, due_between}
+use Rattle.jsonc_edit.specs.Due.{prints, prints_at, nearest, beginning_in, is_bare_at, begins_bare, ends_bare, seen_before, seen_behind, behind_holder, behind_property, due_before, due_behind, due_between, is_other, prints_within}
 
 module _ (old new : List Node) (tree : IsTree old) (keeps : Keeps (length old) old new) where
   nearest_same : (xs : List ℕ) → AreThere old xs → nearest new xs ≡ nearest old xs
@@ -108,8 +108,15 @@ module _ (old new : List Node) (tree : IsTree old) (keeps : Keeps (length old) o
   pub due_behind_same : (k : ℕ) → k < length old → due_behind new k ≡ due_behind old k
   due_behind_same k there = ap (λ b. cond b (seen_behind new k) None) (begins_behind k there) ∙ ap (λ o. cond (begins_bare old (seen_behind old k)) o None) (behind_same k there)
 
+  within_same : (from to : ℕ) → from < length old → to < length old → prints_within new from to ≡ prints_within old from to
+  within_same from to there there_too =
+      ap (λ w. prints w || is_other (seen_before new to) (seen_before new from)) (keeps.content to there_too)
+      ∙ ap (λ o. prints_at old to || is_other o (seen_before new from)) (before_same to there_too)
+      ∙ ap (λ o. prints_at old to || is_other (seen_before old to) o) (before_same from there)
+
   pub due_between_same : (from to : ℕ) → from < length old → to < length old → due_between new from to ≡ due_between old from to
   due_between_same from to there there_too =
-      ap (λ b. cond (b && begins_bare new (seen_behind new to)) (seen_behind new to) None) (ends_before from there)
-      ∙ ap (λ b. cond (ends_bare old (seen_before old from) && b) (seen_behind new to) None) (begins_behind to there_too)
-      ∙ ap (λ o. cond (ends_bare old (seen_before old from) && begins_bare old (seen_behind old to)) o None) (behind_same to there_too)
+      ap (λ w. cond (w && (ends_bare new (seen_before new from) && begins_bare new (seen_behind new to))) (seen_behind new to) None) (within_same from to there there_too)
+      ∙ ap (λ b. cond (prints_within old from to && (b && begins_bare new (seen_behind new to))) (seen_behind new to) None) (ends_before from there)
+      ∙ ap (λ b. cond (prints_within old from to && (ends_bare old (seen_before old from) && b)) (seen_behind new to) None) (begins_behind to there_too)
+      ∙ ap (λ o. cond (prints_within old from to && (ends_bare old (seen_before old from) && begins_bare old (seen_behind old to))) o None) (behind_same to there_too)

@@ -21,7 +21,7 @@ use Rattle.jsonc_laws.proofs.Commas.{none_meet}
 use Rattle.jsonc_laws.proofs.RowsWithin.{LeafPrints, literal_prints, name_prints, ends_print, opening_print, closing_print, row_ends}
 use Rattle.jsonc_laws.proofs.Spaces.{own_last, first_append, last_append}
 use Rattle.jsonc_laws.proofs.Texts.{literal_leaf, name_leaf}
-use Rattle.jsonc_edit.specs.Due.{prints, prints_at, nearest, beginning_in, begins_bare, ends_bare, is_bare_at, seen_before, behind_holder, due_between}
+use Rattle.jsonc_edit.specs.Due.{prints, prints_at, nearest, beginning_in, begins_bare, ends_bare, is_bare_at, seen_before, behind_holder, due_between, prints_within}
 use Rattle.jsonc_edit.proofs.Whole as whole
 use Rattle.jsonc_edit.proofs.Whole.{IsWhole, Whole, row_whole, stretch_whole}
 
@@ -257,6 +257,11 @@ module _ (ns : List Node) where
         none_there true x e = cc
         none_there false x e = refl
 
-        by : (m : Option ℕ) → IsTrue (is_some m) → (ends_bare ns (seen_before ns from) && begins_bare ns m) ≡ false → (if ends_bare ns (seen_before ns from) && begins_bare ns (or_else m (behind_holder ns to)) then or_else m (behind_holder ns to) else None) ≡ None
+        none_within : (w b : Bool) (x : Option ℕ) → b ≡ false → (if w && b then x else None) ≡ None
+        none_within true b x e = none_there b x e
+        none_within false b x e = refl
+
+        by : (m : Option ℕ) → IsTrue (is_some m) → (ends_bare ns (seen_before ns from) && begins_bare ns m) ≡ false
+            → (if prints_within ns from to && (ends_bare ns (seen_before ns from) && begins_bare ns (or_else m (behind_holder ns to))) then or_else m (behind_holder ns to) else None) ≡ None
         by None k e = cc
-        by (Some m) k e = none_there (ends_bare ns (seen_before ns from) && begins_bare ns (Some m)) (Some m) e
+        by (Some m) k e = none_within (prints_within ns from to) (ends_bare ns (seen_before ns from) && begins_bare ns (Some m)) (Some m) e

@@ -12,7 +12,7 @@ use Rattle.jsonc_tree.proofs.Order.{not_over_parent}
 use Rattle.jsonc_laws.specs.TreeChanges.{IsElement}
 use Rattle.jsonc_laws.specs.Adjacent.{or_else}
 use Rattle.jsonc_laws.specs.Spaces.{is_bare}
-use Rattle.jsonc_edit.specs.Due.{prints_at, nearest, beginning_in, is_bare_at, begins_bare, ends_bare, seen_before, seen_behind, behind_holder, behind_property, due_before, due_behind, due_between, due_around, listed}
+use Rattle.jsonc_edit.specs.Due.{prints_at, nearest, beginning_in, is_bare_at, begins_bare, ends_bare, seen_before, seen_behind, behind_holder, behind_property, due_before, due_behind, due_between, due_around, listed, prints_within}
 
 -- a node before which a space may come, and that is no part of n: nor is its container
 pub record Placed (ns : List Node) (n x : ℕ) : Type 0 where
@@ -155,7 +155,9 @@ module _ (ns : List Node) (tree : IsTree ns) (n c : ℕ) (said : parent_at ns n 
 
   pub between_placed : (from : ℕ) → All (Placed ns n) (listed (due_between ns from n))
   between_placed from =
-      one_placed (ends_bare ns (seen_before ns from) && begins_bare ns (seen_behind ns n)) (seen_behind ns n) (λ x b e. behind_placed x e (ap (begins_bare ns) (sym e) ∙ both (ends_bare ns (seen_before ns from)) (begins_bare ns (seen_behind ns n)) b))
+      one_placed (prints_within ns from n && (ends_bare ns (seen_before ns from) && begins_bare ns (seen_behind ns n))) (seen_behind ns n) (λ x b e.
+      behind_placed x e (ap (begins_bare ns) (sym e)
+      ∙ both (ends_bare ns (seen_before ns from)) (begins_bare ns (seen_behind ns n)) (both (prints_within ns from n) (ends_bare ns (seen_before ns from) && begins_bare ns (seen_behind ns n)) b)))
     where
       both : (a b : Bool) → a && b ≡ true → b ≡ true
       both true b h = h
@@ -197,4 +199,4 @@ module _ (ns : List Node) (tree : IsTree ns) (n c : ℕ) (said : parent_at ns n 
       by false = All-nil (IsChild ns)
 
   pub between_children : (from : ℕ) → All (IsChild ns) (listed (due_between ns from n))
-  between_children from = one_child (ends_bare ns (seen_before ns from) && begins_bare ns (seen_behind ns n)) (seen_behind ns n) behind_child
+  between_children from = one_child (prints_within ns from n && (ends_bare ns (seen_before ns from) && begins_bare ns (seen_behind ns n))) (seen_behind ns n) behind_child

@@ -1,7 +1,7 @@
 -- What leaves with a comment is trivia, and it leaves the ordered tree.
 use Rattle.std.proofs.Common.{◌≡◌, ◌≢◌, ℕ, zero, suc, ◌+◌, ◌-◌, ◌<◌, ◌≤◌, Bool, true, false, ◌&&◌, ◌||◌, List, [], ◌∷◌, ◌++◌, length, get_or, map, slice_index, slice_range, take, drop, reverse, Option, Some, None, IsTrue, inl, inr, refl, sym, ap, subst, ◌∙◌, arith, length-drop, get_or-drop}
 use Rattle.std.proofs.lemmas.Bool.{cases_Bool, cases_lt}
-use Rattle.std.proofs.lemmas.List.{take_more, map-append}
+use Rattle.std.proofs.lemmas.List.{append_assoc, take_more, map-append}
 use Rattle.std.proofs.lemmas.List.Edits.{get_or-between, length-between, split_between}
 use Rattle.jsonc_tree.specs.Content.{Content, root, comment, is_container}
 use Rattle.jsonc_tree.specs.Changes.{CanJoin}
@@ -16,14 +16,17 @@ use Rattle.jsonc_laws.specs.TriviaChanges.{AreTrivia, leaves_then, LeavesChanged
 use Rattle.jsonc_text.specs.Options.{Options}
 use Rattle.jsonc_tree.specs.Order.{with_parent}
 use Rattle.jsonc_tree.specs.Siblings.{row_of, siblings_after}
-use Rattle.jsonc_laws.specs.Adjacent.{or_else}
+use Rattle.jsonc_laws.specs.Adjacent.{first_char, or_else}
+use Rattle.jsonc_laws.proofs.Flat.{AllLeaves, begins_slash, behind_all, document_leaves_all}
+use Rattle.jsonc_laws.proofs.TriviaLeaves.{document_differs}
+use Rattle.jsonc_text.specs.Text.{starts}
 use Rattle.jsonc_laws.specs.SoundTrees.{SoundTree}
 use Rattle.jsonc_laws.specs.Spaces.{meet}
 use Rattle.jsonc_laws.proofs.Apart.{document_alone}
 use Rattle.jsonc_laws.proofs.RowsTell.{kept_without_comment_in_row}
 use Rattle.jsonc_laws.proofs.RowsWithin.{both_within}
 use Rattle.jsonc_laws.specs.MarkChanges.{AreBlanks}
-use Rattle.jsonc_edit.specs.Due.{nearest, begins_bare, ends_bare, seen_before, seen_behind, behind_holder}
+use Rattle.jsonc_edit.specs.Due.{prints, prints_at, nearest, begins_bare, ends_bare, seen_before, seen_behind, behind_holder}
 use Rattle.jsonc_edit.proofs.Whole.{Whole, whole_before, whole_behind, whole_within}
 use Rattle.jsonc_edit.proofs.Meeting.{meet_bare}
 use Rattle.jsonc_edit.specs.Changes.{row_below}
@@ -398,8 +401,23 @@ module _ (old new : List Node) (n : ℕ) (r : CommentRemoved old new n) where
     not_both true (Some k) y e = e
     not_both false x y e = refl
 
-    pub sound_without : ends_bare old (seen_before old first_gone) && begins_bare old (seen_behind old n) ≡ false → SoundTree o (ordered_tree new 0)
-    sound_without quiet =
+    -- a comment of a sound document prints something
+    slash_prints : (f : Option ℕ) → IsTrue (begins_slash f) → IsTrue (starts (λ c. true) f)
+    slash_prints None h = h
+    slash_prints (Some c) h = refl
+
+    prints_text : prints_at old n ≡ true
+    prints_text =
+        let w = document_differs (leaves_gone r) [] all_trivia tt takes_trivia.changed in
+        let all : AllLeaves (w.front ++ (leaves_gone r ++ w.back)) = subst AllLeaves w.before (document_leaves_all o (document_alone o s.shaped)) in
+        let gone : AllLeaves (gone_blanks ++ (comment gone_text.0 ∷ w.back)) =
+        subst AllLeaves (ap (λ l. l ++ w.back) blanks_and_comment ∙ append_assoc gone_blanks (comment gone_text.0 ∷ []) w.back) (behind_all w.front (leaves_gone r ++ w.back) all) in
+        let begins = (behind_all gone_blanks (comment gone_text.0 ∷ w.back) gone).0.1 refl in
+        ap prints gone_text.1 ∙ slash_prints (first_char (comment gone_text.0)) begins
+
+    pub sound_without : (prints_at old n ≡ true → ends_bare old (seen_before old first_gone) && begins_bare old (seen_behind old n) ≡ false) → SoundTree o (ordered_tree new 0)
+    sound_without calm =
+        let quiet = calm prints_text in
         let it = replaced parts in
         let rows : Replaced (followed_by parts.front (leaves_then (leaves_gone r) parts.back)) (followed_by parts.front parts.back) (ordered_tree old 0) (ordered_tree new 0) =
         subst (λ t. Replaced t (followed_by parts.front parts.back) (ordered_tree old 0) (ordered_tree new 0)) (row_was parts) it in

@@ -18,6 +18,10 @@ use Rattle.jsonc_laws.specs.Sound.{IsValueBefore}
 use Rattle.jsonc_laws.specs.TreeChanges.{IsElement, ElementChanged, DocumentChanged, in_root, leaves_of}
 use Rattle.jsonc_laws.specs.ChangeLaws.{DiffersIn}
 use Rattle.jsonc_laws.proofs.FirstNodes.{here, over, beyond, meets_first, none_changed, no_element}
+use Rattle.jsonc_laws.specs.MarkChanges.{MarksDifferIn, marks_under}
+use Rattle.jsonc_laws.specs.Marks.{marks}
+use Rattle.jsonc_laws.proofs.GivingWay.{values_marks}
+use Rattle.jsonc_laws.proofs.Laid.{laid_as_written}
 use Rattle.jsonc_laws.proofs.LeavesAround.{document_differs}
 use Rattle.jsonc_laws.proofs.Values.{document_change}
 use Rattle.jsonc_laws.specs.SoundTrees.{SoundTree}
@@ -41,7 +45,7 @@ use Rattle.jsonc_edit.proofs.GivingWay.{in_place}
 use Rattle.jsonc_edit.proofs.Held.{HeldAt, by_root, by_array, by_property, held_at}
 use Rattle.jsonc_edit.proofs.Kept.{at_kept, top_stays, tree_stays}
 use Rattle.jsonc_edit.proofs.Placed.{IsChild, around_placed}
-use Rattle.jsonc_edit.proofs.Spacing.{Spaced, all_spaced, spaces_sound, spaces_value}
+use Rattle.jsonc_edit.proofs.Spacing.{Spaced, all_spaced, spaces_marks, spaces_sound, spaces_value}
 use Rattle.jsonc_edit.proofs.OneValue.{document_once}
 use Rattle.jsonc_edit.proofs.Uniqueness.{leads_over, element_parent}
 use Rattle.jsonc_edit.proofs.Writable.{value_may_stand}
@@ -166,6 +170,10 @@ module _ (o : Options) (old new : List Node) (n m : ℕ) where
         changed = now.3;
         spaces = puts;
         around = subst (λ (t : Top). DiffersIn (leaves_of (top_at old n)) (leaves_of t) (leaves (ordered_tree g.spaced 0)) (leaves (ordered_tree new 0))) (sym is.put) (document_differs change);
+        marked =
+            subst (λ l. MarksDifferIn (marks_under (top_at old n)) l (marks (ordered_tree old 0)) (marks (ordered_tree new 0))) (laid_as_written layout v w.texts)
+            (subst (λ l. MarksDifferIn (marks_under (top_at old n)) (marks_under (laid layout v)) l (marks (ordered_tree new 0))) (spaces_marks puts)
+            (values_marks (ordered_tree g.spaced 0) (top_at old n) (laid layout v) path (ordered_tree new 0) change));
         sound = sound;
       }
 

@@ -18,7 +18,9 @@ use Rattle.jsonc_nodes.proofs.Held.{IsAlike, held_alike, held_beside, held_in, s
 use Rattle.jsonc_laws.specs.TreeChanges.{IsElement}
 use Rattle.jsonc_laws.proofs.TriviaValues.{document_kept}
 use Rattle.jsonc_laws.specs.InRows.{SpacePut}
+use Rattle.jsonc_laws.specs.Marks.{marks}
 use Rattle.jsonc_laws.specs.SoundTrees.{SoundTree}
+use Rattle.jsonc_laws.proofs.GivingWay.{space_keeps_marks}
 use Rattle.jsonc_laws.proofs.SpacePut.{document_put, kept_with_space}
 use Rattle.jsonc_edit.specs.Put.{a_space, StandsBefore, AreSpaced}
 use Rattle.jsonc_edit.proofs.Putting.{contents_kept, parent_kept, children_kept, container_row, row_kept, elements_kept, over_kept, over_before, no_parent_space, placed_ahead, placed_behind, placed_elsewhere, puts_space}
@@ -266,3 +268,8 @@ any_spaced m (x ∷ xs) old new tree f (now, leaf, r, rest) =
           over_before old now x leaf tree r k c (no_parent_space old now x leaf tree r p c said) (s.over k p c (parent_stays old now x leaf tree r p c said) above);
       top = λ there. s.top (omega (arith, there, r.put.len)) ∙ aside_top old now x leaf tree r m there here;
     }
+
+-- spaces are no marks
+pub spaces_marks : {t u : OrderedTree} → SpacesPut t u → marks u ≡ marks t
+spaces_marks none_put = refl
+spaces_marks (one_put {t = t} {s = s} put rest) = spaces_marks rest ∙ space_keeps_marks t s put

@@ -1,5 +1,5 @@
 -- A comment is taken out, with a space in its place where one is due.
-use Rattle.std.proofs.Common.{◌≡◌, ℕ, zero, suc, ◌<◌, ◌≤◌, Bool, true, false, ◌&&◌, cond, List, [], ◌∷◌, length, slice_index, Option, Some, None, IsTrue, inl, inr, if◌then◌else◌, refl, sym, ap, subst, ◌∙◌, arith}
+use Rattle.std.proofs.Common.{◌≡◌, ℕ, zero, suc, ◌<◌, ◌≤◌, Bool, true, false, ◌&&◌, ◌||◌, cond, List, [], ◌∷◌, length, slice_index, Option, Some, None, IsTrue, inl, inr, if◌then◌else◌, refl, sym, ap, subst, ◌∙◌, arith}
 use Rattle.std.proofs.lemmas.Bool.{cases_Bool}
 use Rattle.std.proofs.lemmas.List.Elements.{All-weaker}
 use Rattle.std.specs.List.{All}
@@ -16,7 +16,8 @@ use Rattle.jsonc_laws.specs.ChangeLaws.{DiffersIn}
 use Rattle.jsonc_laws.proofs.TriviaLeaves.{document_differs}
 use Rattle.jsonc_laws.proofs.TriviaValues.{document_kept}
 use Rattle.jsonc_laws.specs.SoundTrees.{SoundTree}
-use Rattle.jsonc_edit.specs.Due.{begins_bare, ends_bare, seen_before, seen_behind, due_between, listed}
+use Rattle.jsonc_edit.specs.Due as due
+use Rattle.jsonc_edit.specs.Due.{prints_at, prints_within, is_other, begins_bare, ends_bare, seen_before, seen_behind, due_between, listed}
 use Rattle.jsonc_edit.specs.Put.{AreChildren, AreSpaced, Prepared, nodes_of}
 use Rattle.jsonc_edit.specs.declared.put.Spaces.{Spaces}
 use Rattle.jsonc_edit.proofs.Quiet.{quiet_behind}
@@ -142,12 +143,15 @@ module _ (ready spaced : List Node) (tree : IsTree ready) (n from other : ℕ) w
   some_seen true o x e = e
   some_seen false o x e = absurd (let wrong : None ≡ Some x = e in cc)
 
-  pub quiet_between : (spaced ≡ ready → other ≡ from) → (o : Option ℕ) → due_between ready from n ≡ o → AreSpaced ready (listed o) spaced → ends_bare spaced (seen_before spaced other) && begins_bare spaced (seen_behind spaced n) ≡ false
-  quiet_between same None due e =
-      let calm : ends_bare ready (seen_before ready from) && begins_bare ready (seen_behind ready n) ≡ false = none_meets (ends_bare ready (seen_before ready from)) (seen_behind ready n) refl due in
+  pub quiet_between : prints_at ready n ≡ true → (spaced ≡ ready → other ≡ from) → (o : Option ℕ) → due_between ready from n ≡ o → AreSpaced ready (listed o) spaced
+      → ends_bare spaced (seen_before spaced other) && begins_bare spaced (seen_behind spaced n) ≡ false
+  quiet_between prints same None due e =
+      let none : cond (ends_bare ready (seen_before ready from) && begins_bare ready (seen_behind ready n)) (seen_behind ready n) None ≡ None =
+      sym (ap (λ b. cond ((b || is_other (seen_before ready n) (seen_before ready from)) && (ends_bare ready (seen_before ready from) && begins_bare ready (seen_behind ready n))) (seen_behind ready n) None) prints) ∙ due in
+      let calm : ends_bare ready (seen_before ready from) && begins_bare ready (seen_behind ready n) ≡ false = none_meets (ends_bare ready (seen_before ready from)) (seen_behind ready n) refl none in
       subst (λ ns. ends_bare ns (seen_before ns other) && begins_bare ns (seen_behind ns n) ≡ false) (sym e) (subst (λ k. ends_bare ready (seen_before ready k) && begins_bare ready (seen_behind ready n) ≡ false) (sym (same e)) calm)
-  quiet_between same (Some x) due (now, leaf, r, e) =
-      let seen : seen_behind ready n ≡ Some x = some_seen (ends_bare ready (seen_before ready from) && begins_bare ready (seen_behind ready n)) (seen_behind ready n) x due in
+  quiet_between prints same (Some x) due (now, leaf, r, e) =
+      let seen : seen_behind ready n ≡ Some x = some_seen (prints_within ready from n && (ends_bare ready (seen_before ready from) && begins_bare ready (seen_behind ready n))) (seen_behind ready n) x due in
       let behind : begins_bare now (seen_behind now n) ≡ false = quiet_behind ready now tree n x leaf r seen in
       subst (λ ns. ends_bare ns (seen_before ns other) && begins_bare ns (seen_behind ns n) ≡ false) (sym e) (both_false (ends_bare now (seen_before now other)) (begins_bare now (seen_behind now n)) behind)
 
@@ -197,8 +201,8 @@ module _ (old new : List Node) (n : ℕ) (r : CommentTaken old new n) where
   abbrev other : ℕ
   other = slice_index (children_at spaced_nodes c) (removed_from spaced_nodes c n)
 
-  calm : ends_bare spaced_nodes (seen_before spaced_nodes other) && begins_bare spaced_nodes (seen_behind spaced_nodes n) ≡ false
-  calm = quiet_between ready spaced_nodes taken.prepared.tree n from other (λ e. ap (λ ns. slice_index (children_at ns c) (removed_from ns c n)) e) (due_without ready c n) refl taken.spaces
+  calm : prints_at spaced_nodes n ≡ true → ends_bare spaced_nodes (seen_before spaced_nodes other) && begins_bare spaced_nodes (seen_behind spaced_nodes n) ≡ false
+  calm prints = quiet_between ready spaced_nodes taken.prepared.tree n from other (ap due.prints (sym (spaced.content n)) ∙ prints) (λ e. ap (λ ns. slice_index (children_at ns c) (removed_from ns c n)) e) (due_without ready c n) refl taken.spaces
 
   pub loses_comment : LosesComment (ordered_tree old 0) (ordered_tree new 0)
   loses_comment =

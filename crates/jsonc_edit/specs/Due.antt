@@ -1,5 +1,5 @@
 -- Where a space is due: where a change lets two literals without quotes stand directly beside each other that did not before.
-use Rattle.std.specs.Prelude.{ℕ, Bool, true, false, ◌&&◌, ◌||◌, List, [], ◌∷◌, ◌++◌, reverse, Option, Some, None, if◌then◌else◌}
+use Rattle.std.specs.Prelude.{ℕ, ◌==◌, Bool, true, false, not, ◌&&◌, ◌||◌, List, [], ◌∷◌, ◌++◌, reverse, Option, Some, None, if◌then◌else◌}
 use Rattle.std.specs.List.{find}
 use Rattle.std.specs.Option.{option_and_then}
 use Rattle.jsonc_text.specs.Text.{starts}
@@ -59,9 +59,21 @@ behind_holder ns n = option_and_then (λ p. behind_property ns (content_at ns p)
 abbrev pub seen_behind : List Node → ℕ → Option ℕ
 seen_behind ns n = or_else (nearest ns (siblings_after ns n)) (behind_holder ns n)
 
--- before which node a space is due where the siblings from one to another leave: before what is seen behind them
+-- a node is seen, and it is not this one
+abbrev pub is_other : Option ℕ → Option ℕ → Bool
+is_other None n = false
+is_other (Some m) None = true
+is_other (Some m) (Some n) = not (m == n)
+
+-- something is printed by the siblings from one to another: by the last of them, or by what is seen before that and not before all of them
+abbrev pub prints_within : List Node → ℕ → ℕ → Bool
+prints_within ns from to = prints_at ns to || is_other (seen_before ns to) (seen_before ns from)
+
+-- Before which node a space is due where the siblings from one to another leave: before what is seen behind them. Where these print nothing, what stands
+-- before and behind them has stood together already.
 abbrev pub due_between : List Node → ℕ → ℕ → Option ℕ
-due_between ns from to = if ends_bare ns (seen_before ns from) && begins_bare ns (seen_behind ns to) then seen_behind ns to else None
+due_between ns from to =
+    if prints_within ns from to && (ends_bare ns (seen_before ns from) && begins_bare ns (seen_behind ns to)) then seen_behind ns to else None
 
 -- where a literal without quotes takes the place of a node: before that
 abbrev pub due_before : List Node → ℕ → Option ℕ

@@ -9,7 +9,10 @@ use Rattle.jsonc_laws.specs.Below.build.Shape.{printed_text}
 use Rattle.jsonc_laws.specs.Changes.{Changed}
 use Rattle.jsonc_laws.specs.ChangeLaws.{DiffersIn}
 use Rattle.jsonc_laws.specs.TreeChanges.{leaves_of}
+use Rattle.jsonc_laws.specs.MarkChanges.{MarksDifferIn, marks_under}
+use Rattle.jsonc_laws.specs.Marks.{marks}
 use Rattle.jsonc_laws.specs.SoundTrees.{SoundTree}
+use Rattle.jsonc_laws.specs.Written.{written}
 use Rattle.jsonc_edit.specs.Changes.{top_at}
 use Rattle.jsonc_edit.specs.Paths.{IsAt}
 use Rattle.jsonc_edit.specs.Spaced.{SpacesPut}
@@ -17,7 +20,8 @@ use Rattle.jsonc_edit.specs.Writing.{IsWritable}
 
 -- The value v is written at the path: the old text is a document, the new text is one, and its value is the old one's, but
 -- that at the path v stands; spaces have come in, and then of the leaves those of one node have given way to those of another:
--- all before and after stay. The new document is sound, so it may be edited again.
+-- all before and after stay. Of the literals and comments those of that node have given way to the literals that are written
+-- for v, and all others stay, in order. The new document is sound, so it may be edited again.
 pub record IsWrittenAt (o : Options) (v : Plain) (path : List ℕ) (was now : Top) (old new : OrderedTree) : Type 0 where
   pub given_up : Plain
   pub before : Plain
@@ -28,6 +32,7 @@ pub record IsWrittenAt (o : Options) (v : Plain) (path : List ℕ) (was now : To
   pub changed : Changed given_up v path before after
   pub spaces : SpacesPut old spaced
   pub around : DiffersIn (leaves_of was) (leaves_of now) (leaves spaced) (leaves new)
+  pub marked : MarksDifferIn (marks_under was) (written v) (marks old) (marks new)
   pub sound : SoundTree o new
 
 -- if the old document is sound, n stands in it at the path, and v may be written, then v is written at the path, as the node m

@@ -8,7 +8,7 @@ ghost use Rattle.jsonc_nodes.specs.Siblings.{IsThere};
 ghost use Rattle.jsonc_laws.specs.Spaces.{is_bare};
 ghost use Rattle.jsonc_edit.specs.Due.{prints, prints_at, nearest, beginning_of, end_of, is_bare_at};
 ghost use Rattle.jsonc_edit.specs.Due.{begins_bare, ends_bare, seen_before, behind_holder, seen_behind};
-ghost use Rattle.jsonc_edit.specs.Due.{due_between, due_before, due_behind};
+ghost use Rattle.jsonc_edit.specs.Due.{due_between, due_before, due_behind, is_other, prints_within};
 
 use jsonc_nodes::{next_siblings, previous_siblings};
 use jsonc_tree::{Kind, Tree};
@@ -156,13 +156,38 @@ fn seen_behind<A: Allocator>(tree: &Tree<A>, node: usize) -> Option<usize>
     }
 }
 
+// Whether a node is seen that is not this one.
+fn is_other(seen: Option<usize>, other: Option<usize>) -> bool
+    ensures { result ≡ is_other seen other }
+{
+    match (seen, other) {
+        (None, _) => false,
+        (Some(_), None) => true,
+        (Some(seen), Some(other)) => seen != other,
+    }
+}
+
+// Whether the siblings from one to another print something.
+fn prints_within<A: Allocator>(tree: &Tree<A>, from: usize, to: usize) -> bool
+    requires from { from < length tree.now.nodes }
+    requires to { to < length tree.now.nodes }
+    ensures { result ≡ prints_within tree.now.nodes from to }
+{
+    prints(tree, to) || is_other(seen_before(tree, to), seen_before(tree, from))
+}
+
 /// The node before which a space is due where the siblings from one to another leave, if one is.
+///
+/// None is where these print nothing: what stands around them has stood together before.
 pub fn due_between<A: Allocator>(tree: &Tree<A>, from: usize, to: usize) -> Option<usize>
     requires from { from < length tree.now.nodes }
     requires to { to < length tree.now.nodes }
     ensures due { result ≡ due_between tree.now.nodes from to }
     ensures there { IsThere tree.now.nodes result }
 {
+    if !prints_within(tree, from, to) {
+        return None;
+    }
     let behind = seen_behind(tree, to);
     if ends_bare(tree, seen_before(tree, from)) && begins_bare(tree, behind) {
         return behind;

@@ -28,9 +28,10 @@ use Rattle.jsonc_edit.specs.Reading.{layout_for, IsReplaced}
 use Rattle.jsonc_edit.specs.Spaced.{SpacesPut}
 use Rattle.jsonc_edit.specs.Writing.{IsWritable}
 use Rattle.jsonc_edit.proofs.ReplacedValues.{changed, put, replaced_written}
+use Rattle.jsonc_edit.proofs.Spacing.{spaces_marks}
 use Rattle.jsonc_set.specs.Kinds.{KeptOrReplaced}
 use Rattle.jsonc_set.specs.PropertyValues.{HeldOrSet}
-use Rattle.jsonc_set.proofs.PropertyRows.{prints_value, some_value_of, spaces_marks}
+use Rattle.jsonc_set.proofs.PropertyRows.{prints_value, some_value_of}
 use Rattle.jsonc_named.specs.declared.shape.Over.TheVariants as over
 use Rattle.jsonc_named.specs.declared.shape.Shape.{Shape}
 use Rattle.jsonc_named.specs.declared.shape.Shape.TheVariants.{Object, Array}

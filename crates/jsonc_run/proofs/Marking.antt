@@ -22,10 +22,10 @@ use Rattle.jsonc_laws.specs.EntryLaws.{root_with}
 use Rattle.jsonc_laws.proofs.FirstValue.{marks_with_first}
 use Rattle.jsonc_laws.proofs.RootRows.{root_marks}
 use Rattle.jsonc_edit.specs.Writing.{IsWritable}
+use Rattle.jsonc_edit.proofs.Spacing.{spaces_marks}
 use Rattle.jsonc_multiline.proofs.SameDocument.{keeps_document}
 use Rattle.jsonc_remove.proofs.Lost.{removes_entry}
 use Rattle.jsonc_remove.proofs.LostValue.{removes_value}
-use Rattle.jsonc_set.proofs.PropertyRows.{spaces_marks}
 use Rattle.jsonc_named.specs.declared.shape.Over.{Over}
 use Rattle.jsonc_named.specs.declared.shape.Over.TheVariants as over
 use Rattle.jsonc_named.specs.declared.shape.Shape.{Shape}

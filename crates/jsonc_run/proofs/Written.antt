@@ -205,7 +205,7 @@ module _ (o : Options) where
   -- the truth value at a path is the one that was set
   boolean_written : (old new : List Node) (path : List ℕ) (n : ℕ) (b : Bool) → IsTree old → SoundTree o (ordered_tree old 0) → IsBooleanAt old path n → BooleanSet old new n b → IsWritten o (set_boolean path b) (ordered_tree old 0) (ordered_tree new 0)
   boolean_written old new path n b tree s at set =
-      let w = (writes_boolean o old new path n b tree s at.0 at.1 set).written in
+      let w = writes_boolean o old new path n b tree s at.0 at.1 set in
       record { before = Some w.before; after = Some w.after; old_text = w.old_text; new_text = w.new_text; changed = by_boolean (boolean_changed o old path n tree s at w.old_text w.changed).1; sound = w.sound }
 
   pub is_written : (old new : List Node) (e : Operation) → IsTree old → IsTree new → IsMade old e new → SoundTree o (ordered_tree old 0) → MayBeMade o e → IsWritten o e (ordered_tree old 0) (ordered_tree new 0)

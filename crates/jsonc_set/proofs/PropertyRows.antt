@@ -35,8 +35,6 @@ use Rattle.jsonc_laws.specs.SoundTrees.{SoundTree}
 use Rattle.jsonc_laws.specs.Spaces.{is_bare, is_bare_leaf, first_printed}
 use Rattle.jsonc_laws.proofs.RowsWithin.{LeafPrints, name_prints}
 use Rattle.jsonc_laws.proofs.Spaces.{last_append}
-use Rattle.jsonc_laws.specs.Marks.{marks}
-use Rattle.jsonc_laws.proofs.GivingWay.{space_keeps_marks}
 use Rattle.jsonc_laws.specs.Leaving.{element_count}
 use Rattle.jsonc_laws.specs.Properties.{object_of}
 use Rattle.jsonc_edit.specs.Due.{begins_bare, due_before, due_behind, seen_behind, listed}
@@ -46,7 +44,7 @@ use Rattle.jsonc_edit.proofs.Putting.{elements_kept}
 use Rattle.jsonc_edit.proofs.Quiet.{quiet_behind}
 use Rattle.jsonc_edit.specs.Changes.{row_below, top_at}
 use Rattle.jsonc_edit.specs.Paths.{IsAt}
-use Rattle.jsonc_edit.specs.Spaced.{SpacesPut, none_put, one_put}
+use Rattle.jsonc_edit.specs.Spaced.{SpacesPut}
 use Rattle.jsonc_edit.proofs.OneValue.{document_once}
 use Rattle.jsonc_edit.proofs.Placed.{Placed, around_placed}
 use Rattle.jsonc_edit.proofs.Spacing.{spaces_value}
@@ -219,8 +217,3 @@ pub prints_first : (o : Options) {t u : OrderedTree} → SpacesPut t u → Sound
 prints_first o {t} {u} puts s w value =
     let known = document_printed o t s.shaped s.lines in
     subst (IsDocument o (printed_text t)) (document_once o u known.0 w (spaces_value o known.0 puts known.2) value) known.1
-
--- spaces are no marks
-pub spaces_marks : {t u : OrderedTree} → SpacesPut t u → marks u ≡ marks t
-spaces_marks none_put = refl
-spaces_marks (one_put {t = t} {s = s} put rest) = spaces_marks rest ∙ space_keeps_marks t s put

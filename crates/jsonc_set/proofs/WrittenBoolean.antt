@@ -62,14 +62,14 @@ use Rattle.jsonc_edit.proofs.Held.{HeldAt, by_root, by_array, by_property, held_
 use Rattle.jsonc_edit.proofs.Kept.{at_kept, filter_same, place_kept, top_stays, tree_stays}
 use Rattle.jsonc_edit.proofs.Placed.{Placed, not_first}
 use Rattle.jsonc_edit.proofs.ReplacedValues.{at_child}
-use Rattle.jsonc_edit.proofs.Spacing.{Spaced, all_spaced, spaces_sound}
+use Rattle.jsonc_edit.proofs.Spacing.{all_spaced, Spaced, spaces_marks, spaces_sound}
 use Rattle.jsonc_edit.proofs.Splices.{leaf_over}
 use Rattle.jsonc_edit.proofs.Uniqueness.{element_parent}
 use Rattle.jsonc_edit.proofs.Walk.{ChangedIn, Shows-row_below, apart_kept, document_is}
-use Rattle.jsonc_set.specs.Booleans.{due_for, is_boolean, is_hex_at, BooleanSet, IsBooleanWritten, StaysAtPath, WritesBoolean}
+use Rattle.jsonc_set.specs.Booleans.{due_for, is_boolean, is_hex_at, BooleanSet, StaysAtPath, WritesBoolean}
 use Rattle.jsonc_set.proofs.BooleanSetting.{boolean_of}
 use Rattle.jsonc_set.proofs.HexRows.{Flat, a_leaf, more_flat, flat_before, array_flat, property_flat, root_flat, hex_seen}
-use Rattle.jsonc_set.proofs.PropertyRows.{over_at, Parted, parted, object_row, inside_of, counted_elements, some_value_of, prints_value, prints_first, spaces_marks}
+use Rattle.jsonc_set.proofs.PropertyRows.{over_at, Parted, parted, object_row, inside_of, counted_elements, some_value_of, prints_value, prints_first}
 
 -- the leaves of a row with a node in it
 node_list : (front back : OrderedTree) (top : Top) → leaves (row_around front top back) ≡ leaves front ++ (leaves_of top ++ leaves back)
@@ -463,14 +463,13 @@ module _ (old new : List Node) (path : List ℕ) (n : ℕ) (b : Bool) (tree : Is
     after_sound : SoundTree o (ordered_tree new 0)
     after_sound = sound_held (held_at spaced path n at_spaced)
 
-    boolean_written : IsBooleanWritten o path b (top_at old n) (ordered_tree old 0) (ordered_tree new 0)
+    boolean_written : IsWrittenAt o (Plain.boolean b) path (top_at old n) (boolean_leaf b) (ordered_tree old 0) (ordered_tree new 0)
     boolean_written =
         let known = document_printed o (ordered_tree spaced 0) still_sound.shaped still_sound.lines in
         let before = some_value_of o changed known.0 known.2 in
         let after = document_change o before.0 (Plain.boolean b) changed values.boolean before.1 in
         let same : boolean_leaf a ≡ top_at old n = sym old_leaf ∙ top_same in
         record {
-          written = record {
             given_up = after.0;
             before = before.0;
             after = after.1;
@@ -480,11 +479,10 @@ module _ (old new : List Node) (path : List ℕ) (n : ℕ) (b : Bool) (tree : Is
             changed = after.3;
             spaces = spaces;
             around = subst (λ (w : Top). DiffersIn (leaves_of w) (leaves_of (boolean_leaf b)) (leaves (ordered_tree spaced 0)) (leaves (ordered_tree new 0))) same (document_differs changed);
-            sound = after_sound;
-          };
-          marked = subst (λ l. MarksDifferIn (marks_under (top_at old n)) (written_marks.written (Plain.boolean b)) l (marks (ordered_tree new 0))) (spaces_marks spaces)
+            marked = subst (λ l. MarksDifferIn (marks_under (top_at old n)) (written_marks.written (Plain.boolean b)) l (marks (ordered_tree new 0))) (spaces_marks spaces)
               (subst (λ (w : Top). MarksDifferIn (marks_under w) (written_marks.written (Plain.boolean b)) (marks (ordered_tree spaced 0)) (marks (ordered_tree new 0))) same
               (values_marks (ordered_tree spaced 0) (boolean_leaf a) (boolean_leaf b) path (ordered_tree new 0) changed));
+            sound = after_sound;
         }
 
 -- spaces have come, and then the one truth value has given way to the other at the path

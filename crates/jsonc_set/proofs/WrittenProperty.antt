@@ -45,14 +45,14 @@ use Rattle.jsonc_edit.specs.Writing.{FitsLayout, IsWritable}
 use Rattle.jsonc_edit.proofs.Elements.{Some_same, StandsAt, stands_at}
 use Rattle.jsonc_edit.proofs.Fitting.{layout_fits}
 use Rattle.jsonc_edit.proofs.Kept.{at_kept, filter_same, top_stays, tree_stays}
-use Rattle.jsonc_edit.proofs.Spacing.{Spaced, all_spaced, spaces_sound}
+use Rattle.jsonc_edit.proofs.Spacing.{all_spaced, Spaced, spaces_marks, spaces_sound}
 use Rattle.jsonc_edit.proofs.Splices.{joined_top, respliced_over, respliced_row}
 use Rattle.jsonc_edit.proofs.Uniqueness.{element_parent}
 use Rattle.jsonc_edit.proofs.Walk.{Shows-row_below}
 use Rattle.jsonc_edit.proofs.Writable.{property_may_stand, value_may_stand}
 use Rattle.jsonc_set.specs.Giving.{due_after, is_bare_value, property_top, PropertyGivesWay, IsPropertyReplaced}
 use Rattle.jsonc_set.specs.Properties.{IsPropertyWritten, WritesProperty}
-use Rattle.jsonc_set.proofs.PropertyRows.{elements_spaced, over_at, Parted, parted, ObjectRow, object_row, Inside, inside_of, property_here, counted_elements, due_placed, quiet_after, first_false, name_first, value_behind, and_false, property_differs, some_value_of, prints_value, prints_first, spaces_marks}
+use Rattle.jsonc_set.proofs.PropertyRows.{elements_spaced, over_at, Parted, parted, ObjectRow, object_row, Inside, inside_of, property_here, counted_elements, due_placed, quiet_after, first_false, name_first, value_behind, and_false, property_differs, some_value_of, prints_value, prints_first}
 
 module _ (o : Options) (old new : List Node) (path : List ℕ) (c i n m : ℕ) (name : List ℕ) (v : Plain) (tree : IsTree old) (sound : SoundTree o (ordered_tree old 0)) (at : IsAt old path c)
     (is_object : content_at old c ≡ object) (element : IsElementOf old c i n) (texts : IsCharacters name) (writable : IsWritable o v) (given : IsPropertyReplaced old new n name v m) where

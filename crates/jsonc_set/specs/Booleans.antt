@@ -44,16 +44,11 @@ pub record BooleanSet (old new : List Node) (n : ℕ) (b : Bool) : Type 0 where
 abbrev pub WantsSpaceFor : List Node → ℕ → Bool → Type 0
 WantsSpaceFor ns n b = IfDue (due_for ns n b)
 
--- The truth value is written at the path, as any other value would be, and of the literals and comments that of the old one has given way to its own.
-pub record IsBooleanWritten (o : Options) (path : List ℕ) (b : Bool) (was : Top) (old new : OrderedTree) : Type 0 where
-  pub written : IsWrittenAt o (Plain.boolean b) path was (boolean_leaf b) old new
-  pub marked : MarksDifferIn (marks_under was) (written_marks.written (Plain.boolean b)) (marks old) (marks new)
-
--- so it is where a truth value at a path of a sound document was set
+-- a truth value at a path of a sound document that was set is written there, as any other value would be
 abbrev pub WritesBoolean : Options → List Node → List Node → List ℕ → ℕ → Bool → Type 0
 WritesBoolean o old new path n b =
     IsTree old → SoundTree o (ordered_tree old 0) → IsAt old path n → is_boolean (content_at old n) ≡ true → BooleanSet old new n b
-    → IsBooleanWritten o path b (top_at old n) (ordered_tree old 0) (ordered_tree new 0)
+    → IsWrittenAt o (Plain.boolean b) path (top_at old n) (boolean_leaf b) (ordered_tree old 0) (ordered_tree new 0)
 
 -- it stands where it stood
 abbrev pub StaysAtPath : List Node → List Node → List ℕ → ℕ → Bool → Type 0

@@ -22,9 +22,8 @@ use Rattle.jsonc_edit.proofs.Kept.{tree_stays}
 use Rattle.jsonc_edit.proofs.OneValue.{document_once}
 use Rattle.jsonc_edit.proofs.Placed.{between_placed}
 use Rattle.jsonc_edit.proofs.Removal.{are_gone_blanks, blanks_and_comment, gone_blanks, gone_text, takes_trivia}
-use Rattle.jsonc_edit.proofs.Spacing.{all_spaced}
+use Rattle.jsonc_edit.proofs.Spacing.{all_spaced, spaces_marks}
 use Rattle.jsonc_edit.proofs.TakingOut.{loses_comment, removed, taken_sound, taken_value}
-use Rattle.jsonc_set.proofs.PropertyRows.{spaces_marks}
 use Rattle.jsonc_edit.specs.Changes.{top_at}
 use Rattle.jsonc_remove.specs.Removed.{TakesElement}
 use Rattle.jsonc_remove.proofs.Entries.{entry_taken}

@@ -19,11 +19,11 @@ use Rattle.jsonc_edit.specs.Paths.{IsAt, itself}
 use Rattle.jsonc_edit.specs.Reading.{layout_for, IsReplaced}
 use Rattle.jsonc_edit.specs.Writing.{IsWritable}
 use Rattle.jsonc_edit.proofs.ReplacedValues.{changed, put, replaced_written}
+use Rattle.jsonc_edit.proofs.Spacing.{spaces_marks}
 use Rattle.jsonc_set.specs.Kinds.{FoundOrCreated, FoundOrSet, KeptOrReplaced}
 use Rattle.jsonc_set.specs.PropertyValues.{HeldOrSet}
 use Rattle.jsonc_set.specs.RootSet.{FirstValue}
 use Rattle.jsonc_set.proofs.Gaining.{gives_first_value}
-use Rattle.jsonc_set.proofs.PropertyRows.{spaces_marks}
 use Rattle.jsonc_typed.specs.Marked.{EmptyMarked, IsMarkedFor, KeptOrMarked, MarksGiveWay, MarksStay, RootMarkedFor}
 use Rattle.jsonc_typed.specs.Setting.{EmptyWritten, KeptOrWritten, FirstOrSame}
 use Rattle.jsonc_typed.proofs.Found.{first_is, value_root}

@@ -74,7 +74,7 @@ module _ (old new : List Node) where
   -- if the old document was sound, and the truth value n stood in it at a path, the text is a document again, with this truth value at that path
   abbrev pub BooleanIsWritten : Options → ℕ → Bool → Type 0
   BooleanIsWritten o n b =
-      (path : List ℕ) → SoundTree o (ordered_tree old 0) → IsAt old path n → IsBooleanWritten o path b (top_at old n) (ordered_tree old 0) (ordered_tree new 0)
+      (path : List ℕ) → SoundTree o (ordered_tree old 0) → IsAt old path n → IsWrittenAt o (Plain.boolean b) path (top_at old n) (boolean_leaf b) (ordered_tree old 0) (ordered_tree new 0)
 
 -- the same of a document
 abbrev pub IsChildOf : {A : Type 0} → CstRootNode A → CstNode → CstNode → Type 0
