@@ -26,6 +26,7 @@ pub mod Placed
 pub mod Spacing
 pub mod DueKept
 pub mod TakingOut
+pub mod GoneComments
 pub mod Refusals
 pub mod Whole
 pub mod Meeting

@@ -6,6 +6,7 @@ use Rattle.std.specs.List.{All}
 use Rattle.jsonc_text.specs.Options.{Options}
 use Rattle.jsonc_text.specs.Plain.{Plain}
 use Rattle.jsonc_tree.specs.Building.{Keeps}
+use Rattle.jsonc_tree.specs.Content.{comment}
 use Rattle.jsonc_tree.specs.OrderedTree.{leaves, ordered_tree}
 use Rattle.jsonc_tree.specs.Tree.{Node, content_at, parent_at, children_at, place_at, IsTree, IsOver}
 use Rattle.jsonc_tree.specs.Values.{DocumentValueOf}
@@ -215,6 +216,13 @@ module _ (old new : List Node) (n : ℕ) (r : CommentTaken old new n) where
         are_blanks = are_gone_blanks spaced_nodes new n removed;
         around = subst (λ l. DiffersIn l [] (leaves (ordered_tree spaced_nodes 0)) (leaves (ordered_tree new 0))) (blanks_and_comment spaced_nodes new n removed) (document_differs (leaves_gone removed) [] t.trivia tt t.changed);
       }
+
+  -- the comment has the text that it had
+  pub text_stays : (s : List ℕ) → content_at old n ≡ comment s → loses_comment.text ≡ s
+  unfolding loses_comment
+  text_stays s is =
+      let e : comment (gone_text spaced_nodes new n removed).0 ≡ comment s = sym (gone_text spaced_nodes new n removed).1 ∙ spaced.content n ∙ taken.prepared.keeps.content n there ∙ is in
+      cc
 
   pub taken_sound : (o : Options) → SoundTree o (ordered_tree old 0) → SoundTree o (ordered_tree new 0)
   unfolding removed

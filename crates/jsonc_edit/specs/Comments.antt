@@ -1,7 +1,8 @@
 -- What leaves with a comment.
-use Rattle.std.specs.Prelude.{◌≡◌, ℕ, zero, suc, ◌+◌, List, [], ◌∷◌, ◌++◌, Option, Some, None, codes, map, slice_index, slice_range, if◌then◌else◌, IsTrue}
+use Rattle.std.specs.Prelude.{◌≡◌, ℕ, zero, suc, ◌+◌, List, [], ◌∷◌, ◌++◌, Option, Some, None, chars, codes, map, slice_index, slice_range, if◌then◌else◌, IsTrue}
 use Rattle.jsonc_text.specs.Options.{Options}
 use Rattle.jsonc_text.specs.Plain.{Plain}
+use Rattle.jsonc_text.specs.Grammar.{IsDocument}
 use Rattle.jsonc_tree.specs.Content.{Content, root, array, token, whitespace, newline, comment}
 use Rattle.jsonc_tree.specs.declared.node.CstNewlineKind.TheVariants.{LineFeed}
 use Rattle.jsonc_tree.specs.Changes.{Splices}
@@ -10,10 +11,12 @@ use Rattle.jsonc_tree.specs.Tree.{Node, content_at, parent_at, children_at, plac
 use Rattle.jsonc_tree.specs.Values.{DocumentValueOf}
 use Rattle.jsonc_nodes.specs.Kinds.{is_whitespace_at, is_newline_at, is_comment_at}
 use Rattle.jsonc_laws.specs.Below.build.Lines.{is_line_comment}
+use Rattle.jsonc_laws.specs.Below.build.Shape.{printed_text}
 use Rattle.jsonc_laws.specs.ChangeLaws.{DiffersIn}
 use Rattle.jsonc_laws.specs.TriviaChanges.{AreTrivia, StretchChanged, EndsInComment}
 use Rattle.jsonc_laws.specs.SoundTrees.{SoundTree}
-use Rattle.jsonc_laws.specs.MarkChanges.{AreBlanks}
+use Rattle.jsonc_laws.specs.MarkChanges.{AreBlanks, MarksDifferIn}
+use Rattle.jsonc_laws.specs.Marks.{comment_mark, marks}
 use Rattle.jsonc_edit.specs.Due.{due_between, listed}
 use Rattle.jsonc_edit.specs.Put.{AreSpaced, IfDue, Prepared}
 use Rattle.jsonc_edit.specs.Spaced.{SpacesPut}
@@ -100,6 +103,24 @@ pub record LosesComment (old new : OrderedTree) : Type 0 where
 
 abbrev pub HasLeavesWithout : List Node → List Node → ℕ → Type 0
 HasLeavesWithout old new n = CommentTaken old new n → LosesComment (ordered_tree old 0) (ordered_tree new 0)
+
+-- The document is one again, with the value that it had, or none as before; of its marks that of the comment of this text alone has left; and it is sound.
+pub record IsCommentGone (o : Options) (s : List ℕ) (t u : OrderedTree) : Type 0 where
+  pub value : Option Plain
+  pub old_text : IsDocument o (printed_text t) value
+  pub new_text : IsDocument o (printed_text u) value
+  pub marked : MarksDifferIn (comment_mark (chars s) ∷ []) [] (marks t) (marks u)
+  pub sound : SoundTree o u
+
+-- so it is if the old document is sound, and n the comment of this text in it
+abbrev pub CommentLeaves : Options → List Node → List Node → ℕ → Type 0
+CommentLeaves o old new n =
+    SoundTree o (ordered_tree old 0) → IsOver old 0 n → (s : List ℕ) → content_at old n ≡ comment s
+    → IsCommentGone o s (ordered_tree old 0) (ordered_tree new 0)
+
+-- and all leaves around it stay, but for the blanks before it that leave with it, in a document that is not sound too
+abbrev pub CommentLeavesAlone : List Node → List Node → ℕ → Type 0
+CommentLeavesAlone old new n = IsOver old 0 n → (s : List ℕ) → content_at old n ≡ comment s → LosesComment (ordered_tree old 0) (ordered_tree new 0)
 
 -- without a comment a sound document is sound
 abbrev pub IsSoundWithout : Options → List Node → List Node → ℕ → Type 0

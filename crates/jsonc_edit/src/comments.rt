@@ -1,13 +1,15 @@
 //! Comments that leave.
 
 ghost use Rattle.std.specs.Prelude.{◌≡◌, ◌<◌, ◌≤◌, ◌+◌, IfErr, None, OnErr, OnOk, Some, [], length, slice_index};
+ghost use Rattle.jsonc_text.specs.Options.{Options};
 ghost use Rattle.jsonc_tree.specs.Building.{Keeps};
 ghost use Rattle.jsonc_tree.specs.Content.{Content};
 ghost use Rattle.jsonc_tree.specs.OrderedTree.{ordered_tree};
 ghost use Rattle.jsonc_tree.specs.Stored.{content_of};
 ghost use Rattle.jsonc_tree.specs.Tree.{children_at, content_at, parent_at, place_at, IsTree};
 ghost use Rattle.jsonc_laws.specs.Below.build.Lines.{is_line_comment};
-ghost use Rattle.jsonc_edit.specs.Comments.{blanks_from, removed_from, newline_from, IsRemoved, TakesOut, WantsSpace};
+ghost use Rattle.jsonc_edit.specs.Comments.{blanks_from, removed_from, newline_from, CommentLeaves, CommentLeavesAlone};
+ghost use Rattle.jsonc_edit.specs.Comments.{IsRemoved, TakesOut, WantsSpace};
 
 use crate::due::due_between;
 use crate::error::EditError;
@@ -109,6 +111,9 @@ fn take_out<A: Allocator>(tree: &mut Tree<A>, container: usize, comment: usize)
 
 /// Takes a comment out of the document.
 ///
+/// Of a sound document the text is a document of the same value again, of whose literals and comments
+/// that comment alone has left, and around it all stays.
+///
 /// With a line comment go the whitespace leaves directly before it, and the newline leaf directly
 /// before those. Where two literals without quotes would come to stand directly beside each other, a
 /// space comes between them; its memory alone may be wanted, and a refusal leaves the document, and
@@ -120,6 +125,8 @@ pub fn remove_comment<A: Allocator + Copy>(
 ) -> Result<(), EditError>
     requires { comment < length tree.old.nodes }
     ensures removed { OnOk result (TakesOut tree.old.nodes tree.new.nodes comment) }
+    ensures written { (o : Options) → OnOk result (CommentLeaves o tree.old.nodes tree.new.nodes comment) }
+    ensures around { OnOk result (CommentLeavesAlone tree.old.nodes tree.new.nodes comment) }
     ensures untouched { parent_at tree.old.nodes comment ≡ None → tree.new.nodes ≡ tree.old.nodes }
     ensures memory { IfErr result (λ e. e ≡ EditError.OutOfMemory) }
     ensures wanted { OnErr result (WantsSpace tree.old.nodes comment) }

@@ -1,6 +1,7 @@
 use Rattle.std.proofs.Common.{sym, ◌∙◌}
 use Rattle.jsonc_edit.proofs.GivingWay.{where_refused}
 use Rattle.jsonc_edit.proofs.Kept.{tree_stays}
+use Rattle.jsonc_edit.proofs.GoneComments.{comment_leaves, comment_leaves_alone}
 use Rattle.jsonc_edit.proofs.TakingOut.{space_children, space_child, comment_taken_out}
 use Rattle.jsonc_edit.proofs.comments.remove_comment.Goals as goal
 
@@ -22,3 +23,9 @@ pub returns-clause-removed : goal.returns-clause-removed
 returns-clause-removed g c =
     comment_taken_out c.args.tree.now.nodes c.make_spaces.new.tree.nodes c.len.ensures.tree c.make_spaces.ensures.prepared c.args.comment c.in-Some.container (sym c.parent.ensures ∙ c.in-Some.is) c.first_removed-first.result c.first_removed-first.ensures.first c.due_between-due.result c.due_between-due.ensures.due
     c.in_ok-spaces.spaces c.in_ok-spaces.ensures.hand.are c.put_spaces.new.tree.nodes c.put_spaces.ensures.put c.take_out.new.tree.nodes c.take_out.ensures.removed
+
+pub returns-clause-written : goal.returns-clause-written
+returns-clause-written g c = λ o. comment_leaves c.args.tree.now.nodes c.take_out.new.tree.nodes c.len.ensures.tree c.take_out.ensures.tree c.args.comment o (returns-clause-removed g c)
+
+pub returns-clause-around : goal.returns-clause-around
+returns-clause-around g c = comment_leaves_alone c.args.tree.now.nodes c.take_out.new.tree.nodes c.len.ensures.tree c.take_out.ensures.tree c.args.comment (returns-clause-removed g c)
