@@ -27,6 +27,9 @@ pub mod Spacing
 pub mod DueKept
 pub mod TakingOut
 pub mod GoneComments
+pub mod InOrder
+pub mod Ahead
+pub mod Numbered
 pub mod Refusals
 pub mod Whole
 pub mod Meeting

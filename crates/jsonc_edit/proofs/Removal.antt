@@ -182,7 +182,7 @@ module _ (ns : List Node) (tree : IsTree ns) where
     abbrev first : List ℕ
     first = slice_range cs from place
 
-    gone_is : gone ≡ first ++ n ∷ []
+    pub gone_is : gone ≡ first ++ n ∷ []
     gone_is =
         let inn : place < length cs = tree.within n c said in
         let le : from ≤ place = from_before in
@@ -314,7 +314,7 @@ module _ (old new : List Node) (n : ℕ) (r : CommentRemoved old new n) where
       three_parts old (take i row) gone_nodes (drop j row) (row_below old c)
       (subst (λ (l : List ℕ). Shows old l (row_below old c)) (split_between row i j (omega (arith, from_before old r.tree c n r.parent))) (Shows-row_below old r.tree c (parent_there old r.tree n c r.parent).1))
 
-  all_trivia : AreTrivia (leaves_gone r)
+  pub all_trivia : AreTrivia (leaves_gone r)
   all_trivia = trivia_gone old r.tree c n r.parent r.comment
 
   some_gone : leaves_gone r ≢ []

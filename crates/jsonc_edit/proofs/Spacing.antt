@@ -27,6 +27,7 @@ use Rattle.jsonc_edit.proofs.Putting.{contents_kept, parent_kept, children_kept,
 use Rattle.jsonc_edit.specs.Changes.{row_below, top_at}
 use Rattle.jsonc_edit.specs.Paths.{IsElementOf, StepsTo, LeadsTo, itself, step, IsAt}
 use Rattle.jsonc_edit.specs.Spaced.{SpacesPut, none_put, one_put}
+use Rattle.jsonc_edit.proofs.Ahead.{comment_nodes, space_keeps_comments}
 use Rattle.jsonc_edit.proofs.Elements.{Some_same}
 use Rattle.jsonc_edit.proofs.Placed.{Placed}
 use Rattle.jsonc_edit.proofs.Walk.{Shows-row_below}
@@ -175,6 +176,7 @@ pub record Spaced (old new : List Node) (n : ℕ) : Type 0 where
   pub over : (k : ℕ) → (c : ℕ) → parent_at old k ≡ Some c → IsOver old 0 k → IsOver new 0 k
   pub top : n < length old → top_at new n ≡ top_at old n
   pub free : (m : ℕ) → Free old m → Free new m × (top_at new m ≡ top_at old m)
+  pub comments : comment_nodes new ≡ comment_nodes old
 
 none_spaced : (old : List Node) (n : ℕ) → IsTree old → Spaced old old n
 none_spaced old n tree = record {
@@ -187,6 +189,7 @@ none_spaced old n tree = record {
   over = λ k c said h. h;
   top = λ h. refl;
   free = λ m f. (f, refl);
+  comments = refl;
 }
 
 pub all_spaced : (n : ℕ) (xs : List ℕ) (old new : List Node) → IsTree old → All (Placed old n) xs → AreSpaced old xs new → Spaced old new n
@@ -204,6 +207,7 @@ all_spaced n (x ∷ xs) old new tree f (now, leaf, r, rest) =
       over = λ k c said h. s.over k c (parent_stays old now x leaf tree r k c said) (over_kept old now x leaf tree r 0 k (child_apart old now x leaf tree r k c said) h);
       top = λ there. s.top (omega (arith, there, r.put.len)) ∙ n_stays old now x leaf tree r n here there;
       free = λ m g. let first = free_stays old now x leaf tree r n here m g in let then = s.free m first.0 in (then.0, then.1 ∙ first.1);
+      comments = s.comments ∙ space_keeps_comments old now x leaf tree r here.over;
     }
 
 -- a document with spaces is sound, and has its value

@@ -1,8 +1,8 @@
 -- A comment is taken out, with a space in its place where one is due.
-use Rattle.std.proofs.Common.{◌≡◌, ℕ, zero, suc, ◌<◌, ◌≤◌, Bool, true, false, ◌&&◌, ◌||◌, cond, List, [], ◌∷◌, length, slice_index, Option, Some, None, IsTrue, inl, inr, if◌then◌else◌, refl, sym, ap, subst, ◌∙◌, arith}
+use Rattle.std.proofs.Common.{◌≡◌, ℕ, zero, suc, ◌<◌, ◌≤◌, Bool, true, false, ◌&&◌, ◌||◌, cond, List, [], ◌∷◌, ◌++◌, length, slice_index, Option, Some, None, IsTrue, inl, inr, if◌then◌else◌, refl, sym, ap, subst, ◌∙◌, arith}
 use Rattle.std.proofs.lemmas.Bool.{cases_Bool}
 use Rattle.std.proofs.lemmas.List.Elements.{All-weaker}
-use Rattle.std.specs.List.{All}
+use Rattle.std.specs.List.{slice_get, All}
 use Rattle.jsonc_text.specs.Options.{Options}
 use Rattle.jsonc_text.specs.Plain.{Plain}
 use Rattle.jsonc_tree.specs.Building.{Keeps}
@@ -14,7 +14,6 @@ use Rattle.jsonc_tree.proofs.Order.{parent_there}
 use Rattle.jsonc_nodes.specs.Kinds.{is_comment, is_newline, is_whitespace, is_whitespace_at}
 use Rattle.jsonc_laws.specs.Below.build.Lines.{is_line_comment}
 use Rattle.jsonc_laws.specs.ChangeLaws.{DiffersIn}
-use Rattle.jsonc_laws.proofs.TriviaLeaves.{document_differs}
 use Rattle.jsonc_laws.proofs.TriviaValues.{document_kept}
 use Rattle.jsonc_laws.specs.SoundTrees.{SoundTree}
 use Rattle.jsonc_edit.specs.Due as due
@@ -22,8 +21,10 @@ use Rattle.jsonc_edit.specs.Due.{prints_at, prints_within, is_other, begins_bare
 use Rattle.jsonc_edit.specs.Put.{AreChildren, AreSpaced, Prepared, nodes_of}
 use Rattle.jsonc_edit.specs.declared.put.Spaces.{Spaces}
 use Rattle.jsonc_edit.proofs.Quiet.{quiet_behind}
-use Rattle.jsonc_edit.specs.Comments.{blanks_from, newline_from, removed_from, due_without, IsRemoved, IsTakenOut, TakesOut, CommentRemoved, CommentTaken, leaves_gone, LosesComment}
+use Rattle.jsonc_edit.specs.Comments.{blanks_from, newline_from, removed_from, due_without, IsRemoved, IsTakenOut, TakesOut, CommentRemoved, CommentTaken, comment_at, comments_ahead, leaves_gone, LosesComment}
 use Rattle.jsonc_edit.specs.Spaced.{SpacesPut}
+use Rattle.jsonc_edit.proofs.Ahead.{making_keeps_comments}
+use Rattle.jsonc_edit.proofs.Numbered.{leaves_apart, number_ahead}
 use Rattle.jsonc_edit.proofs.Elements.{Some_same}
 use Rattle.jsonc_edit.proofs.DueKept.{due_between_same}
 use Rattle.jsonc_edit.proofs.Kept.{tree_stays, place_kept}
@@ -207,15 +208,26 @@ module _ (old new : List Node) (n : ℕ) (r : CommentTaken old new n) where
 
   pub loses_comment : LosesComment (ordered_tree old 0) (ordered_tree new 0)
   loses_comment =
-      let t = takes_trivia spaced_nodes new n removed in
+      let apart : DiffersIn (leaves_gone removed) [] (leaves (ordered_tree spaced_nodes 0)) (leaves (ordered_tree new 0)) = leaves_apart spaced_nodes new n removed in
       record {
         spaced = ordered_tree spaced_nodes 0;
         blanks = gone_blanks spaced_nodes new n removed;
         text = (gone_text spaced_nodes new n removed).0;
         spaces = subst (λ u. SpacesPut u (ordered_tree spaced_nodes 0)) same_tree spaced.put;
         are_blanks = are_gone_blanks spaced_nodes new n removed;
-        around = subst (λ l. DiffersIn l [] (leaves (ordered_tree spaced_nodes 0)) (leaves (ordered_tree new 0))) (blanks_and_comment spaced_nodes new n removed) (document_differs (leaves_gone removed) [] t.trivia tt t.changed);
+        around = record {
+          front = apart.front;
+          back = apart.back;
+          before = apart.before ∙ ap (λ l. apart.front ++ (l ++ apart.back)) (blanks_and_comment spaced_nodes new n removed);
+          after = apart.after;
+        };
       }
+
+  -- as many comments stand before it as its number says
+  pub numbered : (number : ℕ) → comment_at old number ≡ Some n → comments_ahead loses_comment ≡ number
+  unfolding loses_comment
+  numbered number at =
+      number_ahead spaced_nodes new n removed number (ap (λ l. slice_get l number) (spaced.comments ∙ making_keeps_comments old ready r.tree taken.prepared.keeps) ∙ at)
 
   -- the comment has the text that it had
   pub text_stays : (s : List ℕ) → content_at old n ≡ comment s → loses_comment.text ≡ s

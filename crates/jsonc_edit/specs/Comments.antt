@@ -1,11 +1,13 @@
 -- What leaves with a comment.
-use Rattle.std.specs.Prelude.{◌≡◌, ℕ, zero, suc, ◌+◌, List, [], ◌∷◌, ◌++◌, Option, Some, None, chars, codes, map, slice_index, slice_range, if◌then◌else◌, IsTrue}
+use Rattle.std.specs.Prelude.{◌≡◌, ℕ, zero, suc, ◌+◌, List, [], ◌∷◌, ◌++◌, Option, Some, None, chars, codes, filter, length, map, slice_index, slice_range, if◌then◌else◌, IsTrue}
 use Rattle.jsonc_text.specs.Options.{Options}
 use Rattle.jsonc_text.specs.Plain.{Plain}
 use Rattle.jsonc_text.specs.Grammar.{IsDocument}
 use Rattle.jsonc_tree.specs.Content.{Content, root, array, token, whitespace, newline, comment}
 use Rattle.jsonc_tree.specs.declared.node.CstNewlineKind.TheVariants.{LineFeed}
+use Rattle.std.specs.List.{slice_get}
 use Rattle.jsonc_tree.specs.Changes.{Splices}
+use Rattle.jsonc_tree.specs.Order.{in_order}
 use Rattle.jsonc_tree.specs.OrderedTree.{OrderedTree, leaves, ordered_tree}
 use Rattle.jsonc_tree.specs.Tree.{Node, content_at, parent_at, children_at, place_at, IsTree, IsOver}
 use Rattle.jsonc_tree.specs.Values.{DocumentValueOf}
@@ -16,7 +18,7 @@ use Rattle.jsonc_laws.specs.ChangeLaws.{DiffersIn}
 use Rattle.jsonc_laws.specs.TriviaChanges.{AreTrivia, StretchChanged, EndsInComment}
 use Rattle.jsonc_laws.specs.SoundTrees.{SoundTree}
 use Rattle.jsonc_laws.specs.MarkChanges.{AreBlanks, MarksDifferIn}
-use Rattle.jsonc_laws.specs.Marks.{comment_mark, marks}
+use Rattle.jsonc_laws.specs.Marks.{comment_mark, comments_of, marks, marks_of}
 use Rattle.jsonc_edit.specs.Due.{due_between, listed}
 use Rattle.jsonc_edit.specs.Put.{AreSpaced, IfDue, Prepared}
 use Rattle.jsonc_edit.specs.Spaced.{SpacesPut}
@@ -37,6 +39,10 @@ newline_from ns row (suc place) = if is_newline_at ns (slice_index row place) th
 abbrev pub removed_from : List Node → ℕ → ℕ → ℕ
 removed_from ns c n = if is_line_comment (content_at ns n) then newline_from ns (children_at ns c)
     (blanks_from ns (children_at ns c) (place_at ns n)) else place_at ns n
+
+-- the comment of this number, counted from 0 in the order of the document
+abbrev pub comment_at : List Node → ℕ → Option ℕ
+comment_at ns number = slice_get (filter (is_comment_at ns) (in_order ns 0)) number
 
 -- the children from there up to the comment have left the row
 abbrev pub IsRemoved : List Node → List Node → ℕ → Type 0
@@ -101,8 +107,14 @@ pub record LosesComment (old new : OrderedTree) : Type 0 where
   pub are_blanks : AreBlanks blanks
   pub around : DiffersIn (blanks ++ comment text ∷ []) [] (leaves spaced) (leaves new)
 
+-- how many comments stand before it
+abbrev pub comments_ahead : {old new : OrderedTree} → LosesComment old new → ℕ
+comments_ahead loses = length (comments_of (marks_of loses.around.front))
+
+-- the comment of a number is the one before which so many stand
 abbrev pub HasLeavesWithout : List Node → List Node → ℕ → Type 0
-HasLeavesWithout old new n = CommentTaken old new n → LosesComment (ordered_tree old 0) (ordered_tree new 0)
+HasLeavesWithout old new n =
+    CommentTaken old new n → (loses : LosesComment (ordered_tree old 0) (ordered_tree new 0)) × ((number : ℕ) → comment_at old number ≡ Some n → comments_ahead loses ≡ number)
 
 -- The document is one again, with the value that it had, or none as before; of its marks that of the comment of this text alone has left; and it is sound.
 pub record IsCommentGone (o : Options) (s : List ℕ) (t u : OrderedTree) : Type 0 where

@@ -151,7 +151,8 @@ pub fn replaced_values_are_written()
 
 /// What leaves with a comment of the document is trivia that ends in it, and nothing comes in its
 /// place but a space where two literals without quotes would have met; so a sound document stays
-/// sound, and has the value that it had. All other leaves stay, in order.
+/// sound, and has the value that it had. All other leaves stay, in order, and before it stand as many
+/// comments as its number says.
 pub fn documents_without_a_comment()
     ensures trivia { (old new : List Node) (n : ℕ) (r : CommentRemoved old new n) → TakesTrivia r }
     ensures sound { (o : Options) (old new : List Node) (n : ℕ) → IsSoundWithout o old new n }

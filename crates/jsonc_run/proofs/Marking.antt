@@ -1,5 +1,5 @@
 -- What edits that were made in order make of the marks of a document.
-use Rattle.std.proofs.Common.{ℕ, ◌≡◌, suc, get_or, List, [], ◌∷◌, sym, refl, ap, subst, ◌∙◌, arith, chars}
+use Rattle.std.proofs.Common.{ℕ, ◌≡◌, suc, get_or, length, List, [], ◌∷◌, sym, refl, ap, subst, ◌∙◌, arith, chars, Result, Ok, Err, OnOk}
 use Rattle.std.specs.List.{All}
 use Rattle.jsonc_text.specs.Options.{Options}
 use Rattle.jsonc_text.specs.Plain.{Plain}
@@ -11,7 +11,7 @@ use Rattle.jsonc_from_input.specs.Texts.{IsCharacters}
 use Rattle.jsonc_laws.specs.TreeChanges.{property_of}
 use Rattle.jsonc_laws.specs.SoundTrees.{SoundTree}
 use Rattle.jsonc_laws.specs.MarkChanges.{MarksDifferIn, marks_under}
-use Rattle.jsonc_laws.specs.Marks.{Mark, marks, trimmed}
+use Rattle.jsonc_laws.specs.Marks.{Mark, comments_of, marks, trimmed}
 use Rattle.jsonc_laws.specs.Written.{property_written, written}
 use Rattle.jsonc_laws.proofs.GivingWay.{one_mark_leaves}
 use Rattle.jsonc_laws.proofs.Laid.{laid_as_written, laid_as_written_named}
@@ -21,6 +21,7 @@ use Rattle.jsonc_laws.specs.Coming.{ValueComes}
 use Rattle.jsonc_laws.specs.EntryLaws.{root_with}
 use Rattle.jsonc_laws.proofs.FirstValue.{marks_with_first}
 use Rattle.jsonc_laws.proofs.RootRows.{root_marks}
+use Rattle.jsonc_edit.specs.Comments.{LosesComment}
 use Rattle.jsonc_edit.specs.Writing.{IsWritable}
 use Rattle.jsonc_edit.proofs.Spacing.{spaces_marks}
 use Rattle.jsonc_multiline.proofs.SameDocument.{keeps_document}
@@ -100,9 +101,13 @@ module _ (o : Options) (old new : List Node) (tree : IsTree old) (after : IsTree
       let left = around (remove path) made in
       entry_marked o t u path s (left o s)
   one_marked (remove_comment number) may s made =
-      let r = around (remove_comment number) made in
-      let m = (one_mark_leaves r.blanks r.text (leaves r.spaced) (leaves u) r.are_blanks r.around).0 in
-      (trimmed (chars r.text), subst (λ l. MarksDifferIn (Mark.comment (trimmed (chars r.text)) ∷ []) [] l (marks u)) (spaces_marks r.spaces) m)
+      let a = around (remove_comment number) made in
+      let r : LosesComment t u = a.0 in
+      let m = one_mark_leaves r.blanks r.text (leaves r.spaced) (leaves u) r.are_blanks r.around in (
+        trimmed (chars r.text),
+        record { front = m.0.front; back = m.0.back; before = sym (spaces_marks r.spaces) ∙ m.0.before; after = m.0.after },
+        ap (λ l. length (comments_of l)) m.1 ∙ a.1,
+      )
   one_marked (set_root v) may s made =
       let set = around (set_root v) made in
       root_marked o t u v may (set o s)
@@ -164,3 +169,8 @@ mark_all o old new es tree made s may x y p q =
     let first : x ≡ marks (ordered_tree old 0) = marks_unique p (prints_its_marks o (ordered_tree old 0) s) in
     let last : y ≡ marks (ordered_tree new 0) = marks_unique q (prints_its_marks (options_after o es) (ordered_tree new 0) written.sound) in
     subst (λ l. AreMarked l es y) (sym first) (subst (λ l. AreMarked (marks (ordered_tree old 0)) es l) (sym last) (all_marked o old new es tree made s may))
+
+-- what an edit that was made answers
+pub answer_marked : {T E : Type 0} (o : Options) (old new : List Node) (e : Operation) → IsTree old → IsTree new → (r : Result T E) → OnOk r (IsMade old e new) → OnOk r (MarkAll o old (e ∷ []) new)
+answer_marked o old new e tree after (Ok t) is = mark_all o old new (e ∷ []) tree (first_made is after none_made)
+answer_marked o old new e tree after (Err x) is = tt

@@ -16,7 +16,7 @@ use Rattle.jsonc_from_input.specs.Texts.{IsCharacters}
 use Rattle.jsonc_nodes.specs.Properties.{value_at}
 use Rattle.jsonc_edit.proofs.OneValue.{document_once}
 use Rattle.jsonc_edit.proofs.ReplacedValues.{replaced_written}
-use Rattle.jsonc_edit.proofs.TakingOut.{loses_comment, taken_sound, taken_value}
+use Rattle.jsonc_edit.proofs.TakingOut.{loses_comment, numbered, taken_sound, taken_value}
 use Rattle.jsonc_edit.specs.Paths.{IsAt, IsElementOf, LeadsTo, itself}
 use Rattle.jsonc_edit.specs.Reading.{IsReplaced}
 use Rattle.jsonc_lines.specs.Kinds.{holds_values}
@@ -84,7 +84,7 @@ entry_leaves o old new _ n tree after sound (an_entry front c i at entry) takes 
 pub stays_around : (old new : List Node) (e : Operation) → IsTree old → IsTree new → IsMade old e new → StayAround (ordered_tree old 0) e (ordered_tree new 0)
 stays_around old new (replace path v) tree after (n, m, at, r) = value_gives_way old new path n m v tree at r
 stays_around old new (remove path) tree after (n, at, takes) = λ o sound. entry_leaves o old new path n tree after sound at takes
-stays_around old new (remove_comment number) tree after (n, at, r) = loses_comment old new n r
+stays_around old new (remove_comment number) tree after (n, at, r) = (loses_comment old new n r, numbered old new n r number at)
 stays_around old new (set_root v) tree after made = λ o sound. root_value_set o old new v tree sound (value_at old 0) refl made
 stays_around old new clear_root tree after made = no_leaves new after (emptied old new made)
 stays_around old new (replace_property path name v) tree after (n, m, at, r) = λ o sound texts may. property_gives_way o old new path n m name v tree sound at texts may r

@@ -1,5 +1,5 @@
 -- What edits that were made in order make of the marks of a document: its literals and comments, as they are written.
-use Rattle.std.specs.Prelude.{◌≡◌, ℕ, Bool, List, [], ◌∷◌, count_by}
+use Rattle.std.specs.Prelude.{◌≡◌, ℕ, Bool, List, [], ◌∷◌, count_by, length}
 use Rattle.std.specs.List.{All}
 use Rattle.jsonc_text.specs.Options.{Options}
 use Rattle.jsonc_text.specs.Plain.{boolean}
@@ -10,7 +10,7 @@ use Rattle.jsonc_tree.specs.OrderedTree.{Top}
 use Rattle.jsonc_laws.specs.SoundTrees.{SoundTree}
 use Rattle.jsonc_laws.specs.MarkChanges.{MarksDifferIn}
 use Rattle.jsonc_laws.specs.Marks as marks
-use Rattle.jsonc_laws.specs.Marks.{Mark, AreMarks}
+use Rattle.jsonc_laws.specs.Marks.{Mark, AreMarks, comments_of}
 use Rattle.jsonc_laws.specs.Written.{property_written, written}
 use Rattle.jsonc_laws.specs.EntryLaws.{LosesMarks}
 use Rattle.jsonc_named.specs.declared.shape.Over.TheVariants.{Keep, Replace}
@@ -19,14 +19,14 @@ use Rattle.jsonc_run.specs.Edits.{Operation, replace, remove, remove_comment, se
 use Rattle.jsonc_run.specs.Written.{MayBeMade, options_after}
 
 -- One stretch of the marks has given way to the literals that are written for the new value, or for the new name and value of a property; in a document
--- that had no value these have come. Or those of an entry have left, with comments beside it; or one comment has left. All others stay, in order. An
+-- that had no value these have come. Or those of an entry have left, with comments beside it; or one comment has left, the one of that number. All others stay, in order. An
 -- empty array or object has none, and none leave where another value is to stay. Of a cleared root none stay. One truth value has given way to another. Lines change none. Of a value that comes into an array
 -- the literals have come, and of a property that comes into an object its name and the literals of its value. Commas change none, and where entries come in an
 -- order each mark is there as often as before.
 abbrev pub IsMarked : List Mark → Operation → List Mark → Type 0
 IsMarked x (replace path v) y = (was : List Mark) × MarksDifferIn was (written v) x y
 IsMarked x (remove path) y = (top : Top) × LosesMarks top x y
-IsMarked x (remove_comment number) y = (s : List ℕ) × MarksDifferIn (marks.comment s ∷ []) [] x y
+IsMarked x (remove_comment number) y = (s : List ℕ) × (gone : MarksDifferIn (marks.comment s ∷ []) [] x y) × (length (comments_of gone.front) ≡ number)
 IsMarked x (set_root v) y = (was : List Mark) × MarksDifferIn was (written v) x y
 IsMarked x clear_root y = y ≡ []
 IsMarked x (replace_property path name v) y = (was : List Mark) × MarksDifferIn was (property_written name v) x y

@@ -1,18 +1,11 @@
--- What the path or the number of an edit leads to.
-use Rattle.std.specs.Prelude.{◌≡◌, ℕ, true, List, [], ◌∷◌, ◌++◌, Option, filter, IsTrue}
-use Rattle.std.specs.List.{slice_get}
+-- What the path of an edit leads to.
+use Rattle.std.specs.Prelude.{◌≡◌, ℕ, true, List, [], ◌∷◌, ◌++◌, IsTrue}
 use Rattle.jsonc_tree.specs.Content.{array, object}
 use Rattle.jsonc_tree.specs.Tree.{Node, content_at}
-use Rattle.jsonc_tree.specs.Order.{in_order}
-use Rattle.jsonc_nodes.specs.Kinds.{is_comment_at}
 use Rattle.jsonc_edit.specs.Paths.{IsAt, IsElementOf}
 use Rattle.jsonc_named.specs.Places.{IsPropertyOf}
 use Rattle.jsonc_lines.specs.Kinds.{holds_values}
 use Rattle.jsonc_set.specs.Booleans.{is_boolean}
-
--- the comment of this number, counted from 0 in the order of the document
-abbrev pub comment_at : List Node → ℕ → Option ℕ
-comment_at ns number = slice_get (filter (is_comment_at ns) (in_order ns 0)) number
 
 -- the truth value that a path leads to
 abbrev pub IsBooleanAt : List Node → List ℕ → ℕ → Type 0

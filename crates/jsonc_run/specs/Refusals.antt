@@ -7,7 +7,7 @@ use Rattle.jsonc_nodes.specs.Properties.{lacks_name_at, value_at}
 use Rattle.jsonc_edit.specs.declared.error.EditError.{EditError}
 use Rattle.jsonc_edit.specs.declared.error.EditError.TheVariants.{OutOfMemory, MissingBrackets, MissingName, NoSuchPlace}
 use Rattle.jsonc_commas.specs.InTurn.{holders, AreSetInPart}
-use Rattle.jsonc_edit.specs.Comments.{WantsSpace}
+use Rattle.jsonc_edit.specs.Comments.{comment_at, WantsSpace}
 use Rattle.jsonc_edit.specs.declared.modes.TrailingCommaMode.{TrailingCommaMode}
 use Rattle.jsonc_edit.specs.declared.modes.TrailingCommaMode.TheVariants.{IfMultiline}
 use Rattle.jsonc_edit.specs.Paths.{IsAt}
@@ -22,7 +22,7 @@ use Rattle.jsonc_named.specs.declared.shape.Shape.{Shape}
 use Rattle.jsonc_named.specs.Named.{IsUnensured}
 use Rattle.jsonc_named.specs.Shapes.{is_of}
 use Rattle.jsonc_named.specs.Places.{IsPropertyAt}
-use Rattle.jsonc_run.specs.Places.{comment_at, IsArrayAt, IsBooleanAt, IsContainerAt, IsEntryAt, IsObjectAt}
+use Rattle.jsonc_run.specs.Places.{IsArrayAt, IsBooleanAt, IsContainerAt, IsEntryAt, IsObjectAt}
 use Rattle.jsonc_run.specs.Edits.{Operation, replace, remove, remove_comment, set_root, clear_root, replace_property, ensure_root, set_value, ensure_value, set_boolean, ensure_multiline, insert_element, append_element, insert_property, append_property, ensure_property, set_commas, set_some_commas, rearrange}
 
 -- a node stands where the edit is to be made, an entry, a property, a truth value, an array or object, an array, an object, or there is

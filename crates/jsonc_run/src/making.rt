@@ -14,6 +14,7 @@ ghost use Rattle.jsonc_run.specs.Edits.{set_root as asked_of_root, replace_prope
 ghost use Rattle.jsonc_laws.specs.SoundTrees.{SoundTree};
 ghost use Rattle.jsonc_run.specs.Refusals.{IsLeft, IsToldBy, WantsMemoryOrPlace};
 ghost use Rattle.jsonc_named.specs.Shapes.{empty_of, is_of};
+ghost use Rattle.jsonc_run.specs.Marked.{MarkAll};
 ghost use Rattle.jsonc_run.specs.Written.{WriteAll};
 
 use crate::commas::set_commas_at;
@@ -49,6 +50,8 @@ pub fn make<A: Allocator + Copy>(
         → IfErr result WantsMemoryOrPlace }
     ensures written { (o : Options)
         → OnOk result (WriteAll o tree.old.nodes (operation_of unsorted edit.now ∷ []) tree.new.nodes) }
+    ensures marked { (o : Options)
+        → OnOk result (MarkAll o tree.old.nodes (operation_of unsorted edit.now ∷ []) tree.new.nodes) }
     ensures left { OnErr result (IsLeft tree.old.nodes (operation_of unsorted edit.now) tree.new.nodes) }
     ensures tree { IsTree tree.new.nodes }
 {

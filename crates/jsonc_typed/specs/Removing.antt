@@ -15,7 +15,7 @@ use Rattle.jsonc_laws.specs.SoundTrees.{SoundTree}
 use Rattle.jsonc_edit.specs.declared.error.EditError.{EditError}
 use Rattle.jsonc_edit.specs.declared.error.EditError.TheVariants.{OutOfMemory}
 use Rattle.jsonc_edit.specs.Changes.{top_at}
-use Rattle.jsonc_edit.specs.Comments.{LosesComment, TakesOut, WantsSpace}
+use Rattle.jsonc_edit.specs.Comments.{CommentLeaves, CommentLeavesAlone, TakesOut, WantsSpace}
 use Rattle.jsonc_edit.specs.Paths.{IsAt, IsElementOf}
 use Rattle.jsonc_remove.specs.Laws.{EntryTaken, IsEntryRemoved, IsValueRemoved, ValueTaken}
 use Rattle.jsonc_remove.specs.Removed.{IsKeptFor, TakesElement}
@@ -83,20 +83,10 @@ pub record IsElementGone (o : Options) (old new : List Node) (n : ℕ) : Type 0 
       → IsEntryRemoved o path i (top_at old n) (ordered_tree old 0) (ordered_tree new 0)
   pub value : IsElementOf old 0 0 n → IsValueRemoved o (top_at old n) (ordered_tree old 0) (ordered_tree new 0)
 
--- The document is one again, with the value that it had, or none as before; of its marks that of the comment of this text alone has left; and it is sound.
-pub record IsCommentGone (o : Options) (s : List ℕ) (t u : OrderedTree) : Type 0 where
-  pub value : Option Plain
-  pub old_text : IsDocument o (printed_text t) value
-  pub new_text : IsDocument o (printed_text u) value
-  pub marked : MarksDifferIn (comment_mark (chars s) ∷ []) [] (marks t) (marks u)
-  pub sound : SoundTree o u
-
 -- so it is if the old document is sound and the node leaves with what leaves with it; a cleared document has no value and no marks, and is sound
 abbrev pub IsWrittenBy : Removal → Options → List Node → List Node → ℕ → Type 0
 IsWrittenBy Clearing o old new n = IsBareDocument o (ordered_tree new 0)
-IsWrittenBy OfComment o old new n =
-    SoundTree o (ordered_tree old 0) → IsOver old 0 n → (s : List ℕ) → content_at old n ≡ comment s
-    → IsCommentGone o s (ordered_tree old 0) (ordered_tree new 0)
+IsWrittenBy OfComment o old new n = CommentLeaves o old new n
 IsWrittenBy OfElement o old new n = SoundTree o (ordered_tree old 0) → IsElementGone o old new n
 IsWrittenBy OfLeaf o old new n = Unit {0}
 
@@ -110,7 +100,7 @@ pub record IsTakenAlone (old new : List Node) (n : ℕ) : Type 0 where
 -- what stays around the node that was taken out: around a comment of the document all leaves but for the blanks before it that leave with it
 abbrev pub StaysAround : Removal → Options → List Node → List Node → ℕ → Type 0
 StaysAround Clearing o old new n = Unit {0}
-StaysAround OfComment o old new n = IsOver old 0 n → (s : List ℕ) → content_at old n ≡ comment s → LosesComment (ordered_tree old 0) (ordered_tree new 0)
+StaysAround OfComment o old new n = CommentLeavesAlone old new n
 StaysAround OfElement o old new n = SoundTree o (ordered_tree old 0) → IsTakenAlone old new n
 StaysAround OfLeaf o old new n = Unit {0}
 

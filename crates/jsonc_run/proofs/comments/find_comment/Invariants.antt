@@ -3,7 +3,7 @@ use Rattle.std.specs.List.{slice_get}
 use Rattle.jsonc_tree.specs.Tree.{IsOver}
 use Rattle.jsonc_tree.specs.Order.{rest_at}
 use Rattle.jsonc_nodes.specs.Kinds.{is_comment_at}
-use Rattle.jsonc_run.specs.Places.{comment_at}
+use Rattle.jsonc_edit.specs.Comments.{comment_at}
 use Rattle.jsonc_run.proofs.comments.find_comment.Given as goal
 
 abbrev pub invariant-loop-next : goal.invariant-loop-next

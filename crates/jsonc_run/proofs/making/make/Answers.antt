@@ -1,4 +1,5 @@
 use Rattle.jsonc_run.specs.Edits.{operation_of, unsorted}
+use Rattle.jsonc_run.proofs.Marking.{answer_marked}
 use Rattle.jsonc_run.proofs.Written.{answer_written}
 use Rattle.jsonc_run.proofs.Refused.{answer_refused}
 use Rattle.jsonc_run.proofs.making.make.Goals as goal
@@ -10,3 +11,7 @@ returns-clause-memory_or_place g c = λ o sound.
 pub returns-clause-written : goal.returns-clause-written
 returns-clause-written g c = λ o.
     answer_written o c.args.tree.now.nodes c.make_by_kind.new.tree.nodes (operation_of unsorted c.args.edit.now) c.len.ensures.tree c.make_by_kind.ensures.tree c.make_by_kind.result c.make_by_kind.ensures.made
+
+pub returns-clause-marked : goal.returns-clause-marked
+returns-clause-marked g c = λ o.
+    answer_marked o c.args.tree.now.nodes c.make_by_kind.new.tree.nodes (operation_of unsorted c.args.edit.now) c.len.ensures.tree c.make_by_kind.ensures.tree c.make_by_kind.result c.make_by_kind.ensures.made

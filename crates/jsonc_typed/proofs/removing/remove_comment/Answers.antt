@@ -1,5 +1,4 @@
 use Rattle.jsonc_typed.proofs.Kept.{nodes_stay, stay_either}
-use Rattle.jsonc_typed.proofs.Gone.{comment_alone, comment_written}
 use Rattle.jsonc_typed.proofs.Whole.{comment_for_memory}
 use Rattle.jsonc_typed.proofs.Elsewhere.{if_comment}
 use Rattle.jsonc_typed.proofs.Nobodys.{if_taken_nobodys}
@@ -11,17 +10,9 @@ returns-clause-stays g c =
     let new = c.remove_comment.new.tree.nodes in
     nodes_stay old new (stay_either old new c.args.number c.remove_comment.result c.len.ensures.tree c.remove_comment.ensures.untouched c.remove_comment.ensures.removed c.remove_comment.ensures.kept)
 
-pub returns-clause-written : goal.returns-clause-written
-returns-clause-written g c =
-    λ o. comment_written c.args.tree.now.nodes c.remove_comment.new.tree.nodes c.len.ensures.tree c.remove_comment.ensures.tree c.args.number o c.remove_comment.result c.remove_comment.ensures.removed
-
 pub returns-clause-memory : goal.returns-clause-memory
 returns-clause-memory g c = λ o.
     comment_for_memory o c.args.tree.now.nodes c.args.number c.remove_comment.result c.remove_comment.ensures.memory
-
-pub returns-clause-around : goal.returns-clause-around
-returns-clause-around g c =
-    λ o. comment_alone c.args.tree.now.nodes c.remove_comment.new.tree.nodes c.len.ensures.tree c.remove_comment.ensures.tree c.args.number c.remove_comment.result c.remove_comment.ensures.removed
 
 pub returns-clause-elsewhere : goal.returns-clause-elsewhere
 returns-clause-elsewhere g c =
