@@ -23,7 +23,7 @@ use Rattle.jsonc_laws.specs.TreeChanges.{IsElement, DocumentChanged}
 use Rattle.jsonc_laws.specs.SoundTrees.{SoundTree}
 use Rattle.jsonc_laws.specs.Adjacent.{or_else}
 use Rattle.jsonc_laws.specs.Leaving.{ElementLeaves}
-use Rattle.jsonc_edit.specs.Due.{nearest, seen_before, seen_behind, behind_holder, behind_property, due_between, listed, ends_bare, begins_bare}
+use Rattle.jsonc_edit.specs.Due.{nearest, seen_before, seen_behind, behind_holder, behind_property, due_between, listed, ends_bare, begins_bare, prints, prints_at, prints_within}
 use Rattle.jsonc_edit.specs.Put.{AreSpaced}
 use Rattle.jsonc_edit.proofs.Putting.{elements_kept}
 use Rattle.jsonc_edit.proofs.Whole.{Whole, more_whole, whole_leaf, row_whole}
@@ -44,6 +44,7 @@ use Rattle.jsonc_remove.proofs.Containers.{Held, held_at, Brackets, brackets}
 use Rattle.jsonc_remove.proofs.Going.{is_end, Edges, Going, with_behind, with_before, with_none, going}
 use Rattle.jsonc_remove.proofs.Outcomes.{Outcome, outcome}
 use Rattle.jsonc_remove.proofs.Places.{before_in, parent_in}
+use Rattle.jsonc_remove.proofs.Within.{elements_print}
 use Rattle.jsonc_remove.proofs.Settled.{DueWith, IsSettled, is_settled}
 use Rattle.jsonc_remove.proofs.Spaces.{AreSame, going_same, nearest_same, no_holder, or_none, front_same}
 
@@ -144,7 +145,7 @@ module _ (ns : List Node) (tree : IsTree ns) (c n : ℕ) (said : parent_at ns n 
 
   due_placed : (a b : ℕ) → parent_at ns b ≡ Some c → All (Placed ns n) (listed (due_between ns a b))
   due_placed a b told =
-      let kids : All (λ x. parent_at ns x ≡ Some c) (listed (due_between ns a b)) = one_kid (ends_bare ns (seen_before ns a) && begins_bare ns (seen_behind ns b)) b (seen_behind ns b) told refl in
+      let kids : All (λ x. parent_at ns x ≡ Some c) (listed (due_between ns a b)) = one_kid (prints_within ns a b && (ends_bare ns (seen_before ns a) && begins_bare ns (seen_behind ns b))) b (seen_behind ns b) told refl in
       let placed : All (Placed ns b) (listed (due_between ns a b)) = between_placed ns tree b c told (IsOver.above told over) a in
       λ k d l. retarget b _ (placed k d l) (kids k d l)
 
@@ -250,8 +251,20 @@ module _ (o : Options) (old new : List Node) (path : List ℕ) (c i n : ℕ) (tr
   due : DueWith ready from to (comma_gone old n) (next_of old from (comma_gone old n)) spaced
   due = due_with (comma_gone old n) stands.2 spaces_are
 
+  -- the element prints something
+  each_prints : All (λ x. IsTrue (is_element (content_at old x)) → prints_at old x ≡ true) (children_at old c)
+  each_prints =
+      subst (λ (l : List ℕ). All (λ x. IsTrue (is_element (content_at old x)) → prints_at old x ≡ true) l) (sym b.children)
+      (All-cons (λ x. IsTrue (is_element (content_at old x)) → prints_at old x ≡ true) b.open_with (b.inner ++ b.last ∷ [])
+      (λ h. let wrong : false ≡ true = sym (ap is_element b.opens) ∙ h in cc) (elements_print o old b.shown was_held.alone))
+
+  shown_ready : prints_at ready n ≡ true
+  shown_ready =
+      ap prints (f.prepared.keeps.content n n_there)
+      ∙ subst (λ x. IsTrue (is_element (content_at old x)) → prints_at old x ≡ true) (tree.found n c said) (each_prints (place_at old n) 0 (tree.within n c said)) kind_of
+
   settled : IsSettled ready spaced c n b.open_with b.last from to (comma_gone old n)
-  settled = is_settled ready f.prepared.tree c n b.open_with b.last from to holds_ready spaced (next_of old from (comma_gone old n)) (comma_gone old n) going_ready due
+  settled = is_settled ready f.prepared.tree c n b.open_with b.last from to holds_ready shown_ready spaced (next_of old from (comma_gone old n)) (comma_gone old n) going_ready due
 
   said_ready : parent_at ready n ≡ Some c
   said_ready = f.prepared.keeps.parent n n_there ∙ said

@@ -8,6 +8,7 @@ pub mod Places
 pub mod Weaving
 pub mod Containers
 pub mod Going
+pub mod Within
 pub mod Spaces
 pub mod Settled
 pub mod Trees

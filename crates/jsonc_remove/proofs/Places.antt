@@ -116,7 +116,7 @@ found_in test (y ∷ ys) x e = by (test y) refl e (found_in test ys x)
         record { front = y ∷ r.front; back = r.back; split = ap (λ (l : List ℕ). y ∷ l) r.split; clear = ap (λ b. cond b (Some y) (find test r.front)) t ∙ r.clear; passes = r.passes }
 
 -- from behind too one that passes is found
-some_reversed : (test : ℕ → Bool) (x : ℕ) (xs : List ℕ) → test x ≡ true → (y : ℕ) × (find test (reverse (x ∷ xs)) ≡ Some y)
+pub some_reversed : (test : ℕ → Bool) (x : ℕ) (xs : List ℕ) → test x ≡ true → (y : ℕ) × (find test (reverse (x ∷ xs)) ≡ Some y)
 some_reversed test x xs h =
     let turned : find test (reverse (x ∷ xs)) ≡ option_or (find test (reverse xs)) (Some x) = ap (find test) (reverse-append (x ∷ []) xs) ∙ find-append test (reverse xs) (x ∷ []) ∙ ap (λ b. option_or (find test (reverse xs)) (cond b (Some x) None)) h in
     by (find test (reverse xs)) turned

@@ -28,7 +28,7 @@ use Rattle.jsonc_laws.specs.Spaces.{is_bare}
 use Rattle.jsonc_laws.proofs.Apart.{document_alone}
 use Rattle.jsonc_laws.specs.MarkChanges.{AreBlanks}
 use Rattle.jsonc_laws.specs.Leaving.{AreBeside, ends_apart, among, ValueLeaves, value_leaves, Empties, empties}
-use Rattle.jsonc_edit.specs.Due.{nearest, prints_at, ends_bare, begins_bare, seen_before, seen_behind, due_between, beginning_in, is_bare_at, listed}
+use Rattle.jsonc_edit.specs.Due.{nearest, prints_at, ends_bare, begins_bare, seen_before, seen_behind, due_between, prints_within, beginning_in, is_bare_at, listed}
 use Rattle.jsonc_edit.specs.Put.{AreSpaced}
 use Rattle.jsonc_edit.specs.Changes.{row_below, top_at}
 use Rattle.jsonc_edit.specs.Paths.{IsElementOf}
@@ -41,7 +41,7 @@ use Rattle.jsonc_remove.specs.Leaving.{comes_to, comma_behind, comma_gone, first
 use Rattle.jsonc_remove.specs.Removed.{comma_in, due_at_comma, due_at_stretch, is_hollow, is_hollow_as, hollow_from, hollow_to, IsTakenFrom, LosesChild, TakesElement}
 use Rattle.jsonc_remove.proofs.Contents.{apart, apart_shown}
 use Rattle.jsonc_remove.proofs.Places.{row_split, before_in, after_in, place_in}
-use Rattle.jsonc_remove.proofs.Settled.{find_holds}
+use Rattle.jsonc_remove.proofs.Within.{find_holds}
 use Rattle.jsonc_remove.proofs.Spaces.{AreSame, contents_same, front_same, back_same, tail_same}
 use Rattle.jsonc_remove.proofs.Stretches.{contents, Near, near_of, Line, line_of}
 use Rattle.jsonc_remove.proofs.Trees.{trivia_leaves, beside_leaves, blank_leaves, leaves_shown, among_shown, AreKids, all_kids}
@@ -190,7 +190,12 @@ module _ (o : Options) (ns : List Node) (tree : IsTree ns) (n : ℕ) (said : par
       let p = parts in
       let before : ends_bare ns (seen_before ns (first_gone ns n)) ≡ false =
       ap (λ l. ends_bare ns (nearest ns l)) (before_in ns tree 0 p.away (p.tail ++ p.rest) (first_gone ns n) (p.row ∙ ap (λ (l : List ℕ). p.away ++ (l ++ p.rest)) p.first_is)) ∙ trivia_quiet ns p.away p.trivia_away in
-      ap (λ b. cond (b && begins_bare ns (seen_behind ns (last_gone ns n))) (seen_behind ns (last_gone ns n)) None) before
+      ap (λ b. cond (prints_within ns (first_gone ns n) (last_gone ns n) && (b && begins_bare ns (seen_behind ns (last_gone ns n)))) (seen_behind ns (last_gone ns n)) None) before
+      ∙ never (prints_within ns (first_gone ns n) (last_gone ns n))
+    where
+      never : (b : Bool) → cond (b && false) (seen_behind ns (last_gone ns n)) None ≡ None
+      never true = refl
+      never false = refl
 
 module _ (o : Options) (old new : List Node) (n : ℕ) (tree : IsTree old) (after : IsTree new) (sound : SoundTree o (ordered_tree old 0)) (element : IsElementOf old 0 0 n) (takes : TakesElement old new n) where
   said : parent_at old n ≡ Some 0

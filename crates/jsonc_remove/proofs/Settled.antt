@@ -1,5 +1,5 @@
 -- A row from which an element is to leave, once the spaces have come that are due there.
-use Rattle.std.proofs.Common.{◌≡◌, ℕ, Bool, true, false, not, ◌&&◌, cond, List, [], ◌∷◌, ◌++◌, reverse, Option, Some, None, IsTrue, if◌then◌else◌, bytes_eq, inl, inr, refl, sym, ap, subst, ◌∙◌, append-nil}
+use Rattle.std.proofs.Common.{◌≡◌, ℕ, Bool, true, false, not, ◌&&◌, ◌||◌, cond, List, [], ◌∷◌, ◌++◌, reverse, Option, Some, None, IsTrue, if◌then◌else◌, bytes_eq, inl, inr, refl, sym, ap, subst, ◌∙◌, append-nil}
 use Rattle.std.proofs.lemmas.Bool.{cases_Bool, cases_eq, ne_eqb}
 use Rattle.std.proofs.lemmas.List.{append_assoc, reverse-append}
 use Rattle.std.proofs.lemmas.List.Elements.{All-nil, All-cons, All-head, All-tail}
@@ -15,7 +15,7 @@ use Rattle.jsonc_lines.specs.Kinds.{holds_values, is_comma}
 use Rattle.jsonc_laws.specs.TriviaChanges.{AreTrivia}
 use Rattle.jsonc_laws.proofs.Texts.{comma_first as comma_char}
 use Rattle.jsonc_laws.specs.Leaving.{AreBeside}
-use Rattle.jsonc_edit.specs.Due.{prints, prints_at, nearest, begins_bare, ends_bare, seen_before, due_between, listed}
+use Rattle.jsonc_edit.specs.Due.{is_other, prints, prints_at, nearest, begins_bare, ends_bare, seen_before, due_between, listed}
 use Rattle.jsonc_edit.specs.Put.{AreSpaced}
 use Rattle.jsonc_remove.specs.Leaving.{is_comma_at}
 use Rattle.jsonc_remove.specs.Removed.{is_next}
@@ -24,6 +24,7 @@ use Rattle.jsonc_remove.proofs.Places.{Quiet, OneSpace, one_space, before_in}
 use Rattle.jsonc_remove.proofs.Stretches.{contents}
 use Rattle.jsonc_remove.proofs.Going.{Edges, Going, with_behind, with_before, with_none}
 use Rattle.jsonc_remove.proofs.Spaces.{contents_same, nearest_same, spaced_parts, due_parts}
+use Rattle.jsonc_remove.proofs.Within.{find_holds, stretch_prints}
 
 -- how the element leaves, and that nothing meets there
 pub data Settled (ns : List Node) (c n open_with last from to : ℕ) : Option ℕ → Type 0 where
@@ -63,14 +64,6 @@ comma_is content h = cc
 
 comma_prints : (content : Content) → IsTrue (is_comma content) → prints content ≡ true
 comma_prints content h = ap prints (comma_is content h) ∙ ap (λ o. starts (λ c. true) o) comma_char
-
-pub find_holds : (P : ℕ → Type 0) (test : ℕ → Bool) (xs : List ℕ) (m : ℕ) → All P xs → find test xs ≡ Some m → P m
-find_holds P test [] m h e = absurd (let wrong : None ≡ Some m = e in cc)
-find_holds P test (x ∷ xs) m h e = by (test x) e (find_holds P test xs m (All-tail P x xs h))
-  where
-    by : (b : Bool) → (if b then Some x else find test xs) ≡ Some m → (find test xs ≡ Some m → P m) → P m
-    by true f rest = let same : x ≡ m = cc in subst P same (All-head P x xs h)
-    by false f rest = rest f
 
 -- where nothing is found from behind nothing is
 none_from_behind : (test : ℕ → Bool) (xs : List ℕ) → find test (reverse xs) ≡ None → find test xs ≡ None
@@ -133,19 +126,20 @@ one_behind old tree c front stretch part last ahead row due calm now put =
       begins = r.begins;
     }
 
-module _ (ready : List Node) (tree : IsTree ready) (c n open_with last from to : ℕ) (holds : IsTrue (holds_values (content_at ready c))) where
+module _ (ready : List Node) (tree : IsTree ready) (c n open_with last from to : ℕ) (holds : IsTrue (holds_values (content_at ready c))) (shown : prints_at ready n ≡ true) where
   -- due where the stretch leaves
-  stretch_due : (front stretch back : List ℕ) → children_at ready c ≡ front ++ (stretch ++ back) → Edges stretch from to
+  stretch_due : (front near line back : List ℕ) → children_at ready c ≡ front ++ ((near ++ n ∷ line) ++ back) → Edges (near ++ n ∷ line) from to
       → due_between ready from to ≡ cond (ends_bare ready (nearest ready (reverse front)) && begins_bare ready (nearest ready back)) (nearest ready back) None
-  stretch_due front stretch back row e =
-      due_parts ready tree c holds front (e.tail ++ back) (front ++ e.init) back from to (row ∙ ap (λ (l : List ℕ). front ++ (l ++ back)) e.first_is)
+  stretch_due front near line back row e =
+      due_parts ready tree c holds front (e.tail ++ back) (front ++ e.init) back from to (stretch_prints ready tree c front (near ++ n ∷ line) back from to row e n near line refl shown) (row ∙ ap (λ (l : List ℕ). front ++ (l ++ back)) e.first_is)
       (row ∙ ap (λ (l : List ℕ). front ++ (l ++ back)) e.last_is ∙ ap (λ (l : List ℕ). front ++ l) (append_assoc e.init (to ∷ []) back) ∙ sym (append_assoc front e.init (to ∷ back)))
 
   module _ (spaced : List Node) where
-    without : (front stretch part : List ℕ) → children_at ready c ≡ front ++ (stretch ++ (part ++ last ∷ [])) → Edges stretch from to → AreSpaced ready (listed (due_between ready from to)) spaced → Behind ready spaced c front stretch part last front
-    without front stretch part row e put =
-        one_behind ready tree c front stretch part last front row (ends_bare ready (nearest ready (reverse front)) && begins_bare ready (nearest ready (part ++ last ∷ []))) (λ h. h) spaced
-        (subst (λ o. AreSpaced ready (listed o) spaced) (stretch_due front stretch (part ++ last ∷ []) row e) put)
+    without : (front near line part : List ℕ) → children_at ready c ≡ front ++ ((near ++ n ∷ line) ++ (part ++ last ∷ [])) → Edges (near ++ n ∷ line) from to → AreSpaced ready (listed (due_between ready from to)) spaced
+        → Behind ready spaced c front (near ++ n ∷ line) part last front
+    without front near line part row e put =
+        one_behind ready tree c front (near ++ n ∷ line) part last front row (ends_bare ready (nearest ready (reverse front)) && begins_bare ready (nearest ready (part ++ last ∷ []))) (λ h. h) spaced
+        (subst (λ o. AreSpaced ready (listed o) spaced) (stretch_due front near line (part ++ last ∷ []) row e) put)
 
     abbrev Done : Option ℕ → Type 0
     Done o = IsSettled ready spaced c n open_with last from to o
@@ -179,11 +173,21 @@ module _ (ready : List Node) (tree : IsTree ready) (c n open_with last from to :
       whole_k : children_at ready c ≡ (open_with ∷ away) ++ k ∷ (mid ++ (stretch ++ back))
       whole_k = row ∙ append_assoc (open_with ∷ away) (k ∷ mid) (stretch ++ back)
 
+      -- from the comma to the last of the stretch
+      from_comma : Edges (k ∷ (mid ++ stretch)) k to
+      from_comma = record {
+        tail = mid ++ stretch;
+        init = k ∷ (mid ++ edges.init);
+        first_is = refl;
+        last_is = ap (λ (l : List ℕ). k ∷ (mid ++ l)) edges.last_is ∙ ap (λ (l : List ℕ). k ∷ l) (sym (append_assoc mid edges.init (to ∷ [])));
+      }
+
       -- nothing prints between the comma and the stretch
       close : nearest ready (reverse mid) ≡ None → AreSpaced ready (listed (due_between ready k to)) spaced → Done (Some k)
       close e put =
           let due : due_between ready k to ≡ cond (ends_bare ready (nearest ready (reverse (open_with ∷ away))) && begins_bare ready (nearest ready back)) (nearest ready back) None =
-          due_parts ready tree c holds (open_with ∷ away) (mid ++ (stretch ++ back)) (((open_with ∷ away) ++ k ∷ mid) ++ edges.init) back k to whole_k
+          due_parts ready tree c holds (open_with ∷ away) (mid ++ (stretch ++ back)) (((open_with ∷ away) ++ k ∷ mid) ++ edges.init) back k to
+          (stretch_prints ready tree c (open_with ∷ away) (k ∷ (mid ++ stretch)) back k to (whole_k ∙ ap (λ (l : List ℕ). (open_with ∷ away) ++ k ∷ l) (sym (append_assoc mid stretch back))) from_comma k [] (mid ++ stretch) refl (comma_prints (content_at ready k) comma)) whole_k
           (row ∙ ap (λ (l : List ℕ). ((open_with ∷ away) ++ k ∷ mid) ++ (l ++ back)) edges.last_is ∙ ap (λ (l : List ℕ). ((open_with ∷ away) ++ k ∷ mid) ++ l) (append_assoc edges.init (to ∷ []) back) ∙ sym (append_assoc ((open_with ∷ away) ++ k ∷ mid) edges.init (to ∷ back))) in
           let b = one_behind ready tree c ((open_with ∷ away) ++ k ∷ mid) stretch rest last (open_with ∷ away) row (ends_bare ready (nearest ready (reverse (open_with ∷ away))) && begins_bare ready (nearest ready back)) (λ h. h) spaced (subst (λ o. AreSpaced ready (listed o) spaced) due put) in
           let each : (xs : List ℕ) → All (λ m. content_at spaced m ≡ content_at ready m) xs = same_each ready spaced b.content in
@@ -212,7 +216,8 @@ module _ (ready : List Node) (tree : IsTree ready) (c n open_with last from to :
           let found = some_from_before (prints_at ready) mid m e in
           let nearest_mid : nearest ready (mid ++ (stretch ++ back)) ≡ nearest ready mid = find-append (prints_at ready) mid (stretch ++ back) ∙ ap (λ o. option_or o (nearest ready (stretch ++ back))) found.1 ∙ sym found.1 in
           let due_k : due_between ready k k ≡ cond (ends_bare ready (nearest ready (reverse (open_with ∷ away))) && begins_bare ready (nearest ready mid)) (nearest ready mid) None =
-          due_parts ready tree c holds (open_with ∷ away) (mid ++ (stretch ++ back)) (open_with ∷ away) (mid ++ (stretch ++ back)) k k whole_k whole_k
+          due_parts ready tree c holds (open_with ∷ away) (mid ++ (stretch ++ back)) (open_with ∷ away) (mid ++ (stretch ++ back)) k k
+          (ap (λ b. b || is_other (seen_before ready k) (seen_before ready k)) (comma_prints (content_at ready k) comma)) whole_k whole_k
           ∙ ap (λ o. cond (ends_bare ready (nearest ready (reverse (open_with ∷ away))) && begins_bare ready o) o None) nearest_mid in
           let a : OneSpace ready now c ((open_with ∷ away) ++ k ∷ []) mid (stretch ++ back) (open_with ∷ away) =
           one_space ready tree c ((open_with ∷ away) ++ k ∷ []) mid (stretch ++ back) (open_with ∷ away) (whole_k ∙ sym (append_assoc (open_with ∷ away) (k ∷ []) (mid ++ (stretch ++ back))))
@@ -222,7 +227,7 @@ module _ (ready : List Node) (tree : IsTree ready) (c n open_with last from to :
           let seen_now : nearest now (reverse a.given) ≡ nearest ready (reverse ((open_with ∷ away) ++ k ∷ mid)) = a.seen ∙ nearest_same ready now (reverse mid) (each_now (reverse mid)) ∙ e ∙ sym (seen_is ∙ ap (λ o. option_or o (Some k)) e) in
           let near_back : nearest ready back ≡ nearest now back = sym (nearest_same ready now back (each_now back)) in
           let due_from : due_between ready from to ≡ cond (ends_bare ready (nearest ready (reverse ((open_with ∷ away) ++ k ∷ mid))) && begins_bare ready (nearest ready back)) (nearest now back) None =
-          stretch_due ((open_with ∷ away) ++ k ∷ mid) stretch back row edges ∙ ap (λ o. cond (ends_bare ready (nearest ready (reverse ((open_with ∷ away) ++ k ∷ mid))) && begins_bare ready (nearest ready back)) o None) near_back in
+          stretch_due ((open_with ∷ away) ++ k ∷ mid) near line back row edges ∙ ap (λ o. cond (ends_bare ready (nearest ready (reverse ((open_with ∷ away) ++ k ∷ mid))) && begins_bare ready (nearest ready back)) o None) near_back in
           let b = one_behind now a.tree c ((open_with ∷ away) ++ k ∷ a.given) stretch rest last a.given row_now (ends_bare ready (nearest ready (reverse ((open_with ∷ away) ++ k ∷ mid))) && begins_bare ready (nearest ready back))
           (λ h. quiet_kept (ends_bare ready (nearest ready (reverse ((open_with ∷ away) ++ k ∷ mid)))) (begins_bare ready (nearest ready back)) h (ap (ends_bare now) seen_now ∙ a.ends (nearest ready (reverse ((open_with ∷ away) ++ k ∷ mid))))
           (λ g. ap (begins_bare now) (sym near_back) ∙ a.begins (nearest ready back) g)) spaced (subst (λ o. AreSpaced now (listed o) spaced) due_from two.2) in
@@ -265,7 +270,7 @@ module _ (ready : List Node) (tree : IsTree ready) (c n open_with last from to :
 
     pub is_settled : (next : Bool) (o : Option ℕ) → Going ready c n open_with last from to o → DueWith ready from to o next spaced → Done o
     is_settled next _ (with_behind away near between line rest k row edges beside apart_away trivia comma trivia_line) put =
-        let b = without (open_with ∷ away) (near ++ n ∷ (between ++ k ∷ line)) rest row edges put in
+        let b = without (open_with ∷ away) near (between ++ k ∷ line) rest row edges put in
         let same : (xs : List ℕ) → contents ready xs ≡ contents spaced xs = λ xs. sym (contents_same ready spaced xs (same_each ready spaced b.content xs)) in
         record {
           tree = b.tree;
@@ -275,7 +280,7 @@ module _ (ready : List Node) (tree : IsTree ready) (c n open_with last from to :
               (subst (λ w. IsTrue (is_comma w)) (sym (b.content k)) comma) (subst AreTrivia (same line) trivia_line) b.quiet;
         }
     is_settled next _ (with_none away near line rest row edges beside apart_away none_away trivia_line first) put =
-        let b = without (open_with ∷ away) (near ++ n ∷ line) rest row edges put in
+        let b = without (open_with ∷ away) near line rest row edges put in
         let same : (xs : List ℕ) → contents ready xs ≡ contents spaced xs = λ xs. sym (contents_same ready spaced xs (same_each ready spaced b.content xs)) in
         record {
           tree = b.tree;

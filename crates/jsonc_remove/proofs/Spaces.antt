@@ -1,5 +1,5 @@
 -- The spaces that are due where an element leaves have come, and then nothing meets there.
-use Rattle.std.proofs.Common.{◌≡◌, ℕ, ◌&&◌, cond, List, [], ◌∷◌, ◌++◌, reverse, Option, Some, None, IsTrue, refl, sym, ap, subst, ◌∙◌}
+use Rattle.std.proofs.Common.{◌≡◌, ℕ, Bool, true, ◌&&◌, cond, List, [], ◌∷◌, ◌++◌, reverse, Option, Some, None, IsTrue, refl, sym, ap, subst, ◌∙◌}
 use Rattle.std.proofs.lemmas.List.Elements.{All-head, All-tail}
 use Rattle.std.specs.List.{All}
 use Rattle.std.specs.Option.{option_and_then}
@@ -9,7 +9,7 @@ use Rattle.jsonc_lines.specs.Kinds.{holds_values, is_comma}
 use Rattle.jsonc_laws.specs.TriviaChanges.{AreTrivia}
 use Rattle.jsonc_laws.specs.Leaving.{AreBeside}
 use Rattle.jsonc_laws.specs.Adjacent.{or_else}
-use Rattle.jsonc_edit.specs.Due.{prints, prints_at, nearest, begins_bare, ends_bare, seen_before, seen_behind, behind_holder, behind_property, due_between}
+use Rattle.jsonc_edit.specs.Due.{prints, prints_at, nearest, begins_bare, ends_bare, seen_before, seen_behind, behind_holder, behind_property, due_between, prints_within}
 use Rattle.jsonc_edit.specs.Put.{AreSpaced}
 use Rattle.jsonc_remove.proofs.Contents.{apart, no_commas, comma_first}
 use Rattle.jsonc_remove.proofs.Places.{parent_in, before_in, after_in}
@@ -91,10 +91,11 @@ module _ (ns : List Node) (tree : IsTree ns) (c : ℕ) (holds : IsTrue (holds_va
   or_none None = refl
   or_none (Some x) = refl
 
-  pub due_parts : (ahead behind others back : List ℕ) (from to : ℕ) → children_at ns c ≡ ahead ++ from ∷ behind → children_at ns c ≡ others ++ to ∷ back
+  pub due_parts : (ahead behind others back : List ℕ) (from to : ℕ) → prints_within ns from to ≡ true → children_at ns c ≡ ahead ++ from ∷ behind → children_at ns c ≡ others ++ to ∷ back
       → due_between ns from to ≡ cond (ends_bare ns (nearest ns (reverse ahead)) && begins_bare ns (nearest ns back)) (nearest ns back) None
-  due_parts ahead behind others back from to e f =
+  due_parts ahead behind others back from to shown e f =
       let before : seen_before ns from ≡ nearest ns (reverse ahead) = ap (nearest ns) (before_in ns tree c ahead behind from e) in
       let holder : behind_holder ns to ≡ None = ap (option_and_then (λ p. behind_property ns (content_at ns p) p)) (parent_in ns tree c others back to f) ∙ no_holder (content_at ns c) holds in
       let after : seen_behind ns to ≡ nearest ns back = ap (λ l. or_else (nearest ns l) (behind_holder ns to)) (after_in ns tree c others back to f) ∙ ap (or_else (nearest ns back)) holder ∙ or_none (nearest ns back) in
-      ap (λ o. cond (ends_bare ns o && begins_bare ns (seen_behind ns to)) (seen_behind ns to) None) before ∙ ap (λ o. cond (ends_bare ns (nearest ns (reverse ahead)) && begins_bare ns o) o None) after
+      ap (λ b. cond (b && (ends_bare ns (seen_before ns from) && begins_bare ns (seen_behind ns to))) (seen_behind ns to) None) shown
+      ∙ ap (λ o. cond (ends_bare ns o && begins_bare ns (seen_behind ns to)) (seen_behind ns to) None) before ∙ ap (λ o. cond (ends_bare ns (nearest ns (reverse ahead)) && begins_bare ns o) o None) after

@@ -20,7 +20,7 @@ use Rattle.jsonc_nodes.specs.Properties.{value_at}
 use Rattle.jsonc_laws.specs.Adjacent.{or_else}
 use Rattle.jsonc_laws.specs.Spaces.{is_bare}
 use Rattle.jsonc_edit.specs.Comments.{removed_from, TakesOut}
-use Rattle.jsonc_edit.specs.Due.{begins_bare, behind_holder, behind_property, due_around, due_before, due_behind, due_between, ends_bare, listed, nearest, seen_before, seen_behind}
+use Rattle.jsonc_edit.specs.Due.{begins_bare, behind_holder, behind_property, due_around, due_before, due_behind, due_between, ends_bare, listed, nearest, prints_within, seen_before, seen_behind}
 use Rattle.jsonc_edit.specs.Put.{AreSpaced, StandsBefore}
 use Rattle.jsonc_edit.specs.Reading.{IsReplaced, IsReplacedRaw}
 use Rattle.jsonc_edit.specs.Replacing.{GivesWay}
@@ -132,7 +132,7 @@ module _ (old : List Node) (tree : IsTree old) where
     due_behind_out k told = one_out a (begins_bare a (seen_behind a k)) (seen_behind a k) (behind_out k told)
 
     between_out : (from k : ℕ) → parent_at a k ≡ Some c → All (OutIn a) (listed (due_between a from k))
-    between_out from k told = one_out a (ends_bare a (seen_before a from) && begins_bare a (seen_behind a k)) (seen_behind a k) (behind_out k told)
+    between_out from k told = one_out a (prints_within a from k && (ends_bare a (seen_before a from) && begins_bare a (seen_behind a k))) (seen_behind a k) (behind_out k told)
 
     around_out : (k : ℕ) → parent_at a k ≡ Some c → (content : Content) → All (OutIn a) (due_around a k content)
     around_out k told content = by (is_bare content)
