@@ -56,6 +56,7 @@ use Rattle.jsonc_edit.proofs.Quiet.{space_before}
 use Rattle.jsonc_edit.specs.Changes.{row_below, top_at, LeafChanged}
 use Rattle.jsonc_edit.specs.Paths.{IsElementOf, IsHeldBy, StepsTo, LeadsTo, itself, step, IsAt}
 use Rattle.jsonc_edit.specs.Spaced.{SpacesPut}
+use Rattle.jsonc_edit.specs.Written.{IsWrittenAt}
 use Rattle.jsonc_edit.proofs.Elements.{StandsAt, stands_at}
 use Rattle.jsonc_edit.proofs.GivingWay.{parent_holds}
 use Rattle.jsonc_edit.proofs.Held.{HeldAt, by_root, by_array, by_property, held_at}

@@ -5,12 +5,13 @@ use Rattle.jsonc_text.specs.Plain.{Plain, array, object, no_items, no_members}
 use Rattle.jsonc_tree.specs.OrderedTree.{ordered_tree}
 use Rattle.jsonc_tree.specs.Tree.{Node, content_at, parent_at}
 use Rattle.jsonc_nodes.specs.Properties.{value_at}
+use Rattle.jsonc_laws.specs.Booleans.{boolean_leaf}
 use Rattle.jsonc_laws.specs.SoundTrees.{SoundTree}
 use Rattle.jsonc_edit.specs.Changes.{top_at}
 use Rattle.jsonc_edit.specs.Paths.{IsAt}
 use Rattle.jsonc_edit.specs.Reading.{IsReplaced}
-use Rattle.jsonc_edit.specs.Written.{Writes}
-use Rattle.jsonc_set.specs.Booleans.{BooleanSet, IsBooleanWritten}
+use Rattle.jsonc_edit.specs.Written.{IsWrittenAt, Writes}
+use Rattle.jsonc_set.specs.Booleans.{BooleanSet}
 use Rattle.jsonc_set.specs.Kinds.{is_array, is_object}
 use Rattle.jsonc_set.specs.PropertyValues.{HeldOrSet, LastValue}
 use Rattle.jsonc_cst.specs.declared.cst.CstRootNode.{CstRootNode}
