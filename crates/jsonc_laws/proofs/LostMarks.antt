@@ -14,7 +14,7 @@ use Rattle.jsonc_laws.specs.MarkChanges.{MarksDifferIn, marks_under}
 use Rattle.jsonc_laws.proofs.GivingWay.{marks_join, values_marks, trivia_has_comments, blanks_unmarked}
 use Rattle.jsonc_laws.specs.EntryLaws.{AreComments, LosesMarks}
 use Rattle.jsonc_laws.specs.Leaving.{AreBeside, among, ElementLeaves, with_comma_behind, with_comma_before, with_no_comma, ClosesUp, stays, closes_up}
-use Rattle.jsonc_laws.proofs.RowParts.{beside_trivia}
+use Rattle.jsonc_laws.proofs.RowParts.{beside_trivia, rest_trivia}
 
 -- marks of rows, one after another
 row_marks : (front back : OrderedTree) → marks (followed_by front back) ≡ marks front ++ marks back
@@ -77,14 +77,14 @@ row_loses top i row left (with_comma_behind front back before between line e b t
     ap (λ ms. marks_of between ++ ms) (stretch_marks line back) ∙ sym (append_assoc (marks_of between) (marks_of line) (marks back)) in
     go top (marks front) (marks_of before) (marks_of between ++ marks_of line) (marks back) (marks row) (marks left)
     (beside_comments before b)
-    (comments_join (marks_of between) (marks_of line) (trivia_has_comments between t) (trivia_has_comments line l))
+    (comments_join (marks_of between) (marks_of line) (trivia_has_comments between t) (trivia_has_comments line (rest_trivia line l)))
     (row_marks front (among before top between rest) ∙ ap (λ ms. marks front ++ ms) (among_marks before between top rest ∙ ap (λ ms. marks_of before ++ (marks_under top ++ ms)) behind))
     (row_marks front back)
 row_loses top i row left (with_comma_before front mid back before line e c b l n m k) =
     let inner : OrderedTree = among before top line back in
     go top (marks front ++ marks mid) (marks_of before) (marks_of line) (marks back) (marks row) (marks left)
     (beside_comments before b)
-    (trivia_has_comments line l)
+    (trivia_has_comments line (rest_trivia line l))
     (row_marks front (more (token 0x2C) none (followed_by mid inner))
     ∙ ap (λ ms. marks front ++ ms) (row_marks mid inner)
     ∙ sym (append_assoc (marks front) (marks mid) (marks inner))
@@ -93,7 +93,7 @@ row_loses top i row left (with_comma_before front mid back before line e c b l n
 row_loses top i row left (with_no_comma front back before line e c b l n m) =
     go top (marks front) (marks_of before) (marks_of line) (marks back) (marks row) (marks left)
     (beside_comments before b)
-    (trivia_has_comments line l)
+    (trivia_has_comments line (rest_trivia line l))
     (row_marks front (among before top line back) ∙ ap (λ ms. marks front ++ ms) (among_marks before line top back))
     (row_marks front back)
 

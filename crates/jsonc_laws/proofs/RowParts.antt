@@ -1,9 +1,9 @@
 -- The row of a container, taken apart where an element stands in it, and what may come where that has left.
-use Rattle.std.proofs.Common.{ℕ, ◌≡◌, sym, ap, subst, refl, Bool, true, false, not, ◌&&◌, List, [], ◌∷◌, IsTrue}
+use Rattle.std.proofs.Common.{ℕ, ◌≡◌, sym, ap, subst, refl, Bool, true, false, not, ◌&&◌, List, [], ◌∷◌, ◌++◌, IsTrue}
 use Rattle.jsonc_text.specs.Options.{Options}
 use Rattle.jsonc_tree.specs.Content.{Content, token}
 use Rattle.jsonc_tree.specs.OrderedTree.{OrderedTree, none, more, followed_by}
-use Rattle.jsonc_nodes.specs.Kinds.{is_beside, is_trivia}
+use Rattle.jsonc_nodes.specs.Kinds.{is_beside, is_newline, is_trivia}
 use Rattle.jsonc_nodes.specs.Kinds.{is_comma}
 use Rattle.jsonc_build.specs.Shape.{IsTrivia, token_then}
 use Rattle.jsonc_laws.specs.Rows as rows
@@ -16,7 +16,7 @@ use Rattle.jsonc_laws.specs.Alone as alone
 use Rattle.jsonc_laws.specs.Alone.{may_stand, may_come, PartAlone, RowAlone, StretchAlone}
 use Rattle.jsonc_laws.proofs.Changed.{part_element}
 use Rattle.jsonc_laws.proofs.SeamStretches.{parted_row}
-use Rattle.jsonc_laws.specs.Leaving.{AreBeside, has_no_comma, comma_comes, among}
+use Rattle.jsonc_laws.specs.Leaving.{AreBeside, IsRestOfLine, without_end, with_end, has_no_comma, comma_comes, among}
 
 -- leaves before a row, and rows behind it
 pub beside_trivia : (ls : List Content) → AreBeside ls → AreTrivia ls
@@ -27,6 +27,18 @@ beside_trivia (content ∷ rest) h = (by content h.0, beside_trivia rest h.1)
     by (Content.whitespace s) k = refl
     by (Content.comment s) k = refl
     by c k = cc
+
+newline_trivia : (content : Content) → IsTrue (is_newline content) → IsTrue (is_trivia content)
+newline_trivia (Content.newline k) h = refl
+newline_trivia content h = cc
+
+ended_trivia : (ls : List Content) (end : Content) → AreBeside ls → IsTrue (is_newline end) → AreTrivia (ls ++ end ∷ [])
+ended_trivia [] end h n = (newline_trivia end n, tt)
+ended_trivia (content ∷ rest) end h n = ((beside_trivia (content ∷ []) (h.0, tt)).0, ended_trivia rest end h.1 n)
+
+pub rest_trivia : (ls : List Content) → IsRestOfLine ls → AreTrivia ls
+rest_trivia ls (without_end line h) = beside_trivia line h
+rest_trivia ls (with_end line end h n) = ended_trivia line end h n
 
 pub leaves_followed : (ls : List Content) (r s : OrderedTree) → followed_by (leaves_then ls r) s ≡ leaves_then ls (followed_by r s)
 leaves_followed [] r s = refl

@@ -26,7 +26,7 @@ use Rattle.jsonc_laws.proofs.GivingWay.{marks_join, trivia_has_comments, blanks_
 use Rattle.jsonc_laws.specs.Leaving as leaving
 use Rattle.jsonc_laws.specs.Leaving.{ends_apart, among, ValueLeaves, Empties}
 use Rattle.jsonc_laws.specs.EntryLaws.{root_with, SoundWithoutValue, NoValueWithoutValue, MarksWithoutValue}
-use Rattle.jsonc_laws.proofs.RowParts.{beside_trivia}
+use Rattle.jsonc_laws.proofs.RowParts.{beside_trivia, rest_trivia}
 use Rattle.jsonc_laws.proofs.RootRows.{trivia_passed, lines_behind, root_lines, root_marks, root_alone, root_sound, value_first, behind_trivia, row_ends, any_stood}
 
 -- the lines of a strict row that ends with no comment end whatever follows
@@ -68,7 +68,7 @@ module _ (o : Options) where
 
   pub sound_without : (top : Top) (row left new : OrderedTree) → SoundWithoutValue o top row left new
   sound_without top row left new s p (leaving.value_leaves front back before line a b k) e =
-      let left_alone = alone_without front back before line top p (beside_trivia before b) k (root_alone o (followed_by front (among before top line back)) s) in
+      let left_alone = alone_without front back before line top p (beside_trivia before b) (rest_trivia line k) (root_alone o (followed_by front (among before top line back)) s) in
       let left_lines = lines_without front back before line top a (root_lines s.lines) in
       emptied_sound e (root_sound o (followed_by front back) (any_stood o left_alone) (row_ends o None left_alone) left_lines)
 
@@ -150,11 +150,11 @@ marks_without top row left new (leaving.value_leaves front back before line a b 
   leading = marks_of before;
   trailing = marks_of line;
   comments_before = trivia_has_comments before (beside_trivia before b);
-  comments_behind = trivia_has_comments line k;
+  comments_behind = trivia_has_comments line (rest_trivia line k);
   gone = record {
     front = marks front;
     back = marks back;
-    before = root_marks (followed_by front (among before top line back)) ∙ marks_with front back before line top (beside_trivia before b) k;
+    before = root_marks (followed_by front (among before top line back)) ∙ marks_with front back before line top (beside_trivia before b) (rest_trivia line k);
     after = root_marks new ∙ emptied_marks e ∙ marks_left front back;
   };
 }

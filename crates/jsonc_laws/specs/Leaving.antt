@@ -1,8 +1,8 @@
 -- What leaves a row with one of its elements, and what the row is then. A row here is one of trees, behind its first bracket; the root's has none.
-use Rattle.std.specs.Prelude.{◌≡◌, ℕ, suc, ◌+◌, Bool, true, false, not, ◌&&◌, List, [], ◌∷◌, IsTrue, if◌then◌else◌}
+use Rattle.std.specs.Prelude.{◌≡◌, ℕ, suc, ◌+◌, Bool, true, false, not, ◌&&◌, List, [], ◌∷◌, ◌++◌, IsTrue, if◌then◌else◌}
 use Rattle.jsonc_tree.specs.Content.{Content}
 use Rattle.jsonc_tree.specs.OrderedTree.{OrderedTree, none, more, leaves, followed_by}
-use Rattle.jsonc_nodes.specs.Kinds.{is_beside, is_element, is_trivia}
+use Rattle.jsonc_nodes.specs.Kinds.{is_beside, is_element, is_newline, is_trivia}
 use Rattle.jsonc_nodes.specs.Kinds.{is_comma}
 use Rattle.jsonc_build.specs.Shape.{token_then}
 use Rattle.jsonc_tree.specs.OrderedTree.{Top}
@@ -14,6 +14,11 @@ use Rattle.jsonc_laws.specs.Spaces.{meet}
 abbrev pub AreBeside : List Content → Type 0
 AreBeside [] = Unit {0}
 AreBeside (content ∷ rest) = IsTrue (is_beside content) × AreBeside rest
+
+-- no more than the rest of one line: whitespace and comments, and behind them at most the newline that ends it
+pub data IsRestOfLine : List Content → Type 0 where
+  without_end : (line : List Content) → AreBeside line → IsRestOfLine line
+  with_end : (line : List Content) (end : Content) → AreBeside line → IsTrue (is_newline end) → IsRestOfLine (line ++ end ∷ [])
 
 -- the row is empty, or what is last in it is neither whitespace nor a comment
 abbrev pub ends_apart : OrderedTree → Bool
@@ -41,24 +46,25 @@ abbrev pub among : List Content → Top → List Content → OrderedTree → Ord
 among before top behind row = leaves_then before (more top.content top.below (leaves_then behind row))
 
 -- The second row is the first without its element of this number, `top`. With it go whitespace and comments directly
--- before it, trivia directly behind it, and one comma: the one behind it with what stands between, or where none comes
--- there, the nearest one before it, if there is one. And no two literals without quotes meet where these have left.
+-- before it, and one comma: the one behind it with what stands between, or where none comes there, the nearest one before
+-- it, if there is one. Behind that comma, or behind the element where none comes, goes no more than the rest of the line.
+-- And no two literals without quotes meet where these have left.
 pub data ElementLeaves (top : Top) : ℕ → OrderedTree → OrderedTree → Type 0 where
   with_comma_behind : (front back : OrderedTree) (before between line : List Content) → IsTrue (ends_apart front)
-      → AreBeside before → AreTrivia between → AreTrivia line
+      → AreBeside before → AreTrivia between → IsRestOfLine line
       → meet (leaves front) (leaves back) ≡ false
       → ElementLeaves top (element_count front)
       (followed_by front (among before top between (token_then 0x2C (leaves_then line back))))
       (followed_by front back)
   with_comma_before : (front mid back : OrderedTree) (before line : List Content)
-      → IsTrue (ends_apart (token_then 0x2C mid)) → IsTrue (has_no_comma mid) → AreBeside before → AreTrivia line
+      → IsTrue (ends_apart (token_then 0x2C mid)) → IsTrue (has_no_comma mid) → AreBeside before → IsRestOfLine line
       → IsTrue (not (comma_comes back))
       → meet (leaves front) (leaves (followed_by mid back)) ≡ false → meet (leaves mid) (leaves back) ≡ false
       → ElementLeaves top (element_count front + element_count mid)
       (followed_by front (token_then 0x2C (followed_by mid (among before top line back))))
       (followed_by front (followed_by mid back))
   with_no_comma : (front back : OrderedTree) (before line : List Content) → IsTrue (ends_apart front)
-      → IsTrue (has_no_comma front) → AreBeside before → AreTrivia line → IsTrue (not (comma_comes back))
+      → IsTrue (has_no_comma front) → AreBeside before → IsRestOfLine line → IsTrue (not (comma_comes back))
       → meet (leaves front) (leaves back) ≡ false
       → ElementLeaves top (element_count front) (followed_by front (among before top line back)) (followed_by front back)
 
@@ -67,9 +73,10 @@ pub data ClosesUp : OrderedTree → OrderedTree → Type 0 where
   stays : {row : OrderedTree} → ClosesUp row row
   closes_up : (blanks : List Content) {c : ℕ} → AreBlanks blanks → ClosesUp (leaves_then blanks (token_then c none)) (token_then c none)
 
--- the second row of a root is the first without its value; with it go whitespace and comments directly before it, and trivia directly behind it
+-- the second row of a root is the first without its value; with it go whitespace and comments directly before it, and no
+-- more than the rest of the line behind it
 pub data ValueLeaves (top : Top) : OrderedTree → OrderedTree → Type 0 where
-  value_leaves : (front back : OrderedTree) (before line : List Content) → IsTrue (ends_apart front) → AreBeside before → AreTrivia line
+  value_leaves : (front back : OrderedTree) (before line : List Content) → IsTrue (ends_apart front) → AreBeside before → IsRestOfLine line
       → ValueLeaves top (followed_by front (among before top line back)) (followed_by front back)
 
 -- a root's row of nothing but blanks becomes empty; any other stays

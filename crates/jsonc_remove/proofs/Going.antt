@@ -12,8 +12,10 @@ use Rattle.jsonc_lines.specs.Kinds.{is_comma}
 use Rattle.jsonc_lines.specs.Siblings.{is_no_trivia_at, if_comma, trailing_comma_at}
 use Rattle.jsonc_laws.specs.TriviaChanges.{AreTrivia}
 use Rattle.jsonc_laws.specs.Leaving.{AreBeside}
+use Rattle.jsonc_laws.proofs.RowParts.{rest_trivia}
 use Rattle.jsonc_remove.specs.Leaving.{comma_before, comma_behind, comma_gone, comma_unless, ends_line_at, first_gone, has_neighbours, if_inner, is_comma_at, last_gone, last_past, line_end_at}
 use Rattle.jsonc_remove.proofs.Contents.{apart, no_commas, comma_first, apart_behind, apart_rest, first_past, no_commas_rest}
+use Rattle.jsonc_remove.proofs.Lines.{EndsLine, ends_line}
 use Rattle.jsonc_remove.proofs.Places.{row_split, before_in, after_in, final, final_last, final_behind, up_to_final}
 use Rattle.jsonc_remove.proofs.Stretches.{contents, Near, near_of, Line, no_line, line_of, Past, past_of, comma_past, none_past, Ahead, ahead_of, comma_ahead, none_ahead}
 
@@ -32,6 +34,16 @@ beside_no_end : (c : Content) → IsTrue (is_beside c) → is_end c ≡ false
 beside_no_end (Content.whitespace s) h = refl
 beside_no_end (Content.comment s) h = refl
 beside_no_end c h = cc
+
+pub comma_no_trivia : (c : Content) → IsTrue (is_comma c) → is_trivia c ≡ false
+comma_no_trivia (token c) h = refl
+comma_no_trivia c h = cc
+
+pub element_no_trivia : (c : Content) → IsTrue (is_element c) → is_trivia c ≡ false
+element_no_trivia (Content.whitespace s) h = absurd (let wrong : false ≡ true = h in cc)
+element_no_trivia (Content.newline k) h = absurd (let wrong : false ≡ true = h in cc)
+element_no_trivia (Content.comment s) h = absurd (let wrong : false ≡ true = h in cc)
+element_no_trivia c h = refl
 
 comma_no_end : (c : Content) → IsTrue (is_comma c) → is_end c ≡ false
 comma_no_end (token c) h = ap not h
@@ -200,14 +212,17 @@ module _ (ns : List Node) (tree : IsTree ns) (c n open_with last : ℕ) (inner :
     from_line to l =
         let behind : post ≡ (between ++ k ∷ l.line) ++ l.rest = is ∙ ap (λ (r : List ℕ). between ++ k ∷ r) l.split ∙ sym (append_assoc between (k ∷ l.line) l.rest) in
         let ended : n ∷ (between ++ k ∷ l.line) ≡ (n ∷ (between ++ l.init)) ++ to ∷ [] = ap (λ (r : List ℕ). n ∷ (between ++ r)) l.last_is ∙ ap (λ (r : List ℕ). n ∷ r) (sym (append_assoc between l.init (to ∷ []))) in
-        let rest = rest_from (between ++ k ∷ l.line) l.rest (n ∷ (between ++ l.init)) to behind ended (line_last ns k l.line l.init to l.last_is k_no_end l.trivia) in
+        let rest = rest_from (between ++ k ∷ l.line) l.rest (n ∷ (between ++ l.init)) to behind ended (line_last ns k l.line l.init to l.last_is k_no_end (rest_trivia (contents ns l.line) l.ended)) in
         with_behind away near between l.line rest.0 k
         (row_with (between ++ k ∷ l.line) l.rest behind ∙ ap (λ (x : List ℕ). x ++ ((near ++ n ∷ (between ++ k ∷ l.line)) ++ l.rest)) away_open.1 ∙ ap (λ (x : List ℕ). (open_with ∷ away) ++ ((near ++ n ∷ (between ++ k ∷ l.line)) ++ x)) rest.1)
-        (edges (between ++ k ∷ l.line) (n ∷ (between ++ l.init)) to ended) around.beside away_apart trivia comma l.trivia
+        (edges (between ++ k ∷ l.line) (n ∷ (between ++ l.init)) to ended) around.beside away_apart trivia comma (rest_trivia (contents ns l.line) l.ended)
 
     either_line : (b : Bool) → Line ns after k (if b then k else line_end_at ns k)
     either_line true = no_line ns after k
     either_line false = subst (λ r. Line ns r k (line_end_at ns k)) (after_in ns tree c (pre ++ n ∷ between) after k behind_k) (line_of ns k (siblings_after ns k))
+
+    lines_behind : EndsLine ns c (last_past ns n (Some k))
+    lines_behind = ends_line ns tree c (pre ++ n ∷ between) after k (last_past ns n (Some k)) behind_k (comma_no_trivia (content_at ns k) comma) (either_line (ends_line_at ns n || not (ends_line_at ns k)))
 
     goes_behind : Goes (last_past ns n (Some k)) None
     goes_behind = from_line (last_past ns n (Some k)) (either_line (ends_line_at ns n || not (ends_line_at ns k)))
@@ -217,12 +232,15 @@ module _ (ns : List Node) (tree : IsTree ns) (c n open_with last : ℕ) (inner :
     line : Line ns post n (line_end_at ns n)
     line = subst (λ r. Line ns r n (line_end_at ns n)) afters (line_of ns n (siblings_after ns n))
 
+    trivia_line : AreTrivia (contents ns line.line)
+    trivia_line = rest_trivia (contents ns line.line) line.ended
+
     rest : (front : List ℕ) × (line.rest ≡ front ++ last ∷ [])
-    rest = rest_from line.line line.rest line.init (line_end_at ns n) line.split line.last_is (line_last ns n line.line line.init (line_end_at ns n) line.last_is n_no_end line.trivia)
+    rest = rest_from line.line line.rest line.init (line_end_at ns n) line.split line.last_is (line_last ns n line.line line.init (line_end_at ns n) line.last_is n_no_end trivia_line)
 
     none_past_line : comma_first (contents ns (rest.0 ++ last ∷ [])) ≡ false
     none_past_line =
-        ap (λ l. comma_first (contents ns l)) (sym rest.1) ∙ sym (first_past (contents ns line.line) (contents ns line.rest) line.trivia) ∙ ap comma_first (sym (map-append (content_at ns) line.line line.rest))
+        ap (λ l. comma_first (contents ns l)) (sym rest.1) ∙ sym (first_past (contents ns line.line) (contents ns line.rest) trivia_line) ∙ ap comma_first (sym (map-append (content_at ns) line.line line.rest))
         ∙ ap (λ l. comma_first (contents ns l)) (sym line.split) ∙ none_behind
 
     whole : children_at ns c ≡ around.away ++ ((near ++ n ∷ line.line) ++ (rest.0 ++ last ∷ []))
@@ -238,7 +256,7 @@ module _ (ns : List Node) (tree : IsTree ns) (c n open_with last : ℕ) (inner :
     goes_ahead : (o : Option ℕ) → Ahead ns around.away o → Goes (line_end_at ns n) (if_inner ns o)
     goes_ahead _ (none_ahead h) =
         with_none away near line.line rest.0 (whole ∙ ap (λ (x : List ℕ). x ++ ((near ++ n ∷ line.line) ++ (rest.0 ++ last ∷ []))) away_open.1) (edges line.line line.init (line_end_at ns n) line.last_is) around.beside away_apart
-        (no_commas_rest (content_at ns open_with) (contents ns away) (subst (λ l. IsTrue (no_commas (contents ns l))) away_open.1 h)) line.trivia none_past_line
+        (no_commas_rest (content_at ns open_with) (contents ns away) (subst (λ l. IsTrue (no_commas (contents ns l))) away_open.1 h)) trivia_line none_past_line
     goes_ahead _ (comma_ahead front mid {k = k} e comma h) =
         let first_of = begins_with ends front mid away k open_with (sym e ∙ away_open.1) (comma_no_end (content_at ns k) comma) opens in
         let row_k : children_at ns c ≡ front ++ k ∷ (mid ++ ((near ++ n ∷ line.line) ++ (rest.0 ++ last ∷ []))) = whole ∙ ap (λ (x : List ℕ). x ++ ((near ++ n ∷ line.line) ++ (rest.0 ++ last ∷ []))) e ∙ append_assoc front (k ∷ mid) ((near ++ n ∷ line.line) ++ (rest.0 ++ last ∷ [])) in
@@ -250,7 +268,7 @@ module _ (ns : List Node) (tree : IsTree ns) (c n open_with last : ℕ) (inner :
         ∙ some_first back (omega (arith, length-append mid ((near ++ n ∷ line.line) ++ (rest.0 ++ last ∷ [])), length-append (near ++ n ∷ line.line) (rest.0 ++ last ∷ []), length-append rest.0 (last ∷ []))) in
         subst (Goes (line_end_at ns n)) (sym (ap (λ b. if b then Some k else None) inside))
         (with_before first_of.0 mid near line.line rest.0 (whole ∙ ap (λ (x : List ℕ). x ++ ((near ++ n ∷ line.line) ++ (rest.0 ++ last ∷ []))) (e ∙ ap (λ (x : List ℕ). x ++ k ∷ mid) first_of.1)) (edges line.line line.init (line_end_at ns n) line.last_is)
-        around.beside (subst (λ b. IsTrue b) (ap apart (map-append (content_at ns) front (k ∷ mid)) ∙ apart_behind (contents ns front) (content_at ns k) (contents ns mid)) (subst (λ l. IsTrue (apart (contents ns l))) e around.apart)) h comma line.trivia none_past_line)
+        around.beside (subst (λ b. IsTrue b) (ap apart (map-append (content_at ns) front (k ∷ mid)) ∙ apart_behind (contents ns front) (content_at ns k) (contents ns mid)) (subst (λ l. IsTrue (apart (contents ns l))) e around.apart)) h comma trivia_line none_past_line)
 
     goes_none : Goes (last_past ns n None) (comma_unless None (comma_before ns n))
     goes_none = goes_ahead (find (is_comma_at ns) (siblings_before ns n)) ahead
@@ -265,3 +283,15 @@ module _ (ns : List Node) (tree : IsTree ns) (c n open_with last : ℕ) (inner :
       by _ (none_past e) told =
           let is : comma_behind ns n ≡ None = ap (if_inner ns) told in
           subst (λ o. Goes (last_past ns n o) (comma_unless o (comma_before ns n))) (sym is) (goes_none e)
+
+  -- and no more than the rest of a line leaves at the end
+  pub lines : EndsLine ns c (last_gone ns n)
+  lines = by (trailing_comma_at ns n) (subst (λ l. Past ns post (if_comma ns (find (is_no_trivia_at ns) l))) (sym afters) (past_of ns post)) refl
+    where
+      by : (o : Option ℕ) → Past ns post o → trailing_comma_at ns n ≡ o → EndsLine ns c (last_gone ns n)
+      by _ (comma_past between after {k = k} e t f) told =
+          let is : comma_behind ns n ≡ Some k = ap (if_inner ns) told ∙ ap (λ b. if b then Some k else None) (k_inner between after k e t f) in
+          subst (λ o. EndsLine ns c (last_past ns n o)) (sym is) (lines_behind between after k e t f)
+      by _ (none_past e) told =
+          let is : comma_behind ns n ≡ None = ap (if_inner ns) told in
+          subst (λ o. EndsLine ns c (last_past ns n o)) (sym is) (ends_line ns tree c pre post n (line_end_at ns n) split (element_no_trivia (content_at ns n) element) (line e))

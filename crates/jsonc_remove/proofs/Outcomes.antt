@@ -16,6 +16,7 @@ use Rattle.jsonc_laws.specs.Rows.{RowKind, opening, closing}
 use Rattle.jsonc_laws.specs.TriviaChanges.{leaves_then}
 use Rattle.jsonc_laws.specs.Spaces.{meet}
 use Rattle.jsonc_laws.specs.Leaving.{AreBeside, ends_apart, element_count, among, ElementLeaves, with_comma_behind, with_comma_before, with_no_comma, ClosesUp}
+use Rattle.jsonc_laws.proofs.RowParts.{rest_trivia}
 use Rattle.jsonc_edit.proofs.Whole.{Whole, more_whole, whole_before, whole_behind}
 use Rattle.jsonc_edit.proofs.Meeting.{meet_bare}
 use Rattle.jsonc_edit.specs.Changes.{row_below, top_at}
@@ -178,11 +179,11 @@ module _ (o : Options) (old new : List Node) (tree : IsTree old) (after : IsTree
       stretch_index = count_shown old p.shows_front ∙ sym (index ahead near behind rest row edges beside)
 
     pub outcome : (k : Option ℕ) → Settled old c n open_with last from to k → LosesChild parted joined c k → Outcome old new c n i kind
-    outcome _ (settled_none away near line rest row edges beside apart_away none_away trivia_line first quiet) same =
+    outcome _ (settled_none away near line rest row edges beside apart_away none_away ended first quiet) same =
         let p = pieces away near line rest row edges beside in
         let r = stretch_row away near line rest row edges beside same p in
         let whole_row : p.row_is ≡ followed_by p.front (among (contents old near) (top_at old n) (contents old line) p.rest_of) =
-        p.parts ∙ ap (λ (t : OrderedTree). followed_by p.front (leaves_then (contents old near) (more (content_at old n) (row_below old n) t))) (leaves_shown old tree line p.behind_it p.rest_of (trivia_leaves (contents old line) trivia_line) p.shows_behind) in
+        p.parts ∙ ap (λ (t : OrderedTree). followed_by p.front (leaves_then (contents old near) (more (content_at old n) (row_below old n) t))) (leaves_shown old tree line p.behind_it p.rest_of (trivia_leaves (contents old line) (rest_trivia (contents old line) ended)) p.shows_behind) in
         record {
           row = p.row_is;
           left = followed_by p.front p.rest_of;
@@ -192,11 +193,11 @@ module _ (o : Options) (old new : List Node) (tree : IsTree old) (after : IsTree
           leaves =
               subst (λ k. ElementLeaves (top_at old n) k p.row_is (followed_by p.front p.rest_of)) (stretch_index away near line rest row edges beside same p)
               (subst (λ t. ElementLeaves (top_at old n) (element_count p.front) t (followed_by p.front p.rest_of)) (sym whole_row)
-              (with_no_comma p.front p.rest_of (contents old near) (contents old line) (stretch_apart away near line rest row edges beside same p apart_away) (commas_shown old p.shows_front ∙ none_away) beside trivia_line
+              (with_no_comma p.front p.rest_of (contents old near) (contents old line) (stretch_apart away near line rest row edges beside same p apart_away) (commas_shown old p.shows_front ∙ none_away) beside ended
               (ap not (first_shown old p.shows_rest ∙ first)) (stretch_quiet away near line rest row edges beside same p quiet)));
           closes = r.shuts;
         }
-    outcome _ (settled_behind away near between line rest k row edges beside apart_away trivia comma trivia_line quiet) same =
+    outcome _ (settled_behind away near between line rest k row edges beside apart_away trivia comma ended quiet) same =
         let p = pieces away near (between ++ k ∷ line) rest row edges beside in
         let r = stretch_row away near (between ++ k ∷ line) rest row edges beside same p in
         let is_k : content_at old k ≡ token 0x2C = comma_is (content_at old k) comma in
@@ -208,7 +209,7 @@ module _ (o : Options) (old new : List Node) (tree : IsTree old) (after : IsTree
         let behind_is : followed_by p.behind_it p.rest_of ≡ leaves_then (contents old between) (token_then 0x2C (leaves_then (contents old line) p.rest_of)) =
         mid.is p.rest_of ∙ ap (λ (w : Content). leaves_then (contents old between) (more w (row_below old k) (followed_by mid.after p.rest_of))) is_k
         ∙ ap (λ (t : OrderedTree). leaves_then (contents old between) (more (token 0x2C) t (followed_by mid.after p.rest_of))) (leaf_below old tree k k_there (ap is_container is_k))
-        ∙ ap (λ (t : OrderedTree). leaves_then (contents old between) (token_then 0x2C t)) (leaves_shown old tree line mid.after p.rest_of (trivia_leaves (contents old line) trivia_line) mid.shown) in
+        ∙ ap (λ (t : OrderedTree). leaves_then (contents old between) (token_then 0x2C t)) (leaves_shown old tree line mid.after p.rest_of (trivia_leaves (contents old line) (rest_trivia (contents old line) ended)) mid.shown) in
         let whole_row : p.row_is ≡ followed_by p.front (among (contents old near) (top_at old n) (contents old between) (token_then 0x2C (leaves_then (contents old line) p.rest_of))) =
         p.parts ∙ ap (λ (t : OrderedTree). followed_by p.front (leaves_then (contents old near) (more (content_at old n) (row_below old n) t))) behind_is in
         record {
@@ -220,11 +221,11 @@ module _ (o : Options) (old new : List Node) (tree : IsTree old) (after : IsTree
           leaves =
               subst (λ j. ElementLeaves (top_at old n) j p.row_is (followed_by p.front p.rest_of)) (stretch_index away near (between ++ k ∷ line) rest row edges beside same p)
               (subst (λ t. ElementLeaves (top_at old n) (element_count p.front) t (followed_by p.front p.rest_of)) (sym whole_row)
-              (with_comma_behind p.front p.rest_of (contents old near) (contents old between) (contents old line) (stretch_apart away near (between ++ k ∷ line) rest row edges beside same p apart_away) beside trivia trivia_line
+              (with_comma_behind p.front p.rest_of (contents old near) (contents old between) (contents old line) (stretch_apart away near (between ++ k ∷ line) rest row edges beside same p apart_away) beside trivia ended
               (stretch_quiet away near (between ++ k ∷ line) rest row edges beside same p quiet)));
           closes = r.shuts;
         }
-    outcome _ (settled_before away mid near line rest {k = k} row edges beside apart_mid none_mid comma trivia_line first far close) loses =
+    outcome _ (settled_before away mid near line rest {k = k} row edges beside apart_mid none_mid comma ended first far close) loses =
         let ahead : List ℕ = away ++ k ∷ mid in
         let back : List ℕ = rest ++ last ∷ [] in
         let p = pieces ahead near line rest row edges beside in
@@ -239,7 +240,7 @@ module _ (o : Options) (old new : List Node) (tree : IsTree old) (after : IsTree
         let front_then : (t : OrderedTree) → followed_by p.front t ≡ followed_by two.0 (token_then 0x2C (followed_by one.after t)) = λ t. ap (λ (f : OrderedTree). followed_by f t) two.2 ∙ followed_by-assoc two.0 two.1 t ∙ ap (followed_by two.0) (comma_then t) in
         let left : OrderedTree = followed_by two.0 (followed_by one.after p.rest_of) in
         let whole_row : p.row_is ≡ followed_by two.0 (token_then 0x2C (followed_by one.after (among (contents old near) (top_at old n) (contents old line) p.rest_of))) =
-        p.parts ∙ ap (λ (t : OrderedTree). followed_by p.front (leaves_then (contents old near) (more (content_at old n) (row_below old n) t))) (leaves_shown old tree line p.behind_it p.rest_of (trivia_leaves (contents old line) trivia_line) p.shows_behind)
+        p.parts ∙ ap (λ (t : OrderedTree). followed_by p.front (leaves_then (contents old near) (more (content_at old n) (row_below old n) t))) (leaves_shown old tree line p.behind_it p.rest_of (trivia_leaves (contents old line) (rest_trivia (contents old line) ended)) p.shows_behind)
         ∙ front_then (among (contents old near) (top_at old n) (contents old line) p.rest_of) in
         let whole_front : Whole o (followed_by two.0 two.1) = subst (Whole o) two.2 p.whole_front in
         let whole_away : Whole o two.0 = whole_before o two.0 two.1 whole_front in
@@ -268,7 +269,7 @@ module _ (o : Options) (old new : List Node) (tree : IsTree old) (after : IsTree
           leaves =
               subst (λ j. ElementLeaves (top_at old n) j p.row_is left) counts
               (subst (λ t. ElementLeaves (top_at old n) (element_count two.0 + element_count one.after) t left) (sym whole_row)
-              (with_comma_before two.0 one.after p.rest_of (contents old near) (contents old line) mid_apart (commas_shown old one.shown ∙ none_mid) beside trivia_line (ap not (first_shown old p.shows_rest ∙ first))
+              (with_comma_before two.0 one.after p.rest_of (contents old near) (contents old line) mid_apart (commas_shown old one.shown ∙ none_mid) beside ended (ap not (first_shown old p.shows_rest ∙ first))
               (meet_bare old o two.3 whole_away shows_back (whole_joined o one.after p.rest_of whole_mid p.whole_rest) ∙ quiet_inside old open_with away (mid ++ back) far)
               (meet_bare old o one.shown whole_mid p.shows_rest p.whole_rest ∙ close)));
           closes = r.shuts;

@@ -26,8 +26,9 @@ use Rattle.jsonc_laws.specs.Alone.{RootAlone}
 use Rattle.jsonc_laws.specs.SoundTrees.{SoundTree}
 use Rattle.jsonc_laws.specs.Spaces.{is_bare}
 use Rattle.jsonc_laws.proofs.Apart.{document_alone}
+use Rattle.jsonc_laws.proofs.RowParts.{rest_trivia}
 use Rattle.jsonc_laws.specs.MarkChanges.{AreBlanks}
-use Rattle.jsonc_laws.specs.Leaving.{AreBeside, ends_apart, among, ValueLeaves, value_leaves, Empties, empties}
+use Rattle.jsonc_laws.specs.Leaving.{AreBeside, ends_apart, among, ValueLeaves, value_leaves, Empties, empties, IsRestOfLine}
 use Rattle.jsonc_edit.specs.Due.{nearest, prints_at, ends_bare, begins_bare, seen_before, seen_behind, due_between, prints_within, beginning_in, is_bare_at, listed}
 use Rattle.jsonc_edit.specs.Put.{AreSpaced}
 use Rattle.jsonc_edit.specs.Changes.{row_below, top_at}
@@ -124,7 +125,7 @@ record Parts (ns : List Node) (n : ℕ) : Type 0 where
   beside : AreBeside (contents ns near)
   apart_away : IsTrue (apart (contents ns away))
   trivia_away : AreTrivia (contents ns away)
-  trivia : AreTrivia (contents ns line)
+  ended : IsRestOfLine (contents ns line)
   first_is : near ++ n ∷ line ≡ first_gone ns n ∷ tail
   last_is : near ++ n ∷ line ≡ init ++ last_gone ns n ∷ []
 
@@ -179,7 +180,7 @@ module _ (o : Options) (ns : List Node) (tree : IsTree ns) (n : ℕ) (said : par
         beside = a.beside;
         apart_away = a.apart;
         trivia_away = trivia_front (contents ns a.away) (contents ns a.near) (subst AreTrivia (ap (contents ns) a.split ∙ map-append (content_at ns) a.away a.near) trivia_both.0);
-        trivia = l.trivia;
+        ended = l.ended;
         first_is = sym (append_assoc a.near (n ∷ []) l.line) ∙ ap (λ k. k ++ l.line) a.first_is;
         last_is = ap (λ (k : List ℕ). a.near ++ k) l.last_is ∙ sym (append_assoc a.near l.init (last_gone ns n ∷ []));
       }
@@ -261,8 +262,8 @@ module _ (o : Options) (old new : List Node) (n : ℕ) (tree : IsTree old) (afte
   beside : AreBeside (contents ready p.near)
   beside = subst AreBeside (sym (contents_same old ready p.near (front_same old ready p.near (n ∷ p.line) same_stretch))) p.beside
 
-  trivia : AreTrivia (contents ready p.line)
-  trivia = subst AreTrivia (sym (contents_same old ready p.line (tail_same old ready n p.line (back_same old ready p.near (n ∷ p.line) same_stretch)))) p.trivia
+  ended : IsRestOfLine (contents ready p.line)
+  ended = subst IsRestOfLine (sym (contents_same old ready p.line (tail_same old ready n p.line (back_same old ready p.near (n ∷ p.line) same_stretch)))) p.ended
 
   n_there : n < length ready
   n_there = omega (arith, (parent_there old tree n 0 said).0, f.prepared.keeps.len)
@@ -317,10 +318,10 @@ module _ (o : Options) (old new : List Node) (n : ℕ) (tree : IsTree old) (afte
       let mid = among_shown ready f.prepared.tree p.near n p.line two.0 n_there (beside_leaves (contents ready p.near) beside) two.3 in
       let row_is : row_below ready 0 ≡ followed_by one.0 (among (contents ready p.near) (top_at ready n) (contents ready p.line) two.1) =
       one.2 ∙ ap (followed_by one.0) (two.2 ∙ mid.is two.1)
-      ∙ ap (λ (t : OrderedTree). followed_by one.0 (leaves_then (contents ready p.near) (more (content_at ready n) (row_below ready n) t))) (leaves_shown ready f.prepared.tree p.line mid.after two.1 (trivia_leaves (contents ready p.line) trivia) mid.shown) in
+      ∙ ap (λ (t : OrderedTree). followed_by one.0 (leaves_then (contents ready p.near) (more (content_at ready n) (row_below ready n) t))) (leaves_shown ready f.prepared.tree p.line mid.after two.1 (trivia_leaves (contents ready p.line) (rest_trivia (contents ready p.line) ended)) mid.shown) in
       let left : OrderedTree = followed_by one.0 two.1 in
       let ends : IsTrue (ends_apart one.0) = apart_shown ready one.3 ∙ ap apart same_away ∙ p.apart_away in
-      let leaves : ValueLeaves (top_at ready n) (row_below ready 0) left = subst (λ t. ValueLeaves (top_at ready n) t left) (sym row_is) (value_leaves one.0 two.1 (contents ready p.near) (contents ready p.line) ends beside trivia) in
+      let leaves : ValueLeaves (top_at ready n) (row_below ready 0) left = subst (λ t. ValueLeaves (top_at ready n) t left) (sym row_is) (value_leaves one.0 two.1 (contents ready p.near) (contents ready p.line) ends beside ended) in
       record {
         row = row_below ready 0;
         left = left;

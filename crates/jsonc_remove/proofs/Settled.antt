@@ -10,19 +10,21 @@ use Rattle.std.specs.Option.{option_or}
 use Rattle.jsonc_text.specs.Text.{starts}
 use Rattle.jsonc_tree.specs.Content.{Content, token}
 use Rattle.jsonc_tree.specs.Tree.{Node, content_at, children_at, IsTree}
+use Rattle.jsonc_nodes.specs.Kinds.{is_trivia_at}
 use Rattle.jsonc_nodes.proofs.There.{All-reverse}
 use Rattle.jsonc_lines.specs.Kinds.{holds_values, is_comma}
 use Rattle.jsonc_laws.specs.TriviaChanges.{AreTrivia}
 use Rattle.jsonc_laws.proofs.Texts.{comma_first as comma_char}
-use Rattle.jsonc_laws.specs.Leaving.{AreBeside}
+use Rattle.jsonc_laws.specs.Leaving.{AreBeside, IsRestOfLine}
 use Rattle.jsonc_edit.specs.Due.{is_other, prints, prints_at, nearest, begins_bare, ends_bare, seen_before, due_between, listed}
 use Rattle.jsonc_edit.specs.Put.{AreSpaced}
 use Rattle.jsonc_remove.specs.Leaving.{is_comma_at}
 use Rattle.jsonc_remove.specs.Removed.{is_next}
 use Rattle.jsonc_remove.proofs.Contents.{apart, no_commas, comma_first, Gains, apart_behind_gains, commas_gains, first_gains}
+use Rattle.jsonc_remove.proofs.Lines.{EndsLine}
 use Rattle.jsonc_remove.proofs.Places.{Quiet, OneSpace, one_space, before_in}
 use Rattle.jsonc_remove.proofs.Stretches.{contents}
-use Rattle.jsonc_remove.proofs.Going.{Edges, Going, with_behind, with_before, with_none}
+use Rattle.jsonc_remove.proofs.Going.{comma_no_trivia, Edges, Going, with_behind, with_before, with_none}
 use Rattle.jsonc_remove.proofs.Spaces.{contents_same, nearest_same, spaced_parts, due_parts}
 use Rattle.jsonc_remove.proofs.Within.{find_holds, stretch_prints}
 
@@ -31,19 +33,19 @@ pub data Settled (ns : List Node) (c n open_with last from to : ℕ) : Option �
   settled_behind : (away near between line rest : List ℕ) (k : ℕ)
       → children_at ns c ≡ (open_with ∷ away) ++ ((near ++ n ∷ (between ++ k ∷ line)) ++ (rest ++ last ∷ []))
       → Edges (near ++ n ∷ (between ++ k ∷ line)) from to → AreBeside (contents ns near) → IsTrue (apart (contents ns away))
-      → AreTrivia (contents ns between) → IsTrue (is_comma_at ns k) → AreTrivia (contents ns line)
+      → AreTrivia (contents ns between) → IsTrue (is_comma_at ns k) → IsRestOfLine (contents ns line)
       → Quiet ns (open_with ∷ away) (rest ++ last ∷ [])
       → Settled ns c n open_with last from to None
   settled_before : (away mid near line rest : List ℕ) {k : ℕ}
       → children_at ns c ≡ ((open_with ∷ away) ++ k ∷ mid) ++ ((near ++ n ∷ line) ++ (rest ++ last ∷ []))
       → Edges (near ++ n ∷ line) from to → AreBeside (contents ns near) → IsTrue (apart (content_at ns k ∷ contents ns mid)) → IsTrue (no_commas (contents ns mid))
-      → IsTrue (is_comma_at ns k) → AreTrivia (contents ns line) → comma_first (contents ns (rest ++ last ∷ [])) ≡ false
+      → IsTrue (is_comma_at ns k) → IsRestOfLine (contents ns line) → comma_first (contents ns (rest ++ last ∷ [])) ≡ false
       → Quiet ns (open_with ∷ away) (mid ++ (rest ++ last ∷ [])) → Quiet ns mid (rest ++ last ∷ [])
       → Settled ns c n open_with last from to (Some k)
   settled_none : (away near line rest : List ℕ)
       → children_at ns c ≡ (open_with ∷ away) ++ ((near ++ n ∷ line) ++ (rest ++ last ∷ []))
       → Edges (near ++ n ∷ line) from to → AreBeside (contents ns near) → IsTrue (apart (contents ns away)) → IsTrue (no_commas (contents ns away))
-      → AreTrivia (contents ns line) → comma_first (contents ns (rest ++ last ∷ [])) ≡ false
+      → IsRestOfLine (contents ns line) → comma_first (contents ns (rest ++ last ∷ [])) ≡ false
       → Quiet ns (open_with ∷ away) (rest ++ last ∷ [])
       → Settled ns c n open_with last from to None
 
@@ -146,7 +148,7 @@ module _ (ready : List Node) (tree : IsTree ready) (c n open_with last from to :
 
     module _ (next : Bool) (away mid near line rest : List ℕ) (k : ℕ) (row : children_at ready c ≡ ((open_with ∷ away) ++ k ∷ mid) ++ ((near ++ n ∷ line) ++ (rest ++ last ∷ []))) (edges : Edges (near ++ n ∷ line) from to)
         (beside : AreBeside (contents ready near)) (apart_mid : IsTrue (apart (content_at ready k ∷ contents ready mid))) (none_mid : IsTrue (no_commas (contents ready mid))) (comma : IsTrue (is_comma_at ready k))
-        (trivia_line : AreTrivia (contents ready line)) (first : comma_first (contents ready (rest ++ last ∷ [])) ≡ false) (said : next ≡ is_next (seen_before ready from) (Some k))
+        (ended : IsRestOfLine (contents ready line)) (first : comma_first (contents ready (rest ++ last ∷ [])) ≡ false) (said : next ≡ is_next (seen_before ready from) (Some k))
         (put : AreSpaced ready (listed (if next then None else due_between ready k k) ++ listed (if next then due_between ready k to else due_between ready from to)) spaced) where
       abbrev stretch : List ℕ
       stretch = near ++ n ∷ line
@@ -200,7 +202,7 @@ module _ (ready : List Node) (tree : IsTree ready) (c n open_with last from to :
             content = b.content;
             settled =
                 settled_before away mid near line b.rest b.row edges (subst AreBeside (same near) beside) (subst (λ l. IsTrue (apart l)) (same (k ∷ mid)) apart_mid) (subst (λ l. IsTrue (no_commas l)) (same mid) none_mid)
-                (subst (λ w. IsTrue (is_comma w)) (sym (b.content k)) comma) (subst AreTrivia (same line) trivia_line) (first_gains b.gains ∙ ap comma_first (sym (same back)) ∙ first)
+                (subst (λ w. IsTrue (is_comma w)) (sym (b.content k)) comma) (subst IsRestOfLine (same line) ended) (first_gains b.gains ∙ ap comma_first (sym (same back)) ∙ first)
                 (ap (λ o. ends_bare spaced (nearest spaced (reverse (open_with ∷ away))) && begins_bare spaced o) past ∙ b.quiet) (ap (λ o. ends_bare spaced o && begins_bare spaced (nearest spaced (b.rest ++ last ∷ []))) blind);
           }
 
@@ -248,7 +250,7 @@ module _ (ready : List Node) (tree : IsTree ready) (c n open_with last from to :
             settled =
                 settled_before away a.given near line b.rest b.row edges (subst AreBeside (same near) beside)
                 (apart_behind_gains (content_at spaced k) gains ∙ subst (λ l. IsTrue (apart l)) (same (k ∷ mid)) apart_mid) (commas_gains gains ∙ subst (λ l. IsTrue (no_commas l)) (same mid) none_mid)
-                (subst (λ w. IsTrue (is_comma w)) (sym (content k)) comma) (subst AreTrivia (same line) trivia_line) (first_gains b.gains ∙ ap comma_first (sym (same back)) ∙ first)
+                (subst (λ w. IsTrue (is_comma w)) (sym (content k)) comma) (subst IsRestOfLine (same line) ended) (first_gains b.gains ∙ ap comma_first (sym (same back)) ∙ first)
                 (ap (λ o. ends_bare spaced (nearest spaced (reverse (open_with ∷ away))) && begins_bare spaced o) past ∙ front_quiet) b.quiet;
           }
 
@@ -268,26 +270,31 @@ module _ (ready : List Node) (tree : IsTree ready) (c n open_with last from to :
           let differ : next ≡ false = next_is (Some m) e ∙ other m e in
           far m e (subst (λ b. AreSpaced ready (listed (if b then None else due_between ready k k) ++ listed (if b then due_between ready k to else due_between ready from to)) spaced) differ put)
 
-    pub is_settled : (next : Bool) (o : Option ℕ) → Going ready c n open_with last from to o → DueWith ready from to o next spaced → Done o
-    is_settled next _ (with_behind away near between line rest k row edges beside apart_away trivia comma trivia_line) put =
+    pub is_settled : (next : Bool) (o : Option ℕ) → EndsLine ready c to → is_trivia_at ready n ≡ false → Going ready c n open_with last from to o → DueWith ready from to o next spaced → Done o
+    is_settled next _ lines solid (with_behind away near between line rest k row edges beside apart_away trivia comma trivia_line) put =
         let b = without (open_with ∷ away) near (between ++ k ∷ line) rest row edges put in
         let same : (xs : List ℕ) → contents ready xs ≡ contents spaced xs = λ xs. sym (contents_same ready spaced xs (same_each ready spaced b.content xs)) in
+        let parts : near ++ n ∷ (between ++ k ∷ line) ≡ (near ++ n ∷ between) ++ k ∷ line = sym (append_assoc near (n ∷ between) (k ∷ line)) in
+        let ended : IsRestOfLine (contents ready line) =
+        lines (open_with ∷ away) (near ++ n ∷ between) line (rest ++ last ∷ []) edges.init k (row ∙ ap (λ (l : List ℕ). (open_with ∷ away) ++ (l ++ (rest ++ last ∷ []))) parts) (sym parts ∙ edges.last_is) (comma_no_trivia (content_at ready k) comma) trivia_line in
         record {
           tree = b.tree;
           content = b.content;
           settled =
               settled_behind away near between line b.rest k b.row edges (subst AreBeside (same near) beside) (subst (λ l. IsTrue (apart l)) (same away) apart_away) (subst AreTrivia (same between) trivia)
-              (subst (λ w. IsTrue (is_comma w)) (sym (b.content k)) comma) (subst AreTrivia (same line) trivia_line) b.quiet;
+              (subst (λ w. IsTrue (is_comma w)) (sym (b.content k)) comma) (subst IsRestOfLine (same line) ended) b.quiet;
         }
-    is_settled next _ (with_none away near line rest row edges beside apart_away none_away trivia_line first) put =
+    is_settled next _ lines solid (with_none away near line rest row edges beside apart_away none_away trivia_line first) put =
         let b = without (open_with ∷ away) near line rest row edges put in
         let same : (xs : List ℕ) → contents ready xs ≡ contents spaced xs = λ xs. sym (contents_same ready spaced xs (same_each ready spaced b.content xs)) in
+        let ended : IsRestOfLine (contents ready line) = lines (open_with ∷ away) near line (rest ++ last ∷ []) edges.init n row edges.last_is solid trivia_line in
         record {
           tree = b.tree;
           content = b.content;
           settled =
-              settled_none away near line b.rest b.row edges (subst AreBeside (same near) beside) (subst (λ l. IsTrue (apart l)) (same away) apart_away) (subst (λ l. IsTrue (no_commas l)) (same away) none_away) (subst AreTrivia (same line) trivia_line)
+              settled_none away near line b.rest b.row edges (subst AreBeside (same near) beside) (subst (λ l. IsTrue (apart l)) (same away) apart_away) (subst (λ l. IsTrue (no_commas l)) (same away) none_away) (subst IsRestOfLine (same line) ended)
               (first_gains b.gains ∙ ap comma_first (sym (same (rest ++ last ∷ []))) ∙ first) b.quiet;
         }
-    is_settled next _ (with_before away mid near line rest {k = k} row edges beside apart_mid none_mid comma trivia_line first) (said, put) =
-        either next away mid near line rest k row edges beside apart_mid none_mid comma trivia_line first said put (nearest ready (reverse mid)) refl
+    is_settled next _ lines solid (with_before away mid near line rest {k = k} row edges beside apart_mid none_mid comma trivia_line first) (said, put) =
+        let ended : IsRestOfLine (contents ready line) = lines ((open_with ∷ away) ++ k ∷ mid) near line (rest ++ last ∷ []) edges.init n row edges.last_is solid trivia_line in
+        either next away mid near line rest k row edges beside apart_mid none_mid comma ended first said put (nearest ready (reverse mid)) refl

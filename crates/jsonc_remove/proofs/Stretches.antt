@@ -4,22 +4,17 @@ use Rattle.std.proofs.lemmas.List.{append_assoc, map-append, reverse-append}
 use Rattle.std.specs.List.{find}
 use Rattle.jsonc_tree.specs.Content.{Content}
 use Rattle.jsonc_tree.specs.Tree.{Node, content_at}
-use Rattle.jsonc_nodes.specs.Kinds.{is_beside, is_newline, is_trivia, is_beside_at, is_newline_at, is_trivia_at, is_whitespace_at}
+use Rattle.jsonc_nodes.specs.Kinds.{is_beside, is_beside_at, is_newline_at, is_trivia_at, is_whitespace_at}
 use Rattle.jsonc_lines.specs.Kinds.{is_comma}
 use Rattle.jsonc_lines.specs.Siblings.{is_no_trivia_at, if_comma}
 use Rattle.jsonc_laws.specs.TriviaChanges.{AreTrivia}
-use Rattle.jsonc_laws.specs.Leaving.{AreBeside}
+use Rattle.jsonc_laws.specs.Leaving.{AreBeside, IsRestOfLine, without_end, with_end}
 use Rattle.jsonc_remove.specs.Leaving.{begins_other, is_comma_at, line_end, outermost}
 use Rattle.jsonc_remove.proofs.Contents.{apart, no_commas, comma_first, apart_last, beside_append}
 
-newline_trivia : (c : Content) → is_newline c ≡ true → IsTrue (is_trivia c)
-newline_trivia (Content.newline k) h = refl
-newline_trivia c h = cc
-
-beside_trivia : (c : Content) → is_beside c ≡ true → IsTrue (is_trivia c)
-beside_trivia (Content.whitespace s) h = refl
-beside_trivia (Content.comment s) h = refl
-beside_trivia c h = cc
+beside_line : (c : Content) (ls : List Content) → IsTrue (is_beside c) → IsRestOfLine ls → IsRestOfLine (c ∷ ls)
+beside_line c ls f (without_end line h) = without_end (c ∷ line) (f, h)
+beside_line c ls f (with_end line end h n) = with_end (c ∷ line) end (f, h) n
 
 module _ (ns : List Node) where
   abbrev pub contents : List ℕ → List Content
@@ -63,31 +58,31 @@ module _ (ns : List Node) where
         first_is = refl;
       }
 
-  -- a row behind a node: trivia up to where its line ends, and the rest
+  -- a row behind a node: the rest of its line, or less of it, and what stands behind that
   pub record Line (row : List ℕ) (n last : ℕ) : Type 0 where
     pub line : List ℕ
     pub rest : List ℕ
     pub init : List ℕ
     pub split : row ≡ line ++ rest
-    pub trivia : AreTrivia (contents line)
+    pub ended : IsRestOfLine (contents line)
     pub last_is : n ∷ line ≡ init ++ last ∷ []
 
   pub no_line : (row : List ℕ) (n : ℕ) → Line row n n
-  no_line row n = record { line = []; rest = row; init = []; split = refl; trivia = tt; last_is = refl }
+  no_line row n = record { line = []; rest = row; init = []; split = refl; ended = without_end [] tt; last_is = refl }
 
   pub line_of : (n : ℕ) (row : List ℕ) → Line row n (line_end ns n row)
   line_of n [] = no_line [] n
   line_of n (m ∷ rest) = by (is_newline_at ns m) refl (is_beside_at ns m) refl (not (is_whitespace_at ns m && begins_other ns rest)) (line_of m rest)
     where
       by : (a : Bool) → is_newline_at ns m ≡ a → (b : Bool) → is_beside_at ns m ≡ b → (d : Bool) → Line rest m (line_end ns m rest) → Line (m ∷ rest) n (if a then m else (if b && d then line_end ns m rest else n))
-      by true e b f d r = record { line = m ∷ []; rest = rest; init = n ∷ []; split = refl; trivia = (newline_trivia (content_at ns m) e, tt); last_is = refl }
+      by true e b f d r = record { line = m ∷ []; rest = rest; init = n ∷ []; split = refl; ended = with_end [] (content_at ns m) tt e; last_is = refl }
       by false e true f true r =
           record {
             line = m ∷ r.line;
             rest = r.rest;
             init = n ∷ r.init;
             split = ap (λ (l : List ℕ). m ∷ l) r.split;
-            trivia = (beside_trivia (content_at ns m) f, r.trivia);
+            ended = beside_line (content_at ns m) (contents r.line) f r.ended;
             last_is = ap (λ (l : List ℕ). n ∷ l) r.last_is;
           }
       by false e true f false r = no_line (m ∷ rest) n
