@@ -51,7 +51,7 @@ boolean_given old new path n b tree at set =
     (g.0, record { was = boolean_leaf g.0; layout = layout_for old 0 n; spaced = g.1; spaces = g.2; changed = g.3; around = document_differs g.3 }, refl)
 
 -- a truth value's node has it as its value
-boolean_value : {o : Options} {content : Content} {below : OrderedTree} {v : Plain} (a : Bool) → content ≡ Content.boolean a → ValueOf o content below v → v ≡ Plain.boolean a
+pub boolean_value : {o : Options} {content : Content} {below : OrderedTree} {v : Plain} (a : Bool) → content ≡ Content.boolean a → ValueOf o content below v → v ≡ Plain.boolean a
 boolean_value a e (values.boolean {b = b}) = let same : b ≡ a = cc in ap Plain.boolean same
 boolean_value a e (values.string h) = cc
 boolean_value a e values.number = cc

@@ -13,6 +13,9 @@ pub mod Wider
 pub mod Sorts
 pub mod Written
 pub mod Refused
+pub mod ValueNodes
+pub mod CommentCount
+pub mod Named
 pub mod Numbered
 pub mod Marking
 pub mod Below

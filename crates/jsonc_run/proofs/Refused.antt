@@ -93,7 +93,7 @@ module _ (o : Options) (ns : List Node) (tree : IsTree ns) (sound : SoundTree o 
   answer_refused e (Err stop) k = refused_so e stop k
 
 -- what edits that were made leave is a tree
-made_tree : {old new : List Node} {es : List Operation} → IsTree old → AreMade old es new → IsTree new
+pub made_tree : {old new : List Node} {es : List Operation} → IsTree old → AreMade old es new → IsTree new
 made_tree tree none_made = tree
 made_tree tree (first_made is after rest) = made_tree after rest
 

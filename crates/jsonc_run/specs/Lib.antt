@@ -2,5 +2,6 @@ pub mod Places
 pub mod Edits
 pub mod Refusals
 pub mod Written
+pub mod Named
 pub mod Marked
 pub mod Below

@@ -5,6 +5,7 @@ ghost use Rattle.jsonc_tree.specs.OrderedTree.{ordered_tree};
 ghost use Rattle.jsonc_tree.specs.Tree.{IsTree, Node};
 ghost use Rattle.jsonc_run.specs.Edits.{AreMade, Operation};
 ghost use Rattle.jsonc_run.specs.Marked.{MarkAll};
+ghost use Rattle.jsonc_run.specs.Named.{PlacesAreNamed};
 ghost use Rattle.jsonc_run.specs.Written.{AllStayAround, WriteAll};
 
 /// What a list of edits makes of a text: in a sound document edits have been made in order. Where the
@@ -28,4 +29,12 @@ pub fn edits_keep_the_leaves_around()
 pub fn edits_change_the_marks()
     ensures { (o : Options) (old new : List Node) (es : List Operation) → IsTree old
         → AreMade old es new → MarkAll o old es new }
+{}
+
+/// Where edits have their place: in a sound document the nodes have what an edit needs at its path exactly
+/// where the document's value has it there, whatever that is, a value, a truth value, an array, an object
+/// or a property; and there is the comment of a number exactly where the document's text has more comments
+/// than that.
+pub fn places_are_named()
+    ensures { (o : Options) (ns : List Node) (e : Operation) → PlacesAreNamed o ns e }
 {}

@@ -12,6 +12,7 @@ ghost use Rattle.jsonc_run.specs.Edits.{is_sort, is_whole, operation_of, unsorte
 ghost use Rattle.jsonc_run.specs.Edits.{replace as asked, remove as asked_out, remove_comment as asked_without};
 ghost use Rattle.jsonc_run.specs.Edits.{set_root as asked_of_root, replace_property as asked_of_property, ensure_root as asked_for};
 ghost use Rattle.jsonc_laws.specs.SoundTrees.{SoundTree};
+ghost use Rattle.jsonc_run.specs.Named.{TellsUnnamed};
 ghost use Rattle.jsonc_run.specs.Refusals.{IsLeft, IsToldBy, WantsMemoryOrPlace};
 ghost use Rattle.jsonc_named.specs.Shapes.{empty_of, is_of};
 ghost use Rattle.jsonc_run.specs.Marked.{MarkAll};
@@ -38,6 +39,8 @@ use std::alloc::Allocator;
 
 /// Makes an edit that is no sort. Where it is refused, the document and every node that was there are as
 /// they were; of trailing commas that were to be set those of the first arrays and objects may have been.
+/// In a sound document an edit has no place exactly where the document's value has at its path nothing that
+/// it needs, or the document no comment of its number.
 pub fn make<A: Allocator + Copy>(
     alloc: A,
     tree: &mut Tree<A>,
@@ -46,6 +49,8 @@ pub fn make<A: Allocator + Copy>(
     requires unsorted { is_sort edit.now ≡ false }
     ensures made { OnOk result (IsMade tree.old.nodes (operation_of unsorted edit.now) tree.new.nodes) }
     ensures told { IfErr result (IsToldBy tree.old.nodes (operation_of unsorted edit.now)) }
+    ensures named { (o : Options) → SoundTree o (ordered_tree tree.old.nodes 0)
+        → IfErr result (TellsUnnamed o tree.old.nodes (operation_of unsorted edit.now)) }
     ensures memory_or_place { (o : Options) → SoundTree o (ordered_tree tree.old.nodes 0)
         → IfErr result WantsMemoryOrPlace }
     ensures written { (o : Options)
