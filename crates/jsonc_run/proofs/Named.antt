@@ -37,7 +37,8 @@ use Rattle.jsonc_named.proofs.PathValues.{gives_way_to_itself, value_at_path}
 use Rattle.jsonc_named.proofs.PropertyValues.{value_held}
 use Rattle.jsonc_run.specs.Edits.{AreMade, Operation, replace, remove, remove_comment, set_root, clear_root, replace_property, ensure_root, set_value, ensure_value, set_boolean, ensure_multiline, insert_element, append_element, insert_property, append_property, ensure_property, set_commas, set_some_commas, rearrange}
 use Rattle.jsonc_run.specs.Named.{StandsAt, HasValueAt, HasBooleanAt, HasArrayAt, HasObjectAt, HasContainerAt, HasPropertyAt, IsNamed, comment_count, PlacesAreNamed, TellsUnnamed, TellsUnnamedAfter}
-use Rattle.jsonc_run.specs.Places.{comment_at, IsArrayAt, IsBooleanAt, IsContainerAt, IsEntryOf, IsEntryAt, IsObjectAt, an_entry, in_array, in_object, the_value}
+use Rattle.jsonc_edit.specs.Comments.{comment_at}
+use Rattle.jsonc_run.specs.Places.{IsArrayAt, IsBooleanAt, IsContainerAt, IsEntryOf, IsEntryAt, IsObjectAt, an_entry, in_array, in_object, the_value}
 use Rattle.jsonc_run.specs.Refusals.{HasItsPlace, IsToldBy, LacksBrackets, LacksName, MayWantMemory}
 use Rattle.jsonc_run.specs.Written.{options_after}
 use Rattle.jsonc_run.proofs.Booleans.{boolean_value}
