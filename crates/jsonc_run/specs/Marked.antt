@@ -19,10 +19,10 @@ use Rattle.jsonc_run.specs.Edits.{Operation, replace, remove, remove_comment, se
 use Rattle.jsonc_run.specs.Written.{MayBeMade, options_after}
 
 -- One stretch of the marks has given way to the literals that are written for the new value, or for the new name and value of a property; in a document
--- that had no value these have come. Or those of an entry have left, with comments beside it; or one comment has left, the one of that number. All others stay, in order. An
--- empty array or object has none, and none leave where another value is to stay. Of a cleared root none stay. One truth value has given way to another. Lines change none. Of a value that comes into an array
--- the literals have come, and of a property that comes into an object its name and the literals of its value. Commas change none, and where entries come in an
--- order each mark is there as often as before.
+-- that had no value these have come. Or those of an entry have left, with comments beside it; or one comment has left, the one of that number. All others
+-- stay, in order. An empty array or object has none, and none leave where another value is to stay. Of a cleared root none stay. One truth value has given
+-- way to another. Lines change none. Of a value that comes into an array the literals have come, and of a property that comes into an object its name and
+-- the literals of its value. Commas change none, and where entries come in an order each mark is there as often as before.
 abbrev pub IsMarked : List Mark → Operation → List Mark → Type 0
 IsMarked x (replace path v) y = (was : List Mark) × MarksDifferIn was (written v) x y
 IsMarked x (remove path) y = (top : Top) × LosesMarks top x y

@@ -153,10 +153,10 @@ pub data PropertyGivenWay (name : List ℕ) (v : Plain) (t u : OrderedTree) : Li
       → PropertyGivenWay name v t u (path ++ i ∷ [])
 
 -- What stays where an edit is made: all leaves around a value that gives way, or a truth value that becomes another, and around a comment with the blanks
--- before it, behind as many other comments as its number says; in a sound document all around an entry with what leaves with it, around the document's value, around a property that gives way to one that may
--- be written, and around a property's value; and of an array or object
--- that is put on several lines all but blanks, and around a value that comes into an array, or a property into an object; behind all elements all greater
--- numbers do the same. Where commas are set, all stays but commas; and around an array or object whose entries come in an order. Of a cleared root nothing stays.
+-- before it, behind as many other comments as its number says; in a sound document all around an entry with what leaves with it, around the document's value,
+-- around a property that gives way to one that may be written, and around a property's value; and of an array or object that is put on several lines all but
+-- blanks, and around a value that comes into an array, or a property into an object; behind all elements all greater numbers do the same. Where commas are
+-- set, all stays but commas; and around an array or object whose entries come in an order. Of a cleared root nothing stays.
 abbrev pub StayAround : OrderedTree → Operation → OrderedTree → Type 0
 StayAround t (replace path v) u = ValueGivesWay path v t u
 StayAround t (remove path) u = (o : Options) → SoundTree o t → EntryLeft t u path
