@@ -1,16 +1,12 @@
 -- What is taken out with a node, by its kind, and why it is not.
-use Rattle.std.specs.Prelude.{◌≡◌, ℕ, ◌+◌, List, [], ◌∷◌, length, Option, Some, None, IsTrue, chars}
+use Rattle.std.specs.Prelude.{◌≡◌, ℕ, ◌+◌, List, [], ◌∷◌, length, Some, None, IsTrue}
 use Rattle.jsonc_text.specs.Options.{Options}
-use Rattle.jsonc_text.specs.Plain.{Plain}
-use Rattle.jsonc_text.specs.Grammar.{IsDocument}
 use Rattle.jsonc_tree.specs.Changes.{Splices}
 use Rattle.jsonc_tree.specs.Content.{comment}
-use Rattle.jsonc_tree.specs.OrderedTree.{OrderedTree, ordered_tree}
+use Rattle.jsonc_tree.specs.OrderedTree.{ordered_tree}
 use Rattle.jsonc_tree.specs.Tree.{Node, content_at, parent_at, children_at, place_at, IsOver}
-use Rattle.jsonc_build.specs.Shape.{printed_text}
 use Rattle.jsonc_lines.specs.Kinds.{holds_values}
-use Rattle.jsonc_laws.specs.MarkChanges.{MarksDifferIn}
-use Rattle.jsonc_laws.specs.Marks.{comment_mark, marks}
+use Rattle.jsonc_laws.specs.Marks.{marks}
 use Rattle.jsonc_laws.specs.SoundTrees.{SoundTree}
 use Rattle.jsonc_edit.specs.declared.error.EditError.{EditError}
 use Rattle.jsonc_edit.specs.declared.error.EditError.TheVariants.{OutOfMemory}
