@@ -5,7 +5,6 @@ use Rattle.jsonc_scan.specs.declared.lexeme.Lexeme.TheVariants.{Word, Boolean, N
 use Rattle.jsonc_scan.specs.declared.lexeme.Read.{Read}
 use Rattle.jsonc_scan.specs.declared.lexeme.Mark.{Mark}
 use Rattle.jsonc_scan.specs.declared.plain.PlainNumber.{PlainNumber}
-use Rattle.jsonc_scan.specs.declared.string.StringRead.{StringRead}
 use Rattle.jsonc_string.specs.Escapes.{IsLentUnescaped, StringHoldsBackslash}
 use Rattle.jsonc_string.specs.declared.decode.Decoded.{Decoded}
 use Rattle.std.specs.Cow.{cow_str_bytes, IsOwnedStr}
@@ -143,9 +142,3 @@ module _ {A : Type 0} where
     pub stands : Between (IsScanned o (lexeme (string (chars (cow_str_bytes read.string))))) bytes start read.end
     pub lent : IsLentUnescaped bytes start read.end read.string
     pub escaped : IsOwnedStr read.string → StringHoldsBackslash bytes start
-
-  -- and was given away as it was kept
-  pub record IsStringTwice (o : Options) (bytes : List ℕ) (start : ℕ) (read : StringRead A) : Type 0 where
-    pub stands : Between (IsScanned o (lexeme (string (chars (cow_str_bytes read.given))))) bytes start read.end
-    pub lent : IsLentUnescaped bytes start read.end read.given
-    pub same : cow_str_bytes read.kept ≡ cow_str_bytes read.given

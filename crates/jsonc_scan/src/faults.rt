@@ -1,7 +1,7 @@
 //! Faults of a text at its places.
 ghost use Rattle.std.specs.Prelude.{◌≡◌, ◌≢◌};
 ghost use Rattle.jsonc_text.specs.Text.{Spans};
-ghost use Rattle.jsonc_text.specs.Faults.{kind_of};
+ghost use Rattle.jsonc_text.specs.Faults.{IsFault, kind_of};
 ghost use Rattle.jsonc_scan.specs.Refusals.{IsTextFault, IsTold, IsToldOfNext};
 
 use jsonc_text::chars::char_end;
@@ -30,4 +30,13 @@ pub(crate) fn fault_at(text: &str, place: usize, kind: ParseErrorKind) -> ParseE
 {
     let end = char_end(text, place);
     fault(text, place, end, kind)
+}
+
+/// Want of memory, as a fault of a text.
+#[cold]
+pub(crate) fn out_of_memory(text: &str) -> ParseError
+    ensures fault { IsFault text.now result }
+    ensures kind { kind_of result ≡ ParseErrorKind.OutOfMemory }
+{
+    ParseError::out_of_memory()
 }

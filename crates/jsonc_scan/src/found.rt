@@ -101,38 +101,48 @@ impl<'a, A: Allocator> TokenContent<'a, A> {
             }
         }
     }
+
+    /// The token of a kind that holds this.
+    #[inline(always)]
+    pub(crate) fn into_token(self, kind: TokenKind) -> Token<'a, A>
+        ensures { result ≡ token_held kind self.entry }
+    {
+        match kind {
+            TokenKind::OpenBrace => Token::OpenBrace,
+            TokenKind::CloseBrace => Token::CloseBrace,
+            TokenKind::OpenBracket => Token::OpenBracket,
+            TokenKind::CloseBracket => Token::CloseBracket,
+            TokenKind::Comma => Token::Comma,
+            TokenKind::Colon => Token::Colon,
+            TokenKind::String => Token::String(self.string),
+            TokenKind::Word => Token::Word(self.text),
+            TokenKind::True => Token::Boolean(true),
+            TokenKind::False => Token::Boolean(false),
+            TokenKind::Number => Token::Number(self.text),
+            TokenKind::Null => Token::Null,
+            TokenKind::CommentLine => Token::CommentLine(self.text),
+            TokenKind::CommentBlock => Token::CommentBlock(self.text),
+        }
+    }
 }
 
 impl<'a, A: Allocator + Copy> TokenContent<'a, A> {
-    /// The token of a kind that holds this. Only the copy of a string that owns its text takes memory,
-    /// and can be refused.
+    /// The token of a kind that holds this, where this is still wanted. Only the copy of a string that
+    /// owns its text takes memory, and can be refused.
     pub fn token(&self, kind: TokenKind) -> Result<Token<'a, A>, AllocError>
         ensures same { IfOk result (λ t. scanned_of t ≡ scanned_of (token_held kind self.now)) }
         ensures owned { IfOk result (λ t. IsOwned t → IsOwned (token_held kind self.now)) }
         ensures lent { IfOk result (λ t. lent_bytes t ≡ lent_bytes (token_held kind self.now)) }
         ensures refused { OnErr result (IsOwned (token_held kind self.now)) }
     {
-        match kind {
-            TokenKind::OpenBrace => Ok(Token::OpenBrace),
-            TokenKind::CloseBrace => Ok(Token::CloseBrace),
-            TokenKind::OpenBracket => Ok(Token::OpenBracket),
-            TokenKind::CloseBracket => Ok(Token::CloseBracket),
-            TokenKind::Comma => Ok(Token::Comma),
-            TokenKind::Colon => Ok(Token::Colon),
+        let string = match kind {
             TokenKind::String => match &self.string {
-                CowStr::Borrowed(s) => Ok(Token::String(CowStr::Borrowed(*s))),
-                CowStr::Owned(s) => {
-                    let copy = s.clone()?;
-                    Ok(Token::String(CowStr::Owned(copy)))
-                }
+                CowStr::Borrowed(s) => CowStr::Borrowed(*s),
+                CowStr::Owned(s) => CowStr::Owned(s.clone()?),
             },
-            TokenKind::Word => Ok(Token::Word(self.text)),
-            TokenKind::True => Ok(Token::Boolean(true)),
-            TokenKind::False => Ok(Token::Boolean(false)),
-            TokenKind::Number => Ok(Token::Number(self.text)),
-            TokenKind::Null => Ok(Token::Null),
-            TokenKind::CommentLine => Ok(Token::CommentLine(self.text)),
-            TokenKind::CommentBlock => Ok(Token::CommentBlock(self.text)),
-        }
+            _ => CowStr::Borrowed(""),
+        };
+        let text = self.text;
+        Ok(TokenContent { text, string }.into_token(kind))
     }
 }

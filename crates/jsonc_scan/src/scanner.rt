@@ -1,11 +1,11 @@
 //! Turning a text into tokens.
-ghost use Rattle.std.specs.Prelude.{◌≡◌, ◌≢◌, ◌≤◌, ◌<◌, IsCharBoundary, IsTrue, IfOk, IfErr, OnErr, None, option_map};
+ghost use Rattle.std.specs.Prelude.{◌≡◌, ◌≢◌, ◌≤◌, ◌<◌, IsCharBoundary, IsTrue, IfOk, IfErr, IfSome, OnErr, None, option_map};
 
+use crate::faults::out_of_memory;
 use crate::found::{TokenContent, TokenKind};
-use crate::lexeme::{mark_token, token_of};
 use crate::plain::plain_number;
 use crate::reads::{quote_at, read_lexeme, read_punctuation};
-use crate::string::{read_string, read_string_twice};
+use crate::string::read_string;
 use jsonc_text::chars::{blanks_end, has_byte};
 use jsonc_text::errors::{ParseError, ParseErrorKind};
 use jsonc_text::options::{ParseOptions, ScannerOptions};
@@ -17,10 +17,11 @@ use std::alloc::Allocator;
 pub struct Scanner<'a, A: Allocator> {
     file_text: &'a str,
     byte_index: usize,
+    // Between the two places: side by side they would be read as one, which waits for both to be written.
+    options: ParseOptions,
     token_start: usize,
     current_token: Option<Token<'a, A>>,
     alloc: A,
-    options: ParseOptions,
     pub ghost at_place: { IsCharBoundary file_text.now byte_index },
     pub ghost starts_at_place: { IsCharBoundary file_text.now token_start },
     pub ghost order: { token_start ≤ byte_index },
@@ -51,10 +52,10 @@ impl<'a, A: Allocator> Scanner<'a, A> {
         Scanner {
             file_text,
             byte_index: 0,
+            options,
             token_start: 0,
             current_token: None,
             alloc,
-            options,
         }
     }
 
@@ -93,7 +94,7 @@ impl<'a, A: Allocator + Copy> Scanner<'a, A> {
     ghost use Rattle.jsonc_scan.specs.Found.{token_found};
     ghost use Rattle.jsonc_string.specs.Between.{LacksAt};
     ghost use Rattle.jsonc_text.specs.Lexemes.{is_punctuation};
-    ghost use Rattle.jsonc_text.specs.Tokens.{scanned_of};
+    ghost use Rattle.jsonc_text.specs.Tokens.{IsOwned, scanned_of};
 
     /// Whether an ASCII character comes next, with no blank before it.
     #[inline(always)]
@@ -129,6 +130,7 @@ impl<'a, A: Allocator + Copy> Scanner<'a, A> {
         ensures blanks { PassesBlanks self.old self.new }
         ensures found { IfOk result (λ f. StandsAt self.new (token_found content.new f)) }
         ensures lent { IfOk result (λ f. IsLent self.new (token_found content.new f)) }
+        ensures escaped { IfOk result (λ f. IfSome (token_found content.new f) (λ t. IsOwned t → HoldsEscape self.new)) }
         ensures nothing { IfErr result (λ e. kind_of e ≢ ParseErrorKind.OutOfMemory → NothingStands self.new) }
         ensures begins { IfErr result (λ _. GoesOn self.new) }
         ensures fault { IfErr result (IsFault (text_of self.new)) }
@@ -169,6 +171,7 @@ impl<'a, A: Allocator + Copy> Scanner<'a, A> {
         ensures start { start_of self.new ≡ start_of self.old }
         ensures found { IfOk result (λ f. StandsAt self.new (token_found content.new f)) }
         ensures lent { IfOk result (λ f. IsLent self.new (token_found content.new f)) }
+        ensures escaped { IfOk result (λ f. IfSome (token_found content.new f) (λ t. IsOwned t → HoldsEscape self.new)) }
         ensures nothing { IfErr result (λ e. kind_of e ≢ ParseErrorKind.OutOfMemory → NothingStands self.new) }
         ensures fault { IfErr result (IsFault (text_of self.new)) }
         ensures told { IfErr result (λ e. kind_of e ≢ ParseErrorKind.OutOfMemory → IsTrueThere self.new e) }
@@ -205,32 +208,17 @@ impl<'a, A: Allocator + Copy> Scanner<'a, A> {
         ensures refused { OnErr result (token_of self.new ≡ token_of self.old) }
         ensures stays { OnErr result (end_of self.new ≡ start_of self.new) }
     {
-        let start = blanks_end(self.file_text, self.byte_index);
-        self.byte_index = start;
-        self.token_start = start;
-        if start == self.file_text.len() {
+        let mut content = TokenContent::new();
+        let Some(kind) = self.step(&mut content)? else {
             self.current_token = None;
             return Ok(None);
-        }
-        if let Some(mark) = read_punctuation(self.file_text, start) {
-            self.byte_index = start + 1;
-            self.current_token = Some(mark_token(mark));
-            return Ok(Some(mark_token(mark)));
-        }
-        if let Some(number) = plain_number(self.file_text, start) {
-            self.byte_index = number.end;
-            self.current_token = Some(Token::Number(number.text));
-            return Ok(Some(Token::Number(number.text)));
-        }
-        if let Some(quote) = quote_at(self.file_text, start, &self.options) {
-            let read = read_string_twice(self.alloc, self.file_text, start, quote, &self.options)?;
-            self.byte_index = read.end;
-            self.current_token = Some(Token::String(read.kept));
-            return Ok(Some(Token::String(read.given)));
-        }
-        let read = read_lexeme(self.file_text, start, &self.options)?;
-        self.byte_index = read.end;
-        self.current_token = Some(token_of(read.lexeme));
-        Ok(Some(token_of(read.lexeme)))
+        };
+        let Ok(kept) = content.token(kind) else {
+            self.byte_index = self.token_start;
+            return Err(out_of_memory(self.file_text));
+        };
+        let given = content.into_token(kind);
+        self.current_token = Some(kept);
+        Ok(Some(given))
     }
 }
