@@ -51,10 +51,10 @@ module _ (ns : List Node) (tree : IsTree ns) where
   follow n there (above {c = p} said over) =
       elim (cases_lt (place_at ns n + 1) (length (children_at ns p))) [
         | inl more ↦ (
-            Some (get_or (children_at ns p) (place_at ns n + 1) 0),
-            following_next ns tree 0 n p (no_root n p said) (above said over) said more,
-            (tree.there p (place_at ns n + 1) more, above (tree.named p (place_at ns n + 1) more) over),
-          )
+          Some (get_or (children_at ns p) (place_at ns n + 1) 0),
+          following_next ns tree 0 n p (no_root n p said) (above said over) said more,
+          (tree.there p (place_at ns n + 1) more, above (tree.named p (place_at ns n + 1) more) over),
+        )
         | inr last ↦ (let up = follow p (parent_there ns tree n p said).1 over in (up.0, following_up ns tree 0 n p (no_root n p said) said last ∙ up.1, up.2))
       ]
 

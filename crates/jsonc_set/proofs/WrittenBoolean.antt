@@ -471,19 +471,19 @@ module _ (old new : List Node) (path : List ℕ) (n : ℕ) (b : Bool) (tree : Is
         let after = document_change o before.0 (Plain.boolean b) changed values.boolean before.1 in
         let same : boolean_leaf a ≡ top_at old n = sym old_leaf ∙ top_same in
         record {
-            given_up = after.0;
-            before = before.0;
-            after = after.1;
-            spaced = ordered_tree spaced 0;
-            old_text = prints_first o spaces sound (Some before.0) before.1;
-            new_text = prints_value o (ordered_tree new 0) (Some after.1) after_sound after.4;
-            changed = after.3;
-            spaces = spaces;
-            around = subst (λ (w : Top). DiffersIn (leaves_of w) (leaves_of (boolean_leaf b)) (leaves (ordered_tree spaced 0)) (leaves (ordered_tree new 0))) same (document_differs changed);
-            marked = subst (λ l. MarksDifferIn (marks_under (top_at old n)) (written_marks.written (Plain.boolean b)) l (marks (ordered_tree new 0))) (spaces_marks spaces)
+          given_up = after.0;
+          before = before.0;
+          after = after.1;
+          spaced = ordered_tree spaced 0;
+          old_text = prints_first o spaces sound (Some before.0) before.1;
+          new_text = prints_value o (ordered_tree new 0) (Some after.1) after_sound after.4;
+          changed = after.3;
+          spaces = spaces;
+          around = subst (λ (w : Top). DiffersIn (leaves_of w) (leaves_of (boolean_leaf b)) (leaves (ordered_tree spaced 0)) (leaves (ordered_tree new 0))) same (document_differs changed);
+          marked = subst (λ l. MarksDifferIn (marks_under (top_at old n)) (written_marks.written (Plain.boolean b)) l (marks (ordered_tree new 0))) (spaces_marks spaces)
               (subst (λ (w : Top). MarksDifferIn (marks_under w) (written_marks.written (Plain.boolean b)) (marks (ordered_tree spaced 0)) (marks (ordered_tree new 0))) same
               (values_marks (ordered_tree spaced 0) (boolean_leaf a) (boolean_leaf b) path (ordered_tree new 0) changed));
-            sound = after_sound;
+          sound = after_sound;
         }
 
 -- spaces have come, and then the one truth value has given way to the other at the path
