@@ -28,6 +28,10 @@ pub enum NodeEdit {
     /// A truth value becomes `false`.
     SetFalse,
     Remove,
+    /// The name of a property leaves, and the rest of the property stays.
+    RemoveName,
+    /// The value of a property leaves, and the rest of the property stays.
+    RemoveValue,
     /// A token, whitespace or a newline leaves alone.
     RemoveLeaf,
     SetRaw,
@@ -96,6 +100,24 @@ fn set_raw_name<A: Allocator>(
     }
 }
 
+fn remove_name<A: Allocator + Copy>(doc: &mut CstRootNode<A>, property: CstObjectProp) -> Outcome
+    requires { Holds doc.old (object_prop_node property) }
+{
+    match property.name(doc) {
+        Some(name) => Outcome::of_answer(name.remove(doc), &()),
+        None => Outcome::Other,
+    }
+}
+
+fn remove_value<A: Allocator + Copy>(doc: &mut CstRootNode<A>, property: CstObjectProp) -> Outcome
+    requires { Holds doc.old (object_prop_node property) }
+{
+    match property.value(doc) {
+        Some(value) => Outcome::of_answer(value.remove(doc), &()),
+        None => Outcome::Other,
+    }
+}
+
 fn edit_property<A: Allocator + Copy>(
     doc: &mut CstRootNode<A>,
     edit: NodeEdit,
@@ -107,6 +129,8 @@ fn edit_property<A: Allocator + Copy>(
     match edit {
         NodeEdit::ReplaceName => replace_name(doc, property, word),
         NodeEdit::SetRawName => set_raw_name(doc, property, word),
+        NodeEdit::RemoveName => remove_name(doc, property),
+        NodeEdit::RemoveValue => remove_value(doc, property),
         NodeEdit::SetValue => of_answered(property.set_value(doc, CstInputValue::Number(word))),
         NodeEdit::ObjectOrSet => of_answered(property.object_value_or_set(doc)),
         NodeEdit::ArrayOrSet => of_answered(property.array_value_or_set(doc)),

@@ -1,6 +1,6 @@
 //! Edits of a document's value.
 
-use jsonc_parser::cst::{CstInputValue, CstRootNode, Remove, SetRoot};
+use jsonc_parser::cst::{CstInputValue, CstNode, CstRootNode, Remove, SetRoot};
 use refusing::outcome::Outcome;
 use std::alloc::Allocator;
 
@@ -15,6 +15,8 @@ pub enum RootEdit {
     ArrayOrCreate,
     ArrayOrSet,
     Remove,
+    /// The root leaves, that is all that stands in it.
+    RemoveRoot,
 }
 
 fn set<A: Allocator + Copy>(doc: &mut CstRootNode<A>, word: String<A>) -> Outcome {
@@ -55,6 +57,11 @@ fn remove<A: Allocator + Copy>(doc: &mut CstRootNode<A>) -> Outcome {
     }
 }
 
+fn remove_root<A: Allocator + Copy>(doc: &mut CstRootNode<A>) -> Outcome {
+    let root = CstNode::from(doc.root());
+    Outcome::of_answer(root.remove(doc), &()).then(Outcome::of(doc.value() == None))
+}
+
 /// Makes an edit, and tells whether its answer is the value that the document has then.
 pub fn edit_root<A: Allocator + Copy>(
     doc: &mut CstRootNode<A>,
@@ -72,5 +79,6 @@ pub fn edit_root<A: Allocator + Copy>(
         RootEdit::ArrayOrCreate => array_or_create(doc),
         RootEdit::ArrayOrSet => array_or_set(doc),
         RootEdit::Remove => remove(doc),
+        RootEdit::RemoveRoot => remove_root(doc),
     }
 }

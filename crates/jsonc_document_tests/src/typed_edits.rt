@@ -78,8 +78,9 @@ const WANTING: [Row; 18] = [
 ];
 
 /// The edits that want none, though all further requests are refused.
-const UNASKED: [Row; 25] = [
+const UNASKED: [Row; 28] = [
     ("// c\n[1]", Root(RootEdit::Clear), "", ""),
+    ("// c\n[1]", Root(RootEdit::RemoveRoot), "", ""),
     ("{ } // c", Root(RootEdit::ObjectOrCreate), "", "{ } // c"),
     ("[ ]", Root(RootEdit::ObjectOrCreate), "", "[ ]"),
     ("{ } // c", Root(RootEdit::ObjectOrSet), "", "{ } // c"),
@@ -99,6 +100,8 @@ const UNASKED: [Row; 25] = [
         "[/*a*/1, 2]",
     ),
     ("[1 // c\n]", At(3, NodeEdit::Remove), "", "[1\n]"),
+    ("{\"a\": 1}", At(1, NodeEdit::RemoveName), "", "{: 1}"),
+    ("{\"a\": 1}", At(1, NodeEdit::RemoveValue), "", "{\"a\":}"),
     ("[1,2]", At(2, NodeEdit::RemoveLeaf), "", "[12]"),
     ("[1, 2]", At(3, NodeEdit::RemoveLeaf), "", "[1,2]"),
     ("[\n1]", At(1, NodeEdit::RemoveLeaf), "", "[1]"),
