@@ -19,6 +19,7 @@ use Rattle.jsonc_run.specs.Marked.{MarkAll}
 use Rattle.jsonc_run.specs.Refusals.{IsLeft, IsToldBy, as_it_was, set_in_part}
 use Rattle.jsonc_run.specs.Written.{AreWritten, WriteAll, options_after}
 use Rattle.jsonc_run.proofs.Marking.{mark_all}
+use Rattle.jsonc_run.proofs.Named.{unnamed_after}
 use Rattle.jsonc_run.proofs.Refused.{refused_after}
 use Rattle.jsonc_run.proofs.Written.{write_all}
 use Rattle.jsonc_cst.specs.declared.cst.CstRootNode.{CstRootNode}
@@ -213,6 +214,7 @@ module _ {C D A : Type 0} (call : Shared C (Bor D × (CstNode × (CstNode × Uni
         told = told;
         left = left;
         memory_or_place = λ o. refused_after o (nodes_of old) (nodes_of now) ops (operation_of unsorted next) why tree (as_nodes call compare same made) (told unsorted);
+        named = λ o s. unnamed_after o (nodes_of old) (nodes_of now) ops (operation_of s next) why tree (as_nodes call compare same made) (told s);
         done = was.done;
         are_done = was.are;
         written = was.written;

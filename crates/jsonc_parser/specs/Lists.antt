@@ -13,6 +13,7 @@ use Rattle.jsonc_run.specs.declared.edit.Edit.{Edit}
 use Rattle.jsonc_run.specs.declared.edit.Edit.TheVariants.{Sort}
 use Rattle.jsonc_run.specs.Edits.{Operation, Sorting, operation_of, set_commas, set_some_commas, unsorted, IsMade}
 use Rattle.jsonc_run.specs.Marked.{MarkAll}
+use Rattle.jsonc_run.specs.Named.{TellsUnnamedAfter}
 use Rattle.jsonc_run.specs.Places.{IsContainerAt}
 use Rattle.jsonc_run.specs.Refusals.{IsLeft, IsToldBy}
 use Rattle.jsonc_run.specs.Written.{IsRefusedAfter, WriteAll}
@@ -76,7 +77,8 @@ pub data IsDone {A : Type 0} (next : Edit A) (operations : List Operation) : Lis
 
 module _ {C D A : Type 0} (call : Shared C (Bor D × (CstNode × (CstNode × Unit {0}))) Ordering) (compare : C) (same : CstRootNode A → D) where
   -- The first k edits were made, each whole; there is one more, which was not made for this reason, and has left the document so. If the old document is sound,
-  -- then memory or its place was wanted alone; and what was done of it all is written, and changes the marks, as it is where all edits are made.
+  -- then memory or its place was wanted alone, and its place exactly where none is named in the value of the document that those before it made; and what was
+  -- done of it all is written, and changes the marks, as it is where all edits are made.
   pub record HaveStopped (old : CstRootNode A) (edits : List (Edit A)) (k : ℕ) (why : EditError) (new : CstRootNode A) : Type 0 where
     pub operations : List Operation
     pub now : CstRootNode A
@@ -86,6 +88,7 @@ module _ {C D A : Type 0} (call : Shared C (Bor D × (CstNode × (CstNode × Uni
     pub told : (s : Sorting) → IsToldBy (nodes_of now) (operation_of s next) why
     pub left : (s : Sorting) → IsLeft (nodes_of now) (operation_of s next) (nodes_of new)
     pub memory_or_place : (o : Options) → IsRefusedAfter o (nodes_of old) operations why
+    pub named : (o : Options) (s : Sorting) → TellsUnnamedAfter o (nodes_of old) operations (nodes_of now) (operation_of s next) why
     pub done : List Operation
     pub are_done : IsDone next operations done
     pub written : (o : Options) → WriteAll o (nodes_of old) done (nodes_of new)

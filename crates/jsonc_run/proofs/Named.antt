@@ -44,7 +44,7 @@ use Rattle.jsonc_run.specs.Written.{options_after}
 use Rattle.jsonc_run.proofs.Booleans.{boolean_value}
 use Rattle.jsonc_run.proofs.CommentCount.{comments_counted}
 use Rattle.jsonc_run.proofs.Refused.{made_tree}
-use Rattle.jsonc_run.proofs.ValueNodes.{node_found, property_found}
+use Rattle.jsonc_run.proofs.ValueNodes.{is_array, is_object, node_found, property_found}
 use Rattle.jsonc_run.proofs.Written.{write_all}
 
 -- the value of an array's node is an array, and that of an object's an object
@@ -67,12 +67,6 @@ object_value e (values.array h) = cc
 -- and the other way
 of_boolean : {o : Options} {content : Content} {below : OrderedTree} {b : Bool} → ValueOf o content below (Plain.boolean b) → is_boolean content ≡ true
 of_boolean values.boolean = refl
-
-of_array : {o : Options} {content : Content} {below : OrderedTree} {vs : Items} → ValueOf o content below (Plain.array vs) → content ≡ Content.array
-of_array (values.array h) = refl
-
-of_object : {o : Options} {content : Content} {below : OrderedTree} {ms : Members} → ValueOf o content below (Plain.object ms) → content ≡ Content.object
-of_object (values.object h) = refl
 
 -- an array or an object
 array_or_object : (content : Content) → IsTrue (holds_values content) → (content ≡ Content.array) ⊎ (content ≡ Content.object)
@@ -171,10 +165,10 @@ module _ (o : Options) (ns : List Node) (tree : IsTree ns) (sound : SoundTree o 
   boolean_placed path (b, stands) = let f = node_found o ns tree sound w value path (Plain.boolean b) stands in (f.node, (f.at, of_boolean f.has))
 
   array_placed : (path : List ℕ) → HasArrayAt path w → (n : ℕ) × IsArrayAt ns path n
-  array_placed path (vs, stands) = let f = node_found o ns tree sound w value path (Plain.array vs) stands in (f.node, (f.at, of_array f.has))
+  array_placed path (vs, stands) = let f = node_found o ns tree sound w value path (Plain.array vs) stands in (f.node, (f.at, (is_array f.has).0))
 
   object_placed : (path : List ℕ) → HasObjectAt path w → (n : ℕ) × IsObjectAt ns path n
-  object_placed path (ms, stands) = let f = node_found o ns tree sound w value path (Plain.object ms) stands in (f.node, (f.at, of_object f.has))
+  object_placed path (ms, stands) = let f = node_found o ns tree sound w value path (Plain.object ms) stands in (f.node, (f.at, (is_object f.has).0))
 
   container_placed : (path : List ℕ) → HasContainerAt path w → (n : ℕ) × IsContainerAt ns path n
   container_placed path (inl a) = let f = array_placed path a in (f.0, (f.1.0, ap holds_values f.1.1))

@@ -163,10 +163,11 @@ pub record HasHere (o : Options) (ns : List Node) (path : List ℕ) (v : Plain) 
   pub shown : Shows ns (children_at ns node) row
   pub has : ValueOf o (content_at ns node) row v
 
-is_array : {o : Options} {content : Content} {below : OrderedTree} {vs : Items} → ValueOf o content below (Plain.array vs) → (content ≡ Content.array) × ItemsOf o below vs
+-- what has an array as its value is one, over its items, and what has an object one, over its members
+pub is_array : {o : Options} {content : Content} {below : OrderedTree} {vs : Items} → ValueOf o content below (Plain.array vs) → (content ≡ Content.array) × ItemsOf o below vs
 is_array (values.array h) = (refl, h)
 
-is_object : {o : Options} {content : Content} {below : OrderedTree} {ms : Members} → ValueOf o content below (Plain.object ms) → (content ≡ Content.object) × MembersOf o below ms
+pub is_object : {o : Options} {content : Content} {below : OrderedTree} {ms : Members} → ValueOf o content below (Plain.object ms) → (content ≡ Content.object) × MembersOf o below ms
 is_object (values.object h) = (refl, h)
 
 module _ (o : Options) (ns : List Node) (tree : IsTree ns) (sound : SoundTree o (ordered_tree ns 0)) where

@@ -90,7 +90,9 @@ fn make_all<A: Allocator + Copy, D: IsDocument<A>, C: Fn(&D, CstNode, CstNode) -
 /// objects may have been set. It wants memory for what it writes; or its path leads to nothing that it
 /// can be made at, or there is no such comment. Only edits of single leaves can bring about more: an array
 /// or object that an entry was to leave, or that was to be on several lines, may lack a bracket then, and
-/// a property its name or colon. In a sound document it is memory or the place alone.
+/// a property its name or colon. In a sound document it is memory or the place alone, and the place exactly
+/// where the document's value has at the path nothing that the edit needs, or the document no comment of
+/// that number.
 ///
 /// If the document is sound, as a parsed one is, and stays so under the edits of single leaves, then its
 /// text after the edits is a document again, whose value is what the same edits make of the old value,
