@@ -6,7 +6,8 @@ usage: measure.py OURS THEIRS PEAK FOLDER [ROUNDS]
 The time of a call is the processor time of a process that makes it N times, less that of one that makes it
 0 times, divided by N; of each the least of the rounds. Where a call falls short of its target, what those
 processes took is written besides: their own time, the system's, their page faults, where valgrind is at
-hand the instructions, and the ratio where the C library keeps the pages that it has, in both programs.
+hand the instructions and the misses of two caches, and the ratio where the C library keeps the pages that
+it has, in both programs.
 """
 import collections
 import datetime
@@ -24,8 +25,12 @@ CALLS = ['scan', 'ast', 'tokens', 'value', 'document', 'print', 'program', 'repl
 # Those that are made of an array of numbers.
 OF_ARRAYS = ('replaced', 'siblings')
 TARGETS = {'scan': 1, 'ast': 1, 'tokens': 1, 'value': 1, 'document': 4, 'print': 2}
+# What is counted of a call.
+COUNTS = ['instructions', 'misses of 1 MB', 'misses of 32 MB', 'own time', "the system's", 'page faults']
 # Seconds that the N calls of one process take at least.
 LONG_ENOUGH = 0.1
+# The two caches whose misses are counted: as large as one processor's own, and as what all of them share.
+CACHES = ['--D1=1048576,16,64', '--LL=33554432,16,64']
 # With these settings the C library gives no page back before the process ends.
 KEEPS_PAGES = {'GLIBC_TUNABLES': 'glibc.malloc.trim_threshold=4000000000:glibc.malloc.mmap_threshold=4000000000'}
 
@@ -85,17 +90,27 @@ def timed(programs, call, path, rounds, settings=None):
     return [least(many).each(least(none), count) for (many, none), count in zip(found, counts)]
 
 
-def instructions(program, call, path):
-    """How many instructions one call takes, or none without valgrind."""
+class Counted(collections.namedtuple('Counted', 'instructions small large')):
+    """Instructions, and misses of data in a small cache and in a large one."""
+
+    def per(self, length):
+        """Instructions a byte, and misses a kilobyte."""
+        return ['%.1f' % (self.instructions / length), *('%.1f' % (1e3 * missed / length) for missed in self[1:])]
+
+
+def counted(program, call, path, size):
+    """What one call takes, or none without valgrind: on 10 MB the first, else the mean of the four after it, which meet its memory again."""
     if not shutil.which('valgrind'):
         return None
-    counted = []
-    for count in ('1', '0'):
+    few, many = (0, 1) if size == '10 MB' else (1, 5)
+    found = []
+    for calls in (many, few):
         with open(path, 'rb') as text:
-            process = subprocess.run(['valgrind', '--tool=callgrind', '--callgrind-out-file=/dev/null', program, call, count],
-                                     stdin=text, capture_output=True)
-        counted.append(int(re.search(rb'Collected : (\d+)', process.stderr).group(1)))
-    return counted[0] - counted[1]
+            process = subprocess.run(['valgrind', '--tool=cachegrind', '--cache-sim=yes', '--cachegrind-out-file=/dev/null',
+                                      *CACHES, program, call, str(calls)], stdin=text, capture_output=True)
+        found.append([int(re.search(line + rb':\s+([\d,]+)', process.stderr).group(1).replace(b',', b''))
+                      for line in (rb'I\s+refs', rb'D1\s+misses', rb'LLd\s+misses')])
+    return Counted(*((all - besides) / (many - few) for all, besides in zip(*found)))
 
 
 def peak(program, path, preload):
@@ -202,13 +217,14 @@ def short_rows(programs, folder, rounds, times, lengths):
         if ratio(pair) >= TARGETS.get(call, 0):
             continue
         path = path_of(folder, kind, size)
-        # Counting on 10 MB takes minutes, and the instructions grow as the text does.
-        counted = [None if size == '10 MB' else instructions(program, call, path) for program in programs]
+        # Counting a document on 10 MB takes minutes.
+        counts = [None if size == '10 MB' and call in ('document', 'print') else counted(program, call, path, size) for program in programs]
+        columns = zip(*(['-'] * 3 if one is None else one.per(lengths[kind, size]) for one in counts))
         rows.append([
             '`%s`, %s, %s' % (call, kind, size),
             '%.2f' % ratio(pair),
             '%.2f' % ratio(timed(programs, call, path, rounds, KEEPS_PAGES)),
-            ' / '.join('-' if one is None else '%.1f' % (one / lengths[kind, size]) for one in counted),
+            *(' / '.join(column) for column in columns),
             ' / '.join(milliseconds(one.own) for one in pair),
             ' / '.join(milliseconds(one.system) for one in pair),
             ' / '.join('%.0f' % one.faults for one in pair),
@@ -223,8 +239,8 @@ def grown_rows(ours, folder, times):
         large = times.get((kind, '10 MB', call), [None])[0]
         if size != '1 MB' or not large or large.seconds <= 12 * small.seconds:
             continue
-        counted = [instructions(ours, call, path_of(folder, kind, it)) for it in ('10 MB', '1 MB')]
-        pairs = [counted, (large.own, small.own), (large.system, small.system), (large.faults, small.faults)]
+        counts = [counted(ours, call, path_of(folder, kind, it), it) for it in ('10 MB', '1 MB')]
+        pairs = [*zip(*(one or [None] * 3 for one in counts)), (large.own, small.own), (large.system, small.system), (large.faults, small.faults)]
         row = ['`%s`, %s' % (call, kind), '%.2f' % (large.seconds / small.seconds)]
         rows.append(row + ['%.1f' % (many / few) if many and few else '-' for many, few in pairs])
     return rows
@@ -255,14 +271,14 @@ def figures(times, memory, lengths, short, grown):
         table(['Document'] + CALLS, growth_rows(times, memory)),
         '',
         'Of the calls that fall short of their targets: the ratio again, and the one where the C library keeps the pages',
-        'that it has, in both programs; and, ours / theirs, instructions a byte, milliseconds of a call of the process',
-        'itself and of the system, and page faults of a call.',
+        'that it has, in both programs; and, ours / theirs, instructions a byte, misses a kilobyte of a cache of 1 MB and of',
+        'one of 32 MB, milliseconds of a call of the process itself and of the system, and page faults of a call.',
         '',
-        table(['Call', 'ratio', 'pages kept', 'instructions', 'own time', "the system's", 'page faults'], short),
+        table(['Call', 'ratio', 'pages kept', *COUNTS], short),
         '',
         'Of our calls that take more than 12 times as long on 10 MB as on 1 MB, how many times as much of each.',
         '',
-        table(['Call', 'time', 'instructions', 'own time', "the system's", 'page faults'], grown),
+        table(['Call', 'time', *COUNTS], grown),
         '',
     ])
 
