@@ -69,7 +69,7 @@ module _ (x y z : List Mark) (es : List Operation) (rest : CommentsStay (comment
   one_edit : (e : Operation) → IsMarked x e y → CommentsStay (comments_of x) (e ∷ es) (comments_of z)
   one_edit (replace path v) (was, d) = losing (one_stretch was (written v) x y d (writes_no_comments v))
   one_edit (remove path) (top, l) = losing (one_stretch (l.leading ++ (marks_under top ++ l.trailing)) [] x y l.gone refl)
-  one_edit (remove_comment number) (s, d) = losing (one_stretch (mark.Mark.comment s ∷ []) [] x y d refl)
+  one_edit (remove_comment number) (s, d, ahead) = losing (one_stretch (mark.Mark.comment s ∷ []) [] x y d refl)
   one_edit (set_root v) (was, d) = losing (one_stretch was (written v) x y d (writes_no_comments v))
   one_edit clear_root none = losing (subst (λ z. LosesStretch (comments_of x) (comments_of z)) (sym none) (all_leave x))
   one_edit (replace_property path name v) (was, d) = losing (one_stretch was (property_written name v) x y d (writes_no_comments v))
