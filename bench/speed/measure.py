@@ -30,7 +30,7 @@ COUNTS = ['instructions', 'misses of 1 MB', 'misses of 32 MB', 'own time', "the 
 # Seconds that the N calls of one process take at least.
 LONG_ENOUGH = 0.1
 # The two caches whose misses are counted: as large as one processor's own, and as what all of them share.
-CACHES = ['--D1=1048576,16,64', '--LL=33554432,16,64']
+CACHES = ['--D%d=%d,16,64' % (1, 1 << 20), '--LL=%d,16,64' % (1 << 25)]
 # With these settings the C library gives no page back before the process ends.
 KEEPS_PAGES = {'GLIBC_TUNABLES': 'glibc.malloc.trim_threshold=4000000000:glibc.malloc.mmap_threshold=4000000000'}
 
@@ -109,7 +109,7 @@ def counted(program, call, path, size):
             process = subprocess.run(['valgrind', '--tool=cachegrind', '--cache-sim=yes', '--cachegrind-out-file=/dev/null',
                                       *CACHES, program, call, str(calls)], stdin=text, capture_output=True)
         found.append([int(re.search(line + rb':\s+([\d,]+)', process.stderr).group(1).replace(b',', b''))
-                      for line in (rb'I\s+refs', rb'D1\s+misses', rb'LLd\s+misses')])
+                      for line in (rb'I\s+refs', rb'D\d\s+misses', rb'LLd\s+misses')])
     return Counted(*((all - besides) / (many - few) for all, besides in zip(*found)))
 
 

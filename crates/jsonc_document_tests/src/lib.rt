@@ -20,8 +20,6 @@ mod reading;
 #[cfg(test)]
 mod refusals;
 #[cfg(test)]
-mod removals;
-#[cfg(test)]
 mod root_edits;
 #[cfg(test)]
 mod trees;

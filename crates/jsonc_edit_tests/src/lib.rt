@@ -1,5 +1,5 @@
 //! Tests of edits: of the pieces of documents, of values and properties that come in, of arrays and objects on
-//! several lines, of trailing commas and of sorts, and of memory that is refused.
+//! several lines, of trailing commas and of sorts, of lists of edits, and of memory that is refused.
 //!
 //! `docs/BENCH.md` says what each test is of.
 #![tactic(auto)]
@@ -20,6 +20,8 @@ mod nested;
 mod pieces;
 #[cfg(test)]
 mod reading;
+#[cfg(test)]
+mod removals;
 #[cfg(test)]
 mod sorts;
 #[cfg(test)]
