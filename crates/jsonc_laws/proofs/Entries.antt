@@ -9,7 +9,7 @@ use Rattle.jsonc_laws.specs.TreeChanges.{IsElement}
 use Rattle.jsonc_laws.specs.TriviaChanges.{AreTrivia, leaves_then}
 use Rattle.jsonc_laws.specs.MarkChanges.{AreBlanks}
 use Rattle.jsonc_laws.specs.Leaving.{AreBeside, element_count, among, ElementLeaves, with_comma_behind, with_comma_before, with_no_comma, ClosesUp, stays, closes_up}
-use Rattle.jsonc_laws.proofs.RowParts.{beside_trivia, rest_trivia}
+use Rattle.jsonc_laws.proofs.RowParts.{beside_trivia, rest_trivia, between_trivia, line_trivia}
 
 -- what is passed over
 trivia_over : (content : Content) → IsTrue (is_trivia content) → IsTrue (is_passed_over content)
@@ -76,9 +76,9 @@ module _ {V : Type 0} (R : OrderedTree → V → Type 0) (Gone : ℕ → V → V
       subst (λ k. Loses k (followed_by front x) (followed_by front y)) same (over_front reads front x y 0 l)
 
   leaves_row : Reads → (top : Top) (i : ℕ) (row left : OrderedTree) → IsElement top.content → ElementLeaves top i row left → Loses i row left
-  leaves_row reads top i row left h (with_comma_behind front back before between line e b t l m) =
+  leaves_row reads top i row left h (with_comma_behind front back before between line e b l m) =
       first_behind reads front (among before top between (more (token 0x2C) none (leaves_then line back))) back
-      (among_gone reads top before between (more (token 0x2C) none (leaves_then line back)) back h b t (λ vs r. leaves_taken reads line back vs (rest_trivia line l) (reads.taken refl r)))
+      (among_gone reads top before between (more (token 0x2C) none (leaves_then line back)) back h b (between_trivia l) (λ vs r. leaves_taken reads line back vs (line_trivia l) (reads.taken refl r)))
   leaves_row reads top i row left h (with_comma_before front mid back before line e c b l n m k) =
       over_front reads front (more (token 0x2C) none (followed_by mid (among before top line back))) (followed_by mid back) (element_count mid)
       (token_gone reads 0x2C (element_count mid) (followed_by mid (among before top line back)) (followed_by mid back)

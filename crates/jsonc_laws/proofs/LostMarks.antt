@@ -14,7 +14,7 @@ use Rattle.jsonc_laws.specs.MarkChanges.{MarksDifferIn, marks_under}
 use Rattle.jsonc_laws.proofs.GivingWay.{marks_join, values_marks, trivia_has_comments, blanks_unmarked}
 use Rattle.jsonc_laws.specs.EntryLaws.{AreComments, LosesMarks}
 use Rattle.jsonc_laws.specs.Leaving.{AreBeside, among, ElementLeaves, with_comma_behind, with_comma_before, with_no_comma, ClosesUp, stays, closes_up}
-use Rattle.jsonc_laws.proofs.RowParts.{beside_trivia, rest_trivia}
+use Rattle.jsonc_laws.proofs.RowParts.{beside_trivia, rest_trivia, between_trivia, line_trivia}
 
 -- marks of rows, one after another
 row_marks : (front back : OrderedTree) → marks (followed_by front back) ≡ marks front ++ marks back
@@ -71,13 +71,13 @@ beside_comments : (cs : List Content) → AreBeside cs → AreComments (marks_of
 beside_comments cs h = trivia_has_comments cs (beside_trivia cs h)
 
 row_loses : (top : Top) (i : ℕ) (row left : OrderedTree) → ElementLeaves top i row left → LosesMarks top (marks row) (marks left)
-row_loses top i row left (with_comma_behind front back before between line e b t l m) =
+row_loses top i row left (with_comma_behind front back before between line e b l m) =
     let rest : OrderedTree = more (token 0x2C) none (leaves_then line back) in
     let behind : marks_of between ++ marks rest ≡ (marks_of between ++ marks_of line) ++ marks back =
     ap (λ ms. marks_of between ++ ms) (stretch_marks line back) ∙ sym (append_assoc (marks_of between) (marks_of line) (marks back)) in
     go top (marks front) (marks_of before) (marks_of between ++ marks_of line) (marks back) (marks row) (marks left)
     (beside_comments before b)
-    (comments_join (marks_of between) (marks_of line) (trivia_has_comments between t) (trivia_has_comments line (rest_trivia line l)))
+    (comments_join (marks_of between) (marks_of line) (trivia_has_comments between (between_trivia l)) (trivia_has_comments line (line_trivia l)))
     (row_marks front (among before top between rest) ∙ ap (λ ms. marks front ++ ms) (among_marks before between top rest ∙ ap (λ ms. marks_of before ++ (marks_under top ++ ms)) behind))
     (row_marks front back)
 row_loses top i row left (with_comma_before front mid back before line e c b l n m k) =

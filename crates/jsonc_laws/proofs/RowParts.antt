@@ -16,7 +16,7 @@ use Rattle.jsonc_laws.specs.Alone as alone
 use Rattle.jsonc_laws.specs.Alone.{may_stand, may_come, PartAlone, RowAlone, StretchAlone}
 use Rattle.jsonc_laws.proofs.Changed.{part_element}
 use Rattle.jsonc_laws.proofs.SeamStretches.{parted_row}
-use Rattle.jsonc_laws.specs.Leaving.{AreBeside, IsRestOfLine, without_end, with_end, has_no_comma, comma_comes, among}
+use Rattle.jsonc_laws.specs.Leaving.{AreBeside, IsRestOfLine, without_end, with_end, LeavesBehind, comma_alone, comma_and_line, has_no_comma, comma_comes, among}
 
 -- leaves before a row, and rows behind it
 pub beside_trivia : (ls : List Content) → AreBeside ls → AreTrivia ls
@@ -28,7 +28,7 @@ beside_trivia (content ∷ rest) h = (by content h.0, beside_trivia rest h.1)
     by (Content.comment s) k = refl
     by c k = cc
 
-newline_trivia : (content : Content) → IsTrue (is_newline content) → IsTrue (is_trivia content)
+pub newline_trivia : (content : Content) → IsTrue (is_newline content) → IsTrue (is_trivia content)
 newline_trivia (Content.newline k) h = refl
 newline_trivia content h = cc
 
@@ -39,6 +39,14 @@ ended_trivia (content ∷ rest) end h n = ((beside_trivia (content ∷ []) (h.0,
 pub rest_trivia : (ls : List Content) → IsRestOfLine ls → AreTrivia ls
 rest_trivia ls (without_end line h) = beside_trivia line h
 rest_trivia ls (with_end line end h n) = ended_trivia line end h n
+
+pub between_trivia : {between line : List Content} → LeavesBehind between line → AreTrivia between
+between_trivia (comma_alone between t) = t
+between_trivia (comma_and_line between line end b h n) = beside_trivia between b
+
+pub line_trivia : {between line : List Content} → LeavesBehind between line → AreTrivia line
+line_trivia (comma_alone between t) = tt
+line_trivia (comma_and_line between line end b h n) = ended_trivia line end h n
 
 pub leaves_followed : (ls : List Content) (r s : OrderedTree) → followed_by (leaves_then ls r) s ≡ leaves_then ls (followed_by r s)
 leaves_followed [] r s = refl

@@ -31,7 +31,7 @@ use Rattle.jsonc_laws.specs.MarkChanges.{AreBlanks}
 use Rattle.jsonc_laws.specs.EntryLaws.{SoundWithoutElement}
 use Rattle.jsonc_laws.specs.Leaving.{AreBeside, ends_apart, has_no_comma, comma_comes, among, ElementLeaves, with_comma_behind, with_comma_before, with_no_comma, ClosesUp, closes_up}
 use Rattle.jsonc_laws.proofs.LinesLeft.{lines_past, lines_among, lines_more, lines_apart, apart_behind, row_lines}
-use Rattle.jsonc_laws.proofs.RowParts.{beside_trivia, rest_trivia, leaves_followed, among_followed, past_leaves, at_comma, parted_at, row_comes, comma_gone, element_gone, no_comma_behind, leads_on, before_bracket, one_token, NoComma}
+use Rattle.jsonc_laws.proofs.RowParts.{beside_trivia, rest_trivia, between_trivia, line_trivia, leaves_followed, among_followed, past_leaves, at_comma, parted_at, row_comes, comma_gone, element_gone, no_comma_behind, leads_on, before_bracket, one_token, NoComma}
 
 -- blanks are trivia
 blanks_trivia : (ls : List Content) → AreBlanks ls → AreTrivia ls
@@ -158,7 +158,7 @@ module _ (o : Options) (kind : RowKind) where
       followed_whole (more content below mid) back before top line = ap (more content below) (followed_whole mid back before top line)
 
   left_by : {top : Top} {i : ℕ} {row left : OrderedTree} (n : Option ℕ) → IsElement top.content → ElementLeaves top i row left → RowAlone o kind rows.nothing_yet row → LinesEndLoosely true false row → LeavesEnd o (leaves row) n → Left row left
-  left_by {top} n e (with_comma_behind front back before between line a b t u m) g l h = comma_behind top front back before between line e a b t (rest_trivia line u) m g l
+  left_by {top} n e (with_comma_behind front back before between line a b u m) g l h = comma_behind top front back before between line e a b (between_trivia u) (line_trivia u) m g l
   left_by {top} n e (with_comma_before front mid back before line a f b u k m q) g l h = comma_before top front mid back before line n e a f b (rest_trivia line u) m q g l h
   left_by {top} n e (with_no_comma front back before line a f b u k m) g l h = no_comma top front back before line e a f b (rest_trivia line u) k m g l
 

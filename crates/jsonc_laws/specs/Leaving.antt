@@ -20,6 +20,13 @@ pub data IsRestOfLine : List Content → Type 0 where
   without_end : (line : List Content) → AreBeside line → IsRestOfLine line
   with_end : (line : List Content) (end : Content) → AreBeside line → IsTrue (is_newline end) → IsRestOfLine (line ++ end ∷ [])
 
+-- What leaves behind an element with its comma: what stands between the two; and behind the comma nothing, or, where no line
+-- ends between, all of the line's rest, which is whitespace and comments, with the newline that ends it.
+pub data LeavesBehind : List Content → List Content → Type 0 where
+  comma_alone : (between : List Content) → AreTrivia between → LeavesBehind between []
+  comma_and_line : (between line : List Content) (end : Content) → AreBeside between → AreBeside line → IsTrue (is_newline end)
+      → LeavesBehind between (line ++ end ∷ [])
+
 -- the row is empty, or what is last in it is neither whitespace nor a comment
 abbrev pub ends_apart : OrderedTree → Bool
 ends_apart none = true
@@ -47,11 +54,12 @@ among before top behind row = leaves_then before (more top.content top.below (le
 
 -- The second row is the first without its element of this number, `top`. With it go whitespace and comments directly
 -- before it, and one comma: the one behind it with what stands between, or where none comes there, the nearest one before
--- it, if there is one. Behind that comma, or behind the element where none comes, goes no more than the rest of the line.
--- And no two literals without quotes meet where these have left.
+-- it, if there is one. Behind the comma that comes there goes nothing more, or the whole rest of its line (`LeavesBehind`);
+-- behind the element where none comes, no more than the rest of the line. And no two literals without quotes meet where
+-- these have left.
 pub data ElementLeaves (top : Top) : ℕ → OrderedTree → OrderedTree → Type 0 where
   with_comma_behind : (front back : OrderedTree) (before between line : List Content) → IsTrue (ends_apart front)
-      → AreBeside before → AreTrivia between → IsRestOfLine line
+      → AreBeside before → LeavesBehind between line
       → meet (leaves front) (leaves back) ≡ false
       → ElementLeaves top (element_count front)
       (followed_by front (among before top between (token_then 0x2C (leaves_then line back))))

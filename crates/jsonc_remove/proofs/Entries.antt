@@ -13,7 +13,7 @@ use Rattle.jsonc_tree.specs.Tree.{Node, content_at, parent_at, children_at, plac
 use Rattle.jsonc_tree.specs.Siblings.{siblings_after}
 use Rattle.jsonc_tree.proofs.Order.{not_over_parent, parent_there}
 use Rattle.jsonc_tree.proofs.Over.{over_up}
-use Rattle.jsonc_nodes.specs.Kinds.{is_element, is_element_at, is_property, is_trivia, is_trivia_at}
+use Rattle.jsonc_nodes.specs.Kinds.{is_element, is_element_at, is_property}
 use Rattle.jsonc_nodes.specs.Siblings.{elements_at}
 use Rattle.jsonc_nodes.proofs.There.{All-reverse}
 use Rattle.jsonc_lines.specs.Kinds.{holds_values}
@@ -22,9 +22,8 @@ use Rattle.jsonc_tree.specs.OrderedTree.{Top}
 use Rattle.jsonc_laws.specs.TreeChanges.{IsElement, DocumentChanged}
 use Rattle.jsonc_laws.specs.SoundTrees.{SoundTree}
 use Rattle.jsonc_laws.specs.Adjacent.{or_else}
-use Rattle.jsonc_laws.specs.Leaving.{ElementLeaves, IsRestOfLine}
+use Rattle.jsonc_laws.specs.Leaving.{ElementLeaves}
 use Rattle.jsonc_edit.specs.Due.{nearest, seen_before, seen_behind, behind_holder, behind_property, due_between, listed, ends_bare, begins_bare, prints, prints_at, prints_within}
-use Rattle.jsonc_laws.specs.TriviaChanges.{AreTrivia}
 use Rattle.jsonc_edit.specs.Put.{AreSpaced}
 use Rattle.jsonc_edit.proofs.Putting.{elements_kept}
 use Rattle.jsonc_edit.proofs.Whole.{Whole, more_whole, whole_leaf, row_whole}
@@ -42,14 +41,12 @@ use Rattle.jsonc_remove.specs.Laws.{EntryTaken}
 use Rattle.jsonc_remove.specs.Leaving.{comma_gone, first_gone, last_gone}
 use Rattle.jsonc_remove.specs.Removed.{comma_in, due_at_comma, due_at_stretch, is_next, is_hollow, hollow_from, hollow_to, IsClosedUp, IsTakenFrom, LosesChild, TakesElement}
 use Rattle.jsonc_remove.proofs.Containers.{Held, held_at, Brackets, brackets}
-use Rattle.jsonc_remove.proofs.Going.{is_end, element_no_trivia, Edges, Going, with_behind, with_before, with_none, going, lines}
-use Rattle.jsonc_remove.proofs.Lines.{EndsLine}
+use Rattle.jsonc_remove.proofs.Going.{is_end, Edges, Going, with_behind, with_before, with_none, going}
 use Rattle.jsonc_remove.proofs.Outcomes.{Outcome, outcome}
 use Rattle.jsonc_remove.proofs.Places.{before_in, parent_in}
 use Rattle.jsonc_remove.proofs.Within.{elements_print}
 use Rattle.jsonc_remove.proofs.Settled.{DueWith, IsSettled, is_settled}
-use Rattle.jsonc_remove.proofs.Spaces.{AreSame, contents_same, going_same, nearest_same, no_holder, or_none, front_same, back_same, head_same, tail_same}
-use Rattle.jsonc_remove.proofs.Stretches.{contents}
+use Rattle.jsonc_remove.proofs.Spaces.{AreSame, going_same, nearest_same, no_holder, or_none, front_same}
 
 opening_end : (kind : RowKind) → is_end (token (opening kind)) ≡ true
 opening_end of_values = refl
@@ -58,15 +55,6 @@ opening_end of_properties = refl
 closing_end : (kind : RowKind) → is_end (token (closing kind)) ≡ true
 closing_end of_values = refl
 closing_end of_properties = refl
-
--- a row that is what it was ends its lines where it did
-lines_same : (old new : List Node) (c to : ℕ) → children_at new c ≡ children_at old c → AreSame old new (children_at old c) → EndsLine old c to → EndsLine new c to
-lines_same old new c to e h lines = λ front ahead line back init m row last solid trivia.
-    let was : children_at old c ≡ front ++ ((ahead ++ m ∷ line) ++ back) = sym e ∙ row in
-    let part : AreSame old new (ahead ++ m ∷ line) = front_same old new (ahead ++ m ∷ line) back (back_same old new front ((ahead ++ m ∷ line) ++ back) (subst (AreSame old new) was h)) in
-    let past : AreSame old new (m ∷ line) = back_same old new ahead (m ∷ line) part in
-    let same : contents new line ≡ contents old line = contents_same old new line (tail_same old new m line past) in
-    subst IsRestOfLine (sym same) (lines front ahead line back init m was last (ap is_trivia (sym (head_same old new m line past)) ∙ solid) (subst AreTrivia same trivia))
 
 -- where what leaves stands in the row
 record Stands (ns : List Node) (c : ℕ) (x : ℕ) : Type 0 where
@@ -89,7 +77,7 @@ from_edges ns c from to front stretch back row e = (
 )
 
 stand : (ns : List Node) (c n open_with last from to : ℕ) (o : Option ℕ) → Going ns c n open_with last from to o → Stands ns c from × Stands ns c to × StandsIf ns c o
-stand ns c n open_with last from to _ (with_behind away near between line rest k row e b a t m l) =
+stand ns c n open_with last from to _ (with_behind away near between line rest k row e b a m l) =
     let two = from_edges ns c from to (open_with ∷ away) (near ++ n ∷ (between ++ k ∷ line)) (rest ++ last ∷ []) row e in (two.0, two.1, tt)
 stand ns c n open_with last from to _ (with_before away mid near line rest {k = k} row e b a m t l f) =
     let two = from_edges ns c from to ((open_with ∷ away) ++ k ∷ mid) (near ++ n ∷ line) (rest ++ last ∷ []) row e in
@@ -226,15 +214,6 @@ module _ (o : Options) (old new : List Node) (path : List ℕ) (c i n : ℕ) (tr
   going_ready : Going ready c n b.open_with b.last from to (comma_gone old n)
   going_ready = going_same old ready c n b.open_with b.last from to (comma_gone old n) row_ready all_same going_old
 
-  lines_ready : EndsLine ready c to
-  unfolding to
-  lines_ready =
-      lines_same old ready c (last_gone old n) row_ready all_same
-      (lines old tree c n b.open_with b.last b.inner b.children said kind_of (ap is_end b.opens ∙ opening_end was_held.kind) (ap is_end b.closes ∙ closing_end was_held.kind))
-
-  solid : is_trivia_at ready n ≡ false
-  solid = ap is_trivia (f.prepared.keeps.content n n_there) ∙ element_no_trivia (content_at old n) kind_of
-
   holds_ready : IsTrue (holds_values (content_at ready c))
   holds_ready = subst (λ w. IsTrue (holds_values w)) (sym (f.prepared.keeps.content c c_there)) holds
 
@@ -286,7 +265,7 @@ module _ (o : Options) (old new : List Node) (path : List ℕ) (c i n : ℕ) (tr
 
   settled : IsSettled ready spaced c n b.open_with b.last from to (comma_gone old n)
   settled =
-      is_settled ready f.prepared.tree c n b.open_with b.last from to holds_ready shown_ready spaced (next_of old from (comma_gone old n)) (comma_gone old n) lines_ready solid going_ready due
+      is_settled ready f.prepared.tree c n b.open_with b.last from to holds_ready shown_ready spaced (next_of old from (comma_gone old n)) (comma_gone old n) going_ready due
 
   said_ready : parent_at ready n ≡ Some c
   said_ready = f.prepared.keeps.parent n n_there ∙ said

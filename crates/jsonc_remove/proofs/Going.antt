@@ -11,13 +11,13 @@ use Rattle.jsonc_nodes.specs.Kinds.{is_beside, is_element, is_trivia}
 use Rattle.jsonc_lines.specs.Kinds.{is_comma}
 use Rattle.jsonc_lines.specs.Siblings.{is_no_trivia_at, if_comma, trailing_comma_at}
 use Rattle.jsonc_laws.specs.TriviaChanges.{AreTrivia}
-use Rattle.jsonc_laws.specs.Leaving.{AreBeside}
-use Rattle.jsonc_laws.proofs.RowParts.{rest_trivia}
-use Rattle.jsonc_remove.specs.Leaving.{comma_before, comma_behind, comma_gone, comma_unless, ends_line_at, first_gone, has_neighbours, if_inner, is_comma_at, last_gone, last_past, line_end_at}
+use Rattle.jsonc_laws.specs.Leaving.{AreBeside, IsRestOfLine, LeavesBehind, comma_alone, comma_and_line}
+use Rattle.jsonc_laws.proofs.RowParts.{line_trivia, rest_trivia}
+use Rattle.jsonc_remove.specs.Leaving.{comma_before, comma_behind, comma_gone, comma_unless, ends_line_at, first_gone, has_neighbours, if_inner, is_comma_at, last_gone, last_past, line_end_at, newline_there}
+use Rattle.jsonc_nodes.specs.Comments.{first_not_beside}
 use Rattle.jsonc_remove.proofs.Contents.{apart, no_commas, comma_first, apart_behind, apart_rest, first_past, no_commas_rest}
-use Rattle.jsonc_remove.proofs.Lines.{EndsLine, ends_line}
 use Rattle.jsonc_remove.proofs.Places.{row_split, before_in, after_in, final, final_last, final_behind, up_to_final}
-use Rattle.jsonc_remove.proofs.Stretches.{contents, Near, near_of, Line, no_line, line_of, Past, past_of, comma_past, none_past, Ahead, ahead_of, comma_ahead, none_ahead}
+use Rattle.jsonc_remove.proofs.Stretches.{contents, Near, near_of, Line, no_line, line_of, Ended, ended_of, line_through, beside_between, Past, past_of, comma_past, none_past, Ahead, ahead_of, comma_ahead, none_ahead}
 
 -- a token, but no comma: what a bracket is
 abbrev pub is_end : Content → Bool
@@ -96,17 +96,17 @@ pub data Going (ns : List Node) (c n open_with last from to : ℕ) : Option ℕ 
   with_behind : (away near between line rest : List ℕ) (k : ℕ)
       → children_at ns c ≡ (open_with ∷ away) ++ ((near ++ n ∷ (between ++ k ∷ line)) ++ (rest ++ last ∷ []))
       → Edges (near ++ n ∷ (between ++ k ∷ line)) from to → AreBeside (contents ns near) → IsTrue (apart (contents ns away))
-      → AreTrivia (contents ns between) → IsTrue (is_comma_at ns k) → AreTrivia (contents ns line)
+      → IsTrue (is_comma_at ns k) → LeavesBehind (contents ns between) (contents ns line)
       → Going ns c n open_with last from to None
   with_before : (away mid near line rest : List ℕ) {k : ℕ}
       → children_at ns c ≡ ((open_with ∷ away) ++ k ∷ mid) ++ ((near ++ n ∷ line) ++ (rest ++ last ∷ []))
       → Edges (near ++ n ∷ line) from to → AreBeside (contents ns near) → IsTrue (apart (content_at ns k ∷ contents ns mid)) → IsTrue (no_commas (contents ns mid))
-      → IsTrue (is_comma_at ns k) → AreTrivia (contents ns line) → comma_first (contents ns (rest ++ last ∷ [])) ≡ false
+      → IsTrue (is_comma_at ns k) → IsRestOfLine (contents ns line) → comma_first (contents ns (rest ++ last ∷ [])) ≡ false
       → Going ns c n open_with last from to (Some k)
   with_none : (away near line rest : List ℕ)
       → children_at ns c ≡ (open_with ∷ away) ++ ((near ++ n ∷ line) ++ (rest ++ last ∷ []))
       → Edges (near ++ n ∷ line) from to → AreBeside (contents ns near) → IsTrue (apart (contents ns away)) → IsTrue (no_commas (contents ns away))
-      → AreTrivia (contents ns line) → comma_first (contents ns (rest ++ last ∷ [])) ≡ false
+      → IsRestOfLine (contents ns line) → comma_first (contents ns (rest ++ last ∷ [])) ≡ false
       → Going ns c n open_with last from to None
 
 -- what ends a line behind a node that is no end is none
@@ -208,24 +208,36 @@ module _ (ns : List Node) (tree : IsTree ns) (c n open_with last : ℕ) (inner :
         ∙ ap (λ l. is_some (first l)) (after_in ns tree c (pre ++ n ∷ between) after k behind_k)
         ∙ some_first after (omega (arith, ap length past_k.1, length-append past_k.0 (last ∷ [])))
 
-    from_line : (to : ℕ) → Line ns after k to → Goes to None
-    from_line to l =
+    from_line : (to : ℕ) (l : Line ns after k to) → LeavesBehind (contents ns between) (contents ns l.line) → Goes to None
+    from_line to l goes =
         let behind : post ≡ (between ++ k ∷ l.line) ++ l.rest = is ∙ ap (λ (r : List ℕ). between ++ k ∷ r) l.split ∙ sym (append_assoc between (k ∷ l.line) l.rest) in
         let ended : n ∷ (between ++ k ∷ l.line) ≡ (n ∷ (between ++ l.init)) ++ to ∷ [] = ap (λ (r : List ℕ). n ∷ (between ++ r)) l.last_is ∙ ap (λ (r : List ℕ). n ∷ r) (sym (append_assoc between l.init (to ∷ []))) in
-        let rest = rest_from (between ++ k ∷ l.line) l.rest (n ∷ (between ++ l.init)) to behind ended (line_last ns k l.line l.init to l.last_is k_no_end (rest_trivia (contents ns l.line) l.ended)) in
+        let rest = rest_from (between ++ k ∷ l.line) l.rest (n ∷ (between ++ l.init)) to behind ended (line_last ns k l.line l.init to l.last_is k_no_end (line_trivia goes)) in
         with_behind away near between l.line rest.0 k
         (row_with (between ++ k ∷ l.line) l.rest behind ∙ ap (λ (x : List ℕ). x ++ ((near ++ n ∷ (between ++ k ∷ l.line)) ++ l.rest)) away_open.1 ∙ ap (λ (x : List ℕ). (open_with ∷ away) ++ ((near ++ n ∷ (between ++ k ∷ l.line)) ++ x)) rest.1)
-        (edges (between ++ k ∷ l.line) (n ∷ (between ++ l.init)) to ended) around.beside away_apart trivia comma (rest_trivia (contents ns l.line) l.ended)
+        (edges (between ++ k ∷ l.line) (n ∷ (between ++ l.init)) to ended) around.beside away_apart comma goes
 
-    either_line : (b : Bool) → Line ns after k (if b then k else line_end_at ns k)
-    either_line true = no_line ns after k
-    either_line false = subst (λ r. Line ns r k (line_end_at ns k)) (after_in ns tree c (pre ++ n ∷ between) after k behind_k) (line_of ns k (siblings_after ns k))
+    -- the comma alone leaves, or the rest of its line
+    comma_goes : Goes k None
+    comma_goes = from_line k (no_line ns after k) (comma_alone (contents ns between) trivia)
 
-    lines_behind : EndsLine ns c (last_past ns n (Some k))
-    lines_behind = ends_line ns tree c (pre ++ n ∷ between) after k (last_past ns n (Some k)) behind_k (comma_no_trivia (content_at ns k) comma) (either_line (ends_line_at ns n || not (ends_line_at ns k)))
+    afters_k : siblings_after ns k ≡ after
+    afters_k = after_in ns tree c (pre ++ n ∷ between) after k behind_k
+
+    line_goes : ends_line_at ns n ≡ false → ends_line_at ns k ≡ true → Goes (line_end_at ns k) None
+    line_goes e f =
+        let near_k : AreBeside (contents ns between) = beside_between ns between after k trivia (ap (λ (l : List ℕ). newline_there ns (first_not_beside ns l)) (sym (afters ∙ is)) ∙ e) in
+        let whole : Ended ns after (line_end_at ns k) = subst (λ (l : List ℕ). Ended ns l (line_end_at ns k)) afters_k (ended_of ns k (siblings_after ns k) f) in
+        from_line (line_end_at ns k) (line_through ns k whole)
+        (subst (LeavesBehind (contents ns between)) (sym (map-append (content_at ns) whole.line (line_end_at ns k ∷ []))) (comma_and_line (contents ns between) (contents ns whole.line) (content_at ns (line_end_at ns k)) near_k whole.beside whole.newline))
 
     goes_behind : Goes (last_past ns n (Some k)) None
-    goes_behind = from_line (last_past ns n (Some k)) (either_line (ends_line_at ns n || not (ends_line_at ns k)))
+    goes_behind = by (ends_line_at ns n) refl (ends_line_at ns k) refl
+      where
+        by : (a : Bool) → ends_line_at ns n ≡ a → (b : Bool) → ends_line_at ns k ≡ b → Goes (if a || not b then k else line_end_at ns k) None
+        by true e b f = comma_goes
+        by false e true f = line_goes e f
+        by false e false f = comma_goes
 
   -- none does
   module _ (none_behind : comma_first (contents ns post) ≡ false) where
@@ -256,7 +268,7 @@ module _ (ns : List Node) (tree : IsTree ns) (c n open_with last : ℕ) (inner :
     goes_ahead : (o : Option ℕ) → Ahead ns around.away o → Goes (line_end_at ns n) (if_inner ns o)
     goes_ahead _ (none_ahead h) =
         with_none away near line.line rest.0 (whole ∙ ap (λ (x : List ℕ). x ++ ((near ++ n ∷ line.line) ++ (rest.0 ++ last ∷ []))) away_open.1) (edges line.line line.init (line_end_at ns n) line.last_is) around.beside away_apart
-        (no_commas_rest (content_at ns open_with) (contents ns away) (subst (λ l. IsTrue (no_commas (contents ns l))) away_open.1 h)) trivia_line none_past_line
+        (no_commas_rest (content_at ns open_with) (contents ns away) (subst (λ l. IsTrue (no_commas (contents ns l))) away_open.1 h)) line.ended none_past_line
     goes_ahead _ (comma_ahead front mid {k = k} e comma h) =
         let first_of = begins_with ends front mid away k open_with (sym e ∙ away_open.1) (comma_no_end (content_at ns k) comma) opens in
         let row_k : children_at ns c ≡ front ++ k ∷ (mid ++ ((near ++ n ∷ line.line) ++ (rest.0 ++ last ∷ []))) = whole ∙ ap (λ (x : List ℕ). x ++ ((near ++ n ∷ line.line) ++ (rest.0 ++ last ∷ []))) e ∙ append_assoc front (k ∷ mid) ((near ++ n ∷ line.line) ++ (rest.0 ++ last ∷ [])) in
@@ -268,7 +280,7 @@ module _ (ns : List Node) (tree : IsTree ns) (c n open_with last : ℕ) (inner :
         ∙ some_first back (omega (arith, length-append mid ((near ++ n ∷ line.line) ++ (rest.0 ++ last ∷ [])), length-append (near ++ n ∷ line.line) (rest.0 ++ last ∷ []), length-append rest.0 (last ∷ []))) in
         subst (Goes (line_end_at ns n)) (sym (ap (λ b. if b then Some k else None) inside))
         (with_before first_of.0 mid near line.line rest.0 (whole ∙ ap (λ (x : List ℕ). x ++ ((near ++ n ∷ line.line) ++ (rest.0 ++ last ∷ []))) (e ∙ ap (λ (x : List ℕ). x ++ k ∷ mid) first_of.1)) (edges line.line line.init (line_end_at ns n) line.last_is)
-        around.beside (subst (λ b. IsTrue b) (ap apart (map-append (content_at ns) front (k ∷ mid)) ∙ apart_behind (contents ns front) (content_at ns k) (contents ns mid)) (subst (λ l. IsTrue (apart (contents ns l))) e around.apart)) h comma trivia_line none_past_line)
+        around.beside (subst (λ b. IsTrue b) (ap apart (map-append (content_at ns) front (k ∷ mid)) ∙ apart_behind (contents ns front) (content_at ns k) (contents ns mid)) (subst (λ l. IsTrue (apart (contents ns l))) e around.apart)) h comma line.ended none_past_line)
 
     goes_none : Goes (last_past ns n None) (comma_unless None (comma_before ns n))
     goes_none = goes_ahead (find (is_comma_at ns) (siblings_before ns n)) ahead
@@ -283,15 +295,3 @@ module _ (ns : List Node) (tree : IsTree ns) (c n open_with last : ℕ) (inner :
       by _ (none_past e) told =
           let is : comma_behind ns n ≡ None = ap (if_inner ns) told in
           subst (λ o. Goes (last_past ns n o) (comma_unless o (comma_before ns n))) (sym is) (goes_none e)
-
-  -- and no more than the rest of a line leaves at the end
-  pub lines : EndsLine ns c (last_gone ns n)
-  lines = by (trailing_comma_at ns n) (subst (λ l. Past ns post (if_comma ns (find (is_no_trivia_at ns) l))) (sym afters) (past_of ns post)) refl
-    where
-      by : (o : Option ℕ) → Past ns post o → trailing_comma_at ns n ≡ o → EndsLine ns c (last_gone ns n)
-      by _ (comma_past between after {k = k} e t f) told =
-          let is : comma_behind ns n ≡ Some k = ap (if_inner ns) told ∙ ap (λ b. if b then Some k else None) (k_inner between after k e t f) in
-          subst (λ o. EndsLine ns c (last_past ns n o)) (sym is) (lines_behind between after k e t f)
-      by _ (none_past e) told =
-          let is : comma_behind ns n ≡ None = ap (if_inner ns) told in
-          subst (λ o. EndsLine ns c (last_past ns n o)) (sym is) (ends_line ns tree c pre post n (line_end_at ns n) split (element_no_trivia (content_at ns n) element) (line e))

@@ -7,7 +7,6 @@ pub mod Stretches
 pub mod Places
 pub mod Weaving
 pub mod Containers
-pub mod Lines
 pub mod Going
 pub mod Within
 pub mod Spaces

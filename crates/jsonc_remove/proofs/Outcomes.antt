@@ -16,7 +16,7 @@ use Rattle.jsonc_laws.specs.Rows.{RowKind, opening, closing}
 use Rattle.jsonc_laws.specs.TriviaChanges.{leaves_then}
 use Rattle.jsonc_laws.specs.Spaces.{meet}
 use Rattle.jsonc_laws.specs.Leaving.{AreBeside, ends_apart, element_count, among, ElementLeaves, with_comma_behind, with_comma_before, with_no_comma, ClosesUp}
-use Rattle.jsonc_laws.proofs.RowParts.{rest_trivia}
+use Rattle.jsonc_laws.proofs.RowParts.{rest_trivia, between_trivia, line_trivia}
 use Rattle.jsonc_edit.proofs.Whole.{Whole, more_whole, whole_before, whole_behind}
 use Rattle.jsonc_edit.proofs.Meeting.{meet_bare}
 use Rattle.jsonc_edit.specs.Changes.{row_below, top_at}
@@ -197,7 +197,7 @@ module _ (o : Options) (old new : List Node) (tree : IsTree old) (after : IsTree
               (ap not (first_shown old p.shows_rest ∙ first)) (stretch_quiet away near line rest row edges beside same p quiet)));
           closes = r.shuts;
         }
-    outcome _ (settled_behind away near between line rest k row edges beside apart_away trivia comma ended quiet) same =
+    outcome _ (settled_behind away near between line rest k row edges beside apart_away comma goes quiet) same =
         let p = pieces away near (between ++ k ∷ line) rest row edges beside in
         let r = stretch_row away near (between ++ k ∷ line) rest row edges beside same p in
         let is_k : content_at old k ≡ token 0x2C = comma_is (content_at old k) comma in
@@ -205,11 +205,11 @@ module _ (o : Options) (old new : List Node) (tree : IsTree old) (after : IsTree
         (parent_there old tree k c (All-head (λ m. parent_at old m ≡ Some c) k line (All-back (λ m. parent_at old m ≡ Some c) (near ++ n ∷ between) (k ∷ line)
         (subst (AreKids old c) (sym (append_assoc near (n ∷ between) (k ∷ line))) (All-front (λ m. parent_at old m ≡ Some c) (near ++ n ∷ (between ++ k ∷ line)) (rest ++ last ∷ [])
         (All-back (λ m. parent_at old m ≡ Some c) (open_with ∷ away) ((near ++ n ∷ (between ++ k ∷ line)) ++ (rest ++ last ∷ [])) (subst (AreKids old c) row (all_kids old tree c)))))))).0 in
-        let mid = among_shown old tree between k line p.behind_it k_there (trivia_leaves (contents old between) trivia) p.shows_behind in
+        let mid = among_shown old tree between k line p.behind_it k_there (trivia_leaves (contents old between) (between_trivia goes)) p.shows_behind in
         let behind_is : followed_by p.behind_it p.rest_of ≡ leaves_then (contents old between) (token_then 0x2C (leaves_then (contents old line) p.rest_of)) =
         mid.is p.rest_of ∙ ap (λ (w : Content). leaves_then (contents old between) (more w (row_below old k) (followed_by mid.after p.rest_of))) is_k
         ∙ ap (λ (t : OrderedTree). leaves_then (contents old between) (more (token 0x2C) t (followed_by mid.after p.rest_of))) (leaf_below old tree k k_there (ap is_container is_k))
-        ∙ ap (λ (t : OrderedTree). leaves_then (contents old between) (token_then 0x2C t)) (leaves_shown old tree line mid.after p.rest_of (trivia_leaves (contents old line) (rest_trivia (contents old line) ended)) mid.shown) in
+        ∙ ap (λ (t : OrderedTree). leaves_then (contents old between) (token_then 0x2C t)) (leaves_shown old tree line mid.after p.rest_of (trivia_leaves (contents old line) (line_trivia goes)) mid.shown) in
         let whole_row : p.row_is ≡ followed_by p.front (among (contents old near) (top_at old n) (contents old between) (token_then 0x2C (leaves_then (contents old line) p.rest_of))) =
         p.parts ∙ ap (λ (t : OrderedTree). followed_by p.front (leaves_then (contents old near) (more (content_at old n) (row_below old n) t))) behind_is in
         record {
@@ -221,7 +221,7 @@ module _ (o : Options) (old new : List Node) (tree : IsTree old) (after : IsTree
           leaves =
               subst (λ j. ElementLeaves (top_at old n) j p.row_is (followed_by p.front p.rest_of)) (stretch_index away near (between ++ k ∷ line) rest row edges beside same p)
               (subst (λ t. ElementLeaves (top_at old n) (element_count p.front) t (followed_by p.front p.rest_of)) (sym whole_row)
-              (with_comma_behind p.front p.rest_of (contents old near) (contents old between) (contents old line) (stretch_apart away near (between ++ k ∷ line) rest row edges beside same p apart_away) beside trivia ended
+              (with_comma_behind p.front p.rest_of (contents old near) (contents old between) (contents old line) (stretch_apart away near (between ++ k ∷ line) rest row edges beside same p apart_away) beside goes
               (stretch_quiet away near (between ++ k ∷ line) rest row edges beside same p quiet)));
           closes = r.shuts;
         }

@@ -2,7 +2,7 @@
 use Rattle.std.proofs.Common.{◌≡◌, ℕ, Bool, true, false, not, ◌&&◌, ◌||◌, cond, List, [], ◌∷◌, ◌++◌, reverse, Option, Some, None, IsTrue, if◌then◌else◌, bytes_eq, inl, inr, refl, sym, ap, subst, ◌∙◌, append-nil}
 use Rattle.std.proofs.lemmas.Bool.{cases_Bool, cases_eq, ne_eqb}
 use Rattle.std.proofs.lemmas.List.{append_assoc, reverse-append}
-use Rattle.std.proofs.lemmas.List.Elements.{All-nil, All-cons, All-head, All-tail}
+use Rattle.std.proofs.lemmas.List.Elements.{All-nil, All-cons}
 use Rattle.std.proofs.lemmas.List.Folds.{find-append}
 use Rattle.std.proofs.lemmas.Slice.Eq.{bytes_eq-Decides}
 use Rattle.std.specs.List.{find, All}
@@ -10,21 +10,18 @@ use Rattle.std.specs.Option.{option_or}
 use Rattle.jsonc_text.specs.Text.{starts}
 use Rattle.jsonc_tree.specs.Content.{Content, token}
 use Rattle.jsonc_tree.specs.Tree.{Node, content_at, children_at, IsTree}
-use Rattle.jsonc_nodes.specs.Kinds.{is_trivia_at}
 use Rattle.jsonc_nodes.proofs.There.{All-reverse}
 use Rattle.jsonc_lines.specs.Kinds.{holds_values, is_comma}
-use Rattle.jsonc_laws.specs.TriviaChanges.{AreTrivia}
 use Rattle.jsonc_laws.proofs.Texts.{comma_first as comma_char}
-use Rattle.jsonc_laws.specs.Leaving.{AreBeside, IsRestOfLine}
+use Rattle.jsonc_laws.specs.Leaving.{AreBeside, IsRestOfLine, LeavesBehind}
 use Rattle.jsonc_edit.specs.Due.{is_other, prints, prints_at, nearest, begins_bare, ends_bare, seen_before, due_between, listed}
 use Rattle.jsonc_edit.specs.Put.{AreSpaced}
 use Rattle.jsonc_remove.specs.Leaving.{is_comma_at}
 use Rattle.jsonc_remove.specs.Removed.{is_next}
 use Rattle.jsonc_remove.proofs.Contents.{apart, no_commas, comma_first, Gains, apart_behind_gains, commas_gains, first_gains}
-use Rattle.jsonc_remove.proofs.Lines.{EndsLine}
 use Rattle.jsonc_remove.proofs.Places.{Quiet, OneSpace, one_space, before_in}
 use Rattle.jsonc_remove.proofs.Stretches.{contents}
-use Rattle.jsonc_remove.proofs.Going.{comma_no_trivia, Edges, Going, with_behind, with_before, with_none}
+use Rattle.jsonc_remove.proofs.Going.{Edges, Going, with_behind, with_before, with_none}
 use Rattle.jsonc_remove.proofs.Spaces.{contents_same, nearest_same, spaced_parts, due_parts}
 use Rattle.jsonc_remove.proofs.Within.{find_holds, stretch_prints}
 
@@ -33,7 +30,7 @@ pub data Settled (ns : List Node) (c n open_with last from to : ℕ) : Option �
   settled_behind : (away near between line rest : List ℕ) (k : ℕ)
       → children_at ns c ≡ (open_with ∷ away) ++ ((near ++ n ∷ (between ++ k ∷ line)) ++ (rest ++ last ∷ []))
       → Edges (near ++ n ∷ (between ++ k ∷ line)) from to → AreBeside (contents ns near) → IsTrue (apart (contents ns away))
-      → AreTrivia (contents ns between) → IsTrue (is_comma_at ns k) → IsRestOfLine (contents ns line)
+      → IsTrue (is_comma_at ns k) → LeavesBehind (contents ns between) (contents ns line)
       → Quiet ns (open_with ∷ away) (rest ++ last ∷ [])
       → Settled ns c n open_with last from to None
   settled_before : (away mid near line rest : List ℕ) {k : ℕ}
@@ -270,24 +267,20 @@ module _ (ready : List Node) (tree : IsTree ready) (c n open_with last from to :
           let differ : next ≡ false = next_is (Some m) e ∙ other m e in
           far m e (subst (λ b. AreSpaced ready (listed (if b then None else due_between ready k k) ++ listed (if b then due_between ready k to else due_between ready from to)) spaced) differ put)
 
-    pub is_settled : (next : Bool) (o : Option ℕ) → EndsLine ready c to → is_trivia_at ready n ≡ false → Going ready c n open_with last from to o → DueWith ready from to o next spaced → Done o
-    is_settled next _ lines solid (with_behind away near between line rest k row edges beside apart_away trivia comma trivia_line) put =
+    pub is_settled : (next : Bool) (o : Option ℕ) → Going ready c n open_with last from to o → DueWith ready from to o next spaced → Done o
+    is_settled next _ (with_behind away near between line rest k row edges beside apart_away comma goes) put =
         let b = without (open_with ∷ away) near (between ++ k ∷ line) rest row edges put in
         let same : (xs : List ℕ) → contents ready xs ≡ contents spaced xs = λ xs. sym (contents_same ready spaced xs (same_each ready spaced b.content xs)) in
-        let parts : near ++ n ∷ (between ++ k ∷ line) ≡ (near ++ n ∷ between) ++ k ∷ line = sym (append_assoc near (n ∷ between) (k ∷ line)) in
-        let ended : IsRestOfLine (contents ready line) =
-        lines (open_with ∷ away) (near ++ n ∷ between) line (rest ++ last ∷ []) edges.init k (row ∙ ap (λ (l : List ℕ). (open_with ∷ away) ++ (l ++ (rest ++ last ∷ []))) parts) (sym parts ∙ edges.last_is) (comma_no_trivia (content_at ready k) comma) trivia_line in
         record {
           tree = b.tree;
           content = b.content;
           settled =
-              settled_behind away near between line b.rest k b.row edges (subst AreBeside (same near) beside) (subst (λ l. IsTrue (apart l)) (same away) apart_away) (subst AreTrivia (same between) trivia)
-              (subst (λ w. IsTrue (is_comma w)) (sym (b.content k)) comma) (subst IsRestOfLine (same line) ended) b.quiet;
+              settled_behind away near between line b.rest k b.row edges (subst AreBeside (same near) beside) (subst (λ l. IsTrue (apart l)) (same away) apart_away)
+              (subst (λ w. IsTrue (is_comma w)) (sym (b.content k)) comma) (subst (LeavesBehind (contents spaced between)) (same line) (subst (λ l. LeavesBehind l (contents ready line)) (same between) goes)) b.quiet;
         }
-    is_settled next _ lines solid (with_none away near line rest row edges beside apart_away none_away trivia_line first) put =
+    is_settled next _ (with_none away near line rest row edges beside apart_away none_away ended first) put =
         let b = without (open_with ∷ away) near line rest row edges put in
         let same : (xs : List ℕ) → contents ready xs ≡ contents spaced xs = λ xs. sym (contents_same ready spaced xs (same_each ready spaced b.content xs)) in
-        let ended : IsRestOfLine (contents ready line) = lines (open_with ∷ away) near line (rest ++ last ∷ []) edges.init n row edges.last_is solid trivia_line in
         record {
           tree = b.tree;
           content = b.content;
@@ -295,6 +288,5 @@ module _ (ready : List Node) (tree : IsTree ready) (c n open_with last from to :
               settled_none away near line b.rest b.row edges (subst AreBeside (same near) beside) (subst (λ l. IsTrue (apart l)) (same away) apart_away) (subst (λ l. IsTrue (no_commas l)) (same away) none_away) (subst IsRestOfLine (same line) ended)
               (first_gains b.gains ∙ ap comma_first (sym (same (rest ++ last ∷ []))) ∙ first) b.quiet;
         }
-    is_settled next _ lines solid (with_before away mid near line rest {k = k} row edges beside apart_mid none_mid comma trivia_line first) (said, put) =
-        let ended : IsRestOfLine (contents ready line) = lines ((open_with ∷ away) ++ k ∷ mid) near line (rest ++ last ∷ []) edges.init n row edges.last_is solid trivia_line in
+    is_settled next _ (with_before away mid near line rest {k = k} row edges beside apart_mid none_mid comma ended first) (said, put) =
         either next away mid near line rest k row edges beside apart_mid none_mid comma ended first said put (nearest ready (reverse mid)) refl

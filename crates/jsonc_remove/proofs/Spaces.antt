@@ -1,13 +1,12 @@
 -- The spaces that are due where an element leaves have come, and then nothing meets there.
-use Rattle.std.proofs.Common.{◌≡◌, ℕ, Bool, true, ◌&&◌, cond, List, [], ◌∷◌, ◌++◌, reverse, Option, Some, None, IsTrue, refl, sym, ap, subst, ◌∙◌}
+use Rattle.std.proofs.Common.{◌≡◌, ℕ, true, ◌&&◌, cond, List, [], ◌∷◌, ◌++◌, reverse, Option, Some, None, IsTrue, refl, sym, ap, subst, ◌∙◌}
 use Rattle.std.proofs.lemmas.List.Elements.{All-head, All-tail}
 use Rattle.std.specs.List.{All}
 use Rattle.std.specs.Option.{option_and_then}
 use Rattle.jsonc_tree.specs.Content.{Content, array, object}
 use Rattle.jsonc_tree.specs.Tree.{Node, content_at, children_at, IsTree}
 use Rattle.jsonc_lines.specs.Kinds.{holds_values, is_comma}
-use Rattle.jsonc_laws.specs.TriviaChanges.{AreTrivia}
-use Rattle.jsonc_laws.specs.Leaving.{AreBeside}
+use Rattle.jsonc_laws.specs.Leaving.{AreBeside, IsRestOfLine, LeavesBehind}
 use Rattle.jsonc_laws.specs.Adjacent.{or_else}
 use Rattle.jsonc_edit.specs.Due.{prints, prints_at, nearest, begins_bare, ends_bare, seen_before, seen_behind, behind_holder, behind_property, due_between, prints_within}
 use Rattle.jsonc_edit.specs.Put.{AreSpaced}
@@ -46,16 +45,16 @@ module _ (old new : List Node) where
 
   -- an element leaves a row that is what it was as it did
   pub going_same : (c n open_with last from to : ℕ) (o : Option ℕ) → children_at new c ≡ children_at old c → AreSame old new (children_at old c) → Going old c n open_with last from to o → Going new c n open_with last from to o
-  going_same c n open_with last from to _ e h (with_behind away near between line rest k row edges beside apart_away trivia comma trivia_line) =
+  going_same c n open_with last from to _ e h (with_behind away near between line rest k row edges beside apart_away comma goes) =
       let all = subst (AreSame old new) row h in
       let at_away = tail_same open_with away (front_same (open_with ∷ away) ((near ++ n ∷ (between ++ k ∷ line)) ++ (rest ++ last ∷ [])) all) in
       let stretch = front_same (near ++ n ∷ (between ++ k ∷ line)) (rest ++ last ∷ []) (back_same (open_with ∷ away) ((near ++ n ∷ (between ++ k ∷ line)) ++ (rest ++ last ∷ [])) all) in
       let past = tail_same n (between ++ k ∷ line) (back_same near (n ∷ (between ++ k ∷ line)) stretch) in
       let at_k = back_same between (k ∷ line) past in
       with_behind away near between line rest k (e ∙ row) edges (subst AreBeside (sym (contents_same near (front_same near (n ∷ (between ++ k ∷ line)) stretch))) beside)
-      (subst (λ l. IsTrue (apart l)) (sym (contents_same away at_away)) apart_away) (subst AreTrivia (sym (contents_same between (front_same between (k ∷ line) past))) trivia)
-      (subst (λ w. IsTrue (is_comma w)) (sym (head_same k line at_k)) comma) (subst AreTrivia (sym (contents_same line (tail_same k line at_k))) trivia_line)
-  going_same c n open_with last from to _ e h (with_before away mid near line rest {k = k} row edges beside apart_mid none_mid comma trivia_line first) =
+      (subst (λ l. IsTrue (apart l)) (sym (contents_same away at_away)) apart_away) (subst (λ w. IsTrue (is_comma w)) (sym (head_same k line at_k)) comma)
+      (subst (LeavesBehind (contents new between)) (sym (contents_same line (tail_same k line at_k))) (subst (λ l. LeavesBehind l (contents old line)) (sym (contents_same between (front_same between (k ∷ line) past))) goes))
+  going_same c n open_with last from to _ e h (with_before away mid near line rest {k = k} row edges beside apart_mid none_mid comma ended first) =
       let all = subst (AreSame old new) row h in
       let ahead = back_same (open_with ∷ away) (k ∷ mid) (front_same ((open_with ∷ away) ++ k ∷ mid) ((near ++ n ∷ line) ++ (rest ++ last ∷ [])) all) in
       let behind = back_same ((open_with ∷ away) ++ k ∷ mid) ((near ++ n ∷ line) ++ (rest ++ last ∷ [])) all in
@@ -63,16 +62,16 @@ module _ (old new : List Node) where
       let at_line = tail_same n line (back_same near (n ∷ line) stretch) in
       with_before away mid near line rest (e ∙ row) edges (subst AreBeside (sym (contents_same near (front_same near (n ∷ line) stretch))) beside)
       (subst (λ l. IsTrue (apart l)) (sym (contents_same (k ∷ mid) ahead)) apart_mid) (subst (λ l. IsTrue (no_commas l)) (sym (contents_same mid (tail_same k mid ahead))) none_mid)
-      (subst (λ w. IsTrue (is_comma w)) (sym (head_same k mid ahead)) comma) (subst AreTrivia (sym (contents_same line at_line)) trivia_line)
+      (subst (λ w. IsTrue (is_comma w)) (sym (head_same k mid ahead)) comma) (subst IsRestOfLine (sym (contents_same line at_line)) ended)
       (ap comma_first (contents_same (rest ++ last ∷ []) (back_same (near ++ n ∷ line) (rest ++ last ∷ []) behind)) ∙ first)
-  going_same c n open_with last from to _ e h (with_none away near line rest row edges beside apart_away none_away trivia_line first) =
+  going_same c n open_with last from to _ e h (with_none away near line rest row edges beside apart_away none_away ended first) =
       let all = subst (AreSame old new) row h in
       let at_away = tail_same open_with away (front_same (open_with ∷ away) ((near ++ n ∷ line) ++ (rest ++ last ∷ [])) all) in
       let behind = back_same (open_with ∷ away) ((near ++ n ∷ line) ++ (rest ++ last ∷ [])) all in
       let stretch = front_same (near ++ n ∷ line) (rest ++ last ∷ []) behind in
       let at_line = tail_same n line (back_same near (n ∷ line) stretch) in
       with_none away near line rest (e ∙ row) edges (subst AreBeside (sym (contents_same near (front_same near (n ∷ line) stretch))) beside)
-      (subst (λ l. IsTrue (apart l)) (sym (contents_same away at_away)) apart_away) (subst (λ l. IsTrue (no_commas l)) (sym (contents_same away at_away)) none_away) (subst AreTrivia (sym (contents_same line at_line)) trivia_line)
+      (subst (λ l. IsTrue (apart l)) (sym (contents_same away at_away)) apart_away) (subst (λ l. IsTrue (no_commas l)) (sym (contents_same away at_away)) none_away) (subst IsRestOfLine (sym (contents_same line at_line)) ended)
       (ap comma_first (contents_same (rest ++ last ∷ []) (back_same (near ++ n ∷ line) (rest ++ last ∷ []) behind)) ∙ first)
 
 -- spaces that have come one after another

@@ -4,12 +4,14 @@ use Rattle.std.proofs.lemmas.List.{append_assoc, map-append, reverse-append}
 use Rattle.std.specs.List.{find}
 use Rattle.jsonc_tree.specs.Content.{Content}
 use Rattle.jsonc_tree.specs.Tree.{Node, content_at}
-use Rattle.jsonc_nodes.specs.Kinds.{is_beside, is_beside_at, is_newline_at, is_trivia_at, is_whitespace_at}
+use Rattle.jsonc_nodes.specs.Kinds.{is_beside, is_beside_at, is_newline, is_newline_at, is_trivia, is_trivia_at, is_whitespace_at}
 use Rattle.jsonc_lines.specs.Kinds.{is_comma}
 use Rattle.jsonc_lines.specs.Siblings.{is_no_trivia_at, if_comma}
 use Rattle.jsonc_laws.specs.TriviaChanges.{AreTrivia}
 use Rattle.jsonc_laws.specs.Leaving.{AreBeside, IsRestOfLine, without_end, with_end}
-use Rattle.jsonc_remove.specs.Leaving.{begins_other, is_comma_at, line_end, outermost}
+use Rattle.jsonc_laws.proofs.RowParts.{beside_trivia, newline_trivia}
+use Rattle.jsonc_nodes.specs.Comments.{first_not_beside}
+use Rattle.jsonc_remove.specs.Leaving.{begins_other, is_comma_at, line_end, newline_there, outermost}
 use Rattle.jsonc_remove.proofs.Contents.{apart, no_commas, comma_first, apart_last, beside_append}
 
 beside_line : (c : Content) (ls : List Content) → IsTrue (is_beside c) → IsRestOfLine ls → IsRestOfLine (c ∷ ls)
@@ -67,7 +69,7 @@ module _ (ns : List Node) where
     pub ended : IsRestOfLine (contents line)
     pub last_is : n ∷ line ≡ init ++ last ∷ []
 
-  pub no_line : (row : List ℕ) (n : ℕ) → Line row n n
+  abbrev pub no_line : (row : List ℕ) (n : ℕ) → Line row n n
   no_line row n = record { line = []; rest = row; init = []; split = refl; ended = without_end [] tt; last_is = refl }
 
   pub line_of : (n : ℕ) (row : List ℕ) → Line row n (line_end ns n row)
@@ -87,6 +89,69 @@ module _ (ns : List Node) where
           }
       by false e true f false r = no_line (m ∷ rest) n
       by false e false f d r = no_line (m ∷ rest) n
+
+  -- the same where whitespace and comments stand before the newline that ends it
+  pub record Ended (row : List ℕ) (last : ℕ) : Type 0 where
+    pub line : List ℕ
+    pub rest : List ℕ
+    pub split : row ≡ (line ++ last ∷ []) ++ rest
+    pub beside : AreBeside (contents line)
+    pub newline : IsTrue (is_newline_at ns last)
+
+  abbrev pub line_through : {row : List ℕ} {last : ℕ} (n : ℕ) → Ended row last → Line row n last
+  line_through {last = last} n e = record {
+    line = e.line ++ last ∷ [];
+    rest = e.rest;
+    init = n ∷ e.line;
+    split = e.split;
+    ended = subst IsRestOfLine (sym (map-append (content_at ns) e.line (last ∷ []))) (with_end (contents e.line) (content_at ns last) e.beside e.newline);
+    last_is = refl;
+  }
+
+  newline_next : (rest : List ℕ) → IsTrue (newline_there ns (first_not_beside ns rest)) → begins_other ns rest ≡ false
+  newline_next [] h = refl
+  newline_next (p ∷ rest) h = by (is_beside_at ns p) refl h
+    where
+      by : (b : Bool) → is_beside_at ns p ≡ b → IsTrue (newline_there ns (if not b then Some p else first_not_beside ns rest)) → not (is_trivia_at ns p) ≡ false
+      by true e k = ap not (beside_trivia (content_at ns p ∷ []) (e, tt)).0
+      by false e k = ap not (newline_trivia (content_at ns p) k)
+
+  pub ended_of : (n : ℕ) (row : List ℕ) → IsTrue (newline_there ns (first_not_beside ns row)) → Ended row (line_end ns n row)
+  ended_of n [] h = absurd (let wrong : false ≡ true = h in cc)
+  ended_of n (m ∷ rest) h = by (is_newline_at ns m) refl (is_beside_at ns m) refl h (newline_next rest) (ended_of m rest)
+    where
+      through : is_beside_at ns m ≡ true → Ended rest (line_end ns m rest) → Ended (m ∷ rest) (line_end ns m rest)
+      through f r = record { line = m ∷ r.line; rest = r.rest; split = ap (λ (l : List ℕ). m ∷ l) r.split; beside = (f, r.beside); newline = r.newline }
+
+      trailing : (is_whitespace_at ns m && begins_other ns rest) ≡ false → is_beside_at ns m ≡ true → Ended rest (line_end ns m rest) → Ended (m ∷ rest) (if true && not (is_whitespace_at ns m && begins_other ns rest) then line_end ns m rest else n)
+      trailing g f r = subst (λ d. Ended (m ∷ rest) (if not d then line_end ns m rest else n)) (sym g) (through f r)
+
+      by : (a : Bool) → is_newline_at ns m ≡ a → (b : Bool) → is_beside_at ns m ≡ b → IsTrue (newline_there ns (if not b then Some m else first_not_beside ns rest))
+          → (IsTrue (newline_there ns (first_not_beside ns rest)) → begins_other ns rest ≡ false) → (IsTrue (newline_there ns (first_not_beside ns rest)) → Ended rest (line_end ns m rest))
+          → Ended (m ∷ rest) (if a then m else (if b && not (is_whitespace_at ns m && begins_other ns rest) then line_end ns m rest else n))
+      by true e b f k g r = record { line = []; rest = rest; split = refl; beside = tt; newline = e }
+      by false e true f k g r = trailing (both (is_whitespace_at ns m) (g k)) f (r k)
+        where
+          both : (w : Bool) {d : Bool} → d ≡ false → (w && d) ≡ false
+          both true q = q
+          both false q = refl
+      by false e false f k g r = absurd (let wrong : true ≡ false = sym k ∙ e in cc)
+
+  -- trivia before something else, with no newline first past whitespace and comments, are whitespace and comments
+  pub beside_between : (between after : List ℕ) (k : ℕ) → AreTrivia (contents between) → newline_there ns (first_not_beside ns (between ++ k ∷ after)) ≡ false → AreBeside (contents between)
+  beside_between [] after k t h = tt
+  beside_between (m ∷ between) after k t h = by (is_beside_at ns m) refl h (beside_between between after k t.1)
+    where
+      newline_or : (c : Content) → IsTrue (is_trivia c) → is_beside c ≡ false → is_newline c ≡ true
+      newline_or (Content.newline x) u e = refl
+      newline_or (Content.whitespace s) u e = absurd (let wrong : true ≡ false = e in cc)
+      newline_or (Content.comment s) u e = absurd (let wrong : true ≡ false = e in cc)
+      newline_or c u e = cc
+
+      by : (b : Bool) → is_beside_at ns m ≡ b → newline_there ns (if not b then Some m else first_not_beside ns (between ++ k ∷ after)) ≡ false
+          → (newline_there ns (first_not_beside ns (between ++ k ∷ after)) ≡ false → AreBeside (contents between)) → AreBeside (contents (m ∷ between))
+      by true e q r = (e, r q)
+      by false e q r = absurd (let wrong : true ≡ false = sym (newline_or (content_at ns m) t.0 e) ∙ q in cc)
 
   -- past trivia a comma comes, or none
   pub data Past (row : List ℕ) : Option ℕ → Type 0 where
