@@ -15,12 +15,12 @@
 //! lines and changes no child.
 #![tactic(auto)]
 
-mod brackets;
 pub mod laws;
 mod lines;
 mod multiline;
 mod plan;
 
+pub use jsonc_remove::has_brackets;
 pub use lines::{Lines, lines_for};
 pub use multiline::ensure_multiline;
 pub use plan::plan_lines;

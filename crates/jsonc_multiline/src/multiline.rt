@@ -7,12 +7,21 @@ ghost use Rattle.jsonc_tree.specs.Tree.{content_at, IsTree};
 ghost use Rattle.jsonc_lines.specs.Kinds.{holds_values};
 ghost use Rattle.jsonc_multiline.specs.Multiline.{has_line_end, IsUnspread, MadeMultiline};
 
-use crate::brackets::{has_brackets, has_line_end};
 use crate::lines::lines_for;
 use crate::plan::plan_lines;
+use jsonc_nodes::{children_from, is_newline};
 use jsonc_remove::edit::EditError;
+use jsonc_remove::has_brackets;
 use jsonc_tree::Tree;
 use std::alloc::Allocator;
+
+// Whether a line ends among the children of a container.
+fn has_line_end<A: Allocator>(tree: &Tree<A>, container: usize) -> bool
+    requires { container < length tree.now.nodes }
+    ensures { result ≡ has_line_end tree.now.nodes container }
+{
+    children_from(tree, container, 0).any(|child| is_newline(tree, child))
+}
 
 /// Puts an array or object on several lines, where no line ends among its children yet.
 ///

@@ -7,10 +7,12 @@
 //! anything changes (`specs/Removed.antt`).
 #![tactic(auto)]
 
+mod brackets;
 mod kinds;
 pub mod laws;
 mod leaving;
 mod removing;
 
+pub use brackets::has_brackets;
 pub use jsonc_edit as edit;
 pub use removing::remove;

@@ -11,10 +11,11 @@ ghost use Rattle.jsonc_nodes.specs.Siblings.{IsThere};
 ghost use Rattle.jsonc_lines.specs.Kinds.{holds_values};
 ghost use Rattle.jsonc_edit.specs.Due.{seen_before};
 ghost use Rattle.jsonc_remove.specs.Leaving.{comes_to, is_blank_at};
-ghost use Rattle.jsonc_remove.specs.Removed.{blank_between, comma_in, due_at_comma, due_at_stretch, has_brackets, has_two};
-ghost use Rattle.jsonc_remove.specs.Removed.{hollow_from, hollow_to, is_hollow, is_next, is_node, is_token_at};
+ghost use Rattle.jsonc_remove.specs.Removed.{blank_between, comma_in, due_at_comma, due_at_stretch};
+ghost use Rattle.jsonc_remove.specs.Removed.{hollow_from, hollow_to, is_hollow, is_next, is_node};
 ghost use Rattle.jsonc_remove.specs.Removed.{IsClosedUp, IsKeptFor, LosesChild, TakesElement};
 
+use crate::brackets::has_brackets;
 use crate::leaving::{comma_gone, first_gone, last_gone};
 use jsonc_edit::{EditError, due_between, make_spaces, put_spaces, seen_before};
 use jsonc_nodes::{children_from, is_newline, is_whitespace};
@@ -26,40 +27,6 @@ fn holds_values<A: Allocator>(kind: &Kind<A>) -> bool
     ensures { result ≡ holds_values (content_of kind.now) }
 {
     matches!(kind, Kind::Array(_) | Kind::Object(_))
-}
-
-// Whether a node is there and is a token.
-fn is_token<A: Allocator>(tree: &Tree<A>, found: Option<usize>) -> bool
-    requires { IsThere tree.now.nodes found }
-    ensures { result ≡ is_token_at tree.now.nodes found }
-{
-    match found {
-        Some(node) => matches!(tree.kind(node), Kind::Token(_)),
-        None => false,
-    }
-}
-
-// Whether a node has two children.
-fn has_two<A: Allocator>(tree: &Tree<A>, container: usize) -> bool
-    requires { container < length tree.now.nodes }
-    ensures { result ≡ has_two (children_at tree.now.nodes container) }
-{
-    let _ = tree.len();
-    match tree.first_child(container) {
-        Some(first) => tree.next_sibling(first).is_some(),
-        None => false,
-    }
-}
-
-// Whether a container's first and last child are tokens, and two.
-fn has_brackets<A: Allocator>(tree: &Tree<A>, container: usize) -> bool
-    requires { container < length tree.now.nodes }
-    ensures { result ≡ has_brackets tree.now.nodes container }
-{
-    let _ = tree.len();
-    has_two(tree, container)
-        && is_token(tree, tree.first_child(container))
-        && is_token(tree, tree.last_child(container))
 }
 
 // The comma that leaves from before an element of a container.

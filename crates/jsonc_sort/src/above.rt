@@ -8,10 +8,11 @@ ghost use Rattle.jsonc_sort.specs.Above.{above, all_comments_above, comments_abo
 ghost use Rattle.jsonc_sort.specs.Leads.{comments, is_comment_at};
 ghost use Rattle.jsonc_sort.specs.Parts.{is_newline_at};
 
-use crate::kinds::{has_brackets, is_comment};
+use crate::kinds::is_comment;
 use crate::leads::{before_newline, comments, has_blank_line};
 use crate::parts::{has_newline, up_to_spaces};
 use crate::places::entries;
+use jsonc_multiline::has_brackets;
 use jsonc_nodes::children;
 use jsonc_tree::Tree;
 use std::alloc::{AllocError, Allocator};

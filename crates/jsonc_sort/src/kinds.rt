@@ -1,14 +1,12 @@
-//! Kinds of nodes that a sort tells apart, and the brackets of a container.
+//! Kinds of nodes that a sort tells apart.
 
 ghost use Rattle.std.specs.Prelude.{◌≡◌, ◌<◌, length};
 ghost use Rattle.jsonc_tree.specs.Content.{Content};
 ghost use Rattle.jsonc_tree.specs.Stored.{content_of};
-ghost use Rattle.jsonc_tree.specs.Tree.{children_at, content_at};
+ghost use Rattle.jsonc_tree.specs.Tree.{content_at};
 ghost use Rattle.jsonc_build.specs.Lines.{is_line_comment};
 ghost use Rattle.jsonc_lines.specs.Kinds.{is_comma};
 ghost use Rattle.jsonc_nodes.specs.Kinds.{is_beside, is_comment};
-ghost use Rattle.jsonc_nodes.specs.Siblings.{IsThere};
-ghost use Rattle.jsonc_multiline.specs.Below.remove.Removed.{has_brackets, has_two, is_token_at};
 
 use jsonc_tree::{Kind, Tree};
 use std::alloc::Allocator;
@@ -91,38 +89,4 @@ pub(crate) fn is_line_comment<A: Allocator>(tree: &Tree<A>, node: usize) -> bool
         return false;
     }
     is_line_comment_kind(tree.kind(node))
-}
-
-// Whether a node is there and is a token.
-fn is_token<A: Allocator>(tree: &Tree<A>, found: Option<usize>) -> bool
-    requires { IsThere tree.now.nodes found }
-    ensures { result ≡ is_token_at tree.now.nodes found }
-{
-    match found {
-        Some(node) => matches!(tree.kind(node), Kind::Token(_)),
-        None => false,
-    }
-}
-
-// Whether a node has two children.
-fn has_two<A: Allocator>(tree: &Tree<A>, container: usize) -> bool
-    requires { container < length tree.now.nodes }
-    ensures { result ≡ has_two (children_at tree.now.nodes container) }
-{
-    let _ = tree.len();
-    match tree.first_child(container) {
-        Some(first) => tree.next_sibling(first).is_some(),
-        None => false,
-    }
-}
-
-/// Whether a container's first and last child are tokens, and two.
-pub(crate) fn has_brackets<A: Allocator>(tree: &Tree<A>, container: usize) -> bool
-    requires { container < length tree.now.nodes }
-    ensures { result ≡ has_brackets tree.now.nodes container }
-{
-    let _ = tree.len();
-    has_two(tree, container)
-        && is_token(tree, tree.first_child(container))
-        && is_token(tree, tree.last_child(container))
 }

@@ -9,10 +9,10 @@ ghost use Rattle.jsonc_lines.specs.Kinds.{holds_values};
 ghost use Rattle.jsonc_sort.specs.Rearranged.{headers_of, IsOrderIn, moves, PlansSort, Rearranged};
 ghost use Rattle.jsonc_sort.specs.Sorting.{is_unchanged};
 
-use crate::kinds::has_brackets;
 use crate::places::entries;
 use crate::plan::plan_row;
 use jsonc_lines::newline_kind_at;
+use jsonc_multiline::has_brackets;
 use jsonc_nodes::children;
 use jsonc_tree::Tree;
 use std::alloc::{AllocError, Allocator};

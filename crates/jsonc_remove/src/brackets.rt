@@ -1,12 +1,10 @@
-//! The brackets of a container, and whether a line ends between them.
+//! The brackets of a container.
 
 ghost use Rattle.std.specs.Prelude.{◌≡◌, ◌<◌, length};
 ghost use Rattle.jsonc_tree.specs.Tree.{children_at};
 ghost use Rattle.jsonc_nodes.specs.Siblings.{IsThere};
 ghost use Rattle.jsonc_remove.specs.Removed.{has_brackets, has_two, is_token_at};
-ghost use Rattle.jsonc_multiline.specs.Multiline.{has_line_end};
 
-use jsonc_nodes::{children_from, is_newline};
 use jsonc_tree::{Kind, Tree};
 use std::alloc::Allocator;
 
@@ -33,8 +31,8 @@ fn has_two<A: Allocator>(tree: &Tree<A>, container: usize) -> bool
     }
 }
 
-// Whether a container's first and last child are tokens, and two.
-pub(crate) fn has_brackets<A: Allocator>(tree: &Tree<A>, container: usize) -> bool
+/// Whether a container's first and last child are tokens, and two.
+pub fn has_brackets<A: Allocator>(tree: &Tree<A>, container: usize) -> bool
     requires { container < length tree.now.nodes }
     ensures { result ≡ has_brackets tree.now.nodes container }
 {
@@ -42,12 +40,4 @@ pub(crate) fn has_brackets<A: Allocator>(tree: &Tree<A>, container: usize) -> bo
     has_two(tree, container)
         && is_token(tree, tree.first_child(container))
         && is_token(tree, tree.last_child(container))
-}
-
-// Whether a line ends among the children of a container.
-pub(crate) fn has_line_end<A: Allocator>(tree: &Tree<A>, container: usize) -> bool
-    requires { container < length tree.now.nodes }
-    ensures { result ≡ has_line_end tree.now.nodes container }
-{
-    children_from(tree, container, 0).any(|child| is_newline(tree, child))
 }

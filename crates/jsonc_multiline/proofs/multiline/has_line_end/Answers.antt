@@ -3,7 +3,7 @@ use Rattle.std.proofs.lemmas.Iterator.Search.{any_from_yields_List}
 use Rattle.jsonc_tree.specs.Tree.{children_at}
 use Rattle.jsonc_nodes.specs.Kinds.{is_newline_at}
 use Rattle.jsonc_nodes.proofs.Rows.{row_yields}
-use Rattle.jsonc_multiline.proofs.brackets.has_line_end.Goals as goal
+use Rattle.jsonc_multiline.proofs.multiline.has_line_end.Goals as goal
 
 pub returns : goal.returns
 returns g c =
