@@ -11,4 +11,4 @@ mod lines;
 mod values;
 
 pub use layout::Layout;
-pub use values::{lay_out, lay_out_property};
+pub use values::{holds_filled, is_filled, lay_out, lay_out_property};

@@ -64,8 +64,8 @@ fn begin_property<A: Allocator + Copy>(
     begin_node(tree, Kind::Property(Ends::none()), Kind::String(literal))
 }
 
-// Whether an array or an object has something in it.
-fn is_filled<A: Allocator>(value: &CstInputValue<A>) -> bool
+/// Whether an array or an object has something in it.
+pub fn is_filled<A: Allocator>(value: &CstInputValue<A>) -> bool
     ensures { result ≡ is_filled (plain value.now) }
 {
     match value {
@@ -75,8 +75,8 @@ fn is_filled<A: Allocator>(value: &CstInputValue<A>) -> bool
     }
 }
 
-// Whether one of the elements is an array or an object with something in it.
-fn holds_filled<A: Allocator>(elements: &[CstInputValue<A>]) -> bool
+/// Whether one of the elements is an array or an object with something in it.
+pub fn holds_filled<A: Allocator>(elements: &[CstInputValue<A>]) -> bool
     ensures { result ≡ holds_filled (items_plain elements.now) }
 {
     for element in elements {

@@ -1,37 +1,17 @@
 //! The lines of a row, and the indents that they begin with.
 
-ghost use Rattle.std.specs.Prelude.{◌≡◌, ◌≤◌, ◌<◌, ◌+◌, [], IfOk, length, option_map, slice_index, string_bytes, if◌then◌else◌};
+ghost use Rattle.std.specs.Prelude.{◌≡◌, ◌≤◌, ◌<◌, ◌+◌, [], IfOk, length, slice_index, string_bytes, if◌then◌else◌};
 ghost use Rattle.std.specs.List.{list_all, list_any};
-ghost use Rattle.jsonc_tree.specs.Stored.{content_of};
 ghost use Rattle.jsonc_nodes.specs.Kinds.{is_newline_at, is_trivia_at, is_whitespace_at};
 ghost use Rattle.jsonc_lines.specs.IndentViews.{text_in};
-ghost use Rattle.jsonc_lines.specs.Kinds.{blank_at, blank_of};
+ghost use Rattle.jsonc_lines.specs.Kinds.{blank_at};
 ghost use Rattle.jsonc_lines.specs.Lines.{blanks};
 ghost use Rattle.jsonc_insert.specs.Settings.{begins_blank, first_indent_past, indent_of_line, single_in};
 
+use jsonc_lines::blank_at;
 use jsonc_nodes::{is_newline, is_trivia, is_whitespace};
-use jsonc_tree::{Kind, Tree};
+use jsonc_tree::Tree;
 use std::alloc::{AllocError, Allocator};
-
-// The text of a node that is whitespace.
-fn blank_of<A: Allocator>(kind: &Kind<A>) -> Option<&str>
-    ensures { option_map (λ s. s.now) result ≡ blank_of (content_of kind.now) }
-{
-    match kind {
-        Kind::Whitespace(_) | Kind::WhitespacePart(_) => kind.text(),
-        _ => None,
-    }
-}
-
-// The text of a node that is whitespace. The number may be any: one that names no node has none.
-fn blank_at<A: Allocator>(tree: &Tree<A>, node: usize) -> Option<&str>
-    ensures { option_map (λ s. s.now) result ≡ blank_at tree.now.nodes node }
-{
-    if node >= tree.len() {
-        return None;
-    }
-    blank_of(tree.kind(node))
-}
 
 // The whitespace that a row begins with, joined.
 fn joined_blanks<A: Allocator>(

@@ -2,7 +2,7 @@
 //! when blank lines have left.
 
 ghost use Rattle.std.specs.Prelude.{◌≡◌, ◌<◌, All, IfOk, length, string_bytes};
-ghost use Rattle.jsonc_input.specs.Views.{items_plain, plain};
+ghost use Rattle.jsonc_input.specs.Views.{plain};
 ghost use Rattle.jsonc_nodes.specs.Siblings.{IsThere};
 ghost use Rattle.jsonc_lines.specs.Breadth.{is_in_document};
 ghost use Rattle.jsonc_lines.specs.IndentViews.{texts_of};
@@ -13,36 +13,15 @@ ghost use Rattle.jsonc_insert.specs.Settings.{layout_in, newline_kind_with, on_s
 
 use crate::lines::{has_newline, has_whitespace, single_in};
 use crate::plan::{last_element, nth_element};
-use crate::walk::{Sought, first_sought, last_child_element};
-use jsonc_from_input::Layout;
+use crate::walk::{Sought, first_sought};
+use jsonc_from_input::{Layout, holds_filled, is_filled};
 use jsonc_input::CstInputValue;
-use jsonc_lines::{Indents, indent_text, indents_at, trailing_comma};
-use jsonc_nodes::{first_element_from, root_node};
+use jsonc_lines::{
+    Indents, indent_text, indents_at, is_in_document, last_child_element, trailing_comma,
+};
+use jsonc_nodes::first_element_from;
 use jsonc_tree::{CstNewlineKind, Kind, Tree};
 use std::alloc::{AllocError, Allocator};
-
-// Whether an array or an object has something in it.
-fn is_filled<A: Allocator>(value: &CstInputValue<A>) -> bool
-    ensures { result ≡ is_filled (plain value.now) }
-{
-    match value {
-        CstInputValue::Array(elements) => !elements.is_empty(),
-        CstInputValue::Object(properties) => !properties.is_empty(),
-        _ => false,
-    }
-}
-
-// Whether one of the elements is an array or an object with something in it.
-fn holds_filled<A: Allocator>(elements: &[CstInputValue<A>]) -> bool
-    ensures { result ≡ holds_filled (items_plain elements.now) }
-{
-    for element in elements {
-        if is_filled(element) {
-            return true;
-        }
-    }
-    false
-}
 
 // Whether a value is laid out on several lines.
 fn is_spread<A: Allocator>(value: &CstInputValue<A>) -> bool
@@ -64,17 +43,6 @@ pub(crate) fn on_several_lines<A: Allocator>(
     ensures { result ≡ on_several_lines tree.now.nodes row.now (plain value.now) }
 {
     has_newline(tree, row) || is_spread(value)
-}
-
-/// Whether a node is the root or stands below it.
-pub fn is_in_document<A: Allocator>(tree: &Tree<A>, node: usize) -> bool
-    requires { node < length tree.now.nodes }
-    ensures { result ≡ is_in_document tree.now.nodes node }
-{
-    if node == 0 {
-        return true;
-    }
-    root_node(tree, node).is_some()
 }
 
 /// How lines end beside a row that a container is to have.

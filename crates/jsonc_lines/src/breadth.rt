@@ -1,5 +1,5 @@
 //! What a walk over the levels of a document tells of its layout.
-ghost use Rattle.std.specs.Prelude.{◌≡◌, ◌<◌, All, IfOk, IfSome, length, reverse};
+ghost use Rattle.std.specs.Prelude.{◌≡◌, ◌<◌, All, IfOk, IfSome, length};
 ghost use Rattle.std.specs.List.{find};
 ghost use Rattle.jsonc_tree.specs.Tree.{children_at};
 ghost use Rattle.jsonc_lines.specs.Breadth.{first_sought, has_whitespace, is_sought, is_spaced};
@@ -27,8 +27,8 @@ fn has_whitespace<A: Allocator>(tree: &Tree<A>, node: usize) -> bool
     children_from(tree, node, 0).any(|child| is_whitespace(tree, child))
 }
 
-// The last element among the children of a node.
-fn last_element<A: Allocator>(tree: &Tree<A>, node: usize) -> Option<usize>
+/// The last element among the children of a node.
+pub fn last_child_element<A: Allocator>(tree: &Tree<A>, node: usize) -> Option<usize>
     requires { node < length tree.now.nodes }
     ensures last { result ≡ last_element tree.now.nodes (children_at tree.now.nodes node) }
     ensures there { IfSome result (λ m. m < length tree.now.nodes) }
@@ -38,8 +38,8 @@ fn last_element<A: Allocator>(tree: &Tree<A>, node: usize) -> Option<usize>
         .find(|child| is_element(tree, *child))
 }
 
-// Whether a node is an array or object with whitespace and an element.
-fn is_spaced<A: Allocator>(tree: &Tree<A>, node: usize) -> bool
+/// Whether a node is an array or object with whitespace and an element.
+pub fn is_spaced<A: Allocator>(tree: &Tree<A>, node: usize) -> bool
     requires { node < length tree.now.nodes }
     ensures { result ≡ is_spaced tree.now.nodes node }
 {
@@ -49,7 +49,7 @@ fn is_spaced<A: Allocator>(tree: &Tree<A>, node: usize) -> bool
     if !has_whitespace(tree, node) {
         return false;
     }
-    last_element(tree, node).is_some()
+    last_child_element(tree, node).is_some()
 }
 
 // Whether a node is what is looked for.
@@ -77,8 +77,8 @@ fn first_in<A: Allocator>(tree: &Tree<A>, sought: Sought, level: &[usize]) -> Op
     None
 }
 
-// The children of these nodes, in order.
-fn level_below<A: Allocator>(
+/// The children of these nodes, in order.
+pub fn level_below<A: Allocator>(
     alloc: A,
     tree: &Tree<A>,
     level: &[usize],
@@ -135,8 +135,8 @@ pub fn newline_kind<A: Allocator + Copy>(
     }
 }
 
-// Whether a node is the root or stands below it.
-fn is_in_document<A: Allocator>(tree: &Tree<A>, node: usize) -> bool
+/// Whether a node is the root or stands below it.
+pub fn is_in_document<A: Allocator>(tree: &Tree<A>, node: usize) -> bool
     requires { node < length tree.now.nodes }
     ensures { result ≡ is_in_document tree.now.nodes node }
 {
@@ -177,7 +177,7 @@ pub fn uses_trailing_commas<A: Allocator + Copy>(
     let Some(container) = first_sought(alloc, tree, Sought::SpacedElements, node)? else {
         return Ok(false);
     };
-    let Some(last) = last_element(tree, container) else {
+    let Some(last) = last_child_element(tree, container) else {
         return Ok(false);
     };
     Ok(trailing_comma(tree, last).is_some())

@@ -21,8 +21,8 @@ pub struct Indents<A: Allocator> {
     pub single: String<A>,
 }
 
-// Whether a node is the child of an object property.
-fn stands_in_property<A: Allocator>(tree: &Tree<A>, node: usize) -> bool
+/// Whether a node is the child of an object property.
+pub fn stands_in_property<A: Allocator>(tree: &Tree<A>, node: usize) -> bool
     requires { node < length tree.now.nodes }
     ensures { result ≡ is_some_property tree.now.nodes (parent_at tree.now.nodes node) }
 {
@@ -83,8 +83,8 @@ fn without_front<'a>(outer: &str, inner: &'a str) -> Option<&'a str>
     inner.strip_prefix(outer)
 }
 
-// What the inner indent has more than the outer one, if both are there and it begins with that.
-fn more_of<'a, A: Allocator>(
+/// What the inner indent has more than the outer one, if both are there and it begins with that.
+pub fn more_of<'a, A: Allocator>(
     inner: &'a Option<String<A>>,
     outer: &Option<String<A>>,
 ) -> Option<&'a str>
@@ -96,8 +96,11 @@ fn more_of<'a, A: Allocator>(
     }
 }
 
-// What the next indent outward is held against: this one, where none was held.
-fn held_after<A: Allocator>(held: Option<String<A>>, outer: Option<String<A>>) -> Option<String<A>>
+/// What the next indent outward is held against: this one, where none was held.
+pub fn held_after<A: Allocator>(
+    held: Option<String<A>>,
+    outer: Option<String<A>>,
+) -> Option<String<A>>
     ensures { text_in result ≡ held_after (text_in held) (text_in outer) }
 {
     match held {
@@ -106,8 +109,8 @@ fn held_after<A: Allocator>(held: Option<String<A>>, outer: Option<String<A>>) -
     }
 }
 
-// The text that is held, or none.
-fn held_text<A: Allocator>(held: &Option<String<A>>) -> &str
+/// The text that is held, or none.
+pub fn held_text<A: Allocator>(held: &Option<String<A>>) -> &str
     ensures { result.now ≡ unwrap_or (text_in held.now) [] }
 {
     match held {
@@ -132,8 +135,8 @@ fn followed_by<A: Allocator>(
     Ok(text)
 }
 
-// The indents so many levels further in than a line with this indent.
-fn levels_in<A: Allocator + Copy>(
+/// The indents so many levels further in than a line with this indent.
+pub fn levels_in<A: Allocator + Copy>(
     alloc: A,
     outer: &str,
     count: usize,

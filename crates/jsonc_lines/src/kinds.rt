@@ -16,8 +16,8 @@ fn blank_of<A: Allocator>(kind: &Kind<A>) -> Option<&str>
     }
 }
 
-// The text of a node that is whitespace. The number may be any: one that names no node has none.
-pub(crate) fn blank_at<A: Allocator>(tree: &Tree<A>, node: usize) -> Option<&str>
+/// The text of a node that is whitespace. The number may be any: one that names no node has none.
+pub fn blank_at<A: Allocator>(tree: &Tree<A>, node: usize) -> Option<&str>
     ensures { option_map (λ s. s.now) result ≡ blank_at tree.now.nodes node }
 {
     if node >= tree.len() {
@@ -26,8 +26,8 @@ pub(crate) fn blank_at<A: Allocator>(tree: &Tree<A>, node: usize) -> Option<&str
     blank_of(tree.kind(node))
 }
 
-// Whether a node is a comma.
-pub(crate) fn is_comma<A: Allocator>(kind: &Kind<A>) -> bool
+/// Whether a node is a comma.
+pub fn is_comma<A: Allocator>(kind: &Kind<A>) -> bool
     ensures { result ≡ is_comma (content_of kind.now) }
 {
     match kind {
@@ -36,8 +36,8 @@ pub(crate) fn is_comma<A: Allocator>(kind: &Kind<A>) -> bool
     }
 }
 
-// Whether a node is an array or an object.
-pub(crate) fn holds_values<A: Allocator>(kind: &Kind<A>) -> bool
+/// Whether a node is an array or an object.
+pub fn holds_values<A: Allocator>(kind: &Kind<A>) -> bool
     ensures { result ≡ holds_values (content_of kind.now) }
 {
     match kind {

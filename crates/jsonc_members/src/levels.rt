@@ -1,16 +1,18 @@
 //! The indents of what stands in an object that is to have a row.
 
-ghost use Rattle.std.specs.Prelude.{◌≡◌, ◌≤◌, ◌<◌, ◌++◌, [], All, IfOk, Some, length};
-ghost use Rattle.std.specs.Prelude.{option_map, string_bytes, unwrap_or};
-ghost use Rattle.jsonc_tree.specs.Tree.{parent_at};
-ghost use Rattle.jsonc_lines.specs.Indents.{held_after, is_some_property, levels_in, more_of, repeated, without_front};
+ghost use Rattle.std.specs.Prelude.{◌≡◌, ◌≤◌, ◌<◌, All, IfOk, Some, length};
+ghost use Rattle.std.specs.Prelude.{option_map, string_bytes};
+ghost use Rattle.jsonc_lines.specs.Indents.{held_after, levels_in, more_of};
 ghost use Rattle.jsonc_lines.specs.IndentViews.{text_in, texts_of};
 ghost use Rattle.jsonc_members.specs.Told.{document_indent, indent_in, indents_beside, last_line, levels_inside};
 ghost use Rattle.jsonc_members.specs.Told.{single_inside, told_inside};
 
-use jsonc_insert::{first_indent, indent_of_line, is_in_document, place_in};
-use jsonc_lines::{Indents, indent_text};
-use jsonc_nodes::{children, first_element_from, is_newline, is_property_kind};
+use jsonc_insert::{first_indent, indent_of_line, place_in};
+use jsonc_lines::{
+    Indents, held_after, held_text, indent_text, is_in_document, levels_in, more_of,
+    stands_in_property,
+};
+use jsonc_nodes::{children, first_element_from, is_newline};
 use jsonc_tree::Tree;
 use std::alloc::{AllocError, Allocator};
 
@@ -39,18 +41,6 @@ fn indent_in<A: Allocator + Copy>(
     indent_of_line(alloc, tree, &row[place - count..place])
 }
 
-// Whether a node is the child of an object property.
-fn stands_in_property<A: Allocator>(tree: &Tree<A>, node: usize) -> bool
-    requires { node < length tree.now.nodes }
-    ensures { result ≡ is_some_property tree.now.nodes (parent_at tree.now.nodes node) }
-{
-    let _ = tree.len();
-    match tree.parent(node) {
-        Some(parent) => is_property_kind(tree.kind(parent)),
-        None => false,
-    }
-}
-
 // The levels of indent above what stands in an object, nearest first.
 fn levels_inside<A: Allocator>(
     alloc: A,
@@ -75,76 +65,6 @@ fn levels_inside<A: Allocator>(
         levels.push(at)?;
     }
     Ok(levels)
-}
-
-// The text without another at its front, if it begins with that.
-fn without_front<'a>(outer: &str, inner: &'a str) -> Option<&'a str>
-    ensures { option_map (λ s. s.now) result ≡ without_front outer.now inner.now }
-{
-    inner.strip_prefix(outer)
-}
-
-// What the inner indent has more than the outer one, if both are there and it begins with that.
-fn more_of<'a, A: Allocator>(
-    inner: &'a Option<String<A>>,
-    outer: &Option<String<A>>,
-) -> Option<&'a str>
-    ensures { option_map (λ s. s.now) result ≡ more_of (text_in inner.now) (text_in outer.now) }
-{
-    match (inner, outer) {
-        (Some(inner), Some(outer)) => without_front(outer.as_str(), inner.as_str()),
-        _ => None,
-    }
-}
-
-// What the next indent outward is held against: this one, where none was held.
-fn held_after<A: Allocator>(held: Option<String<A>>, outer: Option<String<A>>) -> Option<String<A>>
-    ensures { text_in result ≡ held_after (text_in held) (text_in outer) }
-{
-    match held {
-        None => outer,
-        Some(_) => None,
-    }
-}
-
-// The text that is held, or none.
-fn held_text<A: Allocator>(held: &Option<String<A>>) -> &str
-    ensures { result.now ≡ unwrap_or (text_in held.now) [] }
-{
-    match held {
-        Some(held) => held.as_str(),
-        None => "",
-    }
-}
-
-// A text, and then another so many times.
-fn followed_by<A: Allocator>(
-    alloc: A,
-    outer: &str,
-    count: usize,
-    single: &str,
-) -> Result<String<A>, AllocError>
-    ensures { IfOk result (λ s. string_bytes s ≡ outer.now ++ repeated count single.now) }
-{
-    let mut text = String::from_str(alloc, outer)?;
-    for _time in 0..count {
-        text.push_str(single)?;
-    }
-    Ok(text)
-}
-
-// The indents so many levels further in than a line with this indent.
-fn levels_in<A: Allocator + Copy>(
-    alloc: A,
-    outer: &str,
-    count: usize,
-    single: &str,
-) -> Result<Indents<A>, AllocError>
-    ensures { IfOk result (λ i. texts_of i ≡ levels_in outer.now count single.now) }
-{
-    let current = followed_by(alloc, outer, count, single)?;
-    let single = String::from_str(alloc, single)?;
-    Ok(Indents { current, single })
 }
 
 // The indents that two lines next to one another tell, of a node of the row and the levels above it.

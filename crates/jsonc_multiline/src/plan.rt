@@ -12,19 +12,10 @@ ghost use Rattle.jsonc_multiline.specs.Plans.{begins_after, Gains, PlansLines, P
 ghost use Rattle.jsonc_multiline.specs.Slots.{comes};
 
 use crate::lines::Lines;
+use jsonc_lines::is_comma;
 use jsonc_nodes::{children, is_whitespace};
 use jsonc_tree::{Kind, Tree};
 use std::alloc::{AllocError, Allocator};
-
-// Whether a node is a comma.
-fn is_comma<A: Allocator>(kind: &Kind<A>) -> bool
-    ensures { result ≡ is_comma (content_of kind.now) }
-{
-    match kind {
-        Kind::Token(c) => c.get() == ',',
-        _ => false,
-    }
-}
 
 // Whether a text is empty.
 fn is_empty(text: &str) -> bool

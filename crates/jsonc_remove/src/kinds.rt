@@ -5,7 +5,6 @@ ghost use Rattle.jsonc_tree.specs.Stored.{content_of};
 ghost use Rattle.jsonc_nodes.specs.Comments.{after_beside_at};
 ghost use Rattle.jsonc_nodes.specs.Kinds.{is_beside, is_beside_at};
 ghost use Rattle.jsonc_nodes.specs.Siblings.{IsThere};
-ghost use Rattle.jsonc_lines.specs.Kinds.{is_comma};
 
 use jsonc_nodes::next_siblings;
 use jsonc_tree::{Kind, Tree};
@@ -26,16 +25,6 @@ pub(crate) fn is_beside<A: Allocator>(tree: &Tree<A>, node: usize) -> bool
     ensures { result ≡ is_beside_at tree.now.nodes node }
 {
     is_beside_kind(tree.kind(node))
-}
-
-// Whether a node is a comma.
-pub(crate) fn is_comma<A: Allocator>(kind: &Kind<A>) -> bool
-    ensures { result ≡ is_comma (content_of kind.now) }
-{
-    match kind {
-        Kind::Token(c) => c.get() == ',',
-        _ => false,
-    }
 }
 
 // The nearest sibling after a node that is neither whitespace nor a comment.

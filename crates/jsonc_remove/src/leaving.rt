@@ -6,8 +6,8 @@ ghost use Rattle.jsonc_nodes.specs.Siblings.{IsThere};
 ghost use Rattle.jsonc_remove.specs.Leaving.{begins_other, comma_before, comma_behind, comma_gone, ends_line_at};
 ghost use Rattle.jsonc_remove.specs.Leaving.{first_gone, if_inner, last_gone, last_past, line_end_at, trails};
 
-use crate::kinds::{after_beside, is_beside, is_comma};
-use jsonc_lines::trailing_comma;
+use crate::kinds::{after_beside, is_beside};
+use jsonc_lines::{is_comma, trailing_comma};
 use jsonc_nodes::{is_newline, is_trivia, is_whitespace, previous_siblings};
 use jsonc_tree::Tree;
 use std::alloc::Allocator;

@@ -4,7 +4,6 @@ ghost use Rattle.std.specs.Prelude.{◌≡◌, ◌<◌, ◌≤◌, ◌+◌, [], 
 ghost use Rattle.jsonc_tree.specs.Building.{Keeps};
 ghost use Rattle.jsonc_tree.specs.Changes.{Splices};
 ghost use Rattle.jsonc_tree.specs.OrderedTree.{ordered_tree};
-ghost use Rattle.jsonc_tree.specs.Stored.{content_of};
 ghost use Rattle.jsonc_tree.specs.Tree.{children_at, content_at, is_container_at, parent_at, place_at, IsTree};
 ghost use Rattle.jsonc_nodes.specs.Kinds.{is_property};
 ghost use Rattle.jsonc_nodes.specs.Siblings.{IsThere};
@@ -18,16 +17,10 @@ ghost use Rattle.jsonc_remove.specs.Removed.{IsClosedUp, IsKeptFor, LosesChild, 
 use crate::brackets::has_brackets;
 use crate::leaving::{comma_gone, first_gone, last_gone};
 use jsonc_edit::{EditError, due_between, make_spaces, put_spaces, seen_before};
+use jsonc_lines::holds_values;
 use jsonc_nodes::{children_from, is_newline, is_whitespace};
 use jsonc_tree::{Kind, Tree};
 use std::alloc::Allocator;
-
-// Whether a node is an array or an object.
-fn holds_values<A: Allocator>(kind: &Kind<A>) -> bool
-    ensures { result ≡ holds_values (content_of kind.now) }
-{
-    matches!(kind, Kind::Array(_) | Kind::Object(_))
-}
 
 // The comma that leaves from before an element of a container.
 fn comma_in<A: Allocator>(tree: &Tree<A>, container: usize, node: usize) -> Option<usize>

@@ -3,7 +3,7 @@ use Rattle.jsonc_tree.specs.Tree.{children_at}
 use Rattle.jsonc_nodes.specs.Kinds.{is_element_at}
 use Rattle.jsonc_nodes.proofs.Rows.{find_in}
 use Rattle.jsonc_nodes.proofs.There.{All-reverse, children_there, found_there}
-use Rattle.jsonc_insert.proofs.walk.last_child_element.Goals as goal
+use Rattle.jsonc_lines.proofs.breadth.last_child_element.Goals as goal
 
 pub returns-clause-last : goal.returns-clause-last
 returns-clause-last g c =
