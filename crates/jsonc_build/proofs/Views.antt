@@ -49,3 +49,6 @@ size-element A vs i v h e = let within = at_most (λ x. size-Value A x) vs i v h
 
 pub size-member : (A : Type 0) (ps : List (ObjectProp A)) (i : ℕ) (p : ObjectProp A) → i < length ps → p ≡ get_or ps i p → size-ObjectProp A p ≤ most (λ x. size-ObjectProp A x) ps
 size-member A ps i p h e = let within = at_most (λ x. size-ObjectProp A x) ps i p h in omega (arith, within, ap (λ x. size-ObjectProp A x) e)
+
+pub size-property : (A : Type 0) (p : ObjectProp A) → size-Value A p.value < size-ObjectProp A p
+size-property A p = search (rules, the_lemmas)

@@ -3,6 +3,7 @@ use Rattle.std.specs.Rc.{rc_str_bytes}
 use Rattle.jsonc_tree.specs.Content as content
 use Rattle.jsonc_tree.specs.Stored.{content_of}
 use Rattle.jsonc_tree.specs.Tree.{is_container_at}
+use Rattle.jsonc_text.specs.Text.{Spans}
 use Rattle.jsonc_ast.specs.Located.{range_at, array_at, object_at}
 use Rattle.jsonc_ast.specs.Views.{located, member_of, items_located, members_located}
 use Rattle.jsonc_ast.specs.declared.ast.Object as object_parts
@@ -14,7 +15,7 @@ use Rattle.jsonc_build.specs.Laid.{CanLay, CanLayItems, CanLayMembers, CanLayPro
 use Rattle.jsonc_build.specs.Filling.{IsFillable}
 use Rattle.jsonc_build.proofs.Growing.{grows_append, grows_leaf, container_kept, pushes_same}
 use Rattle.jsonc_build.proofs.Building.{elements_start, elements_at, elements_more, elements_end, items_none_left, properties_start, properties_at, properties_more, properties_end, members_none_left, property_built, on_ok, pushed_there, pushed_container, still_there, bracketed_into, items_within, members_within, items_inside, members_inside, laid_as, can_lay_as}
-use Rattle.jsonc_build.proofs.Views.{view-Array, view-Object, view-StringLit, view-NumberLit, view-BooleanLit, view-NullKeyword, view-property, size-Array, size-Object, size-element, size-member}
+use Rattle.jsonc_build.proofs.Views.{view-Array, view-Object, view-StringLit, view-NumberLit, view-BooleanLit, view-NullKeyword, view-property, size-Array, size-Object, size-element, size-member, size-property}
 use Rattle.jsonc_build.proofs.Parts.{part_of_same}
 use Rattle.jsonc_build.proofs.builder.+build.Goals as goal
 
@@ -22,6 +23,11 @@ pub build_elements-loop-element-init : goal.build_elements-loop-element-init
 build_elements-loop-element-init g t c =
     let lies : CanLayItems c.args.text.now c.args.range.start (items_located c.args.elements.now) c.args.range.end = assumption c.requires in
     elements_start c.args.tree.now.nodes c.args.container c.args.text.now c.args.range.start c.args.range.end (items_located c.args.elements.now) lies
+
+pub build_elements-fill_between-requires-clause-there : goal.build_elements-fill_between-requires-clause-there
+build_elements-fill_between-requires-clause-there g t c =
+    let there : c.args.container < length c.args.tree.now.nodes = assumption c.requires in
+    omega (arith, there, c.loop-element.invariant.grows.len)
 
 pub build_elements-fill_between-requires-clause-container : goal.build_elements-fill_between-requires-clause-container
 build_elements-fill_between-requires-clause-container g t c =
@@ -55,11 +61,20 @@ build_elements-loop-element-preserved g t c =
     let there : c.args.container < length c.args.tree.now.nodes = assumption c.requires in
     elements_more there c.range-range.ensures so_far filled.1 filled.2 built.2 built.3
 
+pub build_elements-fill_between-requires-2-clause-there : goal.build_elements-fill_between-requires-2-clause-there
+build_elements-fill_between-requires-2-clause-there g t c =
+    let there : c.args.container < length c.args.tree.now.nodes = assumption c.requires in
+    omega (arith, there, c.loop-element.invariant.grows.len)
+
 pub build_elements-fill_between-requires-2-clause-container : goal.build_elements-fill_between-requires-2-clause-container
 build_elements-fill_between-requires-2-clause-container g t c =
     let there : c.args.container < length c.args.tree.now.nodes = assumption c.requires in
     let container : IsTrue (is_container_at c.args.tree.now.nodes c.args.container) = assumption c.requires in
     container_kept there container c.loop-element.invariant.grows
+
+pub build_elements-fill_between-requires-2-clause-fillable : goal.build_elements-fill_between-requires-2-clause-fillable
+build_elements-fill_between-requires-2-clause-fillable g t c =
+    subst (λ left. CanLayItems c.args.text.now c.loop-element.from left c.args.range.end) (items_none_left c.args.elements.now c.loop-element.element-index c.loop-element-test.false) c.loop-element.invariant.lies
 
 pub build_elements-returns : goal.build_elements-returns
 build_elements-returns g t c =
@@ -73,6 +88,11 @@ build_properties-loop-property-init g t c =
     let lies : CanLayMembers c.args.text.now c.args.range.start (members_located c.args.properties.now) c.args.range.end = assumption c.requires in
     properties_start c.args.tree.now.nodes c.args.container c.args.text.now c.args.range.start c.args.range.end (members_located c.args.properties.now) lies
 
+pub build_properties-fill_between-requires-clause-there : goal.build_properties-fill_between-requires-clause-there
+build_properties-fill_between-requires-clause-there g t c =
+    let there : c.args.container < length c.args.tree.now.nodes = assumption c.requires in
+    omega (arith, there, c.loop-property.invariant.grows.len)
+
 pub build_properties-fill_between-requires-clause-container : goal.build_properties-fill_between-requires-clause-container
 build_properties-fill_between-requires-clause-container g t c =
     let there : c.args.container < length c.args.tree.now.nodes = assumption c.requires in
@@ -83,6 +103,11 @@ pub build_properties-fill_between-requires-clause-fillable : goal.build_properti
 build_properties-fill_between-requires-clause-fillable g t c =
     let so_far = properties_at c.args.properties.now c.loop-property.property-index c.property-item.result c.loop-property-test.true c.property-item.is c.loop-property.invariant in
     subst (λ r. IsFillable c.args.text.now c.loop-property.from r.start) (sym c.range-range.ensures) so_far.lies.0
+
+pub build_properties-push_child-requires-clause-there : goal.build_properties-push_child-requires-clause-there
+build_properties-push_child-requires-clause-there g t c =
+    let there : c.args.container < length c.args.tree.now.nodes = assumption c.requires in
+    omega (arith, there, c.loop-property.invariant.grows.len, c.in_ok-fill_between.ensures.1.len)
 
 pub build_properties-push_child-requires-clause-container : goal.build_properties-push_child-requires-clause-container
 build_properties-push_child-requires-clause-container g t c =
@@ -111,11 +136,20 @@ build_properties-loop-property-preserved g t c =
     properties_more there c.range-range.ensures so_far filled.1 filled.2 node.pushes
     (subst (λ n. Grows c.push_child.new.self.nodes c.build_property.new.tree.nodes n built.0) node.number built.1) built.2
 
+pub build_properties-fill_between-requires-2-clause-there : goal.build_properties-fill_between-requires-2-clause-there
+build_properties-fill_between-requires-2-clause-there g t c =
+    let there : c.args.container < length c.args.tree.now.nodes = assumption c.requires in
+    omega (arith, there, c.loop-property.invariant.grows.len)
+
 pub build_properties-fill_between-requires-2-clause-container : goal.build_properties-fill_between-requires-2-clause-container
 build_properties-fill_between-requires-2-clause-container g t c =
     let there : c.args.container < length c.args.tree.now.nodes = assumption c.requires in
     let container : IsTrue (is_container_at c.args.tree.now.nodes c.args.container) = assumption c.requires in
     container_kept there container c.loop-property.invariant.grows
+
+pub build_properties-fill_between-requires-2-clause-fillable : goal.build_properties-fill_between-requires-2-clause-fillable
+build_properties-fill_between-requires-2-clause-fillable g t c =
+    subst (λ left. CanLayMembers c.args.text.now c.loop-property.from left c.args.range.end) (members_none_left c.args.properties.now c.loop-property.property-index c.loop-property-test.false) c.loop-property.invariant.lies
 
 pub build_properties-returns : goal.build_properties-returns
 build_properties-returns g t c =
@@ -123,6 +157,42 @@ build_properties-returns g t c =
     on_ok c.fill_between-2.result
     (λ filled. properties_end there (members_none_left c.args.properties.now c.loop-property.property-index c.loop-property-test.false) c.loop-property.invariant filled.1 filled.2)
     c.fill_between-2.ensures
+
+pub build_property-build_name-requires-clause-spans : goal.build_property-build_name-requires-clause-spans
+build_property-build_name-requires-clause-spans g t c =
+    let lies : CanLayProperty c.args.text.now (member_of c.args.property.now).name (member_of c.args.property.now).value = assumption c.requires in
+    subst (λ r. Spans c.args.text.now r.start r.end) (sym (c.range-name.ensures ∙ ap (λ m. m.name.range) (sym (view-property c.args.property.now)))) lies.0
+
+pub build_property-fill_between-requires-clause-there : goal.build_property-fill_between-requires-clause-there
+build_property-fill_between-requires-clause-there g t c =
+    let there : c.args.container < length c.args.tree.now.nodes = assumption c.requires in
+    omega (arith, there, c.in_ok-build_name.ensures.1.len)
+
+pub build_property-fill_between-requires-clause-container : goal.build_property-fill_between-requires-clause-container
+build_property-fill_between-requires-clause-container g t c =
+    let there : c.args.container < length c.args.tree.now.nodes = assumption c.requires in
+    let container : IsTrue (is_container_at c.args.tree.now.nodes c.args.container) = assumption c.requires in
+    container_kept there container c.in_ok-build_name.ensures.1
+
+pub build_property-fill_between-requires-clause-fillable : goal.build_property-fill_between-requires-clause-fillable
+build_property-fill_between-requires-clause-fillable g t c =
+    let lies : CanLayProperty c.args.text.now (member_of c.args.property.now).name (member_of c.args.property.now).value = assumption c.requires in
+    subst (λ r. IsFillable c.args.text.now r.end c.range-value.result.start) (sym (c.range-name.ensures ∙ ap (λ m. m.name.range) (sym (view-property c.args.property.now))))
+    (subst (λ r. IsFillable c.args.text.now (member_of c.args.property.now).name.range.end r.start) (sym (c.range-value.ensures ∙ ap (λ m. range_at m.value) (sym (view-property c.args.property.now)))) lies.1)
+
+pub build_property-build_value-requires : goal.build_property-build_value-requires
+build_property-build_value-requires g t c κs within =
+    let whole : rc_str_bytes c.args.whole.now ≡ c.args.text.now = assumption c.requires in
+    let there : c.args.container < length c.args.tree.now.nodes = assumption c.requires in
+    let container : IsTrue (is_container_at c.args.tree.now.nodes c.args.container) = assumption c.requires in
+    let lies : CanLayProperty c.args.text.now (member_of c.args.property.now).name (member_of c.args.property.now).value = assumption c.requires in
+    let named = c.in_ok-build_name.ensures.1 in
+    let filled = c.in_ok-fill_between.ensures.1 in
+    let still_there : c.args.container < length c.fill_between.new.tree.nodes = omega (arith, there, named.len, filled.len) in
+    let still_container : IsTrue (is_container_at c.fill_between.new.tree.nodes c.args.container) = container_kept there container (grows_append there named filled) in
+    let inner : CanLay c.args.text.now (located c.args.property.now.value) = can_lay_as c.args.text.now (ap (λ m. m.value) (view-property c.args.property.now)) lies.2 in
+    let deep = size-property g.row.A.Denot c.args.property.now in
+    (omega (arith, deep), (within, (whole, (still_there, (still_container, inner)))))
 
 pub build_property-returns : goal.build_property-returns
 build_property-returns g t c =
@@ -135,6 +205,16 @@ build_property-returns g t c =
     (λ built. property_built there (c.range-name.ensures ∙ ap (λ m. m.name.range) (sym (view-property p))) (c.range-value.ensures ∙ ap (λ m. range_at m.value) (sym (view-property p)))
     (ap (λ m. m.value) (sym (view-property p))) lies.0 name.1 name.2 filled.1 filled.2 built.2 built.3)
     c.build_value.ensures
+
+pub build_value-push_child-requires-in-Array-2-clause-there : goal.build_value-push_child-requires-in-Array-2-clause-there
+build_value-push_child-requires-in-Array-2-clause-there g t c =
+    let node = c.in_ok-node-in-Array.ensures in
+    pushed_there c.in_ok-node-in-Array.node node.number node.pushes
+
+pub build_value-push_child-requires-in-Array-2-clause-container : goal.build_value-push_child-requires-in-Array-2-clause-container
+build_value-push_child-requires-in-Array-2-clause-container g t c =
+    let node = c.in_ok-node-in-Array.ensures in
+    pushed_container c.in_ok-node-in-Array.node node.number node.pushes refl
 
 pub build_value-inside-range-requires : goal.build_value-inside-range-requires
 build_value-inside-range-requires g t c =
@@ -160,6 +240,22 @@ build_value-build_elements-requires g t c κs within =
     let inside = ap (λ xs. most (λ x. size-Value g.row.A.Denot x) xs) c.deref.ensures.value in
     (omega (arith, c.requires.0, deep, same, inside), (within, (whole, (there, (still, inner)))))
 
+pub build_value-push_child-requires-in-Array-3-clause-there : goal.build_value-push_child-requires-in-Array-3-clause-there
+build_value-push_child-requires-in-Array-3-clause-there g t c =
+    let node = c.in_ok-node-in-Array.ensures in
+    let bracket = c.in_ok-push_child-in-Array.ensures in
+    let first : c.in_ok-node-in-Array.node < length c.push_child-in-Array.new.self.nodes = pushed_there c.in_ok-node-in-Array.node node.number node.pushes in
+    omega (arith, still_there first bracket.pushes, c.in_ok-build_elements-in-Array.ensures.1.len)
+
+pub build_value-push_child-requires-in-Array-3-clause-container : goal.build_value-push_child-requires-in-Array-3-clause-container
+build_value-push_child-requires-in-Array-3-clause-container g t c =
+    let node = c.in_ok-node-in-Array.ensures in
+    let bracket = c.in_ok-push_child-in-Array.ensures in
+    let first : c.in_ok-node-in-Array.node < length c.push_child-in-Array.new.self.nodes = pushed_there c.in_ok-node-in-Array.node node.number node.pushes in
+    let container : IsTrue (is_container_at c.push_child-in-Array.new.self.nodes c.in_ok-node-in-Array.node) = pushed_container c.in_ok-node-in-Array.node node.number node.pushes refl in
+    let there : c.in_ok-node-in-Array.node < length c.push_child-in-Array-2.new.self.nodes = still_there first bracket.pushes in
+    container_kept there (container_kept first container (grows_leaf first bracket.pushes)) c.in_ok-build_elements-in-Array.ensures.1
+
 pub build_value-returns-in_ok-push_child-in-Array-2 : goal.build_value-returns-in_ok-push_child-in-Array-2
 build_value-returns-in_ok-push_child-in-Array-2 g t c =
     let o = c.in-Array.array in
@@ -170,6 +266,16 @@ build_value-returns-in_ok-push_child-in-Array-2 g t c =
     let there : c.args.container < length c.args.tree.now.nodes = assumption c.requires in
     let is : located c.args.value.now ≡ array_at o.range (items_located c.deref.result.now) = ap located c.in-Array.is ∙ view-Array c.in-Array.array ∙ ap (λ xs. array_at o.range (items_located xs)) (sym c.deref.ensures.value) in
     (content.array, _, bracketed_into c.in_ok-node-in-Array.node there node.number node.pushes (pushes_same (ap content_of c.token.ensures) bracket.pushes) built.1 (pushes_same (ap content_of c.token-in-Array.ensures) last.pushes), laid_as is (items_inside o.range c.inside-range.result c.inside-range.ensures.start c.inside-range.ensures.end built.2))
+
+pub build_value-push_child-requires-in-Object-2-clause-there : goal.build_value-push_child-requires-in-Object-2-clause-there
+build_value-push_child-requires-in-Object-2-clause-there g t c =
+    let node = c.in_ok-node-in-Object.ensures in
+    pushed_there c.in_ok-node-in-Object.node node.number node.pushes
+
+pub build_value-push_child-requires-in-Object-2-clause-container : goal.build_value-push_child-requires-in-Object-2-clause-container
+build_value-push_child-requires-in-Object-2-clause-container g t c =
+    let node = c.in_ok-node-in-Object.ensures in
+    pushed_container c.in_ok-node-in-Object.node node.number node.pushes refl
 
 pub build_value-inside-range-requires-in-Object : goal.build_value-inside-range-requires-in-Object
 build_value-inside-range-requires-in-Object g t c =
@@ -194,6 +300,22 @@ build_value-build_properties-requires g t c κs within =
     let same = ap (λ x. size-Value g.row.A.Denot x) c.in-Object.is in
     let inside = ap (λ xs. most (λ x. size-ObjectProp g.row.A.Denot x) xs) c.deref-in-Object.ensures.value in
     (omega (arith, c.requires.0, deep, same, inside), (within, (whole, (there, (still, inner)))))
+
+pub build_value-push_child-requires-in-Object-3-clause-there : goal.build_value-push_child-requires-in-Object-3-clause-there
+build_value-push_child-requires-in-Object-3-clause-there g t c =
+    let node = c.in_ok-node-in-Object.ensures in
+    let bracket = c.in_ok-push_child-in-Object.ensures in
+    let first : c.in_ok-node-in-Object.node < length c.push_child-in-Object.new.self.nodes = pushed_there c.in_ok-node-in-Object.node node.number node.pushes in
+    omega (arith, still_there first bracket.pushes, c.in_ok-build_properties-in-Object.ensures.1.len)
+
+pub build_value-push_child-requires-in-Object-3-clause-container : goal.build_value-push_child-requires-in-Object-3-clause-container
+build_value-push_child-requires-in-Object-3-clause-container g t c =
+    let node = c.in_ok-node-in-Object.ensures in
+    let bracket = c.in_ok-push_child-in-Object.ensures in
+    let first : c.in_ok-node-in-Object.node < length c.push_child-in-Object.new.self.nodes = pushed_there c.in_ok-node-in-Object.node node.number node.pushes in
+    let container : IsTrue (is_container_at c.push_child-in-Object.new.self.nodes c.in_ok-node-in-Object.node) = pushed_container c.in_ok-node-in-Object.node node.number node.pushes refl in
+    let there : c.in_ok-node-in-Object.node < length c.push_child-in-Object-2.new.self.nodes = still_there first bracket.pushes in
+    container_kept there (container_kept first container (grows_leaf first bracket.pushes)) c.in_ok-build_properties-in-Object.ensures.1
 
 pub build_value-returns-in_ok-push_child-in-Object-2 : goal.build_value-returns-in_ok-push_child-in-Object-2
 build_value-returns-in_ok-push_child-in-Object-2 g t c =

@@ -1,10 +1,37 @@
-use Rattle.std.proofs.Common.{sym, subst}
+use Rattle.std.proofs.Common.{sym, subst, length, arith}
 use Rattle.jsonc_tree.specs.OrderedTree.{OrderedTree}
+use Rattle.jsonc_build.specs.Filling.{IsFillable}
 use Rattle.jsonc_build.specs.Given.{located_in}
 use Rattle.jsonc_build.specs.Growth.{Grows}
-use Rattle.jsonc_build.specs.Laid.{RootLaid}
+use Rattle.jsonc_build.specs.Laid.{CanLayDocument, RootLaid}
 use Rattle.jsonc_build.proofs.Building.{root_built}
+use Rattle.jsonc_build.proofs.Growing.{container_kept, grows_append}
 use Rattle.jsonc_build.proofs.builder.build_root.Goals as goal
+
+pub fill_between-requires-2-clause-fillable : goal.fill_between-requires-2-clause-fillable
+fill_between-requires-2-clause-fillable g c =
+    let lies = subst (λ v. CanLayDocument c.args.text.now (located_in v)) c.in-Some.is c.requires.lies in
+    subst (λ r. IsFillable c.args.text.now 0 r.start) (sym c.range-range.ensures) lies.0
+
+pub build_value-requires-clause-there : goal.build_value-requires-clause-there
+build_value-requires-clause-there g c = omega (arith, c.requires.there, c.in_ok-fill_between-2.ensures.1.len)
+
+pub build_value-requires-clause-container : goal.build_value-requires-clause-container
+build_value-requires-clause-container g c = container_kept c.requires.there c.requires.container c.in_ok-fill_between-2.ensures.1
+
+pub build_value-requires-clause-lies : goal.build_value-requires-clause-lies
+build_value-requires-clause-lies g c = (subst (λ v. CanLayDocument c.args.text.now (located_in v)) c.in-Some.is c.requires.lies).1
+
+pub fill_between-requires-3-clause-there : goal.fill_between-requires-3-clause-there
+fill_between-requires-3-clause-there g c = omega (arith, c.requires.there, c.in_ok-fill_between-2.ensures.1.len, c.in_ok-build_value.ensures.2.len)
+
+pub fill_between-requires-3-clause-container : goal.fill_between-requires-3-clause-container
+fill_between-requires-3-clause-container g c = container_kept c.requires.there c.requires.container (grows_append c.requires.there c.in_ok-fill_between-2.ensures.1 c.in_ok-build_value.ensures.2)
+
+pub fill_between-requires-3-clause-fillable : goal.fill_between-requires-3-clause-fillable
+fill_between-requires-3-clause-fillable g c =
+    let lies = subst (λ v. CanLayDocument c.args.text.now (located_in v)) c.in-Some.is c.requires.lies in
+    subst (λ r. IsFillable c.args.text.now r.end (length c.args.text.now)) (sym c.range-range.ensures) lies.2
 
 pub returns : goal.returns
 returns g c =
