@@ -1,9 +1,11 @@
-use Rattle.std.proofs.Common.{◌∙◌, sym, ap, map}
+use Rattle.std.proofs.Common.{◌∙◌, sym, ap, map, arith}
+use denote.Param.Weighed.{most}
 use Rattle.std.proofs.lemmas.List.{length-map}
 use Rattle.std.specs.Map.{values_of}
 use Rattle.jsonc_value.specs.Contents.{content, array, object}
 use Rattle.jsonc_value.specs.Kinds.{properties}
-use Rattle.jsonc_value.proofs.Contents.{content-Array, content-Object, same_named, as_many, one_copied}
+use Rattle.jsonc_value.specs.declared.value.JsonValue.{size-JsonValue}
+use Rattle.jsonc_value.proofs.Contents.{content-Array, content-Object, same_named, as_many, one_copied, all_copied, size-in-array, size-of-array, size-in-object, size-of-object, size-element}
 use Rattle.jsonc_value.proofs.value.+copy.Goals as goal
 
 pub JsonValue::try_clone-returns-in_ok-try_clone-in-Object : goal.JsonValue::try_clone-returns-in_ok-try_clone-in-Object
@@ -26,3 +28,47 @@ JsonObject::try_clone-clone_keys_with-requires g t c =
 pub JsonObject::try_clone-returns : goal.JsonObject::try_clone-returns
 JsonObject::try_clone-returns g t c =
     same_named (properties c.args.self.now) c.in_ok-clone_keys_with.field-0 c.in_ok-clone_keys_with.ensures.keys (ap (map content) c.in_ok-clone_keys_with.ensures.values ∙ c.in_ok-copies.ensures ∙ ap (map content) c.values_slice.ensures)
+
+pub JsonValue::try_clone-try_clone-requires : goal.JsonValue::try_clone-try_clone-requires
+JsonValue::try_clone-try_clone-requires g t c κs within =
+    (omega (arith, size-of-object g.row.A.Denot c.in-Object.object, ap (λ x. size-JsonValue g.row.A.Denot x) c.in-Object.is), within)
+
+pub JsonValue::try_clone-try_clone-requires-in-Array : goal.JsonValue::try_clone-try_clone-requires-in-Array
+JsonValue::try_clone-try_clone-requires-in-Array g t c κs within =
+    (omega (arith, size-of-array g.row.A.Denot c.in-Array.array, ap (λ x. size-JsonValue g.row.A.Denot x) c.in-Array.is), within)
+
+pub JsonValue::try_clone-returns-in-Number : goal.JsonValue::try_clone-returns-in-Number
+JsonValue::try_clone-returns-in-Number g t c =
+    ap content (sym c.in-Number.is)
+
+pub JsonValue::try_clone-returns-in-Boolean : goal.JsonValue::try_clone-returns-in-Boolean
+JsonValue::try_clone-returns-in-Boolean g t c =
+    ap content (sym c.in-Boolean.is)
+
+pub JsonValue::try_clone-returns-in-Null : goal.JsonValue::try_clone-returns-in-Null
+JsonValue::try_clone-returns-in-Null g t c =
+    ap content (sym c.in-Null.is)
+
+pub JsonArray::try_clone-copy_all-requires : goal.JsonArray::try_clone-copy_all-requires
+JsonArray::try_clone-copy_all-requires g t c κs within =
+    (omega (arith, size-in-array g.row.A.Denot c.args.self.now, ap (λ xs. most (λ x. size-JsonValue g.row.A.Denot x) xs) c.as_slice.ensures.value), within)
+
+pub JsonObject::try_clone-copy_all-requires : goal.JsonObject::try_clone-copy_all-requires
+JsonObject::try_clone-copy_all-requires g t c κs within =
+    (omega (arith, size-in-object g.row.A.Denot c.args.self.now, ap (λ xs. most (λ x. size-JsonValue g.row.A.Denot x) xs) c.values_slice.ensures), within)
+
+pub copies::copy_all-loop-value-init : goal.copies::copy_all-loop-value-init
+copies::copy_all-loop-value-init g t c =
+    ap (map content) c.in_ok-copies.ensures.items
+
+pub copies::copy_all-try_clone-requires : goal.copies::copy_all-try_clone-requires
+copies::copy_all-try_clone-requires g t c κs within =
+    (omega (arith, size-element g.row.A.Denot c.args.values.now c.loop-value.value-index c.value-item.result c.loop-value-test.true c.value-item.is), within)
+
+pub copies::copy_all-loop-value-smaller : goal.copies::copy_all-loop-value-smaller
+copies::copy_all-loop-value-smaller g t c =
+    omega (arith, c.loop-value-test.true)
+
+pub copies::copy_all-returns : goal.copies::copy_all-returns
+copies::copy_all-returns g t c =
+    all_copied c.args.values.now c.loop-value.copies.items c.loop-value.value-index c.loop-value-test.false c.loop-value.invariant
