@@ -11,3 +11,4 @@ pub mod HexRows
 pub mod BooleanSetting
 pub mod WrittenBoolean
 pub mod PropertyValue
+pub mod PropertyKinds
