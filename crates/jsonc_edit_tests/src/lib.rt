@@ -5,24 +5,18 @@
 #![tactic(auto)]
 
 #[cfg(test)]
-mod appends;
-#[cfg(test)]
-mod commas;
-#[cfg(test)]
-mod listed;
+mod changes;
 #[cfg(test)]
 mod lists;
 #[cfg(test)]
-mod members;
-#[cfg(test)]
 mod nested;
+#[cfg(test)]
+mod nodes;
 #[cfg(test)]
 mod pieces;
 #[cfg(test)]
 mod reading;
 #[cfg(test)]
-mod removals;
+mod rows;
 #[cfg(test)]
 mod sorts;
-#[cfg(test)]
-mod spread;

@@ -1,94 +1,109 @@
-//! Lists of edits.
+//! Lists of edits, and the memory that they want.
 
+use crate::changes::{Change, Step, Way};
 use crate::reading::read;
-use jsonc_parser::cst::{CstInputValue, CstNode, CstRootNode, Edit, EditError, Over, Shape, run};
+use crate::rows::{Edits, Row, is_refused_in_turn, run_steps, without_memory};
+use jsonc_parser::cst::{EditError, Over, Shape, TrailingCommaMode};
+use refusing::Refusing;
 use refusing::awaited::prints;
 use refusing::in_turn::refused_in_turn;
 use refusing::outcome::Outcome;
-use std::alloc::{AllocError, Allocator};
-use std::cmp::Ordering;
+use std::alloc::{Allocator, Global};
 use std::test::Fail;
 
-/// An edit, told without memory. What it writes is the number 1, and the name `c`.
-#[derive(Clone, Copy)]
-enum Step {
-    Replace(&'static [usize]),
-    Remove(&'static [usize]),
-    RemoveComment(usize),
-    SetRoot,
-    ClearRoot,
-    ReplaceProperty(&'static [usize]),
-    EnsureRoot(Shape, Over),
-    SetValue(&'static [usize]),
-    EnsureValue(&'static [usize], Shape),
-    SetBoolean(&'static [usize], bool),
-}
+const FALSE: Change = Change::SetBoolean(false);
 
-/// Edits, and the texts before, between and after them.
-#[derive(Clone, Copy)]
-struct Row {
-    steps: &'static [Step],
-    texts: &'static [&'static str],
-}
+const SET_COMMAS: Change = Change::SetTrailingCommas(TrailingCommaMode::IfMultiline);
 
-const ROWS: [Row; 11] = [
-    Row {
-        steps: &[Step::RemoveComment(0)],
-        texts: &["[1/*c*/2]", "[1 2]"],
-    },
-    Row {
-        steps: &[Step::SetRoot],
-        texts: &["// c", "// c\n1\n"],
-    },
-    Row {
-        steps: &[Step::SetRoot],
-        texts: &["// c\n", "// c\n1\n"],
-    },
-    Row {
-        steps: &[Step::Remove(&[])],
-        texts: &["// a\n1", "// a\n"],
-    },
-    Row {
-        steps: &[Step::Remove(&[1])],
-        texts: &["[1[2]3]", "[1 3]"],
-    },
-    Row {
-        steps: &[Step::Remove(&[1])],
-        texts: &["{a:1\"x\":2b:3}", "{a:1 b:3}"],
-    },
-    Row {
-        steps: &[Step::SetValue(&[0])],
-        texts: &["{a:[2]b:2}", "{a:1 b:2}"],
-    },
-    Row {
-        steps: &[
-            Step::EnsureValue(&[0, 0], Shape::Object),
-            Step::EnsureValue(&[0, 0], Shape::Array),
-        ],
-        texts: &["[{\"a\": 1}]", "[{\"a\": {}}]", "[{\"a\": []}]"],
-    },
-    Row {
-        steps: &[Step::SetBoolean(&[0], false)],
-        texts: &["[true-1]", "[false-1]"],
-    },
-    Row {
-        steps: &[Step::SetBoolean(&[1], false)],
-        texts: &["[0x1true]", "[0x1 false]"],
-    },
-    Row {
-        steps: &[
-            Step::RemoveComment(0),
-            Step::Replace(&[0]),
-            Step::ReplaceProperty(&[0]),
-            Step::Remove(&[1]),
-            Step::SetRoot,
-            Step::EnsureRoot(Shape::Array, Over::Keep),
-            Step::EnsureRoot(Shape::Object, Over::Replace),
-            Step::ClearRoot,
-            Step::EnsureRoot(Shape::Array, Over::Keep),
-        ],
-        texts: &[
-            "{ \"a\": 0, \"b\": 2 } // c",
+const TAKE_COMMAS: Change = Change::SetTrailingCommas(TrailingCommaMode::Never);
+
+/// An array on several lines, and the same with a comma behind its last element.
+const BARE: &str = "[\n  1,\n  {\"a\": [2]}\n]";
+
+const SET: &str = "[\n  1,\n  {\"a\": [2]},\n]";
+
+/// A path, a change there, a text, and the text after the change.
+type OneEdit = (&'static [usize], Change, &'static str, &'static str);
+
+const SINGLE: [OneEdit; 9] = [
+    (&[], Change::RemoveComment(0), "[1/*c*/2]", "[1 2]"),
+    (&[], Change::SetRoot("1"), "// c", "// c\n1\n"),
+    (&[], Change::SetRoot("1"), "// c\n", "// c\n1\n"),
+    (&[0], Change::SetValue("1"), "{a:[2]b:2}", "{a:1 b:2}"),
+    (&[0], FALSE, "[true-1]", "[false-1]"),
+    (&[1], FALSE, "[0x1true]", "[0x1 false]"),
+    (
+        &[],
+        Change::Value(Way::Insert(1), "9"),
+        "[1, 2]",
+        "[1, 9,  2]",
+    ),
+    (
+        &[0],
+        Change::Value(Way::Replace, "[7, [8]]"),
+        "[true, 2]",
+        "[[\n  7,\n  [8]\n], 2]",
+    ),
+    (&[], SET_COMMAS, BARE, SET),
+];
+
+/// Something leaves, and no space is due.
+const PLAIN: [OneEdit; 6] = [
+    (&[0], Change::Remove, "[1, 2]", "[ 2]"),
+    (&[1], Change::Remove, "[1, 2]", "[1]"),
+    (
+        &[1],
+        Change::Remove,
+        "{ \"a\": 1, \"b\": 2 }",
+        "{ \"a\": 1 }",
+    ),
+    (
+        &[0],
+        Change::Remove,
+        "{\n\"a\": 1, // x\n\"b\": 2\n}",
+        "{\n\"b\": 2\n}",
+    ),
+    (&[], Change::Remove, "// a\n1", "// a\n"),
+    (&[], TAKE_COMMAS, SET, BARE),
+];
+
+/// A space is due where something leaves.
+const SPACED: [OneEdit; 3] = [
+    (&[1], Change::Remove, "[1[2]3]", "[1 3]"),
+    (&[2], Change::Remove, "[1,2[3]4]", "[1 2 4]"),
+    (&[1], Change::Remove, "{a:1\"x\":2b:3}", "{a:1 b:3}"),
+];
+
+/// Three values that come behind an array's last.
+const APPENDED: [Step; 3] = [
+    (&[], Change::Value(Way::Append, "2")),
+    (&[], Change::Value(Way::Append, "3")),
+    (&[], Change::Value(Way::Append, "4")),
+];
+
+const ROWS: [Row; 8] = [
+    (
+        Edits::List(&[
+            (&[0, 0], Change::EnsureValue(Shape::Object)),
+            (&[0, 0], Change::EnsureValue(Shape::Array)),
+        ]),
+        "[{\"a\": 1}]",
+        &["[{\"a\": {}}]", "[{\"a\": []}]"],
+    ),
+    (
+        Edits::List(&[
+            (&[], Change::RemoveComment(0)),
+            (&[0], Change::Value(Way::Replace, "1")),
+            (&[0], Change::Property(Way::Replace, "c", "1")),
+            (&[1], Change::Remove),
+            (&[], Change::SetRoot("1")),
+            (&[], Change::EnsureRoot(Shape::Array, Over::Keep)),
+            (&[], Change::EnsureRoot(Shape::Object, Over::Replace)),
+            (&[], Change::ClearRoot),
+            (&[], Change::EnsureRoot(Shape::Array, Over::Keep)),
+        ]),
+        "{ \"a\": 0, \"b\": 2 } // c",
+        &[
             "{ \"a\": 0, \"b\": 2 }",
             "{ \"a\": 1, \"b\": 2 }",
             "{ \"c\": 1, \"b\": 2 }",
@@ -99,115 +114,127 @@ const ROWS: [Row; 11] = [
             "",
             "[]\n",
         ],
-    },
+    ),
+    // The last edit has no place.
+    (
+        Edits::List(&[
+            (&[0, 0, 1], Change::Remove),
+            (&[0, 0], Change::SetValue("1")),
+            (&[5], Change::Remove),
+        ]),
+        "[{\"a\": [1, 2]}]",
+        &["[{\"a\": [1]}]", "[{\"a\": 1}]"],
+    ),
+    (Edits::List(&[(&[], SET_COMMAS)]), "1", &[]),
+    (
+        Edits::List(&[
+            (&[], Change::Property(Way::Append, "b", "true")),
+            (&[], Change::Property(Way::Insert(0), "c", "null")),
+            (
+                &[],
+                Change::EnsureProperty("a", Shape::Array, Over::Replace),
+            ),
+        ]),
+        "{\"a\":1}",
+        &[
+            "{\n  \"a\":1,\n  \"b\": true\n}",
+            "{\n  \"c\": null,\n  \"a\":1,\n  \"b\": true\n}",
+            "{\n  \"c\": null,\n  \"a\":[],\n  \"b\": true\n}",
+        ],
+    ),
+    (
+        Edits::List(&[
+            (&[], Change::EnsureMultiline),
+            (&[1], Change::EnsureMultiline),
+        ]),
+        "{\"a\":1, \"b\":[2]}",
+        &[
+            "{\n  \"a\":1,\n  \"b\":[2]\n}",
+            "{\n  \"a\":1,\n  \"b\":[\n    2\n  ]\n}",
+        ],
+    ),
+    (
+        Edits::List(&[(&[], SET_COMMAS), (&[], TAKE_COMMAS)]),
+        BARE,
+        &[SET, BARE],
+    ),
+    (
+        Edits::List(&APPENDED),
+        "[1]",
+        &["[1, 2]", "[1, 2, 3]", "[1, 2, 3, 4]"],
+    ),
 ];
-
-/// Edits of which the last one has no place.
-const STOPPED: Row = Row {
-    steps: &[
-        Step::Remove(&[0, 0, 1]),
-        Step::SetValue(&[0, 0]),
-        Step::Remove(&[5]),
-    ],
-    texts: &["[{\"a\": [1, 2]}]", "[{\"a\": [1]}]", "[{\"a\": 1}]"],
-};
-
-fn number<A: Allocator + Copy>(alloc: A) -> Result<CstInputValue<A>, AllocError> {
-    Ok(CstInputValue::Number(String::from_str(alloc, "1")?))
-}
-
-fn path_of<A: Allocator>(alloc: A, places: &[usize]) -> Result<Vec<usize, A>, AllocError> {
-    let mut path = Vec::new(alloc);
-    path.extend_from_slice(places)?;
-    Ok(path)
-}
-
-fn edit_of<A: Allocator + Copy>(alloc: A, step: Step) -> Result<Edit<A>, AllocError> {
-    match step {
-        Step::Replace(path) => Ok(Edit::Replace(path_of(alloc, path)?, number(alloc)?)),
-        Step::Remove(path) => Ok(Edit::Remove(path_of(alloc, path)?)),
-        Step::RemoveComment(place) => Ok(Edit::RemoveComment(place)),
-        Step::SetRoot => Ok(Edit::SetRoot(number(alloc)?)),
-        Step::ClearRoot => Ok(Edit::ClearRoot),
-        Step::ReplaceProperty(path) => {
-            let path = path_of(alloc, path)?;
-            let name = String::from_str(alloc, "c")?;
-            Ok(Edit::ReplaceProperty(path, name, number(alloc)?))
-        }
-        Step::EnsureRoot(shape, over) => Ok(Edit::EnsureRoot(shape, over)),
-        Step::SetValue(path) => Ok(Edit::SetValue(path_of(alloc, path)?, number(alloc)?)),
-        Step::EnsureValue(path, shape) => Ok(Edit::EnsureValue(path_of(alloc, path)?, shape)),
-        Step::SetBoolean(path, value) => Ok(Edit::SetBoolean(path_of(alloc, path)?, value)),
-    }
-}
-
-fn edits_of<A: Allocator + Copy>(alloc: A, steps: &[Step]) -> Result<Vec<Edit<A>, A>, AllocError> {
-    let mut edits = Vec::new(alloc);
-    for step in steps {
-        edits.push(edit_of(alloc, *step)?)?;
-    }
-    Ok(edits)
-}
-
-/// Whether a document is as this many edits left it.
-fn prints_at<A: Allocator>(doc: &CstRootNode<A>, texts: &[&str], count: usize) -> bool {
-    match texts.get(count) {
-        Some(text) => prints(doc, text),
-        None => false,
-    }
-}
-
-/// Whether a list was made whole, or stopped at its end for want of a place, or anywhere for want of
-/// memory; and the document is as the edits that were made left it.
-fn ended<A: Allocator>(
-    doc: &CstRootNode<A>,
-    done: Result<(), (usize, EditError)>,
-    row: &Row,
-) -> Outcome {
-    let made = match done {
-        Ok(()) => row.steps.len(),
-        Err((made, _)) => made,
-    };
-    let is_whole = prints_at(doc, row.texts, made);
-    let is_last = row.texts.len().checked_sub(1) == Some(made);
-    match done {
-        Ok(()) => Outcome::of(is_whole && is_last),
-        Err((_, EditError::NoSuchPlace)) => Outcome::of(is_whole && is_last),
-        Err((_, EditError::OutOfMemory)) if is_whole => Outcome::Wanted,
-        Err(_) => Outcome::Other,
-    }
-}
-
-fn made<A: Allocator + Copy>(doc: CstRootNode<A>, edits: Vec<Edit<A>, A>, row: &Row) -> Outcome {
-    let mut doc = doc;
-    let compare = |_doc: &CstRootNode<_>, _one: CstNode, _other: CstNode| Ordering::Equal;
-    let done = run(&mut doc, edits, &compare);
-    ended(&doc, done, row)
-}
-
-/// Makes the edits of a row of its first text.
-fn listed<A: Allocator + Copy>(alloc: A, row: &Row) -> Outcome {
-    let Some(text) = row.texts.first() else {
-        return Outcome::Other;
-    };
-    match (read(alloc, text), edits_of(alloc, row.steps)) {
-        (Ok(doc), Ok(edits)) => made(doc, edits, row),
-        (Err(outcome), _) => outcome,
-        (_, Err(error)) => Outcome::from(error),
-    }
-}
 
 #[test]
 fn lists_are_refused_in_turn(rt: HostRuntime) -> Result<(), Fail> {
     for row in &ROWS {
-        let count = refused_in_turn(rt.alloc(), |heap| listed(heap, row));
-        assert!(rt; matches!(count, Some(1..)), "{} edits", row.steps.len());
+        assert!(rt; is_refused_in_turn(rt.alloc(), row), "{}", row.1);
     }
-    assert!(rt;
-        matches!(
-            refused_in_turn(rt.alloc(), |heap| listed(heap, &STOPPED)),
-            Some(1..)
-        )
-    );
+    for rows in [SINGLE.as_slice(), PLAIN.as_slice(), SPACED.as_slice()] {
+        for (path, change, old, new) in rows {
+            let steps = [(*path, *change)];
+            let texts = [*new];
+            let row = (Edits::List(&steps), *old, texts.as_slice());
+            assert!(rt; is_refused_in_turn(rt.alloc(), &row), "{old} to {new}");
+        }
+    }
+    Ok(())
+}
+
+#[test]
+fn removals_take_memory_for_spaces_alone(rt: HostRuntime) -> Result<(), Fail> {
+    for (rows, wanted) in [
+        (PLAIN.as_slice(), (Outcome::Answered, false)),
+        (SPACED.as_slice(), (Outcome::Wanted, true)),
+    ] {
+        for (path, change, old, new) in rows {
+            let steps = [(*path, *change)];
+            let texts = [*new];
+            let row = (Edits::List(&steps), *old, texts.as_slice());
+            assert!(rt;
+                without_memory(rt.alloc(), &row) == wanted,
+                "{old} to {new}"
+            );
+        }
+    }
+    Ok(())
+}
+
+/// Whether the list of three stops at its second edit where the request of this number is refused.
+fn stops_at_second(alloc: Global, number: u64) -> bool {
+    let heap = Refusing::at(alloc, number);
+    let Ok(mut doc) = read(&heap, "[1]") else {
+        return false;
+    };
+    let done = run_steps(&mut doc, &heap, &APPENDED);
+    done == Err((1, EditError::OutOfMemory)) && prints(&doc, "[1, 2]")
+}
+
+#[test]
+fn a_list_stops_at_its_second_edit_for_some_request(rt: HostRuntime) -> Result<(), Fail> {
+    let alloc = rt.alloc();
+    assert!(rt; (0..1000u64).any(|number| stops_at_second(alloc, number)));
+    Ok(())
+}
+
+/// Commas come into an array and the one in it: where one is refused the one before it may stand.
+fn both_set<A: Allocator + Copy>(alloc: A) -> Outcome {
+    let old = "[\n  [\n    1\n  ]\n]";
+    let mut doc = match read(alloc, old) {
+        Ok(doc) => doc,
+        Err(outcome) => return outcome,
+    };
+    match run_steps(&mut doc, alloc, &[(&[], SET_COMMAS)]) {
+        Ok(()) => Outcome::of(prints(&doc, "[\n  [\n    1,\n  ],\n]")),
+        Err((0, error)) if prints(&doc, old) || prints(&doc, "[\n  [\n    1\n  ],\n]") => {
+            Outcome::from(error)
+        }
+        Err(_) => Outcome::Other,
+    }
+}
+
+#[test]
+fn commas_are_refused_in_part(rt: HostRuntime) -> Result<(), Fail> {
+    assert!(rt; refused_in_turn(rt.alloc(), |heap| both_set(heap)).is_some());
     Ok(())
 }

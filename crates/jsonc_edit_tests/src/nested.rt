@@ -4,12 +4,13 @@ use crate::reading::read;
 use jsonc_parser::ParseOptions;
 use jsonc_parser::cst::{CstInputValue, CstRootNode, SetRoot};
 use jsonc_parser::errors::ParseErrorKind;
-use std::alloc::{AllocError, Allocator};
+use refusing::outcome::Outcome;
+use std::alloc::{AllocError, Global};
 use std::default::Default;
 use std::test::Fail;
 
 /// `null` in 600 arrays, one in another.
-fn nested<A: Allocator + Copy>(alloc: A) -> Result<CstInputValue<A>, AllocError> {
+fn nested(alloc: Global) -> Result<CstInputValue<Global>, AllocError> {
     let mut value = CstInputValue::Null;
     for _ in 0..600 {
         let mut elements = Vec::new(alloc);
@@ -19,20 +20,17 @@ fn nested<A: Allocator + Copy>(alloc: A) -> Result<CstInputValue<A>, AllocError>
     Ok(value)
 }
 
-/// Sets a value that is nested so deep, and tells whether the text can then not be read for its nesting alone.
-fn is_too_deep_once_set<A: Allocator + Copy>(
-    alloc: A,
-    doc: CstRootNode<A>,
-    value: CstInputValue<A>,
-) -> bool {
-    let mut doc = doc;
-    if doc.set_value(value).is_err() {
-        return false;
-    }
-    let Ok(text) = doc.text() else {
-        return false;
-    };
-    match CstRootNode::parse(alloc, text.as_str(), &ParseOptions::default()) {
+/// The text of a document whose value is set to one that is nested so deep.
+fn text_once_set(alloc: Global) -> Result<String, Outcome> {
+    let value = nested(alloc)?;
+    let mut doc = read(alloc, "1")?;
+    doc.set_value(value)?;
+    Ok(doc.text()?)
+}
+
+/// Whether a text can not be read, for its nesting alone.
+fn is_too_deep(alloc: Global, text: &str) -> bool {
+    match CstRootNode::parse(alloc, text, &ParseOptions::default()) {
         Ok(_) => false,
         Err(error) => *error.kind() == ParseErrorKind::NestingDepthExceeded,
     }
@@ -40,11 +38,10 @@ fn is_too_deep_once_set<A: Allocator + Copy>(
 
 #[test]
 fn values_may_nest_deeper_than_texts(rt: HostRuntime) -> Result<(), Fail> {
-    let alloc = rt.alloc();
-    let is_too_deep = match (read(alloc, "1"), nested(alloc)) {
-        (Ok(doc), Ok(value)) => is_too_deep_once_set(alloc, doc, value),
-        _ => false,
+    let is_refused = match text_once_set(rt.alloc()) {
+        Ok(text) => is_too_deep(rt.alloc(), &text),
+        Err(_) => false,
     };
-    assert!(rt; is_too_deep);
+    assert!(rt; is_refused);
     Ok(())
 }

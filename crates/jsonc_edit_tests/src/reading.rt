@@ -1,9 +1,9 @@
-//! Documents, read from their texts.
+//! Documents and values, read from their texts.
 
 use jsonc_parser::ParseOptions;
-use jsonc_parser::cst::CstRootNode;
+use jsonc_parser::cst::{CstInputValue, CstRootNode};
 use refusing::outcome::Outcome;
-use std::alloc::Allocator;
+use std::alloc::{AllocError, Allocator};
 use std::default::Default;
 
 /// A text, read with all options on.
@@ -11,5 +11,16 @@ pub fn read<A: Allocator + Copy>(alloc: A, text: &str) -> Result<CstRootNode<A>,
     match CstRootNode::parse(alloc, text, &ParseOptions::default()) {
         Ok(doc) => Ok(doc),
         Err(error) => Err(Outcome::from(error)),
+    }
+}
+
+/// The value of a text that has one.
+pub fn value_of<A: Allocator + Copy>(alloc: A, text: &str) -> Result<CstInputValue<A>, AllocError> {
+    let Ok(doc) = read(alloc, text) else {
+        return Err(AllocError);
+    };
+    match doc.to_value() {
+        Ok(Some(value)) => Ok(value),
+        _ => Err(AllocError),
     }
 }

@@ -3,21 +3,23 @@
 ghost use Rattle.jsonc_cst.specs.Document.{Holds};
 ghost use Rattle.jsonc_cst.specs.Nodes.{array_node, object_node};
 
+use crate::changes::Change;
 use crate::reading::read;
+use crate::rows::{Edits, Row, is_made_in_turn, outcome};
 use jsonc_parser::cst::{
-    CstArray, CstComment, CstLeafNode, CstNode, CstObject, CstObjectProp, CstRootNode, EditError,
-    HasChildren, RemoveLeaf, SetTrailingCommas, SortElements, SortProperties, TrailingCommaMode,
+    CstArray, CstComment, CstContainerNode, CstLeafNode, CstNode, CstObject, CstObjectProp,
+    CstRootNode, EditError, HasChildren, ObjectPropName, RemoveLeaf, SetTrailingCommas,
+    SortElements, SortProperties, TrailingCommaMode,
 };
 use refusing::awaited::prints;
-use refusing::in_turn::answers_in_turn;
 use refusing::outcome::Outcome;
 use std::alloc::{Allocator, Global};
 use std::cmp::Ordering;
 use std::test::Fail;
 
-/// How elements are sorted.
+/// How elements or properties are sorted.
 #[derive(Clone, Copy)]
-enum By {
+pub enum By {
     /// By their texts.
     Text,
     /// The same, within groups.
@@ -28,20 +30,26 @@ enum By {
     FirstCharacter,
     /// By keys, all of which are refused so.
     Refused(EditError),
+    /// Properties by their names, where blank lines may pin the comments above.
+    Name(bool),
 }
 
-/// The text of a number, or nothing of another node.
+/// The text of a number, or of a property's name, or nothing of another node.
 fn text_of<'a, A: Allocator>(doc: &'a CstRootNode<A>, node: CstNode) -> &'a str
     requires { Holds doc.now node }
 {
     match node {
         CstNode::Leaf(CstLeafNode::NumberLit(number)) => number.raw_value(doc),
+        CstNode::Container(CstContainerNode::ObjectProp(property)) => match property.name(doc) {
+            Some(ObjectPropName::String(name)) => name.raw_value(doc),
+            _ => "",
+        },
         _ => "",
     }
 }
 
 /// Compares two nodes by their texts.
-fn compare<A: Allocator>(doc: &CstRootNode<A>, one: CstNode, other: CstNode) -> Ordering
+pub fn compare<A: Allocator>(doc: &CstRootNode<A>, one: CstNode, other: CstNode) -> Ordering
     requires one { Holds doc.now one }
     requires other { Holds doc.now other }
 {
@@ -55,7 +63,6 @@ fn first_of<A: Allocator>(doc: &CstRootNode<A>, node: CstNode) -> Option<char>
     text_of(doc, node).chars().next()
 }
 
-/// Sorts an array.
 fn sort_array<A: Allocator + Copy>(
     doc: &mut CstRootNode<A>,
     array: CstArray,
@@ -64,27 +71,20 @@ fn sort_array<A: Allocator + Copy>(
     requires { Holds doc.old (array_node array) }
 {
     let sort = array.sort_elements();
+    let compare = |doc: &CstRootNode<_>, one, other| compare(doc, one, other);
     match by {
-        By::Text => sort.by(
-            doc,
-            |doc: &CstRootNode<_>, one, other| compare(doc, one, other),
-        ),
-        By::TextInGroups => sort.within_groups().by(
-            doc,
-            |doc: &CstRootNode<_>, one, other| compare(doc, one, other),
-        ),
+        By::Text => sort.by(doc, compare),
+        By::TextInGroups => sort.within_groups().by(doc, compare),
         By::TextPinning(count) => sort
             .pin_comment_headers_with(move |_: &CstRootNode<_>, _: CstNode, _: &[CstComment]| count)
-            .by(
-                doc,
-                |doc: &CstRootNode<_>, one, other| compare(doc, one, other),
-            ),
+            .by(doc, compare),
         By::FirstCharacter => {
             sort.by_key(doc, |doc: &CstRootNode<_>, node| Ok(first_of(doc, node)))
         }
         By::Refused(error) => sort.by_key(doc, move |_: &CstRootNode<_>, _: CstNode| {
             Err::<usize, EditError>(error)
         }),
+        By::Name(_) => Err(EditError::NoSuchPlace),
     }
 }
 
@@ -107,98 +107,89 @@ fn sort_object<A: Allocator + Copy>(
     sort.by_key(doc, name)
 }
 
-/// What comes of a sort of a document: it prints the new text then, or the old one where a refusal is told.
-fn told<A: Allocator>(
-    doc: &CstRootNode<A>,
-    sorted: Result<(), EditError>,
-    old: &str,
-    new: &str,
-) -> Outcome {
-    match sorted {
-        Ok(()) => Outcome::of(prints(doc, new)),
-        Err(error) if prints(doc, old) => Outcome::from(error),
-        Err(_) => Outcome::Other,
+/// Sorts the array or object of a document.
+pub fn sort_value<A: Allocator + Copy>(doc: &mut CstRootNode<A>, by: By) -> Result<(), EditError> {
+    if let Some(array) = doc.array_value() {
+        return sort_array(doc, array, by);
+    }
+    match (doc.object_value(), by) {
+        (Some(object), By::Name(pins)) => sort_object(doc, object, pins),
+        _ => Err(EditError::NoSuchPlace),
     }
 }
 
-/// What comes of a sort of the array of a text.
-fn elements<A: Allocator + Copy>(alloc: A, by: By, old: &str, new: &str) -> Outcome {
-    let mut doc = match read(alloc, old) {
-        Ok(doc) => doc,
-        Err(outcome) => return outcome,
-    };
-    let Some(array) = doc.array_value() else {
-        return Outcome::Other;
-    };
-    let sorted = sort_array(&mut doc, array, by);
-    told(&doc, sorted, old, new)
-}
-
-/// What comes of a sort of the object of a text.
-fn properties<A: Allocator + Copy>(alloc: A, pins: bool, old: &str, new: &str) -> Outcome {
-    let mut doc = match read(alloc, old) {
-        Ok(doc) => doc,
-        Err(outcome) => return outcome,
-    };
-    let Some(object) = doc.object_value() else {
-        return Outcome::Other;
-    };
-    let sorted = sort_object(&mut doc, object, pins);
-    told(&doc, sorted, old, new)
-}
-
-/// Whether the array of a text is sorted to another.
-fn is_sorted(alloc: Global, by: By, old: &str, new: &str) -> bool {
-    elements(alloc, by, old, new) == Outcome::Answered
-}
-
-/// Two comments above the first of two elements.
+/// Two comments above the first of two elements; and the same in order, with one of them pinned, with both
+/// and with none.
 const HEADED: &str = "[\n  // h\n  // x\n  2,\n  1\n]";
 
-/// A header behind the first bracket, and a comment above the second property.
+const ONE_PINNED: &str = "[\n  // h\n  1,\n  // x\n  2\n]";
+
+const ALL_PINNED: &str = "[\n  // h\n  // x\n  1,\n  2\n]";
+
+const NONE_PINNED: &str = "[\n  1,\n  // h\n  // x\n  2\n]";
+
+/// A header behind the first bracket, and a comment above the second property; and the same in order, with
+/// the header moved, and with it pinned.
 const NAMED: &str = "{\n  // h\n\n  \"b\": 1,\n  // x\n  \"a\": 2\n}";
 
+const MOVED: &str = "{\n  // x\n  \"a\": 2,\n  // h\n\n  \"b\": 1\n}";
+
+const PINNED: &str = "{\n  // h\n\n  // x\n  \"a\": 2,\n  \"b\": 1\n}";
+
+const BESIDE: &str = "{\"b\": 1, // one\n \"a\": 2}";
+
+const ROWS: [(By, &str, &str); 12] = [
+    (By::FirstCharacter, "[11, 0, 10]", "[0, 11, 10]"),
+    (By::Text, "[2,\n\n 1]", "[1,\n 2]"),
+    (By::Text, "[2, \n 1 // c\n]", "[1, // c \n 2\n]"),
+    (By::Text, "[1, // c \n 2\n]", "[1, // c \n 2\n]"),
+    (By::TextInGroups, "[3, 1,\n\n 2, 0]", "[1, 3,\n\n 0, 2]"),
+    (By::Text, "[1]", "[1]"),
+    (By::TextPinning(1), HEADED, ONE_PINNED),
+    (By::TextPinning(usize::MAX), HEADED, ALL_PINNED),
+    (By::TextPinning(0), HEADED, NONE_PINNED),
+    (By::Name(false), NAMED, MOVED),
+    (By::Name(true), NAMED, PINNED),
+    (By::Name(false), BESIDE, "{\"a\": 2,\n \"b\": 1 // one\n}"),
+];
+
 #[test]
-fn elements_come_in_order(rt: HostRuntime) -> Result<(), Fail> {
-    let alloc = rt.alloc();
-    assert!(rt; is_sorted(alloc, By::FirstCharacter, "[11, 0, 10]", "[0, 11, 10]"));
-    assert!(rt; is_sorted(alloc, By::Text, "[2,\n\n 1]", "[1,\n 2]"));
-    assert!(rt; is_sorted(alloc, By::Text, "[2, \n 1 // c\n]", "[1, // c \n 2\n]"));
-    assert!(rt; is_sorted(alloc, By::Text, "[1, // c \n 2\n]", "[1, // c \n 2\n]"));
-    assert!(rt;
-        is_sorted(
-            alloc,
-            By::TextInGroups,
-            "[3, 1,\n\n 2, 0]",
-            "[1, 3,\n\n 0, 2]"
-        )
-    );
-    assert!(rt; is_sorted(alloc, By::Text, "[1]", "[1]"));
+fn sorts_want_memory_or_are_made(rt: HostRuntime) -> Result<(), Fail> {
+    for (by, old, new) in ROWS {
+        let texts = [new];
+        let row = (Edits::Sort(by), old, texts.as_slice());
+        assert!(rt; is_made_in_turn(rt.alloc(), &row), "{old} to {new}");
+    }
     Ok(())
 }
 
+/// The path of a document's value.
+const ROOT: &[usize] = &[];
+
+/// Whether a list pins headers and whether it keeps groups, a text, and the text after it.
+const LISTED: [(bool, bool, &str, &str); 4] = [
+    (false, false, "[2,\n\n 1]", "[1,\n 2]"),
+    (false, true, "[3, 1,\n\n 2, 0]", "[1, 3,\n\n 0, 2]"),
+    (false, false, NAMED, MOVED),
+    (true, false, NAMED, PINNED),
+];
+
 #[test]
-fn rules_pin_comments(rt: HostRuntime) -> Result<(), Fail> {
-    let alloc = rt.alloc();
-    let one = "[\n  // h\n  1,\n  // x\n  2\n]";
-    let all = "[\n  // h\n  // x\n  1,\n  2\n]";
-    let none = "[\n  1,\n  // h\n  // x\n  2\n]";
-    assert!(rt; is_sorted(alloc, By::TextPinning(1), HEADED, one));
-    assert!(rt; is_sorted(alloc, By::TextPinning(usize::MAX), HEADED, all));
-    assert!(rt; is_sorted(alloc, By::TextPinning(0), HEADED, none));
+fn lists_that_sort_want_memory_or_are_made(rt: HostRuntime) -> Result<(), Fail> {
+    for (pins, groups, old, new) in LISTED {
+        let steps = [(ROOT, Change::Sort(pins, groups))];
+        let texts = [new];
+        let row = (Edits::List(&steps), old, texts.as_slice());
+        assert!(rt; is_made_in_turn(rt.alloc(), &row), "{old} to {new}");
+    }
     Ok(())
 }
 
+const UNSORTED: Row = (Edits::List(&[(ROOT, Change::Sort(false, false))]), "1", &[]);
+
 #[test]
-fn properties_come_in_order(rt: HostRuntime) -> Result<(), Fail> {
-    let alloc = rt.alloc();
-    let moved = "{\n  // x\n  \"a\": 2,\n  // h\n\n  \"b\": 1\n}";
-    let pinned = "{\n  // h\n\n  // x\n  \"a\": 2,\n  \"b\": 1\n}";
-    let beside = "{\"b\": 1, // one\n \"a\": 2}";
-    let turned = "{\"a\": 2,\n \"b\": 1 // one\n}";
-    assert!(rt; properties(alloc, false, NAMED, moved) == Outcome::Answered);
-    assert!(rt; properties(alloc, true, NAMED, pinned) == Outcome::Answered);
-    assert!(rt; properties(alloc, false, beside, turned) == Outcome::Answered);
+fn a_number_is_not_sorted(rt: HostRuntime) -> Result<(), Fail> {
+    assert!(rt; outcome(rt.alloc(), &UNSORTED) == Outcome::Answered);
     Ok(())
 }
 
@@ -207,10 +198,7 @@ fn is_refused(alloc: Global, error: EditError) -> bool {
     let Ok(mut doc) = read(alloc, HEADED) else {
         return false;
     };
-    let Some(array) = doc.array_value() else {
-        return false;
-    };
-    sort_array(&mut doc, array, By::Refused(error)) == Err(error) && prints(&doc, HEADED)
+    sort_value(&mut doc, By::Refused(error)) == Err(error) && prints(&doc, HEADED)
 }
 
 #[test]
@@ -221,8 +209,11 @@ fn a_refused_key_is_the_answer(rt: HostRuntime) -> Result<(), Fail> {
 }
 
 /// Takes the last bracket of an array of one element, and then sorts it and takes trailing commas away.
-fn sort_without_bracket<A: Allocator + Copy>(doc: CstRootNode<A>) -> Outcome {
-    let mut doc = doc;
+fn sort_without_bracket(alloc: Global) -> Outcome {
+    let mut doc = match read(alloc, "[1]") {
+        Ok(doc) => doc,
+        Err(outcome) => return outcome,
+    };
     let Some(array) = doc.array_value() else {
         return Outcome::Other;
     };
@@ -238,37 +229,11 @@ fn sort_without_bracket<A: Allocator + Copy>(doc: CstRootNode<A>) -> Outcome {
         return Outcome::Other;
     }
     let commas = array.set_trailing_commas(&mut doc, TrailingCommaMode::Never);
-    Outcome::of(matches!((sorted, commas), (Ok(()), Ok(()))) && prints(&doc, "[1"))
+    Outcome::of(sorted.is_ok() && commas.is_ok() && prints(&doc, "[1"))
 }
 
 #[test]
 fn without_a_bracket_nothing_changes(rt: HostRuntime) -> Result<(), Fail> {
-    let outcome = match read(rt.alloc(), "[1]") {
-        Ok(doc) => sort_without_bracket(doc),
-        Err(outcome) => outcome,
-    };
-    assert!(rt; outcome == Outcome::Answered);
-    Ok(())
-}
-
-#[test]
-fn sorts_are_refused_in_turn(rt: HostRuntime) -> Result<(), Fail> {
-    let one = "[\n  // h\n  1,\n  // x\n  2\n]";
-    let pinned = "{\n  // h\n\n  // x\n  \"a\": 2,\n  \"b\": 1\n}";
-    let old = "[3, 1,\n\n 2, 0]";
-    let new = "[1, 3,\n\n 0, 2]";
-    assert!(rt;
-        answers_in_turn(
-            rt.alloc(),
-            |heap| elements(heap, By::TextPinning(1), HEADED, one)
-        )
-    );
-    assert!(rt; answers_in_turn(rt.alloc(), |heap| properties(heap, true, NAMED, pinned)));
-    assert!(rt;
-        answers_in_turn(
-            rt.alloc(),
-            |heap| elements(heap, By::TextInGroups, old, new)
-        )
-    );
+    assert!(rt; sort_without_bracket(rt.alloc()) == Outcome::Answered);
     Ok(())
 }

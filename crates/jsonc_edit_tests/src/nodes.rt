@@ -1,0 +1,232 @@
+//! Edits on typed nodes, and the memory that they want.
+
+ghost use Rattle.jsonc_cst.specs.Document.{Holds};
+ghost use Rattle.jsonc_cst.specs.Nodes.{array_node, object_node};
+
+use crate::changes::{Change, Way};
+use crate::reading::{read, value_of};
+use crate::rows::{Edits, is_refused_in_turn, without_memory};
+use jsonc_parser::cst::{
+    CstArray, CstObject, CstRootNode, EditError, EnsureMultiline, EnsureProperty, InsertElement,
+    InsertProperty, Over, SetTrailingCommas, Shape, TrailingCommaMode,
+};
+use refusing::awaited::prints;
+use refusing::outcome::Outcome;
+use std::alloc::{Allocator, Global};
+use std::test::Fail;
+
+/// Whether an edit was made.
+fn done<T: Drop>(answer: Result<T, EditError>) -> Result<(), EditError> {
+    match answer {
+        Ok(_) => Ok(()),
+        Err(error) => Err(error),
+    }
+}
+
+fn change_array<A: Allocator + Copy>(
+    doc: &mut CstRootNode<A>,
+    alloc: A,
+    array: CstArray,
+    change: Change,
+) -> Result<(), EditError>
+    requires { Holds doc.old (array_node array) }
+{
+    match change {
+        Change::EnsureMultiline => array.ensure_multiline(doc),
+        Change::Value(Way::Append, text) => done(array.append(doc, value_of(alloc, text)?)),
+        Change::Value(Way::Insert(index), text) => {
+            done(array.insert(doc, index, value_of(alloc, text)?))
+        }
+        _ => Err(EditError::NoSuchPlace),
+    }
+}
+
+fn ensure_property<A: Allocator + Copy>(
+    doc: &mut CstRootNode<A>,
+    object: CstObject,
+    name: &str,
+    wanted: (Shape, Over),
+) -> Result<(), EditError>
+    requires { Holds doc.old (object_node object) }
+{
+    match wanted {
+        (Shape::Object, Over::Keep) => done(object.object_value_or_create(doc, name)),
+        (Shape::Object, Over::Replace) => done(object.object_value_or_set(doc, name)),
+        (Shape::Array, Over::Keep) => done(object.array_value_or_create(doc, name)),
+        (Shape::Array, Over::Replace) => done(object.array_value_or_set(doc, name)),
+    }
+}
+
+fn change_object<A: Allocator + Copy>(
+    doc: &mut CstRootNode<A>,
+    alloc: A,
+    object: CstObject,
+    change: Change,
+) -> Result<(), EditError>
+    requires { Holds doc.old (object_node object) }
+{
+    match change {
+        Change::EnsureMultiline => object.ensure_multiline(doc),
+        Change::EnsureProperty(name, shape, over) => {
+            ensure_property(doc, object, name, (shape, over))
+        }
+        Change::Property(Way::Append, name, text) => {
+            done(object.append(doc, name, value_of(alloc, text)?))
+        }
+        Change::Property(Way::Insert(index), name, text) => {
+            done(object.insert(doc, index, name, value_of(alloc, text)?))
+        }
+        _ => Err(EditError::NoSuchPlace),
+    }
+}
+
+/// Changes the array or object of a document, or all its trailing commas.
+pub fn change_node<A: Allocator + Copy>(
+    doc: &mut CstRootNode<A>,
+    alloc: A,
+    change: Change,
+) -> Result<(), EditError> {
+    if let Change::SetTrailingCommas(mode) = change {
+        return doc.root().set_trailing_commas(doc, mode);
+    }
+    if let Some(array) = doc.array_value() {
+        return change_array(doc, alloc, array, change);
+    }
+    match doc.object_value() {
+        Some(object) => change_object(doc, alloc, object, change),
+        None => Err(EditError::NoSuchPlace),
+    }
+}
+
+/// A change, a text, and the text after the change.
+type Row = (Change, &'static str, &'static str);
+
+const SET_COMMAS: Change = Change::SetTrailingCommas(TrailingCommaMode::IfMultiline);
+
+const TAKE_COMMAS: Change = Change::SetTrailingCommas(TrailingCommaMode::Never);
+
+/// An array on several lines, and the same with a comma behind its last element.
+const BARE: &str = "[\n  1,\n  {\"a\": [2]}\n]";
+
+const SET: &str = "[\n  1,\n  {\"a\": [2]},\n]";
+
+/// An object on one line, and the same on several; and an array on several.
+const FLAT: &str = "{\"a\":1, \"b\":[2]}";
+
+const SPREAD: &str = "{\n  \"a\":1,\n  \"b\":[2]\n}";
+
+const ARRAY: &str = "[\n  1,\n  [2]\n]";
+
+/// An object of one property, and what becomes of it.
+const SHORT: &str = "{\"a\":1}";
+
+const APPENDED: &str = "{\n  \"a\":1,\n  \"b\": true\n}";
+
+const INSERTED: &str = "{\n  \"b\": true,\n  \"a\":1\n}";
+
+const WITH_OBJECT: &str = "{\n  \"a\":1,\n  \"b\": {}\n}";
+
+const WITH_ARRAY: &str = "{\n  \"a\":1,\n  \"b\": []\n}";
+
+/// An object whose property is no array.
+const SPACED: &str = "{\"a\": 1}";
+
+const BY_NAME: [(&str, Shape, Over, &str, &str); 6] = [
+    ("b", Shape::Object, Over::Keep, SHORT, WITH_OBJECT),
+    ("b", Shape::Object, Over::Replace, SHORT, WITH_OBJECT),
+    ("b", Shape::Array, Over::Keep, SHORT, WITH_ARRAY),
+    ("b", Shape::Array, Over::Replace, SHORT, WITH_ARRAY),
+    ("a", Shape::Array, Over::Keep, SPACED, SPACED),
+    ("a", Shape::Array, Over::Replace, SPACED, "{\"a\": []}"),
+];
+
+/// Changes that want memory.
+const ROWS: [Row; 4] = [
+    (Change::Value(Way::Insert(1), "9"), "[1, 2]", "[1, 9,  2]"),
+    (Change::Property(Way::Append, "b", "true"), SHORT, APPENDED),
+    (
+        Change::Property(Way::Insert(0), "b", "true"),
+        SHORT,
+        INSERTED,
+    ),
+    (SET_COMMAS, BARE, SET),
+];
+
+/// Changes that want it once the text is read and the value is there.
+const WANTING: [Row; 3] = [
+    (
+        Change::Value(Way::Append, "2"),
+        "[1 //c\n]",
+        "[1, //c\n  2\n]",
+    ),
+    (Change::EnsureMultiline, FLAT, SPREAD),
+    (Change::EnsureMultiline, "[1, [2]]", ARRAY),
+];
+
+/// Changes that want none then.
+const STANDING: [Row; 5] = [
+    (Change::EnsureMultiline, SPREAD, SPREAD),
+    (Change::EnsureMultiline, ARRAY, ARRAY),
+    (TAKE_COMMAS, SET, BARE),
+    (TAKE_COMMAS, BARE, BARE),
+    (SET_COMMAS, SET, SET),
+];
+
+#[test]
+fn changes_are_refused_in_turn(rt: HostRuntime) -> Result<(), Fail> {
+    for rows in [ROWS.as_slice(), WANTING.as_slice()] {
+        for (change, old, new) in rows {
+            let texts = [*new];
+            let row = (Edits::Node(*change), *old, texts.as_slice());
+            assert!(rt; is_refused_in_turn(rt.alloc(), &row), "{old} to {new}");
+        }
+    }
+    Ok(())
+}
+
+#[test]
+fn values_by_name_are_refused_in_turn(rt: HostRuntime) -> Result<(), Fail> {
+    for (name, shape, over, old, new) in BY_NAME {
+        let change = Change::EnsureProperty(name, shape, over);
+        let texts = [new];
+        let row = (Edits::Node(change), old, texts.as_slice());
+        assert!(rt; is_refused_in_turn(rt.alloc(), &row), "{old} to {new}");
+    }
+    Ok(())
+}
+
+#[test]
+fn memory_is_wanted_for_what_comes_alone(rt: HostRuntime) -> Result<(), Fail> {
+    for (rows, wanted) in [
+        (WANTING.as_slice(), (Outcome::Wanted, true)),
+        (STANDING.as_slice(), (Outcome::Answered, false)),
+    ] {
+        for (change, old, new) in rows {
+            let texts = [*new];
+            let row = (Edits::Node(*change), *old, texts.as_slice());
+            assert!(rt;
+                without_memory(rt.alloc(), &row) == wanted,
+                "{old} to {new}"
+            );
+        }
+    }
+    Ok(())
+}
+
+/// Whether no array is answered where a number stands under the name, and nothing changes.
+fn is_kept(alloc: Global) -> bool {
+    let Ok(mut doc) = read(alloc, SPACED) else {
+        return false;
+    };
+    let Some(object) = doc.object_value() else {
+        return false;
+    };
+    let found = object.array_value_or_create(&mut doc, "a");
+    matches!(found, Ok(None)) && prints(&doc, SPACED)
+}
+
+#[test]
+fn a_number_is_kept(rt: HostRuntime) -> Result<(), Fail> {
+    assert!(rt; is_kept(rt.alloc()));
+    Ok(())
+}
