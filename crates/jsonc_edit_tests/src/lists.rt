@@ -9,6 +9,7 @@ use refusing::awaited::prints;
 use refusing::in_turn::refused_in_turn;
 use refusing::outcome::Outcome;
 use std::alloc::{Allocator, Global};
+use std::slice::from_ref;
 use std::test::Fail;
 
 const FALSE: Change = Change::SetBoolean(false);
@@ -22,56 +23,56 @@ const BARE: &str = "[\n  1,\n  {\"a\": [2]}\n]";
 
 const SET: &str = "[\n  1,\n  {\"a\": [2]},\n]";
 
-/// A path, a change there, a text, and the text after the change.
-type OneEdit = (&'static [usize], Change, &'static str, &'static str);
+/// An edit, a text, and the text after the edit.
+type OneEdit = (Step, &'static str, &'static str);
+
+fn row(edit: &OneEdit) -> Row<'_> {
+    (Edits::List(from_ref(&edit.0)), edit.1, from_ref(&edit.2))
+}
 
 const SINGLE: [OneEdit; 9] = [
-    (&[], Change::RemoveComment(0), "[1/*c*/2]", "[1 2]"),
-    (&[], Change::SetRoot("1"), "// c", "// c\n1\n"),
-    (&[], Change::SetRoot("1"), "// c\n", "// c\n1\n"),
-    (&[0], Change::SetValue("1"), "{a:[2]b:2}", "{a:1 b:2}"),
-    (&[0], FALSE, "[true-1]", "[false-1]"),
-    (&[1], FALSE, "[0x1true]", "[0x1 false]"),
+    ((&[], Change::RemoveComment(0)), "[1/*c*/2]", "[1 2]"),
+    ((&[], Change::SetRoot("1")), "// c", "// c\n1\n"),
+    ((&[], Change::SetRoot("1")), "// c\n", "// c\n1\n"),
+    ((&[0], Change::SetValue("1")), "{a:[2]b:2}", "{a:1 b:2}"),
+    ((&[0], FALSE), "[true-1]", "[false-1]"),
+    ((&[1], FALSE), "[0x1true]", "[0x1 false]"),
     (
-        &[],
-        Change::Value(Way::Insert(1), "9"),
+        (&[], Change::Value(Way::Insert(1), "9")),
         "[1, 2]",
         "[1, 9,  2]",
     ),
     (
-        &[0],
-        Change::Value(Way::Replace, "[7, [8]]"),
+        (&[0], Change::Value(Way::Replace, "[7, [8]]")),
         "[true, 2]",
         "[[\n  7,\n  [8]\n], 2]",
     ),
-    (&[], SET_COMMAS, BARE, SET),
+    ((&[], SET_COMMAS), BARE, SET),
 ];
 
 /// Something leaves, and no space is due.
 const PLAIN: [OneEdit; 6] = [
-    (&[0], Change::Remove, "[1, 2]", "[ 2]"),
-    (&[1], Change::Remove, "[1, 2]", "[1]"),
+    ((&[0], Change::Remove), "[1, 2]", "[ 2]"),
+    ((&[1], Change::Remove), "[1, 2]", "[1]"),
     (
-        &[1],
-        Change::Remove,
+        (&[1], Change::Remove),
         "{ \"a\": 1, \"b\": 2 }",
         "{ \"a\": 1 }",
     ),
     (
-        &[0],
-        Change::Remove,
+        (&[0], Change::Remove),
         "{\n\"a\": 1, // x\n\"b\": 2\n}",
         "{\n\"b\": 2\n}",
     ),
-    (&[], Change::Remove, "// a\n1", "// a\n"),
-    (&[], TAKE_COMMAS, SET, BARE),
+    ((&[], Change::Remove), "// a\n1", "// a\n"),
+    ((&[], TAKE_COMMAS), SET, BARE),
 ];
 
 /// A space is due where something leaves.
 const SPACED: [OneEdit; 3] = [
-    (&[1], Change::Remove, "[1[2]3]", "[1 3]"),
-    (&[2], Change::Remove, "[1,2[3]4]", "[1 2 4]"),
-    (&[1], Change::Remove, "{a:1\"x\":2b:3}", "{a:1 b:3}"),
+    ((&[1], Change::Remove), "[1[2]3]", "[1 3]"),
+    ((&[2], Change::Remove), "[1,2[3]4]", "[1 2 4]"),
+    ((&[1], Change::Remove), "{a:1\"x\":2b:3}", "{a:1 b:3}"),
 ];
 
 /// Three values that come behind an array's last.
@@ -170,12 +171,9 @@ fn lists_are_refused_in_turn(rt: HostRuntime) -> Result<(), Fail> {
     for row in &ROWS {
         assert!(rt; is_refused_in_turn(rt.alloc(), row), "{}", row.1);
     }
-    for rows in [SINGLE.as_slice(), PLAIN.as_slice(), SPACED.as_slice()] {
-        for (path, change, old, new) in rows {
-            let steps = [(*path, *change)];
-            let texts = [*new];
-            let row = (Edits::List(&steps), *old, texts.as_slice());
-            assert!(rt; is_refused_in_turn(rt.alloc(), &row), "{old} to {new}");
+    for edits in [SINGLE.as_slice(), PLAIN.as_slice(), SPACED.as_slice()] {
+        for edit in edits {
+            assert!(rt; is_refused_in_turn(rt.alloc(), &row(edit)), "{}", edit.1);
         }
     }
     Ok(())
@@ -183,19 +181,13 @@ fn lists_are_refused_in_turn(rt: HostRuntime) -> Result<(), Fail> {
 
 #[test]
 fn removals_take_memory_for_spaces_alone(rt: HostRuntime) -> Result<(), Fail> {
-    for (rows, wanted) in [
-        (PLAIN.as_slice(), (Outcome::Answered, false)),
-        (SPACED.as_slice(), (Outcome::Wanted, true)),
-    ] {
-        for (path, change, old, new) in rows {
-            let steps = [(*path, *change)];
-            let texts = [*new];
-            let row = (Edits::List(&steps), *old, texts.as_slice());
-            assert!(rt;
-                without_memory(rt.alloc(), &row) == wanted,
-                "{old} to {new}"
-            );
-        }
+    for edit in &PLAIN {
+        let refused = without_memory(rt.alloc(), &row(edit));
+        assert!(rt; refused == (Outcome::Answered, false), "{}", edit.1);
+    }
+    for edit in &SPACED {
+        let refused = without_memory(rt.alloc(), &row(edit));
+        assert!(rt; refused == (Outcome::Wanted, true), "{}", edit.1);
     }
     Ok(())
 }

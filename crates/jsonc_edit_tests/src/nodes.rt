@@ -5,7 +5,7 @@ ghost use Rattle.jsonc_cst.specs.Nodes.{array_node, object_node};
 
 use crate::changes::{Change, Way};
 use crate::reading::{read, value_of};
-use crate::rows::{Edits, is_refused_in_turn, without_memory};
+use crate::rows::{Edits, Row, is_refused_in_turn, without_memory};
 use jsonc_parser::cst::{
     CstArray, CstObject, CstRootNode, EditError, EnsureMultiline, EnsureProperty, InsertElement,
     InsertProperty, Over, SetTrailingCommas, Shape, TrailingCommaMode,
@@ -13,6 +13,7 @@ use jsonc_parser::cst::{
 use refusing::awaited::prints;
 use refusing::outcome::Outcome;
 use std::alloc::{Allocator, Global};
+use std::slice::from_ref;
 use std::test::Fail;
 
 /// Whether an edit was made.
@@ -99,7 +100,11 @@ pub fn change_node<A: Allocator + Copy>(
 }
 
 /// A change, a text, and the text after the change.
-type Row = (Change, &'static str, &'static str);
+type OneChange = (Change, &'static str, &'static str);
+
+fn row(change: &OneChange) -> Row<'_> {
+    (Edits::Node(change.0), change.1, from_ref(&change.2))
+}
 
 const SET_COMMAS: Change = Change::SetTrailingCommas(TrailingCommaMode::IfMultiline);
 
@@ -140,8 +145,8 @@ const BY_NAME: [(&str, Shape, Over, &str, &str); 6] = [
     ("a", Shape::Array, Over::Replace, SPACED, "{\"a\": []}"),
 ];
 
-/// Changes that want memory.
-const ROWS: [Row; 4] = [
+/// Changes that put something in.
+const ROWS: [OneChange; 4] = [
     (Change::Value(Way::Insert(1), "9"), "[1, 2]", "[1, 9,  2]"),
     (Change::Property(Way::Append, "b", "true"), SHORT, APPENDED),
     (
@@ -152,8 +157,8 @@ const ROWS: [Row; 4] = [
     (SET_COMMAS, BARE, SET),
 ];
 
-/// Changes that want it once the text is read and the value is there.
-const WANTING: [Row; 3] = [
+/// Changes that want memory once the text is read and the value is there.
+const WANTING: [OneChange; 3] = [
     (
         Change::Value(Way::Append, "2"),
         "[1 //c\n]",
@@ -163,8 +168,8 @@ const WANTING: [Row; 3] = [
     (Change::EnsureMultiline, "[1, [2]]", ARRAY),
 ];
 
-/// Changes that want none then.
-const STANDING: [Row; 5] = [
+/// Changes that want none.
+const STANDING: [OneChange; 5] = [
     (Change::EnsureMultiline, SPREAD, SPREAD),
     (Change::EnsureMultiline, ARRAY, ARRAY),
     (TAKE_COMMAS, SET, BARE),
@@ -174,11 +179,13 @@ const STANDING: [Row; 5] = [
 
 #[test]
 fn changes_are_refused_in_turn(rt: HostRuntime) -> Result<(), Fail> {
-    for rows in [ROWS.as_slice(), WANTING.as_slice()] {
-        for (change, old, new) in rows {
-            let texts = [*new];
-            let row = (Edits::Node(*change), *old, texts.as_slice());
-            assert!(rt; is_refused_in_turn(rt.alloc(), &row), "{old} to {new}");
+    for changes in [ROWS.as_slice(), WANTING.as_slice()] {
+        for change in changes {
+            assert!(rt;
+                is_refused_in_turn(rt.alloc(), &row(change)),
+                "{}",
+                change.2
+            );
         }
     }
     Ok(())
@@ -187,28 +194,24 @@ fn changes_are_refused_in_turn(rt: HostRuntime) -> Result<(), Fail> {
 #[test]
 fn values_by_name_are_refused_in_turn(rt: HostRuntime) -> Result<(), Fail> {
     for (name, shape, over, old, new) in BY_NAME {
-        let change = Change::EnsureProperty(name, shape, over);
-        let texts = [new];
-        let row = (Edits::Node(change), old, texts.as_slice());
-        assert!(rt; is_refused_in_turn(rt.alloc(), &row), "{old} to {new}");
+        let change = (Change::EnsureProperty(name, shape, over), old, new);
+        assert!(rt;
+            is_refused_in_turn(rt.alloc(), &row(&change)),
+            "{old} to {new}"
+        );
     }
     Ok(())
 }
 
 #[test]
 fn memory_is_wanted_for_what_comes_alone(rt: HostRuntime) -> Result<(), Fail> {
-    for (rows, wanted) in [
-        (WANTING.as_slice(), (Outcome::Wanted, true)),
-        (STANDING.as_slice(), (Outcome::Answered, false)),
-    ] {
-        for (change, old, new) in rows {
-            let texts = [*new];
-            let row = (Edits::Node(*change), *old, texts.as_slice());
-            assert!(rt;
-                without_memory(rt.alloc(), &row) == wanted,
-                "{old} to {new}"
-            );
-        }
+    for change in &WANTING {
+        let refused = without_memory(rt.alloc(), &row(change));
+        assert!(rt; refused == (Outcome::Wanted, true), "{}", change.2);
+    }
+    for change in &STANDING {
+        let refused = without_memory(rt.alloc(), &row(change));
+        assert!(rt; refused == (Outcome::Answered, false), "{}", change.2);
     }
     Ok(())
 }

@@ -15,6 +15,7 @@ use refusing::awaited::prints;
 use refusing::outcome::Outcome;
 use std::alloc::{Allocator, Global};
 use std::cmp::Ordering;
+use std::slice::from_ref;
 use std::test::Fail;
 
 /// How elements or properties are sorted.
@@ -156,8 +157,7 @@ const ROWS: [(By, &str, &str); 12] = [
 #[test]
 fn sorts_want_memory_or_are_made(rt: HostRuntime) -> Result<(), Fail> {
     for (by, old, new) in ROWS {
-        let texts = [new];
-        let row = (Edits::Sort(by), old, texts.as_slice());
+        let row = (Edits::Sort(by), old, from_ref(&new));
         assert!(rt; is_made_in_turn(rt.alloc(), &row), "{old} to {new}");
     }
     Ok(())
@@ -177,9 +177,8 @@ const LISTED: [(bool, bool, &str, &str); 4] = [
 #[test]
 fn lists_that_sort_want_memory_or_are_made(rt: HostRuntime) -> Result<(), Fail> {
     for (pins, groups, old, new) in LISTED {
-        let steps = [(ROOT, Change::Sort(pins, groups))];
-        let texts = [new];
-        let row = (Edits::List(&steps), old, texts.as_slice());
+        let step = (ROOT, Change::Sort(pins, groups));
+        let row = (Edits::List(from_ref(&step)), old, from_ref(&new));
         assert!(rt; is_made_in_turn(rt.alloc(), &row), "{old} to {new}");
     }
     Ok(())
