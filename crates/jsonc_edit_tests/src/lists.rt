@@ -82,7 +82,7 @@ const APPENDED: [Step; 3] = [
     (&[], Change::Value(Way::Append, "4")),
 ];
 
-const ROWS: [Row; 8] = [
+const ROWS: [Row; 9] = [
     (
         Edits::List(&[
             (&[0, 0], Change::EnsureValue(Shape::Object)),
@@ -127,6 +127,7 @@ const ROWS: [Row; 8] = [
         &["[{\"a\": [1]}]", "[{\"a\": 1}]"],
     ),
     (Edits::List(&[(&[], SET_COMMAS)]), "1", &[]),
+    (Edits::List(&[(&[], Change::Sort(false, false))]), "1", &[]),
     (
         Edits::List(&[
             (&[], Change::Property(Way::Append, "b", "true")),

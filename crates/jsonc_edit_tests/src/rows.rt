@@ -70,7 +70,7 @@ fn prints_at<A: Allocator>(doc: &CstRootNode<A>, row: &Row<'_>, made: usize) -> 
 
 /// Makes the edits of a row of its text: all that have a place are made, or some for want of memory; and the
 /// document is as those left it.
-pub fn outcome<A: Allocator + Copy>(alloc: A, row: &Row<'_>) -> Outcome {
+fn outcome<A: Allocator + Copy>(alloc: A, row: &Row<'_>) -> Outcome {
     let mut doc = match read(alloc, row.1) {
         Ok(doc) => doc,
         Err(outcome) => return outcome,

@@ -3,9 +3,9 @@
 ghost use Rattle.jsonc_cst.specs.Document.{Holds};
 ghost use Rattle.jsonc_cst.specs.Nodes.{array_node, object_node};
 
-use crate::changes::Change;
+use crate::changes::{Change, Step};
 use crate::reading::read;
-use crate::rows::{Edits, Row, is_made_in_turn, outcome};
+use crate::rows::{Edits, is_made_in_turn};
 use jsonc_parser::cst::{
     CstArray, CstComment, CstContainerNode, CstLeafNode, CstNode, CstObject, CstObjectProp,
     CstRootNode, EditError, HasChildren, ObjectPropName, RemoveLeaf, SetTrailingCommas,
@@ -163,9 +163,6 @@ fn sorts_want_memory_or_are_made(rt: HostRuntime) -> Result<(), Fail> {
     Ok(())
 }
 
-/// The path of a document's value.
-const ROOT: &[usize] = &[];
-
 /// Whether a list pins headers and whether it keeps groups, a text, and the text after it.
 const LISTED: [(bool, bool, &str, &str); 4] = [
     (false, false, "[2,\n\n 1]", "[1,\n 2]"),
@@ -177,18 +174,10 @@ const LISTED: [(bool, bool, &str, &str); 4] = [
 #[test]
 fn lists_that_sort_want_memory_or_are_made(rt: HostRuntime) -> Result<(), Fail> {
     for (pins, groups, old, new) in LISTED {
-        let step = (ROOT, Change::Sort(pins, groups));
+        let step: Step = (&[], Change::Sort(pins, groups));
         let row = (Edits::List(from_ref(&step)), old, from_ref(&new));
         assert!(rt; is_made_in_turn(rt.alloc(), &row), "{old} to {new}");
     }
-    Ok(())
-}
-
-const UNSORTED: Row = (Edits::List(&[(ROOT, Change::Sort(false, false))]), "1", &[]);
-
-#[test]
-fn a_number_is_not_sorted(rt: HostRuntime) -> Result<(), Fail> {
-    assert!(rt; outcome(rt.alloc(), &UNSORTED) == Outcome::Answered);
     Ok(())
 }
 
