@@ -30,7 +30,7 @@ fn row(edit: &OneEdit) -> Row<'_> {
     (Edits::List(from_ref(&edit.0)), edit.1, from_ref(&edit.2))
 }
 
-const SINGLE: [OneEdit; 9] = [
+static SINGLE: [OneEdit; 9] = [
     ((&[], Change::RemoveComment(0)), "[1/*c*/2]", "[1 2]"),
     ((&[], Change::SetRoot("1")), "// c", "// c\n1\n"),
     ((&[], Change::SetRoot("1")), "// c\n", "// c\n1\n"),
@@ -51,7 +51,7 @@ const SINGLE: [OneEdit; 9] = [
 ];
 
 /// Something leaves, and no space is due.
-const PLAIN: [OneEdit; 6] = [
+static PLAIN: [OneEdit; 6] = [
     ((&[0], Change::Remove), "[1, 2]", "[ 2]"),
     ((&[1], Change::Remove), "[1, 2]", "[1]"),
     (
@@ -69,7 +69,7 @@ const PLAIN: [OneEdit; 6] = [
 ];
 
 /// A space is due where something leaves.
-const SPACED: [OneEdit; 3] = [
+static SPACED: [OneEdit; 3] = [
     ((&[1], Change::Remove), "[1[2]3]", "[1 3]"),
     ((&[2], Change::Remove), "[1,2[3]4]", "[1 2 4]"),
     ((&[1], Change::Remove), "{a:1\"x\":2b:3}", "{a:1 b:3}"),
@@ -82,7 +82,7 @@ const APPENDED: [Step; 3] = [
     (&[], Change::Value(Way::Append, "4")),
 ];
 
-const ROWS: [Row; 9] = [
+static ROWS: [Row; 9] = [
     (
         Edits::List(&[
             (&[0, 0], Change::EnsureValue(Shape::Object)),

@@ -136,7 +136,7 @@ const WITH_ARRAY: &str = "{\n  \"a\":1,\n  \"b\": []\n}";
 /// An object whose property is no array.
 const SPACED: &str = "{\"a\": 1}";
 
-const BY_NAME: [(&str, Shape, Over, &str, &str); 6] = [
+static BY_NAME: [(&str, Shape, Over, &str, &str); 6] = [
     ("b", Shape::Object, Over::Keep, SHORT, WITH_OBJECT),
     ("b", Shape::Object, Over::Replace, SHORT, WITH_OBJECT),
     ("b", Shape::Array, Over::Keep, SHORT, WITH_ARRAY),
@@ -146,7 +146,7 @@ const BY_NAME: [(&str, Shape, Over, &str, &str); 6] = [
 ];
 
 /// Changes that put something in.
-const ROWS: [OneChange; 4] = [
+static ROWS: [OneChange; 4] = [
     (Change::Value(Way::Insert(1), "9"), "[1, 2]", "[1, 9,  2]"),
     (Change::Property(Way::Append, "b", "true"), SHORT, APPENDED),
     (
@@ -158,7 +158,7 @@ const ROWS: [OneChange; 4] = [
 ];
 
 /// Changes that want memory once the text is read and the value is there.
-const WANTING: [OneChange; 3] = [
+static WANTING: [OneChange; 3] = [
     (
         Change::Value(Way::Append, "2"),
         "[1 //c\n]",
@@ -169,7 +169,7 @@ const WANTING: [OneChange; 3] = [
 ];
 
 /// Changes that want none.
-const STANDING: [OneChange; 5] = [
+static STANDING: [OneChange; 5] = [
     (Change::EnsureMultiline, SPREAD, SPREAD),
     (Change::EnsureMultiline, ARRAY, ARRAY),
     (TAKE_COMMAS, SET, BARE),
@@ -193,8 +193,8 @@ fn changes_are_refused_in_turn(rt: HostRuntime) -> Result<(), Fail> {
 
 #[test]
 fn values_by_name_are_refused_in_turn(rt: HostRuntime) -> Result<(), Fail> {
-    for (name, shape, over, old, new) in BY_NAME {
-        let change = (Change::EnsureProperty(name, shape, over), old, new);
+    for (name, shape, over, old, new) in &BY_NAME {
+        let change = (Change::EnsureProperty(name, *shape, *over), *old, *new);
         assert!(rt;
             is_refused_in_turn(rt.alloc(), &row(&change)),
             "{old} to {new}"

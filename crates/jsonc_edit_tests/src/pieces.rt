@@ -10,7 +10,7 @@ use std::test::Fail;
 /// Edits, the text before them, and the pieces after them.
 type Row = (Edits<'static>, &'static str, &'static [&'static str]);
 
-const ROWS: [Row; 4] = [
+static ROWS: [Row; 4] = [
     (Edits::List(&[]), "[1, 2]", &["[", "1", ",", " ", "2", "]"]),
     (
         Edits::Node(Change::Value(Way::Append, "3")),

@@ -139,7 +139,7 @@ const PINNED: &str = "{\n  // h\n\n  // x\n  \"a\": 2,\n  \"b\": 1\n}";
 
 const BESIDE: &str = "{\"b\": 1, // one\n \"a\": 2}";
 
-const ROWS: [(By, &str, &str); 12] = [
+static ROWS: [(By, &str, &str); 12] = [
     (By::FirstCharacter, "[11, 0, 10]", "[0, 11, 10]"),
     (By::Text, "[2,\n\n 1]", "[1,\n 2]"),
     (By::Text, "[2, \n 1 // c\n]", "[1, // c \n 2\n]"),
@@ -156,15 +156,15 @@ const ROWS: [(By, &str, &str); 12] = [
 
 #[test]
 fn sorts_want_memory_or_are_made(rt: HostRuntime) -> Result<(), Fail> {
-    for (by, old, new) in ROWS {
-        let row = (Edits::Sort(by), old, from_ref(&new));
+    for (by, old, new) in &ROWS {
+        let row = (Edits::Sort(*by), *old, from_ref(new));
         assert!(rt; is_made_in_turn(rt.alloc(), &row), "{old} to {new}");
     }
     Ok(())
 }
 
 /// Whether a list pins headers and whether it keeps groups, a text, and the text after it.
-const LISTED: [(bool, bool, &str, &str); 4] = [
+static LISTED: [(bool, bool, &str, &str); 4] = [
     (false, false, "[2,\n\n 1]", "[1,\n 2]"),
     (false, true, "[3, 1,\n\n 2, 0]", "[1, 3,\n\n 0, 2]"),
     (false, false, NAMED, MOVED),
@@ -173,9 +173,9 @@ const LISTED: [(bool, bool, &str, &str); 4] = [
 
 #[test]
 fn lists_that_sort_want_memory_or_are_made(rt: HostRuntime) -> Result<(), Fail> {
-    for (pins, groups, old, new) in LISTED {
-        let step: Step = (&[], Change::Sort(pins, groups));
-        let row = (Edits::List(from_ref(&step)), old, from_ref(&new));
+    for (pins, groups, old, new) in &LISTED {
+        let step: Step = (&[], Change::Sort(*pins, *groups));
+        let row = (Edits::List(from_ref(&step)), *old, from_ref(new));
         assert!(rt; is_made_in_turn(rt.alloc(), &row), "{old} to {new}");
     }
     Ok(())
