@@ -108,9 +108,19 @@ fn asked_before(alloc: Global, row: &Row<'_>) -> u64 {
 }
 
 /// What comes of the edits of a row where every request for them is refused, and whether they make one.
-pub fn without_memory(alloc: Global, row: &Row<'_>) -> (Outcome, bool) {
+fn without_memory(alloc: Global, row: &Row<'_>) -> (Outcome, bool) {
     let asked = asked_before(alloc, row);
     let heap = Refusing::after(alloc, asked);
     let outcome = outcome(&heap, row);
     (outcome, heap.asked() > asked)
+}
+
+/// Whether the edits of a row, refused in turn, want memory themselves.
+pub fn wants_memory(alloc: Global, row: &Row<'_>) -> bool {
+    is_refused_in_turn(alloc, row) && without_memory(alloc, row) == (Outcome::Wanted, true)
+}
+
+/// Whether the edits of a row, refused in turn, are made without a request of their own.
+pub fn wants_none(alloc: Global, row: &Row<'_>) -> bool {
+    is_refused_in_turn(alloc, row) && without_memory(alloc, row) == (Outcome::Answered, false)
 }
