@@ -7,6 +7,8 @@
 #[cfg(test)]
 mod changes;
 #[cfg(test)]
+mod commas;
+#[cfg(test)]
 mod lists;
 #[cfg(test)]
 mod nested;

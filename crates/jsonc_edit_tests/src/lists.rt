@@ -6,9 +6,7 @@ use crate::rows::{Edits, Row, is_refused_in_turn, run_steps, wants_memory, wants
 use jsonc_parser::cst::{EditError, Over, Shape, TrailingCommaMode};
 use refusing::Refusing;
 use refusing::awaited::prints;
-use refusing::in_turn::refused_in_turn;
-use refusing::outcome::Outcome;
-use std::alloc::{Allocator, Global};
+use std::alloc::Global;
 use std::slice::from_ref;
 use std::test::Fail;
 
@@ -208,27 +206,5 @@ fn stops_at_second(alloc: Global, number: u64) -> bool {
 fn a_list_stops_at_its_second_edit_for_some_request(rt: HostRuntime) -> Result<(), Fail> {
     let alloc = rt.alloc();
     assert!(rt; (0..1000u64).any(|number| stops_at_second(alloc, number)));
-    Ok(())
-}
-
-/// Commas come into an array and the one in it: where one is refused the one before it may stand.
-fn both_set<A: Allocator + Copy>(alloc: A) -> Outcome {
-    let old = "[\n  [\n    1\n  ]\n]";
-    let mut doc = match read(alloc, old) {
-        Ok(doc) => doc,
-        Err(outcome) => return outcome,
-    };
-    match run_steps(&mut doc, alloc, &[(&[], SET_COMMAS)]) {
-        Ok(()) => Outcome::of(prints(&doc, "[\n  [\n    1,\n  ],\n]")),
-        Err((0, error)) if prints(&doc, old) || prints(&doc, "[\n  [\n    1\n  ],\n]") => {
-            Outcome::from(error)
-        }
-        Err(_) => Outcome::Other,
-    }
-}
-
-#[test]
-fn commas_are_refused_in_part(rt: HostRuntime) -> Result<(), Fail> {
-    assert!(rt; refused_in_turn(rt.alloc(), |heap| both_set(heap)).is_some());
     Ok(())
 }
