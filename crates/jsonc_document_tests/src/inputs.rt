@@ -11,7 +11,7 @@ use std::alloc::{AllocError, Allocator, Global};
 /// Texts with the literals that stand for them: each short escape, in the order of their characters; characters of
 /// both stretches that are written by their digits, from each end; and characters beside those stretches, and
 /// others that are written as they are.
-const SPELLED: [(&str, &str); 5] = [
+static SPELLED: [(&str, &str); 5] = [
     ("", "\"\""),
     ("a\"\\\u{1}\u{7f}", r#""a\"\\\u0001\u007f""#),
     ("\u{8}\t\n\u{c}\r\"\\", r#""\b\t\n\f\r\"\\""#),

@@ -24,7 +24,7 @@ enum Damage {
 }
 
 /// Each with its name, the text, and the word that is written.
-const ROWS: [(Damage, &str, &str); 7] = [
+static ROWS: [(Damage, &str, &str); 7] = [
     (Damage::Comment, "[1 /*a*/]", "x"),
     (Damage::Bracket, "[1]", ""),
     (Damage::Comma, "[1,2]", ""),

@@ -26,7 +26,7 @@ type Row = (&'static str, TypedEdit, &'static str, &'static str);
 const TWO: &str = "{ \"a\": 1, \"b\": 2 }";
 
 /// The edits that want memory.
-const WANTING: [Row; 18] = [
+static WANTING: [Row; 18] = [
     ("// c", Root(RootEdit::Set), "1", "// c\n1\n"),
     ("// c\n", Root(RootEdit::Set), "1", "// c\n1\n"),
     ("", Root(RootEdit::ObjectOrCreate), "", "{}\n"),
@@ -78,7 +78,7 @@ const WANTING: [Row; 18] = [
 ];
 
 /// The edits that want none, though all further requests are refused.
-const UNASKED: [Row; 28] = [
+static UNASKED: [Row; 28] = [
     ("// c\n[1]", Root(RootEdit::Clear), "", ""),
     ("// c\n[1]", Root(RootEdit::RemoveRoot), "", ""),
     ("{ } // c", Root(RootEdit::ObjectOrCreate), "", "{ } // c"),

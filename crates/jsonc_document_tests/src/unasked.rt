@@ -16,9 +16,9 @@ use std::alloc::{Allocator, Global};
 /// Leaves of each kind, in a property and in the array of the next one.
 const LEAVES: &str = "{a: \"b\", c: [true,false,null,1 /*c*/\n]}";
 
-const OF_PROPERTY: [&str; 4] = ["a", ":", " ", "\"b\""];
+static OF_PROPERTY: [&str; 4] = ["a", ":", " ", "\"b\""];
 
-const OF_ARRAY: [&str; 12] = [
+static OF_ARRAY: [&str; 12] = [
     "[", "true", ",", "false", ",", "null", ",", "1", " ", "/*c*/", "\n", "]",
 ];
 

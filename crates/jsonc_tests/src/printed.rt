@@ -11,7 +11,7 @@ use std::fmt::Write;
 use std::test::Fail;
 
 /// Why a document was not changed, and what that prints.
-const EDIT_ERRORS: [(EditError, &str); 4] = [
+static EDIT_ERRORS: [(EditError, &str); 4] = [
     (EditError::OutOfMemory, "Out of memory"),
     (EditError::MissingBrackets, "Missing brackets"),
     (EditError::MissingName, "Missing name"),

@@ -82,7 +82,7 @@ const OBJECT: &[u8] = b"{\"b\": 1, // one\n \"a\": 2}";
 /// The array takes seven reads: six of five bytes, and one that finds the end. The object takes six. Each piece
 /// of what is written takes one write, but two where it is longer than five bytes, as the strings of the array
 /// and the comment are; and one call more is the flush.
-const CASES: [Case; 6] = [
+static CASES: [Case; 6] = [
     Case {
         words: &["print"],
         input: TEXT,
