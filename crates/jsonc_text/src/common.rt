@@ -39,21 +39,21 @@ pub trait Ranged {
         ensures { result ≡ range_of self.now };
 
     /// The place where it begins.
-    fn start(&self) -> usize
+    final fn start(&self) -> usize
         ensures { result ≡ (range_of self.now).start }
     {
         self.range().start
     }
 
     /// The place after its last byte.
-    fn end(&self) -> usize
+    final fn end(&self) -> usize
         ensures { result ≡ (range_of self.now).end }
     {
         self.range().end
     }
 
     /// The part of the text that it covers.
-    fn text<'a>(&self, text: &'a str) -> &'a str
+    final fn text<'a>(&self, text: &'a str) -> &'a str
         requires { Spans text.now (range_of self.now).start (range_of self.now).end }
         ensures { result.now ≡ slice_range text.now (range_of self.now).start (range_of self.now).end }
     {
@@ -62,7 +62,7 @@ pub trait Ranged {
     }
 
     /// How many bytes it covers.
-    fn width(&self) -> usize
+    final fn width(&self) -> usize
         requires { (range_of self.now).start ≤ (range_of self.now).end }
         ensures { result ≡ (range_of self.now).end - (range_of self.now).start }
     {

@@ -7,6 +7,7 @@ ghost use Rattle.jsonc_scan.specs.Scanner.{options_of};
 use crate::collect::{CollectOptions, CommentCollectionStrategy, CommentMap};
 use crate::comments::{GapComments, comment_of};
 use crate::container::Container;
+use crate::room::make_room;
 use jsonc_ast::ast::{ObjectPropName, StringLit, WordLit};
 use jsonc_scan::found::{TokenContent, TokenKind};
 use jsonc_scan::scanner::Scanner;
@@ -215,10 +216,14 @@ impl<'a, A: Allocator + Copy> Context<'a, A> {
         ensures fault { IfErr result (IsFault (text_in self.old)) }
     {
         let range = self.range();
+        let len = self.scanner.file_text().len();
         let Some(tokens) = &mut self.tokens else {
             return Ok(());
         };
         let Ok(token) = self.content.token(token) else {
+            return Err(self.out_of_memory());
+        };
+        let Ok(()) = make_room(tokens, range.start, len) else {
             return Err(self.out_of_memory());
         };
         let Ok(()) = tokens.push(TokenAndRange { range, token }) else {

@@ -6,6 +6,7 @@ pub mod comments;
 pub mod container;
 pub mod context;
 pub mod laws;
+mod room;
 mod values;
 
 pub use values::parse_to_ast;

@@ -166,35 +166,50 @@ impl<'a, A: Allocator> Object<'a, A> {
     pub fn get_string(&self, name: &str) -> Option<&StringLit<'a, A>>
         ensures { option_copied result ≡ option_and_then as_string_lit (value_named name.now self.now) }
     {
-        self.get(name)?.value.as_string_lit()
+        match self.get(name) {
+            Some(property) => property.value.as_string_lit(),
+            None => None,
+        }
     }
 
     /// The value of the first property of this name, if it is a number.
     pub fn get_number(&self, name: &str) -> Option<&NumberLit<'a>>
         ensures { option_copied result ≡ option_and_then as_number_lit (value_named name.now self.now) }
     {
-        self.get(name)?.value.as_number_lit()
+        match self.get(name) {
+            Some(property) => property.value.as_number_lit(),
+            None => None,
+        }
     }
 
     /// The value of the first property of this name, if it is a truth value.
     pub fn get_boolean(&self, name: &str) -> Option<&BooleanLit>
         ensures { option_copied result ≡ option_and_then as_boolean_lit (value_named name.now self.now) }
     {
-        self.get(name)?.value.as_boolean_lit()
+        match self.get(name) {
+            Some(property) => property.value.as_boolean_lit(),
+            None => None,
+        }
     }
 
     /// The value of the first property of this name, if it is an object.
     pub fn get_object(&self, name: &str) -> Option<&Object<'a, A>>
         ensures { option_copied result ≡ option_and_then as_object (value_named name.now self.now) }
     {
-        self.get(name)?.value.as_object()
+        match self.get(name) {
+            Some(property) => property.value.as_object(),
+            None => None,
+        }
     }
 
     /// The value of the first property of this name, if it is an array.
     pub fn get_array(&self, name: &str) -> Option<&Array<'a, A>>
         ensures { option_copied result ≡ option_and_then as_array (value_named name.now self.now) }
     {
-        self.get(name)?.value.as_array()
+        match self.get(name) {
+            Some(property) => property.value.as_array(),
+            None => None,
+        }
     }
 
     /// Takes the first property of this name out. The properties after it close up.
@@ -218,7 +233,10 @@ impl<'a, A: Allocator> Object<'a, A> {
         if self.get_string(name).is_none() {
             return None;
         }
-        self.take(name)?.value.into_string_lit()
+        match self.take(name) {
+            Some(property) => property.value.into_string_lit(),
+            None => None,
+        }
     }
 
     /// Takes the first property of this name out, if its value is a number, and gives that. Else nothing changes.
@@ -230,7 +248,10 @@ impl<'a, A: Allocator> Object<'a, A> {
         if self.get_number(name).is_none() {
             return None;
         }
-        self.take(name)?.value.into_number_lit()
+        match self.take(name) {
+            Some(property) => property.value.into_number_lit(),
+            None => None,
+        }
     }
 
     /// Takes the first property of this name out, if its value is a truth value, and gives that. Else nothing changes.
@@ -242,7 +263,10 @@ impl<'a, A: Allocator> Object<'a, A> {
         if self.get_boolean(name).is_none() {
             return None;
         }
-        self.take(name)?.value.into_boolean_lit()
+        match self.take(name) {
+            Some(property) => property.value.into_boolean_lit(),
+            None => None,
+        }
     }
 
     /// Takes the first property of this name out, if its value is an object, and gives that. Else nothing changes.
@@ -254,7 +278,10 @@ impl<'a, A: Allocator> Object<'a, A> {
         if self.get_object(name).is_none() {
             return None;
         }
-        self.take(name)?.value.into_object()
+        match self.take(name) {
+            Some(property) => property.value.into_object(),
+            None => None,
+        }
     }
 
     /// Takes the first property of this name out, if its value is an array, and gives that. Else nothing changes.
@@ -266,6 +293,9 @@ impl<'a, A: Allocator> Object<'a, A> {
         if self.get_array(name).is_none() {
             return None;
         }
-        self.take(name)?.value.into_array()
+        match self.take(name) {
+            Some(property) => property.value.into_array(),
+            None => None,
+        }
     }
 }

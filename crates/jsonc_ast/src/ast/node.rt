@@ -7,10 +7,10 @@ use super::{
     Value, WordLit,
 };
 use jsonc_text::common::{Range, Ranged};
-use std::alloc::Allocator;
+use std::alloc::{AllocError, Allocator};
 
 /// A node of the syntax tree, borrowed from it.
-#[derive_where(Clone, Copy, PartialEq, Eq)]
+#[derive_where(Copy, PartialEq, Eq)]
 pub enum Node<'b, 'a, A: Allocator> {
     StringLit(&'b StringLit<'a, A>),
     NumberLit(&'b NumberLit<'a>),
@@ -20,6 +20,16 @@ pub enum Node<'b, 'a, A: Allocator> {
     Array(&'b Array<'a, A>),
     NullKeyword(&'b NullKeyword),
     WordLit(&'b WordLit<'a>),
+}
+
+impl<'b, 'a, A: Allocator> Clone for Node<'b, 'a, A> {
+    ghost is_clone = { λ x y. y ≡ x };
+
+    ghost is_infallible = { λ _. Unit {0} };
+
+    fn clone(&self) -> Result<Self, AllocError> {
+        Ok(*self)
+    }
 }
 
 /// What a node is.
