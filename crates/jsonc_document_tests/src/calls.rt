@@ -20,7 +20,7 @@ pub enum Call {
 }
 
 /// All of them, each with its name.
-pub const CALLS: [(Call, &str); 6] = [
+pub static CALLS: [(Call, &str); 6] = [
     (Call::Inputs, "inputs"),
     (Call::Children, "children"),
     (Call::Names, "names"),

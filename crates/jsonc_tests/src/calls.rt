@@ -30,6 +30,7 @@ pub enum Call {
     DecodeProvided,
     Scan,
     SyntaxTree,
+    ManyTokens,
     SyntaxTreeCopies,
     CommentMap,
     Value,
@@ -53,11 +54,12 @@ pub enum Call {
 }
 
 /// Those that want memory wherever a request is refused, each with its name.
-pub const CALLS: [(Call, &str); 23] = [
+pub static CALLS: [(Call, &str); 24] = [
     (Call::Decode, "decode"),
     (Call::DecodeProvided, "decode provided"),
     (Call::Scan, "scan"),
     (Call::SyntaxTree, "syntax tree"),
+    (Call::ManyTokens, "many tokens"),
     (Call::SyntaxTreeCopies, "syntax tree copies"),
     (Call::CommentMap, "comment map"),
     (Call::Value, "value"),
@@ -108,6 +110,9 @@ const SHORTER: &str = "{\"b\": 1 // one\n}";
 /// One with comments, an escape and looser spelling.
 const LOOSE: &str = "// one\n[{a: '\\x62', 0x1F: +.5, c: Infinity,}, /* two */ [NaN -1]]";
 
+/// Forty numbers, so that the room for the rest of the tokens is taken at once.
+const NUMBERS: &str = "[0, 1, 2, 3, 4, 5, 6, 7, 8, 9, 10, 11, 12, 13, 14, 15, 16, 17, 18, 19, 20, 21, 22, 23, 24, 25, 26, 27, 28, 29, 30, 31, 32, 33, 34, 35, 36, 37, 38, 39]";
+
 /// One with comments in three gaps, and with two in the first of them, which ends at 17.
 const COMMENTED: &str = "// one\n/* two */ [1, /* three */ 2] // four";
 
@@ -125,7 +130,8 @@ pub fn outcome_of<A: Allocator + Copy>(call: Call, alloc: A) -> Outcome {
         Call::Decode => decode(alloc),
         Call::DecodeProvided => decode_provided(alloc),
         Call::Scan => scan(alloc),
-        Call::SyntaxTree => syntax_tree(alloc),
+        Call::SyntaxTree => tokens(alloc, LOOSE, 23),
+        Call::ManyTokens => tokens(alloc, NUMBERS, 81),
         Call::SyntaxTreeCopies => tree_copies(alloc),
         Call::CommentMap => comment_map(alloc),
         Call::Value => value(alloc),
@@ -178,13 +184,14 @@ fn scan<A: Allocator + Copy>(alloc: A) -> Outcome {
     }
 }
 
-fn syntax_tree<A: Allocator + Copy>(alloc: A) -> Outcome {
+/// Whether a text has a value, and so many tokens.
+fn tokens<A: Allocator + Copy>(alloc: A, text: &str, count: usize) -> Outcome {
     let collect = CollectOptions {
         comments: CommentCollectionStrategy::AsTokens,
         tokens: true,
     };
-    match parse_to_ast(alloc, LOOSE, &collect, &ParseOptions::default()) {
-        Ok(parsed) => Outcome::of(parsed.value.is_some() && token_count(&parsed) == 23),
+    match parse_to_ast(alloc, text, &collect, &ParseOptions::default()) {
+        Ok(parsed) => Outcome::of(parsed.value.is_some() && token_count(&parsed) == count),
         Err(error) => Outcome::from(error),
     }
 }
