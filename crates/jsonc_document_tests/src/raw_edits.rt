@@ -144,8 +144,8 @@ fn outcome_of<A: Allocator + Copy>(alloc: A, damage: Damage, text: &str, word: &
 
 #[test]
 fn damaged_documents_stand_as_they_are(rt: HostRuntime) -> Result<(), Fail> {
-    for (damage, text, word) in ROWS {
-        let outcome = outcome_of::<Global>(rt.alloc(), damage, text, word);
+    for (damage, text, word) in &ROWS {
+        let outcome = outcome_of::<Global>(rt.alloc(), *damage, text, word);
         assert!(rt; outcome == Outcome::Answered, "{text}");
     }
     Ok(())

@@ -20,8 +20,8 @@ static EDIT_ERRORS: [(EditError, &str); 4] = [
 
 #[test]
 fn reasons_of_edits_are_printed(rt: HostRuntime) -> Result<(), Fail> {
-    for (error, text) in EDIT_ERRORS {
-        assert!(rt; prints(&error, text), "{text}");
+    for (error, text) in &EDIT_ERRORS {
+        assert!(rt; prints(error, text), "{text}");
     }
     assert!(rt; prints(&Fault::Edit(EditError::OutOfMemory), "jsonc: Out of memory"));
     Ok(())
