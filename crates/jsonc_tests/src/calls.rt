@@ -112,7 +112,7 @@ const LOOSE: &str = "// one\n[{a: '\\x62', 0x1F: +.5, c: Infinity,}, /* two */ [
 
 /// Forty numbers, so that the room for the rest of the tokens is taken at once.
 const NUMBERS: &str =
-    "[0, 1, 2, 3, 4, 5, 6, 7, 8, 9, 10, 11, 12, 13, 14, 15, 16, 17, 18, 19, 20, 21, 22, 23, 24, 25, 26, 27, 28, 29, 30, 31, 32, 33, 34, 35, 36, 37, 38, 39]";
+    "[0,1,2,3,4,5,6,7,8,9,0,1,2,3,4,5,6,7,8,9,0,1,2,3,4,5,6,7,8,9,0,1,2,3,4,5,6,7,8,9]";
 
 /// One with comments in three gaps, and with two in the first of them, which ends at 17.
 const COMMENTED: &str = "// one\n/* two */ [1, /* three */ 2] // four";
