@@ -16,29 +16,50 @@ pub fn looked_up(
         return String::from_str(alloc, "no-object");
     };
     let mut object = object;
-    let mut answers = String::new(alloc);
-    for lookup in lookups {
-        answers.push('\t')?;
-        match found(&mut object, lookup)? {
-            Some(value) => push_value(alloc, &mut answers, value)?,
-            None => answers.push('-')?,
-        }
-    }
+    let answers = answered(alloc, &mut object, lookups)?;
+    shown(alloc, object, answers.as_str())
+}
+
+/// An object, and what was answered of it.
+fn shown(
+    alloc: Global,
+    object: JsonObject<'_, Global>,
+    answers: &str,
+) -> Result<String, AllocError> {
     let mut out = String::new(alloc);
     push_value(alloc, &mut out, JsonValue::Object(object))?;
-    out.push_str(answers.as_str())?;
+    out.push_str(answers)?;
     Ok(out)
 }
 
-fn found<'a>(
-    object: &mut JsonObject<'a, Global>,
-    lookup: &Lookup,
-) -> Result<Option<JsonValue<'a, Global>>, AllocError> {
-    let name = lookup.name.as_str();
-    if lookup.takes {
-        return Ok(taken(object, lookup.kind, name));
+/// The answer to each look-up.
+fn answered(
+    alloc: Global,
+    object: &mut JsonObject<'_, Global>,
+    lookups: &[Lookup],
+) -> Result<String, AllocError> {
+    let mut out = String::new(alloc);
+    for lookup in lookups {
+        out.push('\t')?;
+        push_answer(alloc, &mut out, object, lookup)?;
     }
-    got(object, lookup.kind, name)
+    Ok(out)
+}
+
+fn push_answer(
+    alloc: Global,
+    out: &mut String,
+    object: &mut JsonObject<'_, Global>,
+    lookup: &Lookup,
+) -> Result<(), AllocError> {
+    let name = lookup.name.as_str();
+    if !lookup.takes {
+        return push_copy(alloc, out, object, lookup.kind, name);
+    }
+    match taken(object, lookup.kind, name) {
+        Some(value) => push_value(alloc, out, value),
+        None => out.push('-'),
+    }
 }
 
 fn taken<'a>(
@@ -57,35 +78,37 @@ fn taken<'a>(
 }
 
 /// A copy of what is found.
-fn got<'a>(
-    object: &JsonObject<'a, Global>,
+fn push_copy(
+    alloc: Global,
+    out: &mut String,
+    object: &JsonObject<'_, Global>,
     kind: Kind,
     name: &str,
-) -> Result<Option<JsonValue<'a, Global>>, AllocError> {
+) -> Result<(), AllocError> {
     match kind {
         Kind::Any => match object.get(name) {
-            Some(value) => Ok(Some(value.try_clone()?)),
-            None => Ok(None),
+            Some(value) => push_value(alloc, out, value.try_clone()?),
+            None => out.push('-'),
         },
         Kind::String => match object.get_string(name) {
-            Some(string) => Ok(Some(JsonValue::String(string.clone()?))),
-            None => Ok(None),
+            Some(string) => push_value(alloc, out, JsonValue::String(string.clone()?)),
+            None => out.push('-'),
         },
         Kind::Number => match object.get_number(name) {
-            Some(number) => Ok(Some(JsonValue::Number(number))),
-            None => Ok(None),
+            Some(number) => push_value(alloc, out, JsonValue::Number(number)),
+            None => out.push('-'),
         },
         Kind::Boolean => match object.get_boolean(name) {
-            Some(boolean) => Ok(Some(JsonValue::Boolean(boolean))),
-            None => Ok(None),
+            Some(boolean) => push_value(alloc, out, JsonValue::Boolean(boolean)),
+            None => out.push('-'),
         },
         Kind::Object => match object.get_object(name) {
-            Some(object) => Ok(Some(JsonValue::Object(object.try_clone()?))),
-            None => Ok(None),
+            Some(object) => push_value(alloc, out, JsonValue::Object(object.try_clone()?)),
+            None => out.push('-'),
         },
         Kind::Array => match object.get_array(name) {
-            Some(array) => Ok(Some(JsonValue::Array(array.try_clone()?))),
-            None => Ok(None),
+            Some(array) => push_value(alloc, out, JsonValue::Array(array.try_clone()?)),
+            None => out.push('-'),
         },
     }
 }

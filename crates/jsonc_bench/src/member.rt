@@ -1,6 +1,6 @@
 //! Look-ups by name in the object of a text, as its syntax tree answers them.
 
-use crate::syntax::{push_object, push_value};
+use crate::syntax::{push_array, push_boolean, push_object, push_text, push_value};
 use jsonc_cases::lookups::{Kind, Lookup};
 use jsonc_parser::ast::{Object, Value};
 use jsonc_parser::{
@@ -19,17 +19,24 @@ pub fn looked_up_in_tree(
         return String::from_str(alloc, "no-object");
     };
     let mut object = object;
-    let mut answers = String::new(alloc);
-    for lookup in lookups {
-        answers.push('\t')?;
-        match found(&mut object, lookup)? {
-            Some(value) => push_value(&mut answers, &value)?,
-            None => answers.push('-')?,
-        }
-    }
+    let answers = answered(alloc, &mut object, lookups)?;
     let mut out = String::new(alloc);
     push_object(&mut out, &object)?;
     out.push_str(answers.as_str())?;
+    Ok(out)
+}
+
+/// The answer to each look-up.
+fn answered(
+    alloc: Global,
+    object: &mut Object<'_, Global>,
+    lookups: &[Lookup],
+) -> Result<String, AllocError> {
+    let mut out = String::new(alloc);
+    for lookup in lookups {
+        out.push('\t')?;
+        push_answer(&mut out, object, lookup)?;
+    }
     Ok(out)
 }
 
@@ -61,15 +68,19 @@ fn object_of<'a>(
     }
 }
 
-fn found<'a>(
-    object: &mut Object<'a, Global>,
+fn push_answer(
+    out: &mut String,
+    object: &mut Object<'_, Global>,
     lookup: &Lookup,
-) -> Result<Option<Value<'a, Global>>, AllocError> {
+) -> Result<(), AllocError> {
     let name = lookup.name.as_str();
-    if lookup.takes {
-        return Ok(taken(object, lookup.kind, name));
+    if !lookup.takes {
+        return push_found(out, object, lookup.kind, name);
     }
-    got(object, lookup.kind, name)
+    match taken(object, lookup.kind, name) {
+        Some(value) => push_value(out, &value),
+        None => out.push('-'),
+    }
 }
 
 fn taken<'a>(object: &mut Object<'a, Global>, kind: Kind, name: &str) -> Option<Value<'a, Global>> {
@@ -83,36 +94,37 @@ fn taken<'a>(object: &mut Object<'a, Global>, kind: Kind, name: &str) -> Option<
     }
 }
 
-/// A copy of what is found.
-fn got<'a>(
-    object: &Object<'a, Global>,
+/// What is found.
+fn push_found(
+    out: &mut String,
+    object: &Object<'_, Global>,
     kind: Kind,
     name: &str,
-) -> Result<Option<Value<'a, Global>>, AllocError> {
+) -> Result<(), AllocError> {
     match kind {
         Kind::Any => match object.get(name) {
-            Some(property) => Ok(Some(property.try_clone()?.value)),
-            None => Ok(None),
+            Some(property) => push_value(out, &property.value),
+            None => out.push('-'),
         },
         Kind::String => match object.get_string(name) {
-            Some(string) => Ok(Some(Value::StringLit(string.try_clone()?))),
-            None => Ok(None),
+            Some(string) => push_text(out, "'", string.range, string.value.as_str()),
+            None => out.push('-'),
         },
         Kind::Number => match object.get_number(name) {
-            Some(number) => Ok(Some(Value::NumberLit(number.clone()?))),
-            None => Ok(None),
+            Some(number) => push_text(out, "#", number.range, number.value),
+            None => out.push('-'),
         },
         Kind::Boolean => match object.get_boolean(name) {
-            Some(boolean) => Ok(Some(Value::BooleanLit(boolean.clone()?))),
-            None => Ok(None),
+            Some(boolean) => push_boolean(out, boolean),
+            None => out.push('-'),
         },
         Kind::Object => match object.get_object(name) {
-            Some(object) => Ok(Some(Value::Object(object.try_clone()?))),
-            None => Ok(None),
+            Some(object) => push_object(out, object),
+            None => out.push('-'),
         },
         Kind::Array => match object.get_array(name) {
-            Some(array) => Ok(Some(Value::Array(array.try_clone()?))),
-            None => Ok(None),
+            Some(array) => push_array(out, array),
+            None => out.push('-'),
         },
     }
 }

@@ -3,7 +3,7 @@ use crate::comments::push_comments;
 use crate::document::push_reprint;
 use crate::show::{push_fault, push_token};
 use jsonc_cases::escape::Escaped;
-use jsonc_parser::ast::{Array, Object, ObjectProp, ObjectPropName, Value};
+use jsonc_parser::ast::{Array, BooleanLit, Object, ObjectProp, ObjectPropName, Value};
 use jsonc_parser::common::{Range, Ranged};
 use jsonc_parser::tokens::TokenAndRange;
 use jsonc_parser::{CollectOptions, ParseOptions, ParseResult, parse_to_ast};
@@ -65,13 +65,16 @@ pub fn push_text(out: &mut String, mark: &str, range: Range, text: &str) -> Resu
     write!(out, ":{}", Escaped::word(text))
 }
 
+pub fn push_boolean(out: &mut String, boolean: &BooleanLit) -> Result<(), AllocError> {
+    push_range(out, if boolean.value { "T" } else { "F" }, boolean.range)
+}
+
 /// A value with its range, and those in it.
 #[cycle(show)]
 pub fn push_value(out: &mut String, value: &Value<'_, Global>) -> Result<(), AllocError> {
     match value {
         Value::NullKeyword(null) => push_range(out, "N", null.range),
-        Value::BooleanLit(boolean) if boolean.value => push_range(out, "T", boolean.range),
-        Value::BooleanLit(boolean) => push_range(out, "F", boolean.range),
+        Value::BooleanLit(boolean) => push_boolean(out, boolean),
         Value::NumberLit(number) => push_text(out, "#", number.range, number.value),
         Value::StringLit(string) => push_text(out, "'", string.range, string.value.as_str()),
         Value::Array(array) => push_array(out, array),
@@ -79,8 +82,9 @@ pub fn push_value(out: &mut String, value: &Value<'_, Global>) -> Result<(), All
     }
 }
 
+/// An array with its range, and what is in it.
 #[cycle(show)]
-fn push_array(out: &mut String, array: &Array<'_, Global>) -> Result<(), AllocError> {
+pub fn push_array(out: &mut String, array: &Array<'_, Global>) -> Result<(), AllocError> {
     push_range(out, "[", array.range)?;
     write!(out, "*{}", array.elements.len())?;
     for element in array.elements.iter() {
