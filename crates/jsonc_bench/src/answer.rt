@@ -16,42 +16,49 @@ use std::alloc::{AllocError, Global};
 pub fn answer(alloc: Global, question: Question) -> Result<Option<String>, AllocError> {
     match question {
         Question::NotBuilt => Ok(None),
-        Question::Print { options, input } => Ok(Some(printed(alloc, &options, input.as_slice())?)),
+        Question::Print { options, input } => given(printed(alloc, &options, input.as_slice())),
         Question::Program { words, input } => {
-            Ok(Some(outcome(alloc, words.as_slice(), input.as_slice())?))
+            given(outcome(alloc, words.as_slice(), input.as_slice()))
         }
-        Question::Scan { options, text } => Ok(Some(tokens(alloc, text.as_str(), &options)?)),
-        Question::Value { options, text } => Ok(Some(value(alloc, text.as_str(), &options)?)),
+        Question::Scan { options, text } => given(tokens(alloc, text.as_str(), &options)),
+        Question::Value { options, text } => given(value(alloc, text.as_str(), &options)),
         Question::Equal {
             options,
             one,
             other,
-        } => Ok(Some(equal(alloc, one.as_str(), other.as_str(), &options)?)),
+        } => given(equal(alloc, one.as_str(), other.as_str(), &options)),
         Question::Object {
             options,
             text,
             lookups,
-        } => Ok(Some(looked_up(alloc, text.as_str(), &options, lookups.as_slice())?)),
+        } => given(looked_up(alloc, text.as_str(), &options, lookups.as_slice())),
         Question::TreeObject {
             options,
             text,
             lookups,
-        } => Ok(Some(looked_up_in_tree(alloc, text.as_str(), &options, lookups.as_slice())?)),
+        } => given(looked_up_in_tree(alloc, text.as_str(), &options, lookups.as_slice())),
         Question::Edit {
             options,
             text,
             edits,
-        } => Ok(Some(edited(alloc, text.as_str(), &options, edits)?)),
+        } => given(edited(alloc, text.as_str(), &options, edits)),
         Question::Read {
             options,
             text,
             edits,
-        } => Ok(Some(readings(alloc, text.as_str(), &options, edits)?)),
-        Question::Decode { text } => Ok(Some(decoded(alloc, text.as_str())?)),
+        } => given(readings(alloc, text.as_str(), &options, edits)),
+        Question::Decode { text } => given(decoded(alloc, text.as_str())),
         Question::Ast {
             options,
             collect,
             text,
-        } => Ok(Some(syntax(alloc, text.as_str(), &collect, &options)?)),
+        } => given(syntax(alloc, text.as_str(), &collect, &options)),
+    }
+}
+
+fn given(answer: Result<String, AllocError>) -> Result<Option<String>, AllocError> {
+    match answer {
+        Ok(answer) => Ok(Some(answer)),
+        Err(error) => Err(error),
     }
 }

@@ -1,80 +1,42 @@
 //! A value for edits, as a run of words.
 
+use crate::value::{push_boolean, push_word};
 use jsonc_cases::escape::Escaped;
 use jsonc_parser::cst::input::CstInputValue;
 use std::alloc::{AllocError, Global};
 
-/// What is still to be shown.
-#[derive(Drop)]
-enum Part {
-    Name(String),
-    Value(CstInputValue<Global>),
-}
-
 /// A value as a run of words, each container before what is in it.
-pub fn push_input(
-    alloc: Global,
+#[cycle(show)]
+pub fn push_input(out: &mut String, value: &CstInputValue<Global>) -> Result<(), AllocError> {
+    match value {
+        CstInputValue::String(text) => push_word(out, '\'', text.as_str()),
+        CstInputValue::Number(text) => push_word(out, '#', text.as_str()),
+        CstInputValue::Bool(boolean) => push_boolean(out, *boolean),
+        CstInputValue::Null => out.push('N'),
+        CstInputValue::Array(elements) => push_elements(out, elements.as_slice()),
+        CstInputValue::Object(properties) => push_properties(out, properties.as_slice()),
+    }
+}
+
+#[cycle(show)]
+fn push_elements(out: &mut String, elements: &[CstInputValue<Global>]) -> Result<(), AllocError> {
+    write!(out, "[{}", elements.len())?;
+    for element in elements {
+        out.push(' ')?;
+        push_input(out, element)?;
+    }
+    Ok(())
+}
+
+#[cycle(show)]
+fn push_properties(
     out: &mut String,
-    value: CstInputValue<Global>,
+    properties: &[(String, CstInputValue<Global>)],
 ) -> Result<(), AllocError> {
-    // The next part is the last.
-    let mut parts = Vec::new(alloc);
-    parts.push(Part::Value(value))?;
-    for number in 0..u64::MAX {
-        let Some(part) = parts.pop() else {
-            break;
-        };
-        if number > 0 {
-            out.push(' ')?;
-        }
-        push_part(out, &mut parts, part)?;
-    }
-    Ok(())
-}
-
-fn push_part(out: &mut String, parts: &mut Vec<Part>, part: Part) -> Result<(), AllocError> {
-    match part {
-        Part::Name(text) | Part::Value(CstInputValue::String(text)) => {
-            write!(out, "'{}", Escaped::word(text.as_str()))
-        }
-        Part::Value(CstInputValue::Number(text)) => {
-            write!(out, "#{}", Escaped::word(text.as_str()))
-        }
-        Part::Value(CstInputValue::Bool(true)) => out.push('T'),
-        Part::Value(CstInputValue::Bool(false)) => out.push('F'),
-        Part::Value(CstInputValue::Null) => out.push('N'),
-        Part::Value(CstInputValue::Array(elements)) => {
-            write!(out, "[{}", elements.len())?;
-            put_elements(parts, elements)
-        }
-        Part::Value(CstInputValue::Object(properties)) => {
-            write!(out, "{{{}", properties.len())?;
-            put_properties(parts, properties)
-        }
-    }
-}
-
-fn put_elements(
-    parts: &mut Vec<Part>,
-    mut elements: Vec<CstInputValue<Global>>,
-) -> Result<(), AllocError> {
-    for _ in 0..elements.len() {
-        if let Some(element) = elements.pop() {
-            parts.push(Part::Value(element))?;
-        }
-    }
-    Ok(())
-}
-
-fn put_properties(
-    parts: &mut Vec<Part>,
-    mut properties: Vec<(String, CstInputValue<Global>)>,
-) -> Result<(), AllocError> {
-    for _ in 0..properties.len() {
-        if let Some((name, value)) = properties.pop() {
-            parts.push(Part::Value(value))?;
-            parts.push(Part::Name(name))?;
-        }
+    write!(out, "{{{}", properties.len())?;
+    for (name, value) in properties {
+        write!(out, " '{} ", Escaped::word(name.as_str()))?;
+        push_input(out, value)?;
     }
     Ok(())
 }

@@ -1,8 +1,8 @@
 //! Look-ups by name in the object of a text, as `JsonObject` answers them.
 
-use crate::value::push_value;
+use crate::value::{push_boolean, push_value, push_word};
 use jsonc_cases::lookups::{Kind, Lookup};
-use jsonc_parser::{JsonObject, JsonValue, ParseOptions, parse_to_value};
+use jsonc_parser::{JsonArray, JsonObject, JsonValue, ParseOptions, parse_to_value};
 use std::alloc::{AllocError, Global};
 
 /// What is left of the object of a text, and the answer to each look-up.
@@ -54,7 +54,7 @@ fn push_answer(
 ) -> Result<(), AllocError> {
     let name = lookup.name.as_str();
     if !lookup.takes {
-        return push_copy(alloc, out, object, lookup.kind, name);
+        return push_found(alloc, out, object, lookup.kind, name);
     }
     match taken(object, lookup.kind, name) {
         Some(value) => push_value(alloc, out, value),
@@ -77,8 +77,8 @@ fn taken<'a>(
     }
 }
 
-/// A copy of what is found.
-fn push_copy(
+/// What is found: of a value, an object or an array a copy.
+fn push_found(
     alloc: Global,
     out: &mut String,
     object: &JsonObject<'_, Global>,
@@ -87,28 +87,52 @@ fn push_copy(
 ) -> Result<(), AllocError> {
     match kind {
         Kind::Any => match object.get(name) {
-            Some(value) => push_value(alloc, out, value.try_clone()?),
+            Some(value) => push_copy(alloc, out, value),
             None => out.push('-'),
         },
         Kind::String => match object.get_string(name) {
-            Some(string) => push_value(alloc, out, JsonValue::String(string.clone()?)),
+            Some(string) => push_word(out, '\'', string.as_str()),
             None => out.push('-'),
         },
         Kind::Number => match object.get_number(name) {
-            Some(number) => push_value(alloc, out, JsonValue::Number(number)),
+            Some(number) => push_word(out, '#', number),
             None => out.push('-'),
         },
         Kind::Boolean => match object.get_boolean(name) {
-            Some(boolean) => push_value(alloc, out, JsonValue::Boolean(boolean)),
+            Some(boolean) => push_boolean(out, boolean),
             None => out.push('-'),
         },
         Kind::Object => match object.get_object(name) {
-            Some(object) => push_value(alloc, out, JsonValue::Object(object.try_clone()?)),
+            Some(object) => push_object_copy(alloc, out, object),
             None => out.push('-'),
         },
         Kind::Array => match object.get_array(name) {
-            Some(array) => push_value(alloc, out, JsonValue::Array(array.try_clone()?)),
+            Some(array) => push_array_copy(alloc, out, array),
             None => out.push('-'),
         },
     }
+}
+
+fn push_copy(
+    alloc: Global,
+    out: &mut String,
+    value: &JsonValue<'_, Global>,
+) -> Result<(), AllocError> {
+    push_value(alloc, out, value.try_clone()?)
+}
+
+fn push_object_copy(
+    alloc: Global,
+    out: &mut String,
+    object: &JsonObject<'_, Global>,
+) -> Result<(), AllocError> {
+    push_value(alloc, out, JsonValue::Object(object.try_clone()?))
+}
+
+fn push_array_copy(
+    alloc: Global,
+    out: &mut String,
+    array: &JsonArray<'_, Global>,
+) -> Result<(), AllocError> {
+    push_value(alloc, out, JsonValue::Array(array.try_clone()?))
 }

@@ -36,7 +36,7 @@ pub fn readings(
     push_end(alloc, &mut out, &mut doc, edits)?;
     out.push('\t')?;
     push_document(&mut out, &doc)?;
-    push_value(alloc, &mut out, &doc)?;
+    push_value(&mut out, &doc)?;
     push_nodes(alloc, &mut out, &doc)?;
     Ok(out)
 }
@@ -57,14 +57,10 @@ fn push_document(out: &mut String, doc: &CstRootNode<Global>) -> Result<(), Allo
     push_place(out, doc, doc.value())
 }
 
-fn push_value(
-    alloc: Global,
-    out: &mut String,
-    doc: &CstRootNode<Global>,
-) -> Result<(), AllocError> {
+fn push_value(out: &mut String, doc: &CstRootNode<Global>) -> Result<(), AllocError> {
     out.push('\t')?;
     match doc.to_value() {
-        Ok(Some(value)) => push_input(alloc, out, value),
+        Ok(Some(value)) => push_input(out, &value),
         Ok(None) => out.push('-'),
         Err(_) => Err(AllocError),
     }

@@ -32,10 +32,14 @@ pub fn push_fault(alloc: Global, out: &mut String, error: &ParseError) -> Result
     let range = error.range();
     let line = error.line_display();
     let column = error.column_display();
-    let printed = error.to_string(alloc)?;
     out.push_str("fault ")?;
     push_kind(out, error.kind())?;
     write!(out, " {} {} {line} {column} ", range.start, range.end)?;
+    push_printed(alloc, out, error)
+}
+
+fn push_printed(alloc: Global, out: &mut String, error: &ParseError) -> Result<(), AllocError> {
+    let printed = error.to_string(alloc)?;
     write!(out, "{}", Escaped::field(printed.as_bytes()))
 }
 

@@ -21,26 +21,56 @@ pub fn value(alloc: Global, text: &str, options: &ParseOptions) -> Result<String
 }
 
 /// Whether two texts have equal values.
-pub fn equal(
+pub fn equal<'a>(
     alloc: Global,
-    one: &str,
-    other: &str,
+    one: &'a str,
+    other: &'a str,
     options: &ParseOptions,
 ) -> Result<String, AllocError> {
-    let Ok(Some(one)) = parse_to_value(alloc, one, options) else {
-        return String::from_str(alloc, "no-value");
+    let holds = match value_of(alloc, one, options) {
+        Some(one) => is_value_of(alloc, &one, other, options),
+        None => None,
     };
-    let Ok(Some(other)) = parse_to_value(alloc, other, options) else {
-        return String::from_str(alloc, "no-value");
-    };
-    let is_equal = one == other;
-    format!(in alloc; "{is_equal}")
+    String::from_str(alloc, told(holds))
+}
+
+fn told(holds: Option<bool>) -> &'static str {
+    match holds {
+        Some(true) => "true",
+        Some(false) => "false",
+        None => "no-value",
+    }
+}
+
+/// The value of a text that has one.
+fn value_of<'a>(
+    alloc: Global,
+    text: &'a str,
+    options: &ParseOptions,
+) -> Option<JsonValue<'a, Global>> {
+    match parse_to_value(alloc, text, options) {
+        Ok(value) => value,
+        Err(_) => None,
+    }
+}
+
+/// Whether a text that has a value has an equal one.
+fn is_value_of<'a>(
+    alloc: Global,
+    value: &JsonValue<'a, Global>,
+    text: &'a str,
+    options: &ParseOptions,
+) -> Option<bool> {
+    match value_of(alloc, text, options) {
+        Some(other) => Some(*value == other),
+        None => None,
+    }
 }
 
 /// What is still to be shown.
 #[derive(Drop)]
 enum Part<'a> {
-    Name(CowStr<'a, Global>),
+    Property(CowStr<'a, Global>, JsonValue<'a, Global>),
     Value(JsonValue<'a, Global>),
 }
 
@@ -72,51 +102,54 @@ fn push_part<'a>(
     part: Part<'a>,
 ) -> Result<(), AllocError> {
     match part {
-        Part::Name(text) | Part::Value(JsonValue::String(text)) => {
-            write!(out, "'{}", Escaped::word(text.as_str()))
+        Part::Property(name, value) => {
+            parts.push(Part::Value(value))?;
+            push_word(out, '\'', name.as_str())
         }
-        Part::Value(JsonValue::Number(text)) => write!(out, "#{}", Escaped::word(text)),
-        Part::Value(JsonValue::Boolean(true)) => out.push('T'),
-        Part::Value(JsonValue::Boolean(false)) => out.push('F'),
+        Part::Value(JsonValue::String(text)) => push_word(out, '\'', text.as_str()),
+        Part::Value(JsonValue::Number(text)) => push_word(out, '#', text),
+        Part::Value(JsonValue::Boolean(boolean)) => push_boolean(out, boolean),
         Part::Value(JsonValue::Null) => out.push('N'),
-        Part::Value(JsonValue::Array(array)) => {
-            write!(out, "[{}", array.len())?;
-            put_elements(parts, array)
-        }
-        Part::Value(JsonValue::Object(object)) => {
-            write!(out, "{{{}", object.len())?;
-            put_properties(alloc, parts, object)
-        }
+        Part::Value(JsonValue::Array(array)) => put_elements(out, parts, array),
+        Part::Value(JsonValue::Object(object)) => put_properties(alloc, out, parts, object),
     }
 }
 
+pub fn push_word(out: &mut String, mark: char, text: &str) -> Result<(), AllocError> {
+    write!(out, "{mark}{}", Escaped::word(text))
+}
+
+pub fn push_boolean(out: &mut String, boolean: bool) -> Result<(), AllocError> {
+    out.push(if boolean { 'T' } else { 'F' })
+}
+
 fn put_elements<'a>(
+    out: &mut String,
     parts: &mut Vec<Part<'a>>,
     array: JsonArray<'a, Global>,
 ) -> Result<(), AllocError> {
     let mut elements = array.take_inner();
-    for _ in 0..elements.len() {
+    let count = elements.len();
+    for _ in 0..count {
         if let Some(element) = elements.pop() {
             parts.push(Part::Value(element))?;
         }
     }
-    Ok(())
+    write!(out, "[{count}")
 }
 
 fn put_properties<'a>(
     alloc: Global,
+    out: &mut String,
     parts: &mut Vec<Part<'a>>,
     object: JsonObject<'a, Global>,
 ) -> Result<(), AllocError> {
-    let mut properties: Vec<(CowStr<'a, Global>, JsonValue<'a, Global>)> = Vec::new(alloc);
-    for property in object {
-        properties.push(property)?;
-    }
-    for _ in 0..properties.len() {
+    let mut properties: Vec<_> = object.into_iter().collect(alloc)?;
+    let count = properties.len();
+    for _ in 0..count {
         if let Some((name, value)) = properties.pop() {
-            parts.push(Part::Value(value))?;
-            parts.push(Part::Name(name))?;
+            parts.push(Part::Property(name, value))?;
         }
     }
-    Ok(())
+    write!(out, "{{{count}")
 }

@@ -1,6 +1,7 @@
 //! Copies of syntax trees and of their parts.
 
-use jsonc_parser::ast::{Object, Value};
+use jsonc_parser::ast::{Array, Node, NodeKind, Object, Value};
+use jsonc_parser::common::Ranged;
 use jsonc_parser::{CollectOptions, ParseOptions, ParseResult, parse_to_ast};
 use refusing::outcome::Outcome;
 use std::alloc::Allocator;
@@ -8,6 +9,31 @@ use std::default::Default;
 
 /// An object in which a name and a string own their texts.
 const OBJECT: &str = "{'l\\x61st': [true, 2.5, {}, null], first: 't\\x65xt'}";
+
+/// Whether a node's copy is of the same array.
+fn is_node_copied<A: Allocator>(node: &Node<'_, 'static, A>) -> Outcome {
+    match node.clone() {
+        Ok(copy) => {
+            let is_array = copy.kind() == NodeKind::Array;
+            Outcome::of(is_array && copy.range() == node.range())
+        }
+        Err(error) => Outcome::from(error),
+    }
+}
+
+/// The truth value and the number at the front of an array, and the node of the array.
+fn are_leaves_copied<A: Allocator>(array: &Array<'static, A>) -> Outcome {
+    match (array.elements.get(0), array.elements.get(1)) {
+        (Some(Value::BooleanLit(boolean)), Some(Value::NumberLit(number))) => {
+            let is_boolean = Outcome::of_answer(boolean.clone(), boolean);
+            let is_number = Outcome::of_answer(number.clone(), number);
+            is_boolean
+                .then(is_number)
+                .then(is_node_copied(&Node::from(array)))
+        }
+        _ => Outcome::Other,
+    }
+}
 
 fn are_parts_copied<A: Allocator + Copy>(object: &Object<'static, A>) -> Outcome {
     let (Some(property), Some(array), Some(string)) = (
@@ -20,7 +46,10 @@ fn are_parts_copied<A: Allocator + Copy>(object: &Object<'static, A>) -> Outcome
     let is_property = Outcome::of_answer(property.try_clone(), property);
     let is_array = Outcome::of_answer(array.try_clone(), array);
     let is_string = Outcome::of_answer(string.try_clone(), string);
-    is_property.then(is_array).then(is_string)
+    is_property
+        .then(is_array)
+        .then(is_string)
+        .then(are_leaves_copied(array))
 }
 
 /// Takes the property of this name out, and says whether it has the name.
