@@ -110,8 +110,8 @@ fn read_raw(alloc: Global, words: &[&str]) -> Result<Option<RawEdit>, CaseError>
         ["RawRemove", leaf] => Ok(Some(RawEdit::Remove(read_number(leaf)?))),
         ["RawRemoveName", path] => Ok(Some(RawEdit::RemoveName(read_path(alloc, path)?))),
         ["RawReplaceName", path, value @ ..] => {
-            let path = read_path(alloc, path)?;
-            Ok(Some(RawEdit::ReplaceName(path, read_value(alloc, value)?)))
+            let (path, value) = read_value_at(alloc, path, value)?;
+            Ok(Some(RawEdit::ReplaceName(path, value)))
         }
         ["RawRemoveValue", path] => Ok(Some(RawEdit::RemoveValue(read_path(alloc, path)?))),
         _ => Ok(None),
@@ -121,11 +121,11 @@ fn read_raw(alloc: Global, words: &[&str]) -> Result<Option<RawEdit>, CaseError>
 fn read_sort(alloc: Global, words: &[&str]) -> Result<Option<SortEdit>, CaseError> {
     match words {
         ["SortX", path, key, rule, groups] => Ok(Some(SortEdit {
-            path: read_path(alloc, path)?,
             by_name: *key == "text" || *key == "rev",
             key: read_key(key)?,
             rule: read_rule(rule)?,
             groups: read_flag(groups)?,
+            path: read_path(alloc, path)?,
         })),
         _ => Ok(None),
     }
@@ -170,14 +170,14 @@ fn read_rule(word: &str) -> Result<SortRule, CaseError> {
 fn read_edit(alloc: Global, words: &[&str]) -> Result<Option<Edit<Global>>, CaseError> {
     match words {
         ["Replace", path, value @ ..] => {
-            let path = read_path(alloc, path)?;
-            Ok(Some(Edit::Replace(path, read_value(alloc, value)?)))
+            let (path, value) = read_value_at(alloc, path, value)?;
+            Ok(Some(Edit::Replace(path, value)))
         }
         ["Remove", path] => Ok(Some(Edit::Remove(read_path(alloc, path)?))),
         ["RemoveComment", number] => Ok(Some(Edit::RemoveComment(read_number(number)?))),
         ["ReplaceProperty", path, name, value @ ..] => {
-            let edit = read_new_property(alloc, path, name, value)?;
-            Ok(Some(edit))
+            let (path, name, value) = read_property_at(alloc, path, name, value)?;
+            Ok(Some(Edit::ReplaceProperty(path, name, value)))
         }
         ["EnsureMultiline", path] => Ok(Some(Edit::EnsureMultiline(read_path(alloc, path)?))),
         _ => read_root_edit(alloc, words),
@@ -201,16 +201,16 @@ fn read_root_edit(alloc: Global, words: &[&str]) -> Result<Option<Edit<Global>>,
 fn read_setting(alloc: Global, words: &[&str]) -> Result<Option<Edit<Global>>, CaseError> {
     match words {
         ["SetValue", path, value @ ..] => {
-            let path = read_path(alloc, path)?;
-            Ok(Some(Edit::SetValue(path, read_value(alloc, value)?)))
+            let (path, value) = read_value_at(alloc, path, value)?;
+            Ok(Some(Edit::SetValue(path, value)))
         }
         ["EnsureValue", path, shape] => {
-            let path = read_path(alloc, path)?;
-            Ok(Some(Edit::EnsureValue(path, read_shape(shape)?)))
+            let shape = read_shape(shape)?;
+            Ok(Some(Edit::EnsureValue(read_path(alloc, path)?, shape)))
         }
         ["SetBoolean", path, value] => {
-            let path = read_path(alloc, path)?;
-            Ok(Some(Edit::SetBoolean(path, read_boolean(value)?)))
+            let value = read_boolean(value)?;
+            Ok(Some(Edit::SetBoolean(read_path(alloc, path)?, value)))
         }
         _ => read_insertion(alloc, words),
     }
@@ -220,22 +220,21 @@ fn read_setting(alloc: Global, words: &[&str]) -> Result<Option<Edit<Global>>, C
 fn read_insertion(alloc: Global, words: &[&str]) -> Result<Option<Edit<Global>>, CaseError> {
     match words {
         ["AppendElement", path, value @ ..] => {
-            let path = read_path(alloc, path)?;
-            Ok(Some(Edit::AppendElement(path, read_value(alloc, value)?)))
+            let (path, value) = read_value_at(alloc, path, value)?;
+            Ok(Some(Edit::AppendElement(path, value)))
         }
         ["InsertElement", path, index, value @ ..] => {
-            let path = read_path(alloc, path)?;
             let index = read_number(index)?;
-            Ok(Some(Edit::InsertElement(path, index, read_value(alloc, value)?)))
+            let (path, value) = read_value_at(alloc, path, value)?;
+            Ok(Some(Edit::InsertElement(path, index, value)))
         }
         ["SetTrailingCommas", path, mode] => {
-            let path = read_path(alloc, path)?;
-            Ok(Some(Edit::SetTrailingCommas(path, read_mode(mode)?)))
+            let mode = read_mode(mode)?;
+            Ok(Some(Edit::SetTrailingCommas(read_path(alloc, path)?, mode)))
         }
         ["Sort", path, pin, groups] => {
-            let path = read_path(alloc, path)?;
             let (pin, groups) = (read_flag(pin)?, read_flag(groups)?);
-            Ok(Some(Edit::Sort(path, pin, groups)))
+            Ok(Some(Edit::Sort(read_path(alloc, path)?, pin, groups)))
         }
         _ => read_new_member(alloc, words),
     }
@@ -245,38 +244,48 @@ fn read_insertion(alloc: Global, words: &[&str]) -> Result<Option<Edit<Global>>,
 fn read_new_member(alloc: Global, words: &[&str]) -> Result<Option<Edit<Global>>, CaseError> {
     match words {
         ["AppendProperty", path, name, value @ ..] => {
-            let path = read_path(alloc, path)?;
-            let name = read_name(alloc, name)?;
-            let value = read_value(alloc, value)?;
+            let (path, name, value) = read_property_at(alloc, path, name, value)?;
             Ok(Some(Edit::AppendProperty(path, name, value)))
         }
         ["InsertProperty", path, index, name, value @ ..] => {
-            let path = read_path(alloc, path)?;
             let index = read_number(index)?;
-            let name = read_name(alloc, name)?;
-            let value = read_value(alloc, value)?;
+            let (path, name, value) = read_property_at(alloc, path, name, value)?;
             Ok(Some(Edit::InsertProperty(path, index, name, value)))
         }
         ["EnsureProperty", path, name, shape, over] => {
-            let path = read_path(alloc, path)?;
-            let name = read_name(alloc, name)?;
             let (shape, over) = (read_shape(shape)?, read_over(over)?);
+            let (path, name) = read_name_at(alloc, path, name)?;
             Ok(Some(Edit::EnsureProperty(path, name, shape, over)))
         }
         _ => Ok(None),
     }
 }
 
-/// The edit that lets the property at a path give way to one of this name and value.
-fn read_new_property(
+/// A path and a value.
+fn read_value_at(
+    alloc: Global,
+    path: &str,
+    value: &[&str],
+) -> Result<(Vec<usize>, CstInputValue<Global>), CaseError> {
+    let path = read_path(alloc, path)?;
+    Ok((path, read_value(alloc, value)?))
+}
+
+/// A path and a name.
+fn read_name_at(alloc: Global, path: &str, name: &str) -> Result<(Vec<usize>, String), CaseError> {
+    let path = read_path(alloc, path)?;
+    Ok((path, read_name(alloc, name)?))
+}
+
+/// A path, and the name and value of a property.
+fn read_property_at(
     alloc: Global,
     path: &str,
     name: &str,
     value: &[&str],
-) -> Result<Edit<Global>, CaseError> {
-    let path = read_path(alloc, path)?;
-    let name = read_name(alloc, name)?;
-    Ok(Edit::ReplaceProperty(path, name, read_value(alloc, value)?))
+) -> Result<(Vec<usize>, String, CstInputValue<Global>), CaseError> {
+    let (path, name) = read_name_at(alloc, path, name)?;
+    Ok((path, name, read_value(alloc, value)?))
 }
 
 /// An array or an object.

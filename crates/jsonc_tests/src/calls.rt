@@ -233,13 +233,21 @@ fn comment_count<A: Allocator>(comments: &CommentMap<'_, A>, place: usize) -> us
 
 fn value<A: Allocator + Copy>(alloc: A) -> Outcome {
     match parse_to_value(alloc, VALUES, &ParseOptions::default()) {
-        Ok(Some(JsonValue::Array(array))) => {
-            let are_two = array.len() == 2
-                && matches!(array.get(0), Some(JsonValue::Boolean(true)));
-            Outcome::of(are_two && is_read(array.get(1)))
-        }
-        Ok(_) => Outcome::Other,
+        Ok(Some(value)) => Outcome::of(is_list_read(&value)),
+        Ok(None) => Outcome::Other,
         Err(error) => Outcome::from(error),
+    }
+}
+
+/// Whether an array of two values has `true` before an object.
+fn is_list_read<A: Allocator>(value: &JsonValue<'_, A>) -> bool {
+    match value {
+        JsonValue::Array(array) => {
+            array.len() == 2
+                && matches!(array.get(0), Some(JsonValue::Boolean(true)))
+                && is_read(array.get(1))
+        }
+        _ => false,
     }
 }
 

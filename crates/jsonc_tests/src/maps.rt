@@ -23,11 +23,16 @@ fn two_pairs<A: Allocator>(
 /// Three pairs, put in one by one.
 fn inserted<A: Allocator + Copy>(alloc: A) -> Result<Map<char, u32, A>, AllocError> {
     let mut map = Map::with_capacity(alloc, 1)?;
-    map.insert('a', 1u32)?;
+    insert_three(&mut map)?;
+    Ok(map)
+}
+
+fn insert_three<A: Allocator + Copy>(map: &mut Map<char, u32, A>) -> Result<(), AllocError> {
+    map.insert('a', 1)?;
     map.insert('b', 2)?;
     let lent = map.entry('c')?.or_insert(0)?;
     *lent = 3;
-    Ok(map)
+    Ok(())
 }
 
 /// These, with a list after them that has a new key and a present one.

@@ -41,58 +41,6 @@ pub struct JsonObject<'a, A: Allocator>(Map<CowStr<'a, A>, JsonValue<'a, A>, A>)
 #[derive_where(PartialEq, Eq)]
 pub struct JsonArray<'a, A: Allocator>(Vec<JsonValue<'a, A>, A>);
 
-impl<'a, A: Allocator> JsonValue<'a, A> {
-    // What it holds, if it is a string.
-    fn into_string(self) -> Option<CowStr<'a, A>>
-        ensures { result ≡ as_string self.entry }
-    {
-        match self {
-            JsonValue::String(string) => Some(string),
-            _ => None,
-        }
-    }
-
-    // What it holds, if it is a number.
-    fn into_number(self) -> Option<&'a str>
-        ensures { result ≡ as_number self.entry }
-    {
-        match self {
-            JsonValue::Number(number) => Some(number),
-            _ => None,
-        }
-    }
-
-    // What it holds, if it is a truth value.
-    fn into_boolean(self) -> Option<bool>
-        ensures { result ≡ as_boolean self.entry }
-    {
-        match self {
-            JsonValue::Boolean(boolean) => Some(boolean),
-            _ => None,
-        }
-    }
-
-    // What it holds, if it is an object.
-    fn into_object(self) -> Option<JsonObject<'a, A>>
-        ensures { result ≡ as_object self.entry }
-    {
-        match self {
-            JsonValue::Object(object) => Some(object),
-            _ => None,
-        }
-    }
-
-    // What it holds, if it is an array.
-    fn into_array(self) -> Option<JsonArray<'a, A>>
-        ensures { result ≡ as_array self.entry }
-    {
-        match self {
-            JsonValue::Array(array) => Some(array),
-            _ => None,
-        }
-    }
-}
-
 impl<'a, A: Allocator + Copy> JsonObject<'a, A> {
     /// An object without properties, with room for this many.
     pub fn with_capacity(alloc: A, capacity: usize) -> Result<Self, AllocError>
@@ -209,8 +157,8 @@ impl<'a, A: Allocator> JsonObject<'a, A> {
             return None;
         }
         match self.take(name) {
-            Some(value) => value.into_string(),
-            None => None,
+            Some(JsonValue::String(taken)) => Some(taken),
+            _ => None,
         }
     }
 
@@ -219,13 +167,11 @@ impl<'a, A: Allocator> JsonObject<'a, A> {
         ensures value { result ≡ option_and_then as_number (lookup (is_named name.now) (properties self.old)) }
         ensures entries { properties self.new ≡ left (is_some result) name.now (properties self.old) }
     {
-        if self.get_number(name).is_none() {
-            return None;
+        let found = self.get_number(name);
+        if found.is_some() {
+            drop(self.take(name));
         }
-        match self.take(name) {
-            Some(value) => value.into_number(),
-            None => None,
-        }
+        found
     }
 
     /// Takes this name out, if its value is a truth value, and gives that. Else nothing changes.
@@ -233,13 +179,11 @@ impl<'a, A: Allocator> JsonObject<'a, A> {
         ensures value { result ≡ option_and_then as_boolean (lookup (is_named name.now) (properties self.old)) }
         ensures entries { properties self.new ≡ left (is_some result) name.now (properties self.old) }
     {
-        if self.get_boolean(name).is_none() {
-            return None;
+        let found = self.get_boolean(name);
+        if found.is_some() {
+            drop(self.take(name));
         }
-        match self.take(name) {
-            Some(value) => value.into_boolean(),
-            None => None,
-        }
+        found
     }
 
     /// Takes this name out, if its value is an object, and gives that. Else nothing changes.
@@ -251,8 +195,8 @@ impl<'a, A: Allocator> JsonObject<'a, A> {
             return None;
         }
         match self.take(name) {
-            Some(value) => value.into_object(),
-            None => None,
+            Some(JsonValue::Object(taken)) => Some(taken),
+            _ => None,
         }
     }
 
@@ -265,8 +209,8 @@ impl<'a, A: Allocator> JsonObject<'a, A> {
             return None;
         }
         match self.take(name) {
-            Some(value) => value.into_array(),
-            None => None,
+            Some(JsonValue::Array(taken)) => Some(taken),
+            _ => None,
         }
     }
 }
