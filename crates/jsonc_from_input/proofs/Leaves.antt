@@ -5,7 +5,7 @@ use Rattle.jsonc_tree.specs.Content.{Content, string, number}
 use Rattle.jsonc_tree.specs.Changes.{Adds}
 use Rattle.jsonc_tree.specs.Tree.{Node, IsTree}
 use Rattle.jsonc_tree.proofs.Builder.{Builds-adds}
-use Rattle.jsonc_input.specs.Spelling.{spelled}
+use Rattle.jsonc_tree.specs.Below.text.Spelling.{spelled}
 use Rattle.jsonc_from_input.specs.Layout.{Layout}
 use Rattle.jsonc_from_input.specs.Extending.{BuildsNode}
 use Rattle.jsonc_from_input.specs.Laid.{leaf, string_leaf, number_leaf, laid}

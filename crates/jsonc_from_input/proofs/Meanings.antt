@@ -8,7 +8,7 @@ use Rattle.jsonc_tree.specs.Below.text.Plain.{Plain, Items, no_items, item, Memb
 use Rattle.jsonc_tree.specs.Content.{Content}
 use Rattle.jsonc_tree.specs.OrderedTree.{OrderedTree, none, Top}
 use Rattle.jsonc_tree.specs.Values.{IsStringText, ValueOf, ItemsOf, MembersOf, PropertyOf, HoldsValue, HasNoValue}
-use Rattle.jsonc_input.specs.Spelling.{spelled}
+use Rattle.jsonc_tree.specs.Below.text.Spelling.{spelled}
 use Rattle.jsonc_input.proofs.Spelled.{spelled_string}
 use Rattle.jsonc_from_input.specs.Layout.{Layout, deeper}
 use Rattle.jsonc_from_input.specs.Laid.{laid, laid_items, laid_members, laid_property, on_one_line, on_lines, comma_if, gap_if, closed, holds_filled, is_some_node, line_then}

@@ -3,7 +3,7 @@ use Rattle.std.proofs.Common.{ℕ, ◌≡◌, ◌<◌, ◌/◌, ◌%◌, Bool, t
 use Rattle.std.proofs.Math.Utf8.{scalar, scalars, low_scalar}
 use Rattle.std.specs.Fmt.{digit_glyph}
 use Rattle.std.specs.Char.{is_control}
-use Rattle.jsonc_input.specs.Spelling.{short_escape_of, unit_escape, spelled_by, spelled_char, spelled_inside, spelled}
+use Rattle.jsonc_tree.specs.Below.text.Spelling.{short_escape_of, unit_escape, spelled_by, spelled_char, spelled_inside, spelled}
 use Rattle.jsonc_input.proofs.Spelled.{control_small}
 
 both : (a b : Bool) → a ≡ true → b ≡ true → (a && b) ≡ true

@@ -3,7 +3,7 @@ use Rattle.std.specs.Prelude.{ℕ, Bool, true, false, ◌||◌, List, [], ◌∷
 use Rattle.jsonc_tree.specs.Below.text.Plain.{Plain, Items, no_items, item, Members, no_members, member}
 use Rattle.jsonc_tree.specs.Content.{Content, token, whitespace, newline}
 use Rattle.jsonc_tree.specs.OrderedTree.{OrderedTree, Top, none, more}
-use Rattle.jsonc_input.specs.Spelling.{spelled}
+use Rattle.jsonc_tree.specs.Below.text.Spelling.{spelled}
 use Rattle.jsonc_from_input.specs.Layout.{Layout, deeper}
 
 -- a leaf alone

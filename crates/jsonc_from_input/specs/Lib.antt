@@ -3,4 +3,3 @@ pub mod Laid
 pub mod Given
 pub mod Extending
 pub mod Texts
-pub mod Below

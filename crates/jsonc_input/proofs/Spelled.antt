@@ -6,7 +6,7 @@ use Rattle.std.specs.Char.{digit_value, is_control}
 use Rattle.jsonc_text.specs.Options.{Options}
 use Rattle.jsonc_text.specs.Text.{is_hex_digit}
 use Rattle.jsonc_text.specs.Strings.{gives, meaning, hex4, is_surrogate, Piece, Pieces, Decodes, IsString}
-use Rattle.jsonc_input.specs.Spelling.{short_escape_of, unit_escape, spelled_by, spelled_char, spelled_inside, spelled}
+use Rattle.jsonc_text.specs.Spelling.{short_escape_of, unit_escape, spelled_by, spelled_char, spelled_inside, spelled}
 
 -- one of two ways
 either : {G : Type 0} (b : Bool) (x y d : Option ℕ) → (if b then x else y) ≡ d → (IsTrue b → x ≡ d → G) → (y ≡ d → G) → G

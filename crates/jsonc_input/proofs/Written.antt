@@ -7,7 +7,7 @@ use Rattle.std.proofs.lemmas.Str.{encodes-append}
 use lib.Utf8.{encode}
 use Rattle.std.specs.Char.{is_control}
 use Rattle.std.specs.Fmt.{digit_glyph, AppendsText, ◌++?◌}
-use Rattle.jsonc_input.specs.Spelling.{short_escape_of, unit_escape, spelled_by, spelled_char, spelled_inside, spelled}
+use Rattle.jsonc_text.specs.Spelling.{short_escape_of, unit_escape, spelled_by, spelled_char, spelled_inside, spelled}
 use Rattle.jsonc_input.proofs.Spelled.{control_small}
 
 glyph_ascii : (k : ℕ) → k < 16 → digit_glyph false k < 128

@@ -1,4 +1,3 @@
 pub mod Views
 pub mod Numbers
-pub mod Spelling
 pub mod Rows

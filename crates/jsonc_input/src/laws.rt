@@ -3,7 +3,7 @@ ghost use Rattle.std.specs.Prelude.{◌≡◌, List, ℕ, ◌++◌, codes};
 ghost use Rattle.jsonc_text.specs.Options.{Options};
 ghost use Rattle.jsonc_text.specs.Lexemes.{Lexeme, string};
 ghost use Rattle.jsonc_text.specs.Strings.{Decodes};
-ghost use Rattle.jsonc_input.specs.Spelling.{spelled, spelled_inside};
+ghost use Rattle.jsonc_text.specs.Spelling.{spelled, spelled_inside};
 ghost use Rattle.jsonc_input.specs.Rows.{mixed};
 
 /// What is spelled for a string stands for it between its quotes, and is a string token of that

@@ -1,6 +1,6 @@
 //! How strings are spelled (RFC 8259, 7).
 ghost use Rattle.std.specs.Prelude.{◌≡◌, ◌++◌, IfOk, chars, string_bytes, encode_utf8_all};
-ghost use Rattle.jsonc_input.specs.Spelling.{short_escape_of, spelled_char, spelled};
+ghost use Rattle.jsonc_text.specs.Spelling.{short_escape_of, spelled_char, spelled};
 
 use std::alloc::{AllocError, Allocator};
 use std::fmt::Write;

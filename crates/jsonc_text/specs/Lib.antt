@@ -16,3 +16,8 @@ pub mod OptionsOf
 pub mod Messages
 pub mod Faults
 pub mod Tokens
+pub mod Spelling
+pub mod Marks
+pub mod Paths
+pub mod Entries
+pub mod Edits

@@ -1,5 +1,5 @@
 use Rattle.std.proofs.Common.{◌≡◌, ◌∷◌, string_bytes, encode_utf8_all}
-use Rattle.jsonc_input.specs.Spelling.{spelled_inside}
+use Rattle.jsonc_text.specs.Spelling.{spelled_inside}
 use Rattle.jsonc_input.proofs.spelling.spell.Given as goal
 
 abbrev pub invariant-loop-character : goal.invariant-loop-character
