@@ -6,7 +6,7 @@ use Rattle.std.proofs.lemmas.List.Elements.{filter-append}
 use Rattle.std.proofs.lemmas.Str.{chars-encodes}
 use Rattle.jsonc_text.specs.Plain.{Plain, Items, no_items, item, Members, no_members, member}
 use Rattle.jsonc_tree.specs.OrderedTree.{OrderedTree, none, own_leaf, leaves, Top}
-use Rattle.jsonc_from_input.specs.Below.input.Spelling.{spelled}
+use Rattle.jsonc_text.specs.Spelling.{spelled}
 use Rattle.jsonc_from_input.specs.Layout.{Layout, deeper}
 use Rattle.jsonc_from_input.specs.Laid.{laid, laid_items, laid_members, laid_property, node_then, comma_if, gap_if, line_then, is_some_node, on_one_line, on_lines, spread, closed, holds_filled}
 use Rattle.jsonc_from_input.specs.Texts.{IsCharacters, IsOfTexts, AreOfTexts, AreNamedOfTexts}

@@ -22,6 +22,7 @@ pub mod Booleans
 pub mod SoundTrees
 pub mod WorkedEdits
 pub mod Marks
+pub mod Documents
 pub mod Written
 pub mod MarkChanges
 pub mod MarkLaws

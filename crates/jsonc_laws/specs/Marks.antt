@@ -27,12 +27,16 @@ mark_of (lexeme (LexemeKind.punctuation c)) s = None
 mark_of (lexeme kind) s = Some (Mark.literal s)
 mark_of scanned s = Some (comment_mark s)
 
--- the text is lexemes and comments with blanks between them, and these are their marks in order
-pub data AreMarks (o : Options) : List ℕ → List Mark → Type 0 where
-  no_more : AreMarks o [] []
-  blank : {c : ℕ} {t : List ℕ} {ms : List Mark} → IsTrue (is_blank c) → AreMarks o t ms → AreMarks o (c ∷ t) ms
-  one : (w : Scanned) (s : List ℕ) {t r : List ℕ} {ms : List Mark} → IsScanned o w t r → t ≡ s ++ r → AreMarks o r ms
-      → AreMarks o t (cons_option (mark_of w s) ms)
+-- from t to there stand lexemes and comments with blanks between them, and these are their marks in order
+pub data MarksTo (o : Options) (there : List ℕ) : List ℕ → List Mark → Type 0 where
+  no_more : MarksTo o there there []
+  blank : {c : ℕ} {t : List ℕ} {ms : List Mark} → IsTrue (is_blank c) → MarksTo o there t ms → MarksTo o there (c ∷ t) ms
+  one : (w : Scanned) (s : List ℕ) {t r : List ℕ} {ms : List Mark} → IsScanned o w t r → t ≡ s ++ r → MarksTo o there r ms
+      → MarksTo o there t (cons_option (mark_of w s) ms)
+
+-- so in a whole text
+abbrev pub AreMarks : Options → List ℕ → List Mark → Type 0
+AreMarks o t ms = MarksTo o [] t ms
 
 -- the mark of a leaf; brackets, commas, colons, blanks and line ends have none
 abbrev pub mark_of_leaf : Content → Option Mark

@@ -2,7 +2,7 @@
 use Rattle.std.specs.Prelude.{ℕ, List, [], ◌∷◌, ◌++◌}
 use Rattle.jsonc_text.specs.Plain.{Plain, Items, no_items, item, Members, no_members, member}
 use Rattle.jsonc_text.specs.Words.{Keyword, keyword_text}
-use Rattle.jsonc_from_input.specs.Below.input.Spelling.{spelled}
+use Rattle.jsonc_text.specs.Spelling.{spelled}
 use Rattle.jsonc_tree.specs.OrderedTree.{own_leaf, leaves, Top}
 use Rattle.jsonc_laws.specs.Marks.{Mark, marks_of}
 
