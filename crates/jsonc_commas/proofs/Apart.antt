@@ -1,5 +1,5 @@
 -- Commas that are set below a node that is none of the document: this stays as it is.
-use Rattle.std.proofs.Common.{◌≡◌, ◌∙◌, sym, ap, subst, refl, ℕ, suc, ◌<◌, inl, inr, List, [], ◌∷◌, length, Option, Some, None, IsTrue}
+use Rattle.std.proofs.Common.{◌≡◌, ◌∙◌, sym, ap, subst, refl, ℕ, suc, ◌<◌, inl, inr, List, [], ◌∷◌, ◌++◌, length, Option, Some, None, IsTrue}
 use Rattle.jsonc_tree.specs.Building.{Keeps}
 use Rattle.jsonc_tree.specs.Changes.{CanAppend}
 use Rattle.jsonc_tree.specs.OrderedTree.{Top, none, more, ordered_tree}
@@ -15,7 +15,7 @@ use Rattle.jsonc_edit.specs.declared.modes.TrailingCommaMode.TheVariants.{Never,
 use Rattle.jsonc_edit.proofs.Kept.{tree_stays}
 use Rattle.jsonc_edit.proofs.Splices.{respliced_others}
 use Rattle.jsonc_commas.specs.Commas.{a_comma, comma_gone, comma_wanted_behind, CommaIsSet, GainsIt, LosesIt}
-use Rattle.jsonc_commas.specs.InTurn.{holders, holds_at, AreSetInTurn}
+use Rattle.jsonc_commas.specs.InTurn.{AreSetInPart, holders, holds_at, AreSetInTurn}
 use Rattle.jsonc_commas.specs.Laws.{LeavesOthers}
 use Rattle.jsonc_commas.proofs.Children.{may_come, wanted_child}
 use Rattle.jsonc_commas.proofs.Documents.{are_holders, longer, AreHolders}
@@ -32,7 +32,7 @@ over_root : (ns : List Node) → IsTree ns → (c : ℕ) → IsOver ns c 0 → c
 over_root ns tree _ IsOver.itself = refl
 over_root ns tree c (IsOver.above {c = p} said rest) = let wrong : None ≡ Some p = sym tree.root_alone ∙ said in cc
 
-over_is_there : (ns : List Node) → IsTree ns → (c n : ℕ) → c < length ns → IsOver ns c n → n < length ns
+pub over_is_there : (ns : List Node) → IsTree ns → (c n : ℕ) → c < length ns → IsOver ns c n → n < length ns
 over_is_there ns tree _ n there IsOver.itself = there
 over_is_there ns tree c n there (IsOver.above {c = p} said rest) = (parent_there ns tree n p said).0
 
@@ -96,3 +96,13 @@ apart_chain mode (n ∷ rest) old new tree h (now, s, after, later) =
 pub leaves_others : (mode : TrailingCommaMode) (old : List Node) (c : ℕ) (new : List Node) → LeavesOthers mode old c new
 leaves_others mode old c new tree there out set =
     apart_chain mode (holders old c) old new tree (are_apart old tree c there out (holders old c) (are_holders old tree c c IsOver.itself)) set
+
+-- and so do the first of them
+apart_first : (ns : List Node) (done left : List ℕ) → AreApart ns (done ++ left) → AreApart ns done
+apart_first ns [] left h = tt
+apart_first ns (n ∷ rest) left h = (h.0, h.1, h.2, apart_first ns rest left h.3)
+
+pub leaves_others_in_part : (mode : TrailingCommaMode) (old : List Node) (c : ℕ) (new : List Node) → IsTree old → c < length old → (IsOver old 0 c → ⊥) → AreSetInPart mode old (holders old c) new → ordered_tree new 0 ≡ ordered_tree old 0
+leaves_others_in_part mode old c new tree there out part =
+    let all = are_apart old tree c there out (holders old c) (are_holders old tree c c IsOver.itself) in
+    apart_chain mode part.done old new tree (apart_first old part.done (part.next ∷ part.left) (subst (AreApart old) part.are all)) part.set

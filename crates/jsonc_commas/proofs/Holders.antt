@@ -44,7 +44,7 @@ pub bare_leaf : (ns : List Node) → IsTree ns → (n : ℕ) → n < length ns �
 bare_leaf ns tree n there leaf = row_stands ns tree n there ∙ ap (standing ns) (tree.leaf n leaf)
 
 -- nothing has changed
-same_nodes : (ns : List Node) (c : ℕ) → IsTree ns → ChangedIn ns ns c
+pub same_nodes : (ns : List Node) (c : ℕ) → IsTree ns → ChangedIn ns ns c
 same_nodes ns c tree = record { tree = tree; content = λ n ne. refl; children = λ n ne. refl }
 
 -- a value at a path is one alone

@@ -17,3 +17,5 @@ pub mod WithoutCommas
 pub mod WiderShapes
 pub mod Reach
 pub mod Walk
+pub mod Joined
+pub mod Within

@@ -101,7 +101,7 @@ same_without ended = refl
 same_without (stayed {content = content} {below = below} {under = under} {after = after} {rest = rest} p q) =
     ap (λ t. cond (is_comma content) t (more content (without_commas under) t)) (same_without q)
     ∙ ap (λ b. cond (is_comma content) (without_commas after) (more content b (without_commas after))) (same_without p)
-same_without (left q) = same_without q
+same_without (left p q) = same_without q
 
 pub only_without : (mode : TrailingCommaMode) (t u : OrderedTree) → OnlyCommas mode t u → without_commas u ≡ without_commas t
 only_without Never t u h = same_without h
@@ -115,8 +115,8 @@ loses_none (more content below after) = stayed (loses_none below) (loses_none af
 loses_then : {t u v : OrderedTree} → LosesCommas t u → LosesCommas u v → LosesCommas t v
 loses_then ended h = h
 loses_then (stayed p q) (stayed r s) = stayed (loses_then p r) (loses_then q s)
-loses_then (stayed p q) (left s) = left (loses_then q s)
-loses_then (left q) h = left (loses_then q h)
+loses_then (stayed p q) (left r s) = left (loses_then p r) (loses_then q s)
+loses_then (left p q) h = left p (loses_then q h)
 
 pub only_same : (mode : TrailingCommaMode) (t : OrderedTree) → OnlyCommas mode t t
 only_same Never t = loses_none t
@@ -146,7 +146,7 @@ document_only mode e f (in_root {row = row} {new = new} k d) = let v = value_onl
 
 -- rows that differ in one comma, and those with a bracket before them
 pub comma_between : (front back : OrderedTree) → LosesCommas (followed_by front (more (Content.token 0x2C) none back)) (followed_by front back)
-comma_between none back = left (loses_none back)
+comma_between none back = left ended (loses_none back)
 comma_between (more content below after) back = stayed (loses_none below) (comma_between after back)
 
 pub behind_bracket : (kind : RowKind) {x y : OrderedTree} → LosesCommas x y → LosesCommas (container_of kind x).below (container_of kind y).below

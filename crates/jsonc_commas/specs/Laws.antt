@@ -1,5 +1,5 @@
 -- Laws of trailing commas that are set: what becomes of the document.
-use Rattle.std.specs.Prelude.{◌≡◌, ◌<◌, ◌⊎◌, ℕ, true, List, length, Option, None, Some}
+use Rattle.std.specs.Prelude.{◌≡◌, ◌<◌, ◌⊎◌, ℕ, true, List, length, Option, None, Some, IsTrue}
 use Rattle.std.specs.List.{All}
 use Rattle.jsonc_text.specs.Options.{Options}
 use Rattle.jsonc_text.specs.Plain.{Plain}
@@ -11,10 +11,13 @@ use Rattle.jsonc_lines.specs.Siblings.{trailing_comma_at}
 use Rattle.jsonc_build.specs.Shape.{printed_text}
 use Rattle.jsonc_laws.specs.Marks.{marks}
 use Rattle.jsonc_laws.specs.SoundTrees.{SoundTree}
+use Rattle.jsonc_laws.specs.TreeChanges.{DocumentChanged}
+use Rattle.jsonc_edit.specs.Changes.{top_at}
+use Rattle.jsonc_edit.specs.Paths.{IsAt}
 use Rattle.jsonc_edit.specs.declared.modes.TrailingCommaMode.{TrailingCommaMode}
 use Rattle.jsonc_edit.specs.declared.modes.TrailingCommaMode.TheVariants.{Never, IfMultiline}
 use Rattle.jsonc_commas.specs.Commas.{comma_gone, comma_wanted_behind}
-use Rattle.jsonc_commas.specs.InTurn.{holders, AreSetInPart, AreSetInTurn}
+use Rattle.jsonc_commas.specs.InTurn.{holders, holds_at, AreSetInPart, AreSetInTurn}
 
 -- the trailing comma of c is as the mode says: there is none, or none is wanted
 abbrev pub IsSet : TrailingCommaMode → List Node → ℕ → Type 0
@@ -26,7 +29,7 @@ pub data LosesCommas : OrderedTree → OrderedTree → Type 0 where
   ended : LosesCommas none none
   stayed : {content : Content} {below under after rest : OrderedTree} → LosesCommas below under → LosesCommas after rest
       → LosesCommas (more content below after) (more content under rest)
-  left : {below after rest : OrderedTree} → LosesCommas after rest → LosesCommas (more (token 0x2C) below after) rest
+  left : {below after rest : OrderedTree} → LosesCommas below none → LosesCommas after rest → LosesCommas (more (token 0x2C) below after) rest
 
 -- commas have left, or come, and nothing else has
 abbrev pub OnlyCommas : TrailingCommaMode → OrderedTree → OrderedTree → Type 0
@@ -98,3 +101,15 @@ KeepsHolders mode old c new = IsTree old → c < length old → AreSetInTurn mod
 abbrev pub LeavesOthers : TrailingCommaMode → List Node → ℕ → List Node → Type 0
 LeavesOthers mode old c new =
     IsTree old → c < length old → (IsOver old 0 c → ⊥) → AreSetInTurn mode old (holders old c) new → ordered_tree new 0 ≡ ordered_tree old 0
+
+-- where the commas of the array or object at a path are set, and of those in it, nothing changes outside of it
+abbrev pub StaysOutside : TrailingCommaMode → List Node → ℕ → List ℕ → List Node → Type 0
+StaysOutside mode old c path new =
+    IsTree old → IsOver old 0 c → IsTrue (holds_at old c) → IsAt old path c → AreSetInTurn mode old (holders old c) new
+    → DocumentChanged (top_at old c) (top_at new c) path (ordered_tree old 0) (ordered_tree new 0)
+
+-- and where that was refused in part
+abbrev pub StaysOutsideInPart : TrailingCommaMode → List Node → ℕ → List ℕ → List Node → Type 0
+StaysOutsideInPart mode old c path new =
+    IsTree old → IsOver old 0 c → IsTrue (holds_at old c) → IsAt old path c → AreSetInPart mode old (holders old c) new
+    → DocumentChanged (top_at old c) (top_at new c) path (ordered_tree old 0) (ordered_tree new 0)

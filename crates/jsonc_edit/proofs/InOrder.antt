@@ -22,7 +22,7 @@ abbrev pub leaf_at : List Node → ℕ → List Content
 leaf_at ns n = own_leaf (content_at ns n)
 
 module _ (ns : List Node) (tree : IsTree ns) where
-  shown_leaves : (xs : List ℕ) (t : OrderedTree) → AreThere ns xs → Shows ns xs t → leaves t ≡ flat_map (leaf_at ns) (flat_map (in_order ns) xs)
+  pub shown_leaves : (xs : List ℕ) (t : OrderedTree) → AreThere ns xs → Shows ns xs t → leaves t ≡ flat_map (leaf_at ns) (flat_map (in_order ns) xs)
   shown_leaves _ _ h shows_none = refl
   shown_leaves _ _ h (shows_more {n = n} {rest = rest} {below = under} {after = after} p q) =
       let there = All-head (λ m. m < length ns) n rest h in

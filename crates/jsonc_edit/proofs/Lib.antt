@@ -37,3 +37,12 @@ pub mod Printing
 pub mod Placing
 pub mod Putting
 pub mod Quiet
+pub mod Between
+pub mod PathPlaces
+pub mod SeamsGiving
+pub mod SeamsAround
+pub mod CommentsBefore
+pub mod SeamsOfComments
+pub mod AtStill
+pub mod SeamsParting
+pub mod SeamsOfEntries

@@ -234,7 +234,7 @@ module _ (ns : List Node) where
     meet_bare {xs} {ys} {t} {u} s w r v = ap (λ b. b && is_bare_leaf (first_printed (leaves u))) (front_bare s w) ∙ ap (λ b. ends_bare ns (nearest ns (reverse xs)) && b) (back_bare r v)
 
     -- and where none is found, none is printed
-    nothing_printed_back : {xs : List ℕ} {t : OrderedTree} → Shows ns xs t → Whole o t → nearest ns xs ≡ None → first_printed (leaves t) ≡ None
+    pub nothing_printed_back : {xs : List ℕ} {t : OrderedTree} → Shows ns xs t → Whole o t → nearest ns xs ≡ None → first_printed (leaves t) ≡ None
     nothing_printed_back {xs} {t} s w e = subst (Agree (begins_bare ns) (first_printed (leaves t))) e (first_agrees s w)
 
     -- where commas may not be missing nothing is due in a row that goes on

@@ -46,21 +46,21 @@ module _ (test : ℕ → Bool) where
 
 -- one that has come into a row
 module _ (row : List ℕ) (place x : ℕ) (within : place < length row) where
-  up_to : length (take place row ++ x ∷ []) ≡ place + 1
+  pub up_to : length (take place row ++ x ∷ []) ≡ place + 1
   up_to = length_push (take place row) x ∙ ap (λ k. k + 1) (length-take-le place row (omega (arith, within)))
 
-  regrouped : take place row ++ x ∷ drop place row ≡ (take place row ++ x ∷ []) ++ drop place row
+  pub regrouped : take place row ++ x ∷ drop place row ≡ (take place row ++ x ∷ []) ++ drop place row
   regrouped = sym (append_assoc (take place row) (x ∷ []) (drop place row))
 
   -- stands before the one that it came before
-  come_back : reverse (take (place + 1) (take place row ++ x ∷ drop place row)) ≡ x ∷ reverse (take place row)
+  pub come_back : reverse (take (place + 1) (take place row ++ x ∷ drop place row)) ≡ x ∷ reverse (take place row)
   come_back =
       ap (λ (l : List ℕ). reverse (take (place + 1) l)) regrouped
       ∙ ap (λ (l : List ℕ). reverse l) (take_at (take place row ++ x ∷ []) (drop place row) (place + 1) up_to)
       ∙ reverse-append (take place row) (x ∷ [])
 
   -- behind which nothing has changed
-  past_one : drop (place + 1 + 1) (take place row ++ x ∷ drop place row) ≡ drop (place + 1) row
+  pub past_one : drop (place + 1 + 1) (take place row ++ x ∷ drop place row) ≡ drop (place + 1) row
   past_one =
       ap (drop (place + 1 + 1)) regrouped
       ∙ sym (drop-drop 1 (place + 1) ((take place row ++ x ∷ []) ++ drop place row))
@@ -75,7 +75,7 @@ module _ (row : List ℕ) (place x : ℕ) (within : place < length row) where
       ∙ take-take k place row (omega (arith, low)))
 
   -- behind that the row is what it was, up to the one that came
-  ahead_on : (k d : ℕ) → place ≡ k + d → drop k (take place row ++ x ∷ drop place row) ≡ take d (drop k row) ++ x ∷ drop place row
+  pub ahead_on : (k d : ℕ) → place ≡ k + d → drop k (take place row ++ x ∷ drop place row) ≡ take d (drop k row) ++ x ∷ drop place row
   ahead_on k d e =
       drop-append-le k (take place row) (x ∷ drop place row) (omega (arith, e, length-take-le place row (omega (arith, within))))
       ∙ ap (λ l. l ++ x ∷ drop place row) (ap (λ m. drop k (take m row)) e ∙ drop-take k d row)
@@ -113,22 +113,22 @@ space_prints : prints a_space ≡ true
 space_prints = ap (λ o. starts (λ c. true) o) space_first
 
 -- what is seen behind a node is nearest in its row, or behind the property that holds it
-either_seen : (o p : Option ℕ) (x : ℕ) → or_else o p ≡ Some x → (o ≡ Some x) ⊎ ((o ≡ None) × (p ≡ Some x))
+pub either_seen : (o p : Option ℕ) (x : ℕ) → or_else o p ≡ Some x → (o ≡ Some x) ⊎ ((o ≡ None) × (p ≡ Some x))
 either_seen None p x e = inr (refl, e)
 either_seen (Some y) p x e = inl e
 
 -- a property holds n, and x is nearest behind it
-record Held (ns : List Node) (n x : ℕ) : Type 0 where
-  holder : ℕ
-  parent : parent_at ns n ≡ Some holder
-  is : content_at ns holder ≡ property
-  near : nearest ns (siblings_after ns holder) ≡ Some x
+pub record Held (ns : List Node) (n x : ℕ) : Type 0 where
+  pub holder : ℕ
+  pub parent : parent_at ns n ≡ Some holder
+  pub is : content_at ns holder ≡ property
+  pub near : nearest ns (siblings_after ns holder) ≡ Some x
 
 property_seen : (ns : List Node) (content : Content) (h x : ℕ) → behind_property ns content h ≡ Some x → (content ≡ property) × (nearest ns (siblings_after ns h) ≡ Some x)
 property_seen ns property h x e = (refl, e)
 property_seen ns content h x e = absurd (none_some e)
 
-holder_seen : (ns : List Node) (n x : ℕ) (o : Option ℕ) → parent_at ns n ≡ o → option_and_then (λ p. behind_property ns (content_at ns p) p) o ≡ Some x → Held ns n x
+pub holder_seen : (ns : List Node) (n x : ℕ) (o : Option ℕ) → parent_at ns n ≡ o → option_and_then (λ p. behind_property ns (content_at ns p) p) o ≡ Some x → Held ns n x
 holder_seen ns n x None said e = absurd (none_some e)
 holder_seen ns n x (Some h) said e =
     let seen = property_seen ns (content_at ns h) h x e in
@@ -138,13 +138,13 @@ held_behind : (ns : List Node) (n h : ℕ) → parent_at ns n ≡ Some h → con
 held_behind ns n h said is = ap (option_and_then (λ p. behind_property ns (content_at ns p) p)) said ∙ ap (λ w. behind_property ns w h) is
 
 -- x is nearest behind m among the children of c: so many stand between them, none of which prints something
-record Nearest (ns : List Node) (m x c : ℕ) : Type 0 where
-  between : ℕ
-  parent : parent_at ns m ≡ Some c
-  at : place_at ns x ≡ place_at ns m + 1 + between
-  clear : nearest ns (take between (drop (place_at ns m + 1) (children_at ns c))) ≡ None
+pub record Nearest (ns : List Node) (m x c : ℕ) : Type 0 where
+  pub between : ℕ
+  pub parent : parent_at ns m ≡ Some c
+  pub at : place_at ns x ≡ place_at ns m + 1 + between
+  pub clear : nearest ns (take between (drop (place_at ns m + 1) (children_at ns c))) ≡ None
 
-nearest_in : (ns : List Node) → IsTree ns → (m x c : ℕ) (o : Option ℕ) → parent_at ns x ≡ Some c → parent_at ns m ≡ o → nearest ns (drop (place_at ns m + 1) (with_parent o (children_at ns))) ≡ Some x → Nearest ns m x c
+pub nearest_in : (ns : List Node) → IsTree ns → (m x c : ℕ) (o : Option ℕ) → parent_at ns x ≡ Some c → parent_at ns m ≡ o → nearest ns (drop (place_at ns m + 1) (with_parent o (children_at ns))) ≡ Some x → Nearest ns m x c
 nearest_in ns tree m x c None told said e =
     let f = found_at (prints_at ns) (drop (place_at ns m + 1) []) x e in
     absurd (omega (arith, f.1, length-drop {A = ℕ} (place_at ns m + 1) []))
@@ -256,7 +256,7 @@ module _ (old new : List Node) (n space : ℕ) (tree : IsTree old) (r : StandsBe
   before_kept m ne out = siblings_kept (λ k l. reverse (take k l)) m (parent_at old m) refl ne out
 
   -- the row of a child of the container
-  row_new : (m : ℕ) → parent_at old m ≡ Some c → row_of new m ≡ take place row ++ space ∷ drop place row
+  pub row_new : (m : ℕ) → parent_at old m ≡ Some c → row_of new m ≡ take place row ++ space ∷ drop place row
   row_new m said =
       ap (λ o. with_parent o (children_at new)) (parent_kept old new n space tree r m (no_space m c said) ∙ said)
       ∙ container_row old new n space tree r
@@ -269,7 +269,7 @@ module _ (old new : List Node) (n space : ℕ) (tree : IsTree old) (r : StandsBe
   other h p said e = not_over_parent old tree h p said (subst (λ k. IsOver old h k) e IsOver.itself)
 
   -- before n the space is seen now
-  n_placed : place_at new n ≡ place + 1
+  pub n_placed : place_at new n ≡ place + 1
   n_placed = ap (place_at new) (sym (tree.found n c r.parent)) ∙ placed_behind old new n space tree r place (omega arith) within
 
   pub space_before : seen_before new n ≡ Some space
@@ -312,7 +312,7 @@ module _ (old new : List Node) (n space : ℕ) (tree : IsTree old) (r : StandsBe
     low : place_at old m < place
     low = omega (arith, near.at)
 
-    m_placed : place_at new m ≡ place_at old m
+    pub m_placed : place_at new m ≡ place_at old m
     m_placed = ap (place_at new) (sym (tree.found m c near.parent)) ∙ placed_ahead old new n space tree r (place_at old m) low
 
     before_m : siblings_before new m ≡ siblings_before old m
@@ -354,7 +354,7 @@ module _ (old new : List Node) (n space : ℕ) (tree : IsTree old) (r : StandsBe
           ap (nearest new) (before_kept v apart out) ∙ nearest_kept (siblings_before old v),
         )
 
-    nearest_to : (m : ℕ) → nearest old (siblings_after old m) ≡ Some n → Nearest old m n c
+    pub nearest_to : (m : ℕ) → nearest old (siblings_after old m) ≡ Some n → Nearest old m n c
     nearest_to m e = nearest_in old tree m n c (parent_at old m) r.parent refl e
 
     pub space_behind : seen_behind old v ≡ Some n → SpaceSeen

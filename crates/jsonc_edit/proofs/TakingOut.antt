@@ -122,7 +122,7 @@ module _ (old ready : List Node) (tree : IsTree old) (prepared : Prepared old re
           })
 
 -- a node of the document stays one
-over_keeps : (old ready : List Node) → IsTree old → Keeps (length old) old ready → (k : ℕ) → k < length old → IsOver old 0 k → IsOver ready 0 k
+pub over_keeps : (old ready : List Node) → IsTree old → Keeps (length old) old ready → (k : ℕ) → k < length old → IsOver old 0 k → IsOver ready 0 k
 over_keeps old ready tree keeps _ there IsOver.itself = IsOver.itself
 over_keeps old ready tree keeps k there (IsOver.above {c = p} said rest) = IsOver.above (keeps.parent k there ∙ said) (over_keeps old ready tree keeps p (parent_there old tree k p said).1 rest)
 

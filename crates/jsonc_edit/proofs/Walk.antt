@@ -165,7 +165,7 @@ module _ (old new : List Node) (c : ℕ) (changed : ChangedIn old new c) where
         (subst (λ t. DocumentChanged was now path (more root row.0 none) t) (document_is new after row.1 row.3) whole)
 
 -- what is over a node over another is over that
-over_through : (ns : List Node) (x y z : ℕ) → IsOver ns x y → IsOver ns y z → IsOver ns x z
+pub over_through : (ns : List Node) (x y z : ℕ) → IsOver ns x y → IsOver ns y z → IsOver ns x z
 over_through ns x y _ first IsOver.itself = first
 over_through ns x y z first (IsOver.above {c = p} said rest) = IsOver.above said (over_through ns x y p first rest)
 

@@ -11,7 +11,7 @@ use Rattle.jsonc_tree.specs.Content.{Content}
 use Rattle.jsonc_laws.specs.Below.build.Shape as shape
 use Rattle.jsonc_laws.specs.Below.build.Shape.{IsLexemeBefore, IsLiteralBefore, ValueShaped, token_then}
 use Rattle.jsonc_input.specs.Numbers.{IsAlwaysNumber}
-use Rattle.jsonc_input.specs.Spelling.{spelled}
+use Rattle.jsonc_text.specs.Spelling.{spelled}
 use Rattle.jsonc_input.proofs.Spelled.{spelled_string}
 use Rattle.jsonc_from_input.specs.Layout.{Layout, deeper}
 use Rattle.jsonc_tree.specs.OrderedTree.{Top}

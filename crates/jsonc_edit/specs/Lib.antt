@@ -14,4 +14,9 @@ pub mod Due
 pub mod Put
 pub mod Meeting
 pub mod SpaceLaws
+pub mod Seams
+pub mod SeamPlaces
+pub mod SeamRemovals
+pub mod SeamEntries
+pub mod SeamLaws
 pub mod Below

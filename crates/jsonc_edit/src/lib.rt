@@ -33,6 +33,7 @@ mod paths;
 mod put;
 mod reading;
 mod replacing;
+pub mod seam_laws;
 pub mod space_laws;
 
 pub use comments::{newline_from, remove_comment};

@@ -43,12 +43,12 @@ last_marks (leave_last front gone spaces k g h) =
 pub kept_marks : {row kept : OrderedTree} → BlankLinesLeave row kept → marks kept ≡ marks row
 kept_marks b = first_marks b.first ∙ last_marks b.last
 
-gap_marks : {b : Bool} {gap : List Content} (row : OrderedTree) → Gap b gap → marks (leaves_then gap row) ≡ marks row
+pub gap_marks : {b : Bool} {gap : List Content} (row : OrderedTree) → Gap b gap → marks (leaves_then gap row) ≡ marks row
 gap_marks row nothing = refl
 gap_marks row a_space = refl
 gap_marks row (a_line i) = refl
 
-led_marks : {front led : OrderedTree} → CommaComes front led → marks led ≡ marks front
+pub led_marks : {front led : OrderedTree} → CommaComes front led → marks led ≡ marks front
 led_marks none_comes = refl
 led_marks (one_comes front last beside el be) =
     let rest : OrderedTree = leaves_then beside none in
@@ -56,7 +56,7 @@ led_marks (one_comes front last beside el be) =
     ∙ ap (λ ms. marks front ++ ms) (marks_first last (token_then 0x2C rest) ∙ sym (marks_first last rest))
     ∙ sym (marks_then front (more last.content last.below rest))
 
-behind_marks : {o : Options} {rest behind : OrderedTree} → GoesOn o rest behind → marks behind ≡ marks rest
+pub behind_marks : {o : Options} {rest behind : OrderedTree} → GoesOn o rest behind → marks behind ≡ marks rest
 behind_marks {rest = rest} (elements_follow gap w n) = gap_marks rest w
 behind_marks {rest = rest} (none_follow gap w n) = gap_marks rest w
 behind_marks (comma_last t n) = refl

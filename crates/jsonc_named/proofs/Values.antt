@@ -29,6 +29,7 @@ use Rattle.jsonc_edit.specs.Spaced.{SpacesPut}
 use Rattle.jsonc_edit.specs.Writing.{IsWritable}
 use Rattle.jsonc_edit.proofs.ReplacedValues.{changed, put, replaced_written}
 use Rattle.jsonc_edit.proofs.Spacing.{spaces_marks}
+use Rattle.jsonc_edit.proofs.SeamsGiving.{gives_way_with_seams}
 use Rattle.jsonc_set.specs.Kinds.{KeptOrReplaced}
 use Rattle.jsonc_set.specs.PropertyValues.{HeldOrSet}
 use Rattle.jsonc_set.proofs.PropertyRows.{prints_value, some_value_of}
@@ -74,7 +75,14 @@ value_gives_way old new path n m v tree at r =
       spaces = put old new n m top tree r.2 path at;
       changed = change;
       around = document_differs change;
+      seams = gives_way_with_seams old new n m top tree r.2 path at;
     }
+
+-- one of another shape than the value that has taken its place
+pub other_gives_way : (old new : List Node) (path : List ℕ) (n m : ℕ) (shape : Shape) → IsTree old → IsAt old path n → IsReplaced old new n (empty_of shape) m → is_of shape (content_at old n) ≡ false
+    → (given : ValueGivesWay path (empty_of shape) (ordered_tree old 0) (ordered_tree new 0)) × (is_of shape given.was.content ≡ false)
+unfolding value_gives_way
+other_gives_way old new path n m shape tree at r is = (value_gives_way old new path n m (empty_of shape) tree at r, is)
 
 -- a change at a path is one at the front of it, of what has changed at the rest
 changed_apart : {was now : Plain} (front rest : List ℕ) {x y : Plain} → Changed was now (front ++ rest) x y → (a : Plain) × (b : Plain) × Changed a b front x y × Changed was now rest a b
@@ -129,7 +137,7 @@ value_ensured o old new tree sound path r at shape (named, m, value) =
 
 pub stays_ensured : (old new : List Node) (path : List ℕ) (shape : Shape) → IsTree old → Ensured old new path shape → ValueEnsured path shape (ordered_tree old 0) (ordered_tree new 0)
 stays_ensured old new path shape tree (has_stayed n at is same) = all_stays (ap (λ (ns : List Node). ordered_tree ns 0) same)
-stays_ensured old new path shape tree (has_given_way n m at is r) = empty_given (value_gives_way old new path n m (empty_of shape) tree at r)
+stays_ensured old new path shape tree (has_given_way n m at is r) = let g = other_gives_way old new path n m shape tree at r is in empty_given g.0 g.1
 
 -- where spaces come, and then of the leaves some give way to others, so do their marks
 pub marks_given : (was now : Top) (t spaced u : OrderedTree) → SpacesPut t spaced → DiffersIn (leaves_of was) (leaves_of now) (leaves spaced) (leaves u) → MarksDifferIn (marks_under was) (marks_under now) (marks t) (marks u)
@@ -145,8 +153,8 @@ value_marked o t u path v may g =
 -- an empty array or object has none
 pub ensured_marks : (o : Options) (t u : OrderedTree) (path : List ℕ) (shape : Shape) → ValueEnsured path shape t u → (was : List Mark) × MarksDifferIn was [] (marks t) (marks u)
 ensured_marks o t u path shape (all_stays same) = ([], record { front = []; back = marks t; before = refl; after = ap marks same })
-ensured_marks o t u path Object (empty_given g) = value_marked o t u path (empty_of Object) (empty_writable o Object) g
-ensured_marks o t u path Array (empty_given g) = value_marked o t u path (empty_of Array) (empty_writable o Array) g
+ensured_marks o t u path Object (empty_given g other) = value_marked o t u path (empty_of Object) (empty_writable o Object) g
+ensured_marks o t u path Array (empty_given g other) = value_marked o t u path (empty_of Array) (empty_writable o Array) g
 
 -- the text is a document again, in which the value that the property holds is of the shape
 pub record ShapeWritten (o : Options) (front : List ℕ) (i : ℕ) (shape : Shape) (t u : OrderedTree) : Type 0 where

@@ -220,7 +220,7 @@ module _ (o : Options) (old new : List Node) (path : List ℕ) (c : ℕ) (name :
 
   stays_so : (i : ℕ) → ValueEnsured (path ++ i ∷ []) shape (ordered_tree old 0) (ordered_tree new 0) → StaysAround o path name shape (ordered_tree old 0) (ordered_tree new 0) over.Replace
   stays_so i (giving.all_stays same) = all_stays same
-  stays_so i (giving.empty_given g) = value_given i g
+  stays_so i (giving.empty_given g other) = value_given i g other
 
   -- the value of the one that was found is of the shape
   set_written : (r m : ℕ) → how ≡ over.Replace → FirstInObject old c name (Some r) → PropertyValueIs shape old new r m → IsNamedWritten o path name shape how (ordered_tree old 0) (ordered_tree new 0)
@@ -263,8 +263,8 @@ writes_named o old new path c name shape how answer tree s at is texts (found, f
 -- what stays around tells what becomes of the marks
 pub around_marks : (o : Options) (t u : OrderedTree) (path name : List ℕ) (shape : Shape) (how : Over) → SoundTree o t → IsCharacters name → StaysAround o path name shape t u how → ChangesMarks name shape (marks t) (marks u) how
 around_marks o t u path name shape how s texts (all_stays same) = none_leave (ap marks same)
-around_marks o t u path name shape _ s texts (value_given i g) =
-    let left = ensured_marks o t u (path ++ i ∷ []) shape (giving.empty_given g) in
+around_marks o t u path name shape _ s texts (value_given i g other) =
+    let left = ensured_marks o t u (path ++ i ∷ []) shape (giving.empty_given g other) in
     some_leave left.0 left.1
 around_marks o t u path name shape how s texts (property_come n comes) =
     let v : Plain = empty_of shape in

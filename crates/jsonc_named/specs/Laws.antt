@@ -1,5 +1,5 @@
 -- Laws of values of properties by name: what becomes of the document.
-use Rattle.std.specs.Prelude.{◌≡◌, ◌≤◌, ℕ, List, [], ◌∷◌, ◌++◌, Option, Some, None}
+use Rattle.std.specs.Prelude.{◌≡◌, ◌≤◌, ℕ, List, [], ◌∷◌, ◌++◌, false, Option, Some, None}
 use Rattle.jsonc_text.specs.Options.{Options}
 use Rattle.jsonc_text.specs.Plain.{Plain, Members}
 use Rattle.jsonc_text.specs.Plain as plain
@@ -24,7 +24,7 @@ use Rattle.jsonc_named.specs.declared.shape.Over.TheVariants.{Replace}
 use Rattle.jsonc_named.specs.declared.shape.Shape.{Shape}
 use Rattle.jsonc_named.specs.Members.{EnsuresMember, IsFirstMember, LacksMember}
 use Rattle.jsonc_named.specs.Named.{IsUnensured, NamedEnsured}
-use Rattle.jsonc_named.specs.Shapes.{empty_of}
+use Rattle.jsonc_named.specs.Shapes.{is_of, empty_of}
 use Rattle.jsonc_named.specs.Values.{ValueGivesWay}
 
 -- what was found of this name in c, and of these properties none or one has it: the one of its number
@@ -45,11 +45,11 @@ abbrev pub FindsMember : Options → List Node → List ℕ → ℕ → List ℕ
 FindsMember o ns path c name found =
     IsTree ns → SoundTree o (ordered_tree ns 0) → IsAt ns path c → content_at ns c ≡ object → FirstInObject ns c name found → IsFoundAt o ns path c name found
 
--- What has stayed around: all; or all around the value of the property of this number in the object at the path, which has given way to an empty one, where
--- another is to; or all around a property that has come behind the last one.
+-- What has stayed around: all; or all around the value of the property of this number in the object at the path, which was of another shape and has given way to
+-- an empty one, where another is to; or all around a property that has come behind the last one.
 pub data StaysAround (o : Options) (path name : List ℕ) (shape : Shape) (t u : OrderedTree) : Over → Type 0 where
   all_stays : {how : Over} → u ≡ t → StaysAround o path name shape t u how
-  value_given : (i : ℕ) → ValueGivesWay (path ++ i ∷ []) (empty_of shape) t u → StaysAround o path name shape t u Replace
+  value_given : (i : ℕ) (given : ValueGivesWay (path ++ i ∷ []) (empty_of shape) t u) → is_of shape given.was.content ≡ false → StaysAround o path name shape t u Replace
   property_come : {how : Over} (n : ℕ) → ((i : ℕ) → n ≤ i → PropertyComesAt o path i name (empty_of shape) t u) → StaysAround o path name shape t u how
 
 -- all literals and comments stay; or one stretch of them has left, where another value is to give way; or the name has come in

@@ -2,21 +2,23 @@
 use Rattle.std.proofs.Common.{◌≡◌, ◌≢◌, ℕ, ◌+◌, ◌<◌, Bool, true, false, not, ◌&&◌, cond, List, [], ◌∷◌, ◌++◌, length, filter, reverse, slice_get, slice_index, Option, Some, None, IsTrue, if◌then◌else◌, inl, inr, refl, sym, ap, subst, ◌∙◌, arith}
 use Rattle.std.proofs.lemmas.Bool.{cases_Bool}
 use Rattle.std.proofs.lemmas.List.{append_assoc}
-use Rattle.std.proofs.lemmas.List.Elements.{All-nil, All-cons, All-append, All-from_get_or}
+use Rattle.std.proofs.lemmas.List.Elements.{All-nil, All-cons, All-head, All-tail, All-append, All-from_get_or, All-weaker}
 use Rattle.std.specs.List.{All}
 use Rattle.std.specs.Option.{option_and_then}
 use Rattle.jsonc_text.specs.Options.{Options}
 use Rattle.jsonc_tree.specs.Changes.{Splices}
 use Rattle.jsonc_tree.specs.Content.{Content, token, array, object}
-use Rattle.jsonc_tree.specs.OrderedTree.{OrderedTree, ordered_tree}
+use Rattle.jsonc_tree.specs.OrderedTree.{OrderedTree, Shows, ordered_tree}
 use Rattle.jsonc_tree.specs.Tree.{Node, content_at, parent_at, children_at, place_at, IsTree, IsOver}
 use Rattle.jsonc_tree.specs.Siblings.{siblings_after}
 use Rattle.jsonc_tree.proofs.Order.{not_over_parent, parent_there}
 use Rattle.jsonc_tree.proofs.Over.{over_up}
+use Rattle.jsonc_tree.proofs.OrderedTrees.{Shows-unique}
 use Rattle.jsonc_nodes.specs.Kinds.{is_element, is_element_at, is_property}
 use Rattle.jsonc_nodes.specs.Siblings.{elements_at}
 use Rattle.jsonc_nodes.proofs.There.{All-reverse}
 use Rattle.jsonc_lines.specs.Kinds.{holds_values}
+use Rattle.jsonc_build.specs.Shape.{token_then}
 use Rattle.jsonc_laws.specs.Rows.{RowKind, of_values, of_properties, holder, opening, closing, container_of}
 use Rattle.jsonc_tree.specs.OrderedTree.{Top}
 use Rattle.jsonc_laws.specs.TreeChanges.{IsElement, DocumentChanged}
@@ -25,7 +27,7 @@ use Rattle.jsonc_laws.specs.Adjacent.{or_else}
 use Rattle.jsonc_laws.specs.Leaving.{ElementLeaves}
 use Rattle.jsonc_edit.specs.Due.{nearest, seen_before, seen_behind, behind_holder, behind_property, due_between, listed, ends_bare, begins_bare, prints, prints_at, prints_within}
 use Rattle.jsonc_edit.specs.Put.{AreSpaced}
-use Rattle.jsonc_edit.proofs.Putting.{elements_kept}
+use Rattle.jsonc_edit.proofs.Putting.{children_kept, elements_kept}
 use Rattle.jsonc_edit.proofs.Whole.{Whole, more_whole, whole_leaf, row_whole}
 use Rattle.jsonc_edit.specs.Changes.{row_below, top_at}
 use Rattle.jsonc_edit.specs.Paths.{IsAt, IsElementOf}
@@ -34,16 +36,22 @@ use Rattle.jsonc_edit.proofs.DueKept.{due_between_same}
 use Rattle.jsonc_edit.proofs.Elements.{stands_at}
 use Rattle.jsonc_edit.proofs.Kept.{at_kept, filter_same, top_stays, tree_stays}
 use Rattle.jsonc_edit.proofs.Placed.{Placed, between_placed, found_behind}
-use Rattle.jsonc_edit.proofs.Spacing.{Spaced, all_spaced, spaces_sound}
+use Rattle.jsonc_edit.proofs.Spacing.{Spaced, all_spaced, parent_stays, spaces_sound}
 use Rattle.jsonc_edit.proofs.Uniqueness.{element_parent, leads_over}
-use Rattle.jsonc_edit.proofs.Walk.{changed_over}
+use Rattle.jsonc_edit.proofs.Walk.{ChangedIn, Shows-row_below, apart_kept, changed_over}
 use Rattle.jsonc_remove.specs.Laws.{EntryTaken}
 use Rattle.jsonc_remove.specs.Leaving.{comma_gone, first_gone, last_gone}
 use Rattle.jsonc_remove.specs.Removed.{comma_in, due_at_comma, due_at_stretch, is_next, is_hollow, hollow_from, hollow_to, IsClosedUp, IsTakenFrom, LosesChild, TakesElement}
 use Rattle.jsonc_remove.proofs.Containers.{Held, held_at, Brackets, brackets}
 use Rattle.jsonc_remove.proofs.Going.{is_end, Edges, Going, with_behind, with_before, with_none, going}
 use Rattle.jsonc_remove.proofs.Outcomes.{Outcome, outcome}
-use Rattle.jsonc_remove.proofs.Places.{before_in, parent_in}
+use Rattle.jsonc_edit.specs.SeamRemovals.{EntryLeavesWithSeams, LeavesWithSeams}
+use Rattle.jsonc_edit.specs.SeamPlaces.{DocumentHolds}
+use Rattle.jsonc_edit.specs.Seams.{StandsBetween}
+use Rattle.jsonc_edit.proofs.AtStill.{at_still}
+use Rattle.jsonc_edit.proofs.Between.{between_above}
+use Rattle.jsonc_edit.proofs.PathPlaces.{AtBetween, at_between, holds_between}
+use Rattle.jsonc_remove.proofs.Places.{Some_same, before_in, parent_in}
 use Rattle.jsonc_remove.proofs.Within.{elements_print}
 use Rattle.jsonc_remove.proofs.Settled.{DueWith, IsSettled, is_settled}
 use Rattle.jsonc_remove.proofs.Spaces.{AreSame, going_same, nearest_same, no_holder, or_none, front_same}
@@ -158,6 +166,24 @@ module _ (ns : List Node) (tree : IsTree ns) (c n : ℕ) (said : parent_at ns n 
   all_placed from to (Some k) true told s = due_placed k to told
   all_placed from to (Some k) false told s =
       All-append (Placed ns n) (listed (due_between ns k k)) (listed (due_between ns from to)) (due_placed k k (parent_in ns tree c s.front s.back k s.row)) (due_placed from to told)
+
+  kids_due : (a b : ℕ) → parent_at ns b ≡ Some c → All (λ x. parent_at ns x ≡ Some c) (listed (due_between ns a b))
+  kids_due a b told = one_kid (prints_within ns a b && (ends_bare ns (seen_before ns a) && begins_bare ns (seen_behind ns b))) b (seen_behind ns b) told refl
+
+  all_kids_due : (from to : ℕ) (o : Option ℕ) (next : Bool) → parent_at ns to ≡ Some c → StandsIf ns c o → All (λ x. parent_at ns x ≡ Some c) (dues from to o next)
+  all_kids_due from to None next told k = kids_due from to told
+  all_kids_due from to (Some k) true told s = kids_due k to told
+  all_kids_due from to (Some k) false told s =
+      All-append (λ x. parent_at ns x ≡ Some c) (listed (due_between ns k k)) (listed (due_between ns from to)) (kids_due k k (parent_in ns tree c s.front s.back k s.row)) (kids_due from to told)
+
+-- spaces before children of c come into the row of c alone
+rows_spaced : (c : ℕ) (xs : List ℕ) (old new : List Node) → IsTree old → AreSpaced old xs new → All (λ x. parent_at old x ≡ Some c) xs → (k : ℕ) → k ≢ c → children_at new k ≡ children_at old k
+rows_spaced c [] old new tree e h k ne = ap (λ ns. children_at ns k) e
+rows_spaced c (x ∷ xs) old new tree (now, leaf, s, rest) h k ne =
+    let said : parent_at old x ≡ Some c = All-head (λ y. parent_at old y ≡ Some c) x xs h in
+    let others : All (λ y. parent_at now y ≡ Some c) xs = All-weaker (λ y. parent_at old y ≡ Some c) (λ y. parent_at now y ≡ Some c) (λ y told. parent_stays old now x leaf tree s y c told) xs (All-tail (λ y. parent_at old y ≡ Some c) x xs h) in
+    let is : s.container ≡ c = Some_same s.container c (sym s.parent ∙ said) in
+    rows_spaced c xs now new s.tree rest others k ne ∙ children_kept old now x leaf tree s k (λ e. ne (e ∙ is))
 
 next_of : List Node → ℕ → Option ℕ → Bool
 next_of ns from None = false
@@ -323,13 +349,13 @@ module _ (o : Options) (old new : List Node) (path : List ℕ) (c i n : ℕ) (tr
   inner_there : {x : ℕ} → parent_at old x ≡ Some c → x < length old
   inner_there {x} e = (parent_there old tree x c e).0
 
-  out : Outcome spaced new c n i was_held.kind
+  out : Outcome spaced new c n i was_held.kind (children_at ready c)
   unfolding from to
   out =
       outcome o spaced new s.tree after c n i b.open_with b.last (first_gone old n) (last_gone old n) was_held.kind (omega (arith, c_there, longer)) (omega (arith, n_there, longer))
       (content_spaced b.open_with (inner_there (parent_in old tree c [] (b.inner ++ b.last ∷ []) b.open_with b.children)) ∙ b.opens)
       (content_spaced b.last (inner_there (parent_in old tree c (b.open_with ∷ b.inner) [] b.last b.children)) ∙ b.closes)
-      holds_spaced whole element_spaced f.parted f.joined f.stretch f.closed (comma_gone old n) settled.settled (subst (LosesChild f.parted f.joined c) comma_is_gone f.comma)
+      holds_spaced whole element_spaced f.parted f.joined f.stretch f.closed (comma_gone old n) (children_at ready c) settled.settled (subst (LosesChild f.parted f.joined c) comma_is_gone f.comma)
 
   moved : Unmoved spaced new c
   moved = unmoved f
@@ -351,6 +377,57 @@ module _ (o : Options) (old new : List Node) (path : List ℕ) (c i n : ℕ) (tr
   same_top : top_at spaced n ≡ top_at old n
   same_top = s.top (omega (arith, n_there, f.prepared.keeps.len)) ∙ top_stays old ready tree f.prepared.keeps f.prepared.tree n n_there
 
+  -- spaces have come into the row of c alone
+  in_row : ChangedIn ready spaced c
+  in_row =
+      let to_ready : parent_at ready to ≡ Some c = parent_in ready f.prepared.tree c stands.1.front stands.1.back to (row_ready ∙ stands.1.row) in
+      let over : IsOver ready 0 c = over_at ready f.prepared.tree path c at_ready in
+      let next : Bool = next_of old from (comma_gone old n) in
+      record {
+        tree = f.prepared.tree;
+        content = λ k ne. s.content k;
+        children = rows_spaced c (dues ready f.prepared.tree c n said_ready over holds_ready from to (comma_gone old n) next) ready spaced f.prepared.tree (put_of (comma_gone old n) next due)
+            (all_kids_due ready f.prepared.tree c n said_ready over holds_ready from to (comma_gone old n) next to_ready (kept_stands (comma_gone old n) stands.2));
+      }
+
+  then_moved : ChangedIn spaced new c
+  then_moved = record { tree = s.tree; content = λ k ne. moved.content k; children = moved.children }
+
+  -- the row without them
+  ready_below : row_below ready c ≡ token_then (opening was_held.kind) out.ready_row
+  ready_below =
+      let kids : List ℕ = children_at ready c in
+      let there : c < length ready = omega (arith, c_there, f.prepared.keeps.len) in
+      let shown : Shows spaced kids (row_below ready c) = apart_kept ready spaced c in_row kids (row_below ready c) (λ k h. not_over_parent ready f.prepared.tree (slice_index kids k) c (f.prepared.tree.named c k h)) (Shows-row_below ready f.prepared.tree c there) in
+      Shows-unique spaced kids (row_below ready c) (token_then (opening was_held.kind) out.ready_row) shown out.shows_ready
+
+  ready_top : top_at ready c ≡ container_of was_held.kind out.ready_row
+  ready_top = ap (λ (w : Content). record { content = w; below = row_below ready c }) (f.prepared.keeps.content c c_there ∙ was_held.is) ∙ ap (λ (t : OrderedTree). record { content = holder was_held.kind; below = t }) ready_below
+
+  place : AtBetween ready f.prepared.tree path c
+  place = at_between ready f.prepared.tree path c at_ready
+
+  at_new : IsAt new path c
+  at_new = at_still spaced new c s.tree moved.content moved.children path at_spaced
+
+  stands_new : StandsBetween new c place.first place.last
+  stands_new = between_above spaced new c then_moved after c place.first place.last (between_above ready spaced c in_row s.tree c place.first place.last place.stands IsOver.itself) IsOver.itself
+
+  entry_with_seams : EntryLeavesWithSeams path i (top_at old n) (ordered_tree old 0) (ordered_tree new 0)
+  entry_with_seams = record {
+    kind = was_held.kind;
+    row = out.ready_row;
+    left = out.left;
+    new = out.now;
+    front = place.first;
+    back = place.last;
+    element = kind_of;
+    held = subst (λ (t : OrderedTree). DocumentHolds (container_of was_held.kind out.ready_row) path t place.first place.last) same_tree (subst (λ (w : Top). DocumentHolds w path (ordered_tree ready 0) place.first place.last) ready_top place.holds);
+    holds = subst (λ (w : Top). DocumentHolds w path (ordered_tree new 0) place.first place.last) now_top (holds_between new after path c place.first place.last at_new stands_new);
+    leaving = subst (λ (w : Top). LeavesWithSeams w i out.ready_row out.left) same_top out.seams;
+    closes = out.closes;
+  }
+
   pub entry_taken : EntryTaken path i (top_at old n) (ordered_tree old 0) (ordered_tree new 0)
   entry_taken = record {
     spaced = ordered_tree spaced 0;
@@ -363,4 +440,5 @@ module _ (o : Options) (old new : List Node) (path : List ℕ) (c i n : ℕ) (tr
     changed = subst (λ (w : Top). DocumentChanged w (container_of was_held.kind out.now) path (ordered_tree spaced 0) (ordered_tree new 0)) was_top (subst (λ (w : Top). DocumentChanged (top_at spaced c) w path (ordered_tree spaced 0) (ordered_tree new 0)) now_top changed);
     leaves = subst (λ (w : Top). ElementLeaves w i out.row out.left) same_top out.leaves;
     closes = out.closes;
+    seams = entry_with_seams;
   }

@@ -5,7 +5,7 @@ use Rattle.std.proofs.lemmas.List.Elements.{All-head, All-tail, All-append}
 use Rattle.jsonc_text.specs.Options.{Options}
 use Rattle.jsonc_tree.specs.Changes.{Splices}
 use Rattle.jsonc_tree.specs.Content.{Content, token, is_container}
-use Rattle.jsonc_tree.specs.OrderedTree.{OrderedTree, none, more, leaves, followed_by, Shows}
+use Rattle.jsonc_tree.specs.OrderedTree.{OrderedTree, none, more, leaves, followed_by, Shows, shows_none, shows_more}
 use Rattle.jsonc_tree.specs.Tree.{Node, content_at, parent_at, children_at, place_at, IsTree}
 use Rattle.jsonc_tree.proofs.Order.{parent_there}
 use Rattle.jsonc_tree.proofs.Rows.{Shows-append, Shows-part, followed_by-assoc, followed_by-none}
@@ -14,7 +14,10 @@ use Rattle.jsonc_build.specs.Shape.{token_then}
 use Rattle.jsonc_lines.specs.Kinds.{holds_values}
 use Rattle.jsonc_laws.specs.Rows.{RowKind, opening, closing}
 use Rattle.jsonc_laws.specs.TriviaChanges.{leaves_then}
-use Rattle.jsonc_laws.specs.Spaces.{meet}
+use Rattle.jsonc_laws.specs.Spaces.{meet, space_then}
+use Rattle.jsonc_edit.specs.Put.{a_space}
+use Rattle.jsonc_edit.specs.SeamRemovals.{SpaceFirst, none_first, space_first, LeavesWithSeams, comma_behind, comma_before, no_comma}
+use Rattle.jsonc_edit.proofs.Between.{silent_row}
 use Rattle.jsonc_laws.specs.Leaving.{AreBeside, ends_apart, element_count, among, ElementLeaves, with_comma_behind, with_comma_before, with_no_comma, ClosesUp}
 use Rattle.jsonc_laws.proofs.RowParts.{rest_trivia, between_trivia, line_trivia}
 use Rattle.jsonc_edit.proofs.Whole.{Whole, more_whole, whole_before, whole_behind}
@@ -26,7 +29,7 @@ use Rattle.jsonc_edit.proofs.Walk.{Shows-row_below}
 use Rattle.jsonc_remove.specs.Removed.{IsClosedUp, LosesChild}
 use Rattle.jsonc_remove.proofs.Contents.{apart, count, apart_shown, commas_shown, first_shown, count_shown, count_append, count_beside}
 use Rattle.jsonc_remove.proofs.Going.{Edges}
-use Rattle.jsonc_remove.proofs.Places.{Quiet, place_in}
+use Rattle.jsonc_remove.proofs.Places.{Come, none_come, one_come, Quiet, place_in}
 use Rattle.jsonc_remove.proofs.Settled.{Settled, settled_behind, settled_before, settled_none, comma_is}
 use Rattle.jsonc_remove.proofs.Stretches.{contents}
 use Rattle.jsonc_remove.proofs.Trees.{trivia_leaves, beside_leaves, leaves_shown, among_shown, leaf_below, quiet_inside, AreKids, all_kids, closes_row as close_up, NewRow, new_row}
@@ -37,8 +40,8 @@ whole_joined : (o : Options) (t u : OrderedTree) → Whole o t → Whole o u →
 whole_joined o none u w v = v
 whole_joined o (more content below after) u (more_whole h r) v = more_whole h (whole_joined o after u r v)
 
--- what the rows below c are, and that the element has left
-pub record Outcome (old new : List Node) (c n i : ℕ) (kind : RowKind) : Type 0 where
+-- what the rows below c are, and that the element has left; `ready` were its children before spaces came
+pub record Outcome (old new : List Node) (c n i : ℕ) (kind : RowKind) (ready : List ℕ) : Type 0 where
   pub row : OrderedTree
   pub left : OrderedTree
   pub now : OrderedTree
@@ -46,6 +49,48 @@ pub record Outcome (old new : List Node) (c n i : ℕ) (kind : RowKind) : Type 0
   pub is : row_below new c ≡ token_then (opening kind) now
   pub leaves : ElementLeaves (top_at old n) i row left
   pub closes : ClosesUp left now
+  pub ready_row : OrderedTree
+  pub shows_ready : Shows old ready (token_then (opening kind) ready_row)
+  pub seams : LeavesWithSeams (top_at old n) i ready_row left
+
+-- what a row is without the space that has come into it
+record Unspaced (ns : List Node) (xs : List ℕ) (t : OrderedTree) : Type 0 where
+  was : OrderedTree
+  shows : Shows ns xs was
+  space : SpaceFirst was t
+
+first_below : (ns : List Node) (n : ℕ) (rest : List ℕ) (t : OrderedTree) → Shows ns (n ∷ rest) t → (below : OrderedTree) × (after : OrderedTree) × (t ≡ more (content_at ns n) below after) × Shows ns (children_at ns n) below × Shows ns rest after
+first_below ns n rest _ (shows_more {below = b} {after = a} p q) = (b, a, refl, p, q)
+
+nothing_below : (ns : List Node) (t : OrderedTree) → Shows ns [] t → t ≡ none
+nothing_below ns _ shows_none = refl
+
+unspaced : (ns : List Node) → IsTree ns → {xs ys : List ℕ} → Come ns xs ys → (t : OrderedTree) → Shows ns ys t → Unspaced ns xs t
+unspaced ns tree none_come t shown = record { was = t; shows = shown; space = none_first }
+unspaced ns tree (one_come front back x leaf clear is) t shown =
+    let two = Shows-part ns front (leaf ∷ x ∷ back) t shown in
+    let one = first_below ns leaf (x ∷ back) two.1 two.4 in
+    let bare : one.0 ≡ none = nothing_below ns one.0 (subst (λ (l : List ℕ). Shows ns l one.0) (tree.leaf leaf (ap is_container is)) one.3) in
+    let second : two.1 ≡ space_then one.1 = one.2 ∙ ap (λ (w : Content). more w one.0 one.1) is ∙ ap (λ (b : OrderedTree). more a_space b one.1) bare in
+    let given : SpaceFirst (followed_by two.0 one.1) (followed_by two.0 (space_then one.1)) = space_first two.0 one.1 (silent_row ns tree front two.0 two.3 clear) in
+    record {
+      was = followed_by two.0 one.1;
+      shows = Shows-append ns front (x ∷ back) two.0 one.1 two.3 one.4;
+      space = subst (SpaceFirst (followed_by two.0 one.1)) (sym (two.2 ∙ ap (followed_by two.0) second)) given;
+    }
+
+-- a space is no element
+count_come : (ns : List Node) {xs ys : List ℕ} → Come ns xs ys → count (contents ns ys) ≡ count (contents ns xs)
+count_come ns none_come = refl
+count_come ns (one_come front back x leaf clear is) =
+    ap count (map-append (content_at ns) front (leaf ∷ x ∷ back)) ∙ count_append (contents ns front) (contents ns (leaf ∷ x ∷ back))
+    ∙ ap (λ w. count (contents ns front) + count (w ∷ contents ns (x ∷ back))) is
+    ∙ sym (ap count (map-append (content_at ns) front (x ∷ back)) ∙ count_append (contents ns front) (contents ns (x ∷ back)))
+
+-- a token before a row
+token_shown : (ns : List Node) → IsTree ns → (x c : ℕ) (xs : List ℕ) (t : OrderedTree) → content_at ns x ≡ token c → Shows ns xs t → Shows ns (x ∷ xs) (token_then c t)
+token_shown ns tree x c xs t is shown =
+    subst (λ (w : Content). Shows ns (x ∷ xs) (more w none t)) is (shows_more (subst (λ (l : List ℕ). Shows ns l none) (sym (tree.leaf x (ap is_container is))) shows_none) shown)
 
 counted : (ns : List Node) (xs : List ℕ) → length (filter (is_element_at ns) xs) ≡ count (contents ns xs)
 counted ns [] = refl
@@ -101,6 +146,9 @@ module _ (o : Options) (old new : List Node) (tree : IsTree old) (after : IsTree
       parts : row_is ≡ followed_by front (leaves_then (contents old near) (more (content_at old n) (row_below old n) (followed_by behind_it rest_of)))
       whole_front : Whole o front
       whole_rest : Whole o rest_of
+      stretch_of : OrderedTree
+      shows_stretch : Shows old stretch stretch_of
+      stretch_is : (t : OrderedTree) → followed_by stretch_of t ≡ leaves_then (contents old near) (more (content_at old n) (row_below old n) (followed_by behind_it t))
 
     pieces : Pieces
     pieces =
@@ -124,6 +172,9 @@ module _ (o : Options) (old new : List Node) (tree : IsTree old) (after : IsTree
           parts = second.2 ∙ ap (followed_by second.0) (third.2 ∙ mid.is third.1);
           whole_front = whole_before o second.0 second.1 parted;
           whole_rest = whole_behind o third.0 third.1 last_two;
+          stretch_of = third.0;
+          shows_stretch = third.3;
+          stretch_is = mid.is;
         }
 
     -- all others stand before the last
@@ -178,12 +229,15 @@ module _ (o : Options) (old new : List Node) (tree : IsTree old) (after : IsTree
       stretch_index : element_count p.front ≡ i
       stretch_index = count_shown old p.shows_front ∙ sym (index ahead near behind rest row edges beside)
 
-    pub outcome : (k : Option ℕ) → Settled old c n open_with last from to k → LosesChild parted joined c k → Outcome old new c n i kind
-    outcome _ (settled_none away near line rest row edges beside apart_away none_away ended first quiet) same =
+    pub outcome : (k : Option ℕ) (ready : List ℕ) → Settled old c n open_with last from to k ready → LosesChild parted joined c k → Outcome old new c n i kind ready
+    outcome _ _ (settled_none away near line rest row edges beside apart_away none_away ended first quiet back_nodes come) same =
         let p = pieces away near line rest row edges beside in
         let r = stretch_row away near line rest row edges beside same p in
         let whole_row : p.row_is ≡ followed_by p.front (among (contents old near) (top_at old n) (contents old line) p.rest_of) =
         p.parts ∙ ap (λ (t : OrderedTree). followed_by p.front (leaves_then (contents old near) (more (content_at old n) (row_below old n) t))) (leaves_shown old tree line p.behind_it p.rest_of (trivia_leaves (contents old line) (rest_trivia (contents old line) ended)) p.shows_behind) in
+        let was : Unspaced old back_nodes p.rest_of = unspaced old tree come p.rest_of p.shows_rest in
+        let ready_is : followed_by p.front (followed_by p.stretch_of was.was) ≡ followed_by p.front (among (contents old near) (top_at old n) (contents old line) was.was) =
+        ap (followed_by p.front) (p.stretch_is was.was ∙ ap (λ (t : OrderedTree). leaves_then (contents old near) (more (content_at old n) (row_below old n) t)) (leaves_shown old tree line p.behind_it was.was (trivia_leaves (contents old line) (rest_trivia (contents old line) ended)) p.shows_behind)) in
         record {
           row = p.row_is;
           left = followed_by p.front p.rest_of;
@@ -196,8 +250,16 @@ module _ (o : Options) (old new : List Node) (tree : IsTree old) (after : IsTree
               (with_no_comma p.front p.rest_of (contents old near) (contents old line) (stretch_apart away near line rest row edges beside same p apart_away) (commas_shown old p.shows_front ∙ none_away) beside ended
               (ap not (first_shown old p.shows_rest ∙ first)) (stretch_quiet away near line rest row edges beside same p quiet)));
           closes = r.shuts;
+          ready_row = followed_by p.front (followed_by p.stretch_of was.was);
+          shows_ready =
+              token_shown old tree open_with (opening kind) (away ++ ((near ++ n ∷ line) ++ back_nodes)) (followed_by p.front (followed_by p.stretch_of was.was)) opens
+              (Shows-append old away ((near ++ n ∷ line) ++ back_nodes) p.front (followed_by p.stretch_of was.was) p.shows_front (Shows-append old (near ++ n ∷ line) back_nodes p.stretch_of was.was p.shows_stretch was.shows));
+          seams =
+              subst (λ k. LeavesWithSeams (top_at old n) k (followed_by p.front (followed_by p.stretch_of was.was)) (followed_by p.front p.rest_of)) (stretch_index away near line rest row edges beside same p)
+              (subst (λ t. LeavesWithSeams (top_at old n) (element_count p.front) t (followed_by p.front p.rest_of)) (sym ready_is)
+              (no_comma p.front was.was p.rest_of (contents old near) (contents old line) beside ended was.space));
         }
-    outcome _ (settled_behind away near between line rest k row edges beside apart_away comma goes quiet) same =
+    outcome _ _ (settled_behind away near between line rest k row edges beside apart_away comma goes quiet back_nodes come) same =
         let p = pieces away near (between ++ k ∷ line) rest row edges beside in
         let r = stretch_row away near (between ++ k ∷ line) rest row edges beside same p in
         let is_k : content_at old k ≡ token 0x2C = comma_is (content_at old k) comma in
@@ -206,10 +268,14 @@ module _ (o : Options) (old new : List Node) (tree : IsTree old) (after : IsTree
         (subst (AreKids old c) (sym (append_assoc near (n ∷ between) (k ∷ line))) (All-front (λ m. parent_at old m ≡ Some c) (near ++ n ∷ (between ++ k ∷ line)) (rest ++ last ∷ [])
         (All-back (λ m. parent_at old m ≡ Some c) (open_with ∷ away) ((near ++ n ∷ (between ++ k ∷ line)) ++ (rest ++ last ∷ [])) (subst (AreKids old c) row (all_kids old tree c)))))))).0 in
         let mid = among_shown old tree between k line p.behind_it k_there (trivia_leaves (contents old between) (between_trivia goes)) p.shows_behind in
-        let behind_is : followed_by p.behind_it p.rest_of ≡ leaves_then (contents old between) (token_then 0x2C (leaves_then (contents old line) p.rest_of)) =
-        mid.is p.rest_of ∙ ap (λ (w : Content). leaves_then (contents old between) (more w (row_below old k) (followed_by mid.after p.rest_of))) is_k
-        ∙ ap (λ (t : OrderedTree). leaves_then (contents old between) (more (token 0x2C) t (followed_by mid.after p.rest_of))) (leaf_below old tree k k_there (ap is_container is_k))
-        ∙ ap (λ (t : OrderedTree). leaves_then (contents old between) (token_then 0x2C t)) (leaves_shown old tree line mid.after p.rest_of (trivia_leaves (contents old line) (line_trivia goes)) mid.shown) in
+        let behind_then : (b : OrderedTree) → followed_by p.behind_it b ≡ leaves_then (contents old between) (token_then 0x2C (leaves_then (contents old line) b)) = λ b.
+        mid.is b ∙ ap (λ (w : Content). leaves_then (contents old between) (more w (row_below old k) (followed_by mid.after b))) is_k
+        ∙ ap (λ (t : OrderedTree). leaves_then (contents old between) (more (token 0x2C) t (followed_by mid.after b))) (leaf_below old tree k k_there (ap is_container is_k))
+        ∙ ap (λ (t : OrderedTree). leaves_then (contents old between) (token_then 0x2C t)) (leaves_shown old tree line mid.after b (trivia_leaves (contents old line) (line_trivia goes)) mid.shown) in
+        let behind_is : followed_by p.behind_it p.rest_of ≡ leaves_then (contents old between) (token_then 0x2C (leaves_then (contents old line) p.rest_of)) = behind_then p.rest_of in
+        let was : Unspaced old back_nodes p.rest_of = unspaced old tree come p.rest_of p.shows_rest in
+        let ready_is : followed_by p.front (followed_by p.stretch_of was.was) ≡ followed_by p.front (among (contents old near) (top_at old n) (contents old between) (token_then 0x2C (leaves_then (contents old line) was.was))) =
+        ap (followed_by p.front) (p.stretch_is was.was ∙ ap (λ (t : OrderedTree). leaves_then (contents old near) (more (content_at old n) (row_below old n) t)) (behind_then was.was)) in
         let whole_row : p.row_is ≡ followed_by p.front (among (contents old near) (top_at old n) (contents old between) (token_then 0x2C (leaves_then (contents old line) p.rest_of))) =
         p.parts ∙ ap (λ (t : OrderedTree). followed_by p.front (leaves_then (contents old near) (more (content_at old n) (row_below old n) t))) behind_is in
         record {
@@ -224,8 +290,17 @@ module _ (o : Options) (old new : List Node) (tree : IsTree old) (after : IsTree
               (with_comma_behind p.front p.rest_of (contents old near) (contents old between) (contents old line) (stretch_apart away near (between ++ k ∷ line) rest row edges beside same p apart_away) beside goes
               (stretch_quiet away near (between ++ k ∷ line) rest row edges beside same p quiet)));
           closes = r.shuts;
+          ready_row = followed_by p.front (followed_by p.stretch_of was.was);
+          shows_ready =
+              token_shown old tree open_with (opening kind) (away ++ ((near ++ n ∷ (between ++ k ∷ line)) ++ back_nodes)) (followed_by p.front (followed_by p.stretch_of was.was)) opens
+              (Shows-append old away ((near ++ n ∷ (between ++ k ∷ line)) ++ back_nodes) p.front (followed_by p.stretch_of was.was) p.shows_front
+              (Shows-append old (near ++ n ∷ (between ++ k ∷ line)) back_nodes p.stretch_of was.was p.shows_stretch was.shows));
+          seams =
+              subst (λ j. LeavesWithSeams (top_at old n) j (followed_by p.front (followed_by p.stretch_of was.was)) (followed_by p.front p.rest_of)) (stretch_index away near (between ++ k ∷ line) rest row edges beside same p)
+              (subst (λ t. LeavesWithSeams (top_at old n) (element_count p.front) t (followed_by p.front p.rest_of)) (sym ready_is)
+              (comma_behind p.front was.was p.rest_of (contents old near) (contents old between) (contents old line) beside goes was.space));
         }
-    outcome _ (settled_before away mid near line rest {k = k} row edges beside apart_mid none_mid comma ended first far close) loses =
+    outcome _ _ (settled_before away mid near line rest {k = k} row edges beside apart_mid none_mid comma ended first far close mid_nodes back_nodes come_mid come) loses =
         let ahead : List ℕ = away ++ k ∷ mid in
         let back : List ℕ = rest ++ last ∷ [] in
         let p = pieces ahead near line rest row edges beside in
@@ -259,6 +334,14 @@ module _ (o : Options) (old new : List Node) (tree : IsTree old) (after : IsTree
         let counts : element_count two.0 + element_count one.after ≡ i =
         ap (λ j. j + element_count one.after) (count_shown old two.3) ∙ ap (λ j. count (contents old away) + j) (count_shown old one.shown ∙ sym no_comma_counts) ∙ sym (count_append (contents old away) (contents old (k ∷ mid)))
         ∙ ap count (sym (map-append (content_at old) away (k ∷ mid))) ∙ sym (index ahead near line rest row edges beside) in
+        let was : Unspaced old back_nodes p.rest_of = unspaced old tree come p.rest_of p.shows_rest in
+        let was_mid : Unspaced old mid_nodes one.after = unspaced old tree come_mid one.after one.shown in
+        let ready_front : OrderedTree = followed_by two.0 (token_then 0x2C was_mid.was) in
+        let shows_front : Shows old (away ++ k ∷ mid_nodes) ready_front = Shows-append old away (k ∷ mid_nodes) two.0 (token_then 0x2C was_mid.was) two.3 (token_shown old tree k 0x2C mid_nodes was_mid.was is_k was_mid.shows) in
+        let ready_counts : element_count two.0 + element_count was_mid.was ≡ i = ap (λ j. element_count two.0 + j) (count_shown old was_mid.shows ∙ sym (count_come old come_mid) ∙ sym (count_shown old one.shown)) ∙ counts in
+        let ready_is : followed_by ready_front (followed_by p.stretch_of was.was) ≡ followed_by two.0 (token_then 0x2C (followed_by was_mid.was (among (contents old near) (top_at old n) (contents old line) was.was))) =
+        ap (followed_by ready_front) (p.stretch_is was.was ∙ ap (λ (t : OrderedTree). leaves_then (contents old near) (more (content_at old n) (row_below old n) t)) (leaves_shown old tree line p.behind_it was.was (trivia_leaves (contents old line) (rest_trivia (contents old line) ended)) p.shows_behind))
+        ∙ followed_by-assoc two.0 (token_then 0x2C was_mid.was) (among (contents old near) (top_at old n) (contents old line) was.was) in
         let mid_apart : IsTrue (ends_apart (token_then 0x2C one.after)) = subst (λ t. IsTrue (ends_apart t)) front_is (apart_shown old two.4 ∙ apart_mid) in
         record {
           row = p.row_is;
@@ -273,4 +356,13 @@ module _ (o : Options) (old new : List Node) (tree : IsTree old) (after : IsTree
               (meet_bare old o two.3 whole_away shows_back (whole_joined o one.after p.rest_of whole_mid p.whole_rest) ∙ quiet_inside old open_with away (mid ++ back) far)
               (meet_bare old o one.shown whole_mid p.shows_rest p.whole_rest ∙ close)));
           closes = r.shuts;
+          ready_row = followed_by ready_front (followed_by p.stretch_of was.was);
+          shows_ready =
+              subst (λ (l : List ℕ). Shows old l (token_then (opening kind) (followed_by ready_front (followed_by p.stretch_of was.was)))) refl
+              (token_shown old tree open_with (opening kind) ((away ++ k ∷ mid_nodes) ++ ((near ++ n ∷ line) ++ back_nodes)) (followed_by ready_front (followed_by p.stretch_of was.was)) opens
+              (Shows-append old (away ++ k ∷ mid_nodes) ((near ++ n ∷ line) ++ back_nodes) ready_front (followed_by p.stretch_of was.was) shows_front (Shows-append old (near ++ n ∷ line) back_nodes p.stretch_of was.was p.shows_stretch was.shows)));
+          seams =
+              subst (λ j. LeavesWithSeams (top_at old n) j (followed_by ready_front (followed_by p.stretch_of was.was)) left) ready_counts
+              (subst (λ t. LeavesWithSeams (top_at old n) (element_count two.0 + element_count was_mid.was) t left) (sym ready_is)
+              (comma_before two.0 was_mid.was was.was one.after p.rest_of (contents old near) (contents old line) beside ended was_mid.space was.space));
         }

@@ -84,12 +84,18 @@ both_false : (a b : Bool) → b ≡ false → a && b ≡ false
 both_false true b e = e
 both_false false b e = refl
 
+-- the second nodes are the first, but that a space has come directly before the first of them that prints, or none has
+pub data Come (ns : List Node) : List ℕ → List ℕ → Type 0 where
+  none_come : {xs : List ℕ} → Come ns xs xs
+  one_come : (front back : List ℕ) (x leaf : ℕ) → nearest ns front ≡ None → content_at ns leaf ≡ a_space → Come ns (front ++ x ∷ back) (front ++ leaf ∷ x ∷ back)
+
 -- a part of c's row, B, behind which R stands, where the space has come that was due before what prints first in it
 pub record OneSpace (old now : List Node) (c : ℕ) (front part back ahead : List ℕ) : Type 0 where
   pub tree : IsTree now
   pub given : List ℕ
   pub row : children_at now c ≡ front ++ (given ++ back)
   pub gains : Gains (contents now part) (contents now given)
+  pub come : Come now part given
   pub quiet : Quiet now ahead given
   pub seen : nearest now (reverse given) ≡ nearest now (reverse part)
   pub last : (xs : List ℕ) (z : ℕ) → part ≡ xs ++ z ∷ [] → (ys : List ℕ) × (given ≡ ys ++ z ∷ [])
@@ -135,6 +141,7 @@ module _ (old : List Node) (tree : IsTree old) (c : ℕ) (front part back ahead 
     given = part;
     row = row;
     gains = Gains.same;
+    come = none_come;
     quiet = quiet;
     seen = refl;
     last = λ xs z e. (xs, e);
@@ -218,6 +225,7 @@ module _ (old : List Node) (tree : IsTree old) (c : ℕ) (front part back ahead 
       given = given;
       row = given_row;
       gains = gains;
+      come = subst (λ l. Come now l given) (sym f.split) (one_come f.front f.back x leaf (find_same f.front ∙ f.clear) leaf_is);
       quiet = both_false (ends_bare now (nearest now (reverse ahead))) (begins_bare now (nearest now given)) (ap (begins_bare now) nearest_is ∙ leaf_quiet);
       seen = seen;
       last = last;

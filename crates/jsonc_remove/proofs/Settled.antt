@@ -19,37 +19,40 @@ use Rattle.jsonc_edit.specs.Put.{AreSpaced}
 use Rattle.jsonc_remove.specs.Leaving.{is_comma_at}
 use Rattle.jsonc_remove.specs.Removed.{is_next}
 use Rattle.jsonc_remove.proofs.Contents.{apart, no_commas, comma_first, Gains, apart_behind_gains, commas_gains, first_gains}
-use Rattle.jsonc_remove.proofs.Places.{Quiet, OneSpace, one_space, before_in}
+use Rattle.jsonc_remove.proofs.Places.{Come, none_come, one_come, Quiet, OneSpace, one_space, before_in}
 use Rattle.jsonc_remove.proofs.Stretches.{contents}
 use Rattle.jsonc_remove.proofs.Going.{Edges, Going, with_behind, with_before, with_none}
 use Rattle.jsonc_remove.proofs.Spaces.{contents_same, nearest_same, spaced_parts, due_parts}
 use Rattle.jsonc_remove.proofs.Within.{find_holds, stretch_prints}
 
--- how the element leaves, and that nothing meets there
-pub data Settled (ns : List Node) (c n open_with last from to : ℕ) : Option ℕ → Type 0 where
+-- how the element leaves, and that nothing meets there; without the spaces that have come the row was this
+pub data Settled (ns : List Node) (c n open_with last from to : ℕ) : Option ℕ → List ℕ → Type 0 where
   settled_behind : (away near between line rest : List ℕ) (k : ℕ)
       → children_at ns c ≡ (open_with ∷ away) ++ ((near ++ n ∷ (between ++ k ∷ line)) ++ (rest ++ last ∷ []))
       → Edges (near ++ n ∷ (between ++ k ∷ line)) from to → AreBeside (contents ns near) → IsTrue (apart (contents ns away))
       → IsTrue (is_comma_at ns k) → LeavesBehind (contents ns between) (contents ns line)
       → Quiet ns (open_with ∷ away) (rest ++ last ∷ [])
-      → Settled ns c n open_with last from to None
+      → (back : List ℕ) → Come ns back (rest ++ last ∷ [])
+      → Settled ns c n open_with last from to None ((open_with ∷ away) ++ ((near ++ n ∷ (between ++ k ∷ line)) ++ back))
   settled_before : (away mid near line rest : List ℕ) {k : ℕ}
       → children_at ns c ≡ ((open_with ∷ away) ++ k ∷ mid) ++ ((near ++ n ∷ line) ++ (rest ++ last ∷ []))
       → Edges (near ++ n ∷ line) from to → AreBeside (contents ns near) → IsTrue (apart (content_at ns k ∷ contents ns mid)) → IsTrue (no_commas (contents ns mid))
       → IsTrue (is_comma_at ns k) → IsRestOfLine (contents ns line) → comma_first (contents ns (rest ++ last ∷ [])) ≡ false
       → Quiet ns (open_with ∷ away) (mid ++ (rest ++ last ∷ [])) → Quiet ns mid (rest ++ last ∷ [])
-      → Settled ns c n open_with last from to (Some k)
+      → (middle back : List ℕ) → Come ns middle mid → Come ns back (rest ++ last ∷ [])
+      → Settled ns c n open_with last from to (Some k) (((open_with ∷ away) ++ k ∷ middle) ++ ((near ++ n ∷ line) ++ back))
   settled_none : (away near line rest : List ℕ)
       → children_at ns c ≡ (open_with ∷ away) ++ ((near ++ n ∷ line) ++ (rest ++ last ∷ []))
       → Edges (near ++ n ∷ line) from to → AreBeside (contents ns near) → IsTrue (apart (contents ns away)) → IsTrue (no_commas (contents ns away))
       → IsRestOfLine (contents ns line) → comma_first (contents ns (rest ++ last ∷ [])) ≡ false
       → Quiet ns (open_with ∷ away) (rest ++ last ∷ [])
-      → Settled ns c n open_with last from to None
+      → (back : List ℕ) → Come ns back (rest ++ last ∷ [])
+      → Settled ns c n open_with last from to None ((open_with ∷ away) ++ ((near ++ n ∷ line) ++ back))
 
 pub record IsSettled (ready spaced : List Node) (c n open_with last from to : ℕ) (o : Option ℕ) : Type 0 where
   pub tree : IsTree spaced
   pub content : (k : ℕ) → content_at spaced k ≡ content_at ready k
-  pub settled : Settled spaced c n open_with last from to o
+  pub settled : Settled spaced c n open_with last from to o (children_at ready c)
 
 -- the spaces that are due, by the comma, where it is the next thing before the stretch or not
 abbrev pub DueWith : List Node → ℕ → ℕ → Option ℕ → Bool → List Node → Type 0
@@ -97,12 +100,18 @@ same_each : (old new : List Node) → ((k : ℕ) → content_at new k ≡ conten
 same_each old new f [] = All-nil (λ m. content_at new m ≡ content_at old m)
 same_each old new f (x ∷ xs) = All-cons (λ m. content_at new m ≡ content_at old m) x xs (f x) (same_each old new f xs)
 
+-- so it is of nodes that stay what they are
+come_same : (old new : List Node) → ((k : ℕ) → content_at new k ≡ content_at old k) → {xs ys : List ℕ} → Come old xs ys → Come new xs ys
+come_same old new f none_come = none_come
+come_same old new f (one_come front back x leaf clear is) = one_come front back x leaf (nearest_same old new front (same_each old new f front) ∙ clear) (f leaf ∙ is)
+
 -- the space behind the stretch
 record Behind (old now : List Node) (c : ℕ) (front stretch part : List ℕ) (last : ℕ) (ahead : List ℕ) : Type 0 where
   tree : IsTree now
   rest : List ℕ
   row : children_at now c ≡ front ++ (stretch ++ (rest ++ last ∷ []))
   gains : Gains (contents now (part ++ last ∷ [])) (contents now (rest ++ last ∷ []))
+  come : Come now (part ++ last ∷ []) (rest ++ last ∷ [])
   quiet : Quiet now ahead (rest ++ last ∷ [])
   content : (k : ℕ) → content_at now k ≡ content_at old k
   ends : (o : Option ℕ) → ends_bare now o ≡ ends_bare old o
@@ -119,6 +128,7 @@ one_behind old tree c front stretch part last ahead row due calm now put =
       rest = l.0;
       row = r.row ∙ ap (λ (k : List ℕ). (front ++ stretch) ++ k) (append-nil r.given) ∙ append_assoc front stretch r.given ∙ ap (λ (k : List ℕ). front ++ (stretch ++ k)) l.1;
       gains = subst (λ k. Gains (contents now (part ++ last ∷ [])) (contents now k)) l.1 r.gains;
+      come = subst (Come now (part ++ last ∷ [])) l.1 r.come;
       quiet = subst (Quiet now ahead) l.1 r.quiet;
       content = r.content;
       ends = r.ends;
@@ -198,9 +208,10 @@ module _ (ready : List Node) (tree : IsTree ready) (c n open_with last from to :
             tree = b.tree;
             content = b.content;
             settled =
-                settled_before away mid near line b.rest b.row edges (subst AreBeside (same near) beside) (subst (λ l. IsTrue (apart l)) (same (k ∷ mid)) apart_mid) (subst (λ l. IsTrue (no_commas l)) (same mid) none_mid)
+                subst (Settled spaced c n open_with last from to (Some k)) (sym row)
+                (settled_before away mid near line b.rest b.row edges (subst AreBeside (same near) beside) (subst (λ l. IsTrue (apart l)) (same (k ∷ mid)) apart_mid) (subst (λ l. IsTrue (no_commas l)) (same mid) none_mid)
                 (subst (λ w. IsTrue (is_comma w)) (sym (b.content k)) comma) (subst IsRestOfLine (same line) ended) (first_gains b.gains ∙ ap comma_first (sym (same back)) ∙ first)
-                (ap (λ o. ends_bare spaced (nearest spaced (reverse (open_with ∷ away))) && begins_bare spaced o) past ∙ b.quiet) (ap (λ o. ends_bare spaced o && begins_bare spaced (nearest spaced (b.rest ++ last ∷ []))) blind);
+                (ap (λ o. ends_bare spaced (nearest spaced (reverse (open_with ∷ away))) && begins_bare spaced o) past ∙ b.quiet) (ap (λ o. ends_bare spaced o && begins_bare spaced (nearest spaced (b.rest ++ last ∷ []))) blind) mid back none_come b.come);
           }
 
       quiet_kept : (a b : Bool) {d e : Bool} → a && b ≡ false → d ≡ a → (b ≡ false → e ≡ false) → d && e ≡ false
@@ -245,10 +256,11 @@ module _ (ready : List Node) (tree : IsTree ready) (c n open_with last from to :
             tree = b.tree;
             content = content;
             settled =
-                settled_before away a.given near line b.rest b.row edges (subst AreBeside (same near) beside)
+                subst (Settled spaced c n open_with last from to (Some k)) (sym row)
+                (settled_before away a.given near line b.rest b.row edges (subst AreBeside (same near) beside)
                 (apart_behind_gains (content_at spaced k) gains ∙ subst (λ l. IsTrue (apart l)) (same (k ∷ mid)) apart_mid) (commas_gains gains ∙ subst (λ l. IsTrue (no_commas l)) (same mid) none_mid)
                 (subst (λ w. IsTrue (is_comma w)) (sym (content k)) comma) (subst IsRestOfLine (same line) ended) (first_gains b.gains ∙ ap comma_first (sym (same back)) ∙ first)
-                (ap (λ o. ends_bare spaced (nearest spaced (reverse (open_with ∷ away))) && begins_bare spaced o) past ∙ front_quiet) b.quiet;
+                (ap (λ o. ends_bare spaced (nearest spaced (reverse (open_with ∷ away))) && begins_bare spaced o) past ∙ front_quiet) b.quiet mid back (come_same now spaced b.content a.come) b.come);
           }
 
       other : (m : ℕ) → nearest ready (reverse mid) ≡ Some m → bytes_eq (m ∷ []) (k ∷ []) ≡ false
@@ -275,8 +287,9 @@ module _ (ready : List Node) (tree : IsTree ready) (c n open_with last from to :
           tree = b.tree;
           content = b.content;
           settled =
-              settled_behind away near between line b.rest k b.row edges (subst AreBeside (same near) beside) (subst (λ l. IsTrue (apart l)) (same away) apart_away)
-              (subst (λ w. IsTrue (is_comma w)) (sym (b.content k)) comma) (subst (LeavesBehind (contents spaced between)) (same line) (subst (λ l. LeavesBehind l (contents ready line)) (same between) goes)) b.quiet;
+              subst (Settled spaced c n open_with last from to None) (sym row)
+              (settled_behind away near between line b.rest k b.row edges (subst AreBeside (same near) beside) (subst (λ l. IsTrue (apart l)) (same away) apart_away)
+              (subst (λ w. IsTrue (is_comma w)) (sym (b.content k)) comma) (subst (LeavesBehind (contents spaced between)) (same line) (subst (λ l. LeavesBehind l (contents ready line)) (same between) goes)) b.quiet (rest ++ last ∷ []) b.come);
         }
     is_settled next _ (with_none away near line rest row edges beside apart_away none_away ended first) put =
         let b = without (open_with ∷ away) near line rest row edges put in
@@ -285,8 +298,9 @@ module _ (ready : List Node) (tree : IsTree ready) (c n open_with last from to :
           tree = b.tree;
           content = b.content;
           settled =
-              settled_none away near line b.rest b.row edges (subst AreBeside (same near) beside) (subst (λ l. IsTrue (apart l)) (same away) apart_away) (subst (λ l. IsTrue (no_commas l)) (same away) none_away) (subst IsRestOfLine (same line) ended)
-              (first_gains b.gains ∙ ap comma_first (sym (same (rest ++ last ∷ []))) ∙ first) b.quiet;
+              subst (Settled spaced c n open_with last from to None) (sym row)
+              (settled_none away near line b.rest b.row edges (subst AreBeside (same near) beside) (subst (λ l. IsTrue (apart l)) (same away) apart_away) (subst (λ l. IsTrue (no_commas l)) (same away) none_away) (subst IsRestOfLine (same line) ended)
+              (first_gains b.gains ∙ ap comma_first (sym (same (rest ++ last ∷ []))) ∙ first) b.quiet (rest ++ last ∷ []) b.come);
         }
     is_settled next _ (with_before away mid near line rest {k = k} row edges beside apart_mid none_mid comma ended first) (said, put) =
         either next away mid near line rest k row edges beside apart_mid none_mid comma ended first said put (nearest ready (reverse mid)) refl

@@ -17,9 +17,11 @@ use Rattle.jsonc_laws.specs.EntryLaws.{LosesEntry, LosesMarks, root_with}
 use Rattle.jsonc_edit.specs.Changes.{top_at}
 use Rattle.jsonc_edit.specs.Paths.{IsAt, IsElementOf}
 use Rattle.jsonc_edit.specs.Spaced.{SpacesPut}
+use Rattle.jsonc_edit.specs.SeamRemovals.{EntryLeavesWithSeams}
 use Rattle.jsonc_remove.specs.Removed.{TakesElement}
 
--- spaces have come into the document, and then the element of this number has left the container at the path, which has closed up if it may
+-- spaces have come into the document, and then the element of this number has left the container at the path, which has closed up if it may; they stand at
+-- the seams: one or none where a comma before it stood, and one or none where it stood
 pub record EntryTaken (path : List ℕ) (i : ℕ) (top : Top) (t u : OrderedTree) : Type 0 where
   pub spaced : OrderedTree
   pub kind : RowKind
@@ -31,6 +33,7 @@ pub record EntryTaken (path : List ℕ) (i : ℕ) (top : Top) (t u : OrderedTree
   pub changed : DocumentChanged (container_of kind row) (container_of kind new) path spaced u
   pub leaves : ElementLeaves top i row left
   pub closes : ClosesUp left new
+  pub seams : EntryLeavesWithSeams path i top t u
 
 -- so it is where element number i of an array or object at a path of a sound document is taken out
 abbrev pub TakesEntry : Options → List Node → List Node → List ℕ → ℕ → ℕ → ℕ → Type 0

@@ -68,6 +68,11 @@ use Rattle.jsonc_edit.proofs.Splices.{leaf_over}
 use Rattle.jsonc_edit.proofs.Uniqueness.{element_parent}
 use Rattle.jsonc_edit.proofs.Walk.{ChangedIn, Shows-row_below, apart_kept, document_is}
 use Rattle.jsonc_set.specs.Booleans.{due_for, is_boolean, is_hex_at, BooleanSet, StaysAtPath, WritesBoolean}
+use Rattle.jsonc_edit.specs.SeamPlaces.{DocumentHolds, GivesWayWithSeams}
+use Rattle.jsonc_edit.specs.Seams.{space_if, StandsBetween}
+use Rattle.jsonc_edit.proofs.Between.{between_above}
+use Rattle.jsonc_edit.proofs.Between as seams_of
+use Rattle.jsonc_edit.proofs.PathPlaces.{AtBetween, at_between, holds_between}
 use Rattle.jsonc_set.proofs.BooleanSetting.{boolean_of}
 use Rattle.jsonc_set.proofs.HexRows.{Flat, a_leaf, more_flat, flat_before, array_flat, property_flat, root_flat, hex_seen}
 use Rattle.jsonc_set.proofs.PropertyRows.{over_at, Parted, parted, object_row, inside_of, counted_elements, some_value_of, prints_value, prints_first}
@@ -379,6 +384,35 @@ module _ (old new : List Node) (path : List ℕ) (n : ℕ) (b : Bool) (tree : Is
   at_new : IsAt new path n
   at_new = (at_spaced.0, element_still 0 0 at_spaced.0 at_spaced.1, leads_still at_spaced.0 path at_spaced.2)
 
+  -- a space has come before it, or none
+  place : AtBetween ready g.prepared.tree path n
+  place = at_between ready g.prepared.tree path n at_ready
+
+  space_or_none : (d : Bool) → AreSpaced ready (listed (cond d (Some n) None)) spaced → StandsBetween spaced n (place.first ++ space_if d) place.last
+  space_or_none false same = subst (λ ns. StandsBetween ns n (place.first ++ []) place.last) (sym same) (subst (λ (l : List Content). StandsBetween ready n l place.last) (sym (append-nil place.first)) place.stands)
+  space_or_none true (now, space, p, same) = subst (λ ns. StandsBetween ns n (place.first ++ space_if true) place.last) (sym same) (seams_of.space_before ready now n space g.prepared.tree p place.first place.last place.stands)
+
+  stands_new : StandsBetween new n (place.first ++ space_if (not b && is_hex_at old (seen_before old n))) place.last
+  stands_new =
+      let only : ChangedIn spaced new n = record { tree = s.tree; content = g.becomes.others; children = λ k ne. g.becomes.children k } in
+      between_above spaced new n only g.tree n (place.first ++ space_if (not b && is_hex_at old (seen_before old n))) place.last (space_or_none (not b && is_hex_at old (seen_before old n)) g.spaces) IsOver.itself
+
+  seams : GivesWayWithSeams path (boolean_leaf a) (boolean_leaf b) (ordered_tree old 0) (ordered_tree new 0)
+  seams =
+      let top_is : top_at ready n ≡ boolean_leaf a = sym (s.top (omega (arith, low.0, kept.len))) ∙ old_leaf in
+      record {
+        front = place.first;
+        quiet = [];
+        rest = place.last;
+        before = not b && is_hex_at old (seen_before old n);
+        behind = false;
+        silent = tt;
+        stood = subst (λ (t : OrderedTree). DocumentHolds (boolean_leaf a) path t place.first place.last) (tree_stays old ready tree kept g.prepared.tree) (subst (λ (w : Top). DocumentHolds w path (ordered_tree ready 0) place.first place.last) top_is place.holds);
+        stands =
+            subst (λ (w : Top). DocumentHolds w path (ordered_tree new 0) (place.first ++ space_if (not b && is_hex_at old (seen_before old n))) place.last) new_leaf
+            (holds_between new g.tree path n (place.first ++ space_if (not b && is_hex_at old (seen_before old n))) place.last at_new stands_new);
+      }
+
   -- in a sound document
   module _ (o : Options) (sound : SoundTree o (ordered_tree old 0)) where
     still_sound : SoundTree o (ordered_tree spaced 0)
@@ -489,7 +523,8 @@ module _ (old new : List Node) (path : List ℕ) (n : ℕ) (b : Bool) (tree : Is
 -- spaces have come, and then the one truth value has given way to the other at the path
 pub boolean_gives_way : (old new : List Node) (path : List ℕ) (n : ℕ) (b : Bool) → IsTree old → IsAt old path n → is_boolean (content_at old n) ≡ true → BooleanSet old new n b
     → (was : Bool) × (held : OrderedTree) × SpacesPut (ordered_tree old 0) held × DocumentChanged (boolean_leaf was) (boolean_leaf b) path held (ordered_tree new 0)
-boolean_gives_way old new path n b tree at h g = (a old new path n b tree at h g, ordered_tree g.spaced 0, spaces old new path n b tree at h g, changed old new path n b tree at h g)
+    × GivesWayWithSeams path (boolean_leaf was) (boolean_leaf b) (ordered_tree old 0) (ordered_tree new 0)
+boolean_gives_way old new path n b tree at h g = (a old new path n b tree at h g, ordered_tree g.spaced 0, spaces old new path n b tree at h g, changed old new path n b tree at h g, seams old new path n b tree at h g)
 
 pub writes_boolean : (o : Options) (old new : List Node) (path : List ℕ) (n : ℕ) (b : Bool) → WritesBoolean o old new path n b
 writes_boolean o old new path n b tree sound at h g = boolean_written old new path n b tree at h g o sound

@@ -1,0 +1,5 @@
+use Rattle.jsonc_edit.proofs.Between.{spaces_stand_around}
+use Rattle.jsonc_edit.proofs.seam_laws.spaces_stand_around.Goals as goal
+
+pub returns : goal.returns
+returns c = spaces_stand_around

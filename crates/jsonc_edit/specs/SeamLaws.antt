@@ -1,0 +1,64 @@
+-- Where a node has given way, and where a comment has left: what has become of the leaves, and where spaces have come.
+use Rattle.std.specs.Prelude.{◌≡◌, ℕ, ◌++◌, Bool, true, List, [], ◌∷◌, Some, length}
+use Rattle.jsonc_text.specs.Options.{Options}
+use Rattle.jsonc_tree.specs.Content.{Content, comment}
+use Rattle.jsonc_tree.specs.OrderedTree.{OrderedTree, leaves, ordered_tree, Top}
+use Rattle.jsonc_tree.specs.Tree.{Node, IsTree}
+use Rattle.jsonc_laws.specs.Adjacent.{last_printed}
+use Rattle.jsonc_laws.specs.MarkChanges.{AreBlanks}
+use Rattle.jsonc_laws.specs.Marks.{comments_of, marks_of}
+use Rattle.jsonc_laws.specs.SoundTrees.{SoundTree}
+use Rattle.jsonc_laws.specs.Spaces.{first_printed, is_bare, is_bare_leaf}
+use Rattle.jsonc_edit.specs.Changes.{top_at}
+use Rattle.jsonc_edit.specs.Comments.{comment_at, CommentTaken}
+use Rattle.jsonc_edit.specs.Due.{begins_bare, ends_bare, seen_before, seen_behind}
+use Rattle.jsonc_edit.specs.Paths.{IsAt}
+use Rattle.jsonc_edit.specs.Replacing.{GivesWay}
+use Rattle.jsonc_edit.specs.Seams.{PrintNothing, space_if, StandsBetween}
+use Rattle.jsonc_edit.specs.SeamPlaces.{GivesWayWithSeams}
+
+-- where a node at a path has given way, the value at that path has, and spaces have come at the seams alone
+abbrev pub HasSeams : List Node → List Node → ℕ → ℕ → Top → Type 0
+HasSeams old new n m now = IsTree old → GivesWay old new n m now → (path : List ℕ) → IsAt old path n
+    → GivesWayWithSeams path (top_at old n) now (ordered_tree old 0) (ordered_tree new 0)
+
+-- A comment has left, with blanks directly before it, and nothing else has changed but that where it stood a space has come, or none, directly before what is
+-- printed next.
+pub record LosesWithSeam (old new : OrderedTree) : Type 0 where
+  pub front : List Content
+  pub blanks : List Content
+  pub text : List ℕ
+  pub quiet : List Content
+  pub rest : List Content
+  pub behind : Bool
+  pub are_blanks : AreBlanks blanks
+  pub silent : PrintNothing quiet
+  pub before : leaves old ≡ front ++ ((blanks ++ comment text ∷ []) ++ (quiet ++ rest))
+  pub after : leaves new ≡ front ++ (quiet ++ (space_if behind ++ rest))
+
+-- how many comments stand before it
+abbrev pub comments_before : {old new : OrderedTree} → LosesWithSeam old new → ℕ
+comments_before loses = length (comments_of (marks_of loses.front))
+
+-- so it has where a comment was taken out, and the comment of a number is the one before which so many stand
+abbrev pub CommentHasSeam : List Node → List Node → ℕ → Type 0
+CommentHasSeam old new n =
+    CommentTaken old new n → (loses : LosesWithSeam (ordered_tree old 0) (ordered_tree new 0)) × ((number : ℕ) → comment_at old number ≡ Some n → comments_before loses ≡ number)
+
+-- In a sound document, between these leaves: where a literal without quotes is said to end before n, or to begin behind it, one is printed there. So a space that
+-- is due parts two of them.
+abbrev pub TellsWhatIsPrinted : Options → List Node → ℕ → Type 0
+TellsWhatIsPrinted o ns n =
+    IsTree ns → SoundTree o (ordered_tree ns 0) → (front back : List Content) → StandsBetween ns n front back
+    → (ends_bare ns (seen_before ns n) ≡ true → is_bare_leaf (last_printed front) ≡ true)
+    × (begins_bare ns (seen_behind ns n) ≡ true → is_bare_leaf (first_printed back) ≡ true)
+
+-- and each of those spaces parts two literals without quotes: the new value is one, and so is what is printed next to it
+abbrev pub PartsLiterals : {path : List ℕ} {was now : Top} {t u : OrderedTree} → GivesWayWithSeams path was now t u → Type 0
+PartsLiterals {now = now} g =
+    (g.before ≡ true → (is_bare now.content ≡ true) × (is_bare_leaf (last_printed g.front) ≡ true))
+    × (g.behind ≡ true → (is_bare now.content ≡ true) × (is_bare_leaf (first_printed (g.quiet ++ g.rest)) ≡ true))
+
+abbrev pub HasSeamsWhereDue : Options → List Node → List Node → ℕ → ℕ → Top → Type 0
+HasSeamsWhereDue o old new n m now = IsTree old → SoundTree o (ordered_tree old 0) → GivesWay old new n m now → (path : List ℕ) → IsAt old path n
+    → (g : GivesWayWithSeams path (top_at old n) now (ordered_tree old 0) (ordered_tree new 0)) × PartsLiterals g

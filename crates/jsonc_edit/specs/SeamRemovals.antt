@@ -1,0 +1,43 @@
+-- What leaves a row with one of its elements, and where spaces come in its place.
+use Rattle.std.specs.Prelude.{ℕ, ◌+◌, List}
+use Rattle.jsonc_tree.specs.Content.{Content}
+use Rattle.jsonc_tree.specs.OrderedTree.{OrderedTree, leaves, followed_by, Top}
+use Rattle.jsonc_build.specs.Shape.{token_then}
+use Rattle.jsonc_laws.specs.Leaving.{AreBeside, ClosesUp, IsRestOfLine, LeavesBehind, among, element_count}
+use Rattle.jsonc_laws.specs.Rows.{RowKind, container_of}
+use Rattle.jsonc_laws.specs.Spaces.{space_then}
+use Rattle.jsonc_laws.specs.TreeChanges.{IsElement}
+use Rattle.jsonc_laws.specs.TriviaChanges.{leaves_then}
+use Rattle.jsonc_edit.specs.SeamPlaces.{DocumentHolds}
+use Rattle.jsonc_edit.specs.Seams.{PrintNothing}
+
+-- the second row is the first, but that a space has come directly before what is printed first of it, or none has
+pub data SpaceFirst : OrderedTree → OrderedTree → Type 0 where
+  none_first : {row : OrderedTree} → SpaceFirst row row
+  space_first : (quiet rest : OrderedTree) → PrintNothing (leaves quiet) → SpaceFirst (followed_by quiet rest) (followed_by quiet (space_then rest))
+
+-- The second row is the first without its element of this number, `top`, and what goes with it (`ElementLeaves`), but that where the comma before it stood a
+-- space has come, or none, and so where the element stood.
+pub data LeavesWithSeams (top : Top) : ℕ → OrderedTree → OrderedTree → Type 0 where
+  comma_behind : (front back given : OrderedTree) (before between line : List Content) → AreBeside before → LeavesBehind between line → SpaceFirst back given
+      → LeavesWithSeams top (element_count front) (followed_by front (among before top between (token_then 0x2C (leaves_then line back)))) (followed_by front given)
+  comma_before : (front mid back given_mid given : OrderedTree) (before line : List Content) → AreBeside before → IsRestOfLine line → SpaceFirst mid given_mid → SpaceFirst back given
+      → LeavesWithSeams top (element_count front + element_count mid) (followed_by front (token_then 0x2C (followed_by mid (among before top line back))))
+      (followed_by front (followed_by given_mid given))
+  no_comma : (front back given : OrderedTree) (before line : List Content) → AreBeside before → IsRestOfLine line → SpaceFirst back given
+      → LeavesWithSeams top (element_count front) (followed_by front (among before top line back)) (followed_by front given)
+
+-- The entry of this number has left the container at the path, which has closed up if it may, with what goes with it; and nothing else has changed but that
+-- spaces have come where the comma and where the entry stood.
+pub record EntryLeavesWithSeams (path : List ℕ) (i : ℕ) (top : Top) (t u : OrderedTree) : Type 0 where
+  pub kind : RowKind
+  pub row : OrderedTree
+  pub left : OrderedTree
+  pub new : OrderedTree
+  pub front : List Content
+  pub back : List Content
+  pub element : IsElement top.content
+  pub held : DocumentHolds (container_of kind row) path t front back
+  pub holds : DocumentHolds (container_of kind new) path u front back
+  pub leaving : LeavesWithSeams top i row left
+  pub closes : ClosesUp left new
