@@ -48,7 +48,7 @@ pub boolean_given : (old new : List Node) (path : List ℕ) (n : ℕ) (b : Bool)
     → (was : Bool) × (given : ValueGivesWay path (Plain.boolean b) (ordered_tree old 0) (ordered_tree new 0)) × (given.was ≡ boolean_leaf was)
 boolean_given old new path n b tree at set =
     let g = boolean_gives_way old new path n b tree at.0 at.1 set in
-    (g.0, record { was = boolean_leaf g.0; layout = layout_for old 0 n; spaced = g.1; spaces = g.2; changed = g.3; around = document_differs g.3 }, refl)
+    (g.0, record { was = boolean_leaf g.0; layout = layout_for old 0 n; spaced = g.1; spaces = g.2; changed = g.3; around = document_differs g.3; seams = g.4 }, refl)
 
 -- a truth value's node has it as its value
 pub boolean_value : {o : Options} {content : Content} {below : OrderedTree} {v : Plain} (a : Bool) → content ≡ Content.boolean a → ValueOf o content below v → v ≡ Plain.boolean a

@@ -28,7 +28,7 @@ use Rattle.jsonc_named.specs.declared.shape.Over.{Over}
 use Rattle.jsonc_named.specs.declared.shape.Over.TheVariants as over
 use Rattle.jsonc_named.specs.declared.shape.Shape.{Shape}
 use Rattle.jsonc_named.specs.Shapes.{has_shape, is_of, empty_of}
-use Rattle.jsonc_named.proofs.Values.{same_shape, value_gives_way}
+use Rattle.jsonc_named.proofs.Values.{same_shape, other_gives_way}
 use Rattle.jsonc_run.specs.Edits.{RootEnsured}
 use Rattle.jsonc_run.specs.Written.{RootValueEnsured, all_kept, empty_come, empty_given}
 use Rattle.jsonc_run.proofs.Roots.{root_is, value_stands}
@@ -106,4 +106,4 @@ value_ensured o old new shape how tree s (created m e f) =
     empty_come (layout_for old 0 0) (row_below old 0) (row_below new 0) (root_is old tree) (root_is new f.tree) (comes_among_rows o old new (empty_of shape) m tree s e f)
 value_ensured o old new shape how tree s (stayed n e is same) = all_kept (ap (λ (ns : List Node). ordered_tree ns 0) same)
 value_ensured o old new shape _ tree s (other_stayed n e is same) = all_kept (ap (λ (ns : List Node). ordered_tree ns 0) same)
-value_ensured o old new shape _ tree s (replaced n m e is r) = empty_given (value_gives_way old new [] n m (empty_of shape) tree (value_stands old tree n e) r)
+value_ensured o old new shape _ tree s (replaced n m e is r) = let g = other_gives_way old new [] n m shape tree (value_stands old tree n e) r is in empty_given g.0 g.1

@@ -19,3 +19,4 @@ pub mod Named
 pub mod Numbered
 pub mod Marking
 pub mod Below
+pub mod Steps

@@ -33,8 +33,8 @@ use Rattle.jsonc_named.specs.declared.shape.Shape.{Shape}
 use Rattle.jsonc_named.specs.declared.shape.Shape.TheVariants.{Object, Array}
 use Rattle.jsonc_named.specs.Shapes.{empty_of}
 use Rattle.jsonc_run.specs.Edits.{Operation, replace, remove, remove_comment, set_root, clear_root, replace_property, ensure_root, set_value, ensure_value, set_boolean, ensure_multiline, insert_element, append_element, insert_property, append_property, ensure_property, set_commas, set_some_commas, rearrange, AreMade, none_made, first_made, IsMade}
-use Rattle.jsonc_run.specs.Written.{MayBeMade, EntryLeft, entry_left, value_left, RootValueSet, given_way, has_come, RootValueEnsured, all_kept, empty_come, empty_given, PropertyGivenWay, property_given, StayAround, options_after, options_behind}
-use Rattle.jsonc_run.specs.Marked.{IsMarked, AreMarked, none_marked, first_marked, MarkAll}
+use Rattle.jsonc_run.specs.Written.{MayBeMade, EntryLeft, entry_left, value_left, RootValueSet, given_way, has_come, RootValueEnsured, all_kept, empty_come, empty_given, PropertyGivenWay, property_given, options_after, options_behind}
+use Rattle.jsonc_run.specs.Marked.{IsMarked}
 use Rattle.jsonc_named.proofs.Below.insertion_laws.Named.{inserts_member}
 use Rattle.jsonc_named.proofs.Below.insertion_laws.Written.{inserts_element}
 use Rattle.jsonc_run.proofs.Inserted.{gained_marks}
@@ -42,7 +42,8 @@ use Rattle.jsonc_named.proofs.Values.{empty_writable, ensured_marks, marks_given
 use Rattle.jsonc_named.proofs.Writing.{around_marks}
 use Rattle.jsonc_run.proofs.Wider.{may_behind}
 use Rattle.jsonc_run.proofs.Sorts.{commas_say, some_commas_say, sorted_says}
-use Rattle.jsonc_run.proofs.Written.{is_written, stays_around, write_all}
+use Rattle.jsonc_run.specs.Steps.{MadeIn}
+use Rattle.jsonc_run.proofs.Written.{made_in}
 
 -- a first value's marks come in
 root_marked : (o : Options) (t u : OrderedTree) (v : Plain) → IsWritable o v → RootValueSet v t u → IsMarked (marks t) (set_root v) (marks u)
@@ -70,12 +71,12 @@ ensured_marked o t u shape over.Keep (all_kept same) = ap marks same
 ensured_marked o t u shape over.Replace (all_kept same) = ([], record { front = []; back = marks t; before = refl; after = ap marks same })
 ensured_marked o t u shape over.Keep (empty_come layout row next was is comes) = nothing_comes (come_marked o t u shape layout row next was is comes)
 ensured_marked o t u shape over.Replace (empty_come layout row next was is comes) = ([], come_marked o t u shape layout row next was is comes)
-ensured_marked o t u Object _ (empty_given g) = value_marked o t u [] (empty_of Object) (empty_writable o Object) g
-ensured_marked o t u Array _ (empty_given g) = value_marked o t u [] (empty_of Array) (empty_writable o Array) g
+ensured_marked o t u Object _ (empty_given g other) = value_marked o t u [] (empty_of Object) (empty_writable o Object) g
+ensured_marked o t u Array _ (empty_given g other) = value_marked o t u [] (empty_of Array) (empty_writable o Array) g
 
 -- a property that gives way leaves its marks to those of the new one
 property_marked : (o : Options) (t u : OrderedTree) (path name : List ℕ) (v : Plain) → IsCharacters name → IsWritable o v → PropertyGivenWay name v t u path → IsMarked (marks t) (replace_property path name v) (marks u)
-property_marked o t u _ name v texts may (property_given path i layout spaced front was back puts changed around) =
+property_marked o t u _ name v texts may (property_given path i layout spaced front was back puts changed around seam) =
     (marks_under (property_of was), subst (λ l. MarksDifferIn (marks_under (property_of was)) l (marks t) (marks u)) (laid_as_written_named layout name v texts may.texts) (marks_given (property_of was) (property_of (laid_property layout name v).below) t spaced u puts around))
 
 -- an entry that leaves takes its marks along, and comments beside it
@@ -90,18 +91,18 @@ module _ (o : Options) (old new : List Node) (tree : IsTree old) (after : IsTree
   abbrev u : OrderedTree
   u = ordered_tree new 0
 
-  around : (e : Operation) → IsMade old e new → StayAround t e u
-  around e made = stays_around old new e tree after made
+  around : (e : Operation) → MayBeMade o e → SoundTree o t → IsMade old e new → MadeIn o t e u
+  around e may s made = made_in o old new e tree after s may made
 
-  one_marked : (e : Operation) → MayBeMade o e → SoundTree o t → IsMade old e new → IsMarked (marks t) e (marks u)
+  pub one_marked : (e : Operation) → MayBeMade o e → SoundTree o t → IsMade old e new → IsMarked (marks t) e (marks u)
   one_marked (replace path v) may s made =
-      let g = around (replace path v) made in
+      let g = around (replace path v) may s made in
       value_marked o t u path v may g
   one_marked (remove path) may s made =
-      let left = around (remove path) made in
-      entry_marked o t u path s (left o s)
+      let left = around (remove path) may s made in
+      entry_marked o t u path s left
   one_marked (remove_comment number) may s made =
-      let a = around (remove_comment number) made in
+      let a = around (remove_comment number) may s made in
       let r : LosesComment t u = a.0 in
       let m = one_mark_leaves r.blanks r.text (leaves r.spaced) (leaves u) r.are_blanks r.around in (
         trimmed (chars r.text),
@@ -109,68 +110,49 @@ module _ (o : Options) (old new : List Node) (tree : IsTree old) (after : IsTree
         ap (λ l. length (comments_of l)) m.1 ∙ a.1,
       )
   one_marked (set_root v) may s made =
-      let set = around (set_root v) made in
-      root_marked o t u v may (set o s)
+      let set = around (set_root v) may s made in
+      root_marked o t u v may set
   one_marked clear_root may s made =
-      let bare = around clear_root made in
+      let bare = around clear_root may s made in
       ap marks bare ∙ root_marks none
   one_marked (replace_property path name v) may s made =
-      let given = around (replace_property path name v) made in
-      property_marked o t u path name v may.0 may.1 (given o s may.0 may.1)
+      let given = around (replace_property path name v) may s made in
+      property_marked o t u path name v may.0 may.1 given
   one_marked (ensure_root shape how) may s made =
-      let set = around (ensure_root shape how) made in
-      ensured_marked o t u shape how (set o s)
+      let set = around (ensure_root shape how) may s made in
+      ensured_marked o t u shape how set
   one_marked (set_value path v) may s made =
-      let g = around (set_value path v) made in
-      value_marked o t u path v may (g o s)
+      let g = around (set_value path v) may s made in
+      value_marked o t u path v may g
   one_marked (ensure_value path shape) may s made =
-      let g = around (ensure_value path shape) made in
-      ensured_marks o t u path shape (g o s)
+      let g = around (ensure_value path shape) may s made in
+      ensured_marks o t u path shape g
   one_marked (set_boolean path b) may s made =
-      let given = around (set_boolean path b) made in
+      let given = around (set_boolean path b) may s made in
       let g = given.1 in
       (given.0, subst (λ (w : Top). MarksDifferIn (marks_under w) (written (Plain.boolean b)) (marks t) (marks u)) given.2 (marks_given g.was (laid g.layout (Plain.boolean b)) t g.spaced u g.spaces g.around))
   one_marked (ensure_multiline path) may s made =
-      let g = around (ensure_multiline path) made in
-      (keeps_document o t u path s (g o s)).marks
+      let g = around (ensure_multiline path) may s made in
+      (keeps_document o t u path s g).marks
   one_marked (insert_element path i v) may s made =
-      let g = around (insert_element path i v) made in
-      gained_marks (written v) _ _ t u (inserts_element o path i v t u (g o s) s may).marks
+      let g = around (insert_element path i v) may s made in
+      gained_marks (written v) _ _ t u (inserts_element o path i v t u g s may).marks
   one_marked (append_element path v) may s made =
-      let g = around (append_element path v) made in
-      let far = g o s in
+      let g = around (append_element path v) may s made in
+      let far = g in
       gained_marks (written v) _ _ t u (inserts_element o path far.0 v t u (far.1 far.0 (omega arith)) s may).marks
   one_marked (insert_property path i name v) may s made =
-      let g = around (insert_property path i name v) made in
-      gained_marks (property_written name v) _ _ t u (inserts_member o path i name v t u (g o s) s may.0 may.1).marks
+      let g = around (insert_property path i name v) may s made in
+      gained_marks (property_written name v) _ _ t u (inserts_member o path i name v t u g s may.0 may.1).marks
   one_marked (append_property path name v) may s made =
-      let g = around (append_property path name v) made in
-      let far = g o s in
+      let g = around (append_property path name v) may s made in
+      let far = g in
       gained_marks (property_written name v) _ _ t u (inserts_member o path far.0 name v t u (far.1 far.0 (omega arith)) s may.0 may.1).marks
   one_marked (ensure_property path name shape how) may s made =
-      let g = around (ensure_property path name shape how) made in
-      around_marks o t u path name shape how s may (g o s may)
+      let g = around (ensure_property path name shape how) may s made in
+      around_marks o t u path name shape how s may g
   one_marked (set_commas path mode) may s (n, at, set) = (commas_say o old new path n tree s at mode set).marks
   one_marked (set_some_commas path mode) may s (n, at, part) = (some_commas_say o old new path n tree s at mode part).marks
   one_marked (rearrange path headers order) may s made =
-      let g = around (rearrange path headers order) made in
-      (sorted_says o path order old new s (g o s).0).marks
-
-all_marked : (o : Options) (old new : List Node) (es : List Operation) → IsTree old → AreMade old es new → SoundTree o (ordered_tree old 0) → All (MayBeMade o) es → AreMarked (marks (ordered_tree old 0)) es (marks (ordered_tree new 0))
-all_marked o old _ [] tree none_made s may = none_marked
-all_marked o old new (e ∷ es) tree (first_made {now = now} made after rest) s may =
-    let can : MayBeMade o e = may 0 e (omega arith) in
-    let sound : SoundTree (options_behind o e) (ordered_tree now 0) = (is_written o old now e tree after made s can).sound in
-    first_marked (one_marked o old now tree after e can s made) (all_marked (options_behind o e) now new es after rest sound (λ k d h. may_behind o e (get_or es k d) (may (suc k) d (omega (arith, h)))))
-
-pub mark_all : (o : Options) (old new : List Node) (es : List Operation) → IsTree old → AreMade old es new → MarkAll o old es new
-mark_all o old new es tree made s may x y p q =
-    let written = write_all o old new es tree made s may in
-    let first : x ≡ marks (ordered_tree old 0) = marks_unique p (prints_its_marks o (ordered_tree old 0) s) in
-    let last : y ≡ marks (ordered_tree new 0) = marks_unique q (prints_its_marks (options_after o es) (ordered_tree new 0) written.sound) in
-    subst (λ l. AreMarked l es y) (sym first) (subst (λ l. AreMarked (marks (ordered_tree old 0)) es l) (sym last) (all_marked o old new es tree made s may))
-
--- what an edit that was made answers
-pub answer_marked : {T E : Type 0} (o : Options) (old new : List Node) (e : Operation) → IsTree old → IsTree new → (r : Result T E) → OnOk r (IsMade old e new) → OnOk r (MarkAll o old (e ∷ []) new)
-answer_marked o old new e tree after (Ok t) is = mark_all o old new (e ∷ []) tree (first_made is after none_made)
-answer_marked o old new e tree after (Err x) is = tt
+      let g = around (rearrange path headers order) may s made in
+      (sorted_says o path order old new s g.0).marks

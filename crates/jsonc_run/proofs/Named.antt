@@ -35,17 +35,14 @@ use Rattle.jsonc_named.proofs.Below.insertion_laws.Members.{members_counted}
 use Rattle.jsonc_named.specs.Places.{IsPropertyAt, a_property}
 use Rattle.jsonc_named.proofs.PathValues.{gives_way_to_itself, value_at_path}
 use Rattle.jsonc_named.proofs.PropertyValues.{value_held}
-use Rattle.jsonc_run.specs.Edits.{AreMade, Operation, replace, remove, remove_comment, set_root, clear_root, replace_property, ensure_root, set_value, ensure_value, set_boolean, ensure_multiline, insert_element, append_element, insert_property, append_property, ensure_property, set_commas, set_some_commas, rearrange}
-use Rattle.jsonc_run.specs.Named.{StandsAt, HasValueAt, HasBooleanAt, HasArrayAt, HasObjectAt, HasContainerAt, HasPropertyAt, IsNamed, comment_count, PlacesAreNamed, TellsUnnamed, TellsUnnamedAfter}
+use Rattle.jsonc_run.specs.Edits.{Operation, replace, remove, remove_comment, set_root, clear_root, replace_property, ensure_root, set_value, ensure_value, set_boolean, ensure_multiline, insert_element, append_element, insert_property, append_property, ensure_property, set_commas, set_some_commas, rearrange}
+use Rattle.jsonc_run.specs.Named.{StandsAt, HasValueAt, HasBooleanAt, HasArrayAt, HasObjectAt, HasContainerAt, HasPropertyAt, IsNamed, comment_count, PlacesAreNamed, TellsUnnamed}
 use Rattle.jsonc_edit.specs.Comments.{comment_at}
 use Rattle.jsonc_run.specs.Places.{IsArrayAt, IsBooleanAt, IsContainerAt, IsEntryOf, IsEntryAt, IsObjectAt, an_entry, in_array, in_object, the_value}
 use Rattle.jsonc_run.specs.Refusals.{HasItsPlace, IsToldBy, LacksBrackets, LacksName, MayWantMemory}
-use Rattle.jsonc_run.specs.Written.{options_after}
 use Rattle.jsonc_run.proofs.Booleans.{boolean_value}
 use Rattle.jsonc_run.proofs.CommentCount.{comments_counted}
-use Rattle.jsonc_run.proofs.Refused.{made_tree}
 use Rattle.jsonc_run.proofs.ValueNodes.{is_array, is_object, node_found, property_found}
-use Rattle.jsonc_run.proofs.Written.{write_all}
 
 -- the value of an array's node is an array, and that of an object's an object
 array_value : {o : Options} {content : Content} {below : OrderedTree} {v : Plain} → content ≡ Content.array → ValueOf o content below v → (vs : Items) × (v ≡ Plain.array vs)
@@ -289,8 +286,3 @@ module _ (ns : List Node) where
   pub answer_unnamed : {T : Type 0} (o : Options) → IsTree ns → SoundTree o (ordered_tree ns 0) → (e : Operation) (r : Result T EditError) → IfErr r (IsToldBy ns e) → IfErr r (TellsUnnamed o ns e)
   answer_unnamed o tree sound e (Ok x) told = tt
   answer_unnamed o tree sound e (Err why) told = tells_unnamed o tree sound e why told
-
--- and so it is after edits that were made
-pub unnamed_after : (o : Options) (old now : List Node) (es : List Operation) (e : Operation) (why : EditError) → IsTree old → AreMade old es now → IsToldBy now e why → TellsUnnamedAfter o old es now e why
-unnamed_after o old now es e why tree made told = λ sound may.
-    tells_unnamed now (options_after o es) (made_tree tree made) (write_all o old now es tree made sound may).sound e why told

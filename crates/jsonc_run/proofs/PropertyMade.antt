@@ -1,10 +1,12 @@
 -- What becomes of a document where the property at a path gives way to another.
-use Rattle.std.proofs.Common.{◌≡◌, ℕ, List, ap, subst}
+use Rattle.std.proofs.Common.{◌≡◌, ℕ, ◌<◌, Bool, true, false, cond, List, [], ◌∷◌, ◌++◌, length, filter, slice_get, slice_index, Option, Some, None, refl, sym, ap, subst, ◌∙◌}
 use Rattle.jsonc_text.specs.Options.{Options}
 use Rattle.jsonc_text.specs.Plain.{Plain}
-use Rattle.jsonc_tree.specs.Content.{Content}
-use Rattle.jsonc_tree.specs.OrderedTree.{Top, leaves, ordered_tree}
-use Rattle.jsonc_tree.specs.Tree.{Node, IsTree}
+use Rattle.jsonc_tree.specs.Content.{Content, object, property}
+use Rattle.jsonc_tree.specs.OrderedTree.{OrderedTree, Top, leaves, ordered_tree}
+use Rattle.jsonc_tree.specs.Tree.{Node, content_at, children_at, IsTree}
+use Rattle.jsonc_tree.proofs.Order.{parent_there}
+use Rattle.jsonc_nodes.specs.Kinds.{is_element, is_element_at}
 use Rattle.jsonc_from_input.specs.Layout.{Layout}
 use Rattle.jsonc_from_input.specs.Texts.{IsCharacters}
 use Rattle.jsonc_laws.specs.ChangeLaws.{DiffersIn}
@@ -12,10 +14,21 @@ use Rattle.jsonc_laws.specs.TreeChanges.{leaves_of, property_of}
 use Rattle.jsonc_laws.specs.SoundTrees.{SoundTree}
 use Rattle.jsonc_laws.specs.Properties.{PropertyChanged}
 use Rattle.jsonc_edit.specs.Changes.{row_below, top_at}
+use Rattle.jsonc_edit.specs.Due.{begins_bare, listed, seen_behind}
+use Rattle.jsonc_edit.specs.Paths.{IsAt, IsElementOf}
+use Rattle.jsonc_edit.specs.Put.{a_space, AreSpaced}
 use Rattle.jsonc_edit.specs.Reading.{layout_for}
 use Rattle.jsonc_edit.specs.Writing.{IsWritable}
 use Rattle.jsonc_edit.proofs.GivingWay.{in_place}
-use Rattle.jsonc_set.specs.Giving.{property_top, IsPropertyReplaced}
+use Rattle.jsonc_edit.proofs.Kept.{at_kept, filter_same, top_stays, tree_stays}
+use Rattle.jsonc_edit.proofs.Uniqueness.{element_parent}
+use Rattle.jsonc_edit.specs.SeamEntries.{PropertyHolds, PropertyGivesWayWithSeam}
+use Rattle.jsonc_edit.specs.Seams.{PrintNothing, space_if, StandsBetween}
+use Rattle.jsonc_edit.proofs.Between.{space_behind}
+use Rattle.jsonc_edit.proofs.SeamsOfEntries.{property_front, property_back, property_stands, property_holds}
+use Rattle.jsonc_edit.proofs.PathPlaces.{takes_between}
+use Rattle.jsonc_set.specs.Giving.{due_after, is_bare_value, property_top, IsPropertyReplaced, PropertyGivesWay}
+use Rattle.jsonc_set.proofs.PropertyPlace.{takes_propertys_place}
 use Rattle.jsonc_set.proofs.WrittenProperty.{writes_property}
 use Rattle.jsonc_named.specs.Places.{IsPropertyAt, a_property}
 use Rattle.jsonc_run.specs.Written.{PropertyGivenWay, property_given}
@@ -23,6 +36,80 @@ use Rattle.jsonc_run.specs.Written.{PropertyGivenWay, property_given}
 -- the new property is laid out as the document tells
 given_top : (old new : List Node) (n m : ℕ) (name : List ℕ) (v : Plain) (r : IsPropertyReplaced old new n name v m) → top_at new m ≡ property_top (layout_for old r.0 n) name v
 given_top old new n m name v r = (in_place r.2.spaced new n m (property_top (layout_for old r.0 n) name v) r.2.place).put
+
+-- where the space that is due behind a property has come
+record SpaceComes (spaced : List Node) (n : ℕ) (front back : List Content) : Type 0 where
+  behind : Bool
+  quiet : List Content
+  rest : List Content
+  parts : back ≡ quiet ++ rest
+  silent : PrintNothing quiet
+  now : StandsBetween spaced n front (quiet ++ (space_if behind ++ rest))
+
+space_comes : (ready spaced : List Node) (n : ℕ) (v : Plain) → IsTree ready → AreSpaced ready (listed (due_after ready n v)) spaced → (front back : List Content) → StandsBetween ready n front back → SpaceComes spaced n front back
+space_comes ready spaced n v tree put front back s = by (is_bare_value v) (begins_bare ready (seen_behind ready n)) (seen_behind ready n) refl put
+  where
+    none_comes : spaced ≡ ready → SpaceComes spaced n front back
+    none_comes same = record { behind = false; quiet = []; rest = back; parts = refl; silent = tt; now = subst (λ ns. StandsBetween ns n front back) (sym same) s }
+
+    by : (bare b : Bool) (o : Option ℕ) → seen_behind ready n ≡ o → AreSpaced ready (listed (cond bare (cond b o None) None)) spaced → SpaceComes spaced n front back
+    by false b o seen same = none_comes same
+    by true false o seen same = none_comes same
+    by true true None seen same = none_comes same
+    by true true (Some x) seen (now, space, r, same) =
+        let m = space_behind ready now x space tree r n seen front back s in
+        record { behind = true; quiet = m.quiet; rest = m.rest; parts = m.parts; silent = m.silent; now = subst (λ ns. StandsBetween ns n front (m.quiet ++ (a_space ∷ m.rest))) (sym same) m.now }
+
+content_spaced : (xs : List ℕ) (old new : List Node) → AreSpaced old xs new → (k : ℕ) → content_at new k ≡ content_at old k
+content_spaced [] old new e k = ap (λ ns. content_at ns k) e
+content_spaced (x ∷ xs) old new (now, leaf, s, rest) k = content_spaced xs now new rest k ∙ s.put.content k
+
+module _ (old new : List Node) (path : List ℕ) (c i n m : ℕ) (name : List ℕ) (v : Plain) (tree : IsTree old) (at : IsAt old path c) (is : content_at old c ≡ object) (element : IsElementOf old c i n) (named : content_at old n ≡ property) (r : IsPropertyReplaced old new n name v m) where
+  g : PropertyGivesWay old new n m (layout_for old r.0 n) name v
+  g = r.2
+
+  there : (n < length old) × (c < length old)
+  there = let t = parent_there old tree n c (element_parent old tree c i n element) in (t.0, t.1)
+
+  at_ready : IsAt g.ready path c
+  at_ready = at_kept old g.ready tree g.prepared.keeps path c at
+
+  element_ready : IsElementOf g.ready c i n
+  element_ready =
+      ap (λ l. slice_get l i)
+      (ap (filter (is_element_at g.ready)) (g.prepared.keeps.children c there.1)
+      ∙ filter_same (is_element_at g.ready) (is_element_at old) (children_at old c) (λ k h. ap is_element (g.prepared.keeps.content (slice_index (children_at old c) k) (tree.there c k h))))
+      ∙ element
+
+  abbrev front : List Content
+  front = property_front g.ready g.prepared.tree path c i n at_ready element_ready
+
+  abbrev back : List Content
+  back = property_back g.ready g.prepared.tree path c i n at_ready element_ready
+
+  space : SpaceComes g.spaced n front back
+  space = space_comes g.ready g.spaced n v g.prepared.tree g.spaces front back (property_stands g.ready g.prepared.tree path c i n at_ready element_ready)
+
+  stood : PropertyHolds (row_below old n) path i (ordered_tree old 0) front (space.quiet ++ space.rest)
+  stood =
+      let keeps = g.prepared.keeps in
+      let held = property_holds g.ready g.prepared.tree path c i n at_ready element_ready (keeps.content c there.1 ∙ is) (keeps.content n there.0 ∙ named) front back (property_stands g.ready g.prepared.tree path c i n at_ready element_ready) in
+      let below : row_below g.ready n ≡ row_below old n = ap (λ (t : Top). t.below) (top_stays old g.ready tree keeps g.prepared.tree n there.0) in
+      subst (λ (t : OrderedTree). PropertyHolds (row_below old n) path i t front (space.quiet ++ space.rest)) (tree_stays old g.ready tree keeps g.prepared.tree)
+      (subst (λ l. PropertyHolds (row_below old n) path i (ordered_tree g.ready 0) front l) space.parts
+      (subst (λ (t : OrderedTree). PropertyHolds t path i (ordered_tree g.ready 0) front back) below held))
+
+  stands : PropertyHolds (property_top (layout_for old r.0 n) name v).below path i (ordered_tree new 0) front (space.quiet ++ (space_if space.behind ++ space.rest))
+  stands =
+      let place = takes_propertys_place old new path c i n m name v tree at element r in
+      let top : top_at new m ≡ property_top (layout_for old r.0 n) name v = given_top old new n m name v r in
+      let is_new : content_at new c ≡ object = g.place.replaces.spliced.content c ∙ content_spaced (listed (due_after g.ready n v)) g.ready g.spaced g.spaces c ∙ g.prepared.keeps.content c there.1 ∙ is in
+      let later = takes_between g.spaced new n m g.place.replaces front (space.quiet ++ (space_if space.behind ++ space.rest)) space.now in
+      let held = property_holds new g.place.replaces.after path c i m place.0 place.1 is_new (ap (λ (t : Top). t.content) top) front (space.quiet ++ (space_if space.behind ++ space.rest)) later in
+      subst (λ (t : OrderedTree). PropertyHolds t path i (ordered_tree new 0) front (space.quiet ++ (space_if space.behind ++ space.rest))) (ap (λ (t : Top). t.below) top) held
+
+  pub property_seam : PropertyGivesWayWithSeam path i (row_below old n) (property_top (layout_for old r.0 n) name v).below (ordered_tree old 0) (ordered_tree new 0)
+  property_seam = record { front = front; quiet = space.quiet; rest = space.rest; behind = space.behind; silent = space.silent; stood = stood; stands = stands }
 
 pub property_gives_way : (o : Options) (old new : List Node) (path : List ℕ) (n m : ℕ) (name : List ℕ) (v : Plain) → IsTree old → SoundTree o (ordered_tree old 0) → IsPropertyAt old path n → IsCharacters name → IsWritable o v
     → IsPropertyReplaced old new n name v m → PropertyGivenWay name v (ordered_tree old 0) (ordered_tree new 0) path
@@ -35,3 +122,4 @@ property_gives_way o old new _ n m name v tree s (a_property front c i at inside
     (subst (λ (t : Top). PropertyChanged w.front (row_below old n) t.below w.back front w.spaced (ordered_tree new 0)) now w.changed)
     (subst (λ (t : Top). DiffersIn (leaves_of t) (leaves_of (property_top layout name v)) (leaves w.spaced) (leaves (ordered_tree new 0))) was
     (subst (λ (t : Top). DiffersIn (leaves_of (top_at old n)) (leaves_of t) (leaves w.spaced) (leaves (ordered_tree new 0))) now w.around))
+    (property_seam old new front c i n m name v tree at inside.of_object inside.element inside.is r)

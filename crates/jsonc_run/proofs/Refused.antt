@@ -23,9 +23,7 @@ use Rattle.jsonc_named.proofs.Below.members.Spreading as objects
 use Rattle.jsonc_named.specs.Places.{IsPropertyAt, a_property}
 use Rattle.jsonc_run.specs.Places.{IsArrayAt, IsContainerAt, IsEntryAt, IsObjectAt, an_entry, in_array, in_object, the_value}
 use Rattle.jsonc_run.specs.Refusals.{IsToldBy, LacksBrackets, LacksName, WantsMemoryOrPlace}
-use Rattle.jsonc_run.specs.Written.{IsRefusedAfter, options_after}
 use Rattle.jsonc_named.proofs.PropertyValues.{held_by_name, value_held}
-use Rattle.jsonc_run.proofs.Written.{write_all}
 
 not_brackets : MissingBrackets ≡ OutOfMemory → ⊥
 not_brackets e = cc
@@ -96,8 +94,3 @@ module _ (o : Options) (ns : List Node) (tree : IsTree ns) (sound : SoundTree o 
 pub made_tree : {old new : List Node} {es : List Operation} → IsTree old → AreMade old es new → IsTree new
 made_tree tree none_made = tree
 made_tree tree (first_made is after rest) = made_tree after rest
-
--- and so it is after edits that were made
-pub refused_after : (o : Options) (old now : List Node) (es : List Operation) (e : Operation) (stop : EditError) → IsTree old → AreMade old es now → IsToldBy now e stop → IsRefusedAfter o old es stop
-refused_after o old now es e stop tree made told = λ sound may.
-    refused_so (options_after o es) now (made_tree tree made) (write_all o old now es tree made sound may).sound e stop told

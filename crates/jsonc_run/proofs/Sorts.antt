@@ -7,9 +7,12 @@ use Rattle.jsonc_laws.specs.SoundTrees.{SoundTree}
 use Rattle.jsonc_commas.specs.InTurn.{holders, AreSetInPart, AreSetInTurn}
 use Rattle.jsonc_commas.specs.Laws.{IsInSound, SaysTheSame}
 use Rattle.jsonc_commas.proofs.Documents.{keeps_document, keeps_in_part}
+use Rattle.jsonc_commas.proofs.Within.{stays_outside, stays_outside_in_part}
+use Rattle.jsonc_edit.specs.Changes.{top_at}
 use Rattle.jsonc_edit.specs.declared.modes.TrailingCommaMode.{TrailingCommaMode}
 use Rattle.jsonc_multiline.proofs.Documents.{over_at}
 use Rattle.jsonc_run.specs.Places.{IsContainerAt}
+use Rattle.jsonc_run.specs.Steps.{IsChangedAt}
 use Rattle.jsonc_sort.specs.Paths.{KeepsOutside, SaysSorted, SortedAt}
 use Rattle.jsonc_sort.specs.Rearranged.{IsOrderIn, Rearranged}
 use Rattle.jsonc_sort.specs.Sorting.{Headers}
@@ -26,6 +29,13 @@ module _ (o : Options) (old new : List Node) (path : List ℕ) (n : ℕ) (tree :
 
   pub some_commas_say : (mode : TrailingCommaMode) → AreSetInPart mode old (holders old n) new → SaysTheSame mode o (ordered_tree old 0) (ordered_tree new 0)
   some_commas_say mode part = keeps_in_part mode o old n in_sound new part
+
+  -- and nothing outside of the array or object changes
+  pub commas_within : (mode : TrailingCommaMode) → AreSetInTurn mode old (holders old n) new → IsChangedAt path (ordered_tree old 0) (ordered_tree new 0)
+  commas_within mode set = (top_at old n, top_at new n, stays_outside mode old n path new tree in_sound.over at.1 at.0 set)
+
+  pub some_commas_within : (mode : TrailingCommaMode) → AreSetInPart mode old (holders old n) new → IsChangedAt path (ordered_tree old 0) (ordered_tree new 0)
+  some_commas_within mode part = (top_at old n, top_at new n, stays_outside_in_part mode old n path new tree in_sound.over at.1 at.0 part)
 
   -- entries that come in an order
   pub sorted_at : (headers : Headers) (order : List ℕ) → IsTree new → IsOrderIn old n order → Rearranged old new n headers order → SortedAt path order (ordered_tree old 0) (ordered_tree new 0)

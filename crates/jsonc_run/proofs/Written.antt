@@ -35,13 +35,13 @@ use Rattle.jsonc_set.proofs.WrittenProperty.{writes_property}
 use Rattle.jsonc_named.specs.Places.{IsPropertyAt, a_property}
 use Rattle.jsonc_run.specs.Places.{IsEntryAt, the_value, an_entry, IsEntryOf, in_array, in_object, IsBooleanAt}
 use Rattle.jsonc_run.specs.Edits.{Operation, replace, remove, remove_comment, set_root, clear_root, replace_property, ensure_root, set_value, ensure_value, set_boolean, ensure_multiline, insert_element, append_element, insert_property, append_property, ensure_property, set_commas, set_some_commas, rearrange, AreMade, none_made, first_made, RootSet, IsMade}
-use Rattle.jsonc_run.specs.Written.{MayBeMade, IsChanged, by_value, by_entry, by_all, by_comment, by_root, by_clearing, by_property, by_ensuring, by_setting, by_ensuring_held, by_boolean, by_lines, by_inserting, by_appending, by_inserting_member, by_appending_member, by_ensuring_named, by_commas, by_some_commas, by_sorting, AreChanged, unchanged, first_changed}
+use Rattle.jsonc_run.specs.Written.{MayBeMade, IsChanged, by_value, by_entry, by_all, by_comment, by_root, by_clearing, by_property, by_ensuring, by_setting, by_ensuring_held, by_boolean, by_lines, by_inserting, by_appending, by_inserting_member, by_appending_member, by_ensuring_named, by_commas, by_some_commas, by_sorting}
 use Rattle.jsonc_named.specs.declared.shape.Over.{Over}
 use Rattle.jsonc_named.specs.declared.shape.Over.TheVariants as over
 use Rattle.jsonc_named.specs.declared.shape.Shape.{Shape}
 use Rattle.jsonc_named.specs.Shapes.{empty_of}
 use Rattle.jsonc_named.specs.Shapes.{comes_first, has_it, may_stay, must_give_way}
-use Rattle.jsonc_run.specs.Written.{EntryLeft, entry_left, value_left, StayAround, AllStayAround, all_stay, first_stay, options_after, options_behind, AreWritten, WriteAll}
+use Rattle.jsonc_run.specs.Written.{EntryLeft, entry_left, value_left, options_after, options_behind}
 use Rattle.jsonc_named.proofs.Values.{empty_writable, same_shape}
 use Rattle.jsonc_run.proofs.Ensured.{held, Ensured, created, stayed, other_stayed, replaced, ensured, value_ensured}
 use Rattle.jsonc_named.proofs.Below.insert.Past.{past_the_end}
@@ -57,9 +57,11 @@ use Rattle.jsonc_run.proofs.PropertyMade.{property_gives_way}
 use Rattle.jsonc_named.proofs.Values as property_values
 use Rattle.jsonc_named.proofs.Values.{shape_written}
 use Rattle.jsonc_named.proofs.Writing.{writes_named}
+use Rattle.jsonc_edit.proofs.SeamsOfComments.{comment_has_seam}
 use Rattle.jsonc_named.proofs.Values.{replaces_held, stays_ensured}
 use Rattle.jsonc_run.proofs.ValueMade.{set_replaced}
-use Rattle.jsonc_run.proofs.Sorts.{commas_say, some_commas_say, sorted_at, sorted_outside, sorted_says}
+use Rattle.jsonc_run.proofs.Sorts.{commas_say, commas_within, some_commas_say, some_commas_within, sorted_at, sorted_outside, sorted_says}
+use Rattle.jsonc_run.specs.Steps.{MadeIn}
 use Rattle.jsonc_run.proofs.Wider.{may_behind}
 use Rattle.jsonc_named.proofs.Values.{value_gives_way}
 use Rattle.jsonc_run.proofs.Roots.{value_stands, root_value_set, whole_changed, emptied, no_leaves}
@@ -81,38 +83,36 @@ entry_leaves o old new _ n tree after sound (an_entry front c i at entry) takes 
     let held = entry_held old c i n entry in
     entry_left front i (top_at old n) (entry_taken o old new front c i n tree after sound at held.0 held.1 takes)
 
-pub stays_around : (old new : List Node) (e : Operation) → IsTree old → IsTree new → IsMade old e new → StayAround (ordered_tree old 0) e (ordered_tree new 0)
-stays_around old new (replace path v) tree after (n, m, at, r) = value_gives_way old new path n m v tree at r
-stays_around old new (remove path) tree after (n, at, takes) = λ o sound. entry_leaves o old new path n tree after sound at takes
-stays_around old new (remove_comment number) tree after (n, at, r) = (loses_comment old new n r, numbered old new n r number at)
-stays_around old new (set_root v) tree after made = λ o sound. root_value_set o old new v tree sound (value_at old 0) refl made
-stays_around old new clear_root tree after made = no_leaves new after (emptied old new made)
-stays_around old new (replace_property path name v) tree after (n, m, at, r) = λ o sound texts may. property_gives_way o old new path n m name v tree sound at texts may r
-stays_around old new (ensure_root shape how) tree after made = λ o sound. value_ensured o old new shape how tree sound (ensured old new shape how made)
-stays_around old new (set_value path v) tree after (r, at, set) = λ o sound.
+-- where the edit was made, all around its place stays
+pub made_in : (o : Options) (old new : List Node) (e : Operation) → IsTree old → IsTree new → SoundTree o (ordered_tree old 0) → MayBeMade o e → IsMade old e new → MadeIn o (ordered_tree old 0) e (ordered_tree new 0)
+made_in o old new (replace path v) tree after sound may (n, m, at, r) = value_gives_way old new path n m v tree at r
+made_in o old new (remove path) tree after sound may (n, at, takes) = entry_leaves o old new path n tree after sound at takes
+made_in o old new (remove_comment number) tree after sound may (n, at, r) =
+    let seam = comment_has_seam old new n r in
+    (loses_comment old new n r, numbered old new n r number at, seam.0, seam.1 number at)
+made_in o old new (set_root v) tree after sound may made = root_value_set o old new v tree sound (value_at old 0) refl made
+made_in o old new clear_root tree after sound may made = no_leaves new after (emptied old new made)
+made_in o old new (replace_property path name v) tree after sound may (n, m, at, r) = property_gives_way o old new path n m name v tree sound at may.0 may.1 r
+made_in o old new (ensure_root shape how) tree after sound may made = value_ensured o old new shape how tree sound (ensured old new shape how made)
+made_in o old new (set_value path v) tree after sound may (r, at, set) =
     let given = set_replaced o old new tree sound path r at v set in
     value_gives_way old new path given.0 given.1 v tree given.2 given.3
-stays_around old new (ensure_value path shape) tree after (r, at, ensured) = λ o sound. stays_ensured old new path shape tree (property_values.value_ensured o old new tree sound path r at shape ensured)
-stays_around old new (set_boolean path b) tree after (n, at, set) = boolean_given old new path n b tree at set
-stays_around old new (ensure_multiline path) tree after (n, at, made) = λ o sound. spread_at o old new path n tree after sound at.0 at.1 made
-stays_around old new (insert_element path i v) tree after (n, m, at, put) = λ o sound. elements_come_at o old new path n i v m tree sound at.0 at.1 put
-stays_around old new (append_element path v) tree after (n, m, at, put) = λ o sound.
+made_in o old new (ensure_value path shape) tree after sound may (r, at, ensured) = stays_ensured old new path shape tree (property_values.value_ensured o old new tree sound path r at shape ensured)
+made_in o old new (set_boolean path b) tree after sound may (n, at, set) = boolean_given old new path n b tree at set
+made_in o old new (ensure_multiline path) tree after sound may (n, at, made) = spread_at o old new path n tree after sound at.0 at.1 made
+made_in o old new (insert_element path i v) tree after sound may (n, m, at, put) = elements_come_at o old new path n i v m tree sound at.0 at.1 put
+made_in o old new (append_element path v) tree after sound may (n, m, at, put) =
     let brackets = has_its_brackets o old path n tree sound at.0 at.1 in
     (length (elements_at old n), λ i far. elements_come_at o old new path n i v m tree sound at.0 at.1 (past_the_end old new n (length (elements_at old n)) i v m brackets (omega arith) far put))
-stays_around old new (insert_property path i name v) tree after (n, m, at, put) = λ o sound. properties_come_at o old new path n i name v m tree sound at.0 at.1 put
-stays_around old new (append_property path name v) tree after (n, m, at, put) = λ o sound.
+made_in o old new (insert_property path i name v) tree after sound may (n, m, at, put) = properties_come_at o old new path n i name v m tree sound at.0 at.1 put
+made_in o old new (append_property path name v) tree after sound may (n, m, at, put) =
     (length (elements_at old n), λ i far. properties_come_at o old new path n i name v m tree sound at.0 at.1 (properties.behind_all o old new path n m name v tree sound at (length (elements_at old n)) i (omega arith) far put))
-stays_around old new (ensure_property path name shape how) tree after (n, m, at, ensured) = λ o sound texts. (writes_named o old new path n name shape how m tree sound at.0 at.1 texts ensured).around
-stays_around old new (set_commas path mode) tree after (n, at, set) = λ o sound. (commas_say o old new path n tree sound at mode set).commas
-stays_around old new (set_some_commas path mode) tree after (n, at, part) = λ o sound. (some_commas_say o old new path n tree sound at mode part).commas
-stays_around old new (rearrange path headers order) tree after (n, at, all, made) = λ o sound.
+made_in o old new (ensure_property path name shape how) tree after sound may (n, m, at, ensured) = (writes_named o old new path n name shape how m tree sound at.0 at.1 may ensured).around
+made_in o old new (set_commas path mode) tree after sound may (n, at, set) = ((commas_say o old new path n tree sound at mode set).commas, commas_within o old new path n tree sound at mode set)
+made_in o old new (set_some_commas path mode) tree after sound may (n, at, part) = ((some_commas_say o old new path n tree sound at mode part).commas, some_commas_within o old new path n tree sound at mode part)
+made_in o old new (rearrange path headers order) tree after sound may (n, at, all, made) =
     let s = sorted_at o old new path n tree sound at headers order after all made in
     (s, sorted_outside path order old new s)
-
--- under all options the leaves around stay
-pub stay_around : (old new : List Node) (es : List Operation) → IsTree old → AreMade old es new → AllStayAround (ordered_tree old 0) es (ordered_tree new 0)
-stay_around old _ [] tree none_made = all_stay
-stay_around old new (e ∷ es) tree (first_made {now = now} made after rest) = first_stay (stays_around old now e tree after made) (stay_around now new es after rest)
 
 -- one edit is written
 pub record IsWritten (o : Options) (e : Operation) (old new : OrderedTree) : Type 0 where
@@ -258,30 +258,3 @@ module _ (o : Options) where
   is_written old new (rearrange path headers order) tree after (n, at, all, made) s may =
       let w = sorted_says o path order old new s (sorted_at o old new path n tree s at headers order after all made) in
       record { before = Some w.old; after = Some w.new; old_text = w.old_text; new_text = w.new_text; changed = by_sorting w.entries; sound = w.sound }
-
-all_written : (o : Options) (old new : List Node) (es : List Operation) → IsTree old → AreMade old es new → SoundTree o (ordered_tree old 0) → All (MayBeMade o) es → AreWritten o es (ordered_tree old 0) (ordered_tree new 0)
-all_written o old _ [] tree none_made s may =
-    let known = document_printed o (ordered_tree old 0) s.shaped s.lines in
-    record { before = known.0; after = known.0; old_text = known.1; new_text = known.1; changed = unchanged; around = all_stay; sound = s }
-all_written o old new (e ∷ es) tree (first_made {now = now} made after rest) s may =
-    let p : Options = options_behind o e in
-    let first = is_written o old now e tree after made s (may 0 e (omega arith)) in
-    let others = all_written p now new es after rest first.sound (λ k d h. may_behind o e (get_or es k d) (may (suc k) d (omega (arith, h)))) in
-    let same : others.before ≡ first.after = document_unique p (printed_text (ordered_tree now 0)) others.before first.after others.old_text first.new_text in
-    record {
-      before = first.before;
-      after = others.after;
-      old_text = first.old_text;
-      new_text = others.new_text;
-      changed = first_changed first.changed (subst (λ (w : Option Plain). AreChanged w es others.after) same others.changed);
-      around = first_stay (stays_around old now e tree after made) others.around;
-      sound = others.sound;
-    }
-
-pub write_all : (o : Options) (old new : List Node) (es : List Operation) → IsTree old → AreMade old es new → WriteAll o old es new
-write_all o old new es tree made s may = all_written o old new es tree made s may
-
--- so is one, where the answer says that it was made
-pub answer_written : {T E : Type 0} (o : Options) (old new : List Node) (e : Operation) → IsTree old → IsTree new → (r : Result T E) → OnOk r (IsMade old e new) → OnOk r (WriteAll o old (e ∷ []) new)
-answer_written o old new e tree after (Ok t) is = write_all o old new (e ∷ []) tree (first_made is after none_made)
-answer_written o old new e tree after (Err x) is = tt

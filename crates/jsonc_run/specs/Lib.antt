@@ -5,3 +5,4 @@ pub mod Written
 pub mod Named
 pub mod Marked
 pub mod Below
+pub mod Steps

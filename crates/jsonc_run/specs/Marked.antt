@@ -44,15 +44,3 @@ IsMarked x (ensure_property path name shape how) y = ChangesMarks name shape x y
 IsMarked x (set_commas path mode) y = y ≡ x
 IsMarked x (set_some_commas path mode) y = y ≡ x
 IsMarked x (rearrange path headers order) y = (test : Mark → Bool) → count_by test y ≡ count_by test x
-
--- so it is for each of the edits, one after another
-pub data AreMarked : List Mark → List Operation → List Mark → Type 0 where
-  none_marked : {x : List Mark} → AreMarked x [] x
-  first_marked : {x y z : List Mark} {e : Operation} {es : List Operation} → IsMarked x e y → AreMarked y es z → AreMarked x (e ∷ es) z
-
--- so the edits change the marks of the text of a sound document, if what they write may be written
-abbrev pub MarkAll : Options → List Node → List Operation → List Node → Type 0
-MarkAll o old es new =
-    SoundTree o (ordered_tree old 0) → All (MayBeMade o) es → (x y : List Mark)
-    → AreMarks o (printed_text (ordered_tree old 0)) x → AreMarks (options_after o es) (printed_text (ordered_tree new 0)) y
-    → AreMarked x es y

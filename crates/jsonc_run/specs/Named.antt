@@ -81,7 +81,3 @@ PlacesAreNamed o ns e =
 abbrev pub TellsUnnamed : Options → List Node → Operation → EditError → Type 0
 TellsUnnamed o ns e why =
     (w : Option Plain) → DocumentValueOf o (ordered_tree ns 0) w → (why ≡ NoSuchPlace) ↔ ¬ (IsNamed w (comment_count (ordered_tree ns 0)) e)
-
--- if the old document is sound, and what these edits write may be written, then so it is of the edit that was refused after them
-abbrev pub TellsUnnamedAfter : Options → List Node → List Operation → List Node → Operation → EditError → Type 0
-TellsUnnamedAfter o old es now e why = SoundTree o (ordered_tree old 0) → All (MayBeMade o) es → TellsUnnamed (options_after o es) now e why

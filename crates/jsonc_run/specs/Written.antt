@@ -1,5 +1,5 @@
 -- What edits that were made in order make of a document: of its value, its leaves and its text.
-use Rattle.std.specs.Prelude.{◌≡◌, ◌≤◌, ℕ, Bool, List, [], ◌∷◌, ◌++◌, Option, Some, None}
+use Rattle.std.specs.Prelude.{◌≡◌, ◌≤◌, ℕ, Bool, false, List, [], ◌∷◌, ◌++◌, Option, Some, None}
 use Rattle.std.specs.List.{All}
 use Rattle.jsonc_text.specs.Options.{Options}
 use Rattle.jsonc_text.specs.Plain.{Plain, boolean}
@@ -15,6 +15,8 @@ use Rattle.jsonc_from_input.specs.Layout.{Layout}
 use Rattle.jsonc_laws.specs.SoundTrees.{SoundTree}
 use Rattle.jsonc_commas.specs.Laws.{allowing, OnlyCommas}
 use Rattle.jsonc_edit.specs.Comments.{comments_ahead, LosesComment}
+use Rattle.jsonc_edit.specs.SeamEntries.{PropertyGivesWayWithSeam}
+use Rattle.jsonc_edit.specs.SeamLaws.{LosesWithSeam}
 use Rattle.jsonc_from_input.specs.Laid.{laid, laid_property}
 use Rattle.jsonc_from_input.specs.Texts.{IsCharacters}
 use Rattle.jsonc_edit.specs.Spaced.{SpacesPut}
@@ -39,7 +41,7 @@ use Rattle.jsonc_sort.specs.Laws.{SortsEntries}
 use Rattle.jsonc_sort.specs.Paths.{KeepsOutside, SortedAt}
 use Rattle.jsonc_sort.specs.Sorting.{Headers}
 use Rattle.jsonc_run.specs.Refusals.{WantsMemoryOrPlace}
-use Rattle.jsonc_named.specs.Shapes.{empty_of}
+use Rattle.jsonc_named.specs.Shapes.{is_of, empty_of}
 use Rattle.jsonc_run.specs.Edits.{Operation, replace, remove, remove_comment, set_root, clear_root, replace_property, ensure_root, set_value, ensure_value, set_boolean, ensure_multiline, insert_element, append_element, insert_property, append_property, ensure_property, set_commas, set_some_commas, rearrange}
 
 -- documents of these options can hold what the edit writes: its value, and the name of its property
@@ -121,11 +123,6 @@ pub data IsChanged : Option Plain → Operation → Option Plain → Type 0 wher
   by_sorting : {path order : List ℕ} {headers : Headers} {x y : Plain} → SortsEntries path order x y
       → IsChanged (Some x) (rearrange path headers order) (Some y)
 
--- the edits, one after another, make the second value of the first
-pub data AreChanged : Option Plain → List Operation → Option Plain → Type 0 where
-  unchanged : {w : Option Plain} → AreChanged w [] w
-  first_changed : {w x y : Option Plain} {e : Operation} {es : List Operation} → IsChanged w e x → AreChanged x es y → AreChanged w (e ∷ es) y
-
 -- an entry has left a sound document, with what leaves with it and no more; or the document's value has
 pub data EntryLeft (t u : OrderedTree) : List ℕ → Type 0 where
   entry_left : (path : List ℕ) (i : ℕ) (top : Top) → EntryTaken path i top t u → EntryLeft t u (path ++ i ∷ [])
@@ -136,68 +133,19 @@ pub data RootValueSet (v : Plain) (t u : OrderedTree) : Type 0 where
   given_way : ValueGivesWay [] v t u → RootValueSet v t u
   has_come : (layout : Layout) (row next : OrderedTree) → t ≡ root_with row → u ≡ root_with next → ValueComes (laid layout v) row next → RootValueSet v t u
 
--- all has stayed; or the empty value of a shape has come into the row of a root that had none, with ends of lines beside it; or the document's value has given
--- way to it, where another is to
+-- all has stayed; or the empty value of a shape has come into the row of a root that had none, with ends of lines beside it; or the document's value, of
+-- another shape, has given way to it, where another is to
 pub data RootValueEnsured (shape : Shape) (t u : OrderedTree) : Over → Type 0 where
   all_kept : {how : Over} → u ≡ t → RootValueEnsured shape t u how
   empty_come : {how : Over} (layout : Layout) (row next : OrderedTree) → t ≡ root_with row → u ≡ root_with next → ValueComes (laid layout (empty_of shape)) row next
       → RootValueEnsured shape t u how
-  empty_given : ValueGivesWay [] (empty_of shape) t u → RootValueEnsured shape t u over.Replace
+  empty_given : (given : ValueGivesWay [] (empty_of shape) t u) → is_of shape given.was.content ≡ false → RootValueEnsured shape t u over.Replace
 
--- spaces have come into the document, and then in the row of the object at the path, between its front and its rest, a property has given way to one of this
--- name and value, in some layout; all leaves before and after stay
+-- Spaces have come into the document, and then in the row of the object at the path, between its front and its rest, a property has given way to one of this
+-- name and value, in some layout; all leaves before and after stay. One space has come or none: directly before what is printed behind it.
 pub data PropertyGivenWay (name : List ℕ) (v : Plain) (t u : OrderedTree) : List ℕ → Type 0 where
   property_given : (path : List ℕ) (i : ℕ) (layout : Layout) (spaced front was back : OrderedTree) → SpacesPut t spaced
       → PropertyChanged front was (laid_property layout name v).below back path spaced u
       → DiffersIn (leaves_of (property_of was)) (leaves_of (property_of (laid_property layout name v).below)) (leaves spaced) (leaves u)
+      → PropertyGivesWayWithSeam path i was (laid_property layout name v).below t u
       → PropertyGivenWay name v t u (path ++ i ∷ [])
-
--- What stays where an edit is made: all leaves around a value that gives way, or a truth value that becomes another, and around a comment with the blanks
--- before it, behind as many other comments as its number says; in a sound document all around an entry with what leaves with it, around the document's value,
--- around a property that gives way to one that may be written, and around a property's value; and of an array or object that is put on several lines all but
--- blanks, and around a value that comes into an array, or a property into an object; behind all elements all greater numbers do the same. Where commas are
--- set, all stays but commas; and around an array or object whose entries come in an order. Of a cleared root nothing stays.
-abbrev pub StayAround : OrderedTree → Operation → OrderedTree → Type 0
-StayAround t (replace path v) u = ValueGivesWay path v t u
-StayAround t (remove path) u = (o : Options) → SoundTree o t → EntryLeft t u path
-StayAround t (remove_comment number) u = (loses : LosesComment t u) × (comments_ahead loses ≡ number)
-StayAround t (set_root v) u = (o : Options) → SoundTree o t → RootValueSet v t u
-StayAround t clear_root u = u ≡ root_with none
-StayAround t (replace_property path name v) u = (o : Options) → SoundTree o t → IsCharacters name → IsWritable o v → PropertyGivenWay name v t u path
-StayAround t (ensure_root shape how) u = (o : Options) → SoundTree o t → RootValueEnsured shape t u how
-StayAround t (set_value path v) u = (o : Options) → SoundTree o t → ValueGivesWay path v t u
-StayAround t (ensure_value path shape) u = (o : Options) → SoundTree o t → ValueEnsured path shape t u
-StayAround t (set_boolean path b) u = (was : Bool) × (given : ValueGivesWay path (boolean b) t u) × (given.was ≡ boolean_leaf was)
-StayAround t (ensure_multiline path) u = (o : Options) → SoundTree o t → SpreadAt path t u
-StayAround t (insert_element path i v) u = (o : Options) → SoundTree o t → ElementComesAt o path i v t u
-StayAround t (append_element path v) u = (o : Options) → SoundTree o t → (n : ℕ) × ((i : ℕ) → n ≤ i → ElementComesAt o path i v t u)
-StayAround t (insert_property path i name v) u = (o : Options) → SoundTree o t → PropertyComesAt o path i name v t u
-StayAround t (append_property path name v) u = (o : Options) → SoundTree o t → (n : ℕ) × ((i : ℕ) → n ≤ i → PropertyComesAt o path i name v t u)
-StayAround t (ensure_property path name shape how) u = (o : Options) → SoundTree o t → IsCharacters name → named.StaysAround o path name shape t u how
-StayAround t (set_commas path mode) u = (o : Options) → SoundTree o t → OnlyCommas mode t u
-StayAround t (set_some_commas path mode) u = (o : Options) → SoundTree o t → OnlyCommas mode t u
-StayAround t (rearrange path headers order) u = (o : Options) → SoundTree o t → (sorted : SortedAt path order t u) × KeepsOutside sorted
-
--- so it is for each of the edits, one after another
-pub data AllStayAround : OrderedTree → List Operation → OrderedTree → Type 0 where
-  all_stay : {t : OrderedTree} → AllStayAround t [] t
-  first_stay : {t s u : OrderedTree} {e : Operation} {es : List Operation} → StayAround t e s → AllStayAround s es u → AllStayAround t (e ∷ es) u
-
--- The edits are written: the old text is a document, the new text is one, under the options behind the edits, and its value is what the edits, one after
--- another, make of the old one's. All leaves around what was replaced stay. The new document is sound, so it may be edited again.
-pub record AreWritten (o : Options) (es : List Operation) (old new : OrderedTree) : Type 0 where
-  pub before : Option Plain
-  pub after : Option Plain
-  pub old_text : IsDocument o (printed_text old) before
-  pub new_text : IsDocument (options_after o es) (printed_text new) after
-  pub changed : AreChanged before es after
-  pub around : AllStayAround old es new
-  pub sound : SoundTree (options_after o es) new
-
--- if the old document is sound, and what these edits write may be written, then the edit after them was refused for memory or its place alone
-abbrev pub IsRefusedAfter : Options → List Node → List Operation → EditError → Type 0
-IsRefusedAfter o old es stop = SoundTree o (ordered_tree old 0) → All (MayBeMade o) es → WantsMemoryOrPlace stop
-
--- if the old document is sound, and what the edits write may be written, then they are written
-abbrev pub WriteAll : Options → List Node → List Operation → List Node → Type 0
-WriteAll o old es new = SoundTree o (ordered_tree old 0) → All (MayBeMade o) es → AreWritten o es (ordered_tree old 0) (ordered_tree new 0)

@@ -15,8 +15,7 @@ ghost use Rattle.jsonc_laws.specs.SoundTrees.{SoundTree};
 ghost use Rattle.jsonc_run.specs.Named.{TellsUnnamed};
 ghost use Rattle.jsonc_run.specs.Refusals.{IsLeft, IsToldBy, WantsMemoryOrPlace};
 ghost use Rattle.jsonc_named.specs.Shapes.{empty_of, is_of};
-ghost use Rattle.jsonc_run.specs.Marked.{MarkAll};
-ghost use Rattle.jsonc_run.specs.Written.{WriteAll};
+ghost use Rattle.jsonc_run.specs.Steps.{MakesSteps};
 
 use crate::commas::set_commas_at;
 use crate::comments::find_comment;
@@ -53,10 +52,8 @@ pub fn make<A: Allocator + Copy>(
         → IfErr result (TellsUnnamed o tree.old.nodes (operation_of unsorted edit.now)) }
     ensures memory_or_place { (o : Options) → SoundTree o (ordered_tree tree.old.nodes 0)
         → IfErr result WantsMemoryOrPlace }
-    ensures written { (o : Options)
-        → OnOk result (WriteAll o tree.old.nodes (operation_of unsorted edit.now ∷ []) tree.new.nodes) }
-    ensures marked { (o : Options)
-        → OnOk result (MarkAll o tree.old.nodes (operation_of unsorted edit.now ∷ []) tree.new.nodes) }
+    ensures steps { (o : Options)
+        → OnOk result (MakesSteps o tree.old.nodes (operation_of unsorted edit.now ∷ []) tree.new.nodes) }
     ensures left { OnErr result (IsLeft tree.old.nodes (operation_of unsorted edit.now) tree.new.nodes) }
     ensures tree { IsTree tree.new.nodes }
 {

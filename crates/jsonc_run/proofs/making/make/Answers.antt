@@ -1,8 +1,7 @@
 use Rattle.jsonc_run.specs.Edits.{operation_of, unsorted}
-use Rattle.jsonc_run.proofs.Marking.{answer_marked}
-use Rattle.jsonc_run.proofs.Written.{answer_written}
 use Rattle.jsonc_run.proofs.Refused.{answer_refused}
 use Rattle.jsonc_run.proofs.Named.{answer_unnamed}
+use Rattle.jsonc_run.proofs.Steps.{answer_steps}
 use Rattle.jsonc_run.proofs.making.make.Goals as goal
 
 pub returns-clause-memory_or_place : goal.returns-clause-memory_or_place
@@ -13,10 +12,6 @@ pub returns-clause-named : goal.returns-clause-named
 returns-clause-named g c = λ o sound.
     answer_unnamed c.args.tree.now.nodes o c.len.ensures.tree sound (operation_of unsorted c.args.edit.now) c.make_by_kind.result c.make_by_kind.ensures.told
 
-pub returns-clause-written : goal.returns-clause-written
-returns-clause-written g c = λ o.
-    answer_written o c.args.tree.now.nodes c.make_by_kind.new.tree.nodes (operation_of unsorted c.args.edit.now) c.len.ensures.tree c.make_by_kind.ensures.tree c.make_by_kind.result c.make_by_kind.ensures.made
-
-pub returns-clause-marked : goal.returns-clause-marked
-returns-clause-marked g c = λ o.
-    answer_marked o c.args.tree.now.nodes c.make_by_kind.new.tree.nodes (operation_of unsorted c.args.edit.now) c.len.ensures.tree c.make_by_kind.ensures.tree c.make_by_kind.result c.make_by_kind.ensures.made
+pub returns-clause-steps : goal.returns-clause-steps
+returns-clause-steps g c = λ o.
+    answer_steps o c.args.tree.now.nodes c.make_by_kind.new.tree.nodes (operation_of unsorted c.args.edit.now) c.len.ensures.tree c.make_by_kind.ensures.tree c.make_by_kind.result c.make_by_kind.ensures.made
