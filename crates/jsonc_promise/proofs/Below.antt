@@ -1,0 +1,2 @@
+-- The crates below, for those above that name their proofs too.
+pub use Rattle.jsonc_run.proofs as run

@@ -1,0 +1,6 @@
+pub mod PlaceLaws
+pub mod Words
+pub mod Chains
+pub mod Asked
+pub mod Steps
+pub mod Below
