@@ -3,3 +3,4 @@ pub mod Family
 pub mod Readings
 pub mod Colons
 pub mod Tree
+pub mod Shown

@@ -16,6 +16,7 @@ ghost use Rattle.jsonc_to_ast.specs.Refusals.{RefusesText};
 ghost use Rattle.jsonc_to_ast.specs.Told.{IsTold};
 ghost use Rattle.jsonc_build.specs.Lines.{DocumentLinesEnd};
 ghost use Rattle.jsonc_build.specs.Shape.{DocumentShaped};
+ghost use Rattle.jsonc_edit.specs.Below.laws.Documents.{ShowsText};
 ghost use Rattle.jsonc_cst.specs.Document.{printed_of, tree_of, HasNoDeeperValue, LiesIn};
 ghost use Rattle.jsonc_cst.specs.Tree.{NodesAreTree};
 
@@ -71,6 +72,9 @@ impl<A: Allocator + Copy> CstRootNode<A> {
     /// leaves of their own, a CR LF one, a run of blanks whole. A value that more than 512 containers and
     /// properties are around is refused. The error says what is wrong with the text, in which of its bytes, and in
     /// which line and column; want of memory is an error too.
+    ///
+    /// The document is sound, and shows the text with its value and its literals and comments. Each structured
+    /// edit says what it makes of a document that shows a text, so edits may begin here.
     pub fn parse(alloc: A, text: &str, options: &ParseOptions) -> Result<CstRootNode<A>, ParseError>
         ensures printed { IfOk result (λ d. printed_of d ≡ text.now) }
         ensures shaped { IfOk result (λ d. DocumentShaped (parse_options options.now) (tree_of d)) }
@@ -80,6 +84,8 @@ impl<A: Allocator + Copy> CstRootNode<A> {
         ensures value { IfOk result (λ d. (w : Option Plain)
             × IsDocument (parse_options options.now) (chars text.now) w
             × DocumentValueOf (parse_options options.now) (tree_of d) w) }
+        ensures document { IfOk result
+            (λ d. ShowsText (parse_options options.now) (chars text.now) (tree_of d)) }
         ensures tree { IfOk result NodesAreTree }
         ensures refused { IfErr result (RefusesText (parse_options options.now) text.now) }
         ensures fault { IfErr result (IsFault text.now) }

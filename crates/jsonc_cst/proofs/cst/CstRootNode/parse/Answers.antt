@@ -1,6 +1,7 @@
-use Rattle.std.proofs.Common.{chars, option_map, subst}
+use Rattle.std.proofs.Common.{Option, chars, option_map, subst}
 use Rattle.jsonc_text.specs.Options.{Options}
 use Rattle.jsonc_text.specs.OptionsOf.{parse_options}
+use Rattle.jsonc_text.specs.Plain.{Plain}
 use Rattle.jsonc_text.proofs.FaultLemmas.{out_of_memory_is_fault}
 use Rattle.jsonc_text.proofs.UniqueValues.{document_unique}
 use Rattle.jsonc_ast.specs.Located.{IsLocatedDocument, value_at}
@@ -8,6 +9,7 @@ use Rattle.jsonc_to_ast.proofs.Grammar.{located_document}
 use Rattle.jsonc_build.specs.Given.{located_in}
 use Rattle.jsonc_to_ast.specs.Refusals.{IsWithin}
 use Rattle.jsonc_cst.proofs.Lent.{located_there, within_there}
+use Rattle.jsonc_cst.proofs.Shown.{shows_parsed}
 use Rattle.jsonc_cst.proofs.cst.CstRootNode.parse.Goals as goal
 
 pub build-requires : goal.build-requires
@@ -38,3 +40,10 @@ pub returns-clause-within : goal.returns-clause-within
 returns-clause-within g c =
     let o : Options = parse_options c.args.options.now in
     λ w h. subst IsWithin (document_unique o (chars c.args.text.now) _ w c.in_ok-parsed.ensures.accepted h) (within_there c.in_ok-parsed.parsed.value c.in_ok-parsed.ensures.within)
+
+pub returns-clause-document : goal.returns-clause-document
+returns-clause-document g c =
+    let o : Options = parse_options c.args.options.now in
+    let here : IsLocatedDocument o c.args.text.now (located_in c.as_ref.result) = located_there o c.args.text.now c.as_ref.result c.in_ok-parsed.parsed.value c.as_ref.ensures.value c.in_ok-parsed.ensures.located in
+    let w : Option Plain = option_map value_at (located_in c.as_ref.result) in
+    shows_parsed o c.args.text.now w c.in-Ok.ensures.printed (c.in-Ok.ensures.shaped o here) c.in-Ok.ensures.lines (c.in-Ok.ensures.value o here)
