@@ -21,8 +21,10 @@ use Rattle.jsonc_named.specs.Named.{EnsuredFor, IsUnensured, NamedEnsured}
 use Rattle.jsonc_named.specs.Shapes.{is_of, empty_of}
 use Rattle.jsonc_named.proofs.Writing.{first_named, wants_memory, writes_named}
 use Rattle.jsonc_typed.specs.Edits.{StaysElsewhere}
-use Rattle.jsonc_typed.specs.Inserting.{PutsButForMemory}
+use Rattle.jsonc_typed.specs.Removing.{WantsMemoryAlone}
 use Rattle.jsonc_objects.specs.Named.{NamedIsWritten}
+use Rattle.jsonc_typed.specs.Below.lines.Kinds.{holds_values}
+use Rattle.jsonc_typed.proofs.Below.commas.Holders.{holder_path}
 use Rattle.jsonc_typed.proofs.Elsewhere.{found_elsewhere, out_down}
 use Rattle.jsonc_typed.proofs.Held.{stay_found}
 use Rattle.jsonc_typed.proofs.Kept.{Stays, stay_same}
@@ -82,8 +84,10 @@ module _ (old new : List Node) (c : ℕ) (name : List ℕ) (shape : Shape) (how 
   pub named_written : (o : Options) (answer : Option ℕ) → NamedEnsured shape how old new c name answer → NamedIsWritten old new o c name shape how
   named_written o answer e = λ sound texts path at. writes_named o old new path c name shape how answer tree sound at is texts e
 
-  pub named_for_memory : (o : Options) (e : EditError) → IsUnensured how old c name e → PutsButForMemory o old c e
-  named_for_memory o e told = λ sound path at. wants_memory o old path c name how e tree sound at is told
+  pub named_for_memory : (o : Options) (e : EditError) → IsUnensured how old c name e → WantsMemoryAlone o old c e
+  named_for_memory o e told = λ sound over.
+      let place = holder_path o old tree sound c over (ap holds_values is) in
+      wants_memory o old place.0 c name how e tree sound place.1 is told
 
 -- where another gives way there is always one
 always_some : (old new : List Node) (c : ℕ) (name : List ℕ) (shape : Shape) (found answer : Option ℕ) → EnsuredFor shape over.Replace old new c name found answer → answer ≡ None → ⊥

@@ -1,3 +1,4 @@
 pub mod NamedIn
 pub mod ByName
 pub mod Below
+mod Steps

@@ -10,6 +10,7 @@ use Rattle.jsonc_tree.specs.Tree.{Node, children_at, content_at, IsTree}
 use Rattle.jsonc_tree.proofs.Order.{parent_there}
 use Rattle.jsonc_nodes.specs.Kinds.{is_element_at}
 use Rattle.jsonc_nodes.specs.Siblings.{elements_at}
+use Rattle.jsonc_typed.specs.Below.lines.Kinds.{holds_values}
 use Rattle.jsonc_edit.specs.Paths.{IsElementOf}
 use Rattle.jsonc_edit.proofs.Uniqueness.{element_parent}
 use Rattle.jsonc_edit.specs.declared.error.EditError.{EditError}
@@ -26,8 +27,9 @@ use Rattle.jsonc_named.proofs.Below.insertion_laws.Named.{inserts_member}
 use Rattle.jsonc_named.proofs.Below.member_laws.Coming.{properties_come_at}
 use Rattle.jsonc_cst.specs.declared.cst.node.CstObjectProp.{CstObjectProp}
 use Rattle.jsonc_typed.specs.Edits.{StaysElsewhere}
-use Rattle.jsonc_typed.specs.Inserting.{PutsButForMemory}
+use Rattle.jsonc_typed.specs.Removing.{WantsMemoryAlone}
 use Rattle.jsonc_objects.specs.Members.{NamedComesInAt, PropertyStandsAt, PutsNamedAtItsPath}
+use Rattle.jsonc_typed.proofs.Below.commas.Holders.{holder_path}
 use Rattle.jsonc_typed.proofs.Elsewhere.{row_elsewhere}
 use Rattle.jsonc_typed.proofs.Kept.{Stays, stay_both, stay_kept, stay_spliced}
 
@@ -61,8 +63,10 @@ module _ (old new : List Node) (c : ℕ) (name : List ℕ) (v : Plain) (tree : I
       let come = properties_come_at o old new path c i name v m tree sound at is e in
       record { come = come; is = inserts_member o path i name v (ordered_tree old 0) (ordered_tree new 0) come sound texts may }
 
-  pub put_for_memory : (o : Options) (e : EditError) → e ≡ refusal old c → PutsButForMemory o old c e
-  put_for_memory o e told = λ sound path at. told ∙ (wants_memory_alone o old path c tree sound at is).1
+  pub put_for_memory : (o : Options) (e : EditError) → e ≡ refusal old c → WantsMemoryAlone o old c e
+  put_for_memory o e told = λ sound over.
+      let place = holder_path o old tree sound c over (ap holds_values is) in
+      told ∙ (wants_memory_alone o old place.0 c tree sound place.1 is).1
 
 -- a container has no more elements than children
 fewer : (ns : List Node) (c : ℕ) → length (elements_at ns c) ≤ length (children_at ns c)

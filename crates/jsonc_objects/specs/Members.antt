@@ -16,6 +16,8 @@ use Rattle.jsonc_cst.specs.declared.cst.node.CstNode.{CstNode}
 use Rattle.jsonc_cst.specs.declared.cst.node.CstObjectProp.{CstObjectProp}
 use Rattle.jsonc_cst.specs.Document.{nodes_of}
 use Rattle.jsonc_cst.specs.Nodes.{number_of}
+use Rattle.jsonc_typed.specs.Below.promise.Steps.{IsStep}
+use Rattle.jsonc_typed.specs.Below.run.Edits.{insert_property, append_property}
 
 module _ (old new : List Node) where
   -- the property of this name and value has come into the object c at this number, or behind its last property where it has fewer: it is this node
@@ -25,6 +27,14 @@ module _ (old new : List Node) where
   -- the node is the property of c at this number, or at the last
   abbrev pub PropertyStandsAt : ℕ → ℕ → CstObjectProp → Type 0
   PropertyStandsAt c i now = IsElementOf new c (min i (length (elements_at old c))) now.number
+
+-- Which edit that is, where c is an object that stands in the document.
+module _ (old new : List Node) where
+  abbrev pub IsInsertingNamed : ℕ → ℕ → List ℕ → Plain → Type 0
+  IsInsertingNamed c i name v = IsStep IsAt (λ path. insert_property path i name v) old new c
+
+  abbrev pub IsAppendingNamed : ℕ → List ℕ → Plain → Type 0
+  IsAppendingNamed c name v = IsStep IsAt (λ path. append_property path name v) old new c
 
 -- the property has come into the object at the path, at this number or behind its last, and the text is a document again that has it there
 pub record IsNamedPutIn (o : Options) (path : List ℕ) (i : ℕ) (name : List ℕ) (v : Plain) (t u : OrderedTree) : Type 0 where

@@ -18,6 +18,8 @@ use Rattle.jsonc_cst.specs.declared.cst.node.CstArray.{CstArray}
 use Rattle.jsonc_cst.specs.declared.cst.node.CstNode.{CstNode}
 use Rattle.jsonc_cst.specs.declared.cst.node.CstObject.{CstObject}
 use Rattle.jsonc_cst.specs.Document.{nodes_of}
+use Rattle.jsonc_typed.specs.Below.promise.Steps.{IsStep}
+use Rattle.jsonc_typed.specs.Below.run.Edits.{ensure_property}
 use Rattle.jsonc_cst.specs.Nodes.{number_of}
 
 abbrev pub object_number : Option CstObject → Option ℕ
@@ -43,6 +45,10 @@ module _ (old new : List Node) where
   NamedIsWritten o c name shape how =
       SoundTree o (ordered_tree old 0) → IsCharacters name → (path : List ℕ) → IsAt old path c
       → IsNamedWritten o path name shape how (ordered_tree old 0) (ordered_tree new 0)
+
+  -- which edit that is, if c is an object that stands in the document
+  abbrev pub IsEnsuringNamed : ℕ → List ℕ → Shape → Over → Type 0
+  IsEnsuringNamed c name shape how = IsStep IsAt (λ path. ensure_property path name shape how) old new c
 
 -- the same of a document
 module _ {A : Type 0} (old new : CstRootNode A) where

@@ -4,7 +4,8 @@
 //! (`specs/Members.antt`); [`EnsureProperty`] sees that the first property of a name has an array or an
 //! object as its value (`specs/Named.antt`). As in `jsonc_typed`, a call is a short body over an edit by the
 //! numbers of nodes, and says with the words of that edit what it makes of the document; every node that the
-//! document held it holds after it too, also after a refusal.
+//! document held it holds after it too, also after a refusal. If the object stands in a sound document, the
+//! call is one step from the text that this showed to the one that it shows.
 #![tactic(auto)]
 
 mod members;

@@ -14,8 +14,10 @@ ghost use Rattle.jsonc_cst.specs.Document.{nodes_of, tree_of, Holds};
 ghost use Rattle.jsonc_cst.specs.Nodes.{number_of, object_node, object_prop_node, IsNodeOf};
 ghost use Rattle.jsonc_cst.specs.Tree.{NodesAreTree};
 ghost use Rattle.jsonc_typed.specs.Edits.{KeepsElsewhere, StaysElsewhere, StillHolds, StillNodes};
-ghost use Rattle.jsonc_typed.specs.Inserting.{element_count, IsShutFor, IsShutForMemory, KeepsOthers, PutsButForMemory};
-ghost use Rattle.jsonc_objects.specs.Members.{HasNamedComeIn, IsItsProperty, IsNamedAtItsPath};
+ghost use Rattle.jsonc_typed.specs.Inserting.{element_count, IsShutFor, KeepsOthers};
+ghost use Rattle.jsonc_typed.specs.Removing.{IsKeptForMemory, WantsMemoryAlone};
+ghost use Rattle.jsonc_objects.specs.Members.{HasNamedComeIn, IsAppendingNamed, IsInsertingNamed};
+ghost use Rattle.jsonc_objects.specs.Members.{IsItsProperty, IsNamedAtItsPath};
 ghost use Rattle.jsonc_objects.specs.Members.{NamedComesInAt, PropertyStandsAt, PutsNamedAtItsPath};
 
 use jsonc_cst::cst::{
@@ -66,11 +68,13 @@ fn insert_at<A: Allocator + Copy>(
     ensures written { (o : Options)
         → OnOk result
         (PutsNamedAtItsPath o tree.old.nodes tree.new.nodes object index (chars name.now) (plain value.now)) }
+    ensures step { OnOk result
+        (IsInsertingNamed tree.old.nodes tree.new.nodes object index (chars name.now) (plain value.now)) }
     ensures others { OnOk result (KeepsNodesBut tree.old.nodes tree.new.nodes object) }
     ensures elsewhere { OnOk result (StaysElsewhere tree.old.nodes tree.new.nodes object) }
     ensures brackets { OnOk result (has_brackets tree.old.nodes (children_at tree.old.nodes object) ≡ true) }
     ensures told { IfErr result (λ e. e ≡ refusal tree.old.nodes object) }
-    ensures memory { (o : Options) → IfErr result (PutsButForMemory o tree.old.nodes object) }
+    ensures memory { (o : Options) → IfErr result (WantsMemoryAlone o tree.old.nodes object) }
     ensures held { IfOk result (λ p. IsNodeOf tree.new.nodes (object_prop_node p)) }
     ensures stays { StillNodes tree.old.nodes tree.new.nodes }
     ensures document { OnErr result (ordered_tree tree.new.nodes 0 ≡ ordered_tree tree.old.nodes 0) }
@@ -102,10 +106,11 @@ fn append_to<A: Allocator + Copy>(
         → OnOk result
         (PutsNamedAtItsPath o tree.old.nodes tree.new.nodes object (length (elements_at tree.old.nodes object))
         (chars name.now) (plain value.now)) }
+    ensures step { OnOk result (IsAppendingNamed tree.old.nodes tree.new.nodes object (chars name.now) (plain value.now)) }
     ensures others { OnOk result (KeepsNodesBut tree.old.nodes tree.new.nodes object) }
     ensures elsewhere { OnOk result (StaysElsewhere tree.old.nodes tree.new.nodes object) }
     ensures told { IfErr result (λ e. e ≡ refusal tree.old.nodes object) }
-    ensures memory { (o : Options) → IfErr result (PutsButForMemory o tree.old.nodes object) }
+    ensures memory { (o : Options) → IfErr result (WantsMemoryAlone o tree.old.nodes object) }
     ensures held { IfOk result (λ p. IsNodeOf tree.new.nodes (object_prop_node p)) }
     ensures stays { StillNodes tree.old.nodes tree.new.nodes }
     ensures document { OnErr result (ordered_tree tree.new.nodes 0 ≡ ordered_tree tree.old.nodes 0) }
@@ -139,10 +144,12 @@ pub trait InsertProperty: IsNode {
             → OnOk result
             (IsNamedAtItsPath doc.old doc.new o (Self.node_of self) (element_count doc.old (Self.node_of self))
             (chars name.now) (plain value)) }
+        ensures step { OnOk result (IsAppendingNamed (nodes_of doc.old) (nodes_of doc.new) (number_of (Self.node_of self))
+            (chars name.now) (plain value)) }
         ensures others { OnOk result (KeepsOthers doc.old doc.new (Self.node_of self)) }
         ensures elsewhere { OnOk result (KeepsElsewhere doc.old doc.new (Self.node_of self)) }
         ensures told { IfErr result (IsShutFor doc.old (Self.node_of self)) }
-        ensures memory { (o : Options) → IfErr result (IsShutForMemory doc.old o (Self.node_of self)) }
+        ensures memory { (o : Options) → IfErr result (IsKeptForMemory doc.old o (Self.node_of self)) }
         ensures held { IfOk result (λ p. Holds doc.new (object_prop_node p)) }
         ensures stays { StillHolds doc.old doc.new }
         ensures document { OnErr result (tree_of doc.new ≡ tree_of doc.old) }
@@ -155,9 +162,10 @@ pub trait InsertProperty: IsNode {
     /// own, one level deeper than the object's; a comma comes between it and its neighbours, and behind it
     /// where the object's last property has one, or where the document's other containers on several lines
     /// do; blank lines directly inside the brackets leave. Comments stay where they are. An object that
-    /// lacks a bracket, which is so only after edits of single leaves, is `MissingBrackets`. If the document
-    /// is sound, it is sound again, and its value is the old one with this property in the object. A refusal
-    /// leaves the document as it was.
+    /// lacks a bracket, which is so only after edits of single leaves, is `MissingBrackets`, and none that
+    /// stands in a sound document. If the document is sound, it is sound again, and its value is the old one
+    /// with this property in the object: if the object stands in it, the call is one step, the edit that
+    /// inserts the property at the object's path. A refusal leaves the document as it was.
     fn insert<A: Allocator + Copy>(
         self,
         doc: &mut CstRootNode<A>,
@@ -172,10 +180,12 @@ pub trait InsertProperty: IsNode {
         ensures written { (o : Options)
             → OnOk result
             (IsNamedAtItsPath doc.old doc.new o (Self.node_of self) index (chars name.now) (plain value)) }
+        ensures step { OnOk result (IsInsertingNamed (nodes_of doc.old) (nodes_of doc.new) (number_of (Self.node_of self))
+            index (chars name.now) (plain value)) }
         ensures others { OnOk result (KeepsOthers doc.old doc.new (Self.node_of self)) }
         ensures elsewhere { OnOk result (KeepsElsewhere doc.old doc.new (Self.node_of self)) }
         ensures told { IfErr result (IsShutFor doc.old (Self.node_of self)) }
-        ensures memory { (o : Options) → IfErr result (IsShutForMemory doc.old o (Self.node_of self)) }
+        ensures memory { (o : Options) → IfErr result (IsKeptForMemory doc.old o (Self.node_of self)) }
         ensures held { IfOk result (λ p. Holds doc.new (object_prop_node p)) }
         ensures stays { StillHolds doc.old doc.new }
         ensures document { OnErr result (tree_of doc.new ≡ tree_of doc.old) }

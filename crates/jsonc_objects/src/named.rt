@@ -6,14 +6,14 @@ ghost use Rattle.jsonc_tree.specs.Content.{Content};
 ghost use Rattle.jsonc_tree.specs.OrderedTree.{ordered_tree};
 ghost use Rattle.jsonc_tree.specs.Tree.{content_at, IsTree};
 ghost use Rattle.jsonc_named.specs.Named.{IsUnensured};
-ghost use Rattle.jsonc_cst.specs.Document.{tree_of, Holds};
-ghost use Rattle.jsonc_cst.specs.Nodes.{array_node, object_node, IsNodeOf};
+ghost use Rattle.jsonc_cst.specs.Document.{nodes_of, tree_of, Holds};
+ghost use Rattle.jsonc_cst.specs.Nodes.{array_node, number_of, object_node, IsNodeOf};
 ghost use Rattle.jsonc_cst.specs.Tree.{NodesAreTree};
 ghost use Rattle.jsonc_typed.specs.Edits.{KeepsElsewhere, StaysElsewhere, StillHolds, StillNodes};
-ghost use Rattle.jsonc_typed.specs.Inserting.{IsShutForMemory, PutsButForMemory};
+ghost use Rattle.jsonc_typed.specs.Removing.{IsKeptForMemory, WantsMemoryAlone};
 ghost use Rattle.jsonc_objects.specs.Named.{ArrayEnsured, NamedIsWritten, ObjectEnsured};
 ghost use Rattle.jsonc_objects.specs.Named.{HasEnsuredArray, HasEnsuredObject, HasSetArray, HasSetObject};
-ghost use Rattle.jsonc_objects.specs.Named.{HasWrittenNamed, IsUnensuredIn};
+ghost use Rattle.jsonc_objects.specs.Named.{HasWrittenNamed, IsEnsuringNamed, IsUnensuredIn};
 
 use crate::members::object_number;
 use jsonc_cst::cst::{CstArray, CstObject, CstRootNode, EditError, IsNode};
@@ -35,9 +35,11 @@ fn ensure_object<A: Allocator + Copy>(
     ensures ensured { IfOk result (ObjectEnsured tree.old.nodes tree.new.nodes over object (chars name.now)) }
     ensures written { (o : Options)
         → OnOk result (NamedIsWritten tree.old.nodes tree.new.nodes o object (chars name.now) Shape.Object over) }
+    ensures step { OnOk result
+        (IsEnsuringNamed tree.old.nodes tree.new.nodes object (chars name.now) Shape.Object over) }
     ensures elsewhere { OnOk result (StaysElsewhere tree.old.nodes tree.new.nodes object) }
     ensures told { IfErr result (IsUnensured over tree.old.nodes object (chars name.now)) }
-    ensures memory { (o : Options) → IfErr result (PutsButForMemory o tree.old.nodes object) }
+    ensures memory { (o : Options) → IfErr result (WantsMemoryAlone o tree.old.nodes object) }
     ensures held { IfOk result (λ a. IfSome a (λ x. IsNodeOf tree.new.nodes (object_node x))) }
     ensures stays { StillNodes tree.old.nodes tree.new.nodes }
     ensures document { OnErr result (ordered_tree tree.new.nodes 0 ≡ ordered_tree tree.old.nodes 0) }
@@ -65,9 +67,11 @@ fn set_object<A: Allocator + Copy>(
     ensures written { (o : Options)
         → OnOk result
         (NamedIsWritten tree.old.nodes tree.new.nodes o object (chars name.now) Shape.Object Over.Replace) }
+    ensures step { OnOk result
+        (IsEnsuringNamed tree.old.nodes tree.new.nodes object (chars name.now) Shape.Object Over.Replace) }
     ensures elsewhere { OnOk result (StaysElsewhere tree.old.nodes tree.new.nodes object) }
     ensures told { IfErr result (IsUnensured Over.Replace tree.old.nodes object (chars name.now)) }
-    ensures memory { (o : Options) → IfErr result (PutsButForMemory o tree.old.nodes object) }
+    ensures memory { (o : Options) → IfErr result (WantsMemoryAlone o tree.old.nodes object) }
     ensures held { IfOk result (λ x. IsNodeOf tree.new.nodes (object_node x)) }
     ensures stays { StillNodes tree.old.nodes tree.new.nodes }
     ensures document { OnErr result (ordered_tree tree.new.nodes 0 ≡ ordered_tree tree.old.nodes 0) }
@@ -93,9 +97,11 @@ fn ensure_array<A: Allocator + Copy>(
     ensures ensured { IfOk result (ArrayEnsured tree.old.nodes tree.new.nodes over object (chars name.now)) }
     ensures written { (o : Options)
         → OnOk result (NamedIsWritten tree.old.nodes tree.new.nodes o object (chars name.now) Shape.Array over) }
+    ensures step { OnOk result
+        (IsEnsuringNamed tree.old.nodes tree.new.nodes object (chars name.now) Shape.Array over) }
     ensures elsewhere { OnOk result (StaysElsewhere tree.old.nodes tree.new.nodes object) }
     ensures told { IfErr result (IsUnensured over tree.old.nodes object (chars name.now)) }
-    ensures memory { (o : Options) → IfErr result (PutsButForMemory o tree.old.nodes object) }
+    ensures memory { (o : Options) → IfErr result (WantsMemoryAlone o tree.old.nodes object) }
     ensures held { IfOk result (λ a. IfSome a (λ x. IsNodeOf tree.new.nodes (array_node x))) }
     ensures stays { StillNodes tree.old.nodes tree.new.nodes }
     ensures document { OnErr result (ordered_tree tree.new.nodes 0 ≡ ordered_tree tree.old.nodes 0) }
@@ -123,9 +129,11 @@ fn set_array<A: Allocator + Copy>(
     ensures written { (o : Options)
         → OnOk result
         (NamedIsWritten tree.old.nodes tree.new.nodes o object (chars name.now) Shape.Array Over.Replace) }
+    ensures step { OnOk result
+        (IsEnsuringNamed tree.old.nodes tree.new.nodes object (chars name.now) Shape.Array Over.Replace) }
     ensures elsewhere { OnOk result (StaysElsewhere tree.old.nodes tree.new.nodes object) }
     ensures told { IfErr result (IsUnensured Over.Replace tree.old.nodes object (chars name.now)) }
-    ensures memory { (o : Options) → IfErr result (PutsButForMemory o tree.old.nodes object) }
+    ensures memory { (o : Options) → IfErr result (WantsMemoryAlone o tree.old.nodes object) }
     ensures held { IfOk result (λ x. IsNodeOf tree.new.nodes (array_node x)) }
     ensures stays { StillNodes tree.old.nodes tree.new.nodes }
     ensures document { OnErr result (ordered_tree tree.new.nodes 0 ≡ ordered_tree tree.old.nodes 0) }
@@ -144,7 +152,8 @@ pub trait EnsureProperty: IsNode {
     /// an empty object comes behind the last, as by [`crate::InsertProperty::append`], and that value is
     /// answered; where the value is another, or missing, the answer is None, and nothing changes.
     ///
-    /// An object into which a property is to come, and that lacks a bracket, which is so only after edits of
+    /// Of an object that stands in a sound document the call is one step, and only memory is wanted. An
+    /// object into which a property is to come, and that lacks a bracket, which is so only after edits of
     /// single leaves, is `MissingBrackets`. A refusal leaves the document as it was.
     fn object_value_or_create<A: Allocator + Copy>(
         self,
@@ -157,9 +166,11 @@ pub trait EnsureProperty: IsNode {
         ensures written { (o : Options)
             → OnOk result
             (HasWrittenNamed doc.old doc.new o (Self.node_of self) (chars name.now) Shape.Object Over.Keep) }
+        ensures step { OnOk result (IsEnsuringNamed (nodes_of doc.old) (nodes_of doc.new) (number_of (Self.node_of self))
+            (chars name.now) Shape.Object Over.Keep) }
         ensures elsewhere { OnOk result (KeepsElsewhere doc.old doc.new (Self.node_of self)) }
         ensures told { IfErr result (IsUnensuredIn doc.old Over.Keep (Self.node_of self) (chars name.now)) }
-        ensures memory { (o : Options) → IfErr result (IsShutForMemory doc.old o (Self.node_of self)) }
+        ensures memory { (o : Options) → IfErr result (IsKeptForMemory doc.old o (Self.node_of self)) }
         ensures held { IfOk result (λ a. IfSome a (λ x. Holds doc.new (object_node x))) }
         ensures stays { StillHolds doc.old doc.new }
         ensures document { OnErr result (tree_of doc.new ≡ tree_of doc.old) }
@@ -169,7 +180,8 @@ pub trait EnsureProperty: IsNode {
     /// one is set, as by [`jsonc_typed::SetProperty`]; where no property has the name, one with an empty one comes
     /// behind the last, as by [`crate::InsertProperty::append`].
     ///
-    /// A property whose value is to be set, and that lacks its colon, is `MissingName`, and an object into
+    /// Of an object that stands in a sound document the call is one step, and only memory is wanted. A
+    /// property whose value is to be set, and that lacks its colon, is `MissingName`, and an object into
     /// which one is to come, and that lacks a bracket, `MissingBrackets`; both are so only after edits of
     /// single leaves. A refusal leaves the document as it was.
     fn object_value_or_set<A: Allocator + Copy>(
@@ -182,9 +194,11 @@ pub trait EnsureProperty: IsNode {
         ensures written { (o : Options)
             → OnOk result
             (HasWrittenNamed doc.old doc.new o (Self.node_of self) (chars name.now) Shape.Object Over.Replace) }
+        ensures step { OnOk result (IsEnsuringNamed (nodes_of doc.old) (nodes_of doc.new) (number_of (Self.node_of self))
+            (chars name.now) Shape.Object Over.Replace) }
         ensures elsewhere { OnOk result (KeepsElsewhere doc.old doc.new (Self.node_of self)) }
         ensures told { IfErr result (IsUnensuredIn doc.old Over.Replace (Self.node_of self) (chars name.now)) }
-        ensures memory { (o : Options) → IfErr result (IsShutForMemory doc.old o (Self.node_of self)) }
+        ensures memory { (o : Options) → IfErr result (IsKeptForMemory doc.old o (Self.node_of self)) }
         ensures held { IfOk result (λ x. Holds doc.new (object_node x)) }
         ensures stays { StillHolds doc.old doc.new }
         ensures document { OnErr result (tree_of doc.new ≡ tree_of doc.old) }
@@ -194,7 +208,8 @@ pub trait EnsureProperty: IsNode {
     /// an empty array comes behind the last, as by [`crate::InsertProperty::append`], and that value is
     /// answered; where the value is another, or missing, the answer is None, and nothing changes.
     ///
-    /// An object into which a property is to come, and that lacks a bracket, which is so only after edits of
+    /// Of an object that stands in a sound document the call is one step, and only memory is wanted. An
+    /// object into which a property is to come, and that lacks a bracket, which is so only after edits of
     /// single leaves, is `MissingBrackets`. A refusal leaves the document as it was.
     fn array_value_or_create<A: Allocator + Copy>(
         self,
@@ -206,9 +221,11 @@ pub trait EnsureProperty: IsNode {
         ensures written { (o : Options)
             → OnOk result
             (HasWrittenNamed doc.old doc.new o (Self.node_of self) (chars name.now) Shape.Array Over.Keep) }
+        ensures step { OnOk result (IsEnsuringNamed (nodes_of doc.old) (nodes_of doc.new) (number_of (Self.node_of self))
+            (chars name.now) Shape.Array Over.Keep) }
         ensures elsewhere { OnOk result (KeepsElsewhere doc.old doc.new (Self.node_of self)) }
         ensures told { IfErr result (IsUnensuredIn doc.old Over.Keep (Self.node_of self) (chars name.now)) }
-        ensures memory { (o : Options) → IfErr result (IsShutForMemory doc.old o (Self.node_of self)) }
+        ensures memory { (o : Options) → IfErr result (IsKeptForMemory doc.old o (Self.node_of self)) }
         ensures held { IfOk result (λ a. IfSome a (λ x. Holds doc.new (array_node x))) }
         ensures stays { StillHolds doc.old doc.new }
         ensures document { OnErr result (tree_of doc.new ≡ tree_of doc.old) }
@@ -218,7 +235,8 @@ pub trait EnsureProperty: IsNode {
     /// one is set, as by [`jsonc_typed::SetProperty`]; where no property has the name, one with an empty one comes
     /// behind the last, as by [`crate::InsertProperty::append`].
     ///
-    /// A property whose value is to be set, and that lacks its colon, is `MissingName`, and an object into
+    /// Of an object that stands in a sound document the call is one step, and only memory is wanted. A
+    /// property whose value is to be set, and that lacks its colon, is `MissingName`, and an object into
     /// which one is to come, and that lacks a bracket, `MissingBrackets`; both are so only after edits of
     /// single leaves. A refusal leaves the document as it was.
     fn array_value_or_set<A: Allocator + Copy>(
@@ -231,9 +249,11 @@ pub trait EnsureProperty: IsNode {
         ensures written { (o : Options)
             → OnOk result
             (HasWrittenNamed doc.old doc.new o (Self.node_of self) (chars name.now) Shape.Array Over.Replace) }
+        ensures step { OnOk result (IsEnsuringNamed (nodes_of doc.old) (nodes_of doc.new) (number_of (Self.node_of self))
+            (chars name.now) Shape.Array Over.Replace) }
         ensures elsewhere { OnOk result (KeepsElsewhere doc.old doc.new (Self.node_of self)) }
         ensures told { IfErr result (IsUnensuredIn doc.old Over.Replace (Self.node_of self) (chars name.now)) }
-        ensures memory { (o : Options) → IfErr result (IsShutForMemory doc.old o (Self.node_of self)) }
+        ensures memory { (o : Options) → IfErr result (IsKeptForMemory doc.old o (Self.node_of self)) }
         ensures held { IfOk result (λ x. Holds doc.new (array_node x)) }
         ensures stays { StillHolds doc.old doc.new }
         ensures document { OnErr result (tree_of doc.new ≡ tree_of doc.old) }

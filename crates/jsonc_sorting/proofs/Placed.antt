@@ -10,7 +10,12 @@ use Rattle.jsonc_sort.specs.Sorting.{Headers}
 use Rattle.jsonc_sort.proofs.AtPaths.{sorts_at}
 use Rattle.jsonc_sort.proofs.Orders.{few_stay}
 use Rattle.jsonc_sort.proofs.SortedDocuments.{keeps_outside, sorts_document}
+use Rattle.jsonc_cst.specs.Below.edit.Paths.{IsAt}
+use Rattle.jsonc_typed.specs.Below.promise.Steps.{IsStep}
+use Rattle.jsonc_typed.specs.Below.run.Edits.{rearrange}
 use Rattle.jsonc_typed.specs.Edits.{StaysElsewhere}
+use Rattle.jsonc_typed.proofs.Below.commas.Holders.{holder_path}
+use Rattle.jsonc_typed.proofs.Below.promise.Stepping.{made_step}
 use Rattle.jsonc_typed.proofs.Elsewhere.{row_elsewhere}
 use Rattle.jsonc_typed.proofs.Kept.{Stays, stay_both, stay_kept, stay_same, stay_spliced}
 use Rattle.jsonc_sorting.specs.Sorted.{IsPlaced, SortsAtItsPath}
@@ -28,8 +33,12 @@ module _ (old new : List Node) (c : ℕ) (h : Headers) (order : List ℕ) (befor
         | inr other ↦ ap (λ (ns : List Node). ordered_tree ns 0) (made.was other)
       ]
 
+  step : Rearranged old new c h order → IsStep IsAt (λ path. rearrange path h order) old new c
+  step made =
+      made_step old new before after IsAt (λ path. rearrange path h order) c (λ path. tt) (λ o sound over. holder_path o old before sound c over holds) (λ path over at. (c, (at, holds), all, made))
+
   pub is_placed : Rearranged old new c h order → IsPlaced old new c h order
-  is_placed made = record { all = all; made = made; few = λ less. few_stay old new c h order less all made; elsewhere = elsewhere made; written = written made }
+  is_placed made = record { all = all; made = made; few = λ less. few_stay old new c h order less all made; elsewhere = elsewhere made; written = written made; step = step made }
 
   pub rearranged_stays : Rearranged old new c h order → Stays old new
   rearranged_stays made =

@@ -6,6 +6,8 @@ use Rattle.jsonc_tree.specs.Tree.{Node}
 use Rattle.jsonc_nodes.specs.Siblings.{elements_at}
 use Rattle.jsonc_laws.specs.SoundTrees.{SoundTree}
 use Rattle.jsonc_cst.specs.Below.edit.Paths.{IsAt}
+use Rattle.jsonc_typed.specs.Below.promise.Steps.{IsStep}
+use Rattle.jsonc_typed.specs.Below.run.Edits.{rearrange}
 use Rattle.jsonc_typed.specs.Edits.{StaysElsewhere}
 use Rattle.jsonc_sort.specs.Paths.{KeepsOutside, SaysSorted, SortedAt}
 use Rattle.jsonc_sort.specs.Rearranged.{IsOrderIn, Rearranged, headers_of}
@@ -32,13 +34,14 @@ SortsAtItsPath o old new c order =
     SoundTree o (ordered_tree old 0) → (path : List ℕ) → IsAt old path c → IsSortedAt o path order (ordered_tree old 0) (ordered_tree new 0)
 
 -- The elements of c have come in the order, with what belongs to them; where there are less than two, no node has changed, and where c does not stand in the
--- document, nothing of this has.
+-- document, nothing of this has. Where it does, that is one step.
 pub record IsPlaced (old new : List Node) (c : ℕ) (h : Headers) (order : List ℕ) : Type 0 where
   pub all : IsOrderIn old c order
   pub made : Rearranged old new c h order
   pub few : length (elements_at old c) < 2 → new ≡ old
   pub elsewhere : StaysElsewhere old new c
   pub written : (o : Options) → SortsAtItsPath o old new c order
+  pub step : IsStep IsAt (λ path. rearrange path h order) old new c
 
 -- they have come in an order that is wanted
 pub record HasSorted {A : Type 0} (old new : CstRootNode A) (node : CstNode) (h : Headers) (IsWanted : List ℕ → Type 0) : Type 0 where

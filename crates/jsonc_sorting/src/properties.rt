@@ -93,7 +93,8 @@ impl<H: Drop> PropertySort<H> {
     /// Properties that compare equal stay in their order. What belongs to a property goes with it: its comma,
     /// the comments behind it on its line, and those above it that are not pinned. Where the order is the
     /// old one, or a bracket is missing, nothing changes. If the document is sound, it is sound again, its
-    /// value has the properties in their order, and every comment is there as often. Only memory is ever
+    /// value has the properties in their order, and every comment is there as often: if the object stands
+    /// in it, the call is one step, the edit that rearranges what stands at its path. Only memory is ever
     /// wanted, and then the document is what it was.
     pub fn by<
         A: Allocator + Copy,

@@ -1,5 +1,5 @@
 -- Elements that have come into arrays: what the new node is, and which nodes stay.
-use Rattle.std.proofs.Common.{◌≡◌, ℕ, ◌<◌, ◌≤◌, true, not, List, length, min, Result, Ok, Err, OnOk, IfOk, refl, sym, subst, ◌∙◌, arith}
+use Rattle.std.proofs.Common.{◌≡◌, ℕ, ◌<◌, ◌≤◌, true, not, List, length, min, Result, Ok, Err, OnOk, IfOk, refl, sym, ap, subst, ◌∙◌, arith}
 use Rattle.std.proofs.Math.Nat.{min-eq_right}
 use Rattle.std.proofs.lemmas.List.Filters.{length-filter_both}
 use Rattle.jsonc_text.specs.Options.{Options}
@@ -10,6 +10,8 @@ use Rattle.jsonc_tree.specs.Tree.{Node, children_at, content_at, IsTree}
 use Rattle.jsonc_tree.proofs.Order.{parent_there}
 use Rattle.jsonc_nodes.specs.Kinds.{is_element_at}
 use Rattle.jsonc_nodes.specs.Siblings.{elements_at}
+use Rattle.jsonc_lines.specs.Kinds.{holds_values}
+use Rattle.jsonc_commas.proofs.Holders.{holder_path}
 use Rattle.jsonc_edit.specs.Paths.{IsElementOf}
 use Rattle.jsonc_edit.proofs.Uniqueness.{element_parent}
 use Rattle.jsonc_edit.specs.declared.error.EditError.{EditError}
@@ -23,7 +25,8 @@ use Rattle.jsonc_cst.specs.Nodes.{number_of}
 use Rattle.jsonc_insertion_laws.proofs.Comes.{elements_come_at}
 use Rattle.jsonc_insertion_laws.proofs.Containers.{wants_memory_alone}
 use Rattle.jsonc_insertion_laws.proofs.Written.{inserts_element}
-use Rattle.jsonc_typed.specs.Inserting.{ComesInAt, PutsAtItsPath, PutsButForMemory, StandsAt}
+use Rattle.jsonc_typed.specs.Inserting.{ComesInAt, PutsAtItsPath, StandsAt}
+use Rattle.jsonc_typed.specs.Removing.{WantsMemoryAlone}
 use Rattle.jsonc_typed.proofs.Kept.{Stays, stay_both, stay_kept, stay_spliced}
 
 module _ (old new : List Node) (c i : ℕ) (v : Plain) (m : ℕ) (tree : IsTree old) (there : c < length old) (brackets : has_brackets old (children_at old c) ≡ true) (e : ElementPut old new c i v m) where
@@ -45,8 +48,10 @@ module _ (old new : List Node) (c : ℕ) (v : Plain) (tree : IsTree old) (is : c
       let come = elements_come_at o old new path c i v m tree sound at is e in
       record { come = come; is = inserts_element o path i v (ordered_tree old 0) (ordered_tree new 0) come sound may }
 
-  pub put_for_memory : (o : Options) (e : EditError) → e ≡ refusal old c → PutsButForMemory o old c e
-  put_for_memory o e told = λ sound path at. told ∙ wants_memory_alone o old path c tree sound at is
+  pub put_for_memory : (o : Options) (e : EditError) → e ≡ refusal old c → WantsMemoryAlone o old c e
+  put_for_memory o e told = λ sound over.
+      let place = holder_path o old tree sound c over (ap holds_values is) in
+      told ∙ wants_memory_alone o old place.0 c tree sound place.1 is
 
 -- a container has no more elements than children
 fewer : (ns : List Node) (c : ℕ) → length (elements_at ns c) ≤ length (children_at ns c)

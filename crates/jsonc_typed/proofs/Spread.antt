@@ -9,6 +9,7 @@ use Rattle.jsonc_tree.specs.Tree.{Node, content_at, IsTree}
 use Rattle.jsonc_lines.specs.Kinds.{holds_values}
 use Rattle.jsonc_edit.specs.declared.error.EditError.{EditError}
 use Rattle.jsonc_edit.specs.declared.error.EditError.TheVariants.{OutOfMemory, MissingBrackets, MissingName, NoSuchPlace}
+use Rattle.jsonc_commas.proofs.Holders.{holder_path}
 use Rattle.jsonc_insertion_laws.specs.Below.multiline.Multiline.{has_line_end, IsUnspread, MadeMultiline}
 use Rattle.jsonc_insertion_laws.proofs.Below.multiline.Documents.{spread_at}
 use Rattle.jsonc_insertion_laws.proofs.Below.multiline.LineEnds.{has_end, has_its_brackets}
@@ -16,7 +17,8 @@ use Rattle.jsonc_insertion_laws.proofs.Below.multiline.SameDocument.{keeps_docum
 use Rattle.jsonc_cst.specs.declared.cst.node.CstArray.{CstArray}
 use Rattle.jsonc_cst.specs.declared.cst.node.CstObject.{CstObject}
 use Rattle.jsonc_cst.specs.Nodes.{array_node, object_node, typed}
-use Rattle.jsonc_typed.specs.Lines.{SpreadsAtItsPath, SpreadsButForMemory}
+use Rattle.jsonc_typed.specs.Lines.{SpreadsAtItsPath}
+use Rattle.jsonc_typed.specs.Removing.{WantsMemoryAlone}
 use Rattle.jsonc_typed.proofs.Kept.{Stays, stay_both, stay_kept, stay_same, stay_spliced}
 
 -- an array or object holds values
@@ -49,15 +51,16 @@ module _ (old new : List Node) (n : ℕ) (before : IsTree old) (after : IsTree n
   on_lines (Ok x) made = has_end old new n before made
   on_lines (Err e) made = tt
 
-  memory_alone : (o : Options) (e : EditError) → IsUnspread old n e → SpreadsButForMemory o old n e
-  memory_alone o OutOfMemory why = λ sound path at. refl
-  memory_alone o MissingBrackets why = λ sound path at.
-      let has = has_its_brackets o old path n before sound at holds in
+  memory_alone : (o : Options) (e : EditError) → IsUnspread old n e → WantsMemoryAlone o old n e
+  memory_alone o OutOfMemory why = λ sound over. refl
+  memory_alone o MissingBrackets why = λ sound over.
+      let place = holder_path o old before sound n over holds in
+      let has = has_its_brackets o old place.0 n before sound place.1 holds in
       absurd (contradicts _ has why)
   memory_alone o MissingName why = absurd why
   memory_alone o NoSuchPlace why = absurd why
 
-  pub but_for_memory : {T : Type 0} (o : Options) (r : Result T EditError) → IfErr r (IsUnspread old n) → IfErr r (SpreadsButForMemory o old n)
+  pub but_for_memory : {T : Type 0} (o : Options) (r : Result T EditError) → IfErr r (IsUnspread old n) → IfErr r (WantsMemoryAlone o old n)
   but_for_memory o (Ok x) why = tt
   but_for_memory o (Err e) why = memory_alone o e why
 

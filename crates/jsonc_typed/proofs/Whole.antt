@@ -1,5 +1,5 @@
 -- What no node of a document of the grammar's shape lacks: an array or object its brackets, and a property its name and its colon.
-use Rattle.std.proofs.Common.{◌≡◌, ℕ, zero, suc, ◌<◌, ◌||◌, ◌&&◌, Bool, true, false, cond, not, List, [], ◌∷◌, ◌++◌, length, slice_index, Some, None, inl, inr, IsTrue, reverse, refl, sym, ap, subst, ◌∙◌, arith, Result, Ok, Err, IfErr}
+use Rattle.std.proofs.Common.{◌≡◌, ℕ, zero, suc, ◌<◌, ◌||◌, ◌&&◌, Bool, true, false, cond, not, List, [], ◌∷◌, ◌++◌, length, filter, slice_get, slice_index, Some, None, inl, inr, IsTrue, reverse, refl, sym, ap, subst, ◌∙◌, arith, Result, Ok, Err, IfErr}
 use Rattle.std.proofs.lemmas.List.{reverse-append}
 use Rattle.std.specs.List.{list_any}
 use Rattle.std.proofs.lemmas.Bool.{cases_Bool, false≢true}
@@ -12,7 +12,7 @@ use Rattle.jsonc_tree.specs.Values.{is_passed_over}
 use Rattle.jsonc_tree.proofs.Order.{parent_there}
 use Rattle.jsonc_tree.proofs.OrderedTrees.{Shows-unique}
 use Rattle.jsonc_build.specs.Shape.{IsLiteralBefore, IsNameBefore, Trivia, nothing, trivia, token_then, printed_text, ValueShaped, PropertyShaped, DocumentShaped}
-use Rattle.jsonc_nodes.specs.Kinds.{is_colon, is_colon_at}
+use Rattle.jsonc_nodes.specs.Kinds.{is_colon, is_colon_at, is_element, is_element_at}
 use Rattle.jsonc_nodes.specs.Properties.{is_name, is_name_at, behind_first, lacks_name_at}
 use Rattle.jsonc_lines.specs.Kinds.{holds_values}
 use Rattle.jsonc_laws.specs.Alone as alone
@@ -22,6 +22,7 @@ use Rattle.jsonc_laws.specs.SoundTrees.{SoundTree}
 use Rattle.jsonc_laws.specs.TreeChanges.{IsElement}
 use Rattle.jsonc_laws.proofs.Apart.{value_alone}
 use Rattle.jsonc_edit.specs.Changes.{row_below}
+use Rattle.jsonc_edit.specs.Paths.{IsElementOf}
 use Rattle.jsonc_edit.specs.declared.error.EditError.{EditError}
 use Rattle.jsonc_edit.specs.declared.error.EditError.TheVariants.{OutOfMemory, MissingBrackets, MissingName, NoSuchPlace}
 use Rattle.jsonc_edit.proofs.Entries.{Entry, this, behind_passed, behind_element, Passed, IsAnyValue, IsAnyProperty, not_both, passed_leaf, no_entry, entry_property, entry_value, entry_document}
@@ -222,6 +223,26 @@ module _ (o : Options) (ns : List Node) (tree : IsTree ns) (sound : SoundTree o 
       ap (λ l. not (list_any (is_colon_at ns) (behind_first (is_name_at ns) l))) f.split
       ∙ ap (λ b. not (list_any (is_colon_at ns) (cond b f.rest (behind_first (is_name_at ns) f.rest)))) is
       ∙ ap not (colon_behind before (λ ys g. colon_here ys u g) f.rest f.shown)
+
+  -- the first element of a property is a string or a word
+  row_named : (r n : ℕ) (row : OrderedTree) (rest : List ℕ) → Shows ns (children_at ns r) row → PropertyShaped o row rest → IsElementOf ns r 0 n → is_name (content_at ns n) ≡ true
+  row_named r n _ rest shows (PropertyShaped.named {name = name} {after = after} {u = u} named before between value) element =
+      let f = first_shown ns shows in
+      let kind = name_element o name (printed_text after) named in
+      let one : is_element_at ns f.first ≡ true = ap is_element f.is ∙ kind.1 in
+      let same : Some f.first ≡ Some n = sym (ap (λ l. slice_get (filter (is_element_at ns) l) 0) f.split ∙ ap (λ b. slice_get (cond b (f.first ∷ filter (is_element_at ns) f.rest) (filter (is_element_at ns) f.rest)) 0) one) ∙ element in
+      let it : f.first ≡ n = cc in
+      ap is_name (ap (content_at ns) (sym it) ∙ f.is) ∙ kind.0
+
+  named_by : (r n : ℕ) → r < length ns → content_at ns r ≡ property → IsElementOf ns r 0 n → Shaped o ns r → is_name (content_at ns n) ≡ true
+  named_by r n there is element (a_root e) = absurd (let wrong : root ≡ property = sym (ap (content_at ns) e ∙ tree.root_first) ∙ is in cc)
+  named_by r n there is element (a_value v) = absurd (no_property_value o (content_at ns r) (row_below ns r) v.0 is v.1)
+  named_by r n there is element (a_property same shape) = row_named r n (row_below ns r) shape.0 (Shows-row_below ns tree r there) shape.1 element
+  named_by r n there is element (a_name other bare) = absurd (other is)
+  named_by r n there is element (a_leaf h) = absurd (false≢true (sym (ap is_passed_over is) ∙ h))
+
+  pub name_kind : (r n : ℕ) → IsOver ns 0 r → r < length ns → content_at ns r ≡ property → IsElementOf ns r 0 n → is_name (content_at ns n) ≡ true
+  name_kind r n over there is element = named_by r n there is element (all_shaped o ns tree sound.shaped r over)
 
   name_by : (n : ℕ) → n < length ns → content_at ns n ≡ property → Shaped o ns n → lacks_name_at ns n ≡ false
   name_by n there is (a_root e) = absurd (let wrong : root ≡ property = sym (ap (content_at ns) e ∙ tree.root_first) ∙ is in cc)

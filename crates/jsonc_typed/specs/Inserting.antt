@@ -9,7 +9,6 @@ use Rattle.jsonc_laws.specs.SoundTrees.{SoundTree}
 use Rattle.jsonc_edit.specs.Paths.{IsAt, IsElementOf}
 use Rattle.jsonc_edit.specs.Writing.{IsWritable}
 use Rattle.jsonc_edit.specs.declared.error.EditError.{EditError}
-use Rattle.jsonc_edit.specs.declared.error.EditError.TheVariants.{OutOfMemory}
 use Rattle.jsonc_insertion_laws.specs.Below.insert.Inserted.{refusal, ElementPut}
 use Rattle.jsonc_insertion_laws.specs.Below.insert.Laws.{KeepsNodesBut}
 use Rattle.jsonc_insertion_laws.specs.Laws.{ElementComesAt, IsInserted}
@@ -37,10 +36,6 @@ abbrev pub PutsAtItsPath : Options → List Node → List Node → ℕ → ℕ �
 PutsAtItsPath o old new c i v =
     SoundTree o (ordered_tree old 0) → IsWritable o v → (path : List ℕ) → IsAt old path c → IsPutIn o path i v (ordered_tree old 0) (ordered_tree new 0)
 
--- and there only memory has been wanted
-abbrev pub PutsButForMemory : Options → List Node → ℕ → EditError → Type 0
-PutsButForMemory o ns c e = SoundTree o (ordered_tree ns 0) → (path : List ℕ) → IsAt ns path c → e ≡ OutOfMemory
-
 -- the same of a document
 module _ {A : Type 0} (old new : CstRootNode A) where
   abbrev pub HasComeIn : CstNode → ℕ → Plain → CstNode → Type 0
@@ -63,6 +58,3 @@ element_count d node = length (elements_at (nodes_of d) (number_of node))
 -- why nothing has come in
 abbrev pub IsShutFor : {A : Type 0} → CstRootNode A → CstNode → EditError → Type 0
 IsShutFor d node e = e ≡ refusal (nodes_of d) (number_of node)
-
-abbrev pub IsShutForMemory : {A : Type 0} → CstRootNode A → Options → CstNode → EditError → Type 0
-IsShutForMemory d o node e = PutsButForMemory o (nodes_of d) (number_of node) e

@@ -7,4 +7,6 @@ pub mod Marked
 pub mod Raw
 pub mod Removing
 pub mod Setting
+pub mod Steps
 pub mod Values
+pub mod Below

@@ -6,7 +6,6 @@ use Rattle.jsonc_tree.specs.Tree.{Node}
 use Rattle.jsonc_laws.specs.SoundTrees.{SoundTree}
 use Rattle.jsonc_edit.specs.Paths.{IsAt}
 use Rattle.jsonc_edit.specs.declared.error.EditError.{EditError}
-use Rattle.jsonc_edit.specs.declared.error.EditError.TheVariants.{OutOfMemory}
 use Rattle.jsonc_insertion_laws.specs.Below.multiline.Laws.{SaysTheSame, SpreadAt}
 use Rattle.jsonc_insertion_laws.specs.Below.multiline.Multiline.{has_line_end, IsUnspread, MadeMultiline}
 use Rattle.jsonc_cst.specs.declared.cst.CstRootNode.{CstRootNode}
@@ -24,10 +23,6 @@ abbrev pub SpreadsAtItsPath : Options → List Node → List Node → ℕ → Ty
 SpreadsAtItsPath o old new n =
     SoundTree o (ordered_tree old 0) → (path : List ℕ) → IsAt old path n → IsSpreadOut o path (ordered_tree old 0) (ordered_tree new 0)
 
--- and there only memory has been wanted
-abbrev pub SpreadsButForMemory : Options → List Node → ℕ → EditError → Type 0
-SpreadsButForMemory o ns n e = SoundTree o (ordered_tree ns 0) → (path : List ℕ) → IsAt ns path n → e ≡ OutOfMemory
-
 module _ {A : Type 0} where
   -- the node has been put on several lines, or was on several
   abbrev pub HasSpreadOut : CstRootNode A → CstRootNode A → CstNode → Type 0
@@ -43,6 +38,3 @@ module _ {A : Type 0} where
   -- why it has not been put on several lines
   abbrev pub StaysUnspread : CstRootNode A → CstNode → EditError → Type 0
   StaysUnspread d node e = IsUnspread (nodes_of d) (number_of node) e
-
-  abbrev pub LacksMemoryAlone : CstRootNode A → Options → CstNode → EditError → Type 0
-  LacksMemoryAlone d o node e = SpreadsButForMemory o (nodes_of d) (number_of node) e

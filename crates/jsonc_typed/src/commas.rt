@@ -3,10 +3,12 @@
 ghost use Rattle.std.specs.Prelude.{◌≡◌, ◌<◌, IfErr, OnErr, OnOk, length};
 ghost use Rattle.jsonc_text.specs.Options.{Options};
 ghost use Rattle.jsonc_tree.specs.Tree.{IsTree};
-ghost use Rattle.jsonc_cst.specs.Document.{Holds};
+ghost use Rattle.jsonc_cst.specs.Document.{nodes_of, Holds};
+ghost use Rattle.jsonc_cst.specs.Nodes.{number_of, typed_at};
 ghost use Rattle.jsonc_cst.specs.Tree.{NodesAreTree};
 ghost use Rattle.jsonc_typed.specs.Commas.{CommasSet, CommasSetInPart, CommasStand, CommasWritten};
 ghost use Rattle.jsonc_typed.specs.Commas.{HasCommasAsSet, HasSetCommas, HasSetCommasInPart, HasWrittenCommas};
+ghost use Rattle.jsonc_typed.specs.Steps.{IsHolder, IsSettingCommas, IsSettingSomeCommas};
 ghost use Rattle.jsonc_typed.specs.Edits.{KeepsElsewhere, StaysElsewhere, StillHolds, StillNodes};
 
 use jsonc_cst::cst::{
@@ -26,7 +28,11 @@ fn set_commas<A: Allocator>(
     ensures part { OnErr result (CommasSetInPart tree.old.nodes tree.new.nodes mode number) }
     ensures written { (o : Options) → CommasWritten tree.old.nodes tree.new.nodes mode o number }
     ensures stand { (o : Options) → OnOk result (CommasStand tree.old.nodes tree.new.nodes mode o number) }
-    ensures elsewhere { OnOk result (StaysElsewhere tree.old.nodes tree.new.nodes number) }
+    ensures step { OnOk result (IsHolder (typed_at tree.old.nodes number)
+        → IsSettingCommas tree.old.nodes tree.new.nodes mode number) }
+    ensures begun { OnErr result (IsHolder (typed_at tree.old.nodes number)
+        → IsSettingSomeCommas tree.old.nodes tree.new.nodes mode number) }
+    ensures elsewhere { StaysElsewhere tree.old.nodes tree.new.nodes number }
     ensures wanted { OnErr result (mode ≡ TrailingCommaMode.IfMultiline) }
     ensures memory { IfErr result (λ e. e ≡ EditError.OutOfMemory) }
     ensures stays { StillNodes tree.old.nodes tree.new.nodes }
@@ -48,10 +54,10 @@ pub trait SetTrailingCommas: IsNode {
     /// directly behind the last element or property of each array and object that has an end of a line
     /// among its children, where none stands there. If the document is sound, its text is a document
     /// again, of the same value and with the same literals and comments, and sound: under options that
-    /// allow trailing commas, where the mode sets some.
+    /// allow trailing commas, where the mode sets some. If the node stands in it, the call is one step.
     ///
     /// A comma that comes wants memory. Where it is refused, the commas of arrays and objects before have
-    /// been set, and nothing else has changed.
+    /// been set, and nothing else has changed: that too is a step.
     final fn set_trailing_commas<A: Allocator>(
         self,
         doc: &mut CstRootNode<A>,
@@ -62,7 +68,11 @@ pub trait SetTrailingCommas: IsNode {
         ensures part { OnErr result (HasSetCommasInPart doc.old doc.new mode (Self.node_of self)) }
         ensures written { (o : Options) → HasWrittenCommas doc.old doc.new mode o (Self.node_of self) }
         ensures stand { (o : Options) → OnOk result (HasCommasAsSet doc.old doc.new mode o (Self.node_of self)) }
-        ensures elsewhere { OnOk result (KeepsElsewhere doc.old doc.new (Self.node_of self)) }
+        ensures step { OnOk result (IsHolder (Self.node_of self)
+            → IsSettingCommas (nodes_of doc.old) (nodes_of doc.new) mode (number_of (Self.node_of self))) }
+        ensures begun { OnErr result (IsHolder (Self.node_of self)
+            → IsSettingSomeCommas (nodes_of doc.old) (nodes_of doc.new) mode (number_of (Self.node_of self))) }
+        ensures elsewhere { KeepsElsewhere doc.old doc.new (Self.node_of self) }
         ensures wanted { OnErr result (mode ≡ TrailingCommaMode.IfMultiline) }
         ensures memory { IfErr result (λ e. e ≡ EditError.OutOfMemory) }
         ensures stays { StillHolds doc.old doc.new }

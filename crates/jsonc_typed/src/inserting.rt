@@ -15,8 +15,9 @@ ghost use Rattle.jsonc_cst.specs.Nodes.{array_node, number_of, IsNodeOf};
 ghost use Rattle.jsonc_cst.specs.Tree.{NodesAreTree};
 ghost use Rattle.jsonc_typed.specs.Edits.{KeepsElsewhere, StaysElsewhere, StillHolds, StillNodes};
 ghost use Rattle.jsonc_typed.specs.Inserting.{element_count, ComesInAt, HasComeIn, IsItsElement, IsShutFor};
-ghost use Rattle.jsonc_typed.specs.Inserting.{IsPutAtItsPath, IsShutForMemory, KeepsOthers, PutsAtItsPath};
-ghost use Rattle.jsonc_typed.specs.Inserting.{PutsButForMemory, StandsAt};
+ghost use Rattle.jsonc_typed.specs.Inserting.{IsPutAtItsPath, KeepsOthers, PutsAtItsPath, StandsAt};
+ghost use Rattle.jsonc_typed.specs.Removing.{IsKeptForMemory, WantsMemoryAlone};
+ghost use Rattle.jsonc_typed.specs.Steps.{IsAppending, IsInserting};
 
 use jsonc_cst::cst::{CstArray, CstNode, CstRootNode, EditError, IsNode, node_at};
 use jsonc_input::CstInputValue;
@@ -48,11 +49,12 @@ fn insert_at<A: Allocator + Copy>(
     ensures element { IfOk result (StandsAt tree.old.nodes tree.new.nodes array index) }
     ensures written { (o : Options)
         → OnOk result (PutsAtItsPath o tree.old.nodes tree.new.nodes array index (plain value.now)) }
+    ensures step { OnOk result (IsInserting tree.old.nodes tree.new.nodes array index (plain value.now)) }
     ensures others { OnOk result (KeepsNodesBut tree.old.nodes tree.new.nodes array) }
     ensures elsewhere { OnOk result (StaysElsewhere tree.old.nodes tree.new.nodes array) }
     ensures brackets { OnOk result (has_brackets tree.old.nodes (children_at tree.old.nodes array) ≡ true) }
     ensures told { IfErr result (λ e. e ≡ refusal tree.old.nodes array) }
-    ensures memory { (o : Options) → IfErr result (PutsButForMemory o tree.old.nodes array) }
+    ensures memory { (o : Options) → IfErr result (WantsMemoryAlone o tree.old.nodes array) }
     ensures held { IfOk result (IsNodeOf tree.new.nodes) }
     ensures stays { StillNodes tree.old.nodes tree.new.nodes }
     ensures document { OnErr result (ordered_tree tree.new.nodes 0 ≡ ordered_tree tree.old.nodes 0) }
@@ -82,10 +84,11 @@ fn append_to<A: Allocator + Copy>(
         → OnOk result
         (PutsAtItsPath o tree.old.nodes tree.new.nodes array
         (length (elements_at tree.old.nodes array)) (plain value.now)) }
+    ensures step { OnOk result (IsAppending tree.old.nodes tree.new.nodes array (plain value.now)) }
     ensures others { OnOk result (KeepsNodesBut tree.old.nodes tree.new.nodes array) }
     ensures elsewhere { OnOk result (StaysElsewhere tree.old.nodes tree.new.nodes array) }
     ensures told { IfErr result (λ e. e ≡ refusal tree.old.nodes array) }
-    ensures memory { (o : Options) → IfErr result (PutsButForMemory o tree.old.nodes array) }
+    ensures memory { (o : Options) → IfErr result (WantsMemoryAlone o tree.old.nodes array) }
     ensures held { IfOk result (IsNodeOf tree.new.nodes) }
     ensures stays { StillNodes tree.old.nodes tree.new.nodes }
     ensures document { OnErr result (ordered_tree tree.new.nodes 0 ≡ ordered_tree tree.old.nodes 0) }
@@ -116,10 +119,12 @@ pub trait InsertElement: IsNode {
             → OnOk result
             (IsPutAtItsPath doc.old doc.new o (Self.node_of self)
             (element_count doc.old (Self.node_of self)) (plain value)) }
+        ensures step { OnOk result (IsAppending (nodes_of doc.old) (nodes_of doc.new) (number_of (Self.node_of self))
+            (plain value)) }
         ensures others { OnOk result (KeepsOthers doc.old doc.new (Self.node_of self)) }
         ensures elsewhere { OnOk result (KeepsElsewhere doc.old doc.new (Self.node_of self)) }
         ensures told { IfErr result (IsShutFor doc.old (Self.node_of self)) }
-        ensures memory { (o : Options) → IfErr result (IsShutForMemory doc.old o (Self.node_of self)) }
+        ensures memory { (o : Options) → IfErr result (IsKeptForMemory doc.old o (Self.node_of self)) }
         ensures held { IfOk result (Holds doc.new) }
         ensures stays { StillHolds doc.old doc.new }
         ensures document { OnErr result (tree_of doc.new ≡ tree_of doc.old) }
@@ -131,9 +136,10 @@ pub trait InsertElement: IsNode {
     /// The array tells how: on several lines the value comes on one of its own, one level deeper; a comma
     /// comes between it and its neighbours, and behind it where the array's last elements have one; blank
     /// lines directly inside the brackets leave. Comments stay where they are. An array that lacks a
-    /// bracket, which is so only after edits of single leaves, is `MissingBrackets`. If the document is
-    /// sound, it is sound again, and its value is the old one with this value in the array. A refusal leaves
-    /// the document as it was.
+    /// bracket, which is so only after edits of single leaves, is `MissingBrackets`, and none that stands in
+    /// a sound document. If the document is sound, it is sound again, and its value is the old one with this
+    /// value in the array: if the array stands in it, the call is one step, the edit that inserts the value
+    /// at the array's path. A refusal leaves the document as it was.
     fn insert<A: Allocator + Copy>(
         self,
         doc: &mut CstRootNode<A>,
@@ -145,10 +151,12 @@ pub trait InsertElement: IsNode {
         ensures element { IfOk result (IsItsElement doc.old doc.new (Self.node_of self) index) }
         ensures written { (o : Options)
             → OnOk result (IsPutAtItsPath doc.old doc.new o (Self.node_of self) index (plain value)) }
+        ensures step { OnOk result (IsInserting (nodes_of doc.old) (nodes_of doc.new) (number_of (Self.node_of self)) index
+            (plain value)) }
         ensures others { OnOk result (KeepsOthers doc.old doc.new (Self.node_of self)) }
         ensures elsewhere { OnOk result (KeepsElsewhere doc.old doc.new (Self.node_of self)) }
         ensures told { IfErr result (IsShutFor doc.old (Self.node_of self)) }
-        ensures memory { (o : Options) → IfErr result (IsShutForMemory doc.old o (Self.node_of self)) }
+        ensures memory { (o : Options) → IfErr result (IsKeptForMemory doc.old o (Self.node_of self)) }
         ensures held { IfOk result (Holds doc.new) }
         ensures stays { StillHolds doc.old doc.new }
         ensures document { OnErr result (tree_of doc.new ≡ tree_of doc.old) }

@@ -4,6 +4,11 @@
 //! what it makes of the document. Every node that the document held it holds after an edit too, also
 //! after a refusal (`specs/Edits.antt`): a node that has given way or left is nobody's child.
 //!
+//! Of a sound document each call is one step (`specs/Steps.antt`): if its node stands in the document,
+//! whatever text this shows, the edit that the call names, at the node's path, leads from that text to the
+//! one that the document shows then. So a list of calls is a list of steps, without a path in a premise. If
+//! the node stands elsewhere, as it has given way or left, the document is what it was.
+//!
 //! [`ReplaceWith`] and [`ReplaceProperty`] let a node give way to another, [`Remove`] and [`RemoveLeaf`]
 //! take one out, and [`SetRoot`], [`SetProperty`] and [`SetBoolean`] have what sets the document's value,
 //! that of a property, and a truth value; [`EnsureMultiline`] puts an array or object on several lines,

@@ -8,7 +8,8 @@ ghost use Rattle.jsonc_tree.specs.Tree.{parent_at, place_at, IsTree};
 ghost use Rattle.jsonc_edit.specs.Comments.{TakesOut, WantsSpace};
 ghost use Rattle.jsonc_remove.specs.Removed.{IsKeptFor, TakesElement};
 ghost use Rattle.jsonc_set.specs.Laws.{IsBareDocument};
-ghost use Rattle.jsonc_cst.specs.Document.{parent_of, tree_of, Holds};
+ghost use Rattle.jsonc_cst.specs.Document.{nodes_of, parent_of, tree_of, Holds};
+ghost use Rattle.jsonc_cst.specs.Nodes.{number_of, typed_at};
 ghost use Rattle.jsonc_cst.specs.Tree.{NodesAreTree};
 ghost use Rattle.jsonc_typed.specs.Edits.{HasGone, IsNobodys, IsUntouched, KeepsElsewhere, StaysElsewhere};
 ghost use Rattle.jsonc_typed.specs.Edits.{StillHolds, StillNodes};
@@ -17,6 +18,7 @@ ghost use Rattle.jsonc_typed.specs.Removing.{removal_of, IsCleared, IsKeptBy, Is
 ghost use Rattle.jsonc_typed.specs.Removing.{HasLeft, HasLeftAlone, IsKeptForMemory, IsKeptIn, IsLoose};
 ghost use Rattle.jsonc_typed.specs.Removing.{IsNobodysBy, LeavesAround, LeavesElsewhere, LeavesToNobody};
 ghost use Rattle.jsonc_typed.specs.Removing.{LeavesWritten, StaysAround, StaysElsewhereBy, WantsMemoryAlone};
+ghost use Rattle.jsonc_typed.specs.Steps.{IsClearing, IsRemoving};
 
 use jsonc_cst::cst::{
     CstArray, CstBooleanLit, CstComment, CstContainerNode, CstLeafNode, CstNewline, CstNode,
@@ -60,6 +62,8 @@ fn remove_element<A: Allocator + Copy>(
         → OnOk result (IsWrittenBy Removal.OfElement o tree.old.nodes tree.new.nodes number) }
     ensures around { (o : Options)
         → OnOk result (StaysAround Removal.OfElement o tree.old.nodes tree.new.nodes number) }
+    ensures step { OnOk result (removal_of (typed_at tree.old.nodes number) ≡ Removal.OfElement
+        → IsRemoving tree.old.nodes tree.new.nodes Removal.OfElement number) }
     ensures elsewhere { OnOk result (StaysElsewhereBy Removal.OfElement tree.old.nodes tree.new.nodes number) }
     ensures gone { OnOk result (IsNobodysBy Removal.OfElement tree.new.nodes number) }
     ensures untouched { parent_at tree.old.nodes number ≡ None → tree.new.nodes ≡ tree.old.nodes }
@@ -85,6 +89,8 @@ fn remove_comment<A: Allocator + Copy>(
         → OnOk result (IsWrittenBy Removal.OfComment o tree.old.nodes tree.new.nodes number) }
     ensures around { (o : Options)
         → OnOk result (StaysAround Removal.OfComment o tree.old.nodes tree.new.nodes number) }
+    ensures step { OnOk result (removal_of (typed_at tree.old.nodes number) ≡ Removal.OfComment
+        → IsRemoving tree.old.nodes tree.new.nodes Removal.OfComment number) }
     ensures elsewhere { OnOk result (StaysElsewhereBy Removal.OfComment tree.old.nodes tree.new.nodes number) }
     ensures gone { OnOk result (IsNobodysBy Removal.OfComment tree.new.nodes number) }
     ensures untouched { parent_at tree.old.nodes number ≡ None → tree.new.nodes ≡ tree.old.nodes }
@@ -134,9 +140,11 @@ fn remove_alone<A: Allocator>(tree: &mut Tree<A>, number: usize)
 pub(crate) fn clear<A: Allocator>(tree: &mut Tree<A>)
     ensures taken { IsCleared tree.old.nodes tree.new.nodes }
     ensures written { (o : Options) → IsBareDocument o (ordered_tree tree.new.nodes 0) }
+    ensures step { IsClearing tree.old.nodes tree.new.nodes }
     ensures stays { StillNodes tree.old.nodes tree.new.nodes }
     ensures tree { IsTree tree.new.nodes }
 {
+    let _ = tree.len();
     jsonc_set::clear_root(tree);
 }
 
@@ -151,6 +159,8 @@ fn remove_by<A: Allocator + Copy>(
     ensures taken { OnOk result (IsTakenBy removal tree.old.nodes tree.new.nodes number) }
     ensures written { (o : Options) → OnOk result (IsWrittenBy removal o tree.old.nodes tree.new.nodes number) }
     ensures around { (o : Options) → OnOk result (StaysAround removal o tree.old.nodes tree.new.nodes number) }
+    ensures step { OnOk result (removal_of (typed_at tree.old.nodes number) ≡ removal
+        → IsRemoving tree.old.nodes tree.new.nodes removal number) }
     ensures elsewhere { OnOk result (StaysElsewhereBy removal tree.old.nodes tree.new.nodes number) }
     ensures gone { OnOk result (IsNobodysBy removal tree.new.nodes number) }
     ensures untouched { IsLooseFor removal tree.old.nodes number → tree.new.nodes ≡ tree.old.nodes }
@@ -188,7 +198,8 @@ pub trait Remove: IsNode {
     ///
     /// If the document is sound, and the node stands in an array or object at a path, or is the document's
     /// value, the document is one again, without that entry or that value, and sound. If the node is a
-    /// comment of it, the document keeps its value and all literals and other comments, and is sound.
+    /// comment of it, the document keeps its value and all literals and other comments, and is sound. The
+    /// call is one step then, the edit that removes what stands at that path, or the comment of that number.
     ///
     /// The memory of a space alone may be wanted; an array or object from which an element is to leave,
     /// and that has not its brackets, is `MissingBrackets`, which no node of a sound document is told. A
@@ -199,6 +210,8 @@ pub trait Remove: IsNode {
         ensures removed { OnOk result (HasLeft doc.old doc.new (Self.node_of self)) }
         ensures written { (o : Options) → OnOk result (LeavesWritten doc.old doc.new o (Self.node_of self)) }
         ensures around { (o : Options) → OnOk result (LeavesAround doc.old doc.new o (Self.node_of self)) }
+        ensures step { OnOk result (IsRemoving (nodes_of doc.old) (nodes_of doc.new) (removal_of (Self.node_of self))
+            (number_of (Self.node_of self))) }
         ensures elsewhere { OnOk result (LeavesElsewhere doc.old doc.new (Self.node_of self)) }
         ensures gone { OnOk result (LeavesToNobody doc.new (Self.node_of self)) }
         ensures untouched { IsLoose doc.old (Self.node_of self) → IsUntouched doc.old doc.new }

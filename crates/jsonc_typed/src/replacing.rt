@@ -8,13 +8,14 @@ ghost use Rattle.jsonc_tree.specs.Tree.{parent_at, IsTree};
 ghost use Rattle.jsonc_nodes.specs.Properties.{name_at};
 ghost use Rattle.jsonc_edit.specs.Reading.{IsReplaced, IsReplacedRaw};
 ghost use Rattle.jsonc_edit.specs.Written.{Writes};
-ghost use Rattle.jsonc_cst.specs.Document.{parent_of, tree_of, Holds};
+ghost use Rattle.jsonc_cst.specs.Document.{nodes_of, parent_of, tree_of, Holds};
 ghost use Rattle.jsonc_typed.specs.Edits.{is_found, is_name_in, IsReplacedAs};
 ghost use Rattle.jsonc_typed.specs.Edits.{HasGivenWay, HasGone, HasMarked, HasStayedAround, HasWritten, IsUntouched};
 ghost use Rattle.jsonc_typed.specs.Edits.{IsNobodys, KeepsElsewhere, StaysElsewhere, StillHolds, StillNodes};
 ghost use Rattle.jsonc_typed.specs.Around.{StaysAroundValue};
 ghost use Rattle.jsonc_typed.specs.Marked.{IsMarkedFor};
-ghost use Rattle.jsonc_cst.specs.Nodes.{number_of, IsNodeOf};
+ghost use Rattle.jsonc_typed.specs.Steps.{IsReplacing, IsValueIn};
+ghost use Rattle.jsonc_cst.specs.Nodes.{number_of, typed_at, IsNodeOf};
 ghost use Rattle.jsonc_cst.specs.Tree.{NodesAreTree};
 
 use jsonc_cst::cst::{
@@ -67,6 +68,8 @@ fn replace_value<A: Allocator + Copy>(
         (λ o. IfSome o (λ m. IsMarkedFor tree.old.nodes tree.new.nodes number (plain value.now))) }
     ensures around { IfOk result
         (λ o. IfSome o (λ m. StaysAroundValue tree.old.nodes tree.new.nodes number (plain value.now))) }
+    ensures step { IfOk result (λ o. IfSome o (λ m. IsValueIn tree.old.nodes (typed_at tree.old.nodes number)
+        → IsReplacing tree.old.nodes tree.new.nodes number (plain value.now))) }
     ensures elsewhere { IfOk result (λ o. IfSome o (λ m. StaysElsewhere tree.old.nodes tree.new.nodes number)) }
     ensures gone { IfOk result (λ o. IfSome o (λ m. IsNobodys tree.new.nodes number)) }
     ensures none { IfOk result (λ o. IfNone o (parent_at tree.old.nodes number ≡ None)) }
@@ -129,6 +132,9 @@ fn replace_node<A: Allocator + Copy>(
         → IsMarkedFor tree.old.nodes tree.new.nodes number (plain value.now))) }
     ensures around { IfOk result (λ o. IfSome o (λ m. is_name_in tree.old.nodes number ≡ false
         → StaysAroundValue tree.old.nodes tree.new.nodes number (plain value.now))) }
+    ensures step { IfOk result (λ o. IfSome o (λ m. is_name_in tree.old.nodes number ≡ false
+        → IsValueIn tree.old.nodes (typed_at tree.old.nodes number)
+        → IsReplacing tree.old.nodes tree.new.nodes number (plain value.now))) }
     ensures elsewhere { IfOk result (λ o. IfSome o (λ m. StaysElsewhere tree.old.nodes tree.new.nodes number)) }
     ensures gone { IfOk result (λ o. IfSome o (λ m. IsNobodys tree.new.nodes number)) }
     ensures none { IfOk result (λ o. IfNone o (parent_at tree.old.nodes number ≡ None)) }
@@ -160,7 +166,8 @@ pub trait ReplaceWith: IsNode {
     /// literals without quotes would come to stand directly beside each other, a space comes between
     /// them, but none beside the name of a property: `{a:1"b":2}` with 7 for its second name is
     /// `{a:17:2}`. If the document is sound, and the node a value in it, the document is sound again, and
-    /// its value is the old one with the new value at the node's path.
+    /// its value is the old one with the new value at the node's path. The call is one step then, the edit
+    /// that replaces the value at that path: it leads from the document before to the document behind it.
     ///
     /// The node is nobody's child then. Where it had no parent before, the answer is None, and the
     /// document is as it was. A refusal leaves the document as it was too.
@@ -177,6 +184,8 @@ pub trait ReplaceWith: IsNode {
             (λ o. IfSome o (λ m. HasMarked doc.old doc.new (Self.node_of self) (plain value))) }
         ensures around { IfOk result
             (λ o. IfSome o (λ m. HasStayedAround doc.old doc.new (Self.node_of self) (plain value))) }
+        ensures step { IfOk result (λ o. IfSome o (λ m. IsValueIn (nodes_of doc.old) (Self.node_of self)
+            → IsReplacing (nodes_of doc.old) (nodes_of doc.new) (number_of (Self.node_of self)) (plain value))) }
         ensures elsewhere { IfOk result (λ o. IfSome o (λ m. KeepsElsewhere doc.old doc.new (Self.node_of self))) }
         ensures gone { IfOk result (λ o. IfSome o (λ m. HasGone doc.old doc.new (Self.node_of self))) }
         ensures none { IfOk result (λ o. IfNone o (parent_of doc.old (Self.node_of self) ≡ None)) }

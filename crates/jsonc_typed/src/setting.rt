@@ -9,6 +9,8 @@ ghost use Rattle.jsonc_tree.specs.Tree.{content_at, parent_at, IsTree};
 ghost use Rattle.jsonc_nodes.specs.Properties.{value_at};
 ghost use Rattle.jsonc_set.specs.Kinds.{is_array, is_object, LacksKind};
 ghost use Rattle.jsonc_set.specs.Laws.{IsBareDocument};
+ghost use Rattle.jsonc_promise.specs.Below.named.declared.shape.Over.{Over};
+ghost use Rattle.jsonc_promise.specs.Below.named.declared.shape.Shape.{Shape};
 ghost use Rattle.jsonc_cst.specs.Document.{nodes_of, parent_of, tree_of, Holds};
 ghost use Rattle.jsonc_cst.specs.Nodes.{array_node, number_of, object_node, IsNodeOf};
 ghost use Rattle.jsonc_cst.specs.Readings.{value_under};
@@ -26,6 +28,7 @@ ghost use Rattle.jsonc_typed.specs.Setting.{FindsOrSetsObject, FirstArrayWritten
 ghost use Rattle.jsonc_typed.specs.Setting.{HasBecomeProperty, HasWrittenProperty, IsLaidAsProperty, IsRootValue};
 ghost use Rattle.jsonc_typed.specs.Setting.{PropertyBecomes, PropertyIsWritten, RootBecomes, RootIsMarked};
 ghost use Rattle.jsonc_typed.specs.Setting.{RootIsWritten, RootStaysAround};
+ghost use Rattle.jsonc_typed.specs.Steps.{IsClearing, IsEnsuringRoot, IsReplacingProperty, IsSettingRoot};
 
 use crate::removing::clear;
 use jsonc_cst::cst::{
@@ -69,6 +72,7 @@ fn set_root<A: Allocator + Copy>(
     ensures written { (p : Options) → IfOk result (RootIsWritten tree.old.nodes tree.new.nodes p (plain value.now)) }
     ensures marked { (p : Options) → OnOk result (RootIsMarked tree.old.nodes tree.new.nodes p (plain value.now)) }
     ensures around { (p : Options) → OnOk result (RootStaysAround tree.old.nodes tree.new.nodes p (plain value.now)) }
+    ensures step { OnOk result (IsSettingRoot tree.old.nodes tree.new.nodes (plain value.now)) }
     ensures stands { IfOk result (IsRootValue tree.new.nodes) }
     ensures held { IfOk result (IsNodeOf tree.new.nodes) }
     ensures stays { StillNodes tree.old.nodes tree.new.nodes }
@@ -90,6 +94,7 @@ fn object_or_create<A: Allocator + Copy>(
     ensures written { (p : Options) → OnOk result (FirstObjectWritten tree.old.nodes tree.new.nodes p) }
     ensures marked { (p : Options) → OnOk result (MarksStay tree.old.nodes tree.new.nodes p) }
     ensures around { (p : Options) → OnOk result (FirstObjectAround tree.old.nodes tree.new.nodes p) }
+    ensures step { OnOk result (IsEnsuringRoot tree.old.nodes tree.new.nodes Shape.Object Over.Keep) }
     ensures stands { IfOk result (λ o. IfSome o (λ x. IsRootValue tree.new.nodes (object_node x))) }
     ensures held { IfOk result (λ o. IfSome o (λ x. IsNodeOf tree.new.nodes (object_node x))) }
     ensures stays { StillNodes tree.old.nodes tree.new.nodes }
@@ -114,6 +119,7 @@ fn array_or_create<A: Allocator + Copy>(
     ensures written { (p : Options) → OnOk result (FirstArrayWritten tree.old.nodes tree.new.nodes p) }
     ensures marked { (p : Options) → OnOk result (MarksStay tree.old.nodes tree.new.nodes p) }
     ensures around { (p : Options) → OnOk result (FirstArrayAround tree.old.nodes tree.new.nodes p) }
+    ensures step { OnOk result (IsEnsuringRoot tree.old.nodes tree.new.nodes Shape.Array Over.Keep) }
     ensures stands { IfOk result (λ o. IfSome o (λ x. IsRootValue tree.new.nodes (array_node x))) }
     ensures held { IfOk result (λ o. IfSome o (λ x. IsNodeOf tree.new.nodes (array_node x))) }
     ensures stays { StillNodes tree.old.nodes tree.new.nodes }
@@ -135,6 +141,7 @@ fn object_or_set<A: Allocator + Copy>(alloc: A, tree: &mut Tree<A>) -> Result<Cs
     ensures written { (p : Options) → IfOk result (EmptyObjectWritten tree.old.nodes tree.new.nodes p) }
     ensures marked { (p : Options) → OnOk result (EmptyObjectMarked tree.old.nodes tree.new.nodes p) }
     ensures around { (p : Options) → OnOk result (EmptyObjectAround tree.old.nodes tree.new.nodes p) }
+    ensures step { OnOk result (IsEnsuringRoot tree.old.nodes tree.new.nodes Shape.Object Over.Replace) }
     ensures stands { IfOk result (λ x. IsRootValue tree.new.nodes (object_node x)) }
     ensures held { IfOk result (λ x. IsNodeOf tree.new.nodes (object_node x)) }
     ensures stays { StillNodes tree.old.nodes tree.new.nodes }
@@ -154,6 +161,7 @@ fn array_or_set<A: Allocator + Copy>(alloc: A, tree: &mut Tree<A>) -> Result<Cst
     ensures written { (p : Options) → IfOk result (EmptyArrayWritten tree.old.nodes tree.new.nodes p) }
     ensures marked { (p : Options) → OnOk result (EmptyArrayMarked tree.old.nodes tree.new.nodes p) }
     ensures around { (p : Options) → OnOk result (EmptyArrayAround tree.old.nodes tree.new.nodes p) }
+    ensures step { OnOk result (IsEnsuringRoot tree.old.nodes tree.new.nodes Shape.Array Over.Replace) }
     ensures stands { IfOk result (λ x. IsRootValue tree.new.nodes (array_node x)) }
     ensures held { IfOk result (λ x. IsNodeOf tree.new.nodes (array_node x)) }
     ensures stays { StillNodes tree.old.nodes tree.new.nodes }
@@ -184,6 +192,8 @@ fn replace_property<A: Allocator + Copy>(
     ensures laid { IfOk result
         (λ o. IfSome o (λ m. IsLaidProperty tree.old.nodes tree.new.nodes number (chars name.now) (plain value.now)
         (number_of m))) }
+    ensures step { IfOk result (λ o. IfSome o (λ m. content_at tree.old.nodes number ≡ Content.property
+        → IsReplacingProperty tree.old.nodes tree.new.nodes number (chars name.now) (plain value.now))) }
     ensures elsewhere { IfOk result (λ o. IfSome o (λ m. StaysElsewhere tree.old.nodes tree.new.nodes number)) }
     ensures gone { IfOk result (λ o. IfSome o (λ m. IsNobodys tree.new.nodes number)) }
     ensures none { IfOk result (λ o. IfNone o (parent_at tree.old.nodes number ≡ None)) }
@@ -216,28 +226,30 @@ pub trait SetRoot {
     /// the new value is laid out as the document tells and comes before the newline that the document
     /// ends with, if it does, and else behind all. Where a comment stands directly before that place, a
     /// newline comes between them, and where nothing stands behind it, a newline comes behind the value.
-    /// If the document is sound, it is sound again, and its value is the new one. A refusal leaves the
-    /// document as it was.
+    /// If the document is sound, it is sound again, and its value is the new one: one step, the edit that
+    /// sets the document's value. A refusal leaves the document as it was.
     fn set_value(&mut self, value: Self::Value) -> Result<CstNode, EditError>;
 
-    /// Takes all out of the document, which has no value then, and no comments, and is sound. No memory is
-    /// wanted.
+    /// Takes all out of the document, which has no value then, and no comments, and is sound: one step, if
+    /// the document was sound. No memory is wanted.
     fn clear_children(&mut self);
 
     /// The document's value, if it is an object. Where there is none an empty object is set; where the
-    /// value is another the answer is None, and nothing changes. A refusal leaves the document as it was.
+    /// value is another the answer is None, and nothing changes. Of a sound document it is one step. A
+    /// refusal leaves the document as it was.
     fn object_value_or_create(&mut self) -> Result<Option<CstObject>, EditError>;
 
     /// The document's value, if it is an object. Where it is another, or there is none, an empty object
-    /// is set. A refusal leaves the document as it was.
+    /// is set. Of a sound document it is one step. A refusal leaves the document as it was.
     fn object_value_or_set(&mut self) -> Result<CstObject, EditError>;
 
     /// The document's value, if it is an array. Where there is none an empty array is set; where the
-    /// value is another the answer is None, and nothing changes. A refusal leaves the document as it was.
+    /// value is another the answer is None, and nothing changes. Of a sound document it is one step. A
+    /// refusal leaves the document as it was.
     fn array_value_or_create(&mut self) -> Result<Option<CstArray>, EditError>;
 
     /// The document's value, if it is an array. Where it is another, or there is none, an empty array is
-    /// set. A refusal leaves the document as it was.
+    /// set. Of a sound document it is one step. A refusal leaves the document as it was.
     fn array_value_or_set(&mut self) -> Result<CstArray, EditError>;
 }
 
@@ -252,6 +264,7 @@ impl<A: Allocator + Copy> SetRoot for CstRootNode<A> {
             → OnOk result (RootIsMarked (nodes_of self.old) (nodes_of self.new) p (plain value)) }
         ensures around { (p : Options)
             → OnOk result (RootStaysAround (nodes_of self.old) (nodes_of self.new) p (plain value)) }
+        ensures step { OnOk result (IsSettingRoot (nodes_of self.old) (nodes_of self.new) (plain value)) }
         ensures stands { IfOk result (λ m. value_under self.new 0 ≡ Some m) }
         ensures held { IfOk result (Holds self.new) }
         ensures stays { StillHolds self.old self.new }
@@ -267,6 +280,7 @@ impl<A: Allocator + Copy> SetRoot for CstRootNode<A> {
     fn clear_children(&mut self)
         ensures cleared { IsCleared (nodes_of self.old) (nodes_of self.new) }
         ensures written { (o : Options) → IsBareDocument o (tree_of self.new) }
+        ensures step { IsClearing (nodes_of self.old) (nodes_of self.new) }
         ensures stays { StillHolds self.old self.new }
         ensures tree { NodesAreTree self.new }
     {
@@ -279,6 +293,7 @@ impl<A: Allocator + Copy> SetRoot for CstRootNode<A> {
         ensures written { (p : Options) → OnOk result (FirstObjectWritten (nodes_of self.old) (nodes_of self.new) p) }
         ensures marked { (p : Options) → OnOk result (MarksStay (nodes_of self.old) (nodes_of self.new) p) }
         ensures around { (p : Options) → OnOk result (FirstObjectAround (nodes_of self.old) (nodes_of self.new) p) }
+        ensures step { OnOk result (IsEnsuringRoot (nodes_of self.old) (nodes_of self.new) Shape.Object Over.Keep) }
         ensures stands { IfOk result (λ o. IfSome o (λ x. value_under self.new 0 ≡ Some (object_node x))) }
         ensures held { IfOk result (λ o. IfSome o (λ x. Holds self.new (object_node x))) }
         ensures stays { StillHolds self.old self.new }
@@ -297,6 +312,7 @@ impl<A: Allocator + Copy> SetRoot for CstRootNode<A> {
         ensures written { (p : Options) → IfOk result (EmptyObjectWritten (nodes_of self.old) (nodes_of self.new) p) }
         ensures marked { (p : Options) → OnOk result (EmptyObjectMarked (nodes_of self.old) (nodes_of self.new) p) }
         ensures around { (p : Options) → OnOk result (EmptyObjectAround (nodes_of self.old) (nodes_of self.new) p) }
+        ensures step { OnOk result (IsEnsuringRoot (nodes_of self.old) (nodes_of self.new) Shape.Object Over.Replace) }
         ensures stands { IfOk result (λ x. value_under self.new 0 ≡ Some (object_node x)) }
         ensures held { IfOk result (λ x. Holds self.new (object_node x)) }
         ensures stays { StillHolds self.old self.new }
@@ -315,6 +331,7 @@ impl<A: Allocator + Copy> SetRoot for CstRootNode<A> {
         ensures written { (p : Options) → OnOk result (FirstArrayWritten (nodes_of self.old) (nodes_of self.new) p) }
         ensures marked { (p : Options) → OnOk result (MarksStay (nodes_of self.old) (nodes_of self.new) p) }
         ensures around { (p : Options) → OnOk result (FirstArrayAround (nodes_of self.old) (nodes_of self.new) p) }
+        ensures step { OnOk result (IsEnsuringRoot (nodes_of self.old) (nodes_of self.new) Shape.Array Over.Keep) }
         ensures stands { IfOk result (λ o. IfSome o (λ x. value_under self.new 0 ≡ Some (array_node x))) }
         ensures held { IfOk result (λ o. IfSome o (λ x. Holds self.new (array_node x))) }
         ensures stays { StillHolds self.old self.new }
@@ -333,6 +350,7 @@ impl<A: Allocator + Copy> SetRoot for CstRootNode<A> {
         ensures written { (p : Options) → IfOk result (EmptyArrayWritten (nodes_of self.old) (nodes_of self.new) p) }
         ensures marked { (p : Options) → OnOk result (EmptyArrayMarked (nodes_of self.old) (nodes_of self.new) p) }
         ensures around { (p : Options) → OnOk result (EmptyArrayAround (nodes_of self.old) (nodes_of self.new) p) }
+        ensures step { OnOk result (IsEnsuringRoot (nodes_of self.old) (nodes_of self.new) Shape.Array Over.Replace) }
         ensures stands { IfOk result (λ x. value_under self.new 0 ≡ Some (array_node x)) }
         ensures held { IfOk result (λ x. Holds self.new (array_node x)) }
         ensures stays { StillHolds self.old self.new }
@@ -353,7 +371,8 @@ pub trait ReplaceProperty: IsNode {
     ///
     /// The document tells how it is laid out, as for [`crate::ReplaceWith`]. Where the value is a literal
     /// without quotes that would come to stand directly before another, a space comes between them. If the
-    /// document is sound, it is sound again, and its value is the old one but for that entry. The old
+    /// document is sound, it is sound again, and its value is the old one but for that entry: if the property
+    /// stands in it, the call is one step, the edit that replaces the property at its path. The old
     /// property is nobody's child then. Where it had no parent before, the answer is None, and the
     /// document is as it was. A refusal leaves the document as it was too.
     fn replace_with<A: Allocator + Copy>(
@@ -370,6 +389,8 @@ pub trait ReplaceProperty: IsNode {
             (HasWrittenProperty doc.old doc.new p (Self.node_of self) (chars name.now) (plain value))) }
         ensures laid { IfOk result
             (λ o. IfSome o (IsLaidAsProperty doc.old doc.new (Self.node_of self) (chars name.now) (plain value))) }
+        ensures step { IfOk result (λ o. IfSome o (λ m. IsReplacingProperty (nodes_of doc.old) (nodes_of doc.new)
+            (number_of (Self.node_of self)) (chars name.now) (plain value))) }
         ensures elsewhere { IfOk result (λ o. IfSome o (λ m. KeepsElsewhere doc.old doc.new (Self.node_of self))) }
         ensures gone { IfOk result (λ o. IfSome o (λ m. HasGone doc.old doc.new (Self.node_of self))) }
         ensures none { IfOk result (λ o. IfNone o (parent_of doc.old (Self.node_of self) ≡ None)) }

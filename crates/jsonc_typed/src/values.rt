@@ -10,12 +10,14 @@ ghost use Rattle.jsonc_set.specs.Booleans.{is_boolean, BooleanSet, WantsSpaceFor
 ghost use Rattle.jsonc_set.specs.Kinds.{is_array, is_object};
 ghost use Rattle.jsonc_nodes.specs.Properties.{lacks_name_at};
 ghost use Rattle.jsonc_set.specs.PropertyValues.{IsUnset};
+ghost use Rattle.jsonc_promise.specs.Below.named.declared.shape.Shape.{Shape};
 ghost use Rattle.jsonc_cst.specs.Document.{nodes_of, tree_of, Holds};
 ghost use Rattle.jsonc_cst.specs.Nodes.{array_node, boolean_lit_node, number_of, object_node};
 ghost use Rattle.jsonc_cst.specs.Nodes.{object_prop_node, IsNodeOf};
 ghost use Rattle.jsonc_cst.specs.Tree.{NodesAreTree};
 ghost use Rattle.jsonc_typed.specs.Edits.{KeepsElsewhere, StaysElsewhere, StillHolds, StillNodes};
 ghost use Rattle.jsonc_typed.specs.Removing.{IsKeptForMemory, WantsMemoryAlone};
+ghost use Rattle.jsonc_typed.specs.Steps.{IsEnsuringValue, IsSettingBoolean, IsSettingValue};
 ghost use Rattle.jsonc_typed.specs.Values.{BooleanIsWritten, FindsOrSetsHeldArray, FindsOrSetsHeldObject};
 ghost use Rattle.jsonc_typed.specs.Values.{HasMarkedArray, HasMarkedObject, HasMarkedValue, HasSetBoolean};
 ghost use Rattle.jsonc_typed.specs.Values.{HasWrittenArray, HasWrittenBoolean, HasWrittenObject, HasWrittenValue};
@@ -66,6 +68,7 @@ fn set_property_value<A: Allocator + Copy>(
         → IfOk result (HeldIsWritten tree.old.nodes tree.new.nodes p property (plain value.now)) }
     ensures marked { OnOk result (HeldIsMarked tree.old.nodes tree.new.nodes property (plain value.now)) }
     ensures around { OnOk result (HeldStaysAround tree.old.nodes tree.new.nodes property (plain value.now)) }
+    ensures step { OnOk result (IsSettingValue tree.old.nodes tree.new.nodes property (plain value.now)) }
     ensures elsewhere { OnOk result (StaysElsewhere tree.old.nodes tree.new.nodes property) }
     ensures child { IfOk result (IsUnder tree.new.nodes property) }
     ensures held { IfOk result (IsNodeOf tree.new.nodes) }
@@ -90,6 +93,7 @@ fn property_object_or_set<A: Allocator + Copy>(
     ensures value { IfOk result (FindsOrSetsHeldObject tree.old.nodes tree.new.nodes property) }
     ensures written { (p : Options) → IfOk result (HeldObjectIsWritten tree.old.nodes tree.new.nodes p property) }
     ensures marked { OnOk result (HeldObjectIsMarked tree.old.nodes tree.new.nodes property) }
+    ensures step { OnOk result (IsEnsuringValue tree.old.nodes tree.new.nodes property Shape.Object) }
     ensures elsewhere { OnOk result (StaysElsewhere tree.old.nodes tree.new.nodes property) }
     ensures named { OnOk result (lacks_name_at tree.old.nodes property ≡ false) }
     ensures child { IfOk result (λ x. IsUnder tree.new.nodes property (object_node x)) }
@@ -117,6 +121,7 @@ fn property_array_or_set<A: Allocator + Copy>(
     ensures value { IfOk result (FindsOrSetsHeldArray tree.old.nodes tree.new.nodes property) }
     ensures written { (p : Options) → IfOk result (HeldArrayIsWritten tree.old.nodes tree.new.nodes p property) }
     ensures marked { OnOk result (HeldArrayIsMarked tree.old.nodes tree.new.nodes property) }
+    ensures step { OnOk result (IsEnsuringValue tree.old.nodes tree.new.nodes property Shape.Array) }
     ensures elsewhere { OnOk result (StaysElsewhere tree.old.nodes tree.new.nodes property) }
     ensures named { OnOk result (lacks_name_at tree.old.nodes property ≡ false) }
     ensures child { IfOk result (λ x. IsUnder tree.new.nodes property (array_node x)) }
@@ -144,6 +149,7 @@ fn set_boolean<A: Allocator + Copy>(
     ensures set { OnOk result (BooleanSet tree.old.nodes tree.new.nodes boolean.number value) }
     ensures written { (p : Options)
         → OnOk result (BooleanIsWritten tree.old.nodes tree.new.nodes p boolean.number value) }
+    ensures step { OnOk result (IsSettingBoolean tree.old.nodes tree.new.nodes boolean.number value) }
     ensures elsewhere { OnOk result (StaysElsewhere tree.old.nodes tree.new.nodes boolean.number) }
     ensures stays { StillNodes tree.old.nodes tree.new.nodes }
     ensures memory { IfErr result (λ e. e ≡ EditError.OutOfMemory) }
@@ -161,7 +167,8 @@ pub trait SetProperty: IsNode {
     /// Sets its value, and answers the new value's node.
     ///
     /// The old value gives way to the new one, as by [`crate::ReplaceWith`], and is nobody's child then. If
-    /// the document is sound, it is sound again, and its value is the old one but for that entry. Where
+    /// the document is sound, it is sound again, and its value is the old one but for that entry: if the
+    /// property stands in it, the call is one step, the edit that sets the value at its path. Where
     /// there was no value, which is so only after edits of single leaves, the new one is laid out as the
     /// document tells and comes behind all that the property holds. A refusal leaves the document as it
     /// was.
@@ -176,6 +183,8 @@ pub trait SetProperty: IsNode {
             → IfOk result (HasWrittenValue doc.old doc.new p (Self.node_of self) (plain value)) }
         ensures marked { OnOk result (HasMarkedValue doc.old doc.new (Self.node_of self) (plain value)) }
         ensures around { OnOk result (HasStayedAroundValue doc.old doc.new (Self.node_of self) (plain value)) }
+        ensures step { OnOk result (IsSettingValue (nodes_of doc.old) (nodes_of doc.new) (number_of (Self.node_of self))
+            (plain value)) }
         ensures elsewhere { OnOk result (KeepsElsewhere doc.old doc.new (Self.node_of self)) }
         ensures child { IfOk result (IsChildOf doc.new (Self.node_of self)) }
         ensures held { IfOk result (Holds doc.new) }
@@ -185,7 +194,7 @@ pub trait SetProperty: IsNode {
         ensures tree { NodesAreTree doc.new };
 
     /// Its value, if it is an object. Where it is another, or there is none, an empty object is set, as by
-    /// [`SetProperty::set_value`].
+    /// [`SetProperty::set_value`]. Of a property that stands in a sound document it is one step.
     ///
     /// Where the property has no name or no colon, which is so only after edits of single leaves, the
     /// answer is `MissingName`, and never for a property of a sound document. A refusal leaves the
@@ -198,6 +207,8 @@ pub trait SetProperty: IsNode {
         ensures value { IfOk result (NowHoldsObject doc.old doc.new (Self.node_of self)) }
         ensures written { (p : Options) → IfOk result (HasWrittenObject doc.old doc.new p (Self.node_of self)) }
         ensures marked { OnOk result (HasMarkedObject doc.old doc.new (Self.node_of self)) }
+        ensures step { OnOk result (IsEnsuringValue (nodes_of doc.old) (nodes_of doc.new) (number_of (Self.node_of self))
+            Shape.Object) }
         ensures elsewhere { OnOk result (KeepsElsewhere doc.old doc.new (Self.node_of self)) }
         ensures named { OnOk result (lacks_name_at (nodes_of doc.old) (number_of (Self.node_of self)) ≡ false) }
         ensures child { IfOk result (λ x. IsChildOf doc.new (Self.node_of self) (object_node x)) }
@@ -211,7 +222,7 @@ pub trait SetProperty: IsNode {
         ensures tree { NodesAreTree doc.new };
 
     /// Its value, if it is an array. Where it is another, or there is none, an empty array is set, as by
-    /// [`SetProperty::set_value`].
+    /// [`SetProperty::set_value`]. Of a property that stands in a sound document it is one step.
     ///
     /// Where the property has no name or no colon, which is so only after edits of single leaves, the
     /// answer is `MissingName`, and never for a property of a sound document. A refusal leaves the
@@ -224,6 +235,8 @@ pub trait SetProperty: IsNode {
         ensures value { IfOk result (NowHoldsArray doc.old doc.new (Self.node_of self)) }
         ensures written { (p : Options) → IfOk result (HasWrittenArray doc.old doc.new p (Self.node_of self)) }
         ensures marked { OnOk result (HasMarkedArray doc.old doc.new (Self.node_of self)) }
+        ensures step { OnOk result (IsEnsuringValue (nodes_of doc.old) (nodes_of doc.new) (number_of (Self.node_of self))
+            Shape.Array) }
         ensures elsewhere { OnOk result (KeepsElsewhere doc.old doc.new (Self.node_of self)) }
         ensures named { OnOk result (lacks_name_at (nodes_of doc.old) (number_of (Self.node_of self)) ≡ false) }
         ensures child { IfOk result (λ x. IsChildOf doc.new (Self.node_of self) (array_node x)) }
@@ -278,7 +291,7 @@ pub trait SetBoolean: IsNode {
     /// into it, a space comes between them: `[0x1true]` is `[0x1 false]` then. Its memory alone may be
     /// wanted, and a refusal leaves the document as it was. If the document is sound, and the node a value
     /// in it, the document is sound again, and its value is the old one with this truth value at the
-    /// node's path.
+    /// node's path: one step, the edit that sets it there.
     fn set_value<A: Allocator + Copy>(
         self,
         doc: &mut CstRootNode<A>,
@@ -287,6 +300,8 @@ pub trait SetBoolean: IsNode {
         requires { Holds doc.old (Self.node_of self) }
         ensures set { OnOk result (HasSetBoolean doc.old doc.new (Self.node_of self) value) }
         ensures written { (p : Options) → OnOk result (HasWrittenBoolean doc.old doc.new p (Self.node_of self) value) }
+        ensures step { OnOk result (IsSettingBoolean (nodes_of doc.old) (nodes_of doc.new)
+            (number_of (Self.node_of self)) value) }
         ensures elsewhere { OnOk result (KeepsElsewhere doc.old doc.new (Self.node_of self)) }
         ensures stays { StillHolds doc.old doc.new }
         ensures memory { IfErr result (λ e. e ≡ EditError.OutOfMemory) }

@@ -2,6 +2,10 @@ use Rattle.std.proofs.Common.{ℕ, IfOk, chars, subst}
 use Rattle.jsonc_input.specs.Views.{plain}
 use Rattle.jsonc_objects.specs.Members.{NamedComesInAt, PropertyStandsAt}
 use Rattle.jsonc_objects.proofs.NamedIn.{appended, appended_property, appended_written}
+use Rattle.jsonc_objects.proofs.Steps.{appended_step}
+use Rattle.jsonc_typed.proofs.Steps.{ok_with}
+use Rattle.jsonc_from_input.proofs.Texts.{of_texts}
+use Rattle.std.proofs.lemmas.Str.{scalars-chars}
 use Rattle.jsonc_objects.proofs.members.append_to.Goals as goal
 
 pub returns-clause-put : goal.returns-clause-put
@@ -24,3 +28,14 @@ returns-clause-written g c = λ o.
     let new = c.insert_at.new.tree.nodes in
     appended_written old new c.args.object (chars c.args.name.now) (plain c.args.value.now) c.len.ensures.tree c.requires.there c.requires.object o c.insert_at.result c.insert_at.ensures.brackets
     (subst (λ (k : ℕ). IfOk c.insert_at.result (NamedComesInAt old new c.args.object k (chars c.args.name.now) (plain c.args.value.now))) c.child_count-count.ensures c.insert_at.ensures.put)
+
+pub returns-clause-step : goal.returns-clause-step
+returns-clause-step g c =
+    let old = c.args.tree.now.nodes in
+    let new = c.insert_at.new.tree.nodes in
+    let name = chars c.args.name.now in
+    let v = plain c.args.value.now in
+    ok_with c.insert_at.result
+    (λ x put. appended_step old new c.len.ensures.tree c.insert_at.ensures.tree c.args.object name (scalars-chars c.args.name.now c.utf8.name) c.requires.object x.number v (of_texts _ c.args.value.now) put)
+    (appended old new c.args.object name v c.len.ensures.tree c.requires.there c.insert_at.result c.insert_at.ensures.brackets
+    (subst (λ (k : ℕ). IfOk c.insert_at.result (NamedComesInAt old new c.args.object k name v)) c.child_count-count.ensures c.insert_at.ensures.put))

@@ -5,6 +5,9 @@ use Rattle.jsonc_edit.specs.Paths.{IsElementOf}
 use Rattle.jsonc_named.specs.Below.members.Inserted.{PropertyPut}
 use Rattle.jsonc_objects.proofs.NamedIn.{put_element, put_elsewhere, put_for_memory, put_others, put_property, put_stays, put_there, put_written}
 use Rattle.jsonc_typed.proofs.Kept.{nodes_stay, stay_kept}
+use Rattle.jsonc_objects.proofs.Steps.{inserted_step}
+use Rattle.jsonc_from_input.proofs.Texts.{of_texts}
+use Rattle.std.proofs.lemmas.Str.{scalars-chars}
 use Rattle.jsonc_objects.proofs.members.insert_at.Goals as goal
 
 pub property_at-requires-clause-there : goal.property_at-requires-clause-there
@@ -52,3 +55,8 @@ returns-in-Err-clause-stays g c =
 pub returns-in-Err-clause-memory : goal.returns-in-Err-clause-memory
 returns-in-Err-clause-memory g c = λ o.
     put_for_memory c.args.tree.now.nodes c.insert_property.new.tree.nodes c.args.object (chars c.args.name.now) (plain c.args.value.now) c.len.ensures.tree c.requires.object o c.in-Err.error c.in-Err.ensures.told
+
+pub returns-in-Ok-clause-step : goal.returns-in-Ok-clause-step
+returns-in-Ok-clause-step g c =
+    inserted_step c.args.tree.now.nodes c.insert_property.new.tree.nodes c.len.ensures.tree c.insert_property.ensures.tree c.args.object (chars c.args.name.now) (scalars-chars c.args.name.now c.utf8.name) c.requires.object
+    c.args.index c.in-Ok.property (plain c.args.value.now) (of_texts _ c.args.value.now) c.in-Ok.ensures.put

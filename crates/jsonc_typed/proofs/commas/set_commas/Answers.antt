@@ -1,7 +1,8 @@
 use Rattle.jsonc_commas.specs.InTurn.{holders}
-use Rattle.jsonc_commas.proofs.Apart.{leaves_others}
+use Rattle.jsonc_commas.proofs.Apart.{leaves_others, leaves_others_in_part}
 use Rattle.jsonc_typed.proofs.Kept.{nodes_stay}
 use Rattle.jsonc_typed.proofs.Trailing.{commas_stand, commas_written, part_written, stay_in_turn}
+use Rattle.jsonc_typed.proofs.Steps.{commas_step, some_commas_step}
 use Rattle.jsonc_typed.proofs.commas.set_commas.Goals as goal
 
 pub returns-in-Ok-clause-written : goal.returns-in-Ok-clause-written
@@ -31,3 +32,15 @@ returns-in-Err-clause-stays g c =
     let old = c.args.tree.now.nodes in
     let new = c.set_trailing_commas.new.tree.nodes in
     nodes_stay old new (stay_in_turn c.args.mode c.in-Err.ensures.part.done old new c.len.ensures.tree c.in-Err.ensures.part.set)
+
+pub returns-in-Ok-clause-step : goal.returns-in-Ok-clause-step
+returns-in-Ok-clause-step g c =
+    commas_step c.args.tree.now.nodes c.set_trailing_commas.new.tree.nodes c.len.ensures.tree c.args.mode c.args.number c.in-Ok.ensures.set
+
+pub returns-in-Err-clause-begun : goal.returns-in-Err-clause-begun
+returns-in-Err-clause-begun g c =
+    some_commas_step c.args.tree.now.nodes c.set_trailing_commas.new.tree.nodes c.len.ensures.tree c.args.mode c.args.number c.in-Err.ensures.part
+
+pub returns-in-Err-clause-elsewhere : goal.returns-in-Err-clause-elsewhere
+returns-in-Err-clause-elsewhere g c = λ apart.
+    leaves_others_in_part c.args.mode c.args.tree.now.nodes c.args.number c.set_trailing_commas.new.tree.nodes c.len.ensures.tree c.requires apart c.in-Err.ensures.part

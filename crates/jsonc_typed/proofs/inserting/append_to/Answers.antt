@@ -2,6 +2,9 @@ use Rattle.std.proofs.Common.{ℕ, IfOk, subst}
 use Rattle.jsonc_input.specs.Views.{plain}
 use Rattle.jsonc_typed.specs.Inserting.{ComesInAt, StandsAt}
 use Rattle.jsonc_typed.proofs.ComingIn.{appended, appended_element, appended_written}
+use Rattle.jsonc_typed.proofs.Steps.{appended_step, ok_with}
+use Rattle.jsonc_cst.specs.Nodes.{number_of}
+use Rattle.jsonc_from_input.proofs.Texts.{of_texts}
 use Rattle.jsonc_typed.proofs.inserting.append_to.Goals as goal
 
 pub returns-clause-put : goal.returns-clause-put
@@ -24,3 +27,12 @@ returns-clause-written g c = λ o.
     let new = c.insert_at.new.tree.nodes in
     appended_written old new c.args.array (plain c.args.value.now) c.len.ensures.tree c.requires.array o c.insert_at.result c.insert_at.ensures.brackets
     (subst (λ (k : ℕ). IfOk c.insert_at.result (ComesInAt old new c.args.array k (plain c.args.value.now))) c.child_count-count.ensures c.insert_at.ensures.put)
+
+pub returns-clause-step : goal.returns-clause-step
+returns-clause-step g c =
+    let old = c.args.tree.now.nodes in
+    let new = c.insert_at.new.tree.nodes in
+    let v = plain c.args.value.now in
+    ok_with c.insert_at.result (λ x put. appended_step old new c.len.ensures.tree c.insert_at.ensures.tree c.args.array (number_of x) v (of_texts _ c.args.value.now) put c.requires.array)
+    (appended old new c.args.array v c.insert_at.result c.insert_at.ensures.brackets
+    (subst (λ (k : ℕ). IfOk c.insert_at.result (ComesInAt old new c.args.array k v)) c.child_count-count.ensures c.insert_at.ensures.put))

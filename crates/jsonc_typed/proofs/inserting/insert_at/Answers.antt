@@ -6,6 +6,8 @@ use Rattle.jsonc_insertion_laws.specs.Below.insert.Inserted.{ElementPut}
 use Rattle.jsonc_typed.proofs.ComingIn.{put_element, put_for_memory, put_others, put_stays, put_there, put_written}
 use Rattle.jsonc_typed.proofs.Elsewhere.{row_elsewhere}
 use Rattle.jsonc_typed.proofs.Kept.{as_typed, nodes_stay, stay_kept}
+use Rattle.jsonc_typed.proofs.Steps.{inserted_step}
+use Rattle.jsonc_from_input.proofs.Texts.{of_texts}
 use Rattle.jsonc_typed.proofs.inserting.insert_at.Goals as goal
 
 pub node_at-requires : goal.node_at-requires
@@ -50,3 +52,8 @@ returns-in-Err-clause-stays g c =
 pub returns-in-Err-clause-memory : goal.returns-in-Err-clause-memory
 returns-in-Err-clause-memory g c = λ o.
     put_for_memory c.args.tree.now.nodes c.insert_element.new.tree.nodes c.args.array (plain c.args.value.now) c.len.ensures.tree c.requires.array o c.in-Err.error c.in-Err.ensures.told
+
+pub returns-in-Ok-clause-step : goal.returns-in-Ok-clause-step
+returns-in-Ok-clause-step g c =
+    let put = c.in-Ok.ensures.put in
+    inserted_step c.args.tree.now.nodes c.insert_element.new.tree.nodes c.len.ensures.tree put.tree c.args.array c.args.index c.in-Ok.element (plain c.args.value.now) (of_texts _ c.args.value.now) put c.requires.array

@@ -1,6 +1,7 @@
 use Rattle.jsonc_typed.proofs.Elsewhere.{spread_elsewhere}
 use Rattle.jsonc_typed.proofs.Kept.{nodes_stay}
 use Rattle.jsonc_typed.proofs.Spread.{but_for_memory, lines_written, nodes_spread, on_lines}
+use Rattle.jsonc_typed.proofs.Steps.{ok_then, spread_step}
 use Rattle.jsonc_typed.proofs.lines.spread.Goals as goal
 
 pub returns-clause-written : goal.returns-clause-written
@@ -23,3 +24,7 @@ pub returns-clause-stays : goal.returns-clause-stays
 returns-clause-stays g c =
     nodes_stay c.args.tree.now.nodes c.ensure_multiline.new.tree.nodes
     (nodes_spread c.args.tree.now.nodes c.ensure_multiline.new.tree.nodes c.args.number c.len.ensures.tree c.ensure_multiline.ensures.tree c.requires.holds c.ensure_multiline.result c.ensure_multiline.ensures.made c.ensure_multiline.ensures.kept)
+
+pub returns-clause-step : goal.returns-clause-step
+returns-clause-step g c =
+    ok_then c.ensure_multiline.result (λ made. spread_step c.args.tree.now.nodes c.ensure_multiline.new.tree.nodes c.len.ensures.tree c.ensure_multiline.ensures.tree c.args.number made c.requires.holds) c.ensure_multiline.ensures.made

@@ -1,5 +1,6 @@
 use Rattle.jsonc_typed.proofs.Kept.{nodes_stay, stay_spliced}
 use Rattle.jsonc_set.proofs.Gaining.{leaves_bare}
+use Rattle.jsonc_typed.proofs.Steps.{cleared_step}
 use Rattle.jsonc_typed.proofs.removing.clear.Goals as goal
 
 pub returns-clause-stays : goal.returns-clause-stays
@@ -10,3 +11,6 @@ returns-clause-stays g c =
 
 pub returns-clause-written : goal.returns-clause-written
 returns-clause-written g c = λ o. leaves_bare o c.clear_root.new.tree.nodes c.clear_root.ensures.tree c.clear_root.ensures.cleared
+
+pub returns-clause-step : goal.returns-clause-step
+returns-clause-step g c = cleared_step c.args.tree.now.nodes c.clear_root.new.tree.nodes c.len.ensures.tree c.clear_root.ensures.tree c.clear_root.ensures.taken

@@ -2,6 +2,7 @@ use Rattle.jsonc_typed.proofs.Kept.{nodes_stay, stay_either}
 use Rattle.jsonc_typed.proofs.Whole.{comment_for_memory}
 use Rattle.jsonc_typed.proofs.Elsewhere.{if_comment}
 use Rattle.jsonc_typed.proofs.Nobodys.{if_taken_nobodys}
+use Rattle.jsonc_typed.proofs.Steps.{comment_step, ok_then}
 use Rattle.jsonc_typed.proofs.removing.remove_comment.Goals as goal
 
 pub returns-clause-stays : goal.returns-clause-stays
@@ -21,3 +22,7 @@ returns-clause-elsewhere g c =
 pub returns-clause-gone : goal.returns-clause-gone
 returns-clause-gone g c =
     if_taken_nobodys c.args.tree.now.nodes c.remove_comment.new.tree.nodes c.args.number c.remove_comment.result c.len.ensures.tree c.remove_comment.ensures.tree c.remove_comment.ensures.untouched c.remove_comment.ensures.removed
+
+pub returns-clause-step : goal.returns-clause-step
+returns-clause-step g c =
+    ok_then c.remove_comment.result (λ taken. comment_step c.args.tree.now.nodes c.remove_comment.new.tree.nodes c.len.ensures.tree c.remove_comment.ensures.tree c.args.number taken) c.remove_comment.ensures.removed

@@ -3,6 +3,7 @@ use Rattle.jsonc_typed.proofs.Kept.{nodes_stay, stay_element}
 use Rattle.jsonc_typed.proofs.Whole.{element_for_memory}
 use Rattle.jsonc_typed.proofs.Elsewhere.{if_element}
 use Rattle.jsonc_typed.proofs.Nobodys.{if_nobodys}
+use Rattle.jsonc_typed.proofs.Steps.{element_step, ok_then}
 use Rattle.jsonc_typed.proofs.removing.remove_element.Goals as goal
 
 pub returns-clause-stays : goal.returns-clause-stays
@@ -29,3 +30,7 @@ returns-clause-elsewhere g c =
 
 pub returns-clause-gone : goal.returns-clause-gone
 returns-clause-gone g c = if_nobodys c.remove.new.tree.nodes c.args.number c.remove.result c.remove.ensures.tree c.remove.ensures.alone
+
+pub returns-clause-step : goal.returns-clause-step
+returns-clause-step g c =
+    ok_then c.remove.result (λ taken. element_step c.args.tree.now.nodes c.remove.new.tree.nodes c.len.ensures.tree c.remove.ensures.tree c.args.number taken) c.remove.ensures.taken

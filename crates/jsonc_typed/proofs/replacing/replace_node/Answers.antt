@@ -2,10 +2,11 @@ use Rattle.std.proofs.Common.{◌≡◌, false}
 use Rattle.jsonc_input.specs.Views.{plain}
 use Rattle.jsonc_edit.specs.Written.{Writes}
 use Rattle.jsonc_typed.specs.Edits.{is_name_in}
-use Rattle.jsonc_cst.specs.Nodes.{number_of}
+use Rattle.jsonc_cst.specs.Nodes.{number_of, typed_at}
 use Rattle.jsonc_typed.proofs.Kept.{answer_under}
 use Rattle.jsonc_typed.specs.Marked.{IsMarkedFor}
 use Rattle.jsonc_typed.specs.Around.{StaysAroundValue}
+use Rattle.jsonc_typed.specs.Steps.{IsReplacing, IsValueIn}
 use Rattle.jsonc_typed.proofs.replacing.replace_node.Goals as goal
 
 pub returns-clause-written : goal.returns-clause-written
@@ -22,3 +23,8 @@ pub returns-clause-around : goal.returns-clause-around
 returns-clause-around g c =
     let old = c.args.tree.now.nodes in
     answer_under (is_name_in old c.args.number ≡ false) (λ m. StaysAroundValue old c.replace_value.new.tree.nodes c.args.number (plain c.args.value.now)) c.replace_value.result c.replace_value.ensures.around
+
+pub returns-clause-step : goal.returns-clause-step
+returns-clause-step g c =
+    let old = c.args.tree.now.nodes in
+    answer_under (is_name_in old c.args.number ≡ false) (λ m. IsValueIn old (typed_at old c.args.number) → IsReplacing old c.replace_value.new.tree.nodes c.args.number (plain c.args.value.now)) c.replace_value.result c.replace_value.ensures.step

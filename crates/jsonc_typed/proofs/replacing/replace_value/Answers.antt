@@ -6,6 +6,8 @@ use Rattle.jsonc_typed.proofs.Marked.{replaced_marked}
 use Rattle.jsonc_typed.proofs.Around.{replaced_around}
 use Rattle.jsonc_typed.proofs.Elsewhere.{replaced_elsewhere}
 use Rattle.jsonc_typed.proofs.Nobodys.{replaced_nobodys}
+use Rattle.jsonc_typed.proofs.Steps.{replaced_step}
+use Rattle.jsonc_from_input.proofs.Texts.{of_texts}
 use Rattle.jsonc_typed.proofs.replacing.replace_value.Goals as goal
 
 pub node_at-requires : goal.node_at-requires
@@ -62,4 +64,11 @@ returns-clause-gone g c =
     let old = c.args.tree.now.nodes in
     let new = c.replace.new.tree.nodes in
     replaced_nobodys old new c.args.number c.in-Some.new c.len.ensures.tree c.replace.ensures.tree (plain c.args.value.now)
+    (of_some (IsReplaced old new c.args.number (plain c.args.value.now)) c.in_ok-new.field-0 c.in-Some.new c.in-Some.is c.in_ok-new.ensures.replaced)
+
+pub returns-clause-step : goal.returns-clause-step
+returns-clause-step g c =
+    let old = c.args.tree.now.nodes in
+    let new = c.replace.new.tree.nodes in
+    replaced_step old new c.len.ensures.tree c.replace.ensures.tree c.args.number c.in-Some.new (plain c.args.value.now) (of_texts _ c.args.value.now)
     (of_some (IsReplaced old new c.args.number (plain c.args.value.now)) c.in_ok-new.field-0 c.in-Some.new c.in-Some.is c.in_ok-new.ensures.replaced)

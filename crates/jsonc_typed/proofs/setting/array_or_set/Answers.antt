@@ -10,6 +10,8 @@ use Rattle.jsonc_typed.proofs.Roots.{set_is, set_or_kept, array_is}
 use Rattle.jsonc_typed.specs.Setting.{EmptyWritten}
 use Rattle.jsonc_typed.proofs.Around.{set_around}
 use Rattle.jsonc_typed.proofs.Marked.{empty_array_writable, set_marked, set_written}
+use Rattle.jsonc_promise.specs.Below.named.declared.shape.Shape.TheVariants.{Array}
+use Rattle.jsonc_typed.proofs.Steps.{set_step}
 use Rattle.jsonc_typed.proofs.setting.array_or_set.Goals as goal
 
 pub array_at-requires : goal.array_at-requires
@@ -50,3 +52,7 @@ returns-clause-around g c = λ p.
     let old = c.args.tree.now.nodes in
     let new = c.array_value_or_set.new.tree.nodes in
     set_around old new (array no_items) c.len.ensures.tree is_array p (value_at old 0) c.in_ok-number.number refl c.in_ok-number.ensures.value
+
+pub returns-clause-step : goal.returns-clause-step
+returns-clause-step g c =
+    set_step c.args.tree.now.nodes c.array_value_or_set.new.tree.nodes c.len.ensures.tree c.array_value_or_set.ensures.tree Array c.in_ok-number.number c.in_ok-number.ensures.value

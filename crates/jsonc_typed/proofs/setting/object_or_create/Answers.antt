@@ -9,6 +9,8 @@ use Rattle.jsonc_typed.proofs.Kept.{nodes_stay}
 use Rattle.jsonc_typed.proofs.Roots.{created_is, created_or_kept, object_is}
 use Rattle.jsonc_typed.proofs.Around.{created_around}
 use Rattle.jsonc_typed.proofs.Marked.{created_marked, created_written, empty_object_writable}
+use Rattle.jsonc_promise.specs.Below.named.declared.shape.Shape.TheVariants.{Object}
+use Rattle.jsonc_typed.proofs.Steps.{created_step}
 use Rattle.jsonc_typed.proofs.setting.object_or_create.Goals as goal
 
 pub object_at-requires : goal.object_at-requires
@@ -74,3 +76,11 @@ returns-in_default-clause-around g c = λ p.
     let old = c.args.tree.now.nodes in
     let new = c.object_value_or_create.new.tree.nodes in
     created_around old new (object no_members) c.len.ensures.tree is_object p (value_at old 0) c.in_ok-number.field-0 refl c.in_ok-number.ensures.value
+
+pub returns-clause-step : goal.returns-clause-step
+returns-clause-step g c =
+    created_step c.args.tree.now.nodes c.object_value_or_create.new.tree.nodes c.len.ensures.tree c.object_value_or_create.ensures.tree Object c.in_ok-number.field-0 c.in_ok-number.ensures.value
+
+pub returns-in_default-clause-step : goal.returns-in_default-clause-step
+returns-in_default-clause-step g c =
+    created_step c.args.tree.now.nodes c.object_value_or_create.new.tree.nodes c.len.ensures.tree c.object_value_or_create.ensures.tree Object c.in_ok-number.field-0 c.in_ok-number.ensures.value

@@ -7,6 +7,9 @@ use Rattle.jsonc_typed.specs.Around.{IsLaidProperty}
 use Rattle.jsonc_typed.proofs.Around.{property_laid}
 use Rattle.jsonc_typed.proofs.Elsewhere.{property_elsewhere}
 use Rattle.jsonc_typed.proofs.Nobodys.{property_nobodys}
+use Rattle.jsonc_typed.proofs.Steps.{property_replaced_step}
+use Rattle.jsonc_from_input.proofs.Texts.{of_texts}
+use Rattle.std.proofs.lemmas.Str.{scalars-chars}
 use Rattle.jsonc_typed.proofs.setting.replace_property.Goals as goal
 
 pub node_at-requires : goal.node_at-requires
@@ -58,4 +61,12 @@ returns-clause-gone g c =
     let old = c.args.tree.now.nodes in
     let new = c.replace_property.new.tree.nodes in
     property_nobodys old new c.args.number c.in-Some-2.new c.len.ensures.tree c.replace_property.ensures.tree (chars c.args.name.now) (plain c.args.value.now)
+    (of_some (IsPropertyReplaced old new c.args.number (chars c.args.name.now) (plain c.args.value.now)) c.in_ok-new.field-0 c.in-Some-2.new c.in-Some-2.is c.in_ok-new.ensures.replaced)
+
+pub returns-clause-step : goal.returns-clause-step
+returns-clause-step g c =
+    let old = c.args.tree.now.nodes in
+    let new = c.replace_property.new.tree.nodes in
+    property_replaced_step old new c.len.ensures.tree c.replace_property.ensures.tree c.args.number c.in-Some-2.new (chars c.args.name.now) (plain c.args.value.now)
+    (scalars-chars c.args.name.now c.utf8.name) (of_texts _ c.args.value.now)
     (of_some (IsPropertyReplaced old new c.args.number (chars c.args.name.now) (plain c.args.value.now)) c.in_ok-new.field-0 c.in-Some-2.new c.in-Some-2.is c.in_ok-new.ensures.replaced)

@@ -10,6 +10,8 @@ use Rattle.jsonc_typed.proofs.Kept.{as_typed, nodes_stay}
 use Rattle.jsonc_typed.proofs.Roots.{becomes, is_written, set_there, stay_set}
 use Rattle.jsonc_typed.proofs.Marked.{root_marked}
 use Rattle.jsonc_typed.proofs.Around.{root_around}
+use Rattle.jsonc_typed.proofs.Steps.{root_step}
+use Rattle.jsonc_from_input.proofs.Texts.{of_texts}
 use Rattle.jsonc_typed.proofs.setting.set_root.Goals as goal
 
 pub node_at-requires : goal.node_at-requires
@@ -63,3 +65,11 @@ returns-clause-around g c = λ p.
     let old = c.args.tree.now.nodes in
     let new = c.set_root.new.tree.nodes in
     root_around old new (plain c.args.value.now) c.len.ensures.tree p (value_at old 0) c.in_ok-number.number refl c.in_ok-number.ensures.replaced c.in_ok-number.ensures.first
+
+pub returns-clause-step : goal.returns-clause-step
+returns-clause-step g c =
+    let old = c.args.tree.now.nodes in
+    let new = c.set_root.new.tree.nodes in
+    let v = plain c.args.value.now in
+    root_step old new c.len.ensures.tree c.set_root.ensures.tree v c.in_ok-number.number (of_texts _ c.args.value.now)
+    (becomes old new v (value_at old 0) c.in_ok-number.number c.in_ok-number.ensures.replaced c.in_ok-number.ensures.first)

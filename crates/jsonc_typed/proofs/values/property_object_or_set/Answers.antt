@@ -12,6 +12,8 @@ use Rattle.jsonc_typed.proofs.Held.{found_is, found_is_child, found_is_written, 
 use Rattle.jsonc_typed.proofs.Whole.{value_for_memory}
 use Rattle.jsonc_typed.proofs.Marked.{held_empty_marked}
 use Rattle.jsonc_typed.proofs.Elsewhere.{found_elsewhere}
+use Rattle.jsonc_promise.specs.Below.named.declared.shape.Shape.TheVariants.{Object}
+use Rattle.jsonc_typed.proofs.Steps.{held_shape_step}
 use Rattle.jsonc_typed.proofs.values.property_object_or_set.Goals as goal
 
 pub object_at-requires : goal.object_at-requires
@@ -56,3 +58,7 @@ returns-clause-elsewhere g c =
     let old = c.args.tree.now.nodes in
     let new = c.property_object_or_set.new.tree.nodes in
     found_elsewhere old new c.len.ensures.tree c.property_object_or_set.ensures.tree c.args.property c.requires.there c.requires.property (object no_members) is_object (value_at old c.args.property) c.in_ok-number.number refl c.in_ok-number.ensures.value
+
+pub returns-clause-step : goal.returns-clause-step
+returns-clause-step g c =
+    held_shape_step c.args.tree.now.nodes c.property_object_or_set.new.tree.nodes c.len.ensures.tree c.property_object_or_set.ensures.tree c.args.property Object c.in_ok-number.number c.in_ok-number.ensures.named c.in_ok-number.ensures.value c.requires.property

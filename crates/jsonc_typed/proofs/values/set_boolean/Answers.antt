@@ -3,6 +3,8 @@ use Rattle.jsonc_typed.specs.Values.{BooleanIsWritten}
 use Rattle.jsonc_typed.proofs.Held.{boolean_is_written, boolean_or_kept}
 use Rattle.jsonc_typed.specs.Edits.{StaysElsewhere}
 use Rattle.jsonc_typed.proofs.Elsewhere.{if_boolean}
+use Rattle.jsonc_typed.specs.Steps.{IsSettingBoolean}
+use Rattle.jsonc_typed.proofs.Steps.{boolean_step, ok_then}
 use Rattle.jsonc_typed.proofs.values.set_boolean.Goals as goal
 
 pub returns-clause-written : goal.returns-clause-written
@@ -27,3 +29,11 @@ returns-clause-elsewhere g c =
     let number = c.boolean_number-number in
     subst (λ n. OnOk c.set_boolean.result (StaysElsewhere old new n)) number.ensures.number
     (if_boolean old new c.len.ensures.tree c.set_boolean.ensures.tree number.result c.args.value number.ensures.there c.set_boolean.result c.set_boolean.ensures.set)
+
+pub returns-clause-step : goal.returns-clause-step
+returns-clause-step g c =
+    let old = c.args.tree.now.nodes in
+    let new = c.set_boolean.new.tree.nodes in
+    let number = c.boolean_number-number in
+    subst (λ n. OnOk c.set_boolean.result (IsSettingBoolean old new n c.args.value)) number.ensures.number
+    (ok_then c.set_boolean.result (λ set. boolean_step old new c.len.ensures.tree c.set_boolean.ensures.tree number.result c.args.value set number.ensures.boolean) c.set_boolean.ensures.set)

@@ -9,6 +9,8 @@ use Rattle.jsonc_typed.proofs.Held.{held_becomes, held_is_child, held_is_written
 use Rattle.jsonc_typed.proofs.Marked.{held_marked}
 use Rattle.jsonc_typed.proofs.Around.{held_around}
 use Rattle.jsonc_typed.proofs.Elsewhere.{held_elsewhere}
+use Rattle.jsonc_typed.proofs.Steps.{held_step}
+use Rattle.jsonc_from_input.proofs.Texts.{of_texts}
 use Rattle.jsonc_typed.proofs.values.set_property_value.Goals as goal
 
 pub node_at-requires : goal.node_at-requires
@@ -75,3 +77,12 @@ returns-clause-elsewhere g c =
     let v = plain c.args.value.now in
     held_elsewhere old new c.len.ensures.tree c.set_property_value.ensures.tree p c.requires.there c.requires.property v (value_at old p) c.in_ok-number.number refl
     (held_becomes old new p v (value_at old p) c.in_ok-number.number c.in_ok-number.ensures.replaced c.in_ok-number.ensures.last)
+
+pub returns-clause-step : goal.returns-clause-step
+returns-clause-step g c =
+    let old = c.args.tree.now.nodes in
+    let new = c.set_property_value.new.tree.nodes in
+    let p = c.args.property in
+    let v = plain c.args.value.now in
+    held_step old new c.len.ensures.tree c.set_property_value.ensures.tree p v c.in_ok-number.number (of_texts _ c.args.value.now)
+    (held_becomes old new p v (value_at old p) c.in_ok-number.number c.in_ok-number.ensures.replaced c.in_ok-number.ensures.last) c.requires.property

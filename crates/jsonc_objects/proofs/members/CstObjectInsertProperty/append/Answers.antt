@@ -2,7 +2,7 @@ use Rattle.std.proofs.Common.{ℕ, length, OnOk, chars, subst}
 use Rattle.jsonc_input.specs.Views.{plain}
 use Rattle.jsonc_nodes.specs.Siblings.{elements_at}
 use Rattle.jsonc_typed.specs.Edits.{StaysElsewhere}
-use Rattle.jsonc_objects.specs.Members.{PutsNamedAtItsPath}
+use Rattle.jsonc_objects.specs.Members.{PutsNamedAtItsPath, IsAppendingNamed}
 use Rattle.jsonc_objects.proofs.members.CstObjectInsertProperty.append.Goals as goal
 
 pub returns-clause-written : goal.returns-clause-written
@@ -14,3 +14,8 @@ pub returns-clause-elsewhere : goal.returns-clause-elsewhere
 returns-clause-elsewhere g c =
     let old = c.args.doc.now.tree.nodes in
     subst (λ (n : ℕ). OnOk c.append_to-put.result (StaysElsewhere old c.append_to-put.new.tree.nodes n)) c.object_number-number.ensures.number c.append_to-put.ensures.elsewhere
+
+pub returns-clause-step : goal.returns-clause-step
+returns-clause-step g c =
+    let old = c.args.doc.now.tree.nodes in
+    subst (λ (n : ℕ). OnOk c.append_to-put.result (IsAppendingNamed old c.append_to-put.new.tree.nodes n (chars c.args.name.now) (plain c.args.value))) c.object_number-number.ensures.number c.append_to-put.ensures.step

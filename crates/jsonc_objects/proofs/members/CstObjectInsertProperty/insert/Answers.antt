@@ -1,7 +1,7 @@
 use Rattle.std.proofs.Common.{ℕ, OnOk, chars, subst}
 use Rattle.jsonc_input.specs.Views.{plain}
 use Rattle.jsonc_typed.specs.Edits.{StaysElsewhere}
-use Rattle.jsonc_objects.specs.Members.{PutsNamedAtItsPath}
+use Rattle.jsonc_objects.specs.Members.{PutsNamedAtItsPath, IsInsertingNamed}
 use Rattle.jsonc_objects.proofs.members.CstObjectInsertProperty.insert.Goals as goal
 
 pub returns-clause-written : goal.returns-clause-written
@@ -13,3 +13,8 @@ pub returns-clause-elsewhere : goal.returns-clause-elsewhere
 returns-clause-elsewhere g c =
     let old = c.args.doc.now.tree.nodes in
     subst (λ (n : ℕ). OnOk c.insert_at-put.result (StaysElsewhere old c.insert_at-put.new.tree.nodes n)) c.object_number-number.ensures.number c.insert_at-put.ensures.elsewhere
+
+pub returns-clause-step : goal.returns-clause-step
+returns-clause-step g c =
+    let old = c.args.doc.now.tree.nodes in
+    subst (λ (n : ℕ). OnOk c.insert_at-put.result (IsInsertingNamed old c.insert_at-put.new.tree.nodes n c.args.index (chars c.args.name.now) (plain c.args.value))) c.object_number-number.ensures.number c.insert_at-put.ensures.step

@@ -1,7 +1,9 @@
 use Rattle.std.proofs.Common.{◌≡◌, ℕ, OnErr, OnOk, ap, subst, ◌∙◌}
-use Rattle.jsonc_cst.specs.Nodes.{number_of}
+use Rattle.jsonc_cst.specs.Nodes.{number_of, typed_at}
 use Rattle.jsonc_typed.specs.Commas.{CommasSet, CommasSetInPart, CommasStand, CommasWritten}
 use Rattle.jsonc_typed.specs.Edits.{StaysElsewhere}
+use Rattle.jsonc_typed.specs.Steps.{IsHolder, IsSettingCommas, IsSettingSomeCommas}
+use Rattle.jsonc_typed.proofs.Steps.{commas_on, some_commas_on}
 use Rattle.jsonc_typed.proofs.commas.SetTrailingCommas.set_trailing_commas.Goals as goal
 
 pub returns-clause-set : goal.returns-clause-set
@@ -37,4 +39,22 @@ returns-clause-elsewhere g c =
     let old = c.args.doc.now.tree.nodes in
     let new = c.set_commas-set.new.tree.nodes in
     let same : c.number.result ≡ number_of (g.Self.IsNode.node_of c.args.self) = c.number.ensures ∙ ap number_of c.node.ensures in
-    subst (λ (n : ℕ). OnOk c.set_commas-set.result (StaysElsewhere old new n)) same c.set_commas-set.ensures.elsewhere
+    subst (λ (n : ℕ). StaysElsewhere old new n) same c.set_commas-set.ensures.elsewhere
+
+pub returns-clause-step : goal.returns-clause-step
+returns-clause-step g c =
+    let old = c.args.doc.now.tree.nodes in
+    let new = c.set_commas-set.new.tree.nodes in
+    let node = g.Self.IsNode.node_of c.args.self in
+    let same : c.number.result ≡ number_of node = c.number.ensures ∙ ap number_of c.node.ensures in
+    commas_on old new node c.requires c.args.mode c.set_commas-set.result
+    (subst (λ (n : ℕ). OnOk c.set_commas-set.result (IsHolder (typed_at old n) → IsSettingCommas old new c.args.mode n)) same c.set_commas-set.ensures.step)
+
+pub returns-clause-begun : goal.returns-clause-begun
+returns-clause-begun g c =
+    let old = c.args.doc.now.tree.nodes in
+    let new = c.set_commas-set.new.tree.nodes in
+    let node = g.Self.IsNode.node_of c.args.self in
+    let same : c.number.result ≡ number_of node = c.number.ensures ∙ ap number_of c.node.ensures in
+    some_commas_on old new node c.requires c.args.mode c.set_commas-set.result
+    (subst (λ (n : ℕ). OnErr c.set_commas-set.result (IsHolder (typed_at old n) → IsSettingSomeCommas old new c.args.mode n)) same c.set_commas-set.ensures.begun)

@@ -3,6 +3,7 @@ use Rattle.jsonc_input.specs.Views.{plain}
 use Rattle.jsonc_nodes.specs.Siblings.{elements_at}
 use Rattle.jsonc_typed.specs.Edits.{StaysElsewhere}
 use Rattle.jsonc_typed.specs.Inserting.{PutsAtItsPath}
+use Rattle.jsonc_typed.specs.Steps.{IsAppending}
 use Rattle.jsonc_typed.proofs.inserting.CstArrayInsertElement.append.Goals as goal
 
 pub returns-clause-written : goal.returns-clause-written
@@ -14,3 +15,8 @@ pub returns-clause-elsewhere : goal.returns-clause-elsewhere
 returns-clause-elsewhere g c =
     let old = c.args.doc.now.tree.nodes in
     subst (λ (n : ℕ). OnOk c.append_to-put.result (StaysElsewhere old c.append_to-put.new.tree.nodes n)) c.array_number-number.ensures.number c.append_to-put.ensures.elsewhere
+
+pub returns-clause-step : goal.returns-clause-step
+returns-clause-step g c =
+    let old = c.args.doc.now.tree.nodes in
+    subst (λ (n : ℕ). OnOk c.append_to-put.result (IsAppending old c.append_to-put.new.tree.nodes n (plain c.args.value))) c.array_number-number.ensures.number c.append_to-put.ensures.step

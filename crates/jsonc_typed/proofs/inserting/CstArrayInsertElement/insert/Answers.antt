@@ -2,6 +2,7 @@ use Rattle.std.proofs.Common.{ℕ, OnOk, subst}
 use Rattle.jsonc_input.specs.Views.{plain}
 use Rattle.jsonc_typed.specs.Edits.{StaysElsewhere}
 use Rattle.jsonc_typed.specs.Inserting.{PutsAtItsPath}
+use Rattle.jsonc_typed.specs.Steps.{IsInserting}
 use Rattle.jsonc_typed.proofs.inserting.CstArrayInsertElement.insert.Goals as goal
 
 pub returns-clause-written : goal.returns-clause-written
@@ -13,3 +14,8 @@ pub returns-clause-elsewhere : goal.returns-clause-elsewhere
 returns-clause-elsewhere g c =
     let old = c.args.doc.now.tree.nodes in
     subst (λ (n : ℕ). OnOk c.insert_at-put.result (StaysElsewhere old c.insert_at-put.new.tree.nodes n)) c.array_number-number.ensures.number c.insert_at-put.ensures.elsewhere
+
+pub returns-clause-step : goal.returns-clause-step
+returns-clause-step g c =
+    let old = c.args.doc.now.tree.nodes in
+    subst (λ (n : ℕ). OnOk c.insert_at-put.result (IsInserting old c.insert_at-put.new.tree.nodes n c.args.index (plain c.args.value))) c.array_number-number.ensures.number c.insert_at-put.ensures.step

@@ -2,9 +2,11 @@ use Rattle.std.proofs.Common.{◌≡◌, false, IfOk, IfSome, ap, subst, ◌∙�
 use Rattle.jsonc_input.specs.Views.{plain}
 use Rattle.jsonc_edit.specs.Written.{Writes}
 use Rattle.jsonc_typed.specs.Edits.{is_name_in, IsNobodys, IsReplacedAs, StaysElsewhere}
-use Rattle.jsonc_cst.specs.Nodes.{number_of}
+use Rattle.jsonc_cst.specs.Nodes.{number_of, typed_at}
 use Rattle.jsonc_typed.specs.Marked.{IsMarkedFor}
 use Rattle.jsonc_typed.specs.Around.{StaysAroundValue}
+use Rattle.jsonc_typed.specs.Steps.{IsReplacing, IsValueIn}
+use Rattle.jsonc_typed.proofs.Steps.{replaced_on}
 use Rattle.jsonc_typed.proofs.replacing.ReplaceWith.replace_with.Goals as goal
 
 pub returns-clause-replaced : goal.returns-clause-replaced
@@ -47,3 +49,12 @@ returns-clause-gone g c =
     let new = c.replace_node-replaced.new.tree.nodes in
     let same : c.number.result ≡ number_of (g.Self.IsNode.node_of c.args.self) = c.number.ensures ∙ ap number_of c.node.ensures in
     subst (λ k. IfOk c.replace_node-replaced.result (λ o. IfSome o (λ m. IsNobodys new k))) same c.replace_node-replaced.ensures.gone
+
+pub returns-clause-step : goal.returns-clause-step
+returns-clause-step g c =
+    let old = c.args.doc.now.tree.nodes in
+    let new = c.replace_node-replaced.new.tree.nodes in
+    let node = g.Self.IsNode.node_of c.args.self in
+    let same : c.number.result ≡ number_of node = c.number.ensures ∙ ap number_of c.node.ensures in
+    replaced_on old new node c.requires (plain c.args.value) c.replace_node-replaced.result
+    (subst (λ k. IfOk c.replace_node-replaced.result (λ o. IfSome o (λ m. is_name_in old k ≡ false → IsValueIn old (typed_at old k) → IsReplacing old new k (plain c.args.value)))) same c.replace_node-replaced.ensures.step)

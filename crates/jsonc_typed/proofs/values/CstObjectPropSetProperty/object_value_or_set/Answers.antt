@@ -1,6 +1,8 @@
 use Rattle.std.proofs.Common.{OnOk, subst}
 use Rattle.jsonc_typed.specs.Edits.{StaysElsewhere}
 use Rattle.jsonc_typed.specs.Values.{HeldObjectIsMarked}
+use Rattle.jsonc_promise.specs.Below.named.declared.shape.Shape.TheVariants.{Object}
+use Rattle.jsonc_typed.specs.Steps.{IsEnsuringValue}
 use Rattle.jsonc_typed.proofs.values.CstObjectPropSetProperty.object_value_or_set.Goals as goal
 
 pub returns-clause-marked : goal.returns-clause-marked
@@ -14,3 +16,9 @@ returns-clause-elsewhere g c =
     let old = c.args.doc.now.tree.nodes in
     let new = c.property_object_or_set-found.new.tree.nodes in
     subst (λ n. OnOk c.property_object_or_set-found.result (StaysElsewhere old new n)) c.property_number-number.ensures.number c.property_object_or_set-found.ensures.elsewhere
+
+pub returns-clause-step : goal.returns-clause-step
+returns-clause-step g c =
+    let old = c.args.doc.now.tree.nodes in
+    let new = c.property_object_or_set-found.new.tree.nodes in
+    subst (λ n. OnOk c.property_object_or_set-found.result (IsEnsuringValue old new n Object)) c.property_number-number.ensures.number c.property_object_or_set-found.ensures.step

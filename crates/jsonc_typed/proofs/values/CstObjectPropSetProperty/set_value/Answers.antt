@@ -2,6 +2,7 @@ use Rattle.std.proofs.Common.{OnOk, subst}
 use Rattle.jsonc_input.specs.Views.{plain}
 use Rattle.jsonc_typed.specs.Edits.{StaysElsewhere}
 use Rattle.jsonc_typed.specs.Values.{HeldIsMarked, HeldStaysAround}
+use Rattle.jsonc_typed.specs.Steps.{IsSettingValue}
 use Rattle.jsonc_typed.proofs.values.CstObjectPropSetProperty.set_value.Goals as goal
 
 pub returns-clause-marked : goal.returns-clause-marked
@@ -21,3 +22,9 @@ returns-clause-elsewhere g c =
     let old = c.args.doc.now.tree.nodes in
     let new = c.set_property_value-set.new.tree.nodes in
     subst (λ n. OnOk c.set_property_value-set.result (StaysElsewhere old new n)) c.property_number-number.ensures.number c.set_property_value-set.ensures.elsewhere
+
+pub returns-clause-step : goal.returns-clause-step
+returns-clause-step g c =
+    let old = c.args.doc.now.tree.nodes in
+    let new = c.set_property_value-set.new.tree.nodes in
+    subst (λ n. OnOk c.set_property_value-set.result (IsSettingValue old new n (plain c.args.value))) c.property_number-number.ensures.number c.set_property_value-set.ensures.step
