@@ -16,6 +16,7 @@ use Rattle.jsonc_edit.specs.Paths.{IsAt, IsElementOf}
 use Rattle.jsonc_edit.specs.declared.error.EditError.{EditError}
 use Rattle.jsonc_edit.specs.declared.error.EditError.TheVariants.{OutOfMemory}
 use Rattle.jsonc_edit.proofs.FittingFinds.{none_is_some}
+use Rattle.jsonc_set.proofs.PropertyRows.{over_at}
 use Rattle.jsonc_set.specs.Kinds.{FoundOrCreated}
 use Rattle.jsonc_parser.specs.Below.named.Places.{IsPropertyOf, a_property}
 use Rattle.jsonc_parser.specs.Below.named.Shapes.{has_shape, is_of, empty_of}
@@ -30,7 +31,8 @@ use Rattle.jsonc_cst.specs.declared.cst.node.CstNode.{CstNode}
 use Rattle.jsonc_cst.specs.declared.cst.node.CstObjectProp.{CstObjectProp}
 use Rattle.jsonc_cst.specs.Nodes.{array_node, object_node, typed}
 use Rattle.jsonc_cst.specs.Readings.{array_if, object_if, typed_if}
-use Rattle.jsonc_parser.specs.Below.typed.Inserting.{ComesInAt, PutsAtItsPath, PutsButForMemory}
+use Rattle.jsonc_parser.specs.Below.typed.Inserting.{ComesInAt, PutsAtItsPath}
+use Rattle.jsonc_parser.specs.Below.typed.Removing.{WantsMemoryAlone}
 use Rattle.jsonc_parser.specs.Below.objects.Members.{NamedComesInAt, PutsNamedAtItsPath}
 use Rattle.jsonc_parser.specs.Below.typed.Setting.{FindsOrCreatesArray, FindsOrCreatesObject, FirstArrayAround, FirstArrayWritten, FirstObjectAround, FirstObjectWritten, FirstOrSame}
 use Rattle.jsonc_parser.specs.Below.typed.Values.{HeldIsMarked, HeldIsWritten, PropertyHolds}
@@ -143,8 +145,8 @@ module _ (o : Options) (old made : List Node) (tree : IsTree made) (x : CstArray
     put = λ may. put (sound_array o old made first s) may [] at;
   }
 
-  pub array_memory : (e : EditError) → PutsButForMemory o made c e → EndsAppending o (printed (ordered_tree old 0)) (Edit e)
-  array_memory e told = memory_appending o (printed (ordered_tree old 0)) e (told (sound_array o old made first s) [] at)
+  pub array_memory : (e : EditError) → WantsMemoryAlone o made c e → EndsAppending o (printed (ordered_tree old 0)) (Edit e)
+  array_memory e told = memory_appending o (printed (ordered_tree old 0)) e (told (sound_array o old made first s) (over_at made tree [] c at))
 
 -- a property that was found is one
 Property : List Node → Option ℕ → Type 0
@@ -216,5 +218,5 @@ module _ (o : Options) (old made : List Node) (tree : IsTree made) (x : CstObjec
       pub sets_property : PropertyHolds made new p v now → HeldIsWritten made new o p v now → HeldIsMarked made new p v → SetsFirst o name v old new
       sets_property becomes written marked = sets_by (Some p) named (sets_value becomes written marked)
 
-  pub object_memory : (e : EditError) → PutsButForMemory o made k e → EndsSetting o (printed (ordered_tree old 0)) (Edit e)
-  object_memory e told = memory_setting o (printed (ordered_tree old 0)) e (told sound [] stands_there)
+  pub object_memory : (e : EditError) → WantsMemoryAlone o made k e → EndsSetting o (printed (ordered_tree old 0)) (Edit e)
+  object_memory e told = memory_setting o (printed (ordered_tree old 0)) e (told sound (over_at made tree [] k stands_there))

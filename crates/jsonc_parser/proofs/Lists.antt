@@ -1,31 +1,29 @@
 -- Edits that a list makes: one more of them, what they say of nodes, and where none can be made.
 use Rattle.std.proofs.Common.{◌≡◌, ◌<◌, ◌+◌, ℕ, zero, suc, Bool, true, false, List, [], ◌∷◌, ◌++◌, Some, Result, Ok, Err, OnOk, OnErr, IfErr, length, get_or, take, refl, sym, ap, subst, ◌∙◌, arith}
-use Rattle.std.specs.List.{slice_get}
+use Rattle.std.specs.List.{slice_get, All}
+use Rattle.std.proofs.lemmas.List.Elements.{All-nil, All-cons, All-head, All-tail}
 use Rattle.std.specs.declared.cmp.Ordering.{Ordering}
 use Rattle.std.specs.declared.vec.Vec.{Vec}
 use denote.Ref.{Bor}
 use denote.Param.Members.{Shared}
 use Rattle.jsonc_text.specs.Options.{Options}
-use Rattle.jsonc_tree.specs.OrderedTree.{OrderedTree, ordered_tree}
 use Rattle.jsonc_tree.specs.Tree.{Node, IsTree}
-use Rattle.jsonc_build.specs.Shape.{printed_text}
 use Rattle.jsonc_edit.specs.declared.error.EditError.{EditError}
-use Rattle.jsonc_laws.specs.Marks.{AreMarks}
 use Rattle.jsonc_run.specs.declared.edit.Edit.{Edit}
 use Rattle.jsonc_run.specs.declared.edit.Edit.TheVariants.{Replace, Remove, RemoveComment, SetRoot, ClearRoot, ReplaceProperty, EnsureRoot, SetValue, EnsureValue, SetBoolean, EnsureMultiline, InsertElement, AppendElement, InsertProperty, AppendProperty, EnsureProperty, SetTrailingCommas, Sort}
 use Rattle.jsonc_run.specs.Edits as nodes
-use Rattle.jsonc_run.specs.Edits.{Operation, Sorting, is_sort, operation_of, rearrange, set_commas, set_some_commas, unsorted, AreMade, IsMade}
-use Rattle.jsonc_run.specs.Marked.{MarkAll}
-use Rattle.jsonc_run.specs.Refusals.{IsLeft, IsToldBy, as_it_was, set_in_part}
-use Rattle.jsonc_run.specs.Written.{AreWritten, WriteAll, options_after}
-use Rattle.jsonc_run.proofs.Marking.{mark_all}
-use Rattle.jsonc_run.proofs.Named.{unnamed_after}
-use Rattle.jsonc_run.proofs.Refused.{refused_after}
-use Rattle.jsonc_run.proofs.Written.{write_all}
+use Rattle.jsonc_run.specs.Edits.{Operation, Sorting, is_sort, operation_of, rearrange, unsorted, AreMade, IsMade}
+use Rattle.jsonc_run.specs.Steps.{Fits, IsOfCharacters, NumbersFit}
+use Rattle.jsonc_run.specs.Refusals.{IsLeft, IsToldBy}
+use Rattle.jsonc_run.proofs.Steps.{of_characters, fits_alike}
+use Rattle.jsonc_promise.specs.Asked.{Ask, none_asked, one_asked}
+use Rattle.jsonc_promise.specs.Words.{all_in_texts, in_texts}
+use Rattle.jsonc_promise.proofs.Asked.{asks_so, stops_so}
+use Rattle.jsonc_promise.proofs.Leads.{edits_lead}
 use Rattle.jsonc_cst.specs.declared.cst.CstRootNode.{CstRootNode}
 use Rattle.jsonc_cst.specs.declared.cst.node.CstNode.{CstNode}
 use Rattle.jsonc_cst.specs.Document.{nodes_of}
-use Rattle.jsonc_parser.specs.Lists.{AreMadeAs, none_made, first_made, HaveBeenMade, HaveStopped, IsAsked, IsDone, no_more, and_commas, IsMadeAs, IsMadeSo, IsSorting}
+use Rattle.jsonc_parser.specs.Lists.{AreMadeAs, none_made, first_made, HaveBeenMade, HaveStopped, IsAsked, IsMadeAs, IsMadeSo, IsSorting}
 
 -- an edit that is no sort asks for the same however sorts are done
 pub asks_alike : {A : Type 0} (s : Sorting) (e : Edit A) → is_sort e ≡ false → operation_of unsorted e ≡ operation_of s e
@@ -100,15 +98,6 @@ module _ {A : Type 0} (e : Edit A) (path : Vec ℕ A) (pin groups : Bool) (is : 
     },
   )
 
--- more than one operation on nodes
-made_tree : {old new : List Node} {es : List Operation} → IsTree old → AreMade old es new → IsTree new
-made_tree tree nodes.none_made = tree
-made_tree tree (nodes.first_made is after rest) = made_tree after rest
-
-more_made : {old now new : List Node} (es : List Operation) (e : Operation) → AreMade old es now → IsMade now e new → IsTree new → AreMade old (es ++ e ∷ []) new
-more_made [] e nodes.none_made made tree = nodes.first_made made tree nodes.none_made
-more_made (d ∷ ds) e (nodes.first_made first t rest) made tree = nodes.first_made first t (more_made ds e rest made tree)
-
 -- the next of a list, as it is seen
 pub next_seen : {X : Type 0} (xs : List X) (i : ℕ) (x : X) → i < length xs → x ≡ get_or xs i x → slice_get xs i ≡ Some x
 next_seen [] i x h e = absurd (omega (arith, h))
@@ -155,6 +144,16 @@ module _ {C D A : Type 0} (call : Shared C (Bor D × (CstNode × (CstNode × Uni
   as_nodes none_made = nodes.none_made
   as_nodes (first_made is after rest) = nodes.first_made is.made after (as_nodes rest)
 
+  -- what they write is characters, and its numbers fit
+  pub are_characters : {old new : CstRootNode A} {es : List (Edit A)} {ops : List Operation} → AreMadeAs call compare same old es ops new → All IsOfCharacters ops
+  are_characters none_made = All-nil IsOfCharacters
+  are_characters (first_made {e = e} {operations = operations} is after rest) = All-cons IsOfCharacters _ operations (subst IsOfCharacters (sym is.is) (of_characters is.sorting e)) (are_characters rest)
+
+  pub numbers_fit : (o : Options) {old new : CstRootNode A} {es : List (Edit A)} {ops : List Operation} → AreMadeAs call compare same old es ops new → All (Fits o) es → All (NumbersFit o) ops
+  numbers_fit o none_made f = All-nil (NumbersFit o)
+  numbers_fit o (first_made {e = e} {es = es} {operations = operations} is after rest) f =
+      All-cons (NumbersFit o) _ operations (subst (NumbersFit o) (sym is.is) (fits_alike o is.sorting e (All-head (Fits o) e es f))) (numbers_fit o rest (All-tail (Fits o) e es f))
+
   -- one more edit
   pub made_more : (es : List (Edit A)) (ops : List Operation) (e : Edit A) (op : Operation) {old now new : CstRootNode A} → AreMadeAs call compare same old es ops now → IsMadeAs call compare same now e op new → IsTree (nodes_of new) → AreMadeAs call compare same old (es ++ e ∷ []) (ops ++ op ∷ []) new
   made_more [] [] e op none_made made tree = first_made made tree none_made
@@ -170,53 +169,33 @@ module _ {C D A : Type 0} (call : Shared C (Bor D × (CstNode × (CstNode × Uni
     subst (λ (l : List (Edit A)). AreMadeAs call compare same old l (ops ++ op ∷ []) new) (taken_seen es k e there is) (made_more (take k es) ops e op made next tree),
   )
 
+  -- they ask for their operations
+  asked_for : {old new : CstRootNode A} {es : List (Edit A)} {ops : List Operation} → AreMadeAs call compare same old es ops new → Ask es (all_in_texts ops)
+  asked_for none_made = none_asked
+  asked_for (first_made {e = e} {es = es} {operations = ops} is after rest) =
+      let s : Sorting = is.sorting in
+      subst (λ op. Ask (e ∷ es) (op ∷ all_in_texts ops)) (asks_so s e ∙ ap in_texts (sym is.is)) (one_asked s.order (asked_for rest))
+
   -- all of them
   pub have_been_made : (old new : CstRootNode A) (es : List (Edit A)) (ops : List Operation) → IsTree (nodes_of old) → AreMadeAs call compare same old es ops new → HaveBeenMade call compare same old es new
   have_been_made old new es ops tree made = record {
     operations = ops;
     made = made;
-    written = λ o. write_all o (nodes_of old) (nodes_of new) ops tree (as_nodes made);
-    marked = λ o. mark_all o (nodes_of old) (nodes_of new) ops tree (as_nodes made);
+    edited = λ d shown fit.
+        let lead = edits_lead (nodes_of old) (nodes_of new) ops tree (as_nodes made) (are_characters made) d shown (numbers_fit d.options made fit) in
+        (lead.0, lead.1, (all_in_texts ops, asked_for made, lead.2));
   }
 
--- what has been done where an edit was refused
-record WasDone {A : Type 0} (old new : List Node) (next : Edit A) (ops : List Operation) : Type 0 where
-  done : List Operation
-  are : IsDone next ops done
-  written : (o : Options) → WriteAll o old done new
-  marked : (o : Options) → MarkAll o old done new
-
-what_was_done : {A : Type 0} (old now new : List Node) (next : Edit A) (ops : List Operation) (e : Operation) → IsTree old → IsTree new → AreMade old ops now → operation_of unsorted next ≡ e → IsLeft now e new → WasDone old new next ops
-what_was_done old now new next ops e tree after made asked (as_it_was kept same) = record {
-  done = ops;
-  are = no_more;
-  written = λ o s may. subst (λ (t : OrderedTree). AreWritten o ops (ordered_tree old 0) t) (sym same) (write_all o old now ops tree made s may);
-  marked = λ o s may x y p q. mark_all o old now ops tree made s may x y p (subst (λ (t : OrderedTree). AreMarks (options_after o ops) (printed_text t) y) same q);
-}
-what_was_done old now new next ops _ tree after made asked (set_in_part {path = path} {mode = mode} n at part) =
-    let all : AreMade old (ops ++ set_some_commas path mode ∷ []) new = more_made ops (set_some_commas path mode) made (n, at, part) after in record {
-      done = ops ++ set_some_commas path mode ∷ [];
-      are = and_commas asked;
-      written = λ o. write_all o old new (ops ++ set_some_commas path mode ∷ []) tree all;
-      marked = λ o. mark_all o old new (ops ++ set_some_commas path mode ∷ []) tree all;
-    }
-
-module _ {C D A : Type 0} (call : Shared C (Bor D × (CstNode × (CstNode × Unit {0}))) Ordering) (compare : C) (same : CstRootNode A → D) where
+  -- the first of them, and why the next was not
   pub have_stopped : (old now new : CstRootNode A) (es : List (Edit A)) (k : ℕ) (ops : List Operation) (next : Edit A) (why : EditError) → IsTree (nodes_of old) → IsTree (nodes_of new) → AreMadeAs call compare same old (take k es) ops now → slice_get es k ≡ Some next
       → ((s : Sorting) → IsToldBy (nodes_of now) (operation_of s next) why) → ((s : Sorting) → IsLeft (nodes_of now) (operation_of s next) (nodes_of new)) → HaveStopped call compare same old es k why new
-  have_stopped old now new es k ops next why tree after made is_next told left =
-      let was = what_was_done (nodes_of old) (nodes_of now) (nodes_of new) next ops (operation_of unsorted next) tree after (as_nodes call compare same made) refl (left unsorted) in record {
-        operations = ops;
-        now = now;
-        made = made;
-        next = next;
-        is_next = is_next;
-        told = told;
-        left = left;
-        memory_or_place = λ o. refused_after o (nodes_of old) (nodes_of now) ops (operation_of unsorted next) why tree (as_nodes call compare same made) (told unsorted);
-        named = λ o s. unnamed_after o (nodes_of old) (nodes_of now) ops (operation_of s next) why tree (as_nodes call compare same made) (told s);
-        done = was.done;
-        are_done = was.are;
-        written = was.written;
-        marked = was.marked;
-      }
+  have_stopped old now new es k ops next why tree after made is_next told left = record {
+    operations = ops;
+    now = now;
+    made = made;
+    next = next;
+    is_next = is_next;
+    told = told;
+    left = left;
+    edited = stops_so (nodes_of old) (nodes_of now) (nodes_of new) es k ops next why tree after (as_nodes made) (are_characters made) (λ o fit. numbers_fit o made fit) (asked_for made) is_next (told unsorted) (left unsorted);
+  }

@@ -1,25 +1,21 @@
 -- What a list of edits makes of a document.
 use Rattle.std.specs.Prelude.{◌≡◌, ℕ, Bool, List, [], ◌∷◌, ◌++◌, Some, take}
-use Rattle.std.specs.List.{slice_get}
+use Rattle.std.specs.List.{slice_get, All}
 use Rattle.std.specs.declared.cmp.Ordering.{Ordering}
 use denote.Ref.{Bor}
 use denote.Param.Members.{Shared}
-use Rattle.jsonc_text.specs.Options.{Options}
 use Rattle.jsonc_tree.specs.Tree.{IsTree}
 use Rattle.jsonc_edit.specs.declared.error.EditError.{EditError}
-use Rattle.jsonc_edit.specs.declared.modes.TrailingCommaMode.{TrailingCommaMode}
 use Rattle.jsonc_run.specs.Below.sort.Rearranged.{headers_of}
 use Rattle.jsonc_run.specs.declared.edit.Edit.{Edit}
 use Rattle.jsonc_run.specs.declared.edit.Edit.TheVariants.{Sort}
-use Rattle.jsonc_run.specs.Edits.{Operation, Sorting, operation_of, set_commas, set_some_commas, unsorted, IsMade}
-use Rattle.jsonc_run.specs.Marked.{MarkAll}
-use Rattle.jsonc_run.specs.Named.{TellsUnnamedAfter}
+use Rattle.jsonc_run.specs.Edits.{Operation, Sorting, operation_of, IsMade}
 use Rattle.jsonc_run.specs.Places.{IsContainerAt}
 use Rattle.jsonc_run.specs.Refusals.{IsLeft, IsToldBy}
-use Rattle.jsonc_run.specs.Written.{IsRefusedAfter, WriteAll}
+use Rattle.jsonc_promise.specs.Asked.{EditsTheText, StopsInText}
 use Rattle.jsonc_cst.specs.declared.cst.CstRootNode.{CstRootNode}
 use Rattle.jsonc_cst.specs.declared.cst.node.CstNode.{CstNode}
-use Rattle.jsonc_cst.specs.Document.{nodes_of, Holds}
+use Rattle.jsonc_cst.specs.Document.{nodes_of, tree_of, Holds}
 use Rattle.jsonc_cst.specs.Nodes.{typed_at}
 use Rattle.jsonc_sorting.specs.Asking.{IsInItsOrder}
 use Rattle.jsonc_sorting.specs.Pins.{pins_where}
@@ -60,36 +56,20 @@ module _ {C D A : Type 0} (call : Shared C (Bor D × (CstNode × (CstNode × Uni
     first_made : {old now new : CstRootNode A} {e : Edit A} {operation : Operation} {es : List (Edit A)} {operations : List Operation}
         → IsMadeAs old e operation now → IsTree (nodes_of now) → AreMadeAs now es operations new → AreMadeAs old (e ∷ es) (operation ∷ operations) new
 
-  -- They were all made. If the old document is sound, and what the edits write may be written, then the new text is a document, its value is what the operations
-  -- make of the old one's, all leaves around them stay, and it is sound; and of the literals and comments of the text each changes what it names alone.
+  -- They were all made. Whatever document the old one shows, if the numbers that they write are numbers, they lead from it to one that the new one shows.
   pub record HaveBeenMade (old : CstRootNode A) (edits : List (Edit A)) (new : CstRootNode A) : Type 0 where
     pub operations : List Operation
     pub made : AreMadeAs old edits operations new
-    pub written : (o : Options) → WriteAll o (nodes_of old) operations (nodes_of new)
-    pub marked : (o : Options) → MarkAll o (nodes_of old) operations (nodes_of new)
+    pub edited : EditsTheText (tree_of old) edits (tree_of new)
 
--- of a document in which these operations were made and the next edit was refused this has been made: these; and where it was to set trailing commas perhaps
--- those of some arrays and objects have been set
-pub data IsDone {A : Type 0} (next : Edit A) (operations : List Operation) : List Operation → Type 0 where
-  no_more : IsDone next operations operations
-  and_commas : {path : List ℕ} {mode : TrailingCommaMode} → operation_of unsorted next ≡ set_commas path mode
-      → IsDone next operations (operations ++ set_some_commas path mode ∷ [])
-
-module _ {C D A : Type 0} (call : Shared C (Bor D × (CstNode × (CstNode × Unit {0}))) Ordering) (compare : C) (same : CstRootNode A → D) where
-  -- The first k edits were made, each whole; there is one more, which was not made for this reason, and has left the document so. If the old document is sound,
-  -- then memory or its place was wanted alone, and its place exactly where none is named in the value of the document that those before it made; and what was
-  -- done of it all is written, and changes the marks, as it is where all edits are made.
+  -- The first k edits were made, each whole; there is one more, which was not made for this reason, and has left the document so. Whatever document the old one
+  -- shows, they lead from it to where they stop.
   pub record HaveStopped (old : CstRootNode A) (edits : List (Edit A)) (k : ℕ) (why : EditError) (new : CstRootNode A) : Type 0 where
     pub operations : List Operation
     pub now : CstRootNode A
-    pub made : AreMadeAs call compare same old (take k edits) operations now
+    pub made : AreMadeAs old (take k edits) operations now
     pub next : Edit A
     pub is_next : slice_get edits k ≡ Some next
     pub told : (s : Sorting) → IsToldBy (nodes_of now) (operation_of s next) why
     pub left : (s : Sorting) → IsLeft (nodes_of now) (operation_of s next) (nodes_of new)
-    pub memory_or_place : (o : Options) → IsRefusedAfter o (nodes_of old) operations why
-    pub named : (o : Options) (s : Sorting) → TellsUnnamedAfter o (nodes_of old) operations (nodes_of now) (operation_of s next) why
-    pub done : List Operation
-    pub are_done : IsDone next operations done
-    pub written : (o : Options) → WriteAll o (nodes_of old) done (nodes_of new)
-    pub marked : (o : Options) → MarkAll o (nodes_of old) done (nodes_of new)
+    pub edited : StopsInText (tree_of old) edits k why (tree_of new)

@@ -11,9 +11,10 @@
 //! or object on several lines, [`SetTrailingCommas`] sets trailing commas or takes them away, and
 //! [`SortElements`] and [`SortProperties`] sort.
 //! [`SetRawValue`], [`SetToken`], [`SetWhitespace`] and [`SetNewline`] write a leaf anew as it stands.
-//! [`run`] makes a list of edits, each at its path.
+//! [`run`] makes a list of edits, each at its path, and [`edit_text`] does so of a text.
 
 mod lists;
+mod texts;
 
 pub use jsonc_cst::cst::{
     AncestorIterator, CstArray, CstBooleanLit, CstComment, CstContainerNode, CstInputValue,
@@ -34,3 +35,4 @@ pub use jsonc_sorting::{
     SortProperties,
 };
 pub use lists::run;
+pub use texts::{EditTextError, edit_text};
