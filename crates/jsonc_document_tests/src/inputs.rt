@@ -4,6 +4,7 @@ use jsonc_from_input::{Layout, lay_out};
 use jsonc_input::CstInputValue;
 use jsonc_input::spelling::spell;
 use jsonc_tree::{CstNewlineKind, Tree};
+use refusing::Refusing;
 use refusing::awaited::prints;
 use refusing::outcome::Outcome;
 use std::alloc::{AllocError, Allocator, Global};
@@ -141,7 +142,21 @@ pub fn inputs<A: Allocator + Copy>(alloc: A) -> Outcome {
         .then(object(alloc))
 }
 
+/// Whether values are made of what is there already.
+fn are_given<A: Allocator + Copy>(alloc: A) -> bool {
+    let elements: Vec<CstInputValue<A>, A> = Vec::new(alloc);
+    let properties: Vec<(String<A>, CstInputValue<A>), A> = Vec::new(alloc);
+    let text: CstInputValue<A> = CstInputValue::from(String::new(alloc));
+    let yes: CstInputValue<A> = CstInputValue::from(true);
+    matches!(text, CstInputValue::String(_))
+        && matches!(CstInputValue::from(elements), CstInputValue::Array(_))
+        && matches!(CstInputValue::from(properties), CstInputValue::Object(_))
+        && matches!(yes, CstInputValue::Bool(true))
+}
+
 #[test]
 fn values_are_made_and_strings_spelled(rt: HostRuntime) {
+    let heap = Refusing::always(rt.alloc());
+    assert!(rt; are_given(&heap) && heap.asked() == 0);
     assert!(rt; inputs::<Global>(rt.alloc()) == Outcome::Answered);
 }

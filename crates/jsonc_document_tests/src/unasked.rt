@@ -11,16 +11,100 @@ use jsonc_parser::cst::{
 };
 use refusing::Refusing;
 use refusing::awaited::prints;
+use refusing::flags::is_alone;
 use std::alloc::{Allocator, Global};
 
 /// Leaves of each kind, in a property and in the array of the next one.
 const LEAVES: &str = "{a: \"b\", c: [true,false,null,1 /*c*/\n]}";
 
-static OF_PROPERTY: [&str; 4] = ["a", ":", " ", "\"b\""];
+/// Leaves by their texts, each with the place of its kind.
+static OF_PROPERTY: [(&str, usize); 4] = [("a", 8), (":", 9), (" ", 10), ("\"b\"", 7)];
 
-static OF_ARRAY: [&str; 12] = [
-    "[", "true", ",", "false", ",", "null", ",", "1", " ", "/*c*/", "\n", "]",
+static OF_ARRAY: [(&str, usize); 12] = [
+    ("[", 9),
+    ("true", 4),
+    (",", 9),
+    ("false", 4),
+    (",", 9),
+    ("null", 5),
+    (",", 9),
+    ("1", 6),
+    (" ", 10),
+    ("/*c*/", 12),
+    ("\n", 11),
+    ("]", 9),
 ];
+
+/// Whether a node is of the kind at a place alone, by the calls that give it and by those that only tell.
+fn is_of_kind(node: CstNode, place: usize) -> bool {
+    let given = [
+        node.as_root_node().is_some(),
+        node.as_array().is_some(),
+        node.as_object().is_some(),
+        node.as_object_prop().is_some(),
+        node.as_boolean_lit().is_some(),
+        node.as_null_keyword().is_some(),
+        node.as_number_lit().is_some(),
+        node.as_string_lit().is_some(),
+        node.as_word_lit().is_some(),
+        node.as_token().is_some(),
+        node.as_whitespace().is_some(),
+        node.as_newline().is_some(),
+        node.as_comment().is_some(),
+    ];
+    let told = (
+        node.is_token(),
+        node.is_whitespace(),
+        node.is_newline(),
+        node.is_comment(),
+    );
+    is_alone(&given, place)
+        && told == (place == 9, place == 10, place == 11, place == 12)
+        && node.is_trivia() == (place >= 10)
+}
+
+/// The same of a node that may have children.
+fn is_container_of_kind(container: CstContainerNode, place: usize) -> bool {
+    let given = [
+        container.as_root().is_some(),
+        container.as_array().is_some(),
+        container.as_object().is_some(),
+        container.as_object_prop().is_some(),
+    ];
+    let told = [
+        container.is_root(),
+        container.is_array(),
+        container.is_object(),
+        container.is_object_prop(),
+    ];
+    is_alone(&given, place)
+        && is_alone(&told, place)
+        && is_of_kind(CstNode::Container(container), place)
+}
+
+/// Whether the name of a property is a string, or else a word.
+fn is_name<A: Allocator>(doc: &CstRootNode<A>, property: CstObjectProp, in_quotes: bool) -> bool
+    requires { Holds doc.now (object_prop_node property) }
+{
+    match property.name(doc) {
+        Some(name) => {
+            name.as_string_lit().is_some() == in_quotes && name.as_word_lit().is_none() == in_quotes
+        }
+        None => false,
+    }
+}
+
+/// Whether the pieces of a document, joined, are a text.
+fn is_in_pieces<A: Allocator>(doc: &CstRootNode<A>, text: &str) -> bool {
+    let mut rest = text.as_bytes();
+    for piece in doc.pieces() {
+        match rest.strip_prefix(piece) {
+            Some(after) => rest = after,
+            None => return false,
+        }
+    }
+    rest.is_empty()
+}
 
 /// Whether a leaf holds this text, or what it stands for.
 fn is_leaf<A: Allocator>(doc: &CstRootNode<A>, leaf: CstLeafNode, text: &str) -> bool
@@ -44,31 +128,36 @@ fn is_leaf<A: Allocator>(doc: &CstRootNode<A>, leaf: CstLeafNode, text: &str) ->
     }
 }
 
-/// Whether the children of a node are leaves that hold these texts and print them.
-fn are_leaves<A: Allocator>(doc: &CstRootNode<A>, node: CstNode, texts: &[&str]) -> bool
+/// Whether the children of a node are leaves of these kinds that hold these texts and print them.
+fn are_leaves<A: Allocator>(doc: &CstRootNode<A>, node: CstNode, leaves: &[(&str, usize)]) -> bool
     requires { Holds doc.now node }
 {
-    for (place, text) in texts.iter().enumerate() {
+    for (place, (text, kind)) in leaves.iter().enumerate() {
         let Some(CstNode::Leaf(leaf)) = node.child_at_index(doc, place) else {
             return false;
         };
-        if !is_leaf(doc, leaf, text) || !prints(&leaf.shown(doc), text) {
+        let is_told = is_leaf(doc, leaf, text) && is_of_kind(CstNode::Leaf(leaf), *kind);
+        if !is_told || !prints(&leaf.shown(doc), text) {
             return false;
         }
     }
-    node.child_at_index(doc, texts.len()) == None
+    node.child_at_index(doc, leaves.len()) == None
 }
 
 /// The leaves of a property and of the value of the next one.
 fn leaves_told<A: Allocator>(doc: &CstRootNode<A>) -> bool {
-    let (Some(first), Some(CstNode::Container(CstContainerNode::ObjectProp(second)))) = (
-        child_at(doc, 1),
-        child_at(doc, 4),
-    ) else {
+    let (
+        Some(CstNode::Container(CstContainerNode::ObjectProp(first))),
+        Some(CstNode::Container(CstContainerNode::ObjectProp(second))),
+    ) = (child_at(doc, 1), child_at(doc, 4)) else {
         return false;
     };
     match second.value(doc) {
-        Some(array) => are_leaves(doc, first, &OF_PROPERTY) && are_leaves(doc, array, &OF_ARRAY),
+        Some(array) => {
+            is_name(doc, first, false)
+                && are_leaves(doc, CstNode::from(first), &OF_PROPERTY)
+                && are_leaves(doc, array, &OF_ARRAY)
+        }
         None => false,
     }
 }
@@ -84,6 +173,17 @@ fn is_below<A: Allocator>(doc: &CstRootNode<A>, object: CstObject, property: Cst
         return false;
     };
     let mut above = element.ancestors(doc);
+    let above_it = [
+        CstContainerNode::Root(doc.root()),
+        CstContainerNode::Array(array),
+        CstContainerNode::Object(object),
+        CstContainerNode::ObjectProp(property),
+    ];
+    for (place, container) in above_it.iter().enumerate() {
+        if !is_container_of_kind(*container, place) {
+            return false;
+        }
+    }
     element.element_index(doc) == Some(0)
         && element.parent(doc) == Some(CstContainerNode::Array(array))
         && above.next() == Some(CstContainerNode::Array(array))
@@ -126,6 +226,8 @@ fn rows_told<A: Allocator + Copy>(doc: &CstRootNode<A>) -> bool {
         && are_properties(doc, first, second)
         && is_below(doc, object, second)
         && lines_told(doc, first, second)
+        && is_name(doc, first, true)
+        && doc.holds(comma)
 }
 
 /// Whether this is told of a text though all is refused once it is read, and nothing asked for.
@@ -139,7 +241,7 @@ fn is_told_unasked<T: Fn(&CstRootNode<&Refusing<Global>>) -> bool>(
     let asked = asked_by(alloc, text);
     let heap = Refusing::after(alloc, asked);
     match read(&heap, text) {
-        Ok(doc) => told(&doc) && heap.asked() == asked,
+        Ok(doc) => told(&doc) && is_in_pieces(&doc, text) && heap.asked() == asked,
         Err(_) => false,
     }
 }

@@ -27,6 +27,8 @@ pub enum Change {
     SetBoolean(bool),
     EnsureMultiline,
     SetTrailingCommas(TrailingCommaMode),
+    /// The same, by the call on the array or object of the document.
+    SetCommasOfValue(TrailingCommaMode),
     /// Whether blank lines pin the comments above, and whether groups are kept.
     Sort(bool, bool),
     Value(Way, &'static str),
@@ -74,7 +76,9 @@ fn edit_at<A: Allocator + Copy>(
         Change::EnsureValue(shape) => Ok(Edit::EnsureValue(path, shape)),
         Change::SetBoolean(value) => Ok(Edit::SetBoolean(path, value)),
         Change::EnsureMultiline => Ok(Edit::EnsureMultiline(path)),
-        Change::SetTrailingCommas(mode) => Ok(Edit::SetTrailingCommas(path, mode)),
+        Change::SetTrailingCommas(mode) | Change::SetCommasOfValue(mode) => {
+            Ok(Edit::SetTrailingCommas(path, mode))
+        }
         Change::Sort(pins, groups) => Ok(Edit::Sort(path, pins, groups)),
         Change::Value(way, text) => Ok(put(path, way, value_of(alloc, text)?)),
         Change::Property(way, name, text) => {

@@ -22,3 +22,5 @@ mod reading;
 mod rows;
 #[cfg(test)]
 mod sorts;
+#[cfg(test)]
+mod texts;

@@ -80,7 +80,7 @@ const APPENDED: [Step; 3] = [
     (&[], Change::Value(Way::Append, "4")),
 ];
 
-static ROWS: [Row; 9] = [
+pub static ROWS: [Row; 9] = [
     (
         Edits::List(&[
             (&[0, 0], Change::EnsureValue(Shape::Object)),

@@ -33,6 +33,7 @@ fn change_array<A: Allocator + Copy>(
 {
     match change {
         Change::EnsureMultiline => array.ensure_multiline(doc),
+        Change::SetCommasOfValue(mode) => array.set_trailing_commas(doc, mode),
         Change::Value(Way::Append, text) => done(array.append(doc, value_of(alloc, text)?)),
         Change::Value(Way::Insert(index), text) => {
             done(array.insert(doc, index, value_of(alloc, text)?))
@@ -67,6 +68,7 @@ fn change_object<A: Allocator + Copy>(
 {
     match change {
         Change::EnsureMultiline => object.ensure_multiline(doc),
+        Change::SetCommasOfValue(mode) => object.set_trailing_commas(doc, mode),
         Change::EnsureProperty(name, shape, over) => {
             ensure_property(doc, object, name, (shape, over))
         }
@@ -109,6 +111,10 @@ const SET_COMMAS: Change = Change::SetTrailingCommas(TrailingCommaMode::IfMultil
 
 const TAKE_COMMAS: Change = Change::SetTrailingCommas(TrailingCommaMode::Never);
 
+const SET_OF_VALUE: Change = Change::SetCommasOfValue(TrailingCommaMode::IfMultiline);
+
+const TAKE_OF_VALUE: Change = Change::SetCommasOfValue(TrailingCommaMode::Never);
+
 /// An array on several lines, and the same with a comma behind its last element.
 const BARE: &str = "[\n  1,\n  {\"a\": [2]}\n]";
 
@@ -120,6 +126,8 @@ const FLAT: &str = "{\"a\":1, \"b\":[2]}";
 const SPREAD: &str = "{\n  \"a\":1,\n  \"b\":[2]\n}";
 
 const ARRAY: &str = "[\n  1,\n  [2]\n]";
+
+const SPREAD_SET: &str = "{\n  \"a\":1,\n  \"b\":[2],\n}";
 
 /// An object of one property, and what becomes of it.
 const SHORT: &str = "{\"a\":1}";
@@ -145,7 +153,7 @@ static BY_NAME: [(&str, Shape, Over, &str, &str); 6] = [
 ];
 
 /// Changes that put something in.
-static ROWS: [OneChange; 4] = [
+static ROWS: [OneChange; 6] = [
     (Change::Value(Way::Insert(1), "9"), "[1, 2]", "[1, 9,  2]"),
     (Change::Property(Way::Append, "b", "true"), SHORT, APPENDED),
     (
@@ -154,6 +162,8 @@ static ROWS: [OneChange; 4] = [
         INSERTED,
     ),
     (SET_COMMAS, BARE, SET),
+    (SET_OF_VALUE, BARE, SET),
+    (SET_OF_VALUE, SPREAD, SPREAD_SET),
 ];
 
 /// Changes that want memory once the text is read and the value is there.
@@ -168,12 +178,16 @@ static WANTING: [OneChange; 3] = [
 ];
 
 /// Changes that want none.
-static STANDING: [OneChange; 5] = [
+static STANDING: [OneChange; 9] = [
     (Change::EnsureMultiline, SPREAD, SPREAD),
     (Change::EnsureMultiline, ARRAY, ARRAY),
     (TAKE_COMMAS, SET, BARE),
     (TAKE_COMMAS, BARE, BARE),
     (SET_COMMAS, SET, SET),
+    (TAKE_OF_VALUE, SET, BARE),
+    (TAKE_OF_VALUE, SPREAD_SET, SPREAD),
+    (SET_OF_VALUE, SET, SET),
+    (SET_OF_VALUE, SPREAD_SET, SPREAD_SET),
 ];
 
 #[test]

@@ -89,11 +89,11 @@ fn sort_array<A: Allocator + Copy>(
     }
 }
 
-/// Sorts an object by the names of its properties.
+/// Sorts an object by the names of its properties, as they stand or decoded.
 fn sort_object<A: Allocator + Copy>(
     doc: &mut CstRootNode<A>,
     object: CstObject,
-    pins: bool,
+    by: By,
 ) -> Result<(), EditError>
     requires { Holds doc.old (object_node object) }
 {
@@ -102,10 +102,17 @@ fn sort_object<A: Allocator + Copy>(
         Ok(name) => Ok(name),
         Err(_) => Err(EditError::OutOfMemory),
     };
-    if pins {
-        return sort.pin_comment_headers().by_key(doc, name);
+    match by {
+        By::Text => sort.by(
+            doc,
+            |doc: &CstRootNode<_>, one: CstObjectProp, other: CstObjectProp| {
+                compare(doc, one.into(), other.into())
+            },
+        ),
+        By::Name(true) => sort.pin_comment_headers().by_key(doc, name),
+        By::Name(false) => sort.by_key(doc, name),
+        _ => Err(EditError::NoSuchPlace),
     }
-    sort.by_key(doc, name)
 }
 
 /// Sorts the array or object of a document.
@@ -113,9 +120,9 @@ pub fn sort_value<A: Allocator + Copy>(doc: &mut CstRootNode<A>, by: By) -> Resu
     if let Some(array) = doc.array_value() {
         return sort_array(doc, array, by);
     }
-    match (doc.object_value(), by) {
-        (Some(object), By::Name(pins)) => sort_object(doc, object, pins),
-        _ => Err(EditError::NoSuchPlace),
+    match doc.object_value() {
+        Some(object) => sort_object(doc, object, by),
+        None => Err(EditError::NoSuchPlace),
     }
 }
 
@@ -139,7 +146,7 @@ const PINNED: &str = "{\n  // h\n\n  // x\n  \"a\": 2,\n  \"b\": 1\n}";
 
 const BESIDE: &str = "{\"b\": 1, // one\n \"a\": 2}";
 
-static ROWS: [(By, &str, &str); 12] = [
+static ROWS: [(By, &str, &str); 14] = [
     (By::FirstCharacter, "[11, 0, 10]", "[0, 11, 10]"),
     (By::Text, "[2,\n\n 1]", "[1,\n 2]"),
     (By::Text, "[2, \n 1 // c\n]", "[1, // c \n 2\n]"),
@@ -152,6 +159,8 @@ static ROWS: [(By, &str, &str); 12] = [
     (By::Name(false), NAMED, MOVED),
     (By::Name(true), NAMED, PINNED),
     (By::Name(false), BESIDE, "{\"a\": 2,\n \"b\": 1 // one\n}"),
+    (By::Text, BESIDE, "{\"a\": 2,\n \"b\": 1 // one\n}"),
+    (By::Text, NAMED, MOVED),
 ];
 
 #[test]

@@ -9,6 +9,8 @@ mod calls;
 #[cfg(test)]
 mod clones;
 #[cfg(test)]
+mod kinds;
+#[cfg(test)]
 mod lines;
 #[cfg(test)]
 mod maps;

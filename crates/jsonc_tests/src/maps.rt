@@ -3,8 +3,9 @@
 use jsonc_parser::{JsonObject, JsonValue, Map};
 use refusing::Refusing;
 use refusing::awaited::Awaited;
+use refusing::in_turn::refused_in_turn;
 use refusing::outcome::Outcome;
-use std::alloc::{AllocError, Allocator, Global};
+use std::alloc::{AllocError, AllocFailed, Allocator, Global};
 use std::borrow::CowStr;
 use std::fmt::Write;
 use std::test::Fail;
@@ -209,5 +210,107 @@ fn maps_are_filled_to_their_capacity_unasked(rt: HostRuntime) -> Result<(), Fail
     for room in [1usize, 8, 9, 20] {
         assert!(rt; is_filled_unasked(rt.alloc(), room), "room for {room}");
     }
+    Ok(())
+}
+
+/// Whether a map of three pairs lends and counts them.
+fn is_told<A: Allocator>(map: &Map<char, u32, A>) -> bool {
+    let is_counted = map.len() == 3 && !map.is_empty() && map.capacity() >= 3;
+    let are_lent = map.keys().next() == Some(&'a')
+        && map.values().nth(1) == Some(&2)
+        && map.iter().nth(2) == Some((&'c', &3));
+    let are_found = map.get(&'b') == Some(&2)
+        && map.get_key_value(&'c') == Some((&'c', &3))
+        && map.contains_key(&'a')
+        && !map.contains_key(&'d');
+    is_counted && are_lent && are_found && *map == *map
+}
+
+/// Whether a pair that is turned down leaves, a value is written, and an entry is taken out.
+fn is_kept<A: Allocator>(map: Map<char, u32, A>) -> bool {
+    let mut map = map;
+    map.retain(|key, _value| *key != 'a');
+    if let Some(value) = map.get_mut(&'b') {
+        *value = 7;
+    }
+    let removed = map.remove_entry(&'c');
+    removed == Some(('c', 3)) && has(&map, " b7")
+}
+
+/// Whether maps are asked and changed, and give up what they hold, without a further request.
+fn is_map_unasked(heap: &Refusing<Global>) -> Result<bool, AllocError> {
+    let (keys, values, pairs) = (inserted(heap)?, inserted(heap)?, inserted(heap)?);
+    let (kept, emptied) = (inserted(heap)?, some_pairs(heap)?);
+    let asked = heap.asked();
+    let new: Map<char, u32, &Refusing<Global>> = Map::new(heap);
+    let are_told = new.is_empty() && is_told(&keys);
+    let are_given_up = keys.into_keys().nth(1) == Some('b')
+        && values.into_values().nth(2) == Some(3)
+        && pairs.into_iter().next() == Some(('a', 1));
+    let are_changed = is_kept(kept) && is_emptied(emptied);
+    Ok(are_told && are_given_up && are_changed && heap.asked() == asked)
+}
+
+#[test]
+fn maps_are_asked_without_memory(rt: HostRuntime) -> Result<(), Fail> {
+    let heap = Refusing::at(rt.alloc(), u64::MAX);
+    assert!(rt; is_map_unasked(&heap)?);
+    Ok(())
+}
+
+/// Eleven pairs, one by one. Of more than 8 the hashes are kept. A refused pair comes back, and the map stays.
+fn is_handed_back<A: Allocator + Copy>(alloc: A) -> Outcome {
+    let mut map = Map::new(alloc);
+    for key in 0..11usize {
+        if let Err(AllocFailed { value: pair }) = map.insert(key, '-') {
+            let is_left = pair == (key, '-') && map.len() == key && !map.contains_key(&key);
+            return if is_left {
+                Outcome::Wanted
+            } else {
+                Outcome::Other
+            };
+        }
+    }
+    Outcome::of(map.len() == 11)
+}
+
+/// Whether those of eleven pairs that a list could not insert come back, and the others are there.
+fn is_rest_handed_back<A: Allocator + Copy>(
+    alloc: A,
+    pairs: Vec<(usize, char), Global>,
+) -> Outcome {
+    let mut map = Map::new(alloc);
+    match map.extend_list(pairs) {
+        Ok(()) => Outcome::of(map.len() == 11),
+        Err(AllocFailed { value: rest }) => {
+            let is_next = rest.first() == Some(&(map.len(), '-'));
+            let are_all = 11usize.checked_sub(map.len()) == Some(rest.len());
+            let are_kept = map.keys().is_sorted();
+            if is_next && are_all && are_kept {
+                Outcome::Wanted
+            } else {
+                Outcome::Other
+            }
+        }
+    }
+}
+
+/// The same, of a list whose own memory is there.
+fn is_list_handed_back(alloc: Global, heap: &Refusing<Global>) -> Outcome {
+    let mut pairs = Vec::new(alloc);
+    for key in 0..11usize {
+        if pairs.push((key, '-')).is_err() {
+            return Outcome::Other;
+        }
+    }
+    is_rest_handed_back(heap, pairs)
+}
+
+#[test]
+fn refused_pairs_are_handed_back(rt: HostRuntime) -> Result<(), Fail> {
+    let alloc = rt.alloc();
+    let one_by_one = refused_in_turn(alloc, |heap| is_handed_back(heap));
+    let listed = refused_in_turn(alloc, |heap| is_list_handed_back(alloc, heap));
+    assert!(rt; matches!((one_by_one, listed), (Some(4..), Some(4..))));
     Ok(())
 }

@@ -7,8 +7,8 @@ use refusing::outcome::Outcome;
 use std::alloc::Allocator;
 use std::default::Default;
 
-/// An object in which a name and a string own their texts.
-const OBJECT: &str = "{'l\\x61st': [true, 2.5, {}, null], first: 't\\x65xt'}";
+/// An object in which a name and a string own their texts, and two names lend theirs.
+const OBJECT: &str = "{'l\\x61st': [true, 2.5, {}, null], first: 't\\x65xt', \"lent\": 1}";
 
 /// Whether a node's copy is of the same array.
 fn is_node_copied<A: Allocator>(node: &Node<'_, 'static, A>) -> Outcome {
@@ -44,9 +44,13 @@ fn are_parts_copied<A: Allocator + Copy>(object: &Object<'static, A>) -> Outcome
         return Outcome::Other;
     };
     let is_property = Outcome::of_answer(property.try_clone(), property);
+    let is_name = Outcome::of_answer(property.name.try_clone(), &property.name);
+    let is_value = Outcome::of_answer(property.value.try_clone(), &property.value);
     let is_array = Outcome::of_answer(array.try_clone(), array);
     let is_string = Outcome::of_answer(string.try_clone(), string);
     is_property
+        .then(is_name)
+        .then(is_value)
         .then(is_array)
         .then(is_string)
         .then(are_leaves_copied(array))
@@ -66,11 +70,13 @@ fn is_copied<A: Allocator + Copy>(alloc: A, object: Object<'static, A>) -> Outco
     let are_parts = are_parts_copied(&object);
     let is_last = is_taken(alloc, &mut object, "last");
     let is_first = is_taken(alloc, &mut object, "first");
+    let is_lent = is_taken(alloc, &mut object, "lent");
     let is_empty = Outcome::of(object.properties.len() == 0);
     is_object
         .then(are_parts)
         .then(is_last)
         .then(is_first)
+        .then(is_lent)
         .then(is_empty)
 }
 

@@ -1,6 +1,8 @@
 //! Calls that take no memory.
 
+use jsonc_parser::common::{Range, Ranged};
 use jsonc_parser::cst::CstRootNode;
+use jsonc_parser::errors::{ParseError, ParseErrorKind};
 use jsonc_parser::tokens::Token;
 use jsonc_parser::{ParseOptions, Scanner, ScannerOptions};
 use refusing::Refusing;
@@ -11,36 +13,67 @@ use std::default::Default;
 /// A text of 17 tokens, and then a fault.
 const TOKENS: &str = "{'a': [0x1F, -Infinity, null], // c\n b: /* d */ true}@";
 
-/// How many tokens come, each of which is equal to its copy.
-fn token_count<A: Allocator + Copy>(scanner: &mut Scanner<'static, A>) -> usize {
-    let mut count = 0usize;
-    for _ in 0..TOKENS.len() {
-        let Ok(Some(token)) = scanner.scan() else {
-            break;
-        };
-        if !is_copied(&token) {
-            break;
-        }
-        count = count.saturating_add(1);
-    }
-    count
+/// The text of each token, and where it stands.
+static SCANNED: [(&str, usize, usize); 17] = [
+    ("{", 0, 1),
+    ("a", 1, 4),
+    (":", 4, 5),
+    ("[", 6, 7),
+    ("0x1F", 7, 11),
+    (",", 11, 12),
+    ("-Infinity", 13, 22),
+    (",", 22, 23),
+    ("null", 24, 28),
+    ("]", 28, 29),
+    (",", 29, 30),
+    (" c", 31, 35),
+    ("b", 37, 38),
+    (":", 38, 39),
+    (" d ", 40, 47),
+    ("true", 48, 52),
+    ("}", 52, 53),
+];
+
+/// Whether the next token is that of a row and equal to its copy, and the scanner tells it and its place.
+fn is_next<A: Allocator + Copy>(
+    scanner: &mut Scanner<'static, A>,
+    row: &(&str, usize, usize),
+) -> bool {
+    let Ok(Some(token)) = scanner.scan() else {
+        return false;
+    };
+    let Ok(copy) = token.try_clone() else {
+        return false;
+    };
+    let place = (token.as_str(), scanner.token_start(), scanner.token_end());
+    place == *row && copy == token && scanner.token() == Some(&token)
 }
 
-fn is_copied<A: Allocator + Copy>(token: &Token<'static, A>) -> bool {
-    match token.try_clone() {
-        Ok(copy) => copy == *token,
-        Err(_) => false,
-    }
+/// Whether a fault is of the character behind the last token, at its place, and printed so.
+fn is_fault(error: &ParseError) -> bool {
+    let range = error.range();
+    let place = (error.line_display(), error.column_display());
+    range == Range::new(53, 54)
+        && range.text(TOKENS) == "@"
+        && place == (2, 18)
+        && *error.kind() == ParseErrorKind::UnexpectedToken
+        && prints(error, "Unexpected token on line 2 column 18")
 }
 
-/// The tokens come, and then the fault.
+/// The tokens come, and then the fault, after which the last token is still told.
 fn is_scanned<A: Allocator + Copy>(alloc: A) -> bool {
     let mut scanner = Scanner::new(alloc, TOKENS, &ScannerOptions::default());
-    let are_tokens = token_count(&mut scanner) == 17;
-    match scanner.scan() {
-        Ok(_) => false,
-        Err(error) => are_tokens && prints(&error, "Unexpected token on line 2 column 18"),
+    for row in &SCANNED {
+        if !is_next(&mut scanner, row) {
+            return false;
+        }
     }
+    let is_told = match scanner.scan() {
+        Ok(_) => false,
+        Err(error) => is_fault(&error),
+    };
+    let is_last = matches!(scanner.token(), Some(Token::CloseBrace));
+    is_told && is_last && scanner.token_start() == 53 && scanner.file_text() == TOKENS
 }
 
 #[test]

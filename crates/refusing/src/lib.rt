@@ -1,8 +1,9 @@
 //! What crates of tests share: an allocator that refuses some requests for memory, so that each request of
-//! a call can be refused in turn; what came of a call; and a writer that takes no memory.
+//! a call can be refused in turn; what came of a call; flags of which one is up; and a writer that takes no memory.
 #![tactic(auto)]
 
 pub mod awaited;
+pub mod flags;
 pub mod in_turn;
 pub mod outcome;
 
