@@ -1,9 +1,10 @@
 #!/usr/bin/env python3
-"""Writes crates/jsonc_bench/stdin and stdout: the cases of bench/crate and bench/rows, and a sample of a folder of vectors.
+"""Writes crates/jsonc_bench/stdin and stdout: the cases of bench/crate, bench/rows, bench/cuts and bench/pairs, and a
+sample of a folder of vectors.
 
 usage: bench/sample.py FOLDER
 
-Of a folder it takes, shortest first, each case that shows something no case before it showed: see `shown`.
+Of a folder it takes, shortest first, each case that shows something no case before it shows: see `shown`.
 What is wanted is the stored answer, or `not yet` by the case alone; no answer is made here.
 """
 import os
@@ -51,9 +52,16 @@ NO_CASES = [
     ('bad-text\tedit\t1111111111\t1\tRawSet 0 1', EDIT),
     ("bad-call\tjobj\t1111111111\t{}\thas 'a", LOOKUP),
 ]
-# What the Rust crate's test of deep objects states; bench/crate has it with 600 of them, and here they are all.
-DEEP = (('value-deep-objects-30000', 'value', '1111111111', '{"q":' * 30000),
-        ('fault NestingDepthExceeded 2560 2561 1 2561 Maximum nesting depth exceeded on line 1 column 2561',))
+# What the Rust crate's test of deep objects states (bench/crate has it with 600 of them, and here they are all), and arrays.
+ALL = '1111111111'
+DEEP = [
+    (('value-deep-objects-30000', 'value', ALL, '{"q":' * 30000),
+     ('fault NestingDepthExceeded 2560 2561 1 2561 Maximum nesting depth exceeded on line 1 column 2561',)),
+    (('row-arrays-30000-ast', 'ast', ALL, 'O-', '[' * 30000),
+     ('fault NestingDepthExceeded 512 514 1 513 Maximum nesting depth exceeded on line 1 column 513',)),
+    (('row-arrays-30000-value', 'value', ALL, '[' * 30000),
+     ('fault NestingDepthExceeded 512 513 1 513 Maximum nesting depth exceeded on line 1 column 513',)),
+]
 PROGRAM = [
     (("print-escaped-word", 'jsonc', "'prin\\x74", ' [1] '), ('0', ' [1] ', '')),
     (('print-blanks', 'jsonc', "'print", '\\x0D\\x0A'), ('0', '\\x0D\\x0A', '')),
@@ -193,13 +201,12 @@ def shown(case, answer):
 
 def depth_shown(case, answer):
     """Of the cases at the limit of depth: whether they are taken, and how deep the text is."""
-    if case[0].startswith('dep') and not vectors.is_not_yet(case):
+    if case[0].startswith(('dep', 'row-objects-25')) and not vectors.is_not_yet(case):
         text = case[-1]
         yield case[1], 'limit', answer[1][:5], text.count('['), text.count('{')
 
 
-def sample(folder):
-    found = set()
+def sample(folder, found):
     cases = sorted(vectors.read(folder), key=lambda c: (len('\t'.join(c[0])) + len('\t'.join(c[1])), c[0][1:]))
     for case, answer in cases:
         news = set(map(str, depth_shown(case, answer)))
@@ -211,11 +218,12 @@ def sample(folder):
 
 
 def main(folder):
-    lines, answers = [], []
+    lines, answers, found = [], [], set()
 
     def put(case, answer):
         lines.append('\t'.join(case))
         answers.append(vectors.expected(case, answer))
+        found.update(map(str, shown(case, answer)), map(str, depth_shown(case, answer)))
 
     lines.append('% Cases of the Rust crate\'s own tests')
     for case, answer in vectors.read(os.path.join(HERE, 'crate')):
@@ -223,12 +231,19 @@ def main(folder):
     lines.append('% Worked rows')
     for case, answer in vectors.read(os.path.join(HERE, 'rows')):
         put(case, answer)
-    put(DEEP[0], (DEEP[0][0],) + DEEP[1])
+    for case, answer in DEEP:
+        put(case, case[:1] + answer)
+    lines.append('% Every beginning of the texts of worked rows, read by three calls')
+    for case, answer in vectors.cuts(os.path.join(HERE, 'cuts')):
+        put(case, answer)
+    lines.append('% Every pair of options turned off, and a text for each option')
+    for case, answer in vectors.pairs(os.path.join(HERE, 'pairs')):
+        put(case, answer)
     lines.append('% Runs of the program')
     for case, answer in PROGRAM:
         put(case, (case[0],) + answer)
     lines.append('% A sample of the vectors')
-    for case, answer in sample(folder):
+    for case, answer in list(sample(folder, found)):
         put(case, answer)
     lines.append('% Lines that are passed over, and lines that are no case')
     for line, message in NO_CASES:

@@ -1,5 +1,6 @@
 """Vectors: cases and stored answers, and which cases are answered `not yet` (docs/BENCH.md, "Not yet")."""
 import glob
+import itertools
 import os
 import re
 
@@ -11,6 +12,10 @@ EDITS = {'Replace', 'Remove', 'RemoveComment', 'SetRoot', 'ClearRoot', 'ReplaceP
 
 def unescaped(field):
     return re.sub(rb'\\x([0-9A-F]{2})', lambda m: bytes([int(m[1], 16)]), field.encode())
+
+
+def escaped(text):
+    return ''.join(chr(byte) if 0x20 <= byte <= 0x7E and byte != 0x5C else '\\x%02X' % byte for byte in text.encode())
 
 
 def edits_of(case):
@@ -36,6 +41,56 @@ def read(folder):
         for case, answer in zip(cases, answers, strict=True):
             if case and not case.startswith('%'):
                 yield case.split('\t'), answer.split('\t')
+
+
+def lines(folder, name):
+    """The lines of a file, each as its fields."""
+    with open(os.path.join(folder, name), encoding='ascii', newline='\n') as file:
+        return [line.split('\t') for line in file.read().split('\n')[:-1]]
+
+
+def three_calls(name, options, collection, text):
+    """The cases of the three calls that read a text: as a syntax tree (`a`), as a value (`v`), and as a document (`d`)."""
+    text = escaped(text)
+    yield [name + 'a', 'ast', options, collection, text]
+    yield [name + 'v', 'value', options, text]
+    yield [name + 'd', 'edit', options, text, '']
+
+
+def answers(folder):
+    """The fields of each answer of a file, in which `=` stands for the same answer as the one before."""
+    answer = None
+    for fields in lines(folder, 'answers'):
+        answer = answer if fields == ['='] else fields
+        yield answer
+
+
+def cuts(folder):
+    """The beginnings of the texts in a folder, up to each boundary of characters and each once, with their answers."""
+    cases, seen = [], set()
+    for number, (options, text) in enumerate(lines(folder, 'texts')):
+        text = unescaped(text).decode()
+        for end in range(len(text) + 1):
+            if (options, text[:end]) not in seen:
+                seen.add((options, text[:end]))
+                cases.extend(three_calls('cut%d-%d' % (number, end), options, 'Tt', text[:end]))
+    for case, answer in zip(cases, answers(folder), strict=True):
+        yield case, case[:1] + answer
+
+
+def pairs(folder):
+    """Each pair of options turned off, put to a text for each option, which no other option has a say in.
+
+    Of a text six answers are stored: those of the three calls where its own option is on, and where it is off.
+    """
+    texts, stored = [unescaped(text).decode() for text, in lines(folder, 'texts')], list(answers(folder))
+    for off in itertools.combinations(range(10), 2):
+        options = ''.join('0' if option in off else '1' for option in range(10))
+        for option, text in enumerate(texts):
+            first = 6 * option + (3 if option in off else 0)
+            calls = three_calls('off%d-%d-%d' % (*off, option), options, 'O-', text)
+            for case, answer in zip(calls, stored[first:first + 3]):
+                yield case, case[:1] + answer
 
 
 def expected(case, answer):
