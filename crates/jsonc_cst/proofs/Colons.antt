@@ -92,7 +92,7 @@ module _ (o : Options) where
   name_colon content r is = no_property_colon content none (λ e. subst (λ (what : Content). IsNameBefore o what r) e is)
 
   mutual
-    value_colons : {content : Content} {below : OrderedTree} {r : List ℕ} → ValueShaped o content below r → HaveColons below
+    pub value_colons : {content : Content} {below : OrderedTree} {r : List ℕ} → ValueShaped o content below r → HaveColons below
     value_colons (ValueShaped.literal is) = tt
     value_colons (ValueShaped.empty_array h) = (tt, tt, trivia_colons h (tt, tt, tt))
     value_colons (ValueShaped.array h elements) = (tt, tt, trivia_colons h (elements_colons elements))

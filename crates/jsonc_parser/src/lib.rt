@@ -8,6 +8,7 @@
 
 pub mod cst;
 pub mod laws;
+pub mod settings;
 pub mod string;
 
 pub use jsonc_ast::ast;

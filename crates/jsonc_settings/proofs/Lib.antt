@@ -1,0 +1,14 @@
+pub mod Calls
+pub mod Choosing
+pub mod Found
+pub mod Index
+pub mod Leading
+pub mod Making
+pub mod Members
+pub mod Once
+pub mod Paths
+pub mod Reaching
+pub mod Routes
+pub mod Standing
+pub mod Stepping
+pub mod Taken

@@ -1,0 +1,11 @@
+pub mod Settings
+pub mod Laws
+pub mod Operations
+pub mod Positions
+pub mod Worked
+pub mod Standing
+pub mod Calls
+pub mod Found
+pub mod Reach
+pub mod Choices
+pub mod AtPaths
