@@ -21,6 +21,8 @@ mod reading;
 #[cfg(test)]
 mod rows;
 #[cfg(test)]
+mod settings;
+#[cfg(test)]
 mod sorts;
 #[cfg(test)]
 mod texts;

@@ -1,14 +1,14 @@
 //! Sorts: what they print, what is pinned, and the memory that they want.
 
 ghost use Rattle.jsonc_cst.specs.Document.{Holds};
-ghost use Rattle.jsonc_cst.specs.Nodes.{array_node, object_node};
+ghost use Rattle.jsonc_cst.specs.Nodes.{array_node, object_node, object_prop_node};
 
 use crate::changes::{Change, Step};
 use crate::reading::read;
 use crate::rows::{Edits, is_made_in_turn};
 use jsonc_parser::cst::{
     CstArray, CstComment, CstContainerNode, CstLeafNode, CstNode, CstObject, CstObjectProp,
-    CstRootNode, EditError, HasChildren, ObjectPropName, RemoveLeaf, SetTrailingCommas,
+    CstRootNode, EditError, HasChildren, IsNode, ObjectPropName, RemoveLeaf, SetTrailingCommas,
     SortElements, SortProperties, TrailingCommaMode,
 };
 use refusing::awaited::prints;
@@ -57,6 +57,18 @@ pub fn compare<A: Allocator>(doc: &CstRootNode<A>, one: CstNode, other: CstNode)
     text_of(doc, one).cmp(text_of(doc, other))
 }
 
+/// Compares two properties by their texts.
+fn compare_properties<A: Allocator>(
+    doc: &CstRootNode<A>,
+    one: CstObjectProp,
+    other: CstObjectProp,
+) -> Ordering
+    requires one { Holds doc.now (object_prop_node one) }
+    requires other { Holds doc.now (object_prop_node other) }
+{
+    compare(doc, one.node(), other.node())
+}
+
 /// The first character of a node's text, if it has one.
 fn first_of<A: Allocator>(doc: &CstRootNode<A>, node: CstNode) -> Option<char>
     requires { Holds doc.now node }
@@ -103,12 +115,12 @@ fn sort_object<A: Allocator + Copy>(
         Err(_) => Err(EditError::OutOfMemory),
     };
     match by {
-        By::Text => sort.by(
-            doc,
-            |doc: &CstRootNode<_>, one: CstObjectProp, other: CstObjectProp| {
-                compare(doc, one.into(), other.into())
-            },
-        ),
+        By::Text => {
+            sort.by(
+                doc,
+                |doc: &CstRootNode<_>, one, other| compare_properties(doc, one, other),
+            )
+        }
         By::Name(true) => sort.pin_comment_headers().by_key(doc, name),
         By::Name(false) => sort.by_key(doc, name),
         _ => Err(EditError::NoSuchPlace),
