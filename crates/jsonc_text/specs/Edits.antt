@@ -45,7 +45,7 @@ pub data Operation : Type 0 where
   set_commas : List ℕ → Bool → Operation
   rearrange : List ℕ → List ℕ → Operation
 
--- nothing, or the one space that is written where two literals without quotes would meet
+-- nothing, or one space; that it stands where two literals without quotes would meet, and nowhere else, is said of nodes alone
 abbrev pub IsSeam : List ℕ → Type 0
 IsSeam s = (s ≡ []) ⊎ (s ≡ 0x20 ∷ [])
 
