@@ -42,6 +42,7 @@ pub mod PathPlaces
 pub mod SeamsGiving
 pub mod SeamsAround
 pub mod CommentsBefore
+pub mod RowAhead
 pub mod SeamsOfComments
 pub mod AtStill
 pub mod SeamsParting

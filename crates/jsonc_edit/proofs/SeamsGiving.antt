@@ -6,6 +6,7 @@ use Rattle.jsonc_tree.specs.OrderedTree.{OrderedTree, ordered_tree, Top}
 use Rattle.jsonc_tree.specs.Tree.{Node, IsTree}
 use Rattle.jsonc_tree.proofs.Order.{parent_there}
 use Rattle.jsonc_laws.specs.TreeChanges.{IsElement}
+use Rattle.jsonc_laws.specs.Adjacent.{last_printed}
 use Rattle.jsonc_laws.specs.SoundTrees.{SoundTree}
 use Rattle.jsonc_laws.specs.Spaces.{first_printed, is_bare, is_bare_leaf}
 use Rattle.jsonc_edit.specs.Changes.{top_at}
@@ -19,7 +20,7 @@ use Rattle.jsonc_edit.proofs.NewPaths.{at_now}
 use Rattle.jsonc_edit.proofs.ReplacedValues.{at_child, spaced, spaced_at}
 use Rattle.jsonc_edit.specs.SeamPlaces.{DocumentHolds, GivesWayWithSeams}
 use Rattle.jsonc_edit.specs.Seams.{space_if, SeamsAround}
-use Rattle.jsonc_edit.specs.SeamLaws.{HasSeams, HasSeamsWhereDue, PartsLiterals}
+use Rattle.jsonc_edit.specs.SeamLaws.{HasSeams}
 use Rattle.jsonc_edit.proofs.Between.{spaces_stand_around}
 use Rattle.jsonc_edit.proofs.SeamsParting.{tells_what_is_printed}
 use Rattle.jsonc_edit.proofs.PathPlaces.{AtBetween, at_between, holds_between, takes_between}
@@ -61,6 +62,13 @@ module _ (old new : List Node) (n m : ℕ) (now : Top) (tree : IsTree old) (g : 
       let stands = holds_between new g.place.replaces.after path m front_now back_now at_new (takes_between g.spaced new n m g.place.replaces front_now back_now seams.now) in
       subst (λ (t : Top). DocumentHolds t path (ordered_tree new 0) front_now back_now) put.put stands
 
+  -- in a sound document these spaces part literals without quotes
+  printed_around : (o : Options) → SoundTree o (ordered_tree old 0)
+      → (ends_bare g.ready (seen_before g.ready n) ≡ true → is_bare_leaf (last_printed place.first) ≡ true) × (begins_bare g.ready (seen_behind g.ready n) ≡ true → is_bare_leaf (first_printed place.last) ≡ true)
+  printed_around o sound =
+      let sound_ready : SoundTree o (ordered_tree g.ready 0) = subst (SoundTree o) (sym (tree_stays old g.ready tree g.prepared.keeps g.prepared.tree)) sound in
+      tells_what_is_printed o g.ready n g.prepared.tree sound_ready place.first place.last place.stands
+
   pub gives_way_with_seams : GivesWayWithSeams path (top_at old n) now (ordered_tree old 0) (ordered_tree new 0)
   gives_way_with_seams =
       let keeps = g.prepared.keeps in
@@ -76,20 +84,11 @@ module _ (old new : List Node) (n m : ℕ) (now : Top) (tree : IsTree old) (g : 
         silent = seams.silent;
         stood = subst (λ (t : OrderedTree). DocumentHolds (top_at old n) path t place.first (seams.quiet ++ seams.rest)) (tree_stays old g.ready tree keeps after) stood_top;
         stands = stands_now;
+        parts_before = λ o sound e. let h = both (is_bare now.content) (ends_bare g.ready (seen_before g.ready n)) e in (h.0, (printed_around o sound).0 h.1);
+        parts_behind = λ o sound e.
+            let h = both (is_bare now.content) (begins_bare g.ready (seen_behind g.ready n)) e in
+            (h.0, ap (λ l. is_bare_leaf (first_printed l)) (sym seams.parts) ∙ (printed_around o sound).1 h.1);
       }
-
-  -- in a sound document these spaces part literals without quotes
-  pub parts_literals : (o : Options) → SoundTree o (ordered_tree old 0) → PartsLiterals gives_way_with_seams
-  unfolding gives_way_with_seams
-  parts_literals o sound =
-      let sound_ready : SoundTree o (ordered_tree g.ready 0) = subst (SoundTree o) (sym (tree_stays old g.ready tree g.prepared.keeps g.prepared.tree)) sound in
-      let told = tells_what_is_printed o g.ready n g.prepared.tree sound_ready place.first place.last place.stands in (
-        λ e. let h = both (is_bare now.content) (ends_bare g.ready (seen_before g.ready n)) e in (h.0, told.0 h.1),
-        λ e. let h = both (is_bare now.content) (begins_bare g.ready (seen_behind g.ready n)) e in (h.0, ap (λ l. is_bare_leaf (first_printed l)) (sym seams.parts) ∙ told.1 h.1),
-      )
 
 pub has_seams : (old new : List Node) (n m : ℕ) (now : Top) → HasSeams old new n m now
 has_seams old new n m now tree g path at = gives_way_with_seams old new n m now tree g path at
-
-pub has_seams_where_due : (o : Options) (old new : List Node) (n m : ℕ) (now : Top) → HasSeamsWhereDue o old new n m now
-has_seams_where_due o old new n m now tree sound g path at = (gives_way_with_seams old new n m now tree g path at, parts_literals old new n m now tree g path at o sound)

@@ -1,7 +1,8 @@
 -- Where a comment leaves, a space has come where it stood, or none.
-use Rattle.std.proofs.Common.{◌≡◌, ℕ, ◌+◌, ◌-◌, ◌<◌, ◌≤◌, false, List, [], ◌∷◌, ◌++◌, length, map, take, drop, slice_index, slice_range, Some, refl, sym, ap, subst, ◌∙◌, arith, length-take, get_or-take, length-drop, get_or-drop, IsTrue}
+use Rattle.std.proofs.Common.{◌≡◌, ℕ, ◌+◌, ◌-◌, ◌<◌, ◌≤◌, ◌&&◌, Bool, true, false, cond, List, [], ◌∷◌, ◌++◌, length, map, take, drop, slice_index, slice_range, Option, Some, None, refl, sym, ap, subst, ◌∙◌, arith, length-take, get_or-take, length-drop, get_or-drop, IsTrue}
 use Rattle.std.specs.List.{slice_get}
-use Rattle.std.proofs.lemmas.List.{append-nil, append_assoc, drop-take, take-append-drop, take-take}
+use Rattle.std.proofs.lemmas.List.{append-nil, append_assoc, append_cancel_right, drop-take, take-append-drop, take-take}
+use Rattle.jsonc_text.specs.Options.{Options}
 use Rattle.jsonc_tree.specs.Content.{Content, comment, is_container}
 use Rattle.jsonc_tree.specs.OrderedTree.{OrderedTree, none, own_leaf, leaves, followed_by, ordered_tree, Shows}
 use Rattle.jsonc_tree.specs.Tree.{Node, content_at, parent_at, children_at, place_at, IsTree, IsOver}
@@ -10,7 +11,10 @@ use Rattle.jsonc_tree.proofs.Order.{not_over_parent, parent_there}
 use Rattle.jsonc_tree.proofs.OrderedTrees.{Shows-unique, leaves-followed_by}
 use Rattle.jsonc_tree.proofs.Rows.{Shows-append, Shows-part}
 use Rattle.jsonc_laws.specs.MarkChanges.{AreBlanks}
+use Rattle.jsonc_laws.specs.Adjacent.{last_printed}
 use Rattle.jsonc_laws.specs.Marks.{comments_of, marks_of}
+use Rattle.jsonc_laws.specs.SoundTrees.{SoundTree}
+use Rattle.jsonc_laws.specs.Spaces.{first_printed, is_bare_leaf}
 use Rattle.jsonc_laws.proofs.GivingWay.{blanks_unmarked, marks_join}
 use Rattle.jsonc_laws.specs.TreeChanges.{leaves_of}
 use Rattle.jsonc_edit.specs.Changes.{row_below, top_at}
@@ -18,13 +22,16 @@ use Rattle.jsonc_edit.specs.Comments.{comment_at, removed_from, due_without, Com
 use Rattle.jsonc_edit.proofs.Kept.{tree_stays}
 use Rattle.jsonc_edit.proofs.Removal.{from_before, blanks_gone}
 use Rattle.jsonc_edit.proofs.Splices.{spliced_in}
-use Rattle.jsonc_edit.proofs.TakingOut.{over_keeps, removed}
-use Rattle.jsonc_edit.specs.Due.{listed}
+use Rattle.jsonc_edit.proofs.Elements.{Some_same}
+use Rattle.jsonc_edit.proofs.TakingOut.{over_keeps, parents_spaced, removed}
+use Rattle.jsonc_edit.specs.Due.{begins_bare, ends_bare, listed, prints_within, seen_before, seen_behind}
 use Rattle.jsonc_edit.specs.Put.{AreSpaced}
 use Rattle.jsonc_nodes.specs.Kinds.{is_comment}
 use Rattle.jsonc_edit.proofs.Walk.{ChangedIn, Shows-row_below, apart_kept}
 use Rattle.jsonc_edit.specs.SeamLaws.{comments_before, LosesWithSeam}
-use Rattle.jsonc_edit.specs.Seams.{space_if, is_due_between, StandsBetween}
+use Rattle.jsonc_edit.specs.Seams.{space_if, is_due_between, StandsBetween, as_child}
+use Rattle.jsonc_edit.proofs.RowAhead.{row_stays}
+use Rattle.jsonc_edit.proofs.SeamsParting.{tells_what_is_printed}
 use Rattle.jsonc_edit.proofs.SeamsAround.{blank_row, leaf_alone, leaves_around, holds_children, stands_somewhere}
 use Rattle.jsonc_edit.proofs.Ahead.{making_keeps_comments}
 use Rattle.jsonc_edit.proofs.CommentsBefore.{comments_stand_before}
@@ -98,6 +105,7 @@ module _ (old new : List Node) (n : ℕ) (r : CommentRemoved old new n) where
     pub front : List Content
     pub blanks : List Content
     pub are_blanks : AreBlanks blanks
+    pub are : blanks ≡ map (content_at old) (slice_range (children_at old r.container) (removed_from old r.container n) (place_at old n))
     pub before : f ≡ front ++ blanks
     pub left : leaves (ordered_tree new 0) ≡ front ++ b
 
@@ -113,7 +121,7 @@ module _ (old new : List Node) (n : ℕ) (r : CommentRemoved old new n) where
       let nodes : List ℕ = slice_range (children_at old c) i place in
       let blanks : AreBlanks (map (content_at old) nodes) = blanks_gone old r.tree c n r.parent in
       let shown : leaves g.middle ≡ map (content_at old) nodes = blank_row old r.tree nodes g.middle blanks (subst (λ (l : List ℕ). Shows old l g.middle) same g.shows) in
-      record { front = g.front; blanks = map (content_at old) nodes; are_blanks = blanks; before = g.before ∙ ap (λ l. g.front ++ l) shown; left = g.left }
+      record { front = g.front; blanks = map (content_at old) nodes; are_blanks = blanks; are = refl; before = g.before ∙ ap (λ l. g.front ++ l) shown; left = g.left }
 
 -- its own leaf
 own_is : (ns : List Node) → IsTree ns → (n : ℕ) (s : List ℕ) → n < length ns → content_at ns n ≡ comment s → leaves_of (top_at ns n) ≡ comment s ∷ []
@@ -125,6 +133,80 @@ own_is ns tree n s there is =
 contents_spaced : (xs : List ℕ) (old new : List Node) → AreSpaced old xs new → (k : ℕ) → content_at new k ≡ content_at old k
 contents_spaced [] old new e k = ap (λ ns. content_at ns k) e
 contents_spaced (x ∷ xs) old new (now, leaf, r, rest) k = contents_spaced xs now new rest k ∙ r.put.content k
+
+-- what stands before the first node that leaves with a comment, and the blanks from there up to the comment
+module _ (ns : List Node) (tree : IsTree ns) (n c : ℕ) (said : parent_at ns n ≡ Some c) where
+  record FirstGone (f : List Content) : Type 0 where
+    front : List Content
+    back : List Content
+    before : f ≡ front ++ map (content_at ns) (slice_range (children_at ns c) (removed_from ns c n) (place_at ns n))
+    stands : StandsBetween ns (slice_index (children_at ns c) (removed_from ns c n)) front back
+
+  first_gone : (f b : List Content) → StandsBetween ns n f b → FirstGone f
+  first_gone f b s =
+      let i : ℕ = removed_from ns c n in
+      let place : ℕ = place_at ns n in
+      let row : List ℕ = children_at ns c in
+      let low : i ≤ place = from_before ns tree c n said in
+      let inn : i < length row = omega (arith, low, tree.within n c said) in
+      let w = within ns tree n c f b said s in
+      let two = Shows-part ns (take i (take place row)) (drop i (take place row)) w.front (subst (λ (l : List ℕ). Shows ns l w.front) (sym (take-append-drop i (take place row))) w.before) in
+      let at : place_at ns (slice_index row i) ≡ i = tree.placed c i inn in
+      let first : Shows ns (take i row) two.0 = subst (λ (l : List ℕ). Shows ns l two.0) (take-take i place row low) two.3 in
+      let there : c < length ns = (parent_there ns tree n c said).1 in
+      let whole = Shows-part ns (take (i + 1) row) (drop (i + 1) row) (row_below ns c) (subst (λ (l : List ℕ). Shows ns l (row_below ns c)) (sym (take-append-drop (i + 1) row)) (Shows-row_below ns tree c there)) in
+      let far : i + (place - i) ≡ place = omega (arith, low) in
+      let nodes : List ℕ = slice_range row i place in
+      let same : drop i (take place row) ≡ nodes = ap (λ k. drop i (take k row)) (sym far) ∙ drop-take i (place - i) row in
+      let shown : leaves two.1 ≡ map (content_at ns) nodes = blank_row ns tree nodes two.1 (blanks_gone ns tree c n said) (subst (λ (l : List ℕ). Shows ns l two.1) same two.4) in
+      record {
+        front = w.g ++ leaves two.0;
+        back = leaves whole.1 ++ w.d;
+        before =
+            w.first ∙ ap (λ l. w.g ++ l) (ap leaves two.2 ∙ leaves-followed_by two.0 two.1) ∙ sym (append_assoc w.g (leaves two.0) (leaves two.1)) ∙ ap (λ l. (w.g ++ leaves two.0) ++ l) shown;
+        stands = as_child (tree.named c i inn) w.up (subst (λ k. Shows ns (take k row) two.0) (sym at) first) (subst (λ k. Shows ns (drop (k + 1) row) whole.1) (sym at) whole.4);
+      }
+
+contents_same : (f g : ℕ → Content) → ((k : ℕ) → f k ≡ g k) → (xs : List ℕ) → map f xs ≡ map g xs
+contents_same f g same [] = refl
+contents_same f g same (x ∷ xs) = ap (λ c. c ∷ map f xs) (same x) ∙ ap (λ l. g x ∷ l) (contents_same f g same xs)
+
+both_true : (a b : Bool) → a && b ≡ true → (a ≡ true) × (b ≡ true)
+both_true true b e = (refl, e)
+both_true false b e = let wrong : false ≡ true = e in cc
+
+-- those blanks are the same where the space has come that is due behind the comment
+module _ (ready spaced : List Node) (tree : IsTree ready) (n c : ℕ) (said : parent_at ready n ≡ Some c) where
+  abbrev gone_blanks : List Node → List Content
+  gone_blanks ns = map (content_at ns) (slice_range (children_at ns c) (removed_from ns c n) (place_at ns n))
+
+  blanks_same : (o : Option ℕ) → seen_behind ready n ≡ o → begins_bare ready o ≡ true → AreSpaced ready (listed o) spaced → gone_blanks spaced ≡ gone_blanks ready
+  blanks_same None seen bare put = let wrong : false ≡ true = bare in cc
+  blanks_same (Some x) seen bare (now, leaf, r, same) =
+      let s = row_stays ready now x leaf n c tree r said seen in
+      let i : ℕ = removed_from ready c n in
+      let place : ℕ = place_at ready n in
+      let low : i ≤ place = from_before ready tree c n said in
+      let far : i + (place - i) ≡ place = omega (arith, low) in
+      let range : (row : List ℕ) → slice_range row i place ≡ drop i (take place row) = λ row. sym (ap (λ k. drop i (take k row)) (sym far) ∙ drop-take i (place - i) row) in
+      let rows : slice_range (children_at now c) i place ≡ slice_range (children_at ready c) i place = range (children_at now c) ∙ ap (drop i) (s.rows place (omega arith)) ∙ sym (range (children_at ready c)) in
+      subst (λ ns. gone_blanks ns ≡ gone_blanks ready) (sym same)
+      (ap (λ k. map (content_at now) (slice_range (children_at now c) k (place_at now n))) s.removed ∙ ap (λ k. map (content_at now) (slice_range (children_at now c) i k)) s.place
+      ∙ ap (map (content_at now)) rows ∙ contents_same (content_at now) (content_at ready) (λ k. r.put.content k) (slice_range (children_at ready c) i place))
+
+  -- in a sound document that space parts two literals without quotes
+  space_parts : (o : Options) → SoundTree o (ordered_tree ready 0) → (f b front : List Content) → StandsBetween ready n f b → f ≡ front ++ gone_blanks spaced
+      → AreSpaced ready (listed (due_without ready c n)) spaced → is_due_between ready (slice_index (children_at ready c) (removed_from ready c n)) n ≡ true
+      → (is_bare_leaf (last_printed front) ≡ true) × (is_bare_leaf (first_printed b) ≡ true)
+  space_parts o sound f b front s before put due =
+      let from : ℕ = slice_index (children_at ready c) (removed_from ready c n) in
+      let bare = both_true (ends_bare ready (seen_before ready from)) (begins_bare ready (seen_behind ready n)) (both_true (prints_within ready from n) (ends_bare ready (seen_before ready from) && begins_bare ready (seen_behind ready n)) due).1 in
+      let is : due_without ready c n ≡ seen_behind ready n = ap (λ d. cond d (seen_behind ready n) None) due in
+      let blanks : gone_blanks spaced ≡ gone_blanks ready = blanks_same (seen_behind ready n) refl bare.1 (subst (λ o. AreSpaced ready (listed o) spaced) is put) in
+      let g = first_gone ready tree n c said f b s in
+      let fronts : front ≡ g.front = append_cancel_right front g.front (gone_blanks ready) (sym (before ∙ ap (λ l. front ++ l) blanks) ∙ g.before) in
+      let first = (tells_what_is_printed o ready from tree sound g.front g.back g.stands).0 bare.0 in
+      (ap (λ l. is_bare_leaf (last_printed l)) fronts ∙ first, (tells_what_is_printed o ready n tree sound f b s).1 bare.1)
 
 -- a comment that was taken out
 module _ (old new : List Node) (n : ℕ) (r : CommentTaken old new n) where
@@ -149,6 +231,9 @@ module _ (old new : List Node) (n : ℕ) (r : CommentTaken old new n) where
       let ahead : (number : ℕ) → comment_at old number ≡ Some n → length (comments_of (marks_of left.front)) ≡ number = λ number at.
       sym (ap (λ l. length (comments_of l)) (ap marks_of left.before ∙ marks_join left.front left.blanks ∙ ap (λ l. marks_of left.front ++ l) (blanks_unmarked left.blanks left.are_blanks) ∙ append-nil (marks_of left.front)))
       ∙ comments_stand_before taken.ready taken.prepared.tree n f b place.2 (omega (arith, there, keeps.len)) (comment_leaf (content_at taken.ready n) s was) number (ap (λ l. slice_get l number) (making_keeps_comments old taken.ready r.tree keeps) ∙ at) in
+      let same : gone.container ≡ c = Some_same gone.container c (sym gone.parent ∙ parents_spaced (listed (due_without taken.ready c n)) taken.ready taken.spaced taken.prepared.tree taken.spaces n c (keeps.parent n there ∙ r.parent)) in
+      let are : left.blanks ≡ gone_blanks taken.ready taken.spaced taken.prepared.tree n c (keeps.parent n there ∙ r.parent) taken.spaced =
+      subst (λ k. left.blanks ≡ map (content_at taken.spaced) (slice_range (children_at taken.spaced k) (removed_from taken.spaced k n) (place_at taken.spaced n))) same left.are in
       let loses : LosesWithSeam (ordered_tree old 0) (ordered_tree new 0) = record {
         front = left.front;
         blanks = left.blanks;
@@ -158,6 +243,10 @@ module _ (old new : List Node) (n : ℕ) (r : CommentTaken old new n) where
         behind = is_due_between taken.ready from n;
         are_blanks = left.are_blanks;
         silent = seam.3;
+        parts = λ o sound due.
+            let sound_ready : SoundTree o (ordered_tree taken.ready 0) = subst (SoundTree o) (sym (tree_stays old taken.ready r.tree keeps taken.prepared.tree)) sound in
+            let told = space_parts taken.ready taken.spaced taken.prepared.tree n c (keeps.parent n there ∙ r.parent) o sound_ready f b left.front place.2 (left.before ∙ ap (λ l. left.front ++ l) are) taken.spaces due in
+            (told.0, ap (λ l. is_bare_leaf (first_printed l)) (sym seam.2) ∙ told.1);
         before =
             ap leaves (sym (tree_stays old taken.ready r.tree keeps taken.prepared.tree)) ∙ leaves_around taken.ready taken.prepared.tree n f b place.2
             ∙ ap (λ l. f ++ (l ++ b)) own ∙ ap (λ l. l ++ (comment s ∷ b)) left.before ∙ ap (λ l. (left.front ++ left.blanks) ++ (comment s ∷ l)) seam.2

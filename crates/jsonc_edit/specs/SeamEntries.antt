@@ -1,7 +1,10 @@
 -- A property of an object at a path of an ordered tree, and the leaves before it and behind it.
-use Rattle.std.specs.Prelude.{◌≡◌, ℕ, Bool, List, ◌++◌}
+use Rattle.std.specs.Prelude.{◌≡◌, ℕ, Bool, true, List, ◌++◌}
+use Rattle.jsonc_text.specs.Options.{Options}
 use Rattle.jsonc_tree.specs.Content.{Content, object}
 use Rattle.jsonc_tree.specs.OrderedTree.{OrderedTree}
+use Rattle.jsonc_laws.specs.SoundTrees.{SoundTree}
+use Rattle.jsonc_laws.specs.Spaces.{first_printed, is_bare_leaf}
 use Rattle.jsonc_laws.specs.TreeChanges.{property_of}
 use Rattle.jsonc_edit.specs.SeamPlaces.{RowHolds, DocumentHolds}
 use Rattle.jsonc_edit.specs.Seams.{PrintNothing, space_if}
@@ -19,7 +22,7 @@ pub record PropertyHolds (held : OrderedTree) (path : List ℕ) (i : ℕ) (t : O
   pub last : back ≡ beyond ++ behind
 
 -- That property has given way to another, and nothing else has changed but that a space has come directly before what is printed behind it, or none. Before it
--- none ever comes: it begins with its name.
+-- none ever comes: it begins with its name. In a sound document one that has come stands before a literal without quotes.
 pub record PropertyGivesWayWithSeam (path : List ℕ) (i : ℕ) (was now t u : OrderedTree) : Type 0 where
   pub front : List Content
   pub quiet : List Content
@@ -28,3 +31,4 @@ pub record PropertyGivesWayWithSeam (path : List ℕ) (i : ℕ) (was now t u : O
   pub silent : PrintNothing quiet
   pub stood : PropertyHolds was path i t front (quiet ++ rest)
   pub stands : PropertyHolds now path i u front (quiet ++ (space_if behind ++ rest))
+  pub parts_behind : (o : Options) → SoundTree o t → behind ≡ true → is_bare_leaf (first_printed (quiet ++ rest)) ≡ true

@@ -8,7 +8,7 @@ use Rattle.jsonc_laws.specs.Adjacent.{last_printed}
 use Rattle.jsonc_laws.specs.MarkChanges.{AreBlanks}
 use Rattle.jsonc_laws.specs.Marks.{comments_of, marks_of}
 use Rattle.jsonc_laws.specs.SoundTrees.{SoundTree}
-use Rattle.jsonc_laws.specs.Spaces.{first_printed, is_bare, is_bare_leaf}
+use Rattle.jsonc_laws.specs.Spaces.{first_printed, is_bare_leaf}
 use Rattle.jsonc_edit.specs.Changes.{top_at}
 use Rattle.jsonc_edit.specs.Comments.{comment_at, CommentTaken}
 use Rattle.jsonc_edit.specs.Due.{begins_bare, ends_bare, seen_before, seen_behind}
@@ -23,7 +23,7 @@ HasSeams old new n m now = IsTree old → GivesWay old new n m now → (path : L
     → GivesWayWithSeams path (top_at old n) now (ordered_tree old 0) (ordered_tree new 0)
 
 -- A comment has left, with blanks directly before it, and nothing else has changed but that where it stood a space has come, or none, directly before what is
--- printed next.
+-- printed next. In a sound document a space that has come parts two literals without quotes.
 pub record LosesWithSeam (old new : OrderedTree) : Type 0 where
   pub front : List Content
   pub blanks : List Content
@@ -35,6 +35,7 @@ pub record LosesWithSeam (old new : OrderedTree) : Type 0 where
   pub silent : PrintNothing quiet
   pub before : leaves old ≡ front ++ ((blanks ++ comment text ∷ []) ++ (quiet ++ rest))
   pub after : leaves new ≡ front ++ (quiet ++ (space_if behind ++ rest))
+  pub parts : (o : Options) → SoundTree o old → behind ≡ true → (is_bare_leaf (last_printed front) ≡ true) × (is_bare_leaf (first_printed (quiet ++ rest)) ≡ true)
 
 -- how many comments stand before it
 abbrev pub comments_before : {old new : OrderedTree} → LosesWithSeam old new → ℕ
@@ -52,13 +53,3 @@ TellsWhatIsPrinted o ns n =
     IsTree ns → SoundTree o (ordered_tree ns 0) → (front back : List Content) → StandsBetween ns n front back
     → (ends_bare ns (seen_before ns n) ≡ true → is_bare_leaf (last_printed front) ≡ true)
     × (begins_bare ns (seen_behind ns n) ≡ true → is_bare_leaf (first_printed back) ≡ true)
-
--- and each of those spaces parts two literals without quotes: the new value is one, and so is what is printed next to it
-abbrev pub PartsLiterals : {path : List ℕ} {was now : Top} {t u : OrderedTree} → GivesWayWithSeams path was now t u → Type 0
-PartsLiterals {now = now} g =
-    (g.before ≡ true → (is_bare now.content ≡ true) × (is_bare_leaf (last_printed g.front) ≡ true))
-    × (g.behind ≡ true → (is_bare now.content ≡ true) × (is_bare_leaf (first_printed (g.quiet ++ g.rest)) ≡ true))
-
-abbrev pub HasSeamsWhereDue : Options → List Node → List Node → ℕ → ℕ → Top → Type 0
-HasSeamsWhereDue o old new n m now = IsTree old → SoundTree o (ordered_tree old 0) → GivesWay old new n m now → (path : List ℕ) → IsAt old path n
-    → (g : GivesWayWithSeams path (top_at old n) now (ordered_tree old 0) (ordered_tree new 0)) × PartsLiterals g

@@ -1,8 +1,12 @@
 -- The value at a path of an ordered tree, and the leaves before it and behind it.
-use Rattle.std.specs.Prelude.{ℕ, suc, Bool, List, [], ◌∷◌, ◌++◌, IsTrue}
+use Rattle.std.specs.Prelude.{◌≡◌, ℕ, suc, Bool, true, List, [], ◌∷◌, ◌++◌, IsTrue}
+use Rattle.jsonc_text.specs.Options.{Options}
 use Rattle.jsonc_tree.specs.Content.{Content, root, array, object}
 use Rattle.jsonc_tree.specs.OrderedTree.{OrderedTree, none, more, own_leaf, leaves, Top}
 use Rattle.jsonc_tree.specs.Values.{is_passed_over}
+use Rattle.jsonc_laws.specs.Adjacent.{last_printed}
+use Rattle.jsonc_laws.specs.SoundTrees.{SoundTree}
+use Rattle.jsonc_laws.specs.Spaces.{first_printed, is_bare, is_bare_leaf}
 use Rattle.jsonc_laws.specs.TreeChanges.{IsElement, property_of}
 use Rattle.jsonc_edit.specs.Seams.{PrintNothing, space_if}
 
@@ -28,7 +32,7 @@ pub data DocumentHolds (top : Top) (path : List ℕ) : OrderedTree → List Cont
       → DocumentHolds top path (more root row none) (f ++ g) (c ++ b)
 
 -- The value at the path has given way to another, and nothing else has changed but that spaces have come at the seams: before it one or none, and behind it one
--- or none, directly before what is printed next.
+-- or none, directly before what is printed next. In a sound document each of them parts two literals without quotes: the new value, and what is printed next to it.
 pub record GivesWayWithSeams (path : List ℕ) (was now : Top) (t u : OrderedTree) : Type 0 where
   pub front : List Content
   pub quiet : List Content
@@ -38,3 +42,5 @@ pub record GivesWayWithSeams (path : List ℕ) (was now : Top) (t u : OrderedTre
   pub silent : PrintNothing quiet
   pub stood : DocumentHolds was path t front (quiet ++ rest)
   pub stands : DocumentHolds now path u (front ++ space_if before) (quiet ++ (space_if behind ++ rest))
+  pub parts_before : (o : Options) → SoundTree o t → before ≡ true → (is_bare now.content ≡ true) × (is_bare_leaf (last_printed front) ≡ true)
+  pub parts_behind : (o : Options) → SoundTree o t → behind ≡ true → (is_bare now.content ≡ true) × (is_bare_leaf (first_printed (quiet ++ rest)) ≡ true)

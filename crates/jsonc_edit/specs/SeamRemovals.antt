@@ -1,30 +1,34 @@
 -- What leaves a row with one of its elements, and where spaces come in its place.
-use Rattle.std.specs.Prelude.{ℕ, ◌+◌, List}
+use Rattle.std.specs.Prelude.{◌≡◌, ℕ, ◌+◌, true, List, ◌++◌}
 use Rattle.jsonc_tree.specs.Content.{Content}
 use Rattle.jsonc_tree.specs.OrderedTree.{OrderedTree, leaves, followed_by, Top}
 use Rattle.jsonc_build.specs.Shape.{token_then}
 use Rattle.jsonc_laws.specs.Leaving.{AreBeside, ClosesUp, IsRestOfLine, LeavesBehind, among, element_count}
 use Rattle.jsonc_laws.specs.Rows.{RowKind, container_of}
-use Rattle.jsonc_laws.specs.Spaces.{space_then}
+use Rattle.jsonc_laws.specs.Adjacent.{last_printed}
+use Rattle.jsonc_laws.specs.Spaces.{first_printed, is_bare_leaf, space_then}
 use Rattle.jsonc_laws.specs.TreeChanges.{IsElement}
 use Rattle.jsonc_laws.specs.TriviaChanges.{leaves_then}
 use Rattle.jsonc_edit.specs.SeamPlaces.{DocumentHolds}
 use Rattle.jsonc_edit.specs.Seams.{PrintNothing}
 
--- the second row is the first, but that a space has come directly before what is printed first of it, or none has
-pub data SpaceFirst : OrderedTree → OrderedTree → Type 0 where
-  none_first : {row : OrderedTree} → SpaceFirst row row
-  space_first : (quiet rest : OrderedTree) → PrintNothing (leaves quiet) → SpaceFirst (followed_by quiet rest) (followed_by quiet (space_then rest))
+-- The second row is the first, but that a space has come directly before what is printed first of it, or none has. One has come where that is a literal without
+-- quotes, and so is what these leaves, ahead of it, print last.
+pub data SpaceFirst (ahead : List Content) : OrderedTree → OrderedTree → Type 0 where
+  none_first : {row : OrderedTree} → SpaceFirst ahead row row
+  space_first : (quiet rest : OrderedTree) → PrintNothing (leaves quiet) → is_bare_leaf (last_printed ahead) ≡ true → is_bare_leaf (first_printed (leaves rest)) ≡ true
+      → SpaceFirst ahead (followed_by quiet rest) (followed_by quiet (space_then rest))
 
 -- The second row is the first without its element of this number, `top`, and what goes with it (`ElementLeaves`), but that where the comma before it stood a
 -- space has come, or none, and so where the element stood.
 pub data LeavesWithSeams (top : Top) : ℕ → OrderedTree → OrderedTree → Type 0 where
-  comma_behind : (front back given : OrderedTree) (before between line : List Content) → AreBeside before → LeavesBehind between line → SpaceFirst back given
+  comma_behind : (front back given : OrderedTree) (before between line : List Content) → AreBeside before → LeavesBehind between line → SpaceFirst (leaves front) back given
       → LeavesWithSeams top (element_count front) (followed_by front (among before top between (token_then 0x2C (leaves_then line back)))) (followed_by front given)
-  comma_before : (front mid back given_mid given : OrderedTree) (before line : List Content) → AreBeside before → IsRestOfLine line → SpaceFirst mid given_mid → SpaceFirst back given
+  comma_before : (front mid back given_mid given : OrderedTree) (before line : List Content) → AreBeside before → IsRestOfLine line → SpaceFirst (leaves front) mid given_mid
+      → SpaceFirst (leaves front ++ leaves given_mid) back given
       → LeavesWithSeams top (element_count front + element_count mid) (followed_by front (token_then 0x2C (followed_by mid (among before top line back))))
       (followed_by front (followed_by given_mid given))
-  no_comma : (front back given : OrderedTree) (before line : List Content) → AreBeside before → IsRestOfLine line → SpaceFirst back given
+  no_comma : (front back given : OrderedTree) (before line : List Content) → AreBeside before → IsRestOfLine line → SpaceFirst (leaves front) back given
       → LeavesWithSeams top (element_count front) (followed_by front (among before top line back)) (followed_by front given)
 
 -- The entry of this number has left the container at the path, which has closed up if it may, with what goes with it; and nothing else has changed but that

@@ -5,7 +5,7 @@ ghost use Rattle.jsonc_text.specs.Options.{Options};
 ghost use Rattle.jsonc_tree.specs.Content.{Content};
 ghost use Rattle.jsonc_tree.specs.OrderedTree.{Top};
 ghost use Rattle.jsonc_tree.specs.Tree.{Node};
-ghost use Rattle.jsonc_edit.specs.SeamLaws.{CommentHasSeam, HasSeams, HasSeamsWhereDue, TellsWhatIsPrinted};
+ghost use Rattle.jsonc_edit.specs.SeamLaws.{CommentHasSeam, HasSeams, TellsWhatIsPrinted};
 ghost use Rattle.jsonc_edit.specs.Seams.{SpacesStandAround, SpaceStandsBetween};
 
 /// The spaces that are due around a node stand directly before it, and directly before what is printed
@@ -19,7 +19,8 @@ pub fn space_stands_between()
     ensures { (ready spaced : List Node) (from to : ℕ) → SpaceStandsBetween ready spaced from to }
 {}
 
-/// Where a node at a path gives way, the value at that path does, and spaces come at the seams alone.
+/// Where a node at a path gives way, the value at that path does, and spaces come at the seams alone; in
+/// a sound document each of them parts two literals without quotes.
 pub fn values_give_way_with_seams()
     ensures { (old new : List Node) (n m : ℕ) (now : Top) → HasSeams old new n m now }
 {}
@@ -34,9 +35,4 @@ pub fn comments_leave_with_seam()
 /// literals without quotes.
 pub fn what_is_seen_is_printed()
     ensures { (o : Options) (ns : List Node) (n : ℕ) → TellsWhatIsPrinted o ns n }
-{}
-
-/// The spaces at the seams of a value that gives way in a sound document part literals without quotes.
-pub fn spaces_part_literals()
-    ensures { (o : Options) (old new : List Node) (n m : ℕ) (now : Top) → HasSeamsWhereDue o old new n m now }
 {}

@@ -16,7 +16,7 @@ use Rattle.jsonc_run.proofs.Below.laws.Texts.{AllUtf8}
 use Rattle.jsonc_run.specs.Below.edit.SeamLaws.{comments_before, LosesWithSeam}
 use Rattle.jsonc_run.specs.Below.edit.Seams.{space_if}
 use Rattle.jsonc_text.specs.Marks as texts
-use Rattle.jsonc_text.specs.Edits.{LosesComment}
+use Rattle.jsonc_text.specs.Edits.{IsSeam, LosesComment}
 use Rattle.jsonc_promise.specs.PlaceLaws.{text_of_leaves}
 use Rattle.jsonc_promise.proofs.CommentTexts.{blanks_text}
 use Rattle.jsonc_promise.proofs.Leaves.{document_utf8, text_joined, utf8_first, utf8_second}
@@ -25,7 +25,8 @@ use Rattle.jsonc_promise.proofs.RemovedTexts.{pieces_first, pieces_second}
 use Rattle.jsonc_run.specs.Below.laws.Documents.{document_of}
 use Rattle.jsonc_promise.proofs.Stretches.{blanks_behind_unmarked, marks_in, marks_in_both, parted, seam_unmarked}
 use Rattle.jsonc_promise.proofs.Trivia.{first_text, piece_trivia}
-use Rattle.jsonc_promise.proofs.Places.{silent_then, seam_if, is_seam, space_text}
+use Rattle.jsonc_promise.proofs.Places.{silent_then, seam_if, space_text}
+use Rattle.jsonc_promise.proofs.Bare.{AllSpelled, BeginsBare, EndsBare, begins_so, ends_so, meets, seam_due, spelled, spelled_first, spelled_second}
 
 pub comments_counted : (ms : List tree_marks.Mark) → length (texts.comments_of (all_marks ms)) ≡ length (tree_marks.comments_of ms)
 comments_counted [] = refl
@@ -54,11 +55,27 @@ module _ (o : Options) {t u : OrderedTree} (s : SoundTree o t) (r : SoundTree o 
   utf8_new : AllUtf8 (g.front ++ behind_new)
   utf8_new = subst AllUtf8 g.after (document_utf8 o r.shaped)
 
+  old_behind : AllUtf8 behind_old
+  old_behind = utf8_second (g.blanks ++ own) behind_old (utf8_second g.front ((g.blanks ++ own) ++ behind_old) utf8)
+
+  old_back : text_of_leaves behind_old ≡ text_of_leaves g.rest
+  old_back = silent_then g.quiet g.rest g.silent old_behind
+
+  all_spelled : AllSpelled (g.front ++ ((g.blanks ++ own) ++ behind_old))
+  all_spelled = subst AllSpelled g.before (spelled o s)
+
+  -- the space is due where the comment stood between two literals without quotes
+  seam : IsSeam (text_of_leaves g.front ++ ([] ++ [])) (text_of_leaves g.rest) (seam_if g.behind)
+  seam = seam_due g.behind (λ e.
+      let parts = g.parts o s e in
+      let ends = ends_so g.front (utf8_first g.front ((g.blanks ++ own) ++ behind_old) utf8) (spelled_first g.front ((g.blanks ++ own) ++ behind_old) all_spelled) parts.0 in
+      let begins = begins_so behind_old old_behind (spelled_second (g.blanks ++ own) behind_old (spelled_second g.front ((g.blanks ++ own) ++ behind_old) all_spelled)) parts.1 in
+      meets (subst EndsBare (sym (append-nil (text_of_leaves g.front))) ends) (subst BeginsBare old_back begins))
+
   pub comment_leaves : (w : Option Plain) → LosesComment (comments_before g) (document_of o t w) (document_of o u w)
   comment_leaves w =
       let comment = piece_trivia o (content.comment g.text) refl (pieces_second o g.blanks own pieces).0 in
       let written : text_of_leaves own ≡ chars g.text = first_text (content.comment g.text) [] comment.1.0 ∙ ap (λ l. chars g.text ++ l) chars-nil ∙ append-nil (chars g.text) in
-      let old_back : text_of_leaves behind_old ≡ text_of_leaves g.rest = silent_then g.quiet g.rest g.silent (utf8_second (g.blanks ++ own) behind_old (utf8_second g.front ((g.blanks ++ own) ++ behind_old) utf8)) in
       let later : AllUtf8 behind_new = utf8_second g.front behind_new utf8_new in
       let new_back : text_of_leaves behind_new ≡ seam_if g.behind ++ text_of_leaves g.rest =
       silent_then g.quiet (space_if g.behind ++ g.rest) g.silent later
@@ -83,7 +100,7 @@ module _ (o : Options) {t u : OrderedTree} (s : SoundTree o t) (r : SoundTree o 
         [],
         seam_if g.behind,
         text_of_leaves g.rest,
-        record { before = old; after = new; sides = (inl refl, is_seam g.behind) },
+        record { before = old; after = new; sides = (inl refl, seam) },
         blanks_text o g.blanks g.are_blanks (pieces_first o g.blanks own pieces),
         comment.1.1,
         refl,

@@ -18,6 +18,7 @@ pub mod CommentTexts
 pub mod Insides
 pub mod Inserting
 pub mod Places
+pub mod Bare
 pub mod Replacing
 pub mod Commenting
 pub mod CommaLeaves

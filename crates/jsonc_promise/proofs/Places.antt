@@ -1,5 +1,5 @@
 -- What stands at a path between leaves stands between what these print; and what spaces print.
-use Rattle.std.proofs.Common.{ℕ, ◌≡◌, ◌∙◌, ap, refl, inl, inr, Bool, true, false, List, [], ◌∷◌, ◌++◌, None, chars, rules}
+use Rattle.std.proofs.Common.{ℕ, ◌≡◌, ◌∙◌, ap, refl, Bool, true, false, List, [], ◌∷◌, ◌++◌, None, chars, rules}
 use Rattle.std.specs.List.{flat_map}
 use Rattle.std.proofs.lemmas.Str.{chars-nil, chars-append, chars-IsAscii}
 use Rattle.jsonc_text.specs.Text.{next}
@@ -10,7 +10,6 @@ use Rattle.jsonc_run.specs.Below.laws.TreeChanges.{ElementChanged, ValueChanged,
 use Rattle.jsonc_run.proofs.Below.laws.Texts.{AllUtf8}
 use Rattle.jsonc_run.specs.Below.edit.SeamPlaces.{RowHolds, this_element, past_other, past_element, ValueHolds, itself, in_array, in_object, DocumentHolds, in_root}
 use Rattle.jsonc_run.specs.Below.edit.Seams.{PrintNothing, space_if}
-use Rattle.jsonc_text.specs.Edits.{IsSeam}
 use Rattle.jsonc_promise.specs.PlaceLaws.{text_of_leaves}
 use Rattle.jsonc_promise.proofs.Leaves.{row_front, row_back, value_front, value_back, front_of, back_of, text_joined, utf8_first}
 
@@ -80,10 +79,6 @@ silent_then quiet rest p u = text_joined quiet rest (utf8_first quiet rest u) �
 abbrev pub seam_if : Bool → List ℕ
 seam_if false = []
 seam_if true = 0x20 ∷ []
-
-pub is_seam : (b : Bool) → IsSeam (seam_if b)
-is_seam false = inl refl
-is_seam true = inr refl
 
 pub space_text : (b : Bool) → text_of_leaves (space_if b) ≡ seam_if b
 space_text false = chars-nil

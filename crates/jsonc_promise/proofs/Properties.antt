@@ -1,5 +1,5 @@
 -- Where a property gives way to another in a sound tree, it gives way so in the text.
-use Rattle.std.proofs.Common.{ℕ, suc, ◌≡◌, ◌∙◌, sym, ap, subst, refl, inl, List, [], ◌∷◌, ◌++◌, length, Option}
+use Rattle.std.proofs.Common.{ℕ, suc, ◌≡◌, ◌∙◌, sym, ap, subst, refl, inl, true, List, [], ◌∷◌, ◌++◌, length, Option}
 use Rattle.std.proofs.lemmas.List.{append_assoc}
 use Rattle.jsonc_text.specs.Options.{Options}
 use Rattle.jsonc_text.specs.Plain as plain
@@ -20,8 +20,11 @@ use Rattle.jsonc_run.specs.Written.{IsChanged, by_property, PropertyGivenWay, pr
 use Rattle.jsonc_run.specs.Below.edit.SeamEntries.{PropertyHolds, PropertyGivesWayWithSeam}
 use Rattle.jsonc_run.specs.Below.edit.SeamPlaces.{RowHolds, this_element, past_other, past_element, DocumentHolds}
 use Rattle.jsonc_run.specs.Below.edit.Seams.{space_if}
+use Rattle.jsonc_run.specs.Below.set.Giving.{is_bare_value}
 use Rattle.jsonc_run.proofs.Below.set.PropertyRows.{object_row}
 use Rattle.jsonc_text.specs.Marks.{Mark}
+use Rattle.jsonc_from_input.specs.Laid.{laid_property, number_leaf, string_leaf}
+use Rattle.jsonc_from_input.specs.Layout.{Layout}
 use Rattle.jsonc_from_input.specs.Texts.{IsCharacters, IsOfTexts}
 use Rattle.jsonc_text.specs.Paths.{Entry, an_object}
 use Rattle.jsonc_text.specs.Entries.{Named, members, of, Changed, Becomes}
@@ -34,7 +37,8 @@ use Rattle.jsonc_promise.proofs.Reaching.{Reached}
 use Rattle.jsonc_promise.proofs.RemovedTexts.{entry_begins, entry_there}
 use Rattle.jsonc_run.specs.Below.laws.Documents.{document_of}
 use Rattle.jsonc_promise.proofs.Stretches.{Begins, laid_property_literals, marks_in, parted, parted_as, seam_unmarked}
-use Rattle.jsonc_promise.proofs.Places.{document_itself, silent_then, seam_if, is_seam, space_text}
+use Rattle.jsonc_promise.proofs.Places.{document_itself, silent_then, seam_if, space_text}
+use Rattle.jsonc_promise.proofs.Bare.{AllSpelled, BeginsBare, EndsBareWith, begins_so, ends_behind, ends_with, meets, seam_due, spelled, spelled_first, spelled_second}
 
 -- the leaves of a row with an element in it
 held_leaves : {top : Top} {i : ℕ} {row : OrderedTree} {f b : List Content} → RowHolds top i row f b → leaves row ≡ f ++ (leaves_of top ++ b)
@@ -56,6 +60,17 @@ reached (past_element {content = content} {below = below} p h) y q = let m = rea
 behind_bracket : {held row : OrderedTree} {c i : ℕ} {f b : List Content} → RowHolds (property_of held) i (token_then c row) f b → (g : List Content) × RowHolds (property_of held) i row g b
 behind_bracket (past_other {f = f} p h) = (f, h)
 behind_bracket (past_element p h) = cc
+
+-- a property that is laid out, ahead of its value
+abbrev ahead_of_value : List ℕ → List Content
+ahead_of_value name = string_leaf name ∷ Content.token 0x3A ∷ Content.whitespace (0x20 ∷ []) ∷ []
+
+-- one whose value is a literal without quotes ends with it
+property_ends : (layout : Layout) (name : List ℕ) (v : Plain) → is_bare_value v ≡ true → EndsBareWith (leaves_of (laid_property layout name v))
+property_ends layout name plain.null e = record { front = ahead_of_value name; leaf = Content.null; is = refl; bare = refl }
+property_ends layout name (plain.boolean b) e = record { front = ahead_of_value name; leaf = Content.boolean b; is = refl; bare = refl }
+property_ends layout name (plain.number n) e = record { front = ahead_of_value name; leaf = number_leaf n; is = refl; bare = refl }
+property_ends layout name v e = cc
 
 module _ (o : Options) where
   pub record PropertyPrinted (held : OrderedTree) (path : List ℕ) (i : ℕ) (t : OrderedTree) (f b : List Content) : Type 0 where
@@ -117,13 +132,29 @@ module _ (o : Options) where
         ∙ text_joined (space_if g.behind) g.rest (utf8_first (space_if g.behind) g.rest (utf8_second g.quiet (space_if g.behind ++ g.rest) back_utf8))
         ∙ ap (λ l. l ++ text_of_leaves g.rest) (space_text g.behind)
 
-    pub property_puts : (w x : Option Plain) (come : List Mark) → marks_in (leaves_of (property_of now)) ≡ come → Puts (Entry (path ++ i ∷ [])) come (document_of o t w) (document_of o u x)
-    property_puts w x come is =
+    new_spelled : AllSpelled (leaves_of (property_of now))
+    new_spelled =
+        let behind_new : List Content = g.quiet ++ (space_if g.behind ++ g.rest) in
+        spelled_first (leaves_of (property_of now)) behind_new (spelled_second g.front (leaves_of (property_of now) ++ behind_new) (subst AllSpelled second.whole (spelled o r)))
+
+    new_utf8 : AllUtf8 (leaves_of (property_of now))
+    new_utf8 = let behind_new : List Content = g.quiet ++ (space_if g.behind ++ g.rest) in utf8_first (leaves_of (property_of now)) behind_new (utf8_second g.front (leaves_of (property_of now) ++ behind_new) second.utf8)
+
+    -- the space is due where the new property ends with a literal without quotes
+    behind_due : (g.behind ≡ true → EndsBareWith (leaves_of (property_of now))) → IsSeam (text_of_leaves g.front ++ ([] ++ new_own)) (text_of_leaves g.rest) (seam_if g.behind)
+    behind_due bare = seam_due g.behind (λ e.
+        let old : List Content = leaves_of (property_of was) in
+        let was_spelled : AllSpelled (g.front ++ (old ++ (g.quiet ++ g.rest))) = subst AllSpelled first.whole (spelled o s) in
+        let begins = begins_so (g.quiet ++ g.rest) (utf8_second old (g.quiet ++ g.rest) (utf8_second g.front (old ++ (g.quiet ++ g.rest)) first.utf8)) (spelled_second old (g.quiet ++ g.rest) (spelled_second g.front (old ++ (g.quiet ++ g.rest)) was_spelled)) (g.parts_behind o s e) in
+        meets (ends_behind (text_of_leaves g.front) (ends_with (bare e) new_utf8 new_spelled)) (subst BeginsBare old_back begins))
+
+    pub property_puts : (w x : Option Plain) (come : List Mark) → marks_in (leaves_of (property_of now)) ≡ come → (g.behind ≡ true → EndsBareWith (leaves_of (property_of now))) → Puts (Entry (path ++ i ∷ [])) come (document_of o t w) (document_of o u x)
+    property_puts w x come is bare =
         let text : Text IsSeam (text_of_leaves g.front) old_own [] new_own (seam_if g.behind) (text_of_leaves g.rest) (document_of o t w) (document_of o u x) =
         record {
           before = first.text ∙ ap (λ l. text_of_leaves g.front ++ (old_own ++ l)) old_back;
           after = second.text ∙ ap (λ l. text_of_leaves g.front ++ (new_own ++ l)) new_back;
-          sides = (inl refl, is_seam g.behind);
+          sides = (inl refl, behind_due bare);
         } in
         let own : List Content = leaves_of (property_of was) in
         let old_parted = parted o s w g.front own (g.quiet ++ g.rest) first.whole first.begins
@@ -182,7 +213,8 @@ gives {name = name} {v = v} (by_property path i {x = x} {y = y} g) =
 
 puts : (o : Options) (t u : OrderedTree) (w x : Option Plain) (path name : List ℕ) (v : Plain) → IsCharacters name × IsOfTexts v → SoundTree o t → SoundTree o u → PropertyGivenWay name v t u path
     → Puts (Entry path) (written an_object (entry_of name v)) (document_of o t w) (document_of o u x)
-puts o t u w x _ name v f s r (property_given path i layout spaced front old back p c d seam) = property_puts o s r seam w x (written an_object (entry_of name v)) (laid_property_literals layout name v f.0 f.1)
+puts o t u w x _ name v f s r (property_given path i layout spaced front old back p c d seam bare) =
+    property_puts o s r seam w x (written an_object (entry_of name v)) (laid_property_literals layout name v f.0 f.1) (λ e. property_ends layout name v (bare e))
 
 pub property_replaced : (o : Options) (t u : OrderedTree) (w x : Option Plain) (path name : List ℕ) (v : Plain) → IsCharacters name × IsOfTexts v → SoundTree o t → SoundTree o u → IsChanged w (replace_property path name v) x
     → PropertyGivenWay name v t u path → Makes (document_of o t w) (texts.replace_property path name v) (document_of o u x)

@@ -1,5 +1,5 @@
 -- Where an entry leaves a sound tree with spaces at the seams, it leaves the text so.
-use Rattle.std.proofs.Common.{ℕ, ◌+◌, ◌≡◌, ◌≢◌, ◌∙◌, sym, ap, subst, refl, inl, Bool, true, false, List, [], ◌∷◌, ◌++◌, Option, arith}
+use Rattle.std.proofs.Common.{ℕ, ◌+◌, ◌≡◌, ◌≢◌, ◌∙◌, sym, ap, subst, refl, inl, Bool, true, false, List, [], ◌∷◌, ◌++◌, Option, Some, None, arith}
 use Rattle.std.proofs.lemmas.List.{append_assoc, append-nil}
 use Rattle.std.proofs.lemmas.Str.{chars-nil}
 use Rattle.jsonc_text.specs.Options.{Options}
@@ -14,13 +14,15 @@ use Rattle.jsonc_run.specs.Below.laws.Leaving.{AreBeside, IsRestOfLine, among, e
 use Rattle.jsonc_run.specs.Below.laws.MarkChanges.{AreBlanks}
 use Rattle.jsonc_run.specs.Below.laws.Rows.{RowKind, opening, container_of}
 use Rattle.jsonc_run.specs.Below.laws.SoundTrees.{SoundTree}
-use Rattle.jsonc_run.specs.Below.laws.Spaces.{space_then}
+use Rattle.jsonc_run.specs.Below.laws.Adjacent.{last_printed, or_else}
+use Rattle.jsonc_run.specs.Below.laws.Spaces.{first_printed, is_bare_leaf, space_then}
 use Rattle.jsonc_run.specs.Below.laws.TreeChanges.{IsElement, leaves_of}
 use Rattle.jsonc_run.specs.Below.laws.TriviaChanges.{leaves_then}
 use Rattle.jsonc_run.proofs.Below.laws.Apart.{document_alone}
 use Rattle.jsonc_run.proofs.Below.laws.Pieces.{Pieces, document_pieces}
 use Rattle.jsonc_run.proofs.Below.laws.RowParts.{parted_at, at_comma, past_leaves, beside_trivia, rest_trivia, between_trivia, line_trivia}
 use Rattle.jsonc_run.proofs.Below.laws.SeamStretches.{parted_row}
+use Rattle.jsonc_run.proofs.Below.laws.Spaces.{first_append, last_append}
 use Rattle.jsonc_run.proofs.Below.laws.Texts.{AllUtf8}
 use Rattle.jsonc_run.proofs.Below.laws.TriviaLeaves.{front_leaves}
 use Rattle.jsonc_run.specs.Below.edit.Put.{a_space}
@@ -31,7 +33,7 @@ use Rattle.jsonc_run.specs.Below.edit.SeamPlaces.{DocumentHolds}
 use Rattle.jsonc_run.specs.Below.edit.Seams.{PrintNothing, space_if}
 use Rattle.jsonc_text.specs.Paths.{Entry}
 use Rattle.jsonc_text.specs.Edits as texts
-use Rattle.jsonc_text.specs.Edits.{Document, InLine, Trail, Comma, Leaves, Loses}
+use Rattle.jsonc_text.specs.Edits.{Document, InLine, IsSeam, Trail, Comma, Leaves, Loses}
 use Rattle.jsonc_promise.specs.PlaceLaws.{text_of_leaves}
 use Rattle.jsonc_promise.proofs.CommentTexts.{blanks_text}
 use Rattle.jsonc_promise.proofs.Leaves.{back_of, document_parts, document_utf8, text_joined, utf8_first, utf8_second}
@@ -45,18 +47,42 @@ use Rattle.jsonc_promise.proofs.Trivia.{beside_text}
 use Rattle.jsonc_promise.proofs.Closing.{blanks_first, blanks_second, split, row_some, container_row, no_elements, count_followed, blanks_count, left_blanks}
 use Rattle.jsonc_promise.proofs.Values.{at_the_place}
 use Rattle.jsonc_run.specs.Below.laws.Rows.{an_element, nothing_yet}
-use Rattle.jsonc_promise.proofs.Places.{DocumentItself, document_itself, silent_then, seam_if, is_seam, space_text}
+use Rattle.jsonc_promise.proofs.Places.{DocumentItself, document_itself, silent_then, seam_if, space_text}
+use Rattle.jsonc_promise.proofs.Bare.{AllSpelled, BeginsBare, EndsBare, begins_before, begins_so, ends_so, meets, seam_due, spelled, spelled_first, spelled_second}
 
--- the second leaves are the first with a space directly before what is printed first, or none
-record SeamIn (xs ys : List Content) (b : Bool) : Type 0 where
+-- the second leaves are the first with a space directly before what is printed first, or none: one where that is a literal without quotes, and so is what is printed
+-- last ahead of them
+record SeamIn (ahead xs ys : List Content) (b : Bool) : Type 0 where
   quiet : List Content
   rest : List Content
   was : xs ≡ quiet ++ rest
   is : ys ≡ quiet ++ (space_if b ++ rest)
   silent : PrintNothing quiet
+  due : b ≡ true → (is_bare_leaf (last_printed ahead) ≡ true) × (is_bare_leaf (first_printed rest) ≡ true)
 
-seam_text : {xs ys : List Content} {b : Bool} → SeamIn xs ys b → AllUtf8 xs → AllUtf8 ys → text_of_leaves ys ≡ seam_if b ++ text_of_leaves xs
-seam_text {xs} {ys} {b} s u v =
+never : {A : Type 0} → false ≡ true → A
+never e = cc
+
+bare_first : (x y : Option Content) → is_bare_leaf x ≡ true → is_bare_leaf (or_else x y) ≡ true
+bare_first None y e = never e
+bare_first (Some c) y e = e
+
+-- with more before them, and behind
+last_behind : (before row : List Content) → is_bare_leaf (last_printed row) ≡ true → is_bare_leaf (last_printed (before ++ row)) ≡ true
+last_behind before row e = ap is_bare_leaf (last_append before row) ∙ bare_first (last_printed row) (last_printed before) e
+
+first_before : (row behind : List Content) → is_bare_leaf (first_printed row) ≡ true → is_bare_leaf (first_printed (row ++ behind)) ≡ true
+first_before row behind e = ap is_bare_leaf (first_append row behind) ∙ bare_first (first_printed row) (first_printed behind) e
+
+seam_behind : {a c xs ys : List Content} {b : Bool} → (is_bare_leaf (last_printed a) ≡ true → is_bare_leaf (last_printed c) ≡ true) → SeamIn a xs ys b → SeamIn c xs ys b
+seam_behind f s = record { quiet = s.quiet; rest = s.rest; was = s.was; is = s.is; silent = s.silent; due = λ e. let d = s.due e in (f d.0, d.1) }
+
+-- what the first leaves print is what those print before which the space stands
+seam_rest : {ahead xs ys : List Content} {b : Bool} (s : SeamIn ahead xs ys b) → AllUtf8 xs → text_of_leaves s.rest ≡ text_of_leaves xs
+seam_rest s u = sym (ap text_of_leaves s.was ∙ silent_then s.quiet s.rest s.silent (subst AllUtf8 s.was u))
+
+seam_text : {ahead xs ys : List Content} {b : Bool} → SeamIn ahead xs ys b → AllUtf8 xs → AllUtf8 ys → text_of_leaves ys ≡ seam_if b ++ text_of_leaves xs
+seam_text {ahead} {xs} {ys} {b} s u v =
     let first : AllUtf8 (s.quiet ++ s.rest) = subst AllUtf8 s.was u in
     let second : AllUtf8 (s.quiet ++ (space_if b ++ s.rest)) = subst AllUtf8 s.is v in
     ap text_of_leaves s.is ∙ silent_then s.quiet (space_if b ++ s.rest) s.silent second
@@ -64,13 +90,18 @@ seam_text {xs} {ys} {b} s u v =
     ∙ ap (λ l. l ++ text_of_leaves s.rest) (space_text b)
     ∙ ap (λ l. seam_if b ++ l) (sym (ap text_of_leaves s.was ∙ silent_then s.quiet s.rest s.silent first))
 
-seam_marks : {xs ys : List Content} {b : Bool} → SeamIn xs ys b → marks_in ys ≡ marks_in xs
+-- and begins with a literal without quotes, if that is printed first
+rest_begins : {ahead xs ys : List Content} {b : Bool} (s : SeamIn ahead xs ys b) → AllUtf8 xs → AllSpelled xs → is_bare_leaf (first_printed s.rest) ≡ true → BeginsBare (text_of_leaves xs)
+rest_begins s u h e =
+    subst BeginsBare (seam_rest s u) (begins_so s.rest (utf8_second s.quiet s.rest (subst AllUtf8 s.was u)) (spelled_second s.quiet s.rest (subst AllSpelled s.was h)) e)
+
+seam_marks : {ahead xs ys : List Content} {b : Bool} → SeamIn ahead xs ys b → marks_in ys ≡ marks_in xs
 seam_marks {b = b} s = ap marks_in s.is ∙ seam_unmarked s.quiet b s.rest ∙ sym (ap marks_in s.was)
 
 -- one of a row, with leaves behind it
-row_seam : {x y : OrderedTree} (around : List Content) → SpaceFirst x y → (b : Bool) × SeamIn (leaves x ++ around) (leaves y ++ around) b
-row_seam {x} around none_first = (false, record { quiet = []; rest = leaves x ++ around; was = refl; is = refl; silent = tt })
-row_seam around (space_first quiet rest silent) = (
+row_seam : {ahead : List Content} {x y : OrderedTree} (around : List Content) → SpaceFirst ahead x y → (b : Bool) × SeamIn ahead (leaves x ++ around) (leaves y ++ around) b
+row_seam {x = x} around none_first = (false, record { quiet = []; rest = leaves x ++ around; was = refl; is = refl; silent = tt; due = never })
+row_seam around (space_first quiet rest silent last first) = (
   true,
   record {
     quiet = leaves quiet;
@@ -78,16 +109,17 @@ row_seam around (space_first quiet rest silent) = (
     was = ap (λ l. l ++ around) (leaves-followed_by quiet rest) ∙ append_assoc (leaves quiet) (leaves rest) around;
     is = ap (λ l. l ++ around) (leaves-followed_by quiet (space_then rest)) ∙ append_assoc (leaves quiet) (a_space ∷ leaves rest) around;
     silent = silent;
+    due = λ e. (last, first_before (leaves rest) around first);
   },
 )
 
-alone_seam : {x y : OrderedTree} → SpaceFirst x y → (b : Bool) × SeamIn (leaves x) (leaves y) b
-alone_seam {x} {y} s =
+alone_seam : {ahead : List Content} {x y : OrderedTree} → SpaceFirst ahead x y → (b : Bool) × SeamIn ahead (leaves x) (leaves y) b
+alone_seam {ahead} {x} {y} s =
     let m = row_seam [] s in
-    (m.0, subst (λ l. SeamIn l (leaves y) m.0) (append-nil (leaves x)) (subst (λ l. SeamIn (leaves x ++ []) l m.0) (append-nil (leaves y)) m.1))
+    (m.0, subst (λ l. SeamIn ahead l (leaves y) m.0) (append-nil (leaves x)) (subst (λ l. SeamIn ahead (leaves x ++ []) l m.0) (append-nil (leaves y)) m.1))
 
-no_seam : SeamIn [] [] false
-no_seam = record { quiet = []; rest = []; was = refl; is = refl; silent = tt }
+no_seam : (ahead : List Content) → SeamIn ahead [] [] false
+no_seam ahead = record { quiet = []; rest = []; was = refl; is = refl; silent = tt; due = never }
 
 -- the leaves of two trees, in stretches
 record Stretches (t u : OrderedTree) (own : List Content) : Type 0 where
@@ -103,8 +135,8 @@ record Stretches (t u : OrderedTree) (own : List Content) : Type 0 where
   right : Bool
   before : leaves t ≡ front ++ (comma ++ (mid ++ (lead ++ (own ++ (trail ++ back)))))
   after : leaves u ≡ front ++ (mid_now ++ back_now)
-  at_comma : SeamIn mid mid_now left
-  at_entry : SeamIn back back_now right
+  at_comma : SeamIn front mid mid_now left
+  at_entry : SeamIn (front ++ mid_now) back back_now right
 
 -- a container of two trees with one document around it
 record Around (kind : RowKind) (path : List ℕ) (t u row new : OrderedTree) (front back : List Content) : Type 0 where
@@ -132,7 +164,7 @@ record Gone (kind : RowKind) (top : Top) (i : ℕ) (row : OrderedTree) (t u : Or
 
 module _ {kind : RowKind} {top : Top} {path : List ℕ} {t u : OrderedTree} {f b : List Content} (element : IsElement top.content) where
   -- with no comma, or with the one behind it
-  gone_ahead : (front back given : OrderedTree) (before behind : List Content) (row : OrderedTree) (c : Bool) → Commas c [] [] behind → AreBeside before → Around kind path t u row (followed_by front given) f b → SpaceFirst back given
+  gone_ahead : (front back given : OrderedTree) (before behind : List Content) (row : OrderedTree) (c : Bool) → Commas c [] [] behind → AreBeside before → Around kind path t u row (followed_by front given) f b → SpaceFirst (leaves front) back given
       → leaves row ≡ leaves front ++ (before ++ (leaves_of top ++ (behind ++ leaves back))) → ((y : Top) → IsElement y.content → Reached top y (element_count front) row (behind ++ leaves back)) → Gone kind top (element_count front) row t u b
   gone_ahead front back given before behind row c cm h d space e reach =
       let o : Content = token (opening kind) in
@@ -151,8 +183,8 @@ module _ {kind : RowKind} {top : Top} {path : List ℕ} {t u : OrderedTree} {f b
           right = seam.0;
           before = d.old ∙ ap (λ l. f ++ ((o ∷ l) ++ b)) e ∙ regroup_old f (leaves front) before (leaves_of top) behind (leaves back) b o;
           after = d.now ∙ ap (λ l. f ++ ((o ∷ l) ++ b)) (leaves-followed_by front given) ∙ regroup_new f (leaves front) (leaves given) b o;
-          at_comma = no_seam;
-          at_entry = seam.1;
+          at_comma = no_seam (f ++ (o ∷ leaves front));
+          at_entry = seam_behind (λ h. ap (λ l. is_bare_leaf (last_printed l)) (append-nil (f ++ (o ∷ leaves front))) ∙ last_behind f (o ∷ leaves front) (last_behind (o ∷ []) (leaves front) h)) seam.1;
         };
         rest = leaves back;
         back = refl;
@@ -170,7 +202,7 @@ module _ {kind : RowKind} {top : Top} {path : List ℕ} {t u : OrderedTree} {f b
 
   -- with the one before it
   gone_behind : (front mid back given_mid given : OrderedTree) (before line : List Content) (row : OrderedTree) → IsRestOfLine line → AreBeside before → Around kind path t u row (followed_by front (followed_by given_mid given)) f b
-      → SpaceFirst mid given_mid → SpaceFirst back given
+      → SpaceFirst (leaves front) mid given_mid → SpaceFirst (leaves front ++ leaves given_mid) back given
       → leaves row ≡ leaves front ++ (token 0x2C ∷ (leaves mid ++ (before ++ (leaves_of top ++ (line ++ leaves back))))) → ((y : Top) → IsElement y.content → Reached top y (element_count front + element_count mid) row (line ++ leaves back)) → Gone kind top (element_count front + element_count mid) row t u b
   gone_behind front mid back given_mid given before line row rl h d space_mid space e reach =
       let o : Content = token (opening kind) in
@@ -190,8 +222,9 @@ module _ {kind : RowKind} {top : Top} {path : List ℕ} {t u : OrderedTree} {f b
           right = seam.0;
           before = d.old ∙ ap (λ l. f ++ ((o ∷ l) ++ b)) e ∙ regroup_old f (leaves front) (leaves mid) before (leaves_of top) line (leaves back) b o (token 0x2C);
           after = d.now ∙ ap (λ l. f ++ ((o ∷ l) ++ b)) (leaves-followed_by front (followed_by given_mid given) ∙ ap (λ l. leaves front ++ l) (leaves-followed_by given_mid given)) ∙ regroup_new f (leaves front) (leaves given_mid) (leaves given) b o;
-          at_comma = seam_mid.1;
-          at_entry = seam.1;
+          at_comma = seam_behind (λ h. last_behind f (o ∷ leaves front) (last_behind (o ∷ []) (leaves front) h)) seam_mid.1;
+          at_entry = seam_behind (λ h. ap (λ l. is_bare_leaf (last_printed l)) (append_assoc f (o ∷ leaves front) (leaves given_mid))
+              ∙ last_behind f (o ∷ (leaves front ++ leaves given_mid)) (last_behind (o ∷ []) (leaves front ++ leaves given_mid) h)) seam.1;
         };
         rest = leaves back;
         back = refl;
@@ -271,6 +304,26 @@ module _ (o : Options) {t u : OrderedTree} (s : SoundTree o t) (r : SoundTree o 
       ap text_of_leaves k.after ∙ text_cons k.front (k.mid_now ++ k.back_now) utf8_new (text_cons k.mid_now k.back_now v1 back_now)
       ∙ ap (λ l. text_of_leaves k.front ++ (l ++ (seam_if k.right ++ text_of_leaves k.back))) mid_now
       ∙ ap (λ l. text_of_leaves k.front ++ l) (append_assoc (seam_if k.left) (text_of_leaves k.mid) (seam_if k.right ++ text_of_leaves k.back)) in
+      let was_spelled : AllSpelled (k.front ++ behind_front) = subst AllSpelled k.before (spelled o s) in
+      let mid_spelled : AllSpelled behind_comma = spelled_second k.comma behind_comma (spelled_second k.front behind_front was_spelled) in
+      let back_spelled : AllSpelled k.back = spelled_second k.trail k.back (spelled_second own behind_own (spelled_second k.lead behind_lead (spelled_second k.mid behind_mid mid_spelled))) in
+      let u_mid : AllUtf8 k.mid = utf8_first k.mid behind_mid u2 in
+      let u_back : AllUtf8 k.back = utf8_second k.trail k.back u5 in
+      let left_due : IsSeam (text_of_leaves k.front) (text_of_leaves k.mid ++ (seam_if k.right ++ text_of_leaves k.back)) (seam_if k.left) =
+      seam_due k.left (λ e.
+      let due = k.at_comma.due e in
+      let ends = ends_so k.front (utf8_first k.front behind_front utf8) (spelled_first k.front behind_front was_spelled) due.0 in
+      let begins = rest_begins k.at_comma u_mid (spelled_first k.mid behind_mid mid_spelled) due.1 in
+      meets ends (begins_before (seam_if k.right ++ text_of_leaves k.back) begins)) in
+      let front_now : List Content = k.front ++ k.mid_now in
+      let now_is : leaves u ≡ front_now ++ k.back_now = k.after ∙ sym (append_assoc k.front k.mid_now k.back_now) in
+      let now_spelled : AllSpelled front_now = spelled_first front_now k.back_now (subst AllSpelled now_is (spelled o r)) in
+      let now_utf8 : AllUtf8 front_now = utf8_first front_now k.back_now (subst AllUtf8 now_is (document_utf8 o r.shaped)) in
+      let now_text : text_of_leaves front_now ≡ text_of_leaves k.front ++ (seam_if k.left ++ text_of_leaves k.mid) = text_cons k.front k.mid_now now_utf8 mid_now in
+      let right_due : IsSeam (text_of_leaves k.front ++ (seam_if k.left ++ text_of_leaves k.mid)) (text_of_leaves k.back) (seam_if k.right) =
+      seam_due k.right (λ e.
+      let due = k.at_entry.due e in
+      meets (subst EndsBare now_text (ends_so front_now now_utf8 now_spelled due.0)) (rest_begins k.at_entry u_back back_spelled due.1)) in
       let ahead : List Content = k.front ++ (k.comma ++ k.mid) in
       let parts : leaves t ≡ ahead ++ behind_mid = k.before ∙ ap (λ l. k.front ++ l) (sym (append_assoc k.comma k.mid behind_mid)) ∙ sym (append_assoc k.front (k.comma ++ k.mid) behind_mid) in
       let parted = gone_parted o s w ahead k.lead own k.trail [] k.back [] parts g.lead (entry_begins o kind s d.itself.changed g.reached behind_own) chars-nil in
@@ -298,8 +351,8 @@ module _ (o : Options) {t u : OrderedTree} (s : SoundTree o t) (r : SoundTree o 
         trail.1,
         many.Many.stop,
         many.Many.stop,
-        is_seam k.left,
-        is_seam k.right,
+        left_due,
+        right_due,
         marks_in ahead,
         marks_in (k.lead ++ (own ++ (k.trail ++ []))),
         marks_in k.back,
@@ -330,9 +383,9 @@ without_space (x ∷ xs) ys (b ∷ bs) c h e =
     let m = without_space xs ys bs c h.1 rest in
     record { blanks = b ∷ m.blanks; are = (h.0, m.are); is = ap (λ l. x ∷ l) m.is ∙ ap (λ y. y ∷ (m.blanks ++ token c ∷ [])) first }
 
-left_unspaced : (front back given : OrderedTree) (blanks : List Content) (c : ℕ) → AreBlanks blanks → SpaceFirst back given → followed_by front given ≡ leaves_then blanks (token_then c none) → Unspaced (leaves front ++ leaves back) (token c)
+left_unspaced : {ahead : List Content} (front back given : OrderedTree) (blanks : List Content) (c : ℕ) → AreBlanks blanks → SpaceFirst ahead back given → followed_by front given ≡ leaves_then blanks (token_then c none) → Unspaced (leaves front ++ leaves back) (token c)
 left_unspaced front _ _ blanks c h (none_first {row = row}) e = record { blanks = blanks; are = h; is = left_blanks front row blanks c h e }
-left_unspaced front _ _ blanks c h (space_first quiet rest silent) e =
+left_unspaced front _ _ blanks c h (space_first quiet rest silent last first) e =
     let all = left_blanks front (followed_by quiet (space_then rest)) blanks c h e in
     let parts : (leaves front ++ leaves quiet) ++ a_space ∷ leaves rest ≡ blanks ++ token c ∷ [] = append_assoc (leaves front) (leaves quiet) (a_space ∷ leaves rest) ∙ ap (λ l. leaves front ++ l) (sym (leaves-followed_by quiet (space_then rest))) ∙ all in
     let m = without_space (leaves front ++ leaves quiet) (leaves rest) blanks c h parts in

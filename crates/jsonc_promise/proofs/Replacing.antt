@@ -1,5 +1,5 @@
 -- Where a value gives way with spaces at the seams in sound trees, it gives way so in the texts.
-use Rattle.std.proofs.Common.{ℕ, ◌≡◌, ◌∙◌, ap, subst, List, ◌++◌, Option, Some, None}
+use Rattle.std.proofs.Common.{ℕ, ◌≡◌, ◌∙◌, ap, subst, true, List, ◌++◌, Option, Some, None}
 use Rattle.std.proofs.lemmas.List.{append_assoc}
 use Rattle.jsonc_text.specs.Options.{Options}
 use Rattle.jsonc_text.specs.Plain.{Plain}
@@ -10,11 +10,15 @@ use Rattle.jsonc_build.specs.Shape.{printed_text}
 use Rattle.jsonc_from_input.proofs.Meanings.{laid_value}
 use Rattle.jsonc_from_input.specs.Texts.{IsOfTexts}
 use Rattle.jsonc_run.specs.Below.laws.Changes as tree_changes
+use Rattle.jsonc_run.specs.Below.laws.Alone.{ValueAlone}
 use Rattle.jsonc_run.specs.Below.laws.SoundTrees.{SoundTree}
+use Rattle.jsonc_run.specs.Below.laws.Spaces.{is_bare, is_bare_leaf}
 use Rattle.jsonc_run.specs.Below.laws.TreeChanges.{leaves_of}
 use Rattle.jsonc_run.specs.Below.laws.Sound.{HasValue}
 use Rattle.jsonc_run.proofs.Below.laws.Values.{document_change}
+use Rattle.jsonc_run.proofs.Below.laws.Apart.{value_alone}
 use Rattle.jsonc_run.proofs.Below.laws.Texts.{AllUtf8}
+use Rattle.jsonc_run.proofs.Below.edit.Meeting.{value_first, value_last}
 use Rattle.jsonc_run.proofs.Below.edit.OneValue.{document_once}
 use Rattle.jsonc_run.proofs.Below.edit.Spacing.{spaces_value}
 use Rattle.jsonc_run.specs.Below.named.Values.{ValueGivesWay}
@@ -31,7 +35,8 @@ use Rattle.jsonc_run.specs.Below.laws.Documents.{document_of}
 use Rattle.jsonc_promise.proofs.ReplacedTexts.{some_value}
 use Rattle.jsonc_promise.proofs.Stretches.{Begins, laid_literals, marks_in, parted, parted_as, seam_unmarked, space_behind_unmarked, value_begins}
 use Rattle.jsonc_promise.proofs.Values.{at_the_place}
-use Rattle.jsonc_promise.proofs.Places.{document_itself, silent_then, seam_if, is_seam, space_text}
+use Rattle.jsonc_promise.proofs.Places.{document_itself, silent_then, seam_if, space_text}
+use Rattle.jsonc_promise.proofs.Bare.{AllSpelled, BeginsBare, EndsBare, begins_before, begins_so, ends_behind, ends_so, meets, seam_due, spelled, spelled_first, spelled_second}
 
 module _ (o : Options) where
   -- what is at a path of a sound tree between leaves is in the text between what they print
@@ -41,6 +46,7 @@ module _ (o : Options) where
     pub utf8 : AllUtf8 (f ++ (leaves_of top ++ b))
     pub text : printed_text t ≡ text_of_leaves f ++ (text_of_leaves (leaves_of top) ++ text_of_leaves b)
     pub stands : Value path o (printed_text t) (text_of_leaves (leaves_of top) ++ text_of_leaves b) (text_of_leaves b)
+    pub alone : ValueAlone o top.content top.below
 
   pub printed : {top : Top} {path : List ℕ} {t : OrderedTree} {f b : List Content} → SoundTree o t → DocumentHolds top path t f b → Printed top path t f b
   printed {top} {path} {t} {f} {b} s h =
@@ -54,6 +60,7 @@ module _ (o : Options) where
         utf8 = subst AllUtf8 whole (document_utf8 o s.shaped);
         text = place.0 ∙ ap (λ l. text_of_leaves l ++ (own ++ text_of_leaves (back_of m.changed))) m.first ∙ ap (λ l. text_of_leaves f ++ (own ++ text_of_leaves l)) m.last;
         stands = subst (λ l. Value path o (printed_text t) (own ++ text_of_leaves l) (text_of_leaves l)) m.last place.1;
+        alone = value_alone o place.2.shaped;
       }
 
   module _ {was now : Top} {path : List ℕ} {t u : OrderedTree} (s : SoundTree o t) (r : SoundTree o u) (g : GivesWayWithSeams path was now t u) where
@@ -87,6 +94,35 @@ module _ (o : Options) where
     new_front : text_of_leaves (g.front ++ space_if g.before) ≡ text_of_leaves g.front ++ seam_if g.before
     new_front = text_joined g.front (space_if g.before) (utf8_first g.front (space_if g.before) front_utf8) ∙ ap (λ l. text_of_leaves g.front ++ l) (space_text g.before)
 
+    -- the new value, where it is a literal without quotes, and what is printed next to it
+    own_spelled : AllSpelled (leaves_of now)
+    own_spelled = spelled_first (leaves_of now) (g.quiet ++ (space_if g.behind ++ g.rest)) (spelled_second (g.front ++ space_if g.before) (leaves_of now ++ (g.quiet ++ (space_if g.behind ++ g.rest))) (subst AllSpelled second.whole (spelled o r)))
+
+    own_utf8 : AllUtf8 (leaves_of now)
+    own_utf8 = utf8_first (leaves_of now) (g.quiet ++ (space_if g.behind ++ g.rest)) (utf8_second (g.front ++ space_if g.before) (leaves_of now ++ (g.quiet ++ (space_if g.behind ++ g.rest))) second.utf8)
+
+    own_begins : is_bare now.content ≡ true → BeginsBare new_own
+    own_begins e = let told = value_first o second.alone in begins_so (leaves_of now) own_utf8 own_spelled (ap is_bare_leaf told.1 ∙ told.2 ∙ e)
+
+    own_ends : is_bare now.content ≡ true → EndsBare new_own
+    own_ends e = let told = value_last o second.alone in ends_so (leaves_of now) own_utf8 own_spelled (ap is_bare_leaf told.1 ∙ told.2 ∙ e)
+
+    was_spelled : AllSpelled (g.front ++ (leaves_of was ++ (g.quiet ++ g.rest)))
+    was_spelled = subst AllSpelled first.whole (spelled o s)
+
+    before_due : IsSeam (text_of_leaves g.front) (new_own ++ (seam_if g.behind ++ text_of_leaves g.rest)) (seam_if g.before)
+    before_due = seam_due g.before (λ e.
+        let parts = g.parts_before o s e in
+        let ends = ends_so g.front (utf8_first g.front (leaves_of was ++ (g.quiet ++ g.rest)) first.utf8) (spelled_first g.front (leaves_of was ++ (g.quiet ++ g.rest)) was_spelled) parts.1 in
+        meets ends (begins_before (seam_if g.behind ++ text_of_leaves g.rest) (own_begins parts.0)))
+
+    behind_due : IsSeam (text_of_leaves g.front ++ (seam_if g.before ++ new_own)) (text_of_leaves g.rest) (seam_if g.behind)
+    behind_due = seam_due g.behind (λ e.
+        let parts = g.parts_behind o s e in
+        let begins = begins_so (g.quiet ++ g.rest) (utf8_second (leaves_of was) (g.quiet ++ g.rest) (utf8_second g.front (leaves_of was ++ (g.quiet ++ g.rest)) first.utf8))
+        (spelled_second (leaves_of was) (g.quiet ++ g.rest) (spelled_second g.front (leaves_of was ++ (g.quiet ++ g.rest)) was_spelled)) parts.1 in
+        meets (ends_behind (text_of_leaves g.front) (ends_behind (seam_if g.before) (own_ends parts.0))) (subst BeginsBare old_back begins))
+
     -- the stretch of the text that gives way, with its seams
     pub puts_with_seams : (w x : Option Plain) (come : List Mark) → marks_in (leaves_of now) ≡ come → Puts (Value path) come (document_of o t w) (document_of o u x)
     puts_with_seams w x come is =
@@ -97,7 +133,7 @@ module _ (o : Options) where
               second.text ∙ ap (λ l. l ++ (new_own ++ text_of_leaves (g.quiet ++ (space_if g.behind ++ g.rest)))) new_front
               ∙ ap (λ l. (text_of_leaves g.front ++ seam_if g.before) ++ (new_own ++ l)) new_back
               ∙ append_assoc (text_of_leaves g.front) (seam_if g.before) (new_own ++ (seam_if g.behind ++ text_of_leaves g.rest));
-          sides = (is_seam g.before, is_seam g.behind);
+          sides = (before_due, behind_due);
         } in
         let old_parted = parted o s w g.front (leaves_of was) (g.quiet ++ g.rest) first.whole first.begins
         (text_joined (leaves_of was) (g.quiet ++ g.rest) (utf8_first (leaves_of was) (g.quiet ++ g.rest) (utf8_second g.front (leaves_of was ++ (g.quiet ++ g.rest)) first.utf8)) ∙ ap (λ l. old_own ++ l) old_back) old_back in

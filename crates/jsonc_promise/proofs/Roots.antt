@@ -38,7 +38,7 @@ use Rattle.jsonc_text.specs.Paths.{Value}
 use Rattle.jsonc_text.specs.Entries as values
 use Rattle.jsonc_text.specs.Entries.{of}
 use Rattle.jsonc_text.specs.Edits as texts
-use Rattle.jsonc_text.specs.Edits.{AreLineEnds, ComesFirst, Makes, Text}
+use Rattle.jsonc_text.specs.Edits.{AreLineEnds, AreLines, ComesFirst, Makes, Text}
 use Rattle.jsonc_promise.specs.PlaceLaws.{text_of_leaves}
 use Rattle.jsonc_promise.proofs.Leaves.{text_joined, utf8_first, utf8_second}
 use Rattle.jsonc_run.specs.Below.laws.Documents.{all_marks}
@@ -103,7 +103,7 @@ module _ (o : Options) (top : Top) (v : Plain) where
       let second : printed_text (root_with next) ≡ text_of_leaves front ++ (text_of_leaves before ++ (text_of_leaves own ++ (text_of_leaves behind ++ text_of_leaves back))) =
       p.text ∙ ap (λ l. l ++ (text_of_leaves own ++ text_of_leaves (behind ++ back))) t_front ∙ ap (λ l. (text_of_leaves front ++ text_of_leaves before) ++ (text_of_leaves own ++ l)) t_back
       ∙ append_assoc (text_of_leaves front) (text_of_leaves before) (text_of_leaves own ++ (text_of_leaves behind ++ text_of_leaves back)) in
-      let text : Text AreLineEnds (text_of_leaves front) [] (text_of_leaves before) (text_of_leaves own) (text_of_leaves behind) (text_of_leaves back) (document_of o (root_with row) w) (document_of o (root_with next) x) =
+      let text : Text AreLines (text_of_leaves front) [] (text_of_leaves before) (text_of_leaves own) (text_of_leaves behind) (text_of_leaves back) (document_of o (root_with row) w) (document_of o (root_with next) x) =
       record { before = first; after = second; sides = (ends_text o before bl (utf8_second front before u_front), ends_text o behind el (utf8_first behind back u_back)) } in
       let new_parted = parted o r x (front ++ before) own (behind ++ back) p.whole p.begins
       (text_joined own (behind ++ back) (utf8_first own (behind ++ back) (utf8_second (front ++ before) (own ++ (behind ++ back)) p.utf8)) ∙ ap (λ l. text_of_leaves own ++ l) t_back) t_back in

@@ -1,6 +1,8 @@
 -- An element has left a container's row: which row that was, and which it is.
-use Rattle.std.proofs.Common.{◌≡◌, ◌≢◌, ℕ, suc, ◌+◌, ◌<◌, Bool, true, false, not, List, [], ◌∷◌, ◌++◌, length, filter, take, Option, Some, IsTrue, if◌then◌else◌, refl, sym, ap, subst, ◌∙◌, arith}
-use Rattle.std.proofs.lemmas.List.{append_assoc, length-append, map-append, take_at}
+use Rattle.std.proofs.Common.{◌≡◌, ◌≢◌, ℕ, suc, ◌+◌, ◌<◌, Bool, true, false, not, cond, List, [], ◌∷◌, ◌++◌, length, filter, reverse, take, Option, Some, None, IsTrue, if◌then◌else◌, refl, sym, ap, subst, ◌∙◌, arith}
+use Rattle.std.proofs.lemmas.List.{append_assoc, length-append, map-append, reverse-append, take_at}
+use Rattle.std.proofs.lemmas.List.Folds.{find-append}
+use Rattle.std.specs.Option.{option_or}
 use Rattle.std.proofs.lemmas.List.Elements.{All-head, All-tail, All-append}
 use Rattle.jsonc_text.specs.Options.{Options}
 use Rattle.jsonc_tree.specs.Changes.{Splices}
@@ -8,20 +10,23 @@ use Rattle.jsonc_tree.specs.Content.{Content, token, is_container}
 use Rattle.jsonc_tree.specs.OrderedTree.{OrderedTree, none, more, leaves, followed_by, Shows, shows_none, shows_more}
 use Rattle.jsonc_tree.specs.Tree.{Node, content_at, parent_at, children_at, place_at, IsTree}
 use Rattle.jsonc_tree.proofs.Order.{parent_there}
+use Rattle.jsonc_tree.proofs.OrderedTrees.{leaves-followed_by}
 use Rattle.jsonc_tree.proofs.Rows.{Shows-append, Shows-part, followed_by-assoc, followed_by-none}
 use Rattle.jsonc_nodes.specs.Kinds.{is_element, is_element_at}
 use Rattle.jsonc_build.specs.Shape.{token_then}
 use Rattle.jsonc_lines.specs.Kinds.{holds_values}
 use Rattle.jsonc_laws.specs.Rows.{RowKind, opening, closing}
 use Rattle.jsonc_laws.specs.TriviaChanges.{leaves_then}
-use Rattle.jsonc_laws.specs.Spaces.{meet, space_then}
+use Rattle.jsonc_laws.specs.Adjacent.{last_printed}
+use Rattle.jsonc_laws.specs.Spaces.{first_printed, is_bare, is_bare_leaf, meet, space_then}
+use Rattle.jsonc_edit.specs.Due.{nearest, beginning_in, begins_bare, ends_bare, is_bare_at, prints_at}
 use Rattle.jsonc_edit.specs.Put.{a_space}
 use Rattle.jsonc_edit.specs.SeamRemovals.{SpaceFirst, none_first, space_first, LeavesWithSeams, comma_behind, comma_before, no_comma}
 use Rattle.jsonc_edit.proofs.Between.{silent_row}
 use Rattle.jsonc_laws.specs.Leaving.{AreBeside, ends_apart, element_count, among, ElementLeaves, with_comma_behind, with_comma_before, with_no_comma, ClosesUp}
 use Rattle.jsonc_laws.proofs.RowParts.{rest_trivia, between_trivia, line_trivia}
 use Rattle.jsonc_edit.proofs.Whole.{Whole, more_whole, whole_before, whole_behind}
-use Rattle.jsonc_edit.proofs.Meeting.{meet_bare}
+use Rattle.jsonc_edit.proofs.Meeting.{back_bare, front_bare, meet_bare}
 use Rattle.jsonc_edit.specs.Changes.{row_below, top_at}
 use Rattle.jsonc_edit.specs.Paths.{IsElementOf}
 use Rattle.jsonc_edit.proofs.Elements.{stands_at}
@@ -54,10 +59,10 @@ pub record Outcome (old new : List Node) (c n i : ℕ) (kind : RowKind) (ready :
   pub seams : LeavesWithSeams (top_at old n) i ready_row left
 
 -- what a row is without the space that has come into it
-record Unspaced (ns : List Node) (xs : List ℕ) (t : OrderedTree) : Type 0 where
+record Unspaced (ns : List Node) (xs : List ℕ) (before : List Content) (t : OrderedTree) : Type 0 where
   was : OrderedTree
   shows : Shows ns xs was
-  space : SpaceFirst was t
+  space : SpaceFirst before was t
 
 first_below : (ns : List Node) (n : ℕ) (rest : List ℕ) (t : OrderedTree) → Shows ns (n ∷ rest) t → (below : OrderedTree) × (after : OrderedTree) × (t ≡ more (content_at ns n) below after) × Shows ns (children_at ns n) below × Shows ns rest after
 first_below ns n rest _ (shows_more {below = b} {after = a} p q) = (b, a, refl, p, q)
@@ -65,24 +70,46 @@ first_below ns n rest _ (shows_more {below = b} {after = a} p q) = (b, a, refl, 
 nothing_below : (ns : List Node) (t : OrderedTree) → Shows ns [] t → t ≡ none
 nothing_below ns _ shows_none = refl
 
-unspaced : (ns : List Node) → IsTree ns → {xs ys : List ℕ} → Come ns xs ys → (t : OrderedTree) → Shows ns ys t → Unspaced ns xs t
-unspaced ns tree none_come t shown = record { was = t; shows = shown; space = none_first }
-unspaced ns tree (one_come front back x leaf clear is) t shown =
-    let two = Shows-part ns front (leaf ∷ x ∷ back) t shown in
-    let one = first_below ns leaf (x ∷ back) two.1 two.4 in
-    let bare : one.0 ≡ none = nothing_below ns one.0 (subst (λ (l : List ℕ). Shows ns l one.0) (tree.leaf leaf (ap is_container is)) one.3) in
-    let second : two.1 ≡ space_then one.1 = one.2 ∙ ap (λ (w : Content). more w one.0 one.1) is ∙ ap (λ (b : OrderedTree). more a_space b one.1) bare in
-    let given : SpaceFirst (followed_by two.0 one.1) (followed_by two.0 (space_then one.1)) = space_first two.0 one.1 (silent_row ns tree front two.0 two.3 clear) in
-    record {
-      was = followed_by two.0 one.1;
-      shows = Shows-append ns front (x ∷ back) two.0 one.1 two.3 one.4;
-      space = subst (SpaceFirst (followed_by two.0 one.1)) (sym (two.2 ∙ ap (followed_by two.0) second)) given;
-    }
+module _ (ns : List Node) (tree : IsTree ns) (o : Options) {ahead : List ℕ} {front : OrderedTree} (shows_front : Shows ns ahead front) (whole_front : Whole o front) where
+  unspaced : {xs ys : List ℕ} → Come ns ahead xs ys → (t : OrderedTree) → Shows ns ys t → Whole o t → Unspaced ns xs (leaves front) t
+  unspaced none_come t shown whole = record { was = t; shows = shown; space = none_first }
+  unspaced (one_come first back x leaf clear is last printed bare) t shown whole =
+      let two = Shows-part ns first (leaf ∷ x ∷ back) t shown in
+      let one = first_below ns leaf (x ∷ back) two.1 two.4 in
+      let below : one.0 ≡ none = nothing_below ns one.0 (subst (λ (l : List ℕ). Shows ns l one.0) (tree.leaf leaf (ap is_container is)) one.3) in
+      let second : two.1 ≡ space_then one.1 = one.2 ∙ ap (λ (w : Content). more w one.0 one.1) is ∙ ap (λ (b : OrderedTree). more a_space b one.1) below in
+      let whole_two : Whole o (more (content_at ns leaf) one.0 one.1) = subst (Whole o) one.2 (whole_behind o two.0 two.1 (subst (Whole o) two.2 whole)) in
+      let whole_one : Whole o one.1 = whole_behind o (more (content_at ns leaf) one.0 none) one.1 whole_two in
+      let ahead_bare : is_bare_leaf (last_printed (leaves front)) ≡ true = front_bare ns o shows_front whole_front ∙ last in
+      let nearest_x : nearest ns (x ∷ back) ≡ Some x = ap (λ b. cond b (Some x) (nearest ns back)) printed in
+      let first_bare : is_bare_leaf (first_printed (leaves one.1)) ≡ true = back_bare ns o one.4 whole_one ∙ ap (begins_bare ns) nearest_x ∙ bare in
+      let given : SpaceFirst (leaves front) (followed_by two.0 one.1) (followed_by two.0 (space_then one.1)) = space_first two.0 one.1 (silent_row ns tree first two.0 two.3 clear) ahead_bare first_bare in
+      record {
+        was = followed_by two.0 one.1;
+        shows = Shows-append ns first (x ∷ back) two.0 one.1 two.3 one.4;
+        space = subst (SpaceFirst (leaves front) (followed_by two.0 one.1)) (sym (two.2 ∙ ap (followed_by two.0) second)) given;
+      }
+
+-- a bracket ahead is no literal
+come_inside : (ns : List Node) (x c : ℕ) → content_at ns x ≡ token c → {ahead xs ys : List ℕ} → Come ns (x ∷ ahead) xs ys → Come ns ahead xs ys
+come_inside ns x c is none_come = none_come
+come_inside ns x c is {ahead} (one_come first back y leaf clear space last printed bare) = one_come first back y leaf clear space (by (nearest ns (reverse ahead)) turned) printed bare
+  where
+    turned : ends_bare ns (option_or (nearest ns (reverse ahead)) (nearest ns (x ∷ []))) ≡ true
+    turned = ap (ends_bare ns) (sym (ap (nearest ns) (reverse-append (x ∷ []) ahead) ∙ find-append (prints_at ns) (reverse ahead) (x ∷ []))) ∙ last
+
+    alone : (b : Bool) → ends_bare ns (cond b (Some x) None) ≡ false
+    alone true = ap (λ w. is_bare_at ns (beginning_in (reverse (children_at ns x)) x w)) is ∙ ap is_bare is
+    alone false = refl
+
+    by : (o : Option ℕ) → ends_bare ns (option_or o (nearest ns (x ∷ []))) ≡ true → ends_bare ns o ≡ true
+    by None h = let wrong : false ≡ true = sym (alone (prints_at ns x)) ∙ h in cc
+    by (Some k) h = h
 
 -- a space is no element
-count_come : (ns : List Node) {xs ys : List ℕ} → Come ns xs ys → count (contents ns ys) ≡ count (contents ns xs)
+count_come : (ns : List Node) {ahead xs ys : List ℕ} → Come ns ahead xs ys → count (contents ns ys) ≡ count (contents ns xs)
 count_come ns none_come = refl
-count_come ns (one_come front back x leaf clear is) =
+count_come ns (one_come front back x leaf clear is last printed bare) =
     ap count (map-append (content_at ns) front (leaf ∷ x ∷ back)) ∙ count_append (contents ns front) (contents ns (leaf ∷ x ∷ back))
     ∙ ap (λ w. count (contents ns front) + count (w ∷ contents ns (x ∷ back))) is
     ∙ sym (ap count (map-append (content_at ns) front (x ∷ back)) ∙ count_append (contents ns front) (contents ns (x ∷ back)))
@@ -235,7 +262,7 @@ module _ (o : Options) (old new : List Node) (tree : IsTree old) (after : IsTree
         let r = stretch_row away near line rest row edges beside same p in
         let whole_row : p.row_is ≡ followed_by p.front (among (contents old near) (top_at old n) (contents old line) p.rest_of) =
         p.parts ∙ ap (λ (t : OrderedTree). followed_by p.front (leaves_then (contents old near) (more (content_at old n) (row_below old n) t))) (leaves_shown old tree line p.behind_it p.rest_of (trivia_leaves (contents old line) (rest_trivia (contents old line) ended)) p.shows_behind) in
-        let was : Unspaced old back_nodes p.rest_of = unspaced old tree come p.rest_of p.shows_rest in
+        let was : Unspaced old back_nodes (leaves p.front) p.rest_of = unspaced old tree o p.shows_front p.whole_front (come_inside old open_with (opening kind) opens come) p.rest_of p.shows_rest p.whole_rest in
         let ready_is : followed_by p.front (followed_by p.stretch_of was.was) ≡ followed_by p.front (among (contents old near) (top_at old n) (contents old line) was.was) =
         ap (followed_by p.front) (p.stretch_is was.was ∙ ap (λ (t : OrderedTree). leaves_then (contents old near) (more (content_at old n) (row_below old n) t)) (leaves_shown old tree line p.behind_it was.was (trivia_leaves (contents old line) (rest_trivia (contents old line) ended)) p.shows_behind)) in
         record {
@@ -273,7 +300,7 @@ module _ (o : Options) (old new : List Node) (tree : IsTree old) (after : IsTree
         ∙ ap (λ (t : OrderedTree). leaves_then (contents old between) (more (token 0x2C) t (followed_by mid.after b))) (leaf_below old tree k k_there (ap is_container is_k))
         ∙ ap (λ (t : OrderedTree). leaves_then (contents old between) (token_then 0x2C t)) (leaves_shown old tree line mid.after b (trivia_leaves (contents old line) (line_trivia goes)) mid.shown) in
         let behind_is : followed_by p.behind_it p.rest_of ≡ leaves_then (contents old between) (token_then 0x2C (leaves_then (contents old line) p.rest_of)) = behind_then p.rest_of in
-        let was : Unspaced old back_nodes p.rest_of = unspaced old tree come p.rest_of p.shows_rest in
+        let was : Unspaced old back_nodes (leaves p.front) p.rest_of = unspaced old tree o p.shows_front p.whole_front (come_inside old open_with (opening kind) opens come) p.rest_of p.shows_rest p.whole_rest in
         let ready_is : followed_by p.front (followed_by p.stretch_of was.was) ≡ followed_by p.front (among (contents old near) (top_at old n) (contents old between) (token_then 0x2C (leaves_then (contents old line) was.was))) =
         ap (followed_by p.front) (p.stretch_is was.was ∙ ap (λ (t : OrderedTree). leaves_then (contents old near) (more (content_at old n) (row_below old n) t)) (behind_then was.was)) in
         let whole_row : p.row_is ≡ followed_by p.front (among (contents old near) (top_at old n) (contents old between) (token_then 0x2C (leaves_then (contents old line) p.rest_of))) =
@@ -334,8 +361,11 @@ module _ (o : Options) (old new : List Node) (tree : IsTree old) (after : IsTree
         let counts : element_count two.0 + element_count one.after ≡ i =
         ap (λ j. j + element_count one.after) (count_shown old two.3) ∙ ap (λ j. count (contents old away) + j) (count_shown old one.shown ∙ sym no_comma_counts) ∙ sym (count_append (contents old away) (contents old (k ∷ mid)))
         ∙ ap count (sym (map-append (content_at old) away (k ∷ mid))) ∙ sym (index ahead near line rest row edges beside) in
-        let was : Unspaced old back_nodes p.rest_of = unspaced old tree come p.rest_of p.shows_rest in
-        let was_mid : Unspaced old mid_nodes one.after = unspaced old tree come_mid one.after one.shown in
+        let was_mid : Unspaced old mid_nodes (leaves two.0) one.after = unspaced old tree o two.3 whole_away (come_inside old open_with (opening kind) opens come_mid) one.after one.shown whole_mid in
+        let shows_ahead : Shows old (away ++ mid) (followed_by two.0 one.after) = Shows-append old away mid two.0 one.after two.3 one.shown in
+        let was_joined : Unspaced old back_nodes (leaves (followed_by two.0 one.after)) p.rest_of =
+        unspaced old tree o shows_ahead (whole_joined o two.0 one.after whole_away whole_mid) (come_inside old open_with (opening kind) opens come) p.rest_of p.shows_rest p.whole_rest in
+        let was : Unspaced old back_nodes (leaves two.0 ++ leaves one.after) p.rest_of = subst (λ l. Unspaced old back_nodes l p.rest_of) (leaves-followed_by two.0 one.after) was_joined in
         let ready_front : OrderedTree = followed_by two.0 (token_then 0x2C was_mid.was) in
         let shows_front : Shows old (away ++ k ∷ mid_nodes) ready_front = Shows-append old away (k ∷ mid_nodes) two.0 (token_then 0x2C was_mid.was) two.3 (token_shown old tree k 0x2C mid_nodes was_mid.was is_k was_mid.shows) in
         let ready_counts : element_count two.0 + element_count was_mid.was ≡ i = ap (λ j. element_count two.0 + j) (count_shown old was_mid.shows ∙ sym (count_come old come_mid) ∙ sym (count_shown old one.shown)) ∙ counts in

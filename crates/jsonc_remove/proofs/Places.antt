@@ -1,20 +1,24 @@
 -- Rows of nodes by their parts: who stands where, and what a space that comes makes of them.
-use Rattle.std.proofs.Common.{◌≡◌, ℕ, ◌+◌, ◌<◌, Bool, true, false, ◌&&◌, cond, List, [], ◌∷◌, ◌++◌, length, reverse, slice_index, take, drop, Option, Some, None, if◌then◌else◌, refl, sym, ap, subst, ◌∙◌, arith}
+use Rattle.std.proofs.Common.{◌≡◌, ℕ, ◌+◌, ◌<◌, Bool, true, false, ◌&&◌, ◌==◌, cond, List, [], ◌∷◌, ◌++◌, length, reverse, slice_index, take, drop, Option, Some, None, IsTrue, inl, inr, if◌then◌else◌, refl, sym, ap, subst, ◌∙◌, arith}
+use Rattle.std.proofs.lemmas.Bool.{cases_Bool}
 use Rattle.std.proofs.lemmas.List.{append_assoc, drop_at, drop_more, length-append, map-append, reverse-append, take-append-drop, take_at}
 use Rattle.std.proofs.lemmas.List.Folds.{find-append}
 use Rattle.std.proofs.Math.Seq.{get_or-append_seam}
 use Rattle.std.specs.List.{find}
 use Rattle.std.specs.Option.{option_or}
 use Rattle.jsonc_text.specs.Text.{starts}
+use Rattle.jsonc_text.proofs.Basics.{eq_test, test_eq}
+use Rattle.jsonc_tree.specs.Content.{Content, array, object}
 use Rattle.jsonc_tree.specs.Order.{with_parent}
 use Rattle.jsonc_tree.specs.Siblings.{row_of, siblings_after, siblings_before}
 use Rattle.jsonc_tree.specs.Tree.{Node, content_at, parent_at, children_at, place_at, IsTree}
+use Rattle.jsonc_lines.specs.Kinds.{holds_values}
 use Rattle.jsonc_laws.specs.Spaces.{is_bare}
 use Rattle.jsonc_laws.proofs.Spaced.{space_first}
 use Rattle.jsonc_edit.specs.Due.{prints, prints_at, nearest, beginning_in, begins_bare, ends_bare, is_bare_at, listed}
 use Rattle.jsonc_edit.specs.Put.{a_space, StandsBefore, AreSpaced}
-use Rattle.jsonc_edit.proofs.Putting.{contents_kept, container_row}
-use Rattle.jsonc_edit.proofs.Quiet.{begins_quiet, ends_kept}
+use Rattle.jsonc_edit.proofs.Putting.{children_kept, contents_kept, container_row}
+use Rattle.jsonc_edit.proofs.Quiet.{ends_kept}
 use Rattle.jsonc_remove.proofs.Contents.{Gains, gains_at}
 use Rattle.jsonc_remove.proofs.Stretches.{contents}
 
@@ -84,10 +88,22 @@ both_false : (a b : Bool) → b ≡ false → a && b ≡ false
 both_false true b e = e
 both_false false b e = refl
 
--- the second nodes are the first, but that a space has come directly before the first of them that prints, or none has
-pub data Come (ns : List Node) : List ℕ → List ℕ → Type 0 where
-  none_come : {xs : List ℕ} → Come ns xs xs
-  one_come : (front back : List ℕ) (x leaf : ℕ) → nearest ns front ≡ None → content_at ns leaf ≡ a_space → Come ns (front ++ x ∷ back) (front ++ leaf ∷ x ∷ back)
+-- The second nodes are the first, but that a space has come directly before the first of them that prints, or none has. One comes where that is a literal
+-- without quotes, and so is what prints last ahead of them.
+pub data Come (ns : List Node) (ahead : List ℕ) : List ℕ → List ℕ → Type 0 where
+  none_come : {xs : List ℕ} → Come ns ahead xs xs
+  one_come : (front back : List ℕ) (x leaf : ℕ) → nearest ns front ≡ None → content_at ns leaf ≡ a_space → ends_bare ns (nearest ns (reverse ahead)) ≡ true
+      → prints_at ns x ≡ true → begins_bare ns (Some x) ≡ true → Come ns ahead (front ++ x ∷ back) (front ++ leaf ∷ x ∷ back)
+
+both_true : (a b : Bool) → a && b ≡ true → (a ≡ true) × (b ≡ true)
+both_true true b e = (refl, e)
+both_true false b e = let wrong : false ≡ true = e in cc
+
+-- an array or object begins with itself
+holder_itself : (content : Content) → IsTrue (holds_values content) → (children : List ℕ) (x : ℕ) → beginning_in children x content ≡ Some x
+holder_itself array h children x = refl
+holder_itself object h children x = refl
+holder_itself content h children x = cc
 
 -- a part of c's row, B, behind which R stands, where the space has come that was due before what prints first in it
 pub record OneSpace (old now : List Node) (c : ℕ) (front part back ahead : List ℕ) : Type 0 where
@@ -95,13 +111,13 @@ pub record OneSpace (old now : List Node) (c : ℕ) (front part back ahead : Lis
   pub given : List ℕ
   pub row : children_at now c ≡ front ++ (given ++ back)
   pub gains : Gains (contents now part) (contents now given)
-  pub come : Come now part given
+  pub come : Come now ahead part given
   pub quiet : Quiet now ahead given
   pub seen : nearest now (reverse given) ≡ nearest now (reverse part)
   pub last : (xs : List ℕ) (z : ℕ) → part ≡ xs ++ z ∷ [] → (ys : List ℕ) × (given ≡ ys ++ z ∷ [])
   pub content : (k : ℕ) → content_at now k ≡ content_at old k
   pub ends : (o : Option ℕ) → ends_bare now o ≡ ends_bare old o
-  pub begins : (o : Option ℕ) → begins_bare old o ≡ false → begins_bare now o ≡ false
+  pub begins : (o : Option ℕ) → begins_bare now o ≡ begins_bare old o
 
 -- what is found in a list, and what stands before it
 record Found (test : ℕ → Bool) (xs : List ℕ) (x : ℕ) : Type 0 where
@@ -134,7 +150,7 @@ some_reversed test x xs h =
 space_prints : prints a_space ≡ true
 space_prints = ap (λ o. starts (λ c. true) o) space_first
 
-module _ (old : List Node) (tree : IsTree old) (c : ℕ) (front part back ahead : List ℕ) (row : children_at old c ≡ front ++ (part ++ back)) where
+module _ (old : List Node) (tree : IsTree old) (c : ℕ) (front part back ahead : List ℕ) (row : children_at old c ≡ front ++ (part ++ back)) (holds : IsTrue (holds_values (content_at old c))) where
   unspaced : Quiet old ahead part → OneSpace old old c front part back ahead
   unspaced quiet = record {
     tree = tree;
@@ -147,10 +163,10 @@ module _ (old : List Node) (tree : IsTree old) (c : ℕ) (front part back ahead 
     last = λ xs z e. (xs, e);
     content = λ k. refl;
     ends = λ o. refl;
-    begins = λ o h. h;
+    begins = λ o. refl;
   }
 
-  module _ (now : List Node) (x leaf : ℕ) (s : StandsBefore old now x leaf) (f : Found (prints_at old) part x) where
+  module _ (now : List Node) (x leaf : ℕ) (s : StandsBefore old now x leaf) (f : Found (prints_at old) part x) (bare : (ends_bare old (nearest old (reverse ahead)) && begins_bare old (Some x)) ≡ true) where
     parts : children_at old c ≡ (front ++ f.front) ++ x ∷ (f.back ++ back)
     parts = row ∙ ap (λ l. front ++ (l ++ back)) f.split ∙ ap (λ (l : List ℕ). front ++ l) (append_assoc f.front (x ∷ f.back) back) ∙ sym (append_assoc front f.front (x ∷ (f.back ++ back)))
 
@@ -219,28 +235,53 @@ module _ (old : List Node) (tree : IsTree old) (c : ℕ) (front part back ahead 
     leaf_quiet : begins_bare now (Some leaf) ≡ false
     leaf_quiet = ap (λ w. is_bare_at now (beginning_in (children_at now leaf) leaf w)) leaf_is ∙ ap is_bare leaf_is
 
+    bare_same : (o : Option ℕ) → is_bare_at now o ≡ is_bare_at old o
+    bare_same None = refl
+    bare_same (Some z) = ap is_bare (content z)
+
+    begins : (o : Option ℕ) → begins_bare now o ≡ begins_bare old o
+    begins None = refl
+    begins (Some y) =
+        ap (λ w. is_bare_at now (beginning_in (children_at now y) y w)) (content y)
+        ∙ elim (cases_Bool (y == c)) [
+          | inl h ↦
+              (let same : y ≡ c = test_eq y c h in
+              let holder : IsTrue (holds_values (content_at old y)) = subst (λ k. IsTrue (holds_values (content_at old k))) (sym same) holds in
+              ap (is_bare_at now) (holder_itself (content_at old y) holder (children_at now y) y) ∙ bare_same (Some y) ∙ ap (is_bare_at old) (sym (holder_itself (content_at old y) holder (children_at old y) y)))
+          | inr h ↦
+              (let other : children_at now y ≡ children_at old y = children_kept old now x leaf tree s y (λ e. let wrong : false ≡ true = sym h ∙ eq_test y c (e ∙ is_c) in cc) in
+              ap (λ l. is_bare_at now (beginning_in l y (content_at old y))) other ∙ bare_same (beginning_in (children_at old y) y (content_at old y)))
+        ]
+
+    due : (ends_bare now (nearest now (reverse ahead)) ≡ true) × (begins_bare now (Some x) ≡ true)
+    due =
+        let two = both_true (ends_bare old (nearest old (reverse ahead))) (begins_bare old (Some x)) bare in
+        (ap (ends_bare now) (find_same (reverse ahead)) ∙ ends_kept old now x leaf tree s (nearest old (reverse ahead)) ∙ two.0, begins (Some x) ∙ two.1)
+
     one_spaced : OneSpace old now c front part back ahead
     one_spaced = record {
       tree = s.tree;
       given = given;
       row = given_row;
       gains = gains;
-      come = subst (λ l. Come now l given) (sym f.split) (one_come f.front f.back x leaf (find_same f.front ∙ f.clear) leaf_is);
+      come = subst (λ l. Come now ahead l given) (sym f.split) (one_come f.front f.back x leaf (find_same f.front ∙ f.clear) leaf_is due.0 (ap prints (content x) ∙ f.passes) due.1);
       quiet = both_false (ends_bare now (nearest now (reverse ahead))) (begins_bare now (nearest now given)) (ap (begins_bare now) nearest_is ∙ leaf_quiet);
       seen = seen;
       last = last;
       content = content;
       ends = ends_kept old now x leaf tree s;
-      begins = begins_quiet old now x leaf tree s;
+      begins = begins;
     }
 
   -- a space that is due has come, and where none was nothing met
-  pub one_space : (due : Bool) → (due ≡ false → Quiet old ahead part) → (now : List Node) → AreSpaced old (listed (cond due (nearest old part) None)) now → OneSpace old now c front part back ahead
-  one_space due calm now put = by due calm (nearest old part) refl put
+  pub one_space : (due : Bool) → (ends_bare old (nearest old (reverse ahead)) && begins_bare old (nearest old part)) ≡ due → (now : List Node) → AreSpaced old (listed (cond due (nearest old part) None)) now → OneSpace old now c front part back ahead
+  one_space due is now put = by due is (nearest old part) refl put
     where
-      by : (due : Bool) → (due ≡ false → Quiet old ahead part) → (o : Option ℕ) → nearest old part ≡ o → AreSpaced old (listed (cond due o None)) now → OneSpace old now c front part back ahead
-      by false calm o e same = subst (λ ns. OneSpace old ns c front part back ahead) (sym same) (unspaced (calm refl))
-      by true calm None e same =
-          subst (λ ns. OneSpace old ns c front part back ahead) (sym same) (unspaced (both_false (ends_bare old (nearest old (reverse ahead))) (begins_bare old (nearest old part)) (ap (begins_bare old) e)))
-      by true calm (Some x) e (later, leaf, s, same) =
-          subst (λ ns. OneSpace old ns c front part back ahead) (sym same) (one_spaced later x leaf s (found_in (prints_at old) part x e))
+      by : (due : Bool) → (ends_bare old (nearest old (reverse ahead)) && begins_bare old (nearest old part)) ≡ due → (o : Option ℕ) → nearest old part ≡ o → AreSpaced old (listed (cond due o None)) now → OneSpace old now c front part back ahead
+      by false is o e same = subst (λ ns. OneSpace old ns c front part back ahead) (sym same) (unspaced is)
+      by true is None e same =
+          let wrong : false ≡ true = sym (ap (begins_bare old) e) ∙ (both_true (ends_bare old (nearest old (reverse ahead))) (begins_bare old (nearest old part)) is).1 in
+          cc
+      by true is (Some x) e (later, leaf, s, same) =
+          subst (λ ns. OneSpace old ns c front part back ahead) (sym same)
+          (one_spaced later x leaf s (found_in (prints_at old) part x e) (ap (λ o. ends_bare old (nearest old (reverse ahead)) && begins_bare old o) (sym e) ∙ is))

@@ -32,21 +32,21 @@ pub data Settled (ns : List Node) (c n open_with last from to : ℕ) : Option �
       → Edges (near ++ n ∷ (between ++ k ∷ line)) from to → AreBeside (contents ns near) → IsTrue (apart (contents ns away))
       → IsTrue (is_comma_at ns k) → LeavesBehind (contents ns between) (contents ns line)
       → Quiet ns (open_with ∷ away) (rest ++ last ∷ [])
-      → (back : List ℕ) → Come ns back (rest ++ last ∷ [])
+      → (back : List ℕ) → Come ns (open_with ∷ away) back (rest ++ last ∷ [])
       → Settled ns c n open_with last from to None ((open_with ∷ away) ++ ((near ++ n ∷ (between ++ k ∷ line)) ++ back))
   settled_before : (away mid near line rest : List ℕ) {k : ℕ}
       → children_at ns c ≡ ((open_with ∷ away) ++ k ∷ mid) ++ ((near ++ n ∷ line) ++ (rest ++ last ∷ []))
       → Edges (near ++ n ∷ line) from to → AreBeside (contents ns near) → IsTrue (apart (content_at ns k ∷ contents ns mid)) → IsTrue (no_commas (contents ns mid))
       → IsTrue (is_comma_at ns k) → IsRestOfLine (contents ns line) → comma_first (contents ns (rest ++ last ∷ [])) ≡ false
       → Quiet ns (open_with ∷ away) (mid ++ (rest ++ last ∷ [])) → Quiet ns mid (rest ++ last ∷ [])
-      → (middle back : List ℕ) → Come ns middle mid → Come ns back (rest ++ last ∷ [])
+      → (middle back : List ℕ) → Come ns (open_with ∷ away) middle mid → Come ns ((open_with ∷ away) ++ mid) back (rest ++ last ∷ [])
       → Settled ns c n open_with last from to (Some k) (((open_with ∷ away) ++ k ∷ middle) ++ ((near ++ n ∷ line) ++ back))
   settled_none : (away near line rest : List ℕ)
       → children_at ns c ≡ (open_with ∷ away) ++ ((near ++ n ∷ line) ++ (rest ++ last ∷ []))
       → Edges (near ++ n ∷ line) from to → AreBeside (contents ns near) → IsTrue (apart (contents ns away)) → IsTrue (no_commas (contents ns away))
       → IsRestOfLine (contents ns line) → comma_first (contents ns (rest ++ last ∷ [])) ≡ false
       → Quiet ns (open_with ∷ away) (rest ++ last ∷ [])
-      → (back : List ℕ) → Come ns back (rest ++ last ∷ [])
+      → (back : List ℕ) → Come ns (open_with ∷ away) back (rest ++ last ∷ [])
       → Settled ns c n open_with last from to None ((open_with ∷ away) ++ ((near ++ n ∷ line) ++ back))
 
 pub record IsSettled (ready spaced : List Node) (c n open_with last from to : ℕ) (o : Option ℕ) : Type 0 where
@@ -101,9 +101,21 @@ same_each old new f [] = All-nil (λ m. content_at new m ≡ content_at old m)
 same_each old new f (x ∷ xs) = All-cons (λ m. content_at new m ≡ content_at old m) x xs (f x) (same_each old new f xs)
 
 -- so it is of nodes that stay what they are
-come_same : (old new : List Node) → ((k : ℕ) → content_at new k ≡ content_at old k) → {xs ys : List ℕ} → Come old xs ys → Come new xs ys
-come_same old new f none_come = none_come
-come_same old new f (one_come front back x leaf clear is) = one_come front back x leaf (nearest_same old new front (same_each old new f front) ∙ clear) (f leaf ∙ is)
+come_same : (old new : List Node) → ((k : ℕ) → content_at new k ≡ content_at old k) → ((o : Option ℕ) → ends_bare new o ≡ ends_bare old o) → ((o : Option ℕ) → begins_bare new o ≡ begins_bare old o)
+    → {ahead xs ys : List ℕ} → Come old ahead xs ys → Come new ahead xs ys
+come_same old new f ends begins none_come = none_come
+come_same old new f ends begins {ahead} (one_come front back x leaf clear is last printed first) =
+    one_come front back x leaf (nearest_same old new front (same_each old new f front) ∙ clear) (f leaf ∙ is)
+    (ap (ends_bare new) (nearest_same old new (reverse ahead) (same_each old new f (reverse ahead))) ∙ ends (nearest old (reverse ahead)) ∙ last) (ap prints (f x) ∙ printed) (begins (Some x) ∙ first)
+
+-- and behind others that end alike
+come_behind : (ns : List Node) {a b xs ys : List ℕ} → nearest ns (reverse b) ≡ nearest ns (reverse a) → Come ns a xs ys → Come ns b xs ys
+come_behind ns e none_come = none_come
+come_behind ns e (one_come front back x leaf clear is last printed first) = one_come front back x leaf clear is (ap (ends_bare ns) e ∙ last) printed first
+
+-- what prints last of two lists
+joined_nearest : (ns : List Node) (xs ys : List ℕ) → nearest ns (reverse (xs ++ ys)) ≡ option_or (nearest ns (reverse ys)) (nearest ns (reverse xs))
+joined_nearest ns xs ys = ap (nearest ns) (reverse-append xs ys) ∙ find-append (prints_at ns) (reverse ys) (reverse xs)
 
 -- the space behind the stretch
 record Behind (old now : List Node) (c : ℕ) (front stretch part : List ℕ) (last : ℕ) (ahead : List ℕ) : Type 0 where
@@ -111,24 +123,25 @@ record Behind (old now : List Node) (c : ℕ) (front stretch part : List ℕ) (l
   rest : List ℕ
   row : children_at now c ≡ front ++ (stretch ++ (rest ++ last ∷ []))
   gains : Gains (contents now (part ++ last ∷ [])) (contents now (rest ++ last ∷ []))
-  come : Come now (part ++ last ∷ []) (rest ++ last ∷ [])
+  come : Come now ahead (part ++ last ∷ []) (rest ++ last ∷ [])
   quiet : Quiet now ahead (rest ++ last ∷ [])
   content : (k : ℕ) → content_at now k ≡ content_at old k
   ends : (o : Option ℕ) → ends_bare now o ≡ ends_bare old o
-  begins : (o : Option ℕ) → begins_bare old o ≡ false → begins_bare now o ≡ false
+  begins : (o : Option ℕ) → begins_bare now o ≡ begins_bare old o
 
-one_behind : (old : List Node) → IsTree old → (c : ℕ) (front stretch part : List ℕ) (last : ℕ) (ahead : List ℕ) → children_at old c ≡ front ++ (stretch ++ (part ++ last ∷ [])) → (due : Bool) → (due ≡ false → Quiet old ahead (part ++ last ∷ []))
+one_behind : (old : List Node) → IsTree old → (c : ℕ) → IsTrue (holds_values (content_at old c)) → (front stretch part : List ℕ) (last : ℕ) (ahead : List ℕ) → children_at old c ≡ front ++ (stretch ++ (part ++ last ∷ [])) → (due : Bool)
+    → (ends_bare old (nearest old (reverse ahead)) && begins_bare old (nearest old (part ++ last ∷ []))) ≡ due
     → (now : List Node) → AreSpaced old (listed (cond due (nearest old (part ++ last ∷ [])) None)) now → Behind old now c front stretch part last ahead
-one_behind old tree c front stretch part last ahead row due calm now put =
+one_behind old tree c holds front stretch part last ahead row due is now put =
     let whole : children_at old c ≡ (front ++ stretch) ++ ((part ++ last ∷ []) ++ []) = row ∙ sym (append_assoc front stretch (part ++ last ∷ [])) ∙ ap (λ (l : List ℕ). (front ++ stretch) ++ l) (sym (append-nil (part ++ last ∷ []))) in
-    let r : OneSpace old now c (front ++ stretch) (part ++ last ∷ []) [] ahead = one_space old tree c (front ++ stretch) (part ++ last ∷ []) [] ahead whole due calm now put in
+    let r : OneSpace old now c (front ++ stretch) (part ++ last ∷ []) [] ahead = one_space old tree c (front ++ stretch) (part ++ last ∷ []) [] ahead whole holds due is now put in
     let l = r.last part last refl in
     record {
       tree = r.tree;
       rest = l.0;
       row = r.row ∙ ap (λ (k : List ℕ). (front ++ stretch) ++ k) (append-nil r.given) ∙ append_assoc front stretch r.given ∙ ap (λ (k : List ℕ). front ++ (stretch ++ k)) l.1;
       gains = subst (λ k. Gains (contents now (part ++ last ∷ [])) (contents now k)) l.1 r.gains;
-      come = subst (Come now (part ++ last ∷ [])) l.1 r.come;
+      come = subst (Come now ahead (part ++ last ∷ [])) l.1 r.come;
       quiet = subst (Quiet now ahead) l.1 r.quiet;
       content = r.content;
       ends = r.ends;
@@ -147,7 +160,7 @@ module _ (ready : List Node) (tree : IsTree ready) (c n open_with last from to :
     without : (front near line part : List ℕ) → children_at ready c ≡ front ++ ((near ++ n ∷ line) ++ (part ++ last ∷ [])) → Edges (near ++ n ∷ line) from to → AreSpaced ready (listed (due_between ready from to)) spaced
         → Behind ready spaced c front (near ++ n ∷ line) part last front
     without front near line part row e put =
-        one_behind ready tree c front (near ++ n ∷ line) part last front row (ends_bare ready (nearest ready (reverse front)) && begins_bare ready (nearest ready (part ++ last ∷ []))) (λ h. h) spaced
+        one_behind ready tree c holds front (near ++ n ∷ line) part last front row (ends_bare ready (nearest ready (reverse front)) && begins_bare ready (nearest ready (part ++ last ∷ []))) refl spaced
         (subst (λ o. AreSpaced ready (listed o) spaced) (stretch_due front near line (part ++ last ∷ []) row e) put)
 
     abbrev Done : Option ℕ → Type 0
@@ -198,7 +211,7 @@ module _ (ready : List Node) (tree : IsTree ready) (c n open_with last from to :
           due_parts ready tree c holds (open_with ∷ away) (mid ++ (stretch ++ back)) (((open_with ∷ away) ++ k ∷ mid) ++ edges.init) back k to
           (stretch_prints ready tree c (open_with ∷ away) (k ∷ (mid ++ stretch)) back k to (whole_k ∙ ap (λ (l : List ℕ). (open_with ∷ away) ++ k ∷ l) (sym (append_assoc mid stretch back))) from_comma k [] (mid ++ stretch) refl (comma_prints (content_at ready k) comma)) whole_k
           (row ∙ ap (λ (l : List ℕ). ((open_with ∷ away) ++ k ∷ mid) ++ (l ++ back)) edges.last_is ∙ ap (λ (l : List ℕ). ((open_with ∷ away) ++ k ∷ mid) ++ l) (append_assoc edges.init (to ∷ []) back) ∙ sym (append_assoc ((open_with ∷ away) ++ k ∷ mid) edges.init (to ∷ back))) in
-          let b = one_behind ready tree c ((open_with ∷ away) ++ k ∷ mid) stretch rest last (open_with ∷ away) row (ends_bare ready (nearest ready (reverse (open_with ∷ away))) && begins_bare ready (nearest ready back)) (λ h. h) spaced (subst (λ o. AreSpaced ready (listed o) spaced) due put) in
+          let b = one_behind ready tree c holds ((open_with ∷ away) ++ k ∷ mid) stretch rest last (open_with ∷ away) row (ends_bare ready (nearest ready (reverse (open_with ∷ away))) && begins_bare ready (nearest ready back)) refl spaced (subst (λ o. AreSpaced ready (listed o) spaced) due put) in
           let each : (xs : List ℕ) → All (λ m. content_at spaced m ≡ content_at ready m) xs = same_each ready spaced b.content in
           let same : (xs : List ℕ) → contents ready xs ≡ contents spaced xs = λ xs. sym (contents_same ready spaced xs (each xs)) in
           let blind : nearest spaced (reverse mid) ≡ None = nearest_same ready spaced (reverse mid) (each (reverse mid)) ∙ e in
@@ -211,7 +224,8 @@ module _ (ready : List Node) (tree : IsTree ready) (c n open_with last from to :
                 subst (Settled spaced c n open_with last from to (Some k)) (sym row)
                 (settled_before away mid near line b.rest b.row edges (subst AreBeside (same near) beside) (subst (λ l. IsTrue (apart l)) (same (k ∷ mid)) apart_mid) (subst (λ l. IsTrue (no_commas l)) (same mid) none_mid)
                 (subst (λ w. IsTrue (is_comma w)) (sym (b.content k)) comma) (subst IsRestOfLine (same line) ended) (first_gains b.gains ∙ ap comma_first (sym (same back)) ∙ first)
-                (ap (λ o. ends_bare spaced (nearest spaced (reverse (open_with ∷ away))) && begins_bare spaced o) past ∙ b.quiet) (ap (λ o. ends_bare spaced o && begins_bare spaced (nearest spaced (b.rest ++ last ∷ []))) blind) mid back none_come b.come);
+                (ap (λ o. ends_bare spaced (nearest spaced (reverse (open_with ∷ away))) && begins_bare spaced o) past ∙ b.quiet) (ap (λ o. ends_bare spaced o && begins_bare spaced (nearest spaced (b.rest ++ last ∷ []))) blind) mid back none_come
+                (come_behind spaced (joined_nearest spaced (open_with ∷ away) mid ∙ ap (λ o. option_or o (nearest spaced (reverse (open_with ∷ away)))) blind) b.come));
           }
 
       quiet_kept : (a b : Bool) {d e : Bool} → a && b ≡ false → d ≡ a → (b ≡ false → e ≡ false) → d && e ≡ false
@@ -230,27 +244,29 @@ module _ (ready : List Node) (tree : IsTree ready) (c n open_with last from to :
           (ap (λ b. b || is_other (seen_before ready k) (seen_before ready k)) (comma_prints (content_at ready k) comma)) whole_k whole_k
           ∙ ap (λ o. cond (ends_bare ready (nearest ready (reverse (open_with ∷ away))) && begins_bare ready o) o None) nearest_mid in
           let a : OneSpace ready now c ((open_with ∷ away) ++ k ∷ []) mid (stretch ++ back) (open_with ∷ away) =
-          one_space ready tree c ((open_with ∷ away) ++ k ∷ []) mid (stretch ++ back) (open_with ∷ away) (whole_k ∙ sym (append_assoc (open_with ∷ away) (k ∷ []) (mid ++ (stretch ++ back))))
-          (ends_bare ready (nearest ready (reverse (open_with ∷ away))) && begins_bare ready (nearest ready mid)) (λ h. h) now (subst (λ o. AreSpaced ready (listed o) now) due_k two.1) in
+          one_space ready tree c ((open_with ∷ away) ++ k ∷ []) mid (stretch ++ back) (open_with ∷ away) (whole_k ∙ sym (append_assoc (open_with ∷ away) (k ∷ []) (mid ++ (stretch ++ back)))) holds
+          (ends_bare ready (nearest ready (reverse (open_with ∷ away))) && begins_bare ready (nearest ready mid)) refl now (subst (λ o. AreSpaced ready (listed o) now) due_k two.1) in
           let each_now : (xs : List ℕ) → All (λ m. content_at now m ≡ content_at ready m) xs = same_each ready now a.content in
           let row_now : children_at now c ≡ ((open_with ∷ away) ++ k ∷ a.given) ++ (stretch ++ back) = a.row ∙ append_assoc (open_with ∷ away) (k ∷ []) (a.given ++ (stretch ++ back)) ∙ sym (append_assoc (open_with ∷ away) (k ∷ a.given) (stretch ++ back)) in
           let seen_now : nearest now (reverse a.given) ≡ nearest ready (reverse ((open_with ∷ away) ++ k ∷ mid)) = a.seen ∙ nearest_same ready now (reverse mid) (each_now (reverse mid)) ∙ e ∙ sym (seen_is ∙ ap (λ o. option_or o (Some k)) e) in
           let near_back : nearest ready back ≡ nearest now back = sym (nearest_same ready now back (each_now back)) in
           let due_from : due_between ready from to ≡ cond (ends_bare ready (nearest ready (reverse ((open_with ∷ away) ++ k ∷ mid))) && begins_bare ready (nearest ready back)) (nearest now back) None =
           stretch_due ((open_with ∷ away) ++ k ∷ mid) near line back row edges ∙ ap (λ o. cond (ends_bare ready (nearest ready (reverse ((open_with ∷ away) ++ k ∷ mid))) && begins_bare ready (nearest ready back)) o None) near_back in
-          let b = one_behind now a.tree c ((open_with ∷ away) ++ k ∷ a.given) stretch rest last a.given row_now (ends_bare ready (nearest ready (reverse ((open_with ∷ away) ++ k ∷ mid))) && begins_bare ready (nearest ready back))
-          (λ h. quiet_kept (ends_bare ready (nearest ready (reverse ((open_with ∷ away) ++ k ∷ mid)))) (begins_bare ready (nearest ready back)) h (ap (ends_bare now) seen_now ∙ a.ends (nearest ready (reverse ((open_with ∷ away) ++ k ∷ mid))))
-          (λ g. ap (begins_bare now) (sym near_back) ∙ a.begins (nearest ready back) g)) spaced (subst (λ o. AreSpaced now (listed o) spaced) due_from two.2) in
+          let holds_now : IsTrue (holds_values (content_at now c)) = subst (λ w. IsTrue (holds_values w)) (sym (a.content c)) holds in
+          let b = one_behind now a.tree c holds_now ((open_with ∷ away) ++ k ∷ a.given) stretch rest last a.given row_now (ends_bare ready (nearest ready (reverse ((open_with ∷ away) ++ k ∷ mid))) && begins_bare ready (nearest ready back))
+          (ap (λ d. d && begins_bare now (nearest now back)) (ap (ends_bare now) seen_now ∙ a.ends (nearest ready (reverse ((open_with ∷ away) ++ k ∷ mid))))
+          ∙ ap (λ d. ends_bare ready (nearest ready (reverse ((open_with ∷ away) ++ k ∷ mid))) && d) (ap (begins_bare now) (sym near_back) ∙ a.begins (nearest ready back))) spaced (subst (λ o. AreSpaced now (listed o) spaced) due_from two.2) in
           let content : (x : ℕ) → content_at spaced x ≡ content_at ready x = λ x. b.content x ∙ a.content x in
           let each : (xs : List ℕ) → All (λ m. content_at spaced m ≡ content_at now m) xs = same_each now spaced b.content in
           let same_now : (xs : List ℕ) → contents now xs ≡ contents spaced xs = λ xs. sym (contents_same now spaced xs (each xs)) in
           let same : (xs : List ℕ) → contents ready xs ≡ contents spaced xs = λ xs. sym (contents_same ready spaced xs (same_each ready spaced content xs)) in
           let gains : Gains (contents spaced mid) (contents spaced a.given) = subst (λ l. Gains l (contents spaced a.given)) (same_now mid) (subst (Gains (contents now mid)) (same_now a.given) a.gains) in
-          let given_found = some_from_before (prints_at spaced) a.given m (nearest_same now spaced (reverse a.given) (each (reverse a.given)) ∙ a.seen ∙ nearest_same ready now (reverse mid) (each_now (reverse mid)) ∙ e) in
+          let given_seen : nearest spaced (reverse a.given) ≡ Some m = nearest_same now spaced (reverse a.given) (each (reverse a.given)) ∙ a.seen ∙ nearest_same ready now (reverse mid) (each_now (reverse mid)) ∙ e in
+          let given_found = some_from_before (prints_at spaced) a.given m given_seen in
           let front_quiet : Quiet spaced (open_with ∷ away) a.given =
           quiet_kept (ends_bare now (nearest now (reverse (open_with ∷ away)))) (begins_bare now (nearest now a.given)) a.quiet
           (ap (ends_bare spaced) (nearest_same now spaced (reverse (open_with ∷ away)) (each (reverse (open_with ∷ away)))) ∙ b.ends (nearest now (reverse (open_with ∷ away))))
-          (λ g. ap (begins_bare spaced) (nearest_same now spaced a.given (each a.given)) ∙ b.begins (nearest now a.given) g) in
+          (λ g. ap (begins_bare spaced) (nearest_same now spaced a.given (each a.given)) ∙ b.begins (nearest now a.given) ∙ g) in
           let past : nearest spaced (a.given ++ (b.rest ++ last ∷ [])) ≡ nearest spaced a.given = find-append (prints_at spaced) a.given (b.rest ++ last ∷ []) ∙ ap (λ o. option_or o (nearest spaced (b.rest ++ last ∷ []))) given_found.1 ∙ sym given_found.1 in
           record {
             tree = b.tree;
@@ -260,7 +276,8 @@ module _ (ready : List Node) (tree : IsTree ready) (c n open_with last from to :
                 (settled_before away a.given near line b.rest b.row edges (subst AreBeside (same near) beside)
                 (apart_behind_gains (content_at spaced k) gains ∙ subst (λ l. IsTrue (apart l)) (same (k ∷ mid)) apart_mid) (commas_gains gains ∙ subst (λ l. IsTrue (no_commas l)) (same mid) none_mid)
                 (subst (λ w. IsTrue (is_comma w)) (sym (content k)) comma) (subst IsRestOfLine (same line) ended) (first_gains b.gains ∙ ap comma_first (sym (same back)) ∙ first)
-                (ap (λ o. ends_bare spaced (nearest spaced (reverse (open_with ∷ away))) && begins_bare spaced o) past ∙ front_quiet) b.quiet mid back (come_same now spaced b.content a.come) b.come);
+                (ap (λ o. ends_bare spaced (nearest spaced (reverse (open_with ∷ away))) && begins_bare spaced o) past ∙ front_quiet) b.quiet mid back (come_same now spaced b.content b.ends b.begins a.come)
+                (come_behind spaced (joined_nearest spaced (open_with ∷ away) a.given ∙ ap (λ o. option_or o (nearest spaced (reverse (open_with ∷ away)))) given_seen ∙ sym given_seen) b.come));
           }
 
       other : (m : ℕ) → nearest ready (reverse mid) ≡ Some m → bytes_eq (m ∷ []) (k ∷ []) ≡ false

@@ -76,7 +76,7 @@ ensured_marked o t u Array _ (empty_given g other) = value_marked o t u [] (empt
 
 -- a property that gives way leaves its marks to those of the new one
 property_marked : (o : Options) (t u : OrderedTree) (path name : List ℕ) (v : Plain) → IsCharacters name → IsWritable o v → PropertyGivenWay name v t u path → IsMarked (marks t) (replace_property path name v) (marks u)
-property_marked o t u _ name v texts may (property_given path i layout spaced front was back puts changed around seam) =
+property_marked o t u _ name v texts may (property_given path i layout spaced front was back puts changed around seam bare) =
     (marks_under (property_of was), subst (λ l. MarksDifferIn (marks_under (property_of was)) l (marks t) (marks u)) (laid_as_written_named layout name v texts may.texts) (marks_given (property_of was) (property_of (laid_property layout name v).below) t spaced u puts around))
 
 -- an entry that leaves takes its marks along, and comments beside it

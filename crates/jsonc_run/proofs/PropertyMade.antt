@@ -12,6 +12,7 @@ use Rattle.jsonc_from_input.specs.Texts.{IsCharacters}
 use Rattle.jsonc_laws.specs.ChangeLaws.{DiffersIn}
 use Rattle.jsonc_laws.specs.TreeChanges.{leaves_of, property_of}
 use Rattle.jsonc_laws.specs.SoundTrees.{SoundTree}
+use Rattle.jsonc_laws.specs.Spaces.{first_printed, is_bare_leaf}
 use Rattle.jsonc_laws.specs.Properties.{PropertyChanged}
 use Rattle.jsonc_edit.specs.Changes.{row_below, top_at}
 use Rattle.jsonc_edit.specs.Due.{begins_bare, listed, seen_behind}
@@ -25,6 +26,7 @@ use Rattle.jsonc_edit.proofs.Uniqueness.{element_parent}
 use Rattle.jsonc_edit.specs.SeamEntries.{PropertyHolds, PropertyGivesWayWithSeam}
 use Rattle.jsonc_edit.specs.Seams.{PrintNothing, space_if, StandsBetween}
 use Rattle.jsonc_edit.proofs.Between.{space_behind}
+use Rattle.jsonc_edit.proofs.SeamsParting.{tells_what_is_printed}
 use Rattle.jsonc_edit.proofs.SeamsOfEntries.{property_front, property_back, property_stands, property_holds}
 use Rattle.jsonc_edit.proofs.PathPlaces.{takes_between}
 use Rattle.jsonc_set.specs.Giving.{due_after, is_bare_value, property_top, IsPropertyReplaced, PropertyGivesWay}
@@ -38,27 +40,29 @@ given_top : (old new : List Node) (n m : ℕ) (name : List ℕ) (v : Plain) (r :
 given_top old new n m name v r = (in_place r.2.spaced new n m (property_top (layout_for old r.0 n) name v) r.2.place).put
 
 -- where the space that is due behind a property has come
-record SpaceComes (spaced : List Node) (n : ℕ) (front back : List Content) : Type 0 where
+record SpaceComes (ready spaced : List Node) (n : ℕ) (v : Plain) (front back : List Content) : Type 0 where
   behind : Bool
   quiet : List Content
   rest : List Content
   parts : back ≡ quiet ++ rest
+  bare : behind ≡ true → is_bare_value v ≡ true
+  due : behind ≡ true → begins_bare ready (seen_behind ready n) ≡ true
   silent : PrintNothing quiet
   now : StandsBetween spaced n front (quiet ++ (space_if behind ++ rest))
 
-space_comes : (ready spaced : List Node) (n : ℕ) (v : Plain) → IsTree ready → AreSpaced ready (listed (due_after ready n v)) spaced → (front back : List Content) → StandsBetween ready n front back → SpaceComes spaced n front back
-space_comes ready spaced n v tree put front back s = by (is_bare_value v) (begins_bare ready (seen_behind ready n)) (seen_behind ready n) refl put
+space_comes : (ready spaced : List Node) (n : ℕ) (v : Plain) → IsTree ready → AreSpaced ready (listed (due_after ready n v)) spaced → (front back : List Content) → StandsBetween ready n front back → SpaceComes ready spaced n v front back
+space_comes ready spaced n v tree put front back s = by (is_bare_value v) (begins_bare ready (seen_behind ready n)) (seen_behind ready n) refl refl refl put
   where
-    none_comes : spaced ≡ ready → SpaceComes spaced n front back
-    none_comes same = record { behind = false; quiet = []; rest = back; parts = refl; silent = tt; now = subst (λ ns. StandsBetween ns n front back) (sym same) s }
+    none_comes : spaced ≡ ready → SpaceComes ready spaced n v front back
+    none_comes same = record { behind = false; quiet = []; rest = back; parts = refl; bare = λ e. let wrong : false ≡ true = e in cc; due = λ e. let wrong : false ≡ true = e in cc; silent = tt; now = subst (λ ns. StandsBetween ns n front back) (sym same) s }
 
-    by : (bare b : Bool) (o : Option ℕ) → seen_behind ready n ≡ o → AreSpaced ready (listed (cond bare (cond b o None) None)) spaced → SpaceComes spaced n front back
-    by false b o seen same = none_comes same
-    by true false o seen same = none_comes same
-    by true true None seen same = none_comes same
-    by true true (Some x) seen (now, space, r, same) =
+    by : (bare b : Bool) (o : Option ℕ) → is_bare_value v ≡ bare → begins_bare ready (seen_behind ready n) ≡ b → seen_behind ready n ≡ o → AreSpaced ready (listed (cond bare (cond b o None) None)) spaced → SpaceComes ready spaced n v front back
+    by false b o is due seen same = none_comes same
+    by true false o is due seen same = none_comes same
+    by true true None is due seen same = none_comes same
+    by true true (Some x) is due seen (now, space, r, same) =
         let m = space_behind ready now x space tree r n seen front back s in
-        record { behind = true; quiet = m.quiet; rest = m.rest; parts = m.parts; silent = m.silent; now = subst (λ ns. StandsBetween ns n front (m.quiet ++ (a_space ∷ m.rest))) (sym same) m.now }
+        record { behind = true; quiet = m.quiet; rest = m.rest; parts = m.parts; bare = λ e. is; due = λ e. due; silent = m.silent; now = subst (λ ns. StandsBetween ns n front (m.quiet ++ (a_space ∷ m.rest))) (sym same) m.now }
 
 content_spaced : (xs : List ℕ) (old new : List Node) → AreSpaced old xs new → (k : ℕ) → content_at new k ≡ content_at old k
 content_spaced [] old new e k = ap (λ ns. content_at ns k) e
@@ -87,8 +91,11 @@ module _ (old new : List Node) (path : List ℕ) (c i n m : ℕ) (name : List �
   abbrev back : List Content
   back = property_back g.ready g.prepared.tree path c i n at_ready element_ready
 
-  space : SpaceComes g.spaced n front back
-  space = space_comes g.ready g.spaced n v g.prepared.tree g.spaces front back (property_stands g.ready g.prepared.tree path c i n at_ready element_ready)
+  stands_ready : StandsBetween g.ready n front back
+  stands_ready = property_stands g.ready g.prepared.tree path c i n at_ready element_ready
+
+  space : SpaceComes g.ready g.spaced n v front back
+  space = space_comes g.ready g.spaced n v g.prepared.tree g.spaces front back stands_ready
 
   stood : PropertyHolds (row_below old n) path i (ordered_tree old 0) front (space.quiet ++ space.rest)
   stood =
@@ -109,7 +116,22 @@ module _ (old new : List Node) (path : List ℕ) (c i n m : ℕ) (name : List �
       subst (λ (t : OrderedTree). PropertyHolds t path i (ordered_tree new 0) front (space.quiet ++ (space_if space.behind ++ space.rest))) (ap (λ (t : Top). t.below) top) held
 
   pub property_seam : PropertyGivesWayWithSeam path i (row_below old n) (property_top (layout_for old r.0 n) name v).below (ordered_tree old 0) (ordered_tree new 0)
-  property_seam = record { front = front; quiet = space.quiet; rest = space.rest; behind = space.behind; silent = space.silent; stood = stood; stands = stands }
+  property_seam = record {
+    front = front;
+    quiet = space.quiet;
+    rest = space.rest;
+    behind = space.behind;
+    silent = space.silent;
+    stood = stood;
+    stands = stands;
+    parts_behind = λ o sound e.
+        let sound_ready : SoundTree o (ordered_tree g.ready 0) = subst (SoundTree o) (sym (tree_stays old g.ready tree g.prepared.keeps g.prepared.tree)) sound in
+        ap (λ l. is_bare_leaf (first_printed l)) (sym space.parts) ∙ (tells_what_is_printed o g.ready n g.prepared.tree sound_ready front back stands_ready).1 (space.due e);
+  }
+
+  pub bare_there : property_seam.behind ≡ true → is_bare_value v ≡ true
+  unfolding property_seam
+  bare_there e = space.bare e
 
 pub property_gives_way : (o : Options) (old new : List Node) (path : List ℕ) (n m : ℕ) (name : List ℕ) (v : Plain) → IsTree old → SoundTree o (ordered_tree old 0) → IsPropertyAt old path n → IsCharacters name → IsWritable o v
     → IsPropertyReplaced old new n name v m → PropertyGivenWay name v (ordered_tree old 0) (ordered_tree new 0) path
@@ -122,4 +144,4 @@ property_gives_way o old new _ n m name v tree s (a_property front c i at inside
     (subst (λ (t : Top). PropertyChanged w.front (row_below old n) t.below w.back front w.spaced (ordered_tree new 0)) now w.changed)
     (subst (λ (t : Top). DiffersIn (leaves_of t) (leaves_of (property_top layout name v)) (leaves w.spaced) (leaves (ordered_tree new 0))) was
     (subst (λ (t : Top). DiffersIn (leaves_of (top_at old n)) (leaves_of t) (leaves w.spaced) (leaves (ordered_tree new 0))) now w.around))
-    (property_seam old new front c i n m name v tree at inside.of_object inside.element inside.is r)
+    (property_seam old new front c i n m name v tree at inside.of_object inside.element inside.is r) (bare_there old new front c i n m name v tree at inside.of_object inside.element inside.is r)

@@ -1,5 +1,5 @@
 -- What edits that were made in order make of a document: of its value, its leaves and its text.
-use Rattle.std.specs.Prelude.{◌≡◌, ◌≤◌, ℕ, Bool, false, List, [], ◌∷◌, ◌++◌, Option, Some, None}
+use Rattle.std.specs.Prelude.{◌≡◌, ◌≤◌, ℕ, Bool, true, false, List, [], ◌∷◌, ◌++◌, Option, Some, None}
 use Rattle.std.specs.List.{All}
 use Rattle.jsonc_text.specs.Options.{Options}
 use Rattle.jsonc_text.specs.Plain.{Plain, boolean}
@@ -32,6 +32,7 @@ use Rattle.jsonc_named.specs.Members.{EnsuresMember}
 use Rattle.jsonc_named.specs.Shapes.{EnsuredValue}
 use Rattle.jsonc_named.specs.Values.{ReplacesHeld, ValueEnsured, ValueGivesWay}
 use Rattle.jsonc_remove.specs.Laws.{EntryTaken, ValueTaken}
+use Rattle.jsonc_set.specs.Giving.{is_bare_value}
 use Rattle.jsonc_named.specs.declared.shape.Over.{Over}
 use Rattle.jsonc_named.specs.declared.shape.Over.TheVariants as over
 use Rattle.jsonc_named.specs.declared.shape.Shape.{Shape}
@@ -142,10 +143,11 @@ pub data RootValueEnsured (shape : Shape) (t u : OrderedTree) : Over → Type 0 
   empty_given : (given : ValueGivesWay [] (empty_of shape) t u) → is_of shape given.was.content ≡ false → RootValueEnsured shape t u over.Replace
 
 -- Spaces have come into the document, and then in the row of the object at the path, between its front and its rest, a property has given way to one of this
--- name and value, in some layout; all leaves before and after stay. One space has come or none: directly before what is printed behind it.
+-- name and value, in some layout; all leaves before and after stay. One space has come or none: directly before what is printed behind it, where its value is a
+-- literal without quotes.
 pub data PropertyGivenWay (name : List ℕ) (v : Plain) (t u : OrderedTree) : List ℕ → Type 0 where
   property_given : (path : List ℕ) (i : ℕ) (layout : Layout) (spaced front was back : OrderedTree) → SpacesPut t spaced
       → PropertyChanged front was (laid_property layout name v).below back path spaced u
       → DiffersIn (leaves_of (property_of was)) (leaves_of (property_of (laid_property layout name v).below)) (leaves spaced) (leaves u)
-      → PropertyGivesWayWithSeam path i was (laid_property layout name v).below t u
+      → (seam : PropertyGivesWayWithSeam path i was (laid_property layout name v).below t u) → (seam.behind ≡ true → is_bare_value v ≡ true)
       → PropertyGivenWay name v t u (path ++ i ∷ [])

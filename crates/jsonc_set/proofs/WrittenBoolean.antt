@@ -37,6 +37,7 @@ use Rattle.jsonc_laws.specs.Alone.{ValueAlone, RowAlone, PropertyAlone}
 use Rattle.jsonc_laws.specs.Booleans.{boolean_leaf, is_hex_leaf}
 use Rattle.jsonc_laws.specs.InRows.{row_around}
 use Rattle.jsonc_laws.specs.SoundTrees.{SoundTree}
+use Rattle.jsonc_laws.specs.Spaces.{is_bare}
 use Rattle.jsonc_laws.proofs.Apart.{document_alone, value_alone}
 use Rattle.jsonc_laws.proofs.Booleans.{shaped_with_boolean}
 use Rattle.jsonc_laws.proofs.LooseChanges.{document_loose}
@@ -49,7 +50,7 @@ use Rattle.jsonc_laws.specs.Marks.{marks}
 use Rattle.jsonc_laws.specs.Written as written_marks
 use Rattle.jsonc_laws.proofs.GivingWay.{values_marks}
 use Rattle.jsonc_laws.specs.Leaving.{element_count}
-use Rattle.jsonc_edit.specs.Due.{prints, prints_at, nearest, listed, seen_before}
+use Rattle.jsonc_edit.specs.Due.{prints, prints_at, nearest, beginning_in, due_before, ends_bare, is_bare_at, listed, seen_before}
 use Rattle.jsonc_edit.specs.Put.{AreSpaced}
 use Rattle.jsonc_edit.proofs.Putting.{contents_kept}
 use Rattle.jsonc_edit.proofs.Quiet.{space_before}
@@ -57,12 +58,14 @@ use Rattle.jsonc_edit.specs.Changes.{row_below, top_at, LeafChanged}
 use Rattle.jsonc_edit.specs.Paths.{IsElementOf, IsHeldBy, StepsTo, LeadsTo, itself, step, IsAt}
 use Rattle.jsonc_edit.specs.Spaced.{SpacesPut}
 use Rattle.jsonc_edit.specs.Written.{IsWrittenAt}
+use Rattle.jsonc_edit.proofs.DueKept.{due_before_same}
 use Rattle.jsonc_edit.proofs.Elements.{StandsAt, stands_at}
 use Rattle.jsonc_edit.proofs.GivingWay.{parent_holds}
 use Rattle.jsonc_edit.proofs.Held.{HeldAt, by_root, by_array, by_property, held_at}
 use Rattle.jsonc_edit.proofs.Kept.{at_kept, filter_same, place_kept, top_stays, tree_stays}
 use Rattle.jsonc_edit.proofs.Placed.{Placed, not_first}
 use Rattle.jsonc_edit.proofs.ReplacedValues.{at_child}
+use Rattle.jsonc_edit.proofs.SeamsParting.{tells_what_is_printed}
 use Rattle.jsonc_edit.proofs.Spacing.{all_spaced, Spaced, spaces_marks, spaces_sound}
 use Rattle.jsonc_edit.proofs.Splices.{leaf_over}
 use Rattle.jsonc_edit.proofs.Uniqueness.{element_parent}
@@ -116,6 +119,20 @@ record Named (row : OrderedTree) : Type 0 where
 
 named : (o : Options) {row : OrderedTree} → PropertyAlone o row → Named row
 named o (alone.named {name = name} {after = after} n g h v) = record { name = name; after = after; is = refl; own = name_leaf o name [] n; prints = name_prints o name n }
+
+some_there : {n : ℕ} (d : Bool) → cond d (Some n) None ≡ Some n → d ≡ true
+some_there true e = refl
+some_there false e = cc
+
+-- a hexadecimal number is a literal without quotes
+hex_is_bare : (ns : List Node) (x : Option ℕ) → is_hex_at ns x ≡ true → ends_bare ns x ≡ true
+hex_is_bare ns None e = let wrong : false ≡ true = e in cc
+hex_is_bare ns (Some m) e = by (content_at ns m) refl e
+  where
+    by : (content : Content) → content_at ns m ≡ content → is_hex_leaf (Some content) ≡ true → ends_bare ns (Some m) ≡ true
+    by (Content.number s) is h = ap (λ c. is_bare_at ns (beginning_in (reverse (children_at ns m)) m c)) is ∙ ap is_bare is
+    by (Content.word s) is h = ap (λ c. is_bare_at ns (beginning_in (reverse (children_at ns m)) m c)) is ∙ ap is_bare is
+    by content is h = cc
 
 -- a stretch of a stretch
 inside_list : (f g s c b : List Content) → f ++ ((g ++ (s ++ c)) ++ b) ≡ (f ++ g) ++ (s ++ (c ++ b))
@@ -397,6 +414,13 @@ module _ (old new : List Node) (path : List ℕ) (n : ℕ) (b : Bool) (tree : Is
       let only : ChangedIn spaced new n = record { tree = s.tree; content = g.becomes.others; children = λ k ne. g.becomes.children k } in
       between_above spaced new n only g.tree n (place.first ++ space_if (not b && is_hex_at old (seen_before old n))) place.last (space_or_none (not b && is_hex_at old (seen_before old n)) g.spaces) IsOver.itself
 
+  -- where a hexadecimal number is seen before it, a literal without quotes is
+  bare_before : (c : Bool) → c && is_hex_at old (seen_before old n) ≡ true → ends_bare ready (seen_before ready n) ≡ true
+  bare_before false e = let wrong : false ≡ true = e in cc
+  bare_before true e =
+      let bare : due_before old n ≡ Some n = ap (λ d. cond d (Some n) None) (hex_is_bare old (seen_before old n) e) in
+      some_there (ends_bare ready (seen_before ready n)) (due_before_same old ready tree kept n low.0 ∙ bare)
+
   seams : GivesWayWithSeams path (boolean_leaf a) (boolean_leaf b) (ordered_tree old 0) (ordered_tree new 0)
   seams =
       let top_is : top_at ready n ≡ boolean_leaf a = sym (s.top (omega (arith, low.0, kept.len))) ∙ old_leaf in
@@ -411,6 +435,10 @@ module _ (old new : List Node) (path : List ℕ) (n : ℕ) (b : Bool) (tree : Is
         stands =
             subst (λ (w : Top). DocumentHolds w path (ordered_tree new 0) (place.first ++ space_if (not b && is_hex_at old (seen_before old n))) place.last) new_leaf
             (holds_between new g.tree path n (place.first ++ space_if (not b && is_hex_at old (seen_before old n))) place.last at_new stands_new);
+        parts_before = λ o sound e.
+            let sound_ready : SoundTree o (ordered_tree ready 0) = subst (SoundTree o) (sym (tree_stays old ready tree kept g.prepared.tree)) sound in
+            (refl, (tells_what_is_printed o ready n g.prepared.tree sound_ready place.first place.last place.stands).0 (bare_before (not b) e));
+        parts_behind = λ o sound e. let wrong : false ≡ true = e in cc;
       }
 
   -- in a sound document

@@ -4,6 +4,7 @@ use Rattle.std.specs.List.{All, range_with_len}
 use Rattle.jsonc_text.specs.Options.{Options}
 use Rattle.jsonc_text.specs.Text.{Many, is_line_end}
 use Rattle.jsonc_text.specs.Gaps.{IsComment, is_blank}
+use Rattle.jsonc_text.specs.Words.{is_in_word}
 use Rattle.jsonc_text.specs.Plain.{Plain, boolean, null}
 use Rattle.jsonc_text.specs.Grammar.{IsDocument}
 use Rattle.jsonc_text.specs.Spelling.{spelled}
@@ -45,12 +46,24 @@ pub data Operation : Type 0 where
   set_commas : List ℕ → Bool → Operation
   rearrange : List ℕ → List ℕ → Operation
 
--- nothing, or one space; that it stands where two literals without quotes would meet, and nowhere else, is said of nodes alone
-abbrev pub IsSeam : List ℕ → Type 0
-IsSeam s = (s ≡ []) ⊎ (s ≡ 0x20 ∷ [])
+-- a character of a number, a word, `true`, `false` or `null`
+abbrev pub is_bare : ℕ → Bool
+is_bare c = is_in_word c || c == 0x2B || c == 0x2E
 
+-- one such character ends the first text, and one begins the second
+abbrev pub Meet : List ℕ → List ℕ → Type 0
+Meet x y = (u v : List ℕ) × (c d : ℕ) × (x ≡ u ++ c ∷ []) × (y ≡ d ∷ v) × IsTrue (is_bare c && is_bare d)
+
+-- between front and back stands nothing; or one space, where without it two literals without quotes would meet
+abbrev pub IsSeam : List ℕ → List ℕ → List ℕ → Type 0
+IsSeam front back s = (s ≡ []) ⊎ ((s ≡ 0x20 ∷ []) × Meet front back)
+
+-- ends of lines, between any two texts
 abbrev pub AreLineEnds : List ℕ → Type 0
 AreLineEnds s = Many is_line_end s []
+
+abbrev pub AreLines : List ℕ → List ℕ → List ℕ → Type 0
+AreLines front back s = AreLineEnds s
 
 abbrev pub AreBlanks : List ℕ → Type 0
 AreBlanks s = Many is_blank s []
@@ -92,10 +105,10 @@ abbrev pub Come : List Mark → (from to : List ℕ) → Document → Document �
 Come come from to d e = (ahead behind : List Mark) × Parted e from to ahead come behind × (d.marks ≡ ahead ++ behind)
 
 -- Between front and back `was` gives way to `now`, perhaps with something beside it. All before and all behind stays, to the character.
-pub record Text (Side : List ℕ → Type 0) (front was left now right back : List ℕ) (d e : Document) : Type 0 where
+pub record Text (Side : List ℕ → List ℕ → List ℕ → Type 0) (front was left now right back : List ℕ) (d e : Document) : Type 0 where
   pub before : d.text ≡ front ++ (was ++ back)
   pub after : e.text ≡ front ++ (left ++ (now ++ (right ++ back)))
-  pub sides : Side left × Side right
+  pub sides : Side front (now ++ (right ++ back)) left × Side (front ++ (left ++ now)) back right
 
 -- What stands at a place gives way to what stands there then, and its marks to these; around it the same marks stand.
 abbrev pub Puts : (At : Options → List ℕ → List ℕ → List ℕ → Type 0) → List Mark → Document → Document → Type 0
@@ -109,7 +122,7 @@ PutsValue was now path d e = Puts (Value path) (literals_of now) d e × Becomes 
 
 -- a value comes into a document that has none, perhaps on a line of its own
 abbrev pub ComesFirst : Plain → Document → Document → Type 0
-ComesFirst v d e = (front left now right back : List ℕ) × Text AreLineEnds front [] left now right back d e
+ComesFirst v d e = (front left now right back : List ℕ) × Text AreLines front [] left now right back d e
     × Value [] e.options e.text (now ++ (right ++ back)) (right ++ back) × (d.value ≡ None) × (e.value ≡ Some v)
     × Come (literals_of v) (now ++ (right ++ back)) (right ++ back) d e
 
@@ -141,7 +154,7 @@ abbrev pub Leaves : List ℕ → Document → Document → Type 0
 Leaves path d e = (front blanks comma mid lead own trail more back left right : List ℕ) × (with_comma : Bool)
     × (d.text ≡ front ++ (blanks ++ (comma ++ (mid ++ (lead ++ (own ++ (trail ++ (more ++ back)))))))) × (e.text ≡ front ++ (left ++ (mid ++ (right ++ back))))
     × Entry path d.options d.text (own ++ (trail ++ (more ++ back))) (trail ++ (more ++ back))
-    × InLine lead × Trail with_comma trail × Comma with_comma comma mid × AreBlanks blanks × AreBlanks more × IsSeam left × IsSeam right
+    × InLine lead × Trail with_comma trail × Comma with_comma comma mid × AreBlanks blanks × AreBlanks more × IsSeam front (mid ++ (right ++ back)) left × IsSeam (front ++ (left ++ mid)) back right
     × (ahead gone behind : List Mark) × Parted d (lead ++ (own ++ (trail ++ (more ++ back)))) back ahead gone behind × (e.marks ≡ ahead ++ behind)
 
 -- of the value the container at the path loses that entry, or none is left
