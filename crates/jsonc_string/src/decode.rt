@@ -26,6 +26,7 @@ pub struct Decoded<'a, A: Allocator> {
 }
 
 /// The string at a place, where its quote stands. It is lent by the text where no backslash is in it.
+/// Want of memory is told of no bytes, at the opening quote.
 pub fn decode_string<'a, A: Allocator>(
     alloc: A,
     text: &'a str,
@@ -42,6 +43,8 @@ pub fn decode_string<'a, A: Allocator>(
         → NoQuoted literal.extended literal.quote text.now literal.start) }
     ensures places { IfErr result (IsStringRefusal text.now literal.start) }
     ensures told { IfErr result (IsTold literal.extended literal.quote text.now literal.start) }
+    ensures place { IfErr result (λ f. f.kind ≡ ParseStringErrorKind.OutOfMemory
+        → f.range ≡ record { start = literal.start; end = literal.start }) }
     ensures memory { IfErr result (λ f. f.kind ≡ ParseStringErrorKind.OutOfMemory
         → StringHoldsBackslash text.now literal.start) }
     ensures escaped { IfOk result (λ d. IsOwnedStr d.string → StringHoldsBackslash text.now literal.start) }
@@ -97,6 +100,8 @@ fn decode_escaped<'a, A: Allocator>(
         → NoQuoted literal.extended literal.quote text.now literal.start) }
     ensures places { IfErr result (IsStringRefusal text.now literal.start) }
     ensures told { IfErr result (IsTold literal.extended literal.quote text.now literal.start) }
+    ensures place { IfErr result (λ f. f.kind ≡ ParseStringErrorKind.OutOfMemory
+        → f.range ≡ record { start = literal.start; end = literal.start }) }
 {
     let no_memory = StringFault {
         range: Range {

@@ -15,7 +15,8 @@ use std::borrow::CowStr;
 /// What is wrong with a string, and where.
 #[derive(Clone, Copy, Debug, PartialEq, Eq, Drop)]
 pub struct ParseStringError {
-    /// The place that the fault is told of: that of the escape's backslash, or of the opening quote.
+    /// The place that the fault is told of: that of the escape's backslash, or of the opening quote,
+    /// which want of memory is told of too.
     pub byte_index: usize,
     /// What is wrong there.
     pub kind: ParseStringErrorKind,
@@ -32,6 +33,7 @@ pub fn parse_string<'a, A: Allocator>(
     ensures found { IfOk result (ParsesFront true text.now 0) }
     ensures fault { IfErr result (IsStringError true text.now 0) }
     ensures memory { IfErr result (λ e. e.kind ≡ ParseStringErrorKind.OutOfMemory → StringHoldsBackslash text.now 0) }
+    ensures place { IfErr result (λ e. e.kind ≡ ParseStringErrorKind.OutOfMemory → e.byte_index ≡ 0) }
 {
     let Some(quote) = opening_quote(text, 0) else {
         return Err(ParseStringError {
@@ -84,6 +86,7 @@ pub fn parse_string_with_char_provider<'a, A: Allocator, T: CharProvider<'a>>(
     ensures fault { IfErr result (IsStringError allow_extended_escapes (T.bytes chars.old) (T.place chars.old)) }
     ensures memory { IfErr result (λ e. e.kind ≡ ParseStringErrorKind.OutOfMemory
         → StringHoldsBackslash (T.bytes chars.old) (T.place chars.old)) }
+    ensures place { IfErr result (λ e. e.kind ≡ ParseStringErrorKind.OutOfMemory → e.byte_index ≡ T.place chars.old) }
     ensures stays { OnErr result (T.place chars.new ≡ T.place chars.old) }
 {
     let text = chars.text();
@@ -149,6 +152,7 @@ fn decode_at<'a, A: Allocator>(
     ensures fault { IfErr result (IsStringError extended text.now start) }
     ensures memory { IfErr result (λ e. e.kind ≡ ParseStringErrorKind.OutOfMemory
         → StringHoldsBackslash text.now start) }
+    ensures place { IfErr result (λ e. e.kind ≡ ParseStringErrorKind.OutOfMemory → e.byte_index ≡ start) }
 {
     let literal = Literal {
         start,
