@@ -1,5 +1,5 @@
 -- What a scanner came to, as a token.
-use Rattle.std.specs.Prelude.{Option, option_map, true, false}
+use Rattle.std.specs.Prelude.{◌≡◌, Option, Some, option_map, true, false}
 use Rattle.jsonc_scan.specs.declared.found.TokenContent.{TokenContent}
 use Rattle.jsonc_scan.specs.declared.found.TokenKind.{TokenKind}
 use Rattle.jsonc_scan.specs.declared.found.TokenKind.TheVariants as kind
@@ -27,3 +27,12 @@ module _ {A : Type 0} where
   -- the token that was found, or none
   abbrev pub token_found : TokenContent A → Option TokenKind → Option (Token A)
   token_found x = option_map (λ k. token_held k x)
+
+  -- what a token of another kind would hold is left as it was
+  abbrev pub LeavesOthers : TokenContent A → TokenContent A → Option TokenKind → Type 0
+  LeavesOthers old new (Some kind.String) = new.text ≡ old.text
+  LeavesOthers old new (Some kind.Word) = new.string ≡ old.string
+  LeavesOthers old new (Some kind.Number) = new.string ≡ old.string
+  LeavesOthers old new (Some kind.CommentLine) = new.string ≡ old.string
+  LeavesOthers old new (Some kind.CommentBlock) = new.string ≡ old.string
+  LeavesOthers old new _ = new ≡ old

@@ -35,6 +35,10 @@ module _ {A : Type 0} where
   abbrev pub token_of : Scanner A → Option Scanned
   token_of s = option_map scanned_of s.current_token
 
+  -- the same as it is kept: a string lent by the text, or copied
+  abbrev pub last_token : Scanner A → Option (Token A)
+  last_token s = s.current_token
+
   -- what is still to be scanned
   abbrev pub left : Scanner A → List ℕ
   left s = rest (text_of s) (end_of s)
@@ -63,6 +67,10 @@ module _ {A : Type 0} where
   abbrev pub IsLent : Scanner A → Option (Token A) → Type 0
   IsLent s (Some (String v)) = IsLentUnescaped (text_of s) (start_of s) (end_of s) v
   IsLent s _ = Unit {0}
+
+  -- and so is the last token that the scanner keeps, where it is that string
+  abbrev pub KeepsLent : Scanner A → Type 0
+  KeepsLent s = IsLent s (last_token s)
 
   -- where the scanner's token would begin stands the opening quote of a string with a backslash in it
   abbrev pub HoldsEscape : Scanner A → Type 0

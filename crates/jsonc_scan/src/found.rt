@@ -1,8 +1,8 @@
 //! What a scanner came to, for a parser: the kind of its token, and beside it what the token holds.
-ghost use Rattle.std.specs.Prelude.{◌≡◌, [], IfOk, OnErr};
+ghost use Rattle.std.specs.Prelude.{◌≡◌, [], Some, IfOk, OnErr};
 ghost use Rattle.std.specs.Cow.{cow_str_bytes};
 ghost use Rattle.jsonc_text.specs.Tokens.{scanned_of, IsOwned, lent_bytes};
-ghost use Rattle.jsonc_scan.specs.Found.{token_held};
+ghost use Rattle.jsonc_scan.specs.Found.{token_held, LeavesOthers};
 ghost use Rattle.jsonc_scan.specs.Reads.{mark_of, what_of};
 
 use crate::lexeme::{Lexeme, Mark};
@@ -54,7 +54,8 @@ impl<'a, A: Allocator> TokenContent<'a, A> {
     /// Gives the string away.
     #[inline(always)]
     pub fn take_string(&mut self) -> CowStr<'a, A>
-        ensures { result ≡ self.old.string }
+        ensures string { result ≡ self.old.string }
+        ensures text { self.new.text ≡ self.old.text }
     {
         replace(&mut self.string, CowStr::Borrowed(""))
     }
@@ -62,7 +63,8 @@ impl<'a, A: Allocator> TokenContent<'a, A> {
     /// The kind of a punctuation character, which holds nothing.
     #[inline(always)]
     pub(crate) fn mark_kind(&self, mark: Mark) -> TokenKind
-        ensures { scanned_of (token_held result self.now) ≡ mark_of mark }
+        ensures held { scanned_of (token_held result self.now) ≡ mark_of mark }
+        ensures others { LeavesOthers self.now self.now (Some result) }
     {
         match mark {
             Mark::OpenBrace => TokenKind::OpenBrace,
@@ -77,7 +79,8 @@ impl<'a, A: Allocator> TokenContent<'a, A> {
     /// Holds what a lexeme holds, and answers its kind.
     #[inline(always)]
     pub(crate) fn hold(&mut self, lexeme: Lexeme<'a>) -> TokenKind
-        ensures { scanned_of (token_held result self.new) ≡ what_of lexeme.entry }
+        ensures held { scanned_of (token_held result self.new) ≡ what_of lexeme.entry }
+        ensures others { LeavesOthers self.old self.new (Some result) }
     {
         match lexeme {
             Lexeme::Word(text) => {

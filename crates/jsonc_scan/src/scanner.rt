@@ -1,5 +1,5 @@
 //! Turning a text into tokens.
-ghost use Rattle.std.specs.Prelude.{◌≡◌, ◌≢◌, ◌≤◌, ◌<◌, IsCharBoundary, IsTrue, IfOk, IfErr, IfSome, OnErr, None, option_map};
+ghost use Rattle.std.specs.Prelude.{◌≡◌, ◌≢◌, ◌≤◌, ◌<◌, ◌↔◌, IsCharBoundary, IsTrue, IfOk, IfErr, IfSome, OnOk, OnErr, None, option_map, option_copied};
 
 use crate::faults::out_of_memory;
 use crate::found::{TokenContent, TokenKind};
@@ -29,7 +29,7 @@ pub struct Scanner<'a, A: Allocator> {
 
 impl<'a, A: Allocator> Scanner<'a, A> {
     ghost use Rattle.jsonc_text.specs.OptionsOf.{parse_options, scanner_options};
-    ghost use Rattle.jsonc_scan.specs.Scanner.{text_of, end_of, start_of, options_of, token_of};
+    ghost use Rattle.jsonc_scan.specs.Scanner.{text_of, end_of, start_of, options_of, token_of, last_token};
     ghost use Rattle.jsonc_text.specs.Tokens.{scanned_of};
 
     /// A scanner at the start of a text.
@@ -82,7 +82,8 @@ impl<'a, A: Allocator> Scanner<'a, A> {
 
     /// The last token, lent.
     pub fn token(&self) -> Option<&Token<'a, A>>
-        ensures { option_map (λ t. scanned_of t.now) result ≡ token_of self.now }
+        ensures token { option_map (λ t. scanned_of t.now) result ≡ token_of self.now }
+        ensures kept { option_copied result ≡ last_token self.now }
     {
         self.current_token.as_ref()
     }
@@ -90,8 +91,8 @@ impl<'a, A: Allocator> Scanner<'a, A> {
 
 impl<'a, A: Allocator + Copy> Scanner<'a, A> {
     ghost use Rattle.jsonc_text.specs.Faults.{IsFault, kind_of};
-    ghost use Rattle.jsonc_scan.specs.Scanner.{text_of, start_of, end_of, options_of, token_of, PassesBlanks, StandsAt, NothingStands, GoesOn, IsLent, HoldsEscape, IsTrueThere, ComesNext, IsMarkHere};
-    ghost use Rattle.jsonc_scan.specs.Found.{token_found};
+    ghost use Rattle.jsonc_scan.specs.Scanner.{text_of, start_of, end_of, options_of, token_of, last_token, KeepsLent, PassesBlanks, StandsAt, NothingStands, GoesOn, IsLent, HoldsEscape, IsTrueThere, ComesNext, IsMarkHere};
+    ghost use Rattle.jsonc_scan.specs.Found.{token_found, LeavesOthers};
     ghost use Rattle.jsonc_string.specs.Between.{LacksAt};
     ghost use Rattle.jsonc_text.specs.Lexemes.{is_punctuation};
     ghost use Rattle.jsonc_text.specs.Tokens.{IsOwned, scanned_of};
@@ -100,7 +101,7 @@ impl<'a, A: Allocator + Copy> Scanner<'a, A> {
     #[inline(always)]
     pub fn has_next(&self, character: u8) -> bool
         requires { character < 128 }
-        ensures { IsTrue result → ComesNext self.now character }
+        ensures { IsTrue result ↔ ComesNext self.now character }
     {
         has_byte(self.file_text, self.byte_index, character)
     }
@@ -113,6 +114,7 @@ impl<'a, A: Allocator + Copy> Scanner<'a, A> {
         requires mark { IsTrue (is_punctuation mark) }
         ensures blanks { PassesBlanks self.old self.new }
         ensures found { IsMarkHere self.new mark }
+        ensures keeps { last_token self.new ≡ last_token self.old }
     {
         self.token_start = self.byte_index;
         self.byte_index += 1;
@@ -131,12 +133,13 @@ impl<'a, A: Allocator + Copy> Scanner<'a, A> {
         ensures found { IfOk result (λ f. StandsAt self.new (token_found content.new f)) }
         ensures lent { IfOk result (λ f. IsLent self.new (token_found content.new f)) }
         ensures escaped { IfOk result (λ f. IfSome (token_found content.new f) (λ t. IsOwned t → HoldsEscape self.new)) }
+        ensures others { IfOk result (LeavesOthers content.old content.new) }
         ensures nothing { IfErr result (λ e. kind_of e ≢ ParseErrorKind.OutOfMemory → NothingStands self.new) }
         ensures begins { IfErr result (λ _. GoesOn self.new) }
         ensures fault { IfErr result (IsFault (text_of self.new)) }
         ensures told { IfErr result (λ e. kind_of e ≢ ParseErrorKind.OutOfMemory → IsTrueThere self.new e) }
         ensures memory { IfErr result (λ e. kind_of e ≡ ParseErrorKind.OutOfMemory → HoldsEscape self.new) }
-        ensures keeps { token_of self.new ≡ token_of self.old }
+        ensures keeps { last_token self.new ≡ last_token self.old }
         ensures stays { OnErr result (end_of self.new ≡ start_of self.new) }
     {
         let start = blanks_end(self.file_text, self.byte_index);
@@ -172,11 +175,12 @@ impl<'a, A: Allocator + Copy> Scanner<'a, A> {
         ensures found { IfOk result (λ f. StandsAt self.new (token_found content.new f)) }
         ensures lent { IfOk result (λ f. IsLent self.new (token_found content.new f)) }
         ensures escaped { IfOk result (λ f. IfSome (token_found content.new f) (λ t. IsOwned t → HoldsEscape self.new)) }
+        ensures others { IfOk result (LeavesOthers content.old content.new) }
         ensures nothing { IfErr result (λ e. kind_of e ≢ ParseErrorKind.OutOfMemory → NothingStands self.new) }
         ensures fault { IfErr result (IsFault (text_of self.new)) }
         ensures told { IfErr result (λ e. kind_of e ≢ ParseErrorKind.OutOfMemory → IsTrueThere self.new e) }
         ensures memory { IfErr result (λ e. kind_of e ≡ ParseErrorKind.OutOfMemory → HoldsEscape self.new) }
-        ensures keeps { token_of self.new ≡ token_of self.old }
+        ensures keeps { last_token self.new ≡ last_token self.old }
         ensures stays { OnErr result (end_of self.new ≡ start_of self.new) }
     {
         let start = self.token_start;
@@ -200,12 +204,13 @@ impl<'a, A: Allocator + Copy> Scanner<'a, A> {
         ensures found { IfOk result (StandsAt self.new) }
         ensures token { IfOk result (λ found. token_of self.new ≡ option_map scanned_of found) }
         ensures lent { IfOk result (IsLent self.new) }
+        ensures kept { OnOk result (KeepsLent self.new) }
         ensures nothing { IfErr result (λ e. kind_of e ≢ ParseErrorKind.OutOfMemory → NothingStands self.new) }
         ensures begins { IfErr result (λ _. GoesOn self.new) }
         ensures fault { IfErr result (IsFault (text_of self.new)) }
         ensures told { IfErr result (λ e. kind_of e ≢ ParseErrorKind.OutOfMemory → IsTrueThere self.new e) }
         ensures memory { IfErr result (λ e. kind_of e ≡ ParseErrorKind.OutOfMemory → HoldsEscape self.new) }
-        ensures refused { OnErr result (token_of self.new ≡ token_of self.old) }
+        ensures refused { OnErr result (last_token self.new ≡ last_token self.old) }
         ensures stays { OnErr result (end_of self.new ≡ start_of self.new) }
     {
         let mut content = TokenContent::new();

@@ -309,7 +309,7 @@ parse_element-returns-in-String-clause-found g t c =
     let old = c.args.context.now in
     let string = c.take_string-string.result in
     element_self old _ c.args.elements.now.items _ c.args.count c.push_value.result (record { scanner = refl; tokens = refl; comments = refl; apart = refl })
-    (leaf_element old (last old c.args.token) (JsonValue.String string) c.args.elements.now.items _ c.args.count c.push_value.result c.requires.token (ap Some (string_plain string) ∙ sym (string_value old c.args.token string c.in-String.is c.take_string-string.ensures)) c.requires.around c.push_value.ensures.grown)
+    (leaf_element old (last old c.args.token) (JsonValue.String string) c.args.elements.now.items _ c.args.count c.push_value.result c.requires.token (ap Some (string_plain string) ∙ sym (string_value old c.args.token string c.in-String.is c.take_string-string.ensures.string)) c.requires.around c.push_value.ensures.grown)
 
 pub parse_element-returns-in-Number-clause-found : goal.parse_element-returns-in-Number-clause-found
 parse_element-returns-in-Number-clause-found g t c =
