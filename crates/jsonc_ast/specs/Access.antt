@@ -1,5 +1,8 @@
 -- What a value holds, by its kind, and the properties of an object, by their names.
 use Rattle.std.specs.Prelude.{ℕ, Bool, cond, List, Option, Some, None, option_map}
+use Rattle.std.specs.declared.borrow.CowStr.{CowStr}
+use Rattle.std.specs.declared.borrow.CowStr.TheVariants as cow
+use Rattle.std.specs.declared.string.String.{String as Text}
 use Rattle.std.specs.Cow.{cow_str_bytes}
 use Rattle.std.specs.List.{find}
 use Rattle.std.specs.Set.{remove_key}
@@ -69,6 +72,15 @@ module _ {A : Type 0} where
   abbrev pub name_text : ObjectPropName A → List ℕ
   name_text (String s) = cow_str_bytes s.value
   name_text (Word w) = w.value.now
+
+  abbrev owned_in : CowStr A → Option (Text A)
+  owned_in (cow.Borrowed s) = None
+  owned_in (cow.Owned s) = Some s
+
+  -- the text that a name owns, if it owns one
+  abbrev pub owned_text : ObjectPropName A → Option (Text A)
+  owned_text (String s) = owned_in s.value
+  owned_text (Word w) = None
 
   -- whether a property has this name
   abbrev pub is_named : List ℕ → ObjectProp A → Bool

@@ -1,13 +1,14 @@
 //! Values by their kind, and properties by their names.
-ghost use Rattle.std.specs.Prelude.{◌≡◌, IfOk, is_some, option_copied, string_bytes, true};
+ghost use Rattle.std.specs.Prelude.{◌≡◌, IfOk, IfSome, Ok, is_some, option_copied, string_bytes, true};
 ghost use Rattle.std.specs.List.{position};
 ghost use Rattle.std.specs.Option.{option_and_then};
-ghost use Rattle.jsonc_ast.specs.Access.{as_string_lit, as_number_lit, as_boolean_lit, as_object, as_array, as_null_keyword, name_text, is_named, properties, range_of, first_named, value_named, left};
+ghost use Rattle.jsonc_ast.specs.Access.{as_string_lit, as_number_lit, as_boolean_lit, as_object, as_array, as_null_keyword, name_text, owned_text, is_named, properties, range_of, first_named, value_named, left};
 
 use super::{
     Array, BooleanLit, NullKeyword, NumberLit, Object, ObjectProp, ObjectPropName, StringLit, Value,
 };
 use std::alloc::{AllocError, Allocator};
+use std::borrow::CowStr;
 
 impl<'a, A: Allocator> Value<'a, A> {
     /// The string, if it is one.
@@ -132,12 +133,16 @@ impl<'a, A: Allocator> ObjectPropName<'a, A> {
         }
     }
 
-    /// The name, as a string of its own. One that owns its text already is given as it is.
+    /// The name, as a string of its own. One that owns its text already is given as it is, without memory.
     pub fn into_string(self, alloc: A) -> Result<String<A>, AllocError>
-        ensures { IfOk result (λ s. string_bytes s ≡ name_text self.entry) }
+        ensures text { IfOk result (λ s. string_bytes s ≡ name_text self.entry) }
+        ensures owned { IfSome (owned_text self.entry) (λ s. result ≡ Ok s) }
     {
         match self {
-            ObjectPropName::String(name) => name.value.into_owned(alloc),
+            ObjectPropName::String(name) => match name.value {
+                CowStr::Borrowed(text) => String::from_str(alloc, text),
+                CowStr::Owned(text) => Ok(text),
+            },
             ObjectPropName::Word(name) => String::from_str(alloc, name.value),
         }
     }

@@ -1,8 +1,9 @@
 //! Comments, and where they stand in their text.
-ghost use Rattle.std.specs.Prelude.{◌≡◌};
+ghost use Rattle.std.specs.Prelude.{◌≡◌, Ok};
 ghost use Rattle.jsonc_ast.specs.Comment.{comment_text, comment_kind, comment_range};
 
 use jsonc_text::common::{Range, Ranged};
+use std::alloc::AllocError;
 
 /// What marks a comment.
 #[derive(Clone, Copy, Debug, PartialEq, Eq)]
@@ -36,7 +37,41 @@ pub enum Comment<'a> {
     Block(CommentBlock<'a>),
 }
 
+impl<'a> CommentLine<'a> {
+    /// The same comment at the same place, without memory.
+    pub fn try_clone(&self) -> Result<Self, AllocError>
+        ensures { result ≡ Ok self.now }
+    {
+        Ok(CommentLine {
+            range: self.range,
+            text: self.text,
+        })
+    }
+}
+
+impl<'a> CommentBlock<'a> {
+    /// The same comment at the same place, without memory.
+    pub fn try_clone(&self) -> Result<Self, AllocError>
+        ensures { result ≡ Ok self.now }
+    {
+        Ok(CommentBlock {
+            range: self.range,
+            text: self.text,
+        })
+    }
+}
+
 impl<'a> Comment<'a> {
+    /// The same comment at the same place, without memory.
+    pub fn try_clone(&self) -> Result<Self, AllocError>
+        ensures { result ≡ Ok self.now }
+    {
+        match self {
+            Comment::Line(line) => Ok(Comment::Line(line.try_clone()?)),
+            Comment::Block(block) => Ok(Comment::Block(block.try_clone()?)),
+        }
+    }
+
     /// What stands inside its marks.
     pub fn text(&self) -> &'a str
         ensures { result ≡ comment_text self.now }

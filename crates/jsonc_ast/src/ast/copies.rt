@@ -1,5 +1,5 @@
 //! Copies of values.
-ghost use Rattle.std.specs.Prelude.{◌≡◌, IfOk, map};
+ghost use Rattle.std.specs.Prelude.{◌≡◌, IfOk, Ok, map};
 ghost use Rattle.std.specs.Cow.{cow_str_bytes};
 ghost use Rattle.jsonc_ast.specs.Views.{located, object_located, member_of, name_at};
 ghost use Rattle.jsonc_ast.specs.Copies.{array_located, in_quotes, quotes, quotes_in_array, quotes_in_object, quotes_in_property};
@@ -20,6 +20,51 @@ impl<'a, A: Allocator + Copy> StringLit<'a, A> {
             range: self.range,
             value: self.value.clone()?,
         })
+    }
+}
+
+impl<'a> WordLit<'a> {
+    /// The same name at the same place, without memory.
+    pub fn try_clone(&self) -> Result<Self, AllocError>
+        ensures { result ≡ Ok self.now }
+    {
+        Ok(WordLit {
+            range: self.range,
+            value: self.value,
+        })
+    }
+}
+
+impl<'a> NumberLit<'a> {
+    /// The same number at the same place, without memory.
+    pub fn try_clone(&self) -> Result<Self, AllocError>
+        ensures { result ≡ Ok self.now }
+    {
+        Ok(NumberLit {
+            range: self.range,
+            value: self.value,
+        })
+    }
+}
+
+impl BooleanLit {
+    /// The same truth value at the same place, without memory.
+    pub fn try_clone(&self) -> Result<Self, AllocError>
+        ensures { result ≡ Ok self.now }
+    {
+        Ok(BooleanLit {
+            range: self.range,
+            value: self.value,
+        })
+    }
+}
+
+impl NullKeyword {
+    /// The same `null` at the same place, without memory.
+    pub fn try_clone(&self) -> Result<Self, AllocError>
+        ensures { result ≡ Ok self.now }
+    {
+        Ok(NullKeyword { range: self.range })
     }
 }
 
