@@ -26,3 +26,4 @@ pub mod Documents
 pub mod Rows
 pub mod Spelling
 pub mod ReadsToEnd
+pub mod Ranges

@@ -11,3 +11,4 @@ pub mod Reached
 pub mod Told
 pub mod Laws
 pub mod Written
+pub mod Ranges

@@ -35,7 +35,7 @@ pub struct Context<'a, A: Allocator> {
 }
 
 impl<'a, A: Allocator + Copy> Context<'a, A> {
-    ghost use Rattle.std.specs.Prelude.{◌≡◌, ◌≢◌, ◌≤◌, ◌<◌, ◌⊎◌, [], true, false, is_some, IfOk, IfErr, IfSome, OnOk, IsTrue};
+    ghost use Rattle.std.specs.Prelude.{◌≡◌, ◌≢◌, ◌≤◌, ◌<◌, ◌⊎◌, ◌||◌, [], true, false, is_some, IfOk, IfErr, IfSome, OnOk, IsTrue};
     ghost use Rattle.jsonc_to_ast.specs.Refusals.{IsFaultOf, IsOpen, Tells, WantsMemory, WhereSome, RefusesComment, NoTokenAfter, NothingFirst, NothingAfterComma, NothingNext, OnlyFirst, OnlyAfterComma, OnlyNext, NoColon, NoName};
     ghost use Rattle.jsonc_text.specs.Faults.{IsFault, IsOutOfMemory, range_of, kind_of};
     ghost use Rattle.jsonc_text.specs.Gaps.{Gap};
@@ -193,6 +193,7 @@ impl<'a, A: Allocator + Copy> Context<'a, A> {
     /// Whether anything is collected.
     #[inline(always)]
     fn collects(&self) -> bool
+        ensures value { result ≡ tokens_asked self.now || comments_asked self.now }
         ensures tokens { result ≡ false → tokens_asked self.now ≡ false }
         ensures comments { result ≡ false → comments_asked self.now ≡ false }
     {
@@ -355,6 +356,8 @@ impl<'a, A: Allocator + Copy> Context<'a, A> {
         ensures next { IsTrue result → ComesNext self.now.scanner character }
         ensures tokens { IsTrue result → tokens_asked self.now ≡ false }
         ensures comments { IsTrue result → comments_asked self.now ≡ false }
+        ensures other { result ≡ false → ComesNext self.now.scanner character
+            → IsTrue (tokens_asked self.now || comments_asked self.now) }
     {
         if self.collects() {
             return false;

@@ -17,6 +17,7 @@ ghost use Rattle.jsonc_to_ast.specs.declared.container.Container.TheVariants.{Ob
 ghost use Rattle.jsonc_ast.specs.Spelled.{spelled, spelled_in_property};
 ghost use Rattle.jsonc_ast.specs.Views.{located, member_of, plain};
 ghost use Rattle.jsonc_to_ast.specs.Lent.{AreLentIn};
+ghost use Rattle.jsonc_to_ast.specs.Ranges.{CommentsLieIn, TokensLieIn};
 ghost use Rattle.jsonc_to_ast.specs.Results.{located_in, plain_in};
 ghost use Rattle.jsonc_to_ast.specs.Written.{AreWritten, AreWrittenIn, IsLentHere, spelled_of};
 
@@ -290,8 +291,10 @@ pub fn parse_to_ast<'a, A: Allocator + Copy>(
     ensures tokens { IfOk result (λ r. is_some r.tokens ≡ collect.now.tokens) }
     ensures collected { IfOk result (HoldsCollected (parse_options options.now) text.now collect.now) }
     ensures lent { IfOk result (λ r. AreLentIn text.now r.tokens) }
+    ensures token_ranges { IfOk result (λ r. TokensLieIn text.now r.tokens) }
     ensures apart { IfOk result (λ r. is_some r.comments ≡ is_separate collect.now.comments) }
     ensures comments { IfOk result (HoldsComments (parse_options options.now) text.now) }
+    ensures comment_ranges { IfOk result (λ r. CommentsLieIn text.now r.comments) }
     ensures fault { IfErr result (IsFault text.now) }
     ensures told { IfErr result (IsTold (parse_options options.now) text.now true) }
 {

@@ -13,6 +13,7 @@ use Rattle.jsonc_to_ast.specs.Told.{IsTold}
 use Rattle.jsonc_to_ast.specs.Written.{AreWritten}
 use Rattle.jsonc_to_ast.proofs.Grammar.{located_document}
 use Rattle.jsonc_to_ast.proofs.Collecting.{all_collected, all_lent, all_noted}
+use Rattle.jsonc_to_ast.proofs.Ranges.{tokens_lie, comments_lie}
 use Rattle.jsonc_to_ast.proofs.Refusals.{err_of, err_some, ok_of}
 use Rattle.jsonc_to_ast.proofs.Scans.{moved}
 use Rattle.jsonc_to_ast.proofs.values.parse_to_ast.Goals as goal
@@ -97,4 +98,20 @@ returns-clause-comments g c =
     let whole = c.in_ok-value.ensures in
     ok_of c.finish.result
     (λ r shown. all_noted c.new-context.result c.parse_whole.new.context None _ _ start.text start.options start.start whole.kept whole.collects whole.end refl r.comments start.noted shown)
+    c.finish.ensures.shown
+
+pub returns-clause-token_ranges : goal.returns-clause-token_ranges
+returns-clause-token_ranges g c =
+    let start = c.new-context.ensures in
+    let whole = c.in_ok-value.ensures in
+    ok_of c.finish.result
+    (λ r is. tokens_lie _ c.utf8.text _ _ r.tokens (all_collected c.new-context.result c.parse_whole.new.context None _ _ start.text start.options start.start whole.kept whole.collects whole.end refl c.args.collect.now.comments start.comments start.collected r.tokens is))
+    c.finish.ensures.tokens
+
+pub returns-clause-comment_ranges : goal.returns-clause-comment_ranges
+returns-clause-comment_ranges g c =
+    let start = c.new-context.ensures in
+    let whole = c.in_ok-value.ensures in
+    ok_of c.finish.result
+    (λ r shown. comments_lie _ c.utf8.text _ r.comments (all_noted c.new-context.result c.parse_whole.new.context None _ _ start.text start.options start.start whole.kept whole.collects whole.end refl r.comments start.noted shown))
     c.finish.ensures.shown
