@@ -5,6 +5,7 @@ ghost use Rattle.std.specs.List.{list_any, find, position_or_len, AllZip, IsDist
 ghost use Rattle.std.specs.Set.{remove_key};
 ghost use Rattle.std.specs.Slice.Iter.{iter_rest};
 ghost use Rattle.indexmap.specs.IndexSet.{insert_key, spare};
+ghost use Rattle.jsonc_value.specs.Copies.{EqualsItsClones};
 ghost use Rattle.jsonc_value.specs.Held.{held_keys, AreFewDistinct};
 
 use super::iter::IntoKeys;
@@ -383,23 +384,18 @@ impl<K: Eq + Hash, A: Allocator> KeyList<K, A> {
         }
     }
 
-    // Clones of the keys, in their order. A clone that is not equal to its key is refused.
+    // Clones of the keys, in their order.
     pub(crate) fn clone(&self) -> Result<Self, AllocError>
     where
         K: Clone + Drop,
         A: Clone,
+        requires { EqualsItsClones K.eq K.is_clone }
         ensures cases { IfOk result (AllZip K.is_clone self.now) }
     {
         match &self.held {
-            Held::Few(keys) => {
-                let copies = keys.clone()?;
-                if copies.as_slice() != keys.as_slice() {
-                    return Err(AllocError);
-                }
-                Ok(KeyList {
-                    held: Held::Few(copies),
-                })
-            }
+            Held::Few(keys) => Ok(KeyList {
+                held: Held::Few(keys.clone()?),
+            }),
             Held::Many(set) => Ok(KeyList {
                 held: Held::Many(set.clone()?),
             }),

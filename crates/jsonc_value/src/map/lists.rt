@@ -3,7 +3,7 @@ ghost use Rattle.std.specs.Prelude.{◌≡◌, [], length, IfOk, IfErr, OnOk};
 ghost use Rattle.std.specs.List.{AllZip};
 ghost use Rattle.std.specs.Map.{keys_of, values_of};
 ghost use Rattle.indexmap.specs.IndexMap.{insert_all};
-ghost use Rattle.jsonc_value.specs.Copies.{IsPairClone};
+ghost use Rattle.jsonc_value.specs.Copies.{EqualsItsClones, IsPairClone};
 ghost use Rattle.jsonc_value.specs.Lists.{InsertsUpTo};
 
 use super::Map;
@@ -51,8 +51,10 @@ impl<K: Eq + Hash + Drop, V: Drop, A: Allocator + Copy> Map<K, V, A> {
 impl<K: Eq + Hash + Clone + Drop, V: Clone, A: Allocator + Clone> Map<K, V, A> {
     /// A copy of the map: clones of its keys and values, pair by pair, in their order.
     ///
-    /// The answer is `AllocError` for want of memory, and also where a clone of a key does not equal the key.
+    /// A clone of a key has to equal the key, as those of texts, numbers and characters do. The answer
+    /// is then `AllocError` for want of memory alone.
     pub fn try_clone(&self) -> Result<Self, AllocError>
+        requires { EqualsItsClones K.eq K.is_clone }
         ensures { IfOk result (AllZip (IsPairClone K.is_clone V.is_clone) self.now) }
     {
         let keys = self.keys.clone()?;
@@ -78,7 +80,8 @@ impl<K: Eq + Hash, V, A: Allocator> Map<K, V, A> {
 impl<K: Eq + Hash + Clone + Drop, V: Drop, A: Allocator + Clone> Map<K, V, A> {
     /// Clones of the keys, in their order, with these values.
     pub(crate) fn clone_keys_with(&self, values: Vec<V, A>) -> Result<Self, AllocError>
-        requires { length values.items ≡ length self.now }
+        requires len { length values.items ≡ length self.now }
+        requires keys { EqualsItsClones K.eq K.is_clone }
         ensures keys { IfOk result (λ m. AllZip K.is_clone (keys_of self.now) (keys_of m)) }
         ensures values { IfOk result (λ m. values_of m ≡ values.items) }
     {

@@ -5,6 +5,8 @@ use Rattle.std.specs.Map.{values_of}
 use Rattle.jsonc_value.specs.Contents.{content, array, object}
 use Rattle.jsonc_value.specs.Kinds.{properties}
 use Rattle.jsonc_value.specs.declared.value.JsonValue.{size-JsonValue}
+use Rattle.std.specs.Cow.{cow_str_bytes}
+use Rattle.jsonc_value.proofs.Zipped.{texts_equal_clones}
 use Rattle.jsonc_value.proofs.Contents.{content-Array, content-Object, same_named, as_many, one_copied, all_copied, size-in-array, size-of-array, size-in-object, size-of-object, size-element}
 use Rattle.jsonc_value.proofs.value.+copy.Goals as goal
 
@@ -20,8 +22,11 @@ pub copies::copy_all-loop-value-preserved : goal.copies::copy_all-loop-value-pre
 copies::copy_all-loop-value-preserved g t c =
     one_copied c.args.values.now c.loop-value.copies.items c.push.new.self.items c.loop-value.value-index c.value-item.result c.in_ok-try_clone.field-0 c.loop-value.invariant c.loop-value-test.true c.value-item.is c.in_ok-try_clone.ensures c.in_ok-push.ensures.items
 
-pub JsonObject::try_clone-clone_keys_with-requires : goal.JsonObject::try_clone-clone_keys_with-requires
-JsonObject::try_clone-clone_keys_with-requires g t c =
+pub JsonObject::try_clone-clone_keys_with-requires-clause-keys : goal.JsonObject::try_clone-clone_keys_with-requires-clause-keys
+JsonObject::try_clone-clone_keys_with-requires-clause-keys g t c = texts_equal_clones cow_str_bytes
+
+pub JsonObject::try_clone-clone_keys_with-requires-clause-len : goal.JsonObject::try_clone-clone_keys_with-requires-clause-len
+JsonObject::try_clone-clone_keys_with-requires-clause-len g t c =
     as_many c.in_ok-copies.copies.items (values_of (properties c.args.self.now)) (c.in_ok-copies.ensures ∙ ap (map content) c.values_slice.ensures)
     ∙ length-map (properties c.args.self.now) (λ p. p.1)
 
