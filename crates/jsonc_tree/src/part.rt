@@ -29,9 +29,10 @@ impl<A: Allocator> Model for Part<A> {
 }
 
 impl<A: Allocator> Part<A> {
-    /// The part of a text between two places. It takes no memory of its own.
+    /// The part of a text between two places, of which it is one more owner. It takes no memory of
+    /// its own.
     ///
-    /// It is refused only where the text has no more owners.
+    /// When a text takes no more owners, the contract of its clone leaves open, and so does this one.
     pub fn new(whole: &RcStr<A>, start: usize, end: usize) -> Result<Part<A>, AllocError>
         requires { Spans (rc_str_bytes whole.now) start end }
         ensures { IfOk result (λ part. part ≡ slice_range (rc_str_bytes whole.now) start end) }

@@ -1,7 +1,7 @@
 //! The nodes of a document, and their changes.
 
 ghost use Rattle.std.specs.Prelude.{◌≡◌, ℕ, false, IsTrue, ◌+◌, ◌-◌, ◌^◌, ◌<◌, ◌≤◌, [], ◌∷◌};
-ghost use Rattle.std.specs.Prelude.{length, vec_capacity, vec_len, IfOk, OnErr, OnOk};
+ghost use Rattle.std.specs.Prelude.{length, max, vec_capacity, vec_len, IfOk, OnErr, OnOk};
 ghost use Rattle.jsonc_tree.specs.Content.{is_container};
 ghost use Rattle.jsonc_tree.specs.Tree.{children_at, is_container_at, room_at, IsTree};
 ghost use Rattle.jsonc_tree.specs.Changes.{Adds, Appends, CanAppend, CanJoin};
@@ -92,6 +92,7 @@ impl<A: Allocator> Tree<A> {
     pub fn reserve_nodes(&mut self, additional: usize) -> Result<(), AllocError>
         ensures nodes { self.new.nodes ≡ self.old.nodes }
         ensures room { OnOk result (additional ≤ self.new.room) }
+        ensures exact { OnOk result (self.new.room ≡ max self.old.room additional) }
         ensures spare { self.old.room ≤ self.new.room }
         ensures tree { IsTree self.new.nodes }
     {
