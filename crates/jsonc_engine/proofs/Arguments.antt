@@ -1,6 +1,8 @@
 -- The value of a command's JSON text may be written into any document that allows all.
 use Rattle.std.proofs.Common.{◌≡◌, ℕ, Bool, true, false, cond, List, chars, Option, Some, None, option_map, refl, sym, ap, subst, ◌∙◌}
 use Rattle.std.specs.Borrow.{Bor}
+use Rattle.std.specs.declared.string.String.{String}
+use Rattle.std.specs.declared.vec.Vec.{Vec}
 use Rattle.std.specs.Str.{bytes_eq}
 use Rattle.jsonc_text.specs.Options.{Options, all_on}
 use Rattle.jsonc_text.specs.Plain.{Plain, Items, no_items, item, Members, no_members, member, collapse, collapse_items, collapse_members, last_of, without}
@@ -19,13 +21,14 @@ use Rattle.jsonc_from_input.proofs.Texts.{of_texts}
 use Rattle.jsonc_to_input.specs.Taken.{IsTaken}
 use Rattle.jsonc_edit.specs.Writing.{IsOfNumbers, AreOfNumbers, AreNamedOfNumbers}
 use Rattle.jsonc_cst.proofs.Colons.{taken_is_the_value}
-use Rattle.jsonc_engine.specs.declared.argument.Change.TheVariants.{Append, Remove, Set, Sort, Stay}
+use Rattle.jsonc_parser.specs.Below.settings.Found.{names_of}
+use Rattle.jsonc_engine.specs.declared.argument.Change.TheVariants.{Append, Drop, Get, Remove, Set, Sort, Stay}
 use Rattle.jsonc_engine.specs.declared.command.Command.{Command}
 use Rattle.jsonc_engine.specs.declared.command.Command.TheVariants as command
 use Rattle.jsonc_engine.specs.declared.fault.Fault.{Fault}
-use Rattle.jsonc_engine.specs.Argument.{IsArgument, IsFaultOfArgument, IsFaultOfJson}
-use Rattle.jsonc_engine.specs.Change.{IsChangeFor, for_check, for_print, for_set, for_append, for_remove, for_sort}
-use Rattle.jsonc_engine.specs.Command.{request_of}
+use Rattle.jsonc_engine.specs.Argument.{IsArgument, IsFaultOfArgument, of_json, of_path, IsFaultOfJson, IsFaultOfPath, IsPath}
+use Rattle.jsonc_engine.specs.Change.{IsChangeFor, for_check, for_print, for_set, for_append, for_remove, for_sort, for_get, for_drop}
+use Rattle.jsonc_engine.specs.Command.{put, request_of}
 
 module _ (o : Options) where
   -- a literal's number is one
@@ -151,9 +154,30 @@ module _ {A : Type 0} (c : Command) where
   pub sort_change : c ≡ command.Sort → IsChangeFor {A = A} (request_of c) Sort
   sort_change is = subst (λ (x : Command). IsChangeFor {A = A} (request_of x) Sort) (sym is) for_sort
 
--- and what its JSON text is refused for
-pub set_fault : (c : Command) (name json : Bor (List ℕ)) (f : Fault) → c ≡ command.Set name json → IsFaultOfJson json.now f → IsFaultOfArgument (request_of c) f
-set_fault c name json f is h = subst (λ (x : Command). IsFaultOfArgument (request_of x) f) (sym is) (json.now, refl, h)
+  pub get_change : (path : Bor (List ℕ)) (names : Vec (String A) A) → c ≡ command.Get path → IsPath path.now (names_of names.items) → IsChangeFor (request_of c) (Get names)
+  get_change path names is h = subst (λ (x : Command). IsChangeFor (request_of x) (Get names)) (sym is) (for_get path.now names h)
 
-pub append_fault : (c : Command) (json : Bor (List ℕ)) (f : Fault) → c ≡ command.Append json → IsFaultOfJson json.now f → IsFaultOfArgument (request_of c) f
-append_fault c json f is h = subst (λ (x : Command). IsFaultOfArgument (request_of x) f) (sym is) (json.now, refl, h)
+  pub drop_change : (path : Bor (List ℕ)) (names : Vec (String A) A) → c ≡ command.Drop path → IsPath path.now (names_of names.items) → IsChangeFor (request_of c) (Drop names)
+  drop_change path names is h = subst (λ (x : Command). IsChangeFor (request_of x) (Drop names)) (sym is) (for_drop path.now names h)
+
+-- and what its JSON text or its path is refused for
+module _ (c : Command) (f : Fault) where
+  pub set_fault : (name json : Bor (List ℕ)) → c ≡ command.Set name json → IsFaultOfJson json.now f → IsFaultOfArgument (request_of c) f
+  set_fault name json is h = subst (λ (x : Command). IsFaultOfArgument (request_of x) f) (sym is) (of_json json.now (λ path e. cc) refl h)
+
+  pub append_fault : (json : Bor (List ℕ)) → c ≡ command.Append json → IsFaultOfJson json.now f → IsFaultOfArgument (request_of c) f
+  append_fault json is h = subst (λ (x : Command). IsFaultOfArgument (request_of x) f) (sym is) (of_json json.now (λ path e. cc) refl h)
+
+  pub get_fault : (path : Bor (List ℕ)) → c ≡ command.Get path → IsFaultOfPath path.now f → IsFaultOfArgument (request_of c) f
+  get_fault path is h = subst (λ (x : Command). IsFaultOfArgument (request_of x) f) (sym is) (of_path path.now refl h)
+
+  pub drop_fault : (path : Bor (List ℕ)) → c ≡ command.Drop path → IsFaultOfPath path.now f → IsFaultOfArgument (request_of c) f
+  drop_fault path is h = subst (λ (x : Command). IsFaultOfArgument (request_of x) f) (sym is) (of_path path.now refl h)
+
+-- the path of a command that puts is read first
+module _ (path json : List ℕ) where
+  pub path_refused : (f : Fault) → IsFaultOfPath path f → IsFaultOfArgument (put path json) f
+  path_refused f h = of_path path refl h
+
+  pub json_refused : (names : List (List ℕ)) (f : Fault) → IsPath path names → IsFaultOfJson json f → IsFaultOfArgument (put path json) f
+  json_refused names f is h = of_json json (λ p e. (names, let same : path ≡ p = cc in subst (λ (b : List ℕ). IsPath b names) same is)) refl h

@@ -1,6 +1,8 @@
 -- What a command makes of a document that was read, and why it does not.
-use Rattle.std.proofs.Common.{◌≡◌, ℕ, List, Option, Some, None, Result, Ok, Err, IfErr, OnOk, refl, ap, subst, ◌∙◌, chars}
+use Rattle.std.proofs.Common.{◌≡◌, ℕ, List, Option, Some, None, Result, Ok, Err, IfErr, IfOk, OnOk, refl, sym, ap, subst, ◌∙◌, chars}
 use Rattle.std.specs.Borrow.{Bor}
+use Rattle.std.specs.declared.string.String.{String}
+use Rattle.std.specs.declared.vec.Vec.{Vec}
 use Rattle.std.specs.Prelude.{IfSome, IsErrOf}
 use Rattle.jsonc_text.specs.Options.{Options}
 use Rattle.jsonc_input.specs.Views.{plain}
@@ -12,16 +14,20 @@ use Rattle.jsonc_build.specs.Shape.{DocumentShaped}
 use Rattle.jsonc_build.proofs.LooseLines.{document_loosens}
 use Rattle.jsonc_laws.specs.SoundTrees.{SoundTree}
 use Rattle.jsonc_edit.specs.declared.error.EditError.TheVariants.{OutOfMemory}
-use Rattle.jsonc_engine.specs.declared.argument.Change.TheVariants.{Append, Remove, Set, Sort}
+use Rattle.jsonc_parser.specs.Below.settings.Found.{names_of}
+use Rattle.jsonc_engine.specs.declared.argument.Change.{Change}
+use Rattle.jsonc_engine.specs.declared.argument.Change.TheVariants.{Append, Drop, Get, Put, Remove, Set, Sort, Stay}
 use Rattle.jsonc_engine.specs.declared.fault.Fault.{Fault}
-use Rattle.jsonc_engine.specs.declared.fault.Fault.TheVariants.{Edit, NotObject}
+use Rattle.jsonc_engine.specs.declared.output.Output.{Output}
+use Rattle.jsonc_engine.specs.declared.fault.Fault.TheVariants.{Edit, NoSetting, NotObject, OnTheWay}
 use Rattle.jsonc_engine.specs.Appending.{AppendsIfSound}
-use Rattle.jsonc_engine.specs.Change.{IsChangeFor, for_set, for_append, for_remove, for_sort, MakesIfSound}
-use Rattle.jsonc_engine.specs.Command.{Request, check, print, set, append, remove, sort}
-use Rattle.jsonc_engine.specs.Fault.{EndsOnObject, FindsNoObject, IsFaultOn}
-use Rattle.jsonc_engine.specs.Output.{IsLeft}
+use Rattle.jsonc_engine.specs.Change.{GetsNothing, IsChangeFor, for_check, for_print, for_set, for_append, for_remove, for_sort, for_get, for_put, for_drop, MakesIfSound}
+use Rattle.jsonc_engine.specs.Command.{Request, check, print, set, append, remove, sort, get, put, drop}
+use Rattle.jsonc_engine.specs.Fault.{EndsGetting, EndsOnObject, EndsPutting, FindsNoObject, IsFaultOn}
+use Rattle.jsonc_engine.specs.Output.{IsLeft, output_bytes}
 use Rattle.jsonc_engine.specs.Removal.{HasNoObject, LosesIfSound}
 use Rattle.jsonc_engine.specs.Setting.{SetsIfSound}
+use Rattle.jsonc_engine.specs.Settings.{DropsIfSound, PutsIfSound, ShownIfSound}
 use Rattle.jsonc_engine.specs.Sorting.{SortsIfSound}
 
 -- a parsed document is sound
@@ -32,6 +38,11 @@ parsed_sound o ns shaped lines = record { shaped = shaped; lines = document_loos
 pub ok_so : {T E : Type 0} {P Q : Type 0} (r : Result T E) → (Q → P) → OnOk r Q → OnOk r P
 ok_so (Ok x) f h = f h
 ok_so (Err e) f h = tt
+
+-- and what is true of any success
+pub on_ok : {T E : Type 0} {P : Type 0} (r : Result T E) → P → OnOk r P
+on_ok (Ok x) h = h
+on_ok (Err e) h = tt
 
 -- what a removal or a sort is refused for is true of the document
 refused_on_object : (o : Options) (ns : List Node) (request : Request) (fault : Fault) → (HasNoObject o (ordered_tree ns 0) → FindsNoObject o request (printed (ordered_tree ns 0)))
@@ -57,6 +68,65 @@ module _ {A : Type 0} (o : Options) where
   pub sort_makes : (request : Request) (old new : List Node) → IsChangeFor {A = A} request Sort → SortsIfSound o old new → MakesIfSound o request old new
   sort_makes _ old new for_sort sorts = λ sound. sorts sound
 
+  -- what is only read stays
+  pub stay_makes : (request : Request) (ns : List Node) → IsChangeFor {A = A} request Stay → MakesIfSound o request ns ns
+  stay_makes _ ns for_check = λ sound. refl
+  stay_makes _ ns for_print = λ sound. refl
+
+  pub get_makes : (request : Request) (ns : List Node) (names : Vec (String A) A) → IsChangeFor request (Get names) → MakesIfSound o request ns ns
+  get_makes _ ns _ (for_get path names is) = λ sound. refl
+
+  put_so : (request : Request) (old new : List Node) (names : Vec (String A) A) (value : CstInputValue A) → IsChangeFor request (Put names value)
+      → PutsIfSound o (plain value) (names_of names.items) old new → MakesIfSound o request old new
+  put_so _ old new _ _ (for_put path json names value is argument) puts = λ sound. (names_of names.items, plain value, is, argument, puts sound)
+
+  pub put_makes : (request : Request) (old new : List Node) (names : Vec (String A) A) (value : CstInputValue A) → IsChangeFor request (Put names value) → (l : List (String A)) → l ≡ names.items
+      → PutsIfSound o (plain value) (names_of l) old new → MakesIfSound o request old new
+  put_makes request old new names value is l same puts = put_so request old new names value is (subst (λ (k : List (String A)). PutsIfSound o (plain value) (names_of k) old new) same puts)
+
+  drop_so : (request : Request) (old new : List Node) (names : Vec (String A) A) → IsChangeFor request (Drop names) → DropsIfSound o (names_of names.items) old new → MakesIfSound o request old new
+  drop_so _ old new _ (for_drop path names is) drops = λ sound. (names_of names.items, is, drops sound)
+
+  pub drop_makes : (request : Request) (old new : List Node) (names : Vec (String A) A) → IsChangeFor request (Drop names) → (l : List (String A)) → l ≡ names.items
+      → DropsIfSound o (names_of l) old new → MakesIfSound o request old new
+  drop_makes request old new names is l same drops = drop_so request old new names is (subst (λ (k : List (String A)). DropsIfSound o (names_of k) old new) same drops)
+
+  -- what is put where something stands in the way is refused, and what is got where nothing stands
+  put_refused : (request : Request) (ns : List Node) (names : Vec (String A) A) (value : CstInputValue A) → IsChangeFor request (Put names value) → (fault : Fault)
+      → EndsPutting o (printed (ordered_tree ns 0)) (names_of names.items) fault → IsFaultOn o request (printed (ordered_tree ns 0)) fault
+  put_refused _ ns _ _ (for_put path json names value is argument) OnTheWay ends = (names_of names.items, is, ends)
+  put_refused _ ns _ _ (for_put path json names value is argument) (Edit OutOfMemory) ends = tt
+  put_refused _ ns _ _ (for_put path json names value is argument) _ ends = absurd ends
+
+  pub put_told : (request : Request) (ns : List Node) (names : Vec (String A) A) (value : CstInputValue A) → IsChangeFor request (Put names value) → (l : List (String A)) → l ≡ names.items
+      → (r : Result (Unit {0}) Fault) → IfErr r (EndsPutting o (printed (ordered_tree ns 0)) (names_of l)) → IfErr r (IsFaultOn o request (printed (ordered_tree ns 0)))
+  put_told request ns names value is l same (Ok x) ends = tt
+  put_told request ns names value is l same (Err fault) ends =
+      put_refused request ns names value is fault (subst (λ (k : List (String A)). EndsPutting o (printed (ordered_tree ns 0)) (names_of k) fault) same ends)
+
+  get_refused : (request : Request) (ns : List Node) (names : Vec (String A) A) → IsChangeFor request (Get names) → (fault : Fault)
+      → EndsGetting o (printed (ordered_tree ns 0)) (names_of names.items) fault → IsFaultOn o request (printed (ordered_tree ns 0)) fault
+  get_refused _ ns _ (for_get path names is) NoSetting ends = (names_of names.items, is, ends)
+  get_refused _ ns _ (for_get path names is) (Edit OutOfMemory) ends = tt
+  get_refused _ ns _ (for_get path names is) _ ends = absurd ends
+
+  pub get_told : (request : Request) (ns : List Node) (names : Vec (String A) A) → IsChangeFor request (Get names) → (l : List (String A)) → l ≡ names.items → (r : Result (Output A) Fault)
+      → IfErr r (EndsGetting o (printed (ordered_tree ns 0)) (names_of l)) → IfErr r (IsFaultOn o request (printed (ordered_tree ns 0)))
+  get_told request ns names is l same (Ok output) ends = tt
+  get_told request ns names is l same (Err fault) ends =
+      get_refused request ns names is fault (subst (λ (k : List (String A)). EndsGetting o (printed (ordered_tree ns 0)) (names_of k) fault) same ends)
+
+  -- the value that is got is what is to be written
+  got_so : (request : Request) (ns : List Node) (names : Vec (String A) A) (output : List ℕ) → IsChangeFor request (Get names) → SoundTree o (ordered_tree ns 0)
+      → ShownIfSound o (names_of names.items) ns output → IsLeft o request (printed (ordered_tree ns 0)) output
+  got_so _ ns _ output (for_get path names is) sound shown = record { names = names_of names.items; path_is = is; nodes = ns; reads = refl; shown = shown sound }
+
+  pub got_by : (request : Request) (ns : List Node) (names : Vec (String A) A) → IsChangeFor request (Get names) → (l : List (String A)) → l ≡ names.items → SoundTree o (ordered_tree ns 0)
+      → (r : Result (Output A) Fault) → IfOk r (λ output. ShownIfSound o (names_of l) ns (output_bytes output)) → IfOk r (λ output. IsLeft o request (printed (ordered_tree ns 0)) (output_bytes output))
+  got_by request ns names is l same sound (Ok output) shown =
+      got_so request ns names (output_bytes output) is sound (subst (λ (k : List (String A)). ShownIfSound o (names_of k) ns (output_bytes output)) same shown)
+  got_by request ns names is l same sound (Err fault) shown = tt
+
   -- and what refuses a removal or a sort is true of the document
   pub remove_told : (request : Request) (ns : List Node) (name : Bor (List ℕ)) → IsChangeFor {A = A} request (Remove name) → (r : Result (Unit {0}) Fault) → IfErr r EndsOnObject
       → (IsErrOf r NotObject → HasNoObject o (ordered_tree ns 0)) → IfErr r (IsFaultOn o request (printed (ordered_tree ns 0)))
@@ -68,15 +138,22 @@ module _ {A : Type 0} (o : Options) where
   sort_told _ ns for_sort (Ok x) ends none = tt
   sort_told _ ns for_sort (Err fault) ends none = refused_on_object o ns sort fault (λ h. h) ends none
 
--- so the document of the input is left
-pub left_by : (o : Options) (request : Request) (input : List ℕ) (old new : List Node) → printed (ordered_tree old 0) ≡ input → SoundTree o (ordered_tree old 0) → MakesIfSound o request old new
-    → IsLeft o request input (printed (ordered_tree new 0))
-left_by o check input old new reads sound makes = ap (λ (ns : List Node). printed (ordered_tree ns 0)) (makes sound) ∙ reads
-left_by o print input old new reads sound makes = ap (λ (ns : List Node). printed (ordered_tree ns 0)) (makes sound) ∙ reads
-left_by o (set name json) input old new reads sound makes = record { old = old; new = new; reads = reads; sound = sound; makes = makes sound; prints = refl }
-left_by o (append json) input old new reads sound makes = record { old = old; new = new; reads = reads; sound = sound; makes = makes sound; prints = refl }
-left_by o (remove name) input old new reads sound makes = record { old = old; new = new; reads = reads; sound = sound; makes = makes sound; prints = refl }
-left_by o sort input old new reads sound makes = record { old = old; new = new; reads = reads; sound = sound; makes = makes sound; prints = refl }
+-- so the document of the input is left, where the change is not to get a value
+module _ {A : Type 0} (o : Options) (change : Change A) (other : GetsNothing change) where
+  no_get : (path : List ℕ) (x : Change A) → x ≡ change → IsChangeFor (get path) x → ⊥
+  no_get _ _ same (for_get path names is) = other names (sym same)
+
+  pub left_by : (request : Request) (input : List ℕ) (old new : List Node) → IsChangeFor request change → printed (ordered_tree old 0) ≡ input → SoundTree o (ordered_tree old 0)
+      → MakesIfSound o request old new → IsLeft o request input (printed (ordered_tree new 0))
+  left_by check input old new is reads sound makes = ap (λ (ns : List Node). printed (ordered_tree ns 0)) (makes sound) ∙ reads
+  left_by print input old new is reads sound makes = ap (λ (ns : List Node). printed (ordered_tree ns 0)) (makes sound) ∙ reads
+  left_by (get path) input old new is reads sound makes = absurd (no_get path change refl is)
+  left_by (set name json) input old new is reads sound makes = record { old = old; new = new; reads = reads; sound = sound; makes = makes sound; prints = refl }
+  left_by (append json) input old new is reads sound makes = record { old = old; new = new; reads = reads; sound = sound; makes = makes sound; prints = refl }
+  left_by (remove name) input old new is reads sound makes = record { old = old; new = new; reads = reads; sound = sound; makes = makes sound; prints = refl }
+  left_by sort input old new is reads sound makes = record { old = old; new = new; reads = reads; sound = sound; makes = makes sound; prints = refl }
+  left_by (put path json) input old new is reads sound makes = record { old = old; new = new; reads = reads; sound = sound; makes = makes sound; prints = refl }
+  left_by (drop path) input old new is reads sound makes = record { old = old; new = new; reads = reads; sound = sound; makes = makes sound; prints = refl }
 
 -- what was read is the input, where that is known
 pub of_input : (known : Option (List ℕ)) (read : List ℕ) (P : List ℕ → Type 0) → IfSome known (λ input. read ≡ input) → P read → IfSome known P

@@ -1,69 +1,48 @@
 -- What a run has written, of the input that was read.
-use Rattle.std.proofs.Common.{◌≡◌, ℕ, ◌==◌, Bool, true, false, List, [], ◌∷◌, Option, Some, Result, Ok, Err, IfSome, OnOk, IsTrue, refl, sym, ap, subst}
-use Rattle.std.proofs.lemmas.Bool.{false≢true}
-use Rattle.std.specs.List.{slice_get}
+use Rattle.std.proofs.Common.{◌≡◌, ℕ, ◌==◌, if◌then◌else◌, List, [], ◌∷◌, Option, Result, Ok, Err, IfSome, OnOk, IsTrue, refl, sym, ap, subst, ◌∙◌}
 use Rattle.std.specs.Io.KnownBytes.{Appends}
 use Rattle.jsonc_text.specs.Options.{Options, all_on}
 use Rattle.jsonc_engine.specs.declared.fault.Fault.{Fault}
-use Rattle.jsonc_engine.specs.Command.{Request, check, print, set, append, remove, sort, words_of, writes}
+use Rattle.jsonc_engine.specs.Command.{Request, check, print, set, append, remove, sort, get, put, drop, words_of, writes}
+use Rattle.jsonc_engine.specs.Fault.{IsFaultOn, TellsOfInput}
 use Rattle.jsonc_engine.specs.Input.{IsInput, IsInputOf}
 use Rattle.jsonc_engine.specs.Output.{IsLeft, Puts}
 use Rattle.jsonc_engine.proofs.Changes.{of_input}
+use Rattle.jsonc_engine.proofs.Telling.{tells_of_input}
 
--- words name one command
-first_letter : List (List ℕ) → ℕ
+-- words name one command: by their number and the first letter of the first
+abbrev first_letter : List ℕ → ℕ
 first_letter [] = 0
-first_letter ([] ∷ ws) = 0
-first_letter ((c ∷ cs) ∷ ws) = c
+first_letter (c ∷ cs) = c
 
-begin_with : ℕ → List (List ℕ) → Bool
-begin_with c ws = first_letter ws == c
+abbrev of_one : ℕ → Request
+of_one c = if c == 99 then check else if c == 112 then print else sort
 
--- there is one word
-is_alone : List (List ℕ) → Bool
-is_alone (w ∷ []) = true
-is_alone ws = false
+abbrev of_two : ℕ → List ℕ → Request
+of_two c w = if c == 97 then append w else if c == 114 then remove w else if c == 103 then get w else drop w
+
+abbrev of_three : ℕ → List ℕ → List ℕ → Request
+of_three c w x = if c == 115 then set w x else put w x
+
+abbrev named_by : List (List ℕ) → Request
+named_by (w ∷ []) = of_one (first_letter w)
+named_by (w ∷ x ∷ []) = of_two (first_letter w) x
+named_by (w ∷ x ∷ y ∷ []) = of_three (first_letter w) x y
+named_by ws = check
+
+named_back : (r : Request) → named_by (words_of r) ≡ r
+named_back check = refl
+named_back print = refl
+named_back (set n j) = refl
+named_back (append j) = refl
+named_back (remove n) = refl
+named_back sort = refl
+named_back (get p) = refl
+named_back (put p j) = refl
+named_back (drop p) = refl
 
 pub same_request : (r q : Request) → words_of r ≡ words_of q → r ≡ q
-unfolding first_letter begin_with is_alone
-same_request check check e = refl
-same_request check print e = absurd (false≢true (ap (begin_with 112) e))
-same_request check (set n j) e = absurd (false≢true (ap (begin_with 115) e))
-same_request check (append j) e = absurd (false≢true (ap (begin_with 97) e))
-same_request check (remove n) e = absurd (false≢true (ap (begin_with 114) e))
-same_request check sort e = absurd (false≢true (ap (begin_with 115) e))
-same_request print check e = absurd (false≢true (ap (begin_with 99) e))
-same_request print print e = refl
-same_request print (set n j) e = absurd (false≢true (ap (begin_with 115) e))
-same_request print (append j) e = absurd (false≢true (ap (begin_with 97) e))
-same_request print (remove n) e = absurd (false≢true (ap (begin_with 114) e))
-same_request print sort e = absurd (false≢true (ap (begin_with 115) e))
-same_request (set n j) check e = absurd (false≢true (ap (begin_with 99) e))
-same_request (set n j) print e = absurd (false≢true (ap (begin_with 112) e))
-same_request (set n j) (set m k) e =
-    let name : Some n ≡ Some m = ap (λ (l : List (List ℕ)). slice_get l 1) e in
-    let json : Some j ≡ Some k = ap (λ (l : List (List ℕ)). slice_get l 2) e in cc
-same_request (set n j) (append k) e = absurd (false≢true (ap (begin_with 97) e))
-same_request (set n j) (remove m) e = absurd (false≢true (ap (begin_with 114) e))
-same_request (set n j) sort e = absurd (false≢true (ap is_alone e))
-same_request (append j) check e = absurd (false≢true (ap (begin_with 99) e))
-same_request (append j) print e = absurd (false≢true (ap (begin_with 112) e))
-same_request (append j) (set m k) e = absurd (false≢true (ap (begin_with 115) e))
-same_request (append j) (append k) e = let json : Some j ≡ Some k = ap (λ (l : List (List ℕ)). slice_get l 1) e in cc
-same_request (append j) (remove m) e = absurd (false≢true (ap (begin_with 114) e))
-same_request (append j) sort e = absurd (false≢true (ap (begin_with 115) e))
-same_request (remove n) check e = absurd (false≢true (ap (begin_with 99) e))
-same_request (remove n) print e = absurd (false≢true (ap (begin_with 112) e))
-same_request (remove n) (set m k) e = absurd (false≢true (ap (begin_with 115) e))
-same_request (remove n) (append k) e = absurd (false≢true (ap (begin_with 97) e))
-same_request (remove n) (remove m) e = let name : Some n ≡ Some m = ap (λ (l : List (List ℕ)). slice_get l 1) e in cc
-same_request (remove n) sort e = absurd (false≢true (ap (begin_with 115) e))
-same_request sort check e = absurd (false≢true (ap (begin_with 99) e))
-same_request sort print e = absurd (false≢true (ap (begin_with 112) e))
-same_request sort (set m k) e = absurd (false≢true (sym (ap is_alone e)))
-same_request sort (append k) e = absurd (false≢true (ap (begin_with 97) e))
-same_request sort (remove m) e = absurd (false≢true (ap (begin_with 114) e))
-same_request sort sort e = refl
+same_request r q e = sym (named_back r) ∙ ap named_by e ∙ named_back q
 
 -- what holds of the input that was read holds of all that the source had
 module _ (known : Option (List ℕ)) (read input : List ℕ) (o : Options) (all : o ≡ all_on) (value : input ≡ read) (bytes : IfSome known (λ i. read ≡ i)) where
@@ -71,10 +50,15 @@ module _ (known : Option (List ℕ)) (read input : List ℕ) (o : Options) (all 
   input_known h = of_input known read IsInput bytes (subst (λ (b : List ℕ). IsInput b) value (subst (λ (p : Options). IsInputOf p input) all h))
 
   pub puts_known : (r q : Request) → words_of r ≡ words_of q → (a b : Option (List ℕ)) (text : List ℕ) → IsLeft o r input text → (IsTrue (writes r) → Appends a b text) → IsTrue (writes q) → IfSome known (Puts q a b)
-  puts_known r q e a b text left put writing =
+  puts_known r q e a b text left appends writing =
       let there : IsLeft all_on r read text = subst (λ (i : List ℕ). IsLeft all_on r i text) value (subst (λ (p : Options). IsLeft p r input text) all left) in
       let same = same_request r q e in
-      of_input known read (Puts q a b) bytes (text, subst (λ (p : Request). IsLeft all_on p read text) same there, put (subst (λ (p : Request). IsTrue (writes p)) (sym same) writing))
+      of_input known read (Puts q a b) bytes (text, subst (λ (p : Request). IsLeft all_on p read text) same there, appends (subst (λ (p : Request). IsTrue (writes p)) (sym same) writing))
+
+  pub tells_known : (r q : Request) → words_of r ≡ words_of q → (fault : Fault) → IsFaultOn o r input fault → IfSome known (λ i. TellsOfInput q i fault)
+  tells_known r q e fault h =
+      let there : IsFaultOn all_on r read fault = subst (λ (i : List ℕ). IsFaultOn all_on r i fault) value (subst (λ (p : Options). IsFaultOn p r input fault) all h) in
+      of_input known read (λ i. TellsOfInput q i fault) bytes (tells_of_input q read fault (subst (λ (p : Request). IsFaultOn all_on p read fault) (same_request r q e) there))
 
 -- what holds anyway
 pub ok_always : {T P : Type 0} (r : Result T Fault) → P → OnOk r P

@@ -5,3 +5,6 @@ mod Arguments
 mod Making
 mod Changes
 mod Ending
+mod Names
+mod Standing
+mod Telling

@@ -1,14 +1,23 @@
--- The JSON text of a command: its value, and what is wrong with it.
-use Rattle.std.specs.Prelude.{◌≡◌, ℕ, List, Some, None, chars}
+-- The path and the JSON text of a command: what they say, and what is wrong with them.
+use Rattle.std.specs.Prelude.{◌≡◌, ◌≢◌, ℕ, List, Option, Some, None, chars, map}
 use Rattle.jsonc_text.specs.Grammar.{IsDocument}
 use Rattle.jsonc_text.specs.Options.{all_on}
-use Rattle.jsonc_text.specs.Plain.{Plain, collapse}
+use Rattle.jsonc_text.specs.Plain.{Plain, array, collapse, string}
+use Rattle.jsonc_input.specs.Views.{items_of}
 use Rattle.jsonc_edit.specs.Writing.{IsWritable}
-use Rattle.jsonc_engine.specs.Command.{Request, json_of}
+use Rattle.jsonc_engine.specs.Command.{Request, json_of, path_of}
 use Rattle.jsonc_engine.specs.Input.{IsRefusal}
 use Rattle.jsonc_engine.specs.Parser.{OutOfMemory}
 use Rattle.jsonc_engine.specs.declared.fault.Fault.{Fault}
-use Rattle.jsonc_engine.specs.declared.fault.Fault.TheVariants.{Argument, Edit, NoValue}
+use Rattle.jsonc_engine.specs.declared.fault.Fault.TheVariants.{Argument, Edit, NoValue, NotNames, Path}
+
+-- the array of these strings
+abbrev pub strings : List (List ℕ) → Plain
+strings names = array (items_of (map string names))
+
+-- the text of these bytes is a document, and its value the array of these names
+abbrev pub IsPath : List ℕ → List (List ℕ) → Type 0
+IsPath bytes names = IsDocument all_on (chars bytes) (Some (strings names))
 
 -- the text of these bytes is a document, and v is its value, of equal names the last at the first place; documents that may hold all that options allow may hold v
 pub record IsArgument (json : List ℕ) (v : Plain) : Type 0 where
@@ -17,6 +26,35 @@ pub record IsArgument (json : List ℕ) (v : Plain) : Type 0 where
   pub collapsed : v ≡ collapse value
   pub writable : IsWritable all_on v
 
+-- the command's path, if it has one, is a list of names
+abbrev pub HasNames : Request → Type 0
+HasNames request = (path : List ℕ) → path_of request ≡ Some path → (names : List (List ℕ)) × IsPath path names
+
+-- its JSON text, if it has one, has a value
+abbrev pub HasValue : Request → Type 0
+HasValue request = (json : List ℕ) → json_of request ≡ Some json → (v : Plain) × IsArgument json v
+
+-- the input may be read
+abbrev pub IsReady : Request → Type 0
+IsReady request = HasNames request × HasValue request
+
+-- the value of a document, if it has one, is no array of strings
+abbrev pub AreNoNames : Option Plain → Type 0
+AreNoNames w = (names : List (List ℕ)) → w ≢ Some (strings names)
+
+-- reading this value as names can end with the fault
+abbrev pub IsFaultOfNames : Option Plain → Fault → Type 0
+IsFaultOfNames w NotNames = AreNoNames w
+IsFaultOfNames w (Edit OutOfMemory) = Unit {0}
+IsFaultOfNames w other = ⊥
+
+-- the fault is true of the bytes of a path, and reading its names can end with it
+abbrev pub IsFaultOfPath : List ℕ → Fault → Type 0
+IsFaultOfPath path (Path error) = IsRefusal path error
+IsFaultOfPath path NotNames = (w : Option Plain) × IsDocument all_on (chars path) w × AreNoNames w
+IsFaultOfPath path (Edit OutOfMemory) = Unit {0}
+IsFaultOfPath path other = ⊥
+
 -- the fault is true of the bytes of a JSON text, and reading its value can end with it
 abbrev pub IsFaultOfJson : List ℕ → Fault → Type 0
 IsFaultOfJson json (Argument error) = IsRefusal json error
@@ -24,6 +62,7 @@ IsFaultOfJson json NoValue = IsDocument all_on (chars json) None
 IsFaultOfJson json (Edit OutOfMemory) = Unit {0}
 IsFaultOfJson json other = ⊥
 
--- the fault is true of the JSON text that the command has
-abbrev pub IsFaultOfArgument : Request → Fault → Type 0
-IsFaultOfArgument request fault = (json : List ℕ) × (json_of request ≡ Some json) × IsFaultOfJson json fault
+-- the fault is true of the path that the command has; or of its JSON text, which is not read before the path is known to be a list of names
+pub data IsFaultOfArgument (request : Request) (fault : Fault) : Type 0 where
+  of_path : (path : List ℕ) → path_of request ≡ Some path → IsFaultOfPath path fault → IsFaultOfArgument request fault
+  of_json : (json : List ℕ) → HasNames request → json_of request ≡ Some json → IsFaultOfJson json fault → IsFaultOfArgument request fault

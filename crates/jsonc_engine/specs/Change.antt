@@ -1,6 +1,6 @@
 -- What a command makes of a document.
 use Rattle.std.specs.Borrow.{Bor}
-use Rattle.std.specs.Prelude.{◌≡◌, ℕ, List, chars}
+use Rattle.std.specs.Prelude.{◌≡◌, ℕ, List, String, Vec, chars}
 use Rattle.jsonc_text.specs.Options.{Options}
 use Rattle.jsonc_text.specs.Plain.{Plain}
 use Rattle.jsonc_input.specs.Views.{plain}
@@ -8,16 +8,18 @@ use Rattle.jsonc_input.specs.declared.value.CstInputValue.{CstInputValue}
 use Rattle.jsonc_tree.specs.OrderedTree.{ordered_tree, printed}
 use Rattle.jsonc_tree.specs.Tree.{Node}
 use Rattle.jsonc_laws.specs.SoundTrees.{SoundTree}
+use Rattle.jsonc_parser.specs.Below.settings.Found.{names_of}
 use Rattle.jsonc_engine.specs.declared.argument.Change.{Change}
-use Rattle.jsonc_engine.specs.declared.argument.Change.TheVariants.{Append, Remove, Set, Sort, Stay}
+use Rattle.jsonc_engine.specs.declared.argument.Change.TheVariants.{Append, Drop, Get, Put, Remove, Set, Sort, Stay}
 use Rattle.jsonc_engine.specs.Appending.{AppendsLast}
-use Rattle.jsonc_engine.specs.Argument.{IsArgument}
-use Rattle.jsonc_engine.specs.Command.{Request, check, print, set, append, remove, sort}
+use Rattle.jsonc_engine.specs.Argument.{IsArgument, IsPath}
+use Rattle.jsonc_engine.specs.Command.{Request, check, print, set, append, remove, sort, get, put, drop}
 use Rattle.jsonc_engine.specs.Removal.{LosesFirst}
 use Rattle.jsonc_engine.specs.Setting.{SetsFirst}
+use Rattle.jsonc_engine.specs.Settings.{DropsSetting, IsShownAt, PutsSetting}
 use Rattle.jsonc_engine.specs.Sorting.{SortsByName}
 
--- the change is what the command asks for, with the value of its JSON text
+-- the change is what the command asks for, with the names of its path and the value of its JSON text
 pub data IsChangeFor {A : Type 0} : Request → Change A → Type 0 where
   for_check : IsChangeFor check Stay
   for_print : IsChangeFor print Stay
@@ -26,6 +28,14 @@ pub data IsChangeFor {A : Type 0} : Request → Change A → Type 0 where
   for_append : (json : List ℕ) (value : CstInputValue A) → IsArgument json (plain value) → IsChangeFor (append json) (Append value)
   for_remove : (name : Bor (List ℕ)) → IsChangeFor (remove name.now) (Remove name)
   for_sort : IsChangeFor sort Sort
+  for_get : (path : List ℕ) (names : Vec (String A) A) → IsPath path (names_of names.items) → IsChangeFor (get path) (Get names)
+  for_put : (path json : List ℕ) (names : Vec (String A) A) (value : CstInputValue A) → IsPath path (names_of names.items) → IsArgument json (plain value)
+      → IsChangeFor (put path json) (Put names value)
+  for_drop : (path : List ℕ) (names : Vec (String A) A) → IsPath path (names_of names.items) → IsChangeFor (drop path) (Drop names)
+
+-- it is not to get a value
+abbrev pub GetsNothing : {A : Type 0} → Change A → Type 0
+GetsNothing {A} change = (names : Vec (String A) A) → change ≡ Get names → ⊥
 
 -- what a command makes of a sound document
 abbrev pub Makes : Options → Request → List Node → List Node → Type 0
@@ -35,6 +45,9 @@ Makes o (set name json) old new = (v : Plain) × IsArgument json v × SetsFirst 
 Makes o (append json) old new = (v : Plain) × IsArgument json v × AppendsLast o v old new
 Makes o (remove name) old new = LosesFirst o (chars name) old new
 Makes o sort old new = SortsByName o old new
+Makes o (get path) old new = new ≡ old
+Makes o (put path json) old new = (names : List (List ℕ)) × (v : Plain) × IsPath path names × IsArgument json v × PutsSetting o v names old new
+Makes o (drop path) old new = (names : List (List ℕ)) × IsPath path names × DropsSetting o names old new
 
 -- so it is if the document was sound
 abbrev pub MakesIfSound : Options → Request → List Node → List Node → Type 0
@@ -48,3 +61,11 @@ pub record IsMadeOf (o : Options) (request : Request) (input output : List ℕ) 
   pub sound : SoundTree o (ordered_tree old 0)
   pub makes : Makes o request old new
   pub prints : printed (ordered_tree new 0) ≡ output
+
+-- the input is a document of the options, in whose value one stands at the names of the path; the output is that value as it is printed there, and a line feed
+pub record IsGot (o : Options) (path input output : List ℕ) : Type 0 where
+  pub names : List (List ℕ)
+  pub path_is : IsPath path names
+  pub nodes : List Node
+  pub reads : printed (ordered_tree nodes 0) ≡ input
+  pub shown : IsShownAt o names nodes output

@@ -1,26 +1,31 @@
 -- What a fault prints, and what it says of the input.
 use Rattle.std.specs.Prelude.{◌≡◌, ℕ, Bool, false, List, Some, ◌++◌, ◌⊎◌, chars, codes, IsUtf8}
 use Rattle.jsonc_parser.specs.Below.named.Shapes.{is_array, is_object}
-use Rattle.jsonc_engine.specs.Argument.{IsFaultOfArgument}
-use Rattle.jsonc_engine.specs.Command.{Request, set, append, remove, sort}
+use Rattle.jsonc_engine.specs.Argument.{IsFaultOfArgument, IsPath, IsReady}
+use Rattle.jsonc_engine.specs.Command.{Request, set, append, remove, sort, get, put}
 use Rattle.jsonc_engine.specs.Input.{IsRefusalOf}
 use Rattle.jsonc_engine.specs.Removal.{IsNoObject}
+use Rattle.jsonc_engine.specs.Settings.{HasInTheWay, HasNothingAt}
 use Rattle.jsonc_engine.specs.Parser.{IsDocument, Options, OutOfMemory, Plain, all_on, edit_error_text, error_text}
 use Rattle.jsonc_engine.specs.declared.fault.Fault.{Fault}
-use Rattle.jsonc_engine.specs.declared.fault.Fault.TheVariants.{Argument, Edit, Input, NoValue, NotArray, NotObject, NotUtf8, Read, Usage, Write}
+use Rattle.jsonc_engine.specs.declared.fault.Fault.TheVariants.{Argument, Edit, Input, NoSetting, NoValue, NotArray, NotNames, NotObject, NotUtf8, OnTheWay, Path, Read, Usage, Write}
 
 -- the line that a fault prints
 abbrev pub fault_line : Fault → List ℕ
 fault_line (Input error) = codes "jsonc: " ++ error_text error
+fault_line (Path error) = codes "jsonc: path: " ++ error_text error
+fault_line NotNames = codes "jsonc: path is not a list of strings"
 fault_line (Argument error) = codes "jsonc: argument: " ++ error_text error
 fault_line NoValue = codes "jsonc: argument: no value"
 fault_line NotObject = codes "jsonc: root value is not an object"
 fault_line NotArray = codes "jsonc: root value is not an array"
+fault_line NoSetting = codes "jsonc: no such setting"
+fault_line OnTheWay = codes "jsonc: a value on the path is not an object"
 fault_line (Edit error) = codes "jsonc: " ++ edit_error_text error
 fault_line NotUtf8 = codes "jsonc: input is not UTF-8"
 fault_line Read = codes "jsonc: read failed"
 fault_line Write = codes "jsonc: write failed"
-fault_line Usage = codes "usage: jsonc check|print|set NAME JSON|append JSON|remove NAME|sort"
+fault_line Usage = codes "usage: jsonc check|print|set NAME JSON|append JSON|remove NAME|sort|get PATH|put PATH JSON|drop PATH"
 
 -- the text of these bytes is a document whose value is of another kind
 abbrev pub HasAnother : (Plain → Bool) → Options → List ℕ → Type 0
@@ -38,36 +43,54 @@ abbrev pub FindsNoArray : Options → Request → List ℕ → Type 0
 FindsNoArray o (append json) input = HasAnother is_array o input
 FindsNoArray o request input = ⊥
 
+-- nothing stands at the names in the value of the input
+abbrev pub FindsNothing : Options → Request → List ℕ → Type 0
+FindsNothing o (get path) input = (names : List (List ℕ)) × IsPath path names × HasNothingAt o input names
+FindsNothing o request input = ⊥
+
+-- a value of another kind than an object stands in their way
+abbrev pub FindsInTheWay : Options → Request → List ℕ → Type 0
+FindsInTheWay o (put path json) input = (names : List (List ℕ)) × IsPath path names × HasInTheWay o input names
+FindsInTheWay o request input = ⊥
+
 -- the fault is true of the input's bytes, and what a command makes of them under the options can end with it
 abbrev pub IsFaultOn : Options → Request → List ℕ → Fault → Type 0
 IsFaultOn o request input (Input error) = IsRefusalOf o input error
 IsFaultOn o request input NotObject = FindsNoObject o request input
 IsFaultOn o request input NotArray = FindsNoArray o request input
+IsFaultOn o request input NoSetting = FindsNothing o request input
+IsFaultOn o request input OnTheWay = FindsInTheWay o request input
 IsFaultOn o request input NotUtf8 = ¬ (IsUtf8 input)
 IsFaultOn o request input (Edit OutOfMemory) = Unit {0}
 IsFaultOn o request input other = ⊥
 
--- it is true of the command's JSON text, or of the input's bytes
+-- it is true of the command's path or JSON text; or these are as they have to be, and it is true of the input's bytes
 abbrev pub IsCause : Options → Request → List ℕ → Fault → Type 0
-IsCause o request input fault = IsFaultOfArgument request fault ⊎ IsFaultOn o request input fault
+IsCause o request input fault = IsFaultOfArgument request fault ⊎ (IsReady request × IsFaultOn o request input fault)
 
--- bytes that are not UTF-8 are told as such, where the command's JSON text has a value
+-- bytes that are not UTF-8 are told as such, where the command's path and JSON text are as they have to be
 abbrev pub IsNoText : Request → Fault → Type 0
-IsNoText request fault = IsFaultOfArgument request fault ⊎ (fault ≡ NotUtf8)
+IsNoText request fault = IsFaultOfArgument request fault ⊎ (IsReady request × (fault ≡ NotUtf8))
 
 -- what the fault of a run tells of the input's bytes is true
 abbrev pub TellsOfInput : Request → List ℕ → Fault → Type 0
 TellsOfInput request input Read = Unit {0}
 TellsOfInput request input Write = Unit {0}
+TellsOfInput request input (Path error) = Unit {0}
+TellsOfInput request input NotNames = Unit {0}
 TellsOfInput request input (Argument error) = Unit {0}
 TellsOfInput request input NoValue = Unit {0}
 TellsOfInput request input other = IsFaultOn all_on request input other
 
--- and what it tells of the command's JSON text
+-- and what it tells of the command's path or JSON text; whatever is told of the input, or of reading and writing, these are as they have to be
 abbrev pub TellsOfArgument : Request → Fault → Type 0
+TellsOfArgument request (Path error) = IsFaultOfArgument request (Path error)
+TellsOfArgument request NotNames = IsFaultOfArgument request NotNames
 TellsOfArgument request (Argument error) = IsFaultOfArgument request (Argument error)
 TellsOfArgument request NoValue = IsFaultOfArgument request NoValue
-TellsOfArgument request other = Unit {0}
+TellsOfArgument request (Edit error) = Unit {0}
+TellsOfArgument request Usage = Unit {0}
+TellsOfArgument request other = IsReady request
 
 -- a run of the program can end with the fault
 abbrev pub EndsRun : Fault → Type 0
@@ -77,6 +100,8 @@ EndsRun other = Unit {0}
 
 -- with these nothing has been read
 abbrev pub EndsUnread : Fault → Type 0
+EndsUnread (Path error) = Unit {0}
+EndsUnread NotNames = Unit {0}
 EndsUnread (Argument error) = Unit {0}
 EndsUnread NoValue = Unit {0}
 EndsUnread Usage = Unit {0}
@@ -99,3 +124,15 @@ abbrev pub EndsAppending : Options → List ℕ → Fault → Type 0
 EndsAppending o bytes NotArray = HasAnother is_array o bytes
 EndsAppending o bytes (Edit OutOfMemory) = Unit {0}
 EndsAppending o bytes other = ⊥
+
+-- getting what stands at names can end with it
+abbrev pub EndsGetting : Options → List ℕ → List (List ℕ) → Fault → Type 0
+EndsGetting o bytes names NoSetting = HasNothingAt o bytes names
+EndsGetting o bytes names (Edit OutOfMemory) = Unit {0}
+EndsGetting o bytes names other = ⊥
+
+-- and so can putting a value there
+abbrev pub EndsPutting : Options → List ℕ → List (List ℕ) → Fault → Type 0
+EndsPutting o bytes names OnTheWay = HasInTheWay o bytes names
+EndsPutting o bytes names (Edit OutOfMemory) = Unit {0}
+EndsPutting o bytes names other = ⊥

@@ -9,4 +9,5 @@ pub mod Output
 pub mod Parser
 pub mod Removal
 pub mod Setting
+pub mod Settings
 pub mod Sorting

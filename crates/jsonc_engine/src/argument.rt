@@ -1,9 +1,12 @@
-//! What a command asks for, once the value of its JSON text is read.
-ghost use Rattle.std.specs.Prelude.{IfErr, IfOk, chars};
-ghost use Rattle.jsonc_input.specs.Views.{plain};
-ghost use Rattle.jsonc_engine.specs.Argument.{IsArgument, IsFaultOfArgument, IsFaultOfJson};
+//! What a command asks for, once the names of its path and the value of its JSON text are read.
+ghost use Rattle.std.specs.Prelude.{◌≡◌, IfErr, IfOk, Some, chars};
+ghost use Rattle.jsonc_text.specs.Plain.{array};
+ghost use Rattle.jsonc_input.specs.Views.{items_plain, plain};
+ghost use Rattle.jsonc_parser.specs.Below.settings.Found.{names_of};
+ghost use Rattle.jsonc_engine.specs.Argument.{IsArgument, IsFaultOfArgument, IsFaultOfJson, IsFaultOfNames, IsFaultOfPath};
+ghost use Rattle.jsonc_engine.specs.Argument.{IsPath, strings};
 ghost use Rattle.jsonc_engine.specs.Change.{IsChangeFor};
-ghost use Rattle.jsonc_engine.specs.Command.{request_of};
+ghost use Rattle.jsonc_engine.specs.Command.{put, request_of};
 
 use crate::command::Command;
 use crate::fault::Fault;
@@ -24,6 +27,12 @@ pub(crate) enum Change<'a, A: Allocator> {
     Remove(&'a str),
     /// The properties come in the order of their names as they are written.
     Sort,
+    /// Nothing, and the value at the names is to be written.
+    Get(Vec<String<A>, A>),
+    /// The value is put at the names.
+    Put(Vec<String<A>, A>, CstInputValue<A>),
+    /// What stands at the names leaves.
+    Drop(Vec<String<A>, A>),
 }
 
 /// The value of a command's JSON text, of equal names the last at the first place.
@@ -45,7 +54,65 @@ fn value_of<A: Allocator + Copy>(alloc: A, json: &str) -> Result<CstInputValue<A
     }
 }
 
-/// What the command makes of the document, with the value of its JSON text.
+/// The strings that these values are, or `Fault::NotNames` where one is no string.
+fn strings_of<A: Allocator + Copy>(
+    alloc: A,
+    values: Vec<CstInputValue<A>, A>,
+) -> Result<Vec<String<A>, A>, Fault>
+    ensures strings { IfOk result (λ names. array (items_plain values.items) ≡ strings (names_of names.items)) }
+    ensures refused { IfErr result (IsFaultOfNames (Some (array (items_plain values.items)))) }
+{
+    let mut names = Vec::new(alloc);
+    for value in values {
+        match value {
+            CstInputValue::String(name) => names.push(name)?,
+            _ => return Err(Fault::NotNames),
+        }
+    }
+    Ok(names)
+}
+
+/// The names of a command's path.
+///
+/// A text that is no document is `Fault::Path`; one that has no value, or a value that is no list of strings, is
+/// `Fault::NotNames`. The text is parsed as a JSON text of a command is.
+fn read_path<A: Allocator + Copy>(alloc: A, path: &str) -> Result<Vec<String<A>, A>, Fault>
+    ensures names { IfOk result (λ names. IsPath path.now (names_of names.items)) }
+    ensures refused { IfErr result (IsFaultOfPath path.now) }
+{
+    let document = match CstRootNode::parse(alloc, path, &ParseOptions::default()) {
+        Ok(document) => document,
+        Err(error) => return Err(Fault::Path(error)),
+    };
+    let taken = match document.to_value() {
+        Ok(taken) => taken,
+        Err(error) => return Err(Fault::Edit(error)),
+    };
+    let Some(value) = taken else {
+        return Err(Fault::NotNames);
+    };
+    let CstInputValue::Array(values) = value else {
+        return Err(Fault::NotNames);
+    };
+    strings_of(alloc, values)
+}
+
+/// A value that is put at names: the path is read before the JSON text.
+fn put_of<'a, A: Allocator + Copy>(alloc: A, path: &str, json: &str) -> Result<Change<'a, A>, Fault>
+    ensures change { IfOk result (IsChangeFor (put path.now json.now)) }
+    ensures refused { IfErr result (IsFaultOfArgument (put path.now json.now)) }
+{
+    let names = match read_path(alloc, path) {
+        Ok(names) => names,
+        Err(fault) => return Err(fault),
+    };
+    match value_of(alloc, json) {
+        Ok(value) => Ok(Change::Put(names, value)),
+        Err(fault) => Err(fault),
+    }
+}
+
+/// What the command makes of the document, with the names of its path and the value of its JSON text.
 pub(crate) fn change_of<A: Allocator + Copy>(
     alloc: A,
     command: Command<'_>,
@@ -66,5 +133,14 @@ pub(crate) fn change_of<A: Allocator + Copy>(
         },
         Command::Remove(name) => Ok(Change::Remove(name)),
         Command::Sort => Ok(Change::Sort),
+        Command::Get(path) => match read_path(alloc, path) {
+            Ok(names) => Ok(Change::Get(names)),
+            Err(fault) => Err(fault),
+        },
+        Command::Put(path, json) => put_of(alloc, path, json),
+        Command::Drop(path) => match read_path(alloc, path) {
+            Ok(names) => Ok(Change::Drop(names)),
+            Err(fault) => Err(fault),
+        },
     }
 }

@@ -22,6 +22,15 @@ pub enum Command<'a> {
     /// Parses the input, sorts the properties of the document's object by their names as they are written, without
     /// quotes, in the order of their bytes, and writes the document. Properties of one name stay in their order.
     Sort,
+    /// Parses the input, and writes the value at this path of names as it is written there, with a line feed behind it.
+    Get(&'a str),
+    /// Parses the input, puts the value of this JSON text, the second one, at this path of names, and writes the
+    /// document. Names that are missing come with it; a value of another kind than an object on the way stays, and is
+    /// a fault.
+    Put(&'a str, &'a str),
+    /// Parses the input, drops what stands at this path of names, and writes the document. Where nothing stands there
+    /// the document stays as it is.
+    Drop(&'a str),
 }
 
 impl<'a> Command<'a> {
@@ -40,6 +49,9 @@ impl<'a> Command<'a> {
             ["append", json] => Some(Command::Append(json)),
             ["remove", name] => Some(Command::Remove(name)),
             ["sort"] => Some(Command::Sort),
+            ["get", path] => Some(Command::Get(path)),
+            ["put", path, json] => Some(Command::Put(path, json)),
+            ["drop", path] => Some(Command::Drop(path)),
             _ => None,
         }
     }
@@ -55,6 +67,9 @@ impl<'a> Command<'a> {
             Command::Append(_) => true,
             Command::Remove(_) => true,
             Command::Sort => true,
+            Command::Get(_) => true,
+            Command::Put(_, _) => true,
+            Command::Drop(_) => true,
         }
     }
 }

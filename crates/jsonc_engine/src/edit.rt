@@ -13,6 +13,7 @@ ghost use Rattle.jsonc_engine.specs.Setting.{SetsIfSound};
 
 use crate::argument::Change;
 use crate::fault::Fault;
+use crate::settings::{drop_setting, put_setting};
 use crate::sort::sort_properties;
 use jsonc_parser::cst::{
     CstInputValue, CstRootNode, InsertElement, InsertProperty, Remove, SetProperty, SetRoot,
@@ -132,5 +133,8 @@ pub(crate) fn make<A: Allocator + Copy>(
         Change::Append(value) => append_element(document, value),
         Change::Remove(name) => remove_property(document, name),
         Change::Sort => sort_properties(document),
+        Change::Get(_) => Ok(()),
+        Change::Put(names, value) => put_setting(document, &names, value),
+        Change::Drop(names) => drop_setting(document, &names),
     }
 }

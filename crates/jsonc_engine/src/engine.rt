@@ -1,13 +1,16 @@
 //! One run of the program, over any source and sink.
-ghost use Rattle.std.specs.Prelude.{◌≡◌, ◌↔◌, ◌<◌, IsTrue, false, vec_len, IfSome, IfOk, IfErr, OnOk, OnErr, IsErrOf, IsUtf8};
+ghost use Rattle.std.specs.Prelude.{◌≡◌, ◌↔◌, ◌<◌, IsTrue, false, vec_len, IfSome, IfOk, IfErr, OnOk, OnErr, IsErrOf, IsUtf8, string_bytes};
 ghost use Rattle.std.specs.Io.KnownBytes.{Appends};
+ghost use Rattle.jsonc_text.specs.Options.{Options};
+ghost use Rattle.jsonc_laws.specs.SoundTrees.{SoundTree};
+ghost use Rattle.jsonc_cst.specs.Document.{tree_of};
 ghost use Rattle.jsonc_engine.specs.Calls.{one_more};
-ghost use Rattle.jsonc_engine.specs.Change.{IsChangeFor};
+ghost use Rattle.jsonc_engine.specs.Change.{GetsNothing, IsChangeFor};
 ghost use Rattle.jsonc_engine.specs.Command.{Name, Request, request_of, writes};
 ghost use Rattle.jsonc_engine.specs.Fault.{EndsRun, EndsUnread, IsCause, IsFaultOn, IsNoText, TellsOfArgument};
 ghost use Rattle.jsonc_engine.specs.Fault.{TellsOfInput};
 ghost use Rattle.jsonc_engine.specs.Input.{IsInput, IsInputOf};
-ghost use Rattle.jsonc_engine.specs.Output.{IsLeft, IsOutput, IsWritten, Puts};
+ghost use Rattle.jsonc_engine.specs.Output.{IsLeft, IsOutput, IsWritten, Puts, output_bytes};
 ghost use Rattle.jsonc_engine.specs.Parser.{all_on, parse_options, printed_of};
 
 use crate::argument::{Change, change_of};
@@ -15,6 +18,8 @@ use crate::calls::{Sink, Source};
 use crate::command::Command;
 use crate::edit::make;
 use crate::fault::Fault;
+use crate::output::Output;
+use crate::settings::get_setting;
 use jsonc_parser::ParseOptions;
 use jsonc_parser::cst::{CstRootNode, EditError};
 use std::alloc::{AllocError, Allocator};
@@ -75,25 +80,59 @@ fn write_document<A: Allocator, K: Sink>(
     Ok(())
 }
 
-/// What a document prints.
-fn text_of<A: Allocator + Copy>(document: &CstRootNode<A>) -> Result<Option<String<A>>, Fault>
-    ensures printed { IfOk result (λ output. IsOutput output (printed_of document.now)) }
-    ensures memory { IfErr result (λ fault. fault ≡ Fault.Edit EditError.OutOfMemory) }
+/// Writes a text, and sees that it has left.
+fn write_text<A: Allocator, K: Sink>(sink: &mut K, text: &String<A>) -> Result<(), Fault>
+    ensures written { OnOk result (Appends (K.contents sink.old) (K.contents sink.new) (string_bytes text.now)) }
+    ensures flushed { OnOk result (K.is_flushed sink.new) }
+    ensures kept { OnOk result (K.failed_writes sink.new ≡ K.failed_writes sink.old) }
+    ensures cause { OnErr result (IsErrOf result Fault.Write) }
+    ensures failed { OnErr result (K.failed_writes sink.new ≡ one_more (K.failed_writes sink.old)) }
 {
-    match document.text() {
-        Ok(output) => Ok(Some(output)),
-        Err(_) => Err(Fault::Edit(EditError::OutOfMemory)),
+    let Ok(()) = sink.write(text.as_bytes()) else {
+        return Err(Fault::Write);
+    };
+    match sink.flush() {
+        Ok(()) => Ok(()),
+        Err(_) => Err(Fault::Write),
     }
 }
 
-/// Writes the document where the command does.
+/// The text of what is to be written.
+fn text_of<A: Allocator + Copy>(output: Output<A>) -> Result<Option<String<A>>, Fault>
+    ensures printed { IfOk result (λ text. IsOutput text (output_bytes output)) }
+    ensures memory { IfErr result (λ fault. fault ≡ Fault.Edit EditError.OutOfMemory) }
+{
+    match output {
+        Output::Document(document) => match document.text() {
+            Ok(text) => Ok(Some(text)),
+            Err(_) => Err(Fault::Edit(EditError::OutOfMemory)),
+        },
+        Output::Text(text) => Ok(Some(text)),
+    }
+}
+
+/// Writes what is to be written: the document where there is no text in its place.
+fn write_output<A: Allocator, K: Sink>(sink: &mut K, output: &Output<A>) -> Result<(), Fault>
+    ensures written { OnOk result (Appends (K.contents sink.old) (K.contents sink.new) (output_bytes output.now)) }
+    ensures flushed { OnOk result (K.is_flushed sink.new) }
+    ensures kept { OnOk result (K.failed_writes sink.new ≡ K.failed_writes sink.old) }
+    ensures cause { OnErr result (IsErrOf result Fault.Write) }
+    ensures failed { OnErr result (K.failed_writes sink.new ≡ one_more (K.failed_writes sink.old)) }
+{
+    match output {
+        Output::Document(document) => write_document(sink, document),
+        Output::Text(text) => write_text(sink, text),
+    }
+}
+
+/// Writes what is to be written, where the command writes.
 fn write_for<A: Allocator, K: Sink>(
     sink: &mut K,
     command: Command,
-    document: &CstRootNode<A>,
+    output: &Output<A>,
 ) -> Result<(), Fault>
     ensures written { OnOk result (IsTrue (writes (request_of command.entry))
-        → Appends (K.contents sink.old) (K.contents sink.new) (printed_of document.now)) }
+        → Appends (K.contents sink.old) (K.contents sink.new) (output_bytes output.now)) }
     ensures flushed { OnOk result (IsTrue (writes (request_of command.entry)) → K.is_flushed sink.new) }
     ensures unwritten { writes (request_of command.entry) ≡ false → sink.new ≡ sink.old }
     ensures kept { OnOk result (K.failed_writes sink.new ≡ K.failed_writes sink.old) }
@@ -103,21 +142,65 @@ fn write_for<A: Allocator, K: Sink>(
     if !command.writes() {
         return Ok(());
     }
-    write_document(sink, document)
+    write_output(sink, output)
 }
 
-/// The document of the input's bytes, with a change made, given what their text may hold beyond JSON.
+/// The document with a change made, to be written. To get a value is none.
+///
+/// The change may be refused as its page says.
+fn changed<A: Allocator + Copy>(
+    document: CstRootNode<A>,
+    change: Change<'_, A>,
+) -> Result<Output<A>, Fault>
+    ensures left { (o : Options) (request : Request)
+        → IsChangeFor request change.entry → GetsNothing change.entry
+        → SoundTree o (tree_of document)
+        → IfOk result (λ output. IsLeft o request (printed_of document) (output_bytes output)) }
+    ensures refused { (o : Options) (request : Request)
+        → IsChangeFor request change.entry
+        → SoundTree o (tree_of document)
+        → IfErr result (IsFaultOn o request (printed_of document)) }
+{
+    let mut document = document;
+    match make(&mut document, change) {
+        Ok(()) => Ok(Output::Document(document)),
+        Err(fault) => Err(fault),
+    }
+}
+
+/// What is to be written of a document: itself, with a change made, or the value that is asked for.
+fn outcome_of<A: Allocator + Copy>(
+    document: CstRootNode<A>,
+    change: Change<'_, A>,
+) -> Result<Output<A>, Fault>
+    ensures left { (o : Options) (request : Request)
+        → IsChangeFor request change.entry
+        → SoundTree o (tree_of document)
+        → IfOk result (λ output. IsLeft o request (printed_of document) (output_bytes output)) }
+    ensures refused { (o : Options) (request : Request)
+        → IsChangeFor request change.entry
+        → SoundTree o (tree_of document)
+        → IfErr result (IsFaultOn o request (printed_of document)) }
+{
+    match change {
+        Change::Get(names) => get_setting(&document, &names),
+        change => changed(document, change),
+    }
+}
+
+/// What is to be written of the input's bytes: their document, with a change made, or the text that is asked for; given
+/// what the text of the bytes may hold beyond JSON.
 ///
 /// The bytes may be refused as `Fault::NotUtf8` or `Fault::Input`, and the change as its page says.
-fn document_after<A: Allocator + Copy>(
+fn output_of<A: Allocator + Copy>(
     alloc: A,
     options: &ParseOptions,
     change: Change<'_, A>,
     input: &[u8],
-) -> Result<CstRootNode<A>, Fault>
+) -> Result<Output<A>, Fault>
     ensures left { (request : Request)
         → IsChangeFor request change.entry
-        → IfOk result (λ document. IsLeft (parse_options options.now) request input.now (printed_of document)) }
+        → IfOk result (λ output. IsLeft (parse_options options.now) request input.now (output_bytes output)) }
     ensures accepted { OnOk result (IsInputOf (parse_options options.now) input.now) }
     ensures not_utf8 { ¬ (IsUtf8 input.now) → IfErr result (λ fault. fault ≡ Fault.NotUtf8) }
     ensures refused { (request : Request)
@@ -127,22 +210,19 @@ fn document_after<A: Allocator + Copy>(
     let Ok(text) = str::from_utf8(input) else {
         return Err(Fault::NotUtf8);
     };
-    let mut document = match CstRootNode::parse(alloc, text, options) {
-        Ok(document) => document,
-        Err(error) => return Err(Fault::Input(error)),
-    };
-    match make(&mut document, change) {
-        Ok(()) => Ok(document),
-        Err(fault) => Err(fault),
+    match CstRootNode::parse(alloc, text, options) {
+        Ok(document) => outcome_of(document, change),
+        Err(error) => Err(Fault::Input(error)),
     }
 }
 
 /// What the command writes, given the bytes of the input and what their text may hold beyond JSON, or `None` where
-/// it writes nothing. The command's own JSON text may hold all that can be allowed.
+/// it writes nothing. The command's own path and JSON text may hold all that can be allowed.
 ///
-/// That text may be refused as `Fault::Argument` or `Fault::NoValue`, the bytes as `Fault::NotUtf8` or
-/// `Fault::Input`, the command as `Fault::NotObject` or `Fault::NotArray`, and memory as `Fault::Edit`, or as the
-/// error of a parse.
+/// A path may be refused as `Fault::Path` or `Fault::NotNames`, then that text as `Fault::Argument` or
+/// `Fault::NoValue`, then the bytes as `Fault::NotUtf8` or `Fault::Input`, the command as `Fault::NotObject`,
+/// `Fault::NotArray`, `Fault::NoSetting` or `Fault::OnTheWay`, and memory as `Fault::Edit`, or as the error of a
+/// parse.
 pub fn run_with<A: Allocator + Copy>(
     alloc: A,
     options: &ParseOptions,
@@ -158,14 +238,14 @@ pub fn run_with<A: Allocator + Copy>(
         Ok(change) => change,
         Err(fault) => return Err(fault),
     };
-    let document = match document_after(alloc, options, change, input) {
-        Ok(document) => document,
+    let output = match output_of(alloc, options, change, input) {
+        Ok(output) => output,
         Err(fault) => return Err(fault),
     };
     if !command.writes() {
         return Ok(None);
     }
-    text_of(&document)
+    text_of(output)
 }
 
 /// The same under the default options, which allow comments and all else.
@@ -185,15 +265,15 @@ pub fn run_on<A: Allocator + Copy>(
 /// Does what the words ask: reads the source to its end, and writes what the command makes of it to the sink.
 ///
 /// Words that name no command are `Fault::Usage`, failed calls `Fault::Read` and `Fault::Write`; else the faults
-/// are those of `run_on`. A command's JSON text is read before the source is. The document is written piece by
-/// piece, which wants no memory.
+/// are those of `run_on`. A command's path is read before its JSON text, and both before the source is. The document
+/// is written piece by piece, which wants no memory; the value that `get` writes is a text first.
 pub fn engine<A: Allocator + Copy, S: Source, K: Sink>(
     alloc: A,
     words: &[&str],
     source: &mut S,
     sink: &mut K,
 ) -> Result<(), Fault>
-    // Words that name no command are refused, and no others, and they and a JSON text before anything is read.
+    // Words that name no command are refused, and no others; and they, a path and a JSON text before anything is read.
     ensures usage { IsErrOf result Fault.Usage ↔ ((request : Request) → ¬ (Name words.now request)) }
     ensures unread { IfErr result (λ fault. EndsUnread fault → source.new ≡ source.old) }
 
@@ -234,11 +314,14 @@ pub fn engine<A: Allocator + Copy, S: Source, K: Sink>(
         Ok(change) => change,
         Err(fault) => return Err(fault),
     };
-    let input = read_whole(alloc, source)?;
-    let options = ParseOptions::default();
-    let document = match document_after(alloc, &options, change, input.as_slice()) {
-        Ok(document) => document,
+    let input = match read_whole(alloc, source) {
+        Ok(input) => input,
         Err(fault) => return Err(fault),
     };
-    write_for(sink, command, &document)
+    let options = ParseOptions::default();
+    let output = match output_of(alloc, &options, change, input.as_slice()) {
+        Ok(output) => output,
+        Err(fault) => return Err(fault),
+    };
+    write_for(sink, command, &output)
 }

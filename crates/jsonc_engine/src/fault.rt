@@ -14,6 +14,10 @@ use std::fmt;
 pub enum Fault {
     /// The input is no document.
     Input(ParseError),
+    /// The command's path is no document.
+    Path(ParseError),
+    /// The command's path has no value, or one that is no list of strings.
+    NotNames,
     /// The command's JSON text is no document.
     Argument(ParseError),
     /// The command's JSON text has no value.
@@ -22,6 +26,10 @@ pub enum Fault {
     NotObject,
     /// The command wants an array at the root.
     NotArray,
+    /// Nothing stands at the path.
+    NoSetting,
+    /// A value of another kind than an object stands on the path.
+    OnTheWay,
     /// The document refused the edit, or, with `EditError::OutOfMemory`, memory ran out outside parsing.
     Edit(EditError),
     /// The input's bytes are not UTF-8.
@@ -60,6 +68,11 @@ impl fmt::Display for Fault {
                 f.write_str("jsonc: ")?;
                 error.fmt(f)
             }
+            Fault::Path(error) => {
+                f.write_str("jsonc: path: ")?;
+                error.fmt(f)
+            }
+            Fault::NotNames => f.write_str("jsonc: path is not a list of strings"),
             Fault::Argument(error) => {
                 f.write_str("jsonc: argument: ")?;
                 error.fmt(f)
@@ -67,6 +80,8 @@ impl fmt::Display for Fault {
             Fault::NoValue => f.write_str("jsonc: argument: no value"),
             Fault::NotObject => f.write_str("jsonc: root value is not an object"),
             Fault::NotArray => f.write_str("jsonc: root value is not an array"),
+            Fault::NoSetting => f.write_str("jsonc: no such setting"),
+            Fault::OnTheWay => f.write_str("jsonc: a value on the path is not an object"),
             Fault::Edit(error) => {
                 f.write_str("jsonc: ")?;
                 error.fmt(f)
@@ -74,9 +89,9 @@ impl fmt::Display for Fault {
             Fault::NotUtf8 => f.write_str("jsonc: input is not UTF-8"),
             Fault::Read => f.write_str("jsonc: read failed"),
             Fault::Write => f.write_str("jsonc: write failed"),
-            Fault::Usage => {
-                f.write_str("usage: jsonc check|print|set NAME JSON|append JSON|remove NAME|sort")
-            }
+            Fault::Usage => f.write_str(
+                "usage: jsonc check|print|set NAME JSON|append JSON|remove NAME|sort|get PATH|put PATH JSON|drop PATH",
+            ),
         }
     }
 }

@@ -8,4 +8,6 @@ pub mod command;
 mod edit;
 pub mod engine;
 pub mod fault;
+mod output;
+mod settings;
 mod sort;

@@ -1,7 +1,7 @@
 use Rattle.std.proofs.Common.{subst}
 use Rattle.jsonc_cst.specs.Document.{nodes_of}
 use Rattle.jsonc_engine.specs.Change.{IsChangeFor}
-use Rattle.jsonc_engine.proofs.Changes.{append_makes, ok_so, remove_makes, remove_told, set_makes, sort_makes, sort_told}
+use Rattle.jsonc_engine.proofs.Changes.{append_makes, drop_makes, get_makes, ok_so, put_makes, put_told, remove_makes, remove_told, set_makes, sort_makes, sort_told, stay_makes}
 use Rattle.jsonc_engine.proofs.edit.make.Goals as goal
 
 pub returns-in-Set-clause-made : goal.returns-in-Set-clause-made
@@ -33,3 +33,23 @@ pub returns-in-Sort-clause-told : goal.returns-in-Sort-clause-told
 returns-in-Sort-clause-told g c = λ o request is sound.
     sort_told o request (nodes_of c.args.document.now) (subst (IsChangeFor request) c.in-Sort.is is) c.sort_properties.result c.sort_properties.ensures.told
     (λ none. c.sort_properties.ensures.no_object o none sound)
+
+pub returns-in-Put-clause-made : goal.returns-in-Put-clause-made
+returns-in-Put-clause-made g c = λ o request is.
+    ok_so c.put_setting.result (put_makes o request (nodes_of c.args.document.now) (nodes_of c.put_setting.new.document) c.in-Put.names c.in-Put.value (subst (IsChangeFor request) c.in-Put.is is) c.deref.result.now c.deref.ensures.value)
+    (c.put_setting.ensures.put o)
+
+pub returns-in-Put-clause-told : goal.returns-in-Put-clause-told
+returns-in-Put-clause-told g c = λ o request is sound.
+    put_told o request (nodes_of c.args.document.now) c.in-Put.names c.in-Put.value (subst (IsChangeFor request) c.in-Put.is is) c.deref.result.now c.deref.ensures.value c.put_setting.result (c.put_setting.ensures.told o sound)
+
+pub returns-clause-made : goal.returns-clause-made
+returns-clause-made g c = λ o request is.
+    ok_so c.drop_setting.result (drop_makes o request (nodes_of c.args.document.now) (nodes_of c.drop_setting.new.document) c.in-Drop.names (subst (IsChangeFor request) c.in-Drop.is is) c.deref-in-Drop.result.now c.deref-in-Drop.ensures.value)
+    (c.drop_setting.ensures.dropped o)
+
+pub returns-in-Stay-clause-made : goal.returns-in-Stay-clause-made
+returns-in-Stay-clause-made g c = λ o request is. stay_makes o request (nodes_of c.args.document.now) (subst (IsChangeFor request) c.in-Stay.is is)
+
+pub returns-in-Get-clause-made : goal.returns-in-Get-clause-made
+returns-in-Get-clause-made g c = λ o request is. get_makes o request (nodes_of c.args.document.now) c.in-Get.field-0 (subst (IsChangeFor request) c.in-Get.is is)

@@ -1,22 +1,61 @@
-use Rattle.std.proofs.Common.{◌≡◌, rules, sym, ◌∙◌}
+use Rattle.std.proofs.Common.{◌≡◌, IfErr, IsTrue, ap, rules, subst, sym, ◌∙◌}
 use Rattle.jsonc_text.specs.Options.{all_on}
 use Rattle.jsonc_text.specs.OptionsOf.{parse_options}
-use Rattle.jsonc_cst.specs.Document.{printed_of}
-use Rattle.jsonc_engine.specs.Command.{request_of}
+use Rattle.jsonc_engine.specs.Command.{Request, request_of, writes}
+use Rattle.jsonc_engine.specs.Fault.{TellsOfArgument}
+use Rattle.jsonc_engine.specs.Output.{output_bytes}
 use Rattle.jsonc_engine.proofs.Changes.{ok_so}
-use Rattle.jsonc_engine.proofs.Ending.{input_known, ok_always, puts_known}
+use Rattle.jsonc_engine.proofs.Ending.{input_known, ok_always, puts_known, same_request, tells_known}
+use Rattle.jsonc_engine.proofs.Telling.{is_ready, told_of_input, told_of_read, told_of_write}
 use Rattle.jsonc_engine.proofs.engine.engine.Goals as goal
 
 pub returns-clause-written : goal.returns-clause-written
 returns-clause-written g c = λ request.
     let all : parse_options c.default-options.result ≡ all_on = search rules in
     let asked = request_of c.in-Some.command in
-    ok_so c.write_for.result (λ put named. puts_known (g.S.Source.remaining c.args.source.now) c.in_ok-input.input.items c.as_slice.result.now (parse_options c.default-options.result) all c.as_slice.ensures.value c.in_ok-input.ensures.bytes
-    asked request (sym c.in-Some.ensures ∙ named) (g.K.Sink.contents c.args.sink.now) (g.K.Sink.contents c.write_for.new.sink) (printed_of c.in-Ok-document_after.document)
-    (c.in-Ok-document_after.ensures.left asked c.in-Ok.ensures.change) put) c.write_for.ensures.written
+    ok_so c.write_for.result (λ put named. puts_known (g.S.Source.remaining c.args.source.now) c.in-Ok-read_whole.input.items c.as_slice.result.now (parse_options c.default-options.result) all c.as_slice.ensures.value c.in-Ok-read_whole.ensures.bytes
+    asked request (sym c.in-Some.ensures ∙ named) (g.K.Sink.contents c.args.sink.now) (g.K.Sink.contents c.write_for.new.sink) (output_bytes c.in-Ok-output_of.output)
+    (c.in-Ok-output_of.ensures.left asked c.in-Ok.ensures.change) put) c.write_for.ensures.written
 
 pub returns-clause-accepted : goal.returns-clause-accepted
 returns-clause-accepted g c =
     let all : parse_options c.default-options.result ≡ all_on = search rules in
-    ok_always c.write_for.result (input_known (g.S.Source.remaining c.args.source.now) c.in_ok-input.input.items c.as_slice.result.now (parse_options c.default-options.result) all c.as_slice.ensures.value c.in_ok-input.ensures.bytes
-    c.in-Ok-document_after.ensures.accepted)
+    ok_always c.write_for.result (input_known (g.S.Source.remaining c.args.source.now) c.in-Ok-read_whole.input.items c.as_slice.result.now (parse_options c.default-options.result) all c.as_slice.ensures.value c.in-Ok-read_whole.ensures.bytes
+    c.in-Ok-output_of.ensures.accepted)
+
+pub returns-in-Err-read_whole-clause-argument : goal.returns-in-Err-read_whole-clause-argument
+returns-in-Err-read_whole-clause-argument g c = λ request named.
+    let asked = request_of c.in-Some.command in
+    let fault = c.in-Err-read_whole.fault in
+    subst (λ (r : Request). TellsOfArgument r fault) (same_request asked request (sym c.in-Some.ensures ∙ named))
+    (told_of_read asked (is_ready asked c.in-Ok.change c.in-Ok.ensures.change) fault c.in-Err-read_whole.ensures.causes)
+
+pub returns-in-Err-output_of-clause-refused : goal.returns-in-Err-output_of-clause-refused
+returns-in-Err-output_of-clause-refused g c = λ request named.
+    let all : parse_options c.default-options.result ≡ all_on = search rules in
+    let asked = request_of c.in-Some.command in
+    tells_known (g.S.Source.remaining c.args.source.now) c.in-Ok-read_whole.input.items c.as_slice.result.now (parse_options c.default-options.result) all c.as_slice.ensures.value c.in-Ok-read_whole.ensures.bytes
+    asked request (sym c.in-Some.ensures ∙ named) c.in-Err-output_of.fault (c.in-Err-output_of.ensures.refused asked c.in-Ok.ensures.change)
+
+pub returns-in-Err-output_of-clause-argument : goal.returns-in-Err-output_of-clause-argument
+returns-in-Err-output_of-clause-argument g c = λ request named.
+    let asked = request_of c.in-Some.command in
+    let fault = c.in-Err-output_of.fault in
+    subst (λ (r : Request). TellsOfArgument r fault) (same_request asked request (sym c.in-Some.ensures ∙ named))
+    (told_of_input asked (is_ready asked c.in-Ok.change c.in-Ok.ensures.change) (parse_options c.default-options.result) c.as_slice.result.now fault (c.in-Err-output_of.ensures.refused asked c.in-Ok.ensures.change))
+
+pub returns-clause-argument : goal.returns-clause-argument
+returns-clause-argument g c = λ request named.
+    let asked = request_of c.in-Some.command in
+    subst (λ (r : Request). IfErr c.write_for.result (TellsOfArgument r)) (same_request asked request (sym c.in-Some.ensures ∙ named))
+    (told_of_write asked (is_ready asked c.in-Ok.change c.in-Ok.ensures.change) c.write_for.result c.write_for.ensures.cause)
+
+pub returns-clause-flushed : goal.returns-clause-flushed
+returns-clause-flushed g c = λ request.
+    let asked = request_of c.in-Some.command in
+    ok_so c.write_for.result (λ flushed named writing. flushed (subst (λ (r : Request). IsTrue (writes r)) (sym (same_request asked request (sym c.in-Some.ensures ∙ named))) writing)) c.write_for.ensures.flushed
+
+pub returns-clause-checked : goal.returns-clause-checked
+returns-clause-checked g c = λ request.
+    let asked = request_of c.in-Some.command in
+    ok_always c.write_for.result (λ named none. c.write_for.ensures.unwritten (ap writes (same_request asked request (sym c.in-Some.ensures ∙ named)) ∙ none))

@@ -1,0 +1,70 @@
+-- What stands at names in a document that nodes show, what was put there, and what was dropped.
+use Rattle.std.proofs.Common.{◌≡◌, ◌++◌, ◌∷◌, [], ℕ, Bool, true, false, List, Option, Some, None, refl, sym, ap, subst}
+use Rattle.jsonc_text.specs.Edits.{Document}
+use Rattle.jsonc_text.specs.Grammar.{IsDocument}
+use Rattle.jsonc_text.specs.Options.{Options}
+use Rattle.jsonc_text.specs.Plain.{Plain}
+use Rattle.jsonc_tree.specs.OrderedTree.{ordered_tree, printed}
+use Rattle.jsonc_tree.specs.Tree.{Node}
+use Rattle.jsonc_tree.specs.Values.{DocumentValueOf}
+use Rattle.jsonc_build.specs.Shape.{printed_text}
+use Rattle.jsonc_build.proofs.ShapeValues.{document_printed}
+use Rattle.jsonc_laws.specs.Documents.{Shows, document_of}
+use Rattle.jsonc_laws.specs.SoundTrees.{SoundTree}
+use Rattle.jsonc_edit.specs.declared.error.EditError.{EditError}
+use Rattle.jsonc_edit.specs.declared.error.EditError.TheVariants.{OutOfMemory}
+use Rattle.jsonc_cst.specs.declared.cst.CstRootNode.{CstRootNode}
+use Rattle.jsonc_cst.specs.declared.cst.node.CstNode.{CstNode}
+use Rattle.jsonc_cst.specs.Document.{nodes_of, tree_of}
+use Rattle.jsonc_cst.specs.Nodes.{number_of}
+use Rattle.jsonc_parser.specs.Below.named.declared.shape.Over.TheVariants.{Keep}
+use Rattle.jsonc_parser.specs.Below.settings.Calls.{DropsWhatShown, PutsWhatShown, WantsMemory}
+use Rattle.jsonc_parser.specs.Below.settings.Found.{FindsWhatShown}
+use Rattle.jsonc_engine.specs.Fault.{EndsPutting}
+use Rattle.jsonc_engine.specs.Settings.{DropsSetting, HasInTheWay, HasNothingAt, IsShownAt, PutsSetting, ShowsOne}
+use Rattle.jsonc_engine.specs.declared.fault.Fault.TheVariants.{Edit}
+
+module _ (o : Options) (ns : List Node) (sound : SoundTree o (ordered_tree ns 0)) where
+  text : (w : Option Plain) × IsDocument o (printed_text (ordered_tree ns 0)) w × DocumentValueOf o (ordered_tree ns 0) w
+  text = document_printed o (ordered_tree ns 0) sound.shaped sound.lines
+
+  abbrev d : Document
+  d = document_of o (ordered_tree ns 0) text.0
+
+  shown : Shows d (ordered_tree ns 0)
+  shown = record { sound = sound; value = text.2; is = refl }
+
+  abbrev one : ShowsOne o ns
+  one = record { document = d; options = refl; shown = shown }
+
+  pub puts_setting : (v : Plain) (names : List (List ℕ)) (new : List Node) → PutsWhatShown v Keep names ns new true → PutsSetting o v names ns new
+  puts_setting v names new puts = record { one = one; puts = puts d shown }
+
+  pub in_the_way : (v : Plain) (names : List (List ℕ)) (new : List Node) → PutsWhatShown v Keep names ns new false → HasInTheWay o (printed (ordered_tree ns 0)) names
+  in_the_way v names new puts = (text.0, text.1, (puts d shown).1.1)
+
+  pub stays_so : (v : Plain) (names : List (List ℕ)) (new : List Node) → PutsWhatShown v Keep names ns new false → ordered_tree new 0 ≡ ordered_tree ns 0
+  stays_so v names new puts = ap (λ (l : List Node). ordered_tree l 0) (puts d shown).0
+
+  pub drops_setting : (names : List (List ℕ)) (new : List Node) (done : Bool) → DropsWhatShown names ns new done → DropsSetting o names ns new
+  drops_setting names new done drops = record { one = one; done = done; drops = drops d shown }
+
+  pub for_memory : (e : EditError) → WantsMemory ns e → e ≡ OutOfMemory
+  for_memory e wants = wants d shown
+
+  pub memory_putting : (names : List (List ℕ)) (e : EditError) → WantsMemory ns e → EndsPutting o (printed (ordered_tree ns 0)) names (Edit e)
+  memory_putting names e wants = subst (λ (x : EditError). EndsPutting o (printed (ordered_tree ns 0)) names (Edit x)) (sym (wants d shown)) tt
+
+module _ {A : Type 0} (o : Options) (doc : CstRootNode A) (sound : SoundTree o (tree_of doc)) (names : List (List ℕ)) where
+  pub nothing_there : FindsWhatShown doc names None → HasNothingAt o (printed (tree_of doc)) names
+  nothing_there finds =
+      let t = text o (nodes_of doc) sound in
+      (t.0, t.1, finds (d o (nodes_of doc) sound) (shown o (nodes_of doc) sound))
+
+  pub shown_there : (node : CstNode) (output : List ℕ) → FindsWhatShown doc names (Some node) → output ≡ printed (ordered_tree (nodes_of doc) (number_of node)) ++ 0x0A ∷ [] → IsShownAt o names (nodes_of doc) output
+  shown_there node output finds prints = record {
+    one = one o (nodes_of doc) sound;
+    node = number_of node;
+    there = finds (d o (nodes_of doc) sound) (shown o (nodes_of doc) sound);
+    prints = prints;
+  }

@@ -1,0 +1,40 @@
+use Rattle.std.proofs.Common.{◌≡◌, rules}
+use Rattle.jsonc_text.specs.Options.{all_on}
+use Rattle.jsonc_text.specs.OptionsOf.{parse_options}
+use Rattle.jsonc_cst.specs.Document.{tree_of}
+use Rattle.jsonc_engine.proofs.Names.{another_value, names_read, names_refused, no_value}
+use Rattle.jsonc_engine.proofs.argument.read_path.Goals as goal
+
+pub returns-in_default-clause-refused : goal.returns-in_default-clause-refused
+returns-in_default-clause-refused g c =
+    let all : parse_options c.default.result ≡ all_on = search rules in
+    let tree = tree_of c.in-Ok.document in
+    let o = parse_options c.default.result in
+    no_value c.args.path.now o all tree c.in-Ok.ensures.shaped c.in-Ok.ensures.value c.in-Ok-to_value.taken c.in-Ok-to_value.ensures.value c.in_default.is
+
+pub returns-in_default-value : goal.returns-in_default-value
+returns-in_default-value g c =
+    let all : parse_options c.default.result ≡ all_on = search rules in
+    let tree = tree_of c.in-Ok.document in
+    let o = parse_options c.default.result in
+    record {
+      names = tt;
+      refused =
+          another_value c.args.path.now o all tree c.in-Ok.ensures.shaped c.in-Ok.ensures.value c.in-Ok-to_value.taken c.in-Ok-to_value.ensures.value c.in-Some.value c.in-Some.is c.in_default-value.not-Array;
+    }
+
+pub returns-clause-names : goal.returns-clause-names
+returns-clause-names g c =
+    let all : parse_options c.default.result ≡ all_on = search rules in
+    let tree = tree_of c.in-Ok.document in
+    let o = parse_options c.default.result in
+    names_read c.args.path.now o all tree c.in-Ok.ensures.shaped c.in-Ok.ensures.value c.in-Ok-to_value.taken c.in-Ok-to_value.ensures.value c.in-Some.value c.in-Some.is c.in-Array.values c.in-Array.is c.strings_of.result
+    c.strings_of.ensures.strings
+
+pub returns-clause-refused : goal.returns-clause-refused
+returns-clause-refused g c =
+    let all : parse_options c.default.result ≡ all_on = search rules in
+    let tree = tree_of c.in-Ok.document in
+    let o = parse_options c.default.result in
+    names_refused c.args.path.now o all tree c.in-Ok.ensures.shaped c.in-Ok.ensures.value c.in-Ok-to_value.taken c.in-Ok-to_value.ensures.value c.in-Some.value c.in-Some.is c.in-Array.values c.in-Array.is c.strings_of.result
+    c.strings_of.ensures.refused

@@ -1,0 +1,23 @@
+use Rattle.std.proofs.Common.{inl, inr}
+use Rattle.jsonc_engine.specs.Command.{request_of}
+use Rattle.jsonc_text.specs.OptionsOf.{parse_options}
+use Rattle.jsonc_engine.proofs.Telling.{is_ready, memory_told}
+use Rattle.jsonc_engine.proofs.engine.run_with.Goals as goal
+
+pub returns-in-Err-clause-not_utf8 : goal.returns-in-Err-clause-not_utf8
+returns-in-Err-clause-not_utf8 g c = λ no. inl c.in-Err.ensures.refused
+
+pub returns-in-Err-clause-refused : goal.returns-in-Err-clause-refused
+returns-in-Err-clause-refused g c = inl c.in-Err.ensures.refused
+
+pub returns-in-Err-output_of-clause-not_utf8 : goal.returns-in-Err-output_of-clause-not_utf8
+returns-in-Err-output_of-clause-not_utf8 g c = λ other.
+    inr (is_ready (request_of c.args.command) c.in-Ok.change c.in-Ok.ensures.change, c.in-Err-output_of.ensures.not_utf8 other)
+
+pub returns-in-Err-output_of-clause-refused : goal.returns-in-Err-output_of-clause-refused
+returns-in-Err-output_of-clause-refused g c =
+    inr (is_ready (request_of c.args.command) c.in-Ok.change c.in-Ok.ensures.change, c.in-Err-output_of.ensures.refused (request_of c.args.command) c.in-Ok.ensures.change)
+
+pub returns-clause-refused : goal.returns-clause-refused
+returns-clause-refused g c =
+    memory_told (parse_options c.args.options.now) (request_of c.args.command) c.args.input.now (is_ready (request_of c.args.command) c.in-Ok.change c.in-Ok.ensures.change) c.text_of.result c.text_of.ensures.memory

@@ -1,0 +1,14 @@
+use Rattle.std.proofs.Common.{ap}
+use Rattle.jsonc_cst.specs.Document.{nodes_of}
+use Rattle.jsonc_parser.specs.Below.settings.Found.{names_of}
+use Rattle.jsonc_engine.specs.declared.fault.Fault.TheVariants.{Edit}
+use Rattle.jsonc_engine.proofs.Standing.{drops_setting, for_memory}
+use Rattle.jsonc_engine.proofs.settings.drop_setting.Goals as goal
+
+pub returns-in-Ok-clause-dropped : goal.returns-in-Ok-clause-dropped
+returns-in-Ok-clause-dropped g c = λ o sound.
+    drops_setting o (nodes_of c.args.document.now) sound (names_of c.args.names.now) (nodes_of c.remove_at.new.doc) c.in-Ok.field-0 c.in-Ok.ensures.dropped
+
+pub returns-in-Err-clause-told : goal.returns-in-Err-clause-told
+returns-in-Err-clause-told g c = λ o sound.
+    ap Edit (for_memory o (nodes_of c.args.document.now) sound c.in-Err.error c.in-Err.ensures.told)

@@ -1,0 +1,36 @@
+use Rattle.std.proofs.Common.{Bool, subst}
+use Rattle.jsonc_input.specs.Views.{plain}
+use Rattle.jsonc_cst.specs.Document.{nodes_of}
+use Rattle.jsonc_parser.specs.Below.named.declared.shape.Over.TheVariants.{Keep}
+use Rattle.jsonc_parser.specs.Below.settings.Calls.{PutsWhatShown}
+use Rattle.jsonc_parser.specs.Below.settings.Found.{names_of}
+use Rattle.jsonc_engine.proofs.Standing.{in_the_way, memory_putting, puts_setting, stays_so}
+use Rattle.jsonc_engine.proofs.settings.put_setting.Goals as goal
+
+pub returns-in-Ok-true-clause-put : goal.returns-in-Ok-true-clause-put
+returns-in-Ok-true-clause-put g c = λ o sound.
+    let old = nodes_of c.args.document.now in
+    let new = nodes_of c.set_at.new.doc in
+    let v = plain c.args.value in
+    let names = names_of c.args.names.now in
+    puts_setting o old sound v names new (subst (λ (b : Bool). PutsWhatShown v Keep names old new b) c.in-Ok-true.field-0-test c.in-Ok-true.ensures.put)
+
+pub returns-in-Ok-false-clause-told : goal.returns-in-Ok-false-clause-told
+returns-in-Ok-false-clause-told g c = λ o sound.
+    let old = nodes_of c.args.document.now in
+    let new = nodes_of c.set_at.new.doc in
+    let v = plain c.args.value in
+    let names = names_of c.args.names.now in
+    in_the_way o old sound v names new (subst (λ (b : Bool). PutsWhatShown v Keep names old new b) c.in-Ok-false.field-0-test c.in-Ok-false.ensures.put)
+
+pub returns-in-Ok-false-clause-document : goal.returns-in-Ok-false-clause-document
+returns-in-Ok-false-clause-document g c = λ o sound.
+    let old = nodes_of c.args.document.now in
+    let new = nodes_of c.set_at.new.doc in
+    let v = plain c.args.value in
+    let names = names_of c.args.names.now in
+    stays_so o old sound v names new (subst (λ (b : Bool). PutsWhatShown v Keep names old new b) c.in-Ok-false.field-0-test c.in-Ok-false.ensures.put)
+
+pub returns-in-Err-clause-told : goal.returns-in-Err-clause-told
+returns-in-Err-clause-told g c = λ o sound.
+    memory_putting o (nodes_of c.args.document.now) sound (names_of c.args.names.now) c.in-Err.error c.in-Err.ensures.told

@@ -1,0 +1,81 @@
+//! Values at paths of names.
+ghost use Rattle.std.specs.Prelude.{◌≡◌, IfErr, IfOk, OnErr, OnOk};
+ghost use Rattle.jsonc_text.specs.Options.{Options};
+ghost use Rattle.jsonc_input.specs.Views.{plain};
+ghost use Rattle.jsonc_laws.specs.SoundTrees.{SoundTree};
+ghost use Rattle.jsonc_cst.specs.Document.{nodes_of, printed_of, tree_of};
+ghost use Rattle.jsonc_parser.specs.Below.settings.Found.{names_of};
+ghost use Rattle.jsonc_engine.specs.Fault.{EndsGetting, EndsPutting};
+ghost use Rattle.jsonc_engine.specs.Output.{output_bytes};
+ghost use Rattle.jsonc_engine.specs.Settings.{DropsIfSound, PutsIfSound, ShownIfSound};
+
+use crate::fault::Fault;
+use crate::output::Output;
+use jsonc_parser::cst::{CstInputValue, CstRootNode, EditError, IsNode, Over};
+use jsonc_parser::settings::{find_at, remove_at, set_at};
+use std::alloc::Allocator;
+
+/// The value at names as it is written, and a line feed behind it.
+///
+/// It is `Fault::NoSetting` where nothing stands there. Memory may be wanted, which is `Fault::Edit`.
+pub(crate) fn get_setting<A: Allocator + Copy>(
+    document: &CstRootNode<A>,
+    names: &[String<A>],
+) -> Result<Output<A>, Fault>
+    ensures text { (o : Options) → IfOk result
+        (λ output. ShownIfSound o (names_of names.now) (nodes_of document.now) (output_bytes output)) }
+    ensures told { (o : Options) → SoundTree o (tree_of document.now)
+        → IfErr result (EndsGetting o (printed_of document.now) (names_of names.now)) }
+{
+    let node = match find_at(document, names) {
+        Ok(Some(node)) => node,
+        Ok(None) => return Err(Fault::NoSetting),
+        Err(error) => return Err(Fault::Edit(error)),
+    };
+    match format!(in document.alloc; "{}\n", node.shown(document)) {
+        Ok(text) => Ok(Output::Text(text)),
+        Err(_) => Err(Fault::Edit(EditError::OutOfMemory)),
+    }
+}
+
+/// Puts a value at names.
+///
+/// It is `Fault::OnTheWay` where a value of another kind than an object stands on the way. Memory may be wanted,
+/// which is `Fault::Edit`. A refusal leaves the document as it was.
+pub(crate) fn put_setting<A: Allocator + Copy>(
+    document: &mut CstRootNode<A>,
+    names: &[String<A>],
+    value: CstInputValue<A>,
+) -> Result<(), Fault>
+    ensures put { (o : Options) → OnOk result
+        (PutsIfSound o (plain value) (names_of names.now) (nodes_of document.old) (nodes_of document.new)) }
+    ensures told { (o : Options) → SoundTree o (tree_of document.old)
+        → IfErr result (EndsPutting o (printed_of document.old) (names_of names.now)) }
+    ensures document { (o : Options) → SoundTree o (tree_of document.old)
+        → OnErr result (tree_of document.new ≡ tree_of document.old) }
+{
+    match set_at(document, names, value, Over::Keep) {
+        Ok(true) => Ok(()),
+        Ok(false) => Err(Fault::OnTheWay),
+        Err(error) => Err(Fault::Edit(error)),
+    }
+}
+
+/// Drops what stands at names. Where nothing stands there the document stays as it is.
+///
+/// Memory may be wanted, which is `Fault::Edit`. A refusal leaves the document as it was.
+pub(crate) fn drop_setting<A: Allocator + Copy>(
+    document: &mut CstRootNode<A>,
+    names: &[String<A>],
+) -> Result<(), Fault>
+    ensures dropped { (o : Options) → OnOk result
+        (DropsIfSound o (names_of names.now) (nodes_of document.old) (nodes_of document.new)) }
+    ensures told { (o : Options) → SoundTree o (tree_of document.old)
+        → IfErr result (λ fault. fault ≡ Fault.Edit EditError.OutOfMemory) }
+    ensures document { OnErr result (tree_of document.new ≡ tree_of document.old) }
+{
+    match remove_at(document, names) {
+        Ok(_) => Ok(()),
+        Err(error) => Err(Fault::Edit(error)),
+    }
+}
