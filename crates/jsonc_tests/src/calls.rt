@@ -46,15 +46,22 @@ pub enum Call {
     Set,
     SetFirst,
     Sorted,
+    Got,
+    Put,
+    PutFirst,
+    Dropped,
     WholeRun,
     WholeAppend,
     WholeSet,
     WholeSetOfNew,
     WholeRemoval,
+    WholeGet,
+    WholePut,
+    WholeDrop,
 }
 
 /// Those that want memory wherever a request is refused, each with its name.
-pub static CALLS: [(Call, &str); 24] = [
+pub static CALLS: [(Call, &str); 31] = [
     (Call::Decode, "decode"),
     (Call::DecodeProvided, "decode provided"),
     (Call::Scan, "scan"),
@@ -74,11 +81,18 @@ pub static CALLS: [(Call, &str); 24] = [
     (Call::Appended, "appended"),
     (Call::Set, "set"),
     (Call::SetFirst, "set first"),
+    (Call::Got, "got"),
+    (Call::Put, "put"),
+    (Call::PutFirst, "put first"),
+    (Call::Dropped, "dropped"),
     (Call::WholeRun, "whole run"),
     (Call::WholeRemoval, "whole removal"),
     (Call::WholeAppend, "whole append"),
     (Call::WholeSet, "whole set"),
     (Call::WholeSetOfNew, "whole set of a new name"),
+    (Call::WholeGet, "whole get"),
+    (Call::WholePut, "whole put"),
+    (Call::WholeDrop, "whole drop"),
 ];
 
 /// A text of plain JSON, with more elements and properties than a list has room for at first.
@@ -106,6 +120,17 @@ const CHANGED: &str = "{\"b\": 1, // one\n \"a\": [true]}";
 const LONGER: &str = "{\"b\": 1, // one\n \"a\": 2,\n \"c\": [true]}";
 
 const SHORTER: &str = "{\"b\": 1 // one\n}";
+
+/// Names of a value in an object in an object, the value there, and the text with another and without it.
+const INNER_PATH: &str = "[\"a\", \"\\u0062\"]";
+
+const INNER: &str = "{\"a\": {\"b\": 1, \"c\": 2}}";
+
+const INNER_VALUE: &str = "1\n";
+
+const INNER_PUT: &str = "{\"a\": {\"b\": [true], \"c\": 2}}";
+
+const INNER_DROPPED: &str = "{\"a\": { \"c\": 2}}";
 
 /// One with comments, an escape and looser spelling.
 const LOOSE: &str = "// one\n[{a: '\\x62', 0x1F: +.5, c: Infinity,}, /* two */ [NaN -1]]";
@@ -148,11 +173,23 @@ pub fn outcome_of<A: Allocator + Copy>(call: Call, alloc: A) -> Outcome {
         Call::Set => changed(alloc, Command::Set("a", "1"), "{\"a\":0}", "{\"a\":1}"),
         Call::SetFirst => changed(alloc, Command::Set("a", "1"), "", "{\n  \"a\": 1\n}\n"),
         Call::Sorted => changed(alloc, Command::Sort, UNSORTED, SORTED),
+        Call::Got => changed(alloc, Command::Get(INNER_PATH), INNER, INNER_VALUE),
+        Call::Put => changed(alloc, Command::Put(INNER_PATH, "[true]"), INNER, INNER_PUT),
+        Call::PutFirst => changed(
+            alloc,
+            Command::Put(INNER_PATH, "true"),
+            "",
+            "{\n  \"a\": {\n    \"b\": true\n  }\n}\n",
+        ),
+        Call::Dropped => changed(alloc, Command::Drop(INNER_PATH), INNER, INNER_DROPPED),
         Call::WholeRun => whole_run(alloc, &["print"], PLAIN, PLAIN),
         Call::WholeAppend => whole_run(alloc, &["append", "2"], COMMENT_INSIDE, COMMENT_BEFORE),
         Call::WholeSet => whole_run(alloc, &["set", "a", "[true]"], UNSORTED, CHANGED),
         Call::WholeSetOfNew => whole_run(alloc, &["set", "c", "[true]"], UNSORTED, LONGER),
         Call::WholeRemoval => whole_run(alloc, &["remove", "a"], UNSORTED, SHORTER),
+        Call::WholeGet => whole_run(alloc, &["get", INNER_PATH], INNER, INNER_VALUE),
+        Call::WholePut => whole_run(alloc, &["put", INNER_PATH, "[true]"], INNER, INNER_PUT),
+        Call::WholeDrop => whole_run(alloc, &["drop", INNER_PATH], INNER, INNER_DROPPED),
     }
 }
 
@@ -285,6 +322,7 @@ fn token_copy<A: Allocator + Copy>(alloc: A) -> Outcome {
 fn of_fault(fault: Fault) -> Outcome {
     match fault {
         Fault::Input(error) => Outcome::from(error),
+        Fault::Path(error) => Outcome::from(error),
         Fault::Argument(error) => Outcome::from(error),
         Fault::Edit(error) => Outcome::from(error),
         _ => Outcome::Other,

@@ -81,8 +81,8 @@ const OBJECT: &[u8] = b"{\"b\": 1, // one\n \"a\": 2}";
 
 /// The array takes seven reads: six of five bytes, and one that finds the end. The object takes six. Each piece
 /// of what is written takes one write, but two where it is longer than five bytes, as the strings of the array
-/// and the comment are; and one call more is the flush.
-static CASES: [Case; 6] = [
+/// and the comment are; and one call more is the flush. A value that is got is one piece.
+static CASES: [Case; 10] = [
     Case {
         words: &["print"],
         input: TEXT,
@@ -130,6 +130,38 @@ static CASES: [Case; 6] = [
         written: b"{\"b\": 1 // one\n}",
         // 9 pieces, with the comment.
         writes: 11,
+    },
+    Case {
+        words: &["get", "[\"a\"]"],
+        input: b"{\"a\": [1, /*x*/ 2]}",
+        reads: 5,
+        written: b"[1, /*x*/ 2]\n",
+        // 13 bytes in one piece.
+        writes: 4,
+    },
+    Case {
+        words: &["put", "[\"a\",\"b\"]", "2"],
+        input: b"{\"a\": {\"b\": 1}}",
+        reads: 4,
+        written: b"{\"a\": {\"b\": 2}}",
+        // 11 pieces.
+        writes: 12,
+    },
+    Case {
+        words: &["put", "[\"b\"]", "null"],
+        input: b"{\"a\": 1}",
+        reads: 3,
+        written: b"{\n  \"a\": 1,\n  \"b\": null\n}",
+        // 16 pieces.
+        writes: 17,
+    },
+    Case {
+        words: &["drop", "[\"a\",\"b\"]"],
+        input: b"{\"a\": {\"b\": 1, \"c\": 2}}",
+        reads: 6,
+        written: b"{\"a\": { \"c\": 2}}",
+        // 12 pieces.
+        writes: 13,
     },
 ];
 
@@ -231,5 +263,63 @@ fn a_json_text_is_read_before_the_input(rt: HostRuntime) -> Result<(), Fail> {
     assert!(rt; is_told(&ended, line) && written.is_empty());
     let (ended, written) = run(rt.alloc(), &["append", "/**/"], TEXT, 0, 100);
     assert!(rt; is_told(&ended, "jsonc: argument: no value") && written.is_empty());
+    Ok(())
+}
+
+/// What comes first where the path, the JSON text and the first read are wrong.
+static FIRST: [(&[&str], &str); 8] = [
+    (
+        &["get", "@"],
+        "jsonc: path: Unexpected token on line 1 column 1",
+    ),
+    (&["get", "/**/"], "jsonc: path is not a list of strings"),
+    (&["drop", "[1]"], "jsonc: path is not a list of strings"),
+    (
+        &["put", "@", "@"],
+        "jsonc: path: Unexpected token on line 1 column 1",
+    ),
+    (
+        &["put", "[\"a\",2]", "@"],
+        "jsonc: path is not a list of strings",
+    ),
+    (
+        &["put", "[\"a\"]", "@"],
+        "jsonc: argument: Unexpected token on line 1 column 1",
+    ),
+    (&["put", "[\"a\"]", "/**/"], "jsonc: argument: no value"),
+    (&["put", "[\"a\"]", "1"], "jsonc: read failed"),
+];
+
+#[test]
+fn a_path_is_read_before_a_json_text_and_the_input(rt: HostRuntime) -> Result<(), Fail> {
+    for (words, line) in &FIRST {
+        let (ended, written) = run(rt.alloc(), words, TEXT, 0, 100);
+        assert!(rt; is_told(&ended, line) && written.is_empty(), "{words:?}");
+    }
+    Ok(())
+}
+
+/// What is told of the input at a path.
+static AT_PATHS: [(&[&str], &[u8], &str); 4] = [
+    (&["get", "[\"b\"]"], b"{\"a\": 1}", "jsonc: no such setting"),
+    (&["get", "[]"], b"// one", "jsonc: no such setting"),
+    (
+        &["get", "[\"a\",\"b\"]"],
+        b"{\"a\": 1}",
+        "jsonc: no such setting",
+    ),
+    (
+        &["put", "[\"a\",\"b\"]", "2"],
+        b"{\"a\": 1}",
+        "jsonc: a value on the path is not an object",
+    ),
+];
+
+#[test]
+fn nothing_is_written_where_a_path_leads_nowhere(rt: HostRuntime) -> Result<(), Fail> {
+    for (words, input, line) in &AT_PATHS {
+        let (ended, written) = run(rt.alloc(), words, input, 100, 100);
+        assert!(rt; is_told(&ended, line) && written.is_empty(), "{words:?}");
+    }
     Ok(())
 }
