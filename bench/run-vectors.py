@@ -3,8 +3,8 @@
 
 usage: bench/run-vectors.py FOLDER [PROGRAM]
 
-An answer is the same as the stored one, or `not yet` where the rules say so by the case alone, or it differs:
-then the wanted line and the answer are printed, of the first twenty such cases. The status is 1 if any differs.
+An answer is the same as the stored one, or it differs: then the wanted line and the answer are printed, of the
+first twenty such cases. The status is 1 if any differs.
 """
 import collections
 import os
@@ -17,7 +17,7 @@ PROGRAM = os.path.join(os.path.dirname(os.path.abspath(__file__)), '..', 'crates
 
 
 def main(folder, program=PROGRAM):
-    vector_list = list(vectors.read(folder))
+    vector_list = list(vectors.vectors(folder))
     text = ''.join('\t'.join(case) + '\n' for case, _ in vector_list)
     run = subprocess.run([program], input=text.encode(), capture_output=True)
     answers = run.stdout.decode().split('\n')[:-1]
@@ -25,8 +25,8 @@ def main(folder, program=PROGRAM):
         sys.exit('%d cases, but %d answers, status %d: %s' % (len(vector_list), len(answers), run.returncode, run.stderr.decode()))
     counts, differing = collections.Counter(), 0
     for (case, stored), answer in zip(vector_list, answers):
-        wanted = vectors.expected(case, stored)
-        outcome = 'not yet' if answer == wanted and vectors.is_not_yet(case) else 'same' if answer == wanted else 'differing'
+        wanted = '\t'.join(stored)
+        outcome = 'same' if answer == wanted else 'differing'
         counts[case[1], outcome] += 1
         counts['all', outcome] += 1
         if outcome == 'differing':
@@ -34,7 +34,7 @@ def main(folder, program=PROGRAM):
             if differing <= 20:
                 print('wanted  %s\nanswer  %s' % (wanted, answer))
     for kind in sorted({kind for kind, _ in counts} - {'all'}) + ['all']:
-        print('%-9s' % kind, *('%6d %s' % (counts[kind, outcome], outcome) for outcome in ('same', 'not yet', 'differing')), sep='  ')
+        print('%-9s' % kind, *('%6d %s' % (counts[kind, outcome], outcome) for outcome in ('same', 'differing')), sep='  ')
     sys.exit(1 if differing else 0)
 
 

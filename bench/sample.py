@@ -1,11 +1,11 @@
 #!/usr/bin/env python3
-"""Writes crates/jsonc_bench/stdin and stdout: the cases of bench/crate, bench/rows, bench/cuts and bench/pairs, and a
-sample of a folder of vectors.
+"""Writes crates/jsonc_bench/stdin and stdout: the cases of bench/crate, bench/rows, bench/settings, bench/cuts and
+bench/pairs, and a sample of a folder of vectors.
 
 usage: bench/sample.py FOLDER
 
 Of a folder it takes, shortest first, each case that shows something no case before it shows: see `shown`.
-What is wanted is the stored answer, or `not yet` by the case alone; no answer is made here.
+What is wanted is the stored answer; no answer is made here.
 """
 import os
 import re
@@ -13,7 +13,7 @@ import sys
 
 import vectors
 
-HERE = os.path.dirname(os.path.abspath(__file__))
+HERE = vectors.HERE
 CRATE = os.path.join(HERE, '..', 'crates', 'jsonc_bench')
 # Longer cases are left out, but for those that show a depth.
 LONGEST = 1500
@@ -35,6 +35,7 @@ NO_CASES = [
     ('bad-word\tjsonc\tprint\t1', "a word begins with '"),
     ("bad-look-up\tjobj\t1111111111\t{}\tget_null 'a", LOOKUP),
     ('bad-name\tjobj\t1111111111\t{}\ttake a', LOOKUP),
+    ('bad-edit\tedit\t1111111111\t1\tMove / /0', EDIT),
     ('bad-path\tedit\t1111111111\t1\tReplace /a N', EDIT),
     ('bad-value\tedit\t1111111111\t1\tReplace / [2 N', EDIT),
     ('bad-more\tedit\t1111111111\t1\tReplace / N N', EDIT),
@@ -146,11 +147,8 @@ def readings_shown(answer):
 def shown(case, answer):
     """What a case and its answer show; of look-ups in syntax trees, which are few, each shows itself."""
     kind, fields = case[1], case[2:]
-    if vectors.is_not_yet(case):
-        yield kind, 'not yet'
-        return
-    if kind == 'jsonc':
-        yield kind, fields[0], answer[1:4]
+    if kind in ('jsonc', 'settings'):
+        yield 'jsonc', fields[0], answer[1:4]
         return
     if kind == 'read':
         yield from readings_shown(answer)
@@ -201,13 +199,13 @@ def shown(case, answer):
 
 def depth_shown(case, answer):
     """Of the cases at the limit of depth: whether they are taken, and how deep the text is."""
-    if case[0].startswith(('dep', 'row-objects-25')) and not vectors.is_not_yet(case):
+    if case[0].startswith(('dep', 'row-objects-25')):
         text = case[-1]
         yield case[1], 'limit', answer[1][:5], text.count('['), text.count('{')
 
 
 def sample(folder, found):
-    cases = sorted(vectors.read(folder), key=lambda c: (len('\t'.join(c[0])) + len('\t'.join(c[1])), c[0][1:]))
+    cases = sorted(vectors.vectors(folder), key=lambda c: (len('\t'.join(c[0])) + len('\t'.join(c[1])), c[0][1:]))
     for case, answer in cases:
         news = set(map(str, depth_shown(case, answer)))
         if len('\t'.join(case)) <= LONGEST:
@@ -222,7 +220,7 @@ def main(folder):
 
     def put(case, answer):
         lines.append('\t'.join(case))
-        answers.append(vectors.expected(case, answer))
+        answers.append('\t'.join(answer))
         found.update(map(str, shown(case, answer)), map(str, depth_shown(case, answer)))
 
     lines.append('% Cases of the Rust crate\'s own tests')
@@ -233,6 +231,9 @@ def main(folder):
         put(case, answer)
     for case, answer in DEEP:
         put(case, case[:1] + answer)
+    lines.append('% Settings')
+    for case, answer in vectors.read(os.path.join(HERE, 'settings')):
+        put(case, answer)
     lines.append('% Every beginning of the texts of worked rows, read by three calls')
     for case, answer in vectors.cuts(os.path.join(HERE, 'cuts')):
         put(case, answer)
@@ -253,7 +254,7 @@ def main(folder):
     for name, rows in ('stdin', lines), ('stdout', answers):
         with open(os.path.join(CRATE, name), 'w', encoding='ascii', newline='\n') as out:
             out.write('\n'.join(rows) + '\n')
-    print(len(answers), 'answers wanted, of them', sum(a.endswith('\tnot yet') for a in answers), 'not yet')
+    print(len(answers), 'answers wanted')
 
 
 if __name__ == '__main__':

@@ -1,13 +1,14 @@
-"""Vectors: cases and stored answers, and which cases are answered `not yet` (docs/BENCH.md, "Not yet")."""
+"""Vectors: cases and stored answers."""
 import glob
 import itertools
 import os
 import re
+import sys
 
-EDITS = {'Replace', 'Remove', 'RemoveComment', 'SetRoot', 'ClearRoot', 'ReplaceProperty', 'EnsureRoot',
-         'SetValue', 'EnsureValue', 'SetBoolean', 'EnsureMultiline', 'AppendElement', 'InsertElement',
-         'AppendProperty', 'InsertProperty', 'EnsureProperty', 'SetTrailingCommas', 'Sort', 'SortX',
-         'RawSet', 'RawRemove', 'RawRemoveName', 'RawReplaceName', 'RawRemoveValue'}
+HERE = os.path.dirname(os.path.abspath(__file__))
+USAGE = 'usage: jsonc check|print|set NAME JSON|append JSON|remove NAME|sort|get PATH|put PATH JSON|drop PATH\\x0A'
+# How many words the commands of settings have, with their own.
+SETTINGS = {"'get": 2, "'put": 3, "'drop": 2}
 
 
 def unescaped(field):
@@ -23,12 +24,10 @@ def edits_of(case):
     return [edit.split(' ') for edit in case[4].split(' ; ')] if case[4] else []
 
 
-def is_not_yet(case):
-    """Whether a case depends on something that is not built, by the case alone."""
-    kind = case[1]
-    if kind in ('edit', 'read'):
-        return any(edit[0] not in EDITS for edit in edits_of(case))
-    return kind not in ('scan', 'ast', 'value', 'equal', 'jobj', 'aobj', 'decode', 'print', 'jsonc')
+def is_settings(case):
+    """Whether a run of the program is one of a command of settings."""
+    words = case[2].split()
+    return bool(words) and len(words) == SETTINGS.get(words[0])
 
 
 def read(folder):
@@ -41,6 +40,21 @@ def read(folder):
         for case, answer in zip(cases, answers, strict=True):
             if case and not case.startswith('%'):
                 yield case.split('\t'), answer.split('\t')
+
+
+def vectors(folder):
+    """Every case of a folder of vectors with its answer.
+
+    Of kind `jsonc` the usage line there is that of a program without the commands of settings. It stands for the whole one; of
+    these commands themselves the answers are those of bench/settings, which has the same words and inputs as kind `settings`.
+    """
+    settings = {tuple(case[2:]): answer[1:] for case, answer in read(os.path.join(HERE, 'settings'))}
+    for case, answer in read(folder):
+        if case[1] == 'jsonc' and answer[1] == '2':
+            if is_settings(case) and tuple(case[2:]) not in settings:
+                sys.exit('%s: bench/settings has no answer of %s' % (case[0], case[2]))
+            answer = case[:1] + (settings[tuple(case[2:])] if is_settings(case) else ['2', '', USAGE])
+        yield case, answer
 
 
 def lines(folder, name):
@@ -91,8 +105,3 @@ def pairs(folder):
             calls = three_calls('off%d-%d-%d' % (*off, option), options, 'O-', text)
             for case, answer in zip(calls, stored[first:first + 3]):
                 yield case, case[:1] + answer
-
-
-def expected(case, answer):
-    """The line that is wanted of the program."""
-    return '\t'.join(answer) if not is_not_yet(case) else case[0] + '\tnot yet'

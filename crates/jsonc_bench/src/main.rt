@@ -1,6 +1,6 @@
 //! Answers cases: what this repository's calls say of a text, one case a line in and one answer a line out.
 //!
-//! `docs/BENCH.md` has the forms of cases and answers, and which cases are answered `not yet`.
+//! `docs/BENCH.md` has the forms of cases and answers.
 #![tactic(auto)]
 
 mod answer;
@@ -32,11 +32,9 @@ fn answer_line(alloc: Global, line: &[u8]) -> Result<String, CaseError> {
     };
     let case = Case::from_line(alloc, line)?;
     let Case { id, question } = case;
-    let written = match answer::answer(alloc, question)? {
-        Some(answer) => format!(in alloc; "{id}\t{answer}")?,
-        None => format!(in alloc; "{id}\tnot yet")?,
-    };
-    Ok(written)
+    let answer = answer::answer(alloc, question)?;
+    let line = format!(in alloc; "{id}\t{answer}")?;
+    Ok(line)
 }
 
 /// What stands in the place of an answer where the line with this number, counted from 1, is no case.

@@ -70,8 +70,6 @@ pub enum Question {
         words: Vec<String>,
         input: Vec<u8>,
     },
-    /// What no call of this repository answers yet.
-    NotBuilt,
 }
 
 /// A question, with the name by which its answer is known.
@@ -106,8 +104,7 @@ impl Question {
             "read" => read(alloc, fields),
             "decode" => decode(alloc, fields),
             "print" => print(alloc, fields),
-            "jsonc" => program(alloc, fields),
-            "trace" | "settings" | "detached" => Ok(Question::NotBuilt),
+            "jsonc" | "settings" => program(alloc, fields),
             _ => Err(CaseError::UnknownKind),
         }
     }
@@ -200,13 +197,10 @@ fn edit(alloc: Global, fields: &[&str]) -> Result<Question, CaseError> {
     let [options, text, edits] = fields else {
         return Err(CaseError::FieldCount);
     };
-    let Some(edits) = read_edits(alloc, edits)? else {
-        return Ok(Question::NotBuilt);
-    };
     Ok(Question::Edit {
         options: read_options(options)?,
         text: unescaped_text(alloc, text)?,
-        edits,
+        edits: read_edits(alloc, edits)?,
     })
 }
 
@@ -214,13 +208,10 @@ fn read(alloc: Global, fields: &[&str]) -> Result<Question, CaseError> {
     let [options, text, edits] = fields else {
         return Err(CaseError::FieldCount);
     };
-    let Some(edits) = read_edits(alloc, edits)? else {
-        return Ok(Question::NotBuilt);
-    };
     Ok(Question::Read {
         options: read_options(options)?,
         text: unescaped_text(alloc, text)?,
-        edits,
+        edits: read_edits(alloc, edits)?,
     })
 }
 

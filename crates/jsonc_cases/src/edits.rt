@@ -74,31 +74,27 @@ pub enum RawEdit {
     RemoveValue(Vec<usize>),
 }
 
-/// The edits that a field lists, as `Replace /0 [1 #2 ; RemoveComment 0`, or none where one is of a
-/// kind that is not built.
-pub fn read_edits(alloc: Global, field: &str) -> Result<Option<Vec<Step>>, CaseError> {
+/// The edits that a field lists, as `Replace /0 [1 #2 ; RemoveComment 0`.
+pub fn read_edits(alloc: Global, field: &str) -> Result<Vec<Step>, CaseError> {
     let mut edits = Vec::new(alloc);
     if field.is_empty() {
-        return Ok(Some(edits));
+        return Ok(edits);
     }
     for edit in field.split(" ; ") {
-        match read_step(alloc, edit)? {
-            Some(edit) => edits.push(edit)?,
-            None => return Ok(None),
-        }
+        edits.push(read_step(alloc, edit)?)?;
     }
-    Ok(Some(edits))
+    Ok(edits)
 }
 
-fn read_step(alloc: Global, edit: &str) -> Result<Option<Step>, CaseError> {
+fn read_step(alloc: Global, edit: &str) -> Result<Step, CaseError> {
     let words: Vec<&str> = edit.split(' ').collect(alloc)?;
     if let Some(raw) = read_raw(alloc, words.as_slice())? {
-        return Ok(Some(Step::Raw(raw)));
+        return Ok(Step::Raw(raw));
     }
     if let Some(sort) = read_sort(alloc, words.as_slice())? {
-        return Ok(Some(Step::Sort(sort)));
+        return Ok(Step::Sort(sort));
     }
-    Ok(read_edit(alloc, words.as_slice())?.map(Step::Listed))
+    Ok(Step::Listed(read_edit(alloc, words.as_slice())?))
 }
 
 fn read_raw(alloc: Global, words: &[&str]) -> Result<Option<RawEdit>, CaseError> {
@@ -167,97 +163,97 @@ fn read_rule(word: &str) -> Result<SortRule, CaseError> {
     }
 }
 
-fn read_edit(alloc: Global, words: &[&str]) -> Result<Option<Edit<Global>>, CaseError> {
+fn read_edit(alloc: Global, words: &[&str]) -> Result<Edit<Global>, CaseError> {
     match words {
         ["Replace", path, value @ ..] => {
             let (path, value) = read_value_at(alloc, path, value)?;
-            Ok(Some(Edit::Replace(path, value)))
+            Ok(Edit::Replace(path, value))
         }
-        ["Remove", path] => Ok(Some(Edit::Remove(read_path(alloc, path)?))),
-        ["RemoveComment", number] => Ok(Some(Edit::RemoveComment(read_number(number)?))),
+        ["Remove", path] => Ok(Edit::Remove(read_path(alloc, path)?)),
+        ["RemoveComment", number] => Ok(Edit::RemoveComment(read_number(number)?)),
         ["ReplaceProperty", path, name, value @ ..] => {
             let (path, name, value) = read_property_at(alloc, path, name, value)?;
-            Ok(Some(Edit::ReplaceProperty(path, name, value)))
+            Ok(Edit::ReplaceProperty(path, name, value))
         }
-        ["EnsureMultiline", path] => Ok(Some(Edit::EnsureMultiline(read_path(alloc, path)?))),
+        ["EnsureMultiline", path] => Ok(Edit::EnsureMultiline(read_path(alloc, path)?)),
         _ => read_root_edit(alloc, words),
     }
 }
 
 /// An edit of the document's value.
-fn read_root_edit(alloc: Global, words: &[&str]) -> Result<Option<Edit<Global>>, CaseError> {
+fn read_root_edit(alloc: Global, words: &[&str]) -> Result<Edit<Global>, CaseError> {
     match words {
-        ["SetRoot", value @ ..] => Ok(Some(Edit::SetRoot(read_value(alloc, value)?))),
-        ["ClearRoot"] => Ok(Some(Edit::ClearRoot)),
+        ["SetRoot", value @ ..] => Ok(Edit::SetRoot(read_value(alloc, value)?)),
+        ["ClearRoot"] => Ok(Edit::ClearRoot),
         ["EnsureRoot", shape, over] => {
             let (shape, over) = (read_shape(shape)?, read_over(over)?);
-            Ok(Some(Edit::EnsureRoot(shape, over)))
+            Ok(Edit::EnsureRoot(shape, over))
         }
         _ => read_setting(alloc, words),
     }
 }
 
 /// An edit of a property's value, or of a truth value.
-fn read_setting(alloc: Global, words: &[&str]) -> Result<Option<Edit<Global>>, CaseError> {
+fn read_setting(alloc: Global, words: &[&str]) -> Result<Edit<Global>, CaseError> {
     match words {
         ["SetValue", path, value @ ..] => {
             let (path, value) = read_value_at(alloc, path, value)?;
-            Ok(Some(Edit::SetValue(path, value)))
+            Ok(Edit::SetValue(path, value))
         }
         ["EnsureValue", path, shape] => {
             let shape = read_shape(shape)?;
-            Ok(Some(Edit::EnsureValue(read_path(alloc, path)?, shape)))
+            Ok(Edit::EnsureValue(read_path(alloc, path)?, shape))
         }
         ["SetBoolean", path, value] => {
             let value = read_boolean(value)?;
-            Ok(Some(Edit::SetBoolean(read_path(alloc, path)?, value)))
+            Ok(Edit::SetBoolean(read_path(alloc, path)?, value))
         }
         _ => read_insertion(alloc, words),
     }
 }
 
 /// An edit that puts a value into an array.
-fn read_insertion(alloc: Global, words: &[&str]) -> Result<Option<Edit<Global>>, CaseError> {
+fn read_insertion(alloc: Global, words: &[&str]) -> Result<Edit<Global>, CaseError> {
     match words {
         ["AppendElement", path, value @ ..] => {
             let (path, value) = read_value_at(alloc, path, value)?;
-            Ok(Some(Edit::AppendElement(path, value)))
+            Ok(Edit::AppendElement(path, value))
         }
         ["InsertElement", path, index, value @ ..] => {
             let index = read_number(index)?;
             let (path, value) = read_value_at(alloc, path, value)?;
-            Ok(Some(Edit::InsertElement(path, index, value)))
+            Ok(Edit::InsertElement(path, index, value))
         }
         ["SetTrailingCommas", path, mode] => {
             let mode = read_mode(mode)?;
-            Ok(Some(Edit::SetTrailingCommas(read_path(alloc, path)?, mode)))
+            Ok(Edit::SetTrailingCommas(read_path(alloc, path)?, mode))
         }
         ["Sort", path, pin, groups] => {
             let (pin, groups) = (read_flag(pin)?, read_flag(groups)?);
-            Ok(Some(Edit::Sort(read_path(alloc, path)?, pin, groups)))
+            Ok(Edit::Sort(read_path(alloc, path)?, pin, groups))
         }
         _ => read_new_member(alloc, words),
     }
 }
 
 /// A property that comes into an object, or whose value is to be of a shape.
-fn read_new_member(alloc: Global, words: &[&str]) -> Result<Option<Edit<Global>>, CaseError> {
+fn read_new_member(alloc: Global, words: &[&str]) -> Result<Edit<Global>, CaseError> {
     match words {
         ["AppendProperty", path, name, value @ ..] => {
             let (path, name, value) = read_property_at(alloc, path, name, value)?;
-            Ok(Some(Edit::AppendProperty(path, name, value)))
+            Ok(Edit::AppendProperty(path, name, value))
         }
         ["InsertProperty", path, index, name, value @ ..] => {
             let index = read_number(index)?;
             let (path, name, value) = read_property_at(alloc, path, name, value)?;
-            Ok(Some(Edit::InsertProperty(path, index, name, value)))
+            Ok(Edit::InsertProperty(path, index, name, value))
         }
         ["EnsureProperty", path, name, shape, over] => {
             let (shape, over) = (read_shape(shape)?, read_over(over)?);
             let (path, name) = read_name_at(alloc, path, name)?;
-            Ok(Some(Edit::EnsureProperty(path, name, shape, over)))
+            Ok(Edit::EnsureProperty(path, name, shape, over))
         }
-        _ => Ok(None),
+        _ => Err(CaseError::Edit),
     }
 }
 

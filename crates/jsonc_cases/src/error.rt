@@ -27,7 +27,7 @@ pub enum CaseError {
     Word,
     /// A look-up that no object has, or one without a name.
     Lookup,
-    /// An edit of a kind that is built, with words that it does not have.
+    /// An edit of no kind that there is, or with other words than it takes.
     Edit,
     /// There was not enough memory to read the line.
     OutOfMemory,
