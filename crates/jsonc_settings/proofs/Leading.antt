@@ -10,6 +10,11 @@ use Rattle.jsonc_settings.specs.Settings as settings
 use Rattle.jsonc_settings.specs.Settings.{FirstIs, this_one, later_one, FirstBecomes, this_becomes, later_becomes, FirstLeaves, this_leaves, later_leaves, ComesLast, comes_alone, comes_behind, At, nest, IsNoObject, Put, is_there, changes_inside, comes_last, comes_first, gives_way, Dropped, value_leaves, entry_leaves, leaves_inside}
 use Rattle.jsonc_settings.specs.Positions.{FirstAt, this_at, later_at, Leads, leads_nowhere, leads_on, IsPutBy, sets_root, sets_first, sets_value, appends, replaces, IsDroppedBy, removes, LeadToWhatStands, PutsByIt, DropsByIt}
 
+-- no names lead over no positions
+pub no_path : {names : List (List ℕ)} {path : List ℕ} {x v : Plain} → Leads names path x v → names ≡ [] → path ≡ []
+no_path leads_nowhere e = refl
+no_path (leads_on {name = name} {names = names} f l) e = cc
+
 -- the property of a number that is the first of its name is what has become another, or has left
 at_changes : {name : List ℕ} {v was now : Plain} {i : ℕ} {ms ns : Members} → FirstAt name v i ms → MemberChanged was now i ms ns → (v ≡ was) × FirstBecomes name was now ms ns
 at_changes this_at this_member = (refl, this_becomes)

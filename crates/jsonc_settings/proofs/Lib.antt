@@ -1,3 +1,4 @@
+pub mod AtPaths
 pub mod Calls
 pub mod Choosing
 pub mod Found

@@ -17,16 +17,13 @@ use Rattle.jsonc_cst.specs.Nodes.{number_of, typed_at}
 use Rattle.jsonc_cst.specs.Readings.{value_under}
 use Rattle.jsonc_settings.specs.Found.{names_of}
 use Rattle.jsonc_settings.specs.Settings.{IsNoObject}
-use Rattle.jsonc_settings.specs.Positions.{Leads, leads_nowhere, leads_on}
+use Rattle.jsonc_settings.specs.Positions.{Leads}
 use Rattle.jsonc_settings.specs.Reach.{ReachesTo, StepsWhatShown}
 use Rattle.jsonc_settings.specs.Standing.{NamesNode}
 use Rattle.jsonc_settings.specs.declared.reached.Step.TheVariants.{On, Missing, Another}
 use Rattle.jsonc_settings.proofs.Found.{one_more, value_found}
+use Rattle.jsonc_settings.proofs.Leading.{no_path}
 use Rattle.jsonc_settings.proofs.Standing.{begins_there}
-
-no_path : {names : List (List ℕ)} {path : List ℕ} {x v : Plain} → Leads names path x v → names ≡ [] → path ≡ []
-no_path leads_nowhere e = refl
-no_path (leads_on {name = name} {names = names} f l) e = cc
 
 module _ {A : Type 0} (doc : CstRootNode A) where
   -- so far the names lead over this path to this node

@@ -44,12 +44,12 @@ use Rattle.jsonc_settings.proofs.Reaching.{lacking}
 use Rattle.jsonc_settings.specs.Standing.{NamesNode, NamesNothing, BeginsThere, StopsThere, LeadsOn}
 
 -- the first member of a name has a value
-value_of_first : {name : List ℕ} {i : ℕ} {ms : Members} → IsFirstMember name i ms → (v : Plain) × FirstAt name v i ms
+pub value_of_first : {name : List ℕ} {i : ℕ} {ms : Members} → IsFirstMember name i ms → (v : Plain) × FirstAt name v i ms
 value_of_first (first_is {v = v}) = (v, this_at)
 value_of_first (first_later ne f) = let g = value_of_first f in (g.0, later_at ne g.1)
 
 -- what is found has the name (as in jsonc_named/proofs/Writing.antt)
-first_named : (ns : List Node) (name xs : List ℕ) (found : Option ℕ) (r : ℕ) → found ≡ Some r → FirstNamed ns name xs found → IsNamed ns name r
+pub first_named : (ns : List Node) (name xs : List ℕ) (found : Option ℕ) (r : ℕ) → found ≡ Some r → FirstNamed ns name xs found → IsNamed ns name r
 first_named ns name _ _ r e names_of.none = let wrong : None ≡ Some r = e in cc
 first_named ns name _ _ r e (names_of.here {n = n} is) = let same : n ≡ r = cc in subst (IsNamed ns name) same is
 first_named ns name _ _ r e (names_of.later {rest = rest} {found = found} other f) = first_named ns name rest found r e f
@@ -75,7 +75,7 @@ module _ (d : Document) (ns : List Node) (tree : IsTree ns) (shown : Shows d (or
   some_same x y e = cc
 
   -- the value that the text is said to have is the document's
-  value_once : (x : Plain) → IsDocument d.options (printed_text (ordered_tree ns 0)) (Some x) → d.value ≡ Some x
+  pub value_once : (x : Plain) → IsDocument d.options (printed_text (ordered_tree ns 0)) (Some x) → d.value ≡ Some x
   value_once x text = document_unique d.options (printed_text (ordered_tree ns 0)) d.value (Some x) says text
 
   -- a node at positions that names lead over is what they name

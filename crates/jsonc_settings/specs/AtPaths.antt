@@ -1,17 +1,23 @@
--- What the node at a path has, and what is taken of it.
-use Rattle.std.specs.Prelude.{◌≡◌, ℕ, List, Option, Some, option_map}
+-- What stands at paths of positions: which node is found there, what it has, and what is taken of it.
+use Rattle.std.specs.Prelude.{◌≡◌, ◌↔◌, ◌++◌, ◌∷◌, [], ℕ, List, Option, Some, None, option_map}
 use Rattle.jsonc_text.specs.Edits.{Document}
-use Rattle.jsonc_text.specs.Plain.{Plain, collapse}
+use Rattle.jsonc_text.specs.Plain.{Plain, Members, collapse}
+use Rattle.jsonc_text.specs.Plain as plain_values
 use Rattle.jsonc_input.specs.Views.{plain}
 use Rattle.jsonc_input.specs.declared.value.CstInputValue.{CstInputValue}
+use Rattle.jsonc_tree.specs.Content.{object}
 use Rattle.jsonc_tree.specs.OrderedTree.{ordered_tree}
-use Rattle.jsonc_tree.specs.Tree.{Node, IsTree}
+use Rattle.jsonc_tree.specs.Tree.{Node, content_at, IsOver, IsTree}
+use Rattle.jsonc_nodes.specs.Names.{FirstInObject}
+use Rattle.jsonc_nodes.specs.Properties.{value_at}
 use Rattle.jsonc_to_input.specs.Taken.{IsTaken}
 use Rattle.jsonc_run.specs.Below.laws.Changes.{Changed}
 use Rattle.jsonc_run.specs.Below.laws.Documents.{Shows}
 use Rattle.jsonc_run.specs.Below.laws.Sound.{HasValue}
 use Rattle.jsonc_run.specs.Below.edit.Changes.{top_at}
-use Rattle.jsonc_run.specs.Below.edit.Paths.{IsAt}
+use Rattle.jsonc_run.specs.Below.edit.Paths.{IsAt, Stands}
+use Rattle.jsonc_run.specs.Below.named.Members.{IsFirstMember, LacksMember}
+use Rattle.jsonc_run.specs.Below.named.Places.{IsPropertyAt}
 
 -- The node at the path has the value v, which stands there in the document's: there v may give way to itself. What is taken of the node stands for v, of equal names
 -- the last at the first place.
@@ -25,3 +31,33 @@ pub record HasItsValue (A : Type 0) (d : Document) (ns : List Node) (path : List
 
 abbrev pub NodesHaveValues : Type 0 → Document → List Node → List ℕ → ℕ → Type 0
 NodesHaveValues A d ns path n = IsTree ns → Shows d (ordered_tree ns 0) → IsAt ns path n → HasItsValue A d ns path n
+
+-- The root holds the node at the empty path, and none exactly where the document has no value.
+pub record HoldsAtRoot (d : Document) (ns : List Node) : Type 0 where
+  pub some : (n : ℕ) → value_at ns 0 ≡ Some n → IsAt ns [] n
+  pub none : (value_at ns 0 ≡ None) ↔ (d.value ≡ None)
+
+abbrev pub RootHolds : Document → List Node → Type 0
+RootHolds d ns = IsTree ns → Shows d (ordered_tree ns 0) → HoldsAtRoot d ns
+
+-- the property that a path leads to holds the node at this path
+abbrev pub PropertyHolds : Document → List Node → List ℕ → ℕ → Type 0
+PropertyHolds d ns path r = IsTree ns → Shows d (ordered_tree ns 0) → IsPropertyAt ns path r → (n : ℕ) × (value_at ns r ≡ Some n) × IsAt ns path n
+
+-- In the document's value these properties are those of the object at the path. None is found exactly where none of them has the name; and what is found is the first of
+-- the name, to which the path leads by its number.
+pub record IsFoundFirst (d : Document) (ns : List Node) (path name : List ℕ) (found : Option ℕ) : Type 0 where
+  pub x : Plain
+  pub is : d.value ≡ Some x
+  pub ms : Members
+  pub stands : Changed (plain_values.object ms) (plain_values.object ms) path x x
+  pub none : (found ≡ None) ↔ LacksMember name ms
+  pub some : (r : ℕ) → found ≡ Some r → (i : ℕ) × IsFirstMember name i ms × IsPropertyAt ns (path ++ i ∷ []) r
+
+abbrev pub FindsFirst : Document → List Node → List ℕ → ℕ → List ℕ → Option ℕ → Type 0
+FindsFirst d ns path n name found =
+    IsTree ns → Shows d (ordered_tree ns 0) → IsAt ns path n → content_at ns n ≡ object → FirstInObject ns n name found → IsFoundFirst d ns path name found
+
+-- each node that stands in the document has its place in it
+abbrev pub StandsThere : Document → List Node → ℕ → Type 0
+StandsThere d ns n = IsTree ns → Shows d (ordered_tree ns 0) → IsOver ns 0 n → Stands ns n

@@ -9,7 +9,7 @@ ghost use Rattle.jsonc_run.specs.Below.named.declared.shape.Over.{Over};
 ghost use Rattle.jsonc_settings.specs.Operations.{Operation};
 ghost use Rattle.jsonc_settings.specs.Positions.{DropsByIt, IsPutByOne, LeadToWhatStands, PutsByIt, Reaches};
 ghost use Rattle.jsonc_settings.specs.Worked.{a, both, one};
-ghost use Rattle.jsonc_settings.specs.AtPaths.{NodesHaveValues};
+ghost use Rattle.jsonc_settings.specs.AtPaths.{FindsFirst, NodesHaveValues, PropertyHolds, RootHolds, StandsThere};
 ghost use Rattle.jsonc_settings.specs.Calls.{DropsButForMemory, DropsByOneEdit, PutsButForMemory, PutsByOneEdit};
 ghost use Rattle.jsonc_settings.specs.Settings.{At, Put, Dropped};
 ghost use Rattle.jsonc_settings.specs.Standing.{BeginsThere, CountsItsNumber, LeadsOn, StopsThere};
@@ -85,6 +85,22 @@ pub fn names_lead_over_nodes()
 /// taken of it as a value for edits stands for that.
 pub fn nodes_have_their_values<A: Allocator>()
     ensures { (d : Document) (ns : List Node) (path : List ℕ) (n : ℕ) → NodesHaveValues A d ns path n }
+{}
+
+/// In a document that nodes show, the root holds the node at the empty path, and none exactly where the document has no
+/// value; the property that a path leads to holds the node at this path; and of a name in the object at a path the first
+/// property is found, by its number, and none exactly where the plain object has none of the name.
+pub fn what_is_read_stands_at_paths()
+    ensures root { (d : Document) (ns : List Node) → RootHolds d ns }
+    ensures property { (d : Document) (ns : List Node) (path : List ℕ) (r : ℕ) → PropertyHolds d ns path r }
+    ensures named { (d : Document) (ns : List Node) (path : List ℕ) (n : ℕ) (name : List ℕ) (found : Option ℕ)
+        → FindsFirst d ns path n name found }
+{}
+
+/// Each node that stands in a document that nodes show is its root, a value at a path, a property of an object at a path,
+/// the name of a property, trivia or a token.
+pub fn each_node_stands_at_its_place()
+    ensures { (d : Document) (ns : List Node) (n : ℕ) → StandsThere d ns n }
 {}
 
 /// The one edit that puts a value at names, or drops what stands there, was made. Then the nodes show a document to which
