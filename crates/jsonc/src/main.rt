@@ -1,5 +1,6 @@
-//! Checks and prints JSON documents, and changes them: `jsonc check`, `jsonc print`, `jsonc set NAME JSON`,
-//! `jsonc append JSON`, `jsonc remove NAME` and `jsonc sort`, from standard input to standard output.
+//! Checks and prints JSON documents, changes them, and tells a value of one: `jsonc check`, `jsonc print`,
+//! `jsonc set NAME JSON`, `jsonc append JSON`, `jsonc remove NAME`, `jsonc sort`, `jsonc get PATH`,
+//! `jsonc put PATH JSON` and `jsonc drop PATH`, from standard input to standard output.
 #![tactic(auto)]
 
 use jsonc_engine::calls::{FromReader, ToWriter};
