@@ -1,15 +1,17 @@
 -- Names of leaves and of properties.
-use Rattle.std.proofs.Common.{◌≡◌, [], ◌∷◌, ℕ, Bool, false, List, Option, None, Some, sym, ap, subst, ◌∙◌, chars}
+use Rattle.std.proofs.Common.{◌≡◌, [], ◌∷◌, ℕ, Bool, false, List, Option, None, Some, Result, Ok, Err, OnErr, refl, sym, ap, subst, ◌∙◌, chars, arith}
 use Rattle.std.specs.Bool.{Decides}
 use Rattle.std.proofs.lemmas.Bool.{false≢true}
 use Rattle.std.proofs.lemmas.Slice.Eq.{bytes_eq-Decides}
 use Rattle.std.proofs.lemmas.Str.{encodes-chars}
+use Rattle.std.specs.List.{Contains}
+use Rattle.std.proofs.lemmas.List.Elements.{Contains-append_right}
 use Rattle.std.specs.Str.{IsUtf8, bytes_eq}
 use lib.Utf8.{encodes}
 use Rattle.jsonc_tree.proofs.Below.text.UniqueStrings.{string_unique}
 use Rattle.jsonc_tree.specs.Tree.{Node, content_at}
 use Rattle.jsonc_tree.specs.Content.{Content, root, object, array, property, string, word, number, boolean, null, token, whitespace, newline, comment}
-use Rattle.jsonc_nodes.specs.Names.{FirstNamed, none, here, later, HasName, IsNamed, Names, string_text, word_text}
+use Rattle.jsonc_nodes.specs.Names.{FirstNamed, none, here, later, HasEscapedName, HasName, IsNamed, Names, string_text, word_text}
 
 Some_same : (s t : List ℕ) → Some s ≡ Some t → s ≡ t
 Some_same s t e = cc
@@ -106,12 +108,26 @@ name_compared R s t b once u w h is =
 pub name_missing : (R : List ℕ → Type 0) (v : List ℕ) → ((w : List ℕ) → R w → ⊥) → Decides false (R v)
 name_missing R v nobody = (λ e. absurd (false≢true e), λ h. absurd (nobody v h))
 
+-- in a row stands a property whose name takes memory to read
+abbrev pub AnyEscaped : List Node → List ℕ → Type 0
+AnyEscaped ns row = (n : ℕ) × Contains row n × HasEscapedName ns n
+
 module _ (ns : List Node) (v row : List ℕ) (n : ℕ) (rest : List ℕ) (e : row ≡ n ∷ rest) where
   pub first_here : IsNamed ns v n → FirstNamed ns v row (Some n)
   first_here named = subst (λ l. FirstNamed ns v l (Some n)) (sym e) (here named)
 
   pub first_later : (IsNamed ns v n → ⊥) → (found : Option ℕ) → FirstNamed ns v rest found → FirstNamed ns v row found
   first_later other found later_on = subst (λ l. FirstNamed ns v l found) (sym e) (later other later_on)
+
+  escaped_here : HasEscapedName ns n → AnyEscaped ns row
+  escaped_here h = (n, subst (λ l. Contains l n) (sym e) (0, omega arith, refl), h)
+
+  pub escaped_refused : {T E : Type 0} (all : List ℕ) (r : Result T E) → HasEscapedName ns n → (AnyEscaped ns row → AnyEscaped ns all) → OnErr r (AnyEscaped ns all)
+  escaped_refused all (Ok x) h further = tt
+  escaped_refused all (Err x) h further = further (escaped_here h)
+
+  pub escaped_later : AnyEscaped ns rest → AnyEscaped ns row
+  escaped_later (k, in_rest, h) = (k, subst (λ l. Contains l k) (sym e) (Contains-append_right (n ∷ []) rest k in_rest), h)
 
 pub first_none : (ns : List Node) (v row : List ℕ) → row ≡ [] → FirstNamed ns v row None
 first_none ns v row e = subst (λ l. FirstNamed ns v l None) (sym e) none

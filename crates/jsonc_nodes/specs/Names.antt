@@ -2,11 +2,13 @@
 use Rattle.std.specs.Prelude.{◌≡◌, ◌≢◌, ℕ, Bool, true, false, List, [], ◌∷◌, Option, Some, None, chars, String, string_bytes}
 use Rattle.std.specs.declared.borrow.CowStr.{CowStr}
 use Rattle.std.specs.Cow.{cow_str_bytes}
+use Rattle.std.specs.List.{Contains}
 use Rattle.jsonc_tree.specs.Below.text.Options.{all_on}
 use Rattle.jsonc_tree.specs.Below.text.Strings.{IsString}
 use Rattle.jsonc_tree.specs.Below.text.Text.{rest}
 use Rattle.jsonc_tree.specs.Below.text.declared.errors.ParseStringErrorKind.{ParseStringErrorKind}
 use Rattle.jsonc_tree.specs.Below.text.declared.errors.ParseStringErrorKind.TheVariants.{OutOfMemory}
+use Rattle.jsonc_string.specs.Escapes.{StringHoldsBackslash}
 use Rattle.jsonc_string.specs.Told.{TellsError}
 use Rattle.jsonc_tree.specs.Content.{Content, property, string, word}
 use Rattle.jsonc_tree.specs.Order.{text_at}
@@ -43,6 +45,23 @@ HasName ns n v = (m : ℕ) × (name_at ns n ≡ Some m) × Names (content_at ns 
 -- the node is a property that has this name
 abbrev pub IsNamed : List Node → List ℕ → ℕ → Type 0
 IsNamed ns v n = (content_at ns n ≡ property) × HasName ns n v
+
+-- memory is wanted to read the name that a leaf is: it is a string with a backslash
+abbrev pub IsEscaped : Content → Type 0
+IsEscaped (string s) = StringHoldsBackslash s 0
+IsEscaped _ = ⊥
+
+-- the name of a property is such a string
+abbrev pub NameIsEscaped : List Node → ℕ → Type 0
+NameIsEscaped ns n = (m : ℕ) × (name_at ns n ≡ Some m) × IsEscaped (content_at ns m)
+
+-- the node is a property with such a name
+abbrev pub HasEscapedName : List Node → ℕ → Type 0
+HasEscapedName ns n = (content_at ns n ≡ property) × NameIsEscaped ns n
+
+-- one of an object's properties has
+abbrev pub HoldsEscapedName : List Node → ℕ → Type 0
+HoldsEscapedName ns object = (n : ℕ) × Contains (children_at ns object) n × HasEscapedName ns n
 
 -- the first of these nodes that is a property of this name, if there is one
 pub data FirstNamed (ns : List Node) (v : List ℕ) : List ℕ → Option ℕ → Type 0 where

@@ -1,11 +1,13 @@
 //! Decoded strings, and the names of properties.
 
-ghost use Rattle.std.specs.Prelude.{◌≡◌, ◌<◌, chars, length, string_bytes, IfErr, IfOk, IsTrue};
+ghost use Rattle.std.specs.Prelude.{◌≡◌, ◌<◌, chars, length, string_bytes, IfErr, IfOk, IsTrue, OnErr};
 ghost use Rattle.std.specs.Bool.{Decides};
 ghost use Rattle.std.specs.Option.{option_map};
 ghost use Rattle.jsonc_tree.specs.Stored.{content_of};
 ghost use Rattle.jsonc_tree.specs.Tree.{content_at};
-ghost use Rattle.jsonc_nodes.specs.Names.{FirstInObject, HasName, IsNamed, LeafIsNoString};
+ghost use Rattle.jsonc_string.specs.Escapes.{StringHoldsBackslash};
+ghost use Rattle.jsonc_nodes.specs.Names.{FirstInObject, HasEscapedName, HasName, HoldsEscapedName, NameIsEscaped};
+ghost use Rattle.jsonc_nodes.specs.Names.{IsEscaped, IsNamed, LeafIsNoString};
 ghost use Rattle.jsonc_nodes.specs.Names.{LeafStandsFor, NameReads, Names, ReadsAs, StandsFor};
 ghost use Rattle.jsonc_nodes.specs.Names.{is_string, string_text, word_text};
 ghost use Rattle.jsonc_nodes.specs.Siblings.{IsThere};
@@ -45,7 +47,8 @@ fn front_string<'a, B: Allocator>(
     alloc: B,
     text: &'a str,
 ) -> Result<Option<CowStr<'a, B>>, AllocError>
-    ensures { IfOk result (ReadsAs (StandsFor text.now)) }
+    ensures read { IfOk result (ReadsAs (StandsFor text.now)) }
+    ensures memory { OnErr result (StringHoldsBackslash text.now 0) }
 {
     match parse_string(alloc, text) {
         Ok(string) => Ok(Some(string)),
@@ -87,7 +90,8 @@ fn name_in<'a, A: Allocator, B: Allocator>(
     alloc: B,
     kind: &'a Kind<A>,
 ) -> Result<Option<CowStr<'a, B>>, AllocError>
-    ensures { IfOk result (ReadsAs (Names (content_of kind.now))) }
+    ensures read { IfOk result (ReadsAs (Names (content_of kind.now))) }
+    ensures memory { OnErr result (IsEscaped (content_of kind.now)) }
 {
     if let Some(text) = text_of_string(kind) {
         return front_string(alloc, text);
@@ -105,7 +109,8 @@ fn name_read<'a, A: Allocator, B: Allocator>(
     property: usize,
 ) -> Result<Option<CowStr<'a, B>>, AllocError>
     requires { property < length tree.now.nodes }
-    ensures { IfOk result (ReadsAs (HasName tree.now.nodes property)) }
+    ensures read { IfOk result (ReadsAs (HasName tree.now.nodes property)) }
+    ensures memory { OnErr result (NameIsEscaped tree.now.nodes property) }
 {
     match name_of(tree, property) {
         Some(leaf) => name_in(alloc, tree.kind(leaf)),
@@ -136,7 +141,8 @@ fn has_name<A: Allocator, B: Allocator>(
     name: &str,
 ) -> Result<bool, AllocError>
     requires { property < length tree.now.nodes }
-    ensures { IfOk result (λ b. Decides b (HasName tree.now.nodes property (chars name.now))) }
+    ensures has { IfOk result (λ b. Decides b (HasName tree.now.nodes property (chars name.now))) }
+    ensures memory { OnErr result (NameIsEscaped tree.now.nodes property) }
 {
     match name_read(alloc, tree, property)? {
         Some(read) => Ok(read.as_str() == name),
@@ -152,7 +158,8 @@ fn is_named<A: Allocator, B: Allocator>(
     name: &str,
 ) -> Result<bool, AllocError>
     requires { node < length tree.now.nodes }
-    ensures { IfOk result (λ b. Decides b (IsNamed tree.now.nodes (chars name.now) node)) }
+    ensures named { IfOk result (λ b. Decides b (IsNamed tree.now.nodes (chars name.now) node)) }
+    ensures memory { OnErr result (HasEscapedName tree.now.nodes node) }
 {
     match tree.kind(node) {
         Kind::Property(_) => has_name(alloc, tree, node, name),
@@ -161,7 +168,8 @@ fn is_named<A: Allocator, B: Allocator>(
 }
 
 /// The first property of a name among the children of an object. A name in quotes is decoded, and
-/// one that does not decode is passed over; a word is its text.
+/// one that does not decode is passed over; a word is its text. Memory is wanted only for a name with a
+/// backslash.
 pub fn get<A: Allocator, B: Allocator + Copy>(
     alloc: B,
     tree: &Tree<A>,
@@ -171,6 +179,7 @@ pub fn get<A: Allocator, B: Allocator + Copy>(
     requires { object < length tree.now.nodes }
     ensures found { IfOk result (FirstInObject tree.now.nodes object (chars name.now)) }
     ensures there { IfOk result (IsThere tree.now.nodes) }
+    ensures memory { OnErr result (HoldsEscapedName tree.now.nodes object) }
 {
     for child in children_from(tree, object, 0) {
         if is_named(alloc, tree, child, name)? {

@@ -2,6 +2,7 @@ use Rattle.std.proofs.Common.{ℕ, Option, chars}
 use Rattle.jsonc_tree.specs.Tree.{children_at}
 use Rattle.jsonc_nodes.specs.Names.{FirstNamed}
 use Rattle.jsonc_nodes.specs.Siblings.{AreThere}
+use Rattle.jsonc_nodes.proofs.Naming.{AnyEscaped}
 use Rattle.jsonc_nodes.proofs.names.get.Given as goal
 
 abbrev pub invariant-loop-child : goal.invariant-loop-child
@@ -10,4 +11,5 @@ invariant-loop-child g l =
     record {
       there : AreThere ns l.child-iterator;
       first : (found : Option ℕ) → FirstNamed ns (chars l.name) l.child-iterator found → FirstNamed ns (chars l.name) (children_at ns l.object) found;
+      escaped : AnyEscaped ns l.child-iterator → AnyEscaped ns (children_at ns l.object);
     }
