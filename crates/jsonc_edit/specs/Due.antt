@@ -83,6 +83,18 @@ due_before ns n = if ends_bare ns (seen_before ns n) then Some n else None
 abbrev pub due_behind : List Node → ℕ → Option ℕ
 due_behind ns n = if begins_bare ns (seen_behind ns n) then seen_behind ns n else None
 
+-- the last child of a node that prints something
+abbrev pub seen_last : List Node → ℕ → Option ℕ
+seen_last ns n = nearest ns (reverse (children_at ns n))
+
+-- where a literal without quotes, n, comes as the last child of c: before n
+abbrev pub due_last : List Node → ℕ → ℕ → Option ℕ
+due_last ns c n = if ends_bare ns (seen_last ns c) then Some n else None
+
+-- and where c is a property, before what is seen behind that
+abbrev pub due_past : List Node → ℕ → Option ℕ
+due_past ns c = if begins_bare ns (nearest ns (siblings_after ns c)) then nearest ns (siblings_after ns c) else None
+
 -- the one that there is, or none
 abbrev pub listed : Option ℕ → List ℕ
 listed None = []

@@ -27,6 +27,6 @@ layout_for ns c n =
 abbrev pub IsReplaced : List Node → List Node → ℕ → Plain → ℕ → Type 0
 IsReplaced old new n v m = (c : ℕ) × (parent_at old n ≡ Some c) × GivesWay old new n m (laid (layout_for old c n) v)
 
--- the same where no space has come
+-- the same where no space has come, and c itself tells whether trailing commas are used
 abbrev pub IsReplacedRaw : List Node → List Node → ℕ → Plain → ℕ → Type 0
-IsReplacedRaw old new n v m = (c : ℕ) × (parent_at old n ≡ Some c) × GivesWayRaw old new n m (laid (layout_for old c n) v)
+IsReplacedRaw old new n v m = (c : ℕ) × (parent_at old n ≡ Some c) × GivesWayRaw old new n m (laid (layout_for old c c) v)

@@ -1,16 +1,18 @@
 //! Where a space is due.
 
-ghost use Rattle.std.specs.Prelude.{◌≡◌, ◌<◌, Some, chars, length, true};
+ghost use Rattle.std.specs.Prelude.{◌≡◌, ◌<◌, ◌^◌, Some, chars, length, reverse, true};
 ghost use Rattle.jsonc_text.specs.Text.{next, starts};
 ghost use Rattle.jsonc_tree.specs.Siblings.{siblings_after};
 ghost use Rattle.jsonc_tree.specs.Stored.{content_of};
-ghost use Rattle.jsonc_nodes.specs.Siblings.{IsThere};
+ghost use Rattle.jsonc_tree.specs.Tree.{children_at};
+ghost use Rattle.jsonc_nodes.specs.Siblings.{AreThere, IsThere};
 ghost use Rattle.jsonc_laws.specs.Spaces.{is_bare};
 ghost use Rattle.jsonc_edit.specs.Due.{prints, prints_at, nearest, beginning_of, end_of, is_bare_at};
 ghost use Rattle.jsonc_edit.specs.Due.{begins_bare, ends_bare, seen_before, behind_holder, seen_behind};
-ghost use Rattle.jsonc_edit.specs.Due.{due_between, due_before, due_behind, is_other, prints_within};
+ghost use Rattle.jsonc_edit.specs.Due.{due_between, due_before, due_behind, due_last, due_past, is_other};
+ghost use Rattle.jsonc_edit.specs.Due.{prints_within, seen_last};
 
-use jsonc_nodes::{next_siblings, previous_siblings};
+use jsonc_nodes::{PreviousSiblings, next_siblings, previous_siblings};
 use jsonc_tree::{Kind, Tree};
 use std::alloc::Allocator;
 
@@ -144,6 +146,26 @@ fn behind_property<A: Allocator>(tree: &Tree<A>, node: usize) -> Option<usize>
     }
 }
 
+// The children of a container, last to first.
+fn children_backwards<A: Allocator>(tree: &Tree<A>, container: usize) -> PreviousSiblings<'_, A>
+    requires { container < length tree.now.nodes }
+    ensures children { result ≡ reverse (children_at tree.now.nodes container) }
+    ensures there { AreThere tree.now.nodes result }
+    ensures countable { length result < 2 ^ 64 }
+{
+    let _ = tree.len();
+    tree.children_reversed(container)
+}
+
+// The last of them that prints something.
+fn seen_last<A: Allocator>(tree: &Tree<A>, container: usize) -> Option<usize>
+    requires { container < length tree.now.nodes }
+    ensures seen { result ≡ seen_last tree.now.nodes container }
+    ensures there { IsThere tree.now.nodes result }
+{
+    children_backwards(tree, container).find(|child| prints(tree, *child))
+}
+
 // What is seen behind a node: in its row, or where it is the last of a property, behind that.
 fn seen_behind<A: Allocator>(tree: &Tree<A>, node: usize) -> Option<usize>
     requires { node < length tree.now.nodes }
@@ -214,6 +236,31 @@ pub fn due_behind<A: Allocator>(tree: &Tree<A>, node: usize) -> Option<usize>
     ensures there { IsThere tree.now.nodes result }
 {
     let behind = seen_behind(tree, node);
+    if begins_bare(tree, behind) {
+        return behind;
+    }
+    None
+}
+
+/// The node that comes as the last child of a container, if a space is due before it where it is a
+/// literal without quotes.
+pub fn due_last<A: Allocator>(tree: &Tree<A>, container: usize, node: usize) -> Option<usize>
+    requires { container < length tree.now.nodes }
+    ensures due { result ≡ due_last tree.now.nodes container node }
+{
+    if ends_bare(tree, seen_last(tree, container)) {
+        return Some(node);
+    }
+    None
+}
+
+/// The node before which a space is due behind a literal without quotes that comes as the last child of
+/// a property.
+pub fn due_past<A: Allocator>(tree: &Tree<A>, property: usize) -> Option<usize>
+    requires { property < length tree.now.nodes }
+    ensures due { result ≡ due_past tree.now.nodes property }
+{
+    let behind = nearest_behind(tree, property);
     if begins_bare(tree, behind) {
         return behind;
     }

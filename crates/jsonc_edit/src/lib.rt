@@ -20,8 +20,9 @@
 //! names without quotes, `true`, `false` or `null` stand directly beside each other that did not before.
 //! Then a space comes between them: in the innermost container that holds both, directly before the
 //! child that holds the second (`specs/Due.antt`). Leaves that print nothing are passed over.
-//! [`due_between`], [`due_before`] and [`due_behind`] tell where one is due, [`make_spaces`] makes it,
-//! nobody's child yet, and [`put_spaces`] puts it in, which takes no memory (`specs/Put.antt`).
+//! [`due_between`], [`due_before`] and [`due_behind`] tell where one is due, and [`due_last`] and
+//! [`due_past`] where something comes last; [`make_spaces`] makes it, nobody's child yet, and
+//! [`put_spaces`] puts it in, which takes no memory (`specs/Put.antt`).
 #![tactic(auto)]
 
 mod comments;
@@ -37,10 +38,10 @@ pub mod seam_laws;
 pub mod space_laws;
 
 pub use comments::{newline_from, remove_comment};
-pub use due::{due_before, due_behind, due_between, is_bare, seen_before};
+pub use due::{due_before, due_behind, due_between, due_last, due_past, is_bare, seen_before};
 pub use error::EditError;
 pub use modes::TrailingCommaMode;
 pub use paths::find;
 pub use put::{Space, Spaces, make_spaces, put_spaces};
 pub use reading::layout_for;
-pub use replacing::{put_in_place, replace, replace_name, replace_with};
+pub use replacing::{put_in_place, replace, replace_name, replace_with, spaces_for};

@@ -41,8 +41,9 @@ pub fn put_in_place<A: Allocator>(tree: &mut Tree<A>, container: usize, node: us
     tree.splice(container, place, place + 1, &[new]);
 }
 
-// Makes the spaces that are due, if the new node is a literal without quotes.
-fn spaces_for<A: Allocator + Copy>(
+/// Makes the spaces that are due before a new node and behind it, if it is a literal without quotes. No
+/// node has changed.
+pub fn spaces_for<A: Allocator + Copy>(
     alloc: A,
     tree: &mut Tree<A>,
     new: usize,
@@ -161,9 +162,11 @@ fn replace_raw<A: Allocator + Copy>(
 /// Lays a value out as a new node, which the name of a property gives way to, and answers the number of
 /// the new node.
 ///
-/// The document tells how, as for [`replace`], but no space comes beside the new node: `{a:1"b":2}` with
-/// 7 for its second name is `{a:17:2}`. Where the node has no parent the answer is None, and no node
-/// changes. A refusal leaves the document, and every node that was there, as it was.
+/// The document tells how: the indents are those at the property that the name stands in, lines end as
+/// the document's do, and the last of several lines has a comma where that is so in the property. No
+/// space comes beside the new node: `{a:1"b":2}` with 7 for its second name is `{a:17:2}`. Where the node
+/// has no parent the answer is None, and no node changes. A refusal leaves the document, and every node
+/// that was there, as it was.
 pub fn replace_name<A: Allocator + Copy>(
     alloc: A,
     tree: &mut Tree<A>,
@@ -184,7 +187,7 @@ pub fn replace_name<A: Allocator + Copy>(
     let Some(container) = tree.parent(node) else {
         return Ok(None);
     };
-    let told = layout_for(alloc, tree, container, node)?;
+    let told = layout_for(alloc, tree, container, container)?;
     let raw = replace_raw(alloc, tree, container, node, value, &told)?;
     Ok(Some(raw))
 }

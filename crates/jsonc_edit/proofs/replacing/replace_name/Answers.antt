@@ -8,6 +8,9 @@ use Rattle.jsonc_edit.proofs.replacing.replace_name.Goals as goal
 pub layout_for-requires-clause-container : goal.layout_for-requires-clause-container
 layout_for-requires-clause-container g c = (parent_there c.args.tree.now.nodes c.len.ensures.tree c.args.node c.in-Some.container (sym c.parent.ensures ∙ c.in-Some.is)).1
 
+pub layout_for-requires-clause-node : goal.layout_for-requires-clause-node
+layout_for-requires-clause-node g c = layout_for-requires-clause-container g c
+
 pub returns-clause-replaced : goal.returns-clause-replaced
 returns-clause-replaced g c = (
   c.in-Some.container,
