@@ -11,4 +11,5 @@ pub mod HexRows
 pub mod BooleanSetting
 pub mod WrittenBoolean
 pub mod PropertyValue
+pub mod ComingLast
 pub mod PropertyKinds

@@ -8,7 +8,7 @@ use Rattle.jsonc_text.specs.Options.{Options}
 use Rattle.jsonc_text.specs.Plain.{Plain}
 use Rattle.jsonc_tree.specs.Building.{Keeps}
 use Rattle.jsonc_tree.specs.Content.{Content, root, array, object, property, token, is_container}
-use Rattle.jsonc_tree.specs.OrderedTree.{OrderedTree, none, more, own_leaf, leaves, followed_by, Shows, shows_none, shows_more, ordered_tree, Top}
+use Rattle.jsonc_tree.specs.OrderedTree.{OrderedTree, none, more, own_leaf, leaves, Shows, shows_none, shows_more, ordered_tree, Top}
 use Rattle.jsonc_tree.specs.Order.{with_parent}
 use Rattle.jsonc_tree.specs.Siblings.{row_of, siblings_before}
 use Rattle.jsonc_tree.specs.Tree.{Node, content_at, parent_at, children_at, place_at, is_container_at, IsTree, IsOver}
@@ -29,7 +29,7 @@ use Rattle.jsonc_laws.specs.Rows as rows
 use Rattle.jsonc_laws.specs.Rows.{Last}
 use Rattle.jsonc_laws.specs.TreeChanges.{IsElement, leaves_of, DocumentChanged}
 use Rattle.jsonc_laws.proofs.HeldValues.{document_held}
-use Rattle.jsonc_laws.proofs.LeavesAround.{document_differs, within}
+use Rattle.jsonc_laws.proofs.LeavesAround.{document_differs}
 use Rattle.jsonc_laws.proofs.Values.{document_change}
 use Rattle.jsonc_laws.specs.Adjacent.{last_printed}
 use Rattle.jsonc_laws.specs.Alone as alone

@@ -4,13 +4,10 @@ use Rattle.jsonc_text.specs.Options.{Options}
 use Rattle.jsonc_text.specs.Plain.{Plain}
 use Rattle.jsonc_tree.specs.Changes.{LeafBecomes}
 use Rattle.jsonc_tree.specs.Content.{Content, boolean}
-use Rattle.jsonc_tree.specs.OrderedTree.{OrderedTree, ordered_tree, Top}
+use Rattle.jsonc_tree.specs.OrderedTree.{ordered_tree}
 use Rattle.jsonc_tree.specs.Tree.{Node, content_at, IsTree}
 use Rattle.jsonc_laws.specs.Booleans.{boolean_leaf, is_hex_leaf}
 use Rattle.jsonc_laws.specs.SoundTrees.{SoundTree}
-use Rattle.jsonc_laws.specs.MarkChanges.{MarksDifferIn, marks_under}
-use Rattle.jsonc_laws.specs.Marks.{marks}
-use Rattle.jsonc_laws.specs.Written as written_marks
 use Rattle.jsonc_edit.specs.Due.{listed, seen_before}
 use Rattle.jsonc_edit.specs.Put.{AreSpaced, IfDue, Prepared}
 use Rattle.jsonc_edit.specs.Changes.{top_at}

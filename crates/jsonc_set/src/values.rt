@@ -1,13 +1,12 @@
 //! Values of properties, set.
 
-ghost use Rattle.std.specs.Prelude.{◌≡◌, ◌+◌, ◌<◌, [], IfErr, IfNone, IfOk, IfSome, OnErr, OnOk, Some, false, length, true};
+ghost use Rattle.std.specs.Prelude.{◌≡◌, ◌<◌, IfErr, IfNone, IfOk, IfSome, OnErr, OnOk, Some, false, length, true};
 ghost use Rattle.jsonc_text.specs.Options.{Options};
 ghost use Rattle.jsonc_text.specs.Plain.{array, object, no_items, no_members};
 ghost use Rattle.jsonc_tree.specs.Building.{Keeps};
-ghost use Rattle.jsonc_tree.specs.Changes.{Splices};
 ghost use Rattle.jsonc_tree.specs.Content.{Content};
 ghost use Rattle.jsonc_tree.specs.OrderedTree.{ordered_tree};
-ghost use Rattle.jsonc_tree.specs.Tree.{content_at, parent_at, place_at, IsTree};
+ghost use Rattle.jsonc_tree.specs.Tree.{content_at, IsTree};
 ghost use Rattle.jsonc_input.specs.Views.{plain};
 ghost use Rattle.jsonc_nodes.specs.Properties.{lacks_name_at, value_at};
 ghost use Rattle.jsonc_edit.specs.Reading.{IsReplaced};
@@ -17,25 +16,12 @@ ghost use Rattle.jsonc_set.specs.PropertyValues.{HeldOrSet, IsUnset, LastValue};
 
 use crate::kinds::{empty_array, empty_object, is_array, is_object};
 use crate::root::replace_child;
-use jsonc_edit::{EditError, layout_for, replace_with};
+use jsonc_edit::{EditError, due_last, due_past, layout_for, put_spaces, spaces_for};
+use jsonc_from_input::lay_out;
 use jsonc_input::CstInputValue;
 use jsonc_nodes::{lacks_name, value_of};
-use jsonc_tree::{Kind, Tree};
+use jsonc_tree::Tree;
 use std::alloc::Allocator;
-
-// Takes a child out of its container.
-fn take_child<A: Allocator>(tree: &mut Tree<A>, container: usize, child: usize)
-    requires { parent_at tree.old.nodes child ≡ Some container }
-    ensures taken { Splices tree.old.nodes tree.new.nodes container (place_at tree.old.nodes child)
-        (place_at tree.old.nodes child + 1) [] }
-    ensures tree { IsTree tree.new.nodes }
-{
-    let _ = tree.len();
-    // A place is below the count of the children, so one more than it is a number too.
-    let _ = tree.child_count(container);
-    let place = tree.child_index(child);
-    tree.splice(container, place, place + 1, &[]);
-}
 
 // Lets a value come as the last child of a property.
 fn put_last<A: Allocator + Copy>(
@@ -54,15 +40,14 @@ fn put_last<A: Allocator + Copy>(
 {
     let _ = tree.len();
     let layout = layout_for(alloc, tree, property, property)?;
-    let leaf = tree.push_child(property, Kind::Null)?;
-    match replace_with(alloc, tree, leaf, value, &layout) {
-        Ok(Some(new)) => Ok(new),
-        Ok(None) => unreachable!(),
-        Err(error) => {
-            take_child(tree, property, leaf);
-            Err(error)
-        }
-    }
+    let new = lay_out(alloc, tree, value, &layout)?;
+    let before = due_last(tree, property, new);
+    let behind = due_past(tree, property);
+    let spaces = spaces_for(alloc, tree, new, before, behind)?;
+    tree.reserve(property, 1)?;
+    tree.append(property, new);
+    put_spaces(tree, spaces);
+    Ok(new)
 }
 
 /// Sets the value of a property, and answers the number of its node.
@@ -70,6 +55,7 @@ fn put_last<A: Allocator + Copy>(
 /// Where a value stands, it gives way to the new one, as by [`jsonc_edit::replace`]. Where none does,
 /// which is so only after edits of single leaves, the new value is laid out as the document tells and
 /// comes behind all that the property holds, with a space where two literals without quotes would meet.
+/// All memory is asked for before the document changes.
 ///
 /// A refusal leaves the document, and every node that was there, as it was.
 pub fn set_property_value<A: Allocator + Copy>(
