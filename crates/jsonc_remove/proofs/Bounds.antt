@@ -11,7 +11,7 @@ use Rattle.jsonc_tree.specs.Tree.{Node, content_at, parent_at, children_at, plac
 use Rattle.jsonc_nodes.specs.Kinds.{is_beside, is_beside_at, is_newline_at}
 use Rattle.jsonc_lines.specs.Kinds.{is_comma}
 use Rattle.jsonc_lines.specs.Siblings.{is_no_trivia_at, if_comma, after_trivia_at, trailing_comma_at}
-use Rattle.jsonc_remove.specs.Leaving.{comma_before, comma_behind, comma_gone, comma_unless, ends_line_at, first_gone, has_neighbours, if_inner, is_comma_at, last_gone, last_past, line_end, line_end_at, outermost, trails}
+use Rattle.jsonc_remove.specs.Leaving.{comma_before, comma_gone, comma_unless, ends_line_at, first_gone, is_comma_at, last_gone, last_past, line_end, line_end_at, outermost, trails}
 
 pub Some_same : (m n : ℕ) → Some m ≡ Some n → m ≡ n
 Some_same m n e = cc
@@ -48,14 +48,6 @@ no_comma (Content.comment s) e = refl
 no_comma content e = cc
 
 module _ (ns : List Node) where
-  inner_is : (o : Option ℕ) (k : ℕ) → if_inner ns o ≡ Some k → o ≡ Some k
-  inner_is None k e = e
-  inner_is (Some m) k e = by (has_neighbours ns m) e
-    where
-      by : (b : Bool) → cond b (Some m) None ≡ Some k → Some m ≡ Some k
-      by true e = e
-      by false e = absurd (let wrong : None ≡ Some k = e in cc)
-
   comma_is : (o : Option ℕ) (k : ℕ) → if_comma ns o ≡ Some k → o ≡ Some k
   comma_is None k e = e
   comma_is (Some m) k e = by (is_comma (content_at ns m)) e
@@ -118,15 +110,15 @@ module _ (ns : List Node) (tree : IsTree ns) (c : ℕ) where
         line_end_in (From (place_at ns n)) ns (siblings_after ns n) n (said, omega arith)
         (All-weaker (From (place_at ns n + 1)) (From (place_at ns n)) (λ m (p, more). (p, omega (arith, more))) (siblings_after ns n) after_from)
 
-    comma_from : (k : ℕ) → comma_behind ns n ≡ Some k → From (place_at ns n + 1) k
-    comma_from k e = found_in (From (place_at ns n + 1)) (is_no_trivia_at ns) (siblings_after ns n) k (comma_is ns (after_trivia_at ns n) k (inner_is ns (trailing_comma_at ns n) k e)) after_from
+    comma_from : (k : ℕ) → trailing_comma_at ns n ≡ Some k → From (place_at ns n + 1) k
+    comma_from k e = found_in (From (place_at ns n + 1)) (is_no_trivia_at ns) (siblings_after ns n) k (comma_is ns (after_trivia_at ns n) k e) after_from
 
     -- the nearest comma before it stands before it
     pub comma_ahead : (k : ℕ) → comma_before ns n ≡ Some k → Ahead (place_at ns n) k
-    comma_ahead k e = found_in (Ahead (place_at ns n)) (is_comma_at ns) (siblings_before ns n) k (inner_is ns (find (is_comma_at ns) (siblings_before ns n)) k e) before_ahead
+    comma_ahead k e = found_in (Ahead (place_at ns n)) (is_comma_at ns) (siblings_before ns n) k e before_ahead
 
   -- what leaves last stands no earlier
-  last_by : (n : ℕ) (said : parent_at ns n ≡ Some c) (o : Option ℕ) → comma_behind ns n ≡ o → From (place_at ns n) (last_past ns n o)
+  last_by : (n : ℕ) (said : parent_at ns n ≡ Some c) (o : Option ℕ) → trailing_comma_at ns n ≡ o → From (place_at ns n) (last_past ns n o)
   last_by n said None e = line_from n said
   last_by n said (Some k) e =
       let comma = comma_from n said k e in
@@ -134,7 +126,7 @@ module _ (ns : List Node) (tree : IsTree ns) (c : ℕ) where
       cond_in (From (place_at ns n)) (ends_line_at ns n || not (ends_line_at ns k)) k (line_end_at ns k) (comma.0, omega (arith, comma.1)) (line.0, omega (arith, comma.1, line.1))
 
   pub last_from : (n : ℕ) → parent_at ns n ≡ Some c → From (place_at ns n) (last_gone ns n)
-  last_from n said = last_by n said (comma_behind ns n) refl
+  last_from n said = last_by n said (trailing_comma_at ns n) refl
 
   -- one more of a row, backwards
   back_more : (k : ℕ) → k < length row → reverse (take (suc k) row) ≡ get_or row k 0 ∷ reverse (take k row)
@@ -166,7 +158,7 @@ module _ (ns : List Node) (tree : IsTree ns) (c : ℕ) where
   comma_before_first n said k e =
       let inn = tree.within n c said in
       subst (λ l. place_at ns k < place_at ns (outermost ns n l)) (sym (before_is n said))
-      (comma_first (place_at ns n) (omega (arith, inn)) n k (omega arith) (sym (ap (find (is_comma_at ns)) (before_is n said)) ∙ inner_is ns (find (is_comma_at ns) (siblings_before ns n)) k e))
+      (comma_first (place_at ns n) (omega (arith, inn)) n k (omega arith) (sym (ap (find (is_comma_at ns)) (before_is n said)) ∙ e))
 
   unless_is : (o found : Option ℕ) (k : ℕ) → comma_unless o found ≡ Some k → found ≡ Some k
   unless_is None found k e = e
@@ -175,5 +167,5 @@ module _ (ns : List Node) (tree : IsTree ns) (c : ℕ) where
   -- so the comma that leaves from before a node is a child, before the first that leaves
   pub gone_ahead : (n : ℕ) → parent_at ns n ≡ Some c → (k : ℕ) → comma_gone ns n ≡ Some k → Ahead (place_at ns (first_gone ns n)) k
   gone_ahead n said k e =
-      let found : comma_before ns n ≡ Some k = unless_is (comma_behind ns n) (comma_before ns n) k e in
+      let found : comma_before ns n ≡ Some k = unless_is (trailing_comma_at ns n) (comma_before ns n) k e in
       ((comma_ahead n said k found).0, comma_before_first n said k found)

@@ -1,6 +1,6 @@
 -- What leaves a row with an element, in the row of a container with its brackets: a stretch, and a comma in it, before it, or none.
-use Rattle.std.proofs.Common.{◌≡◌, ℕ, ◌+◌, ◌<◌, ◌==◌, Bool, true, false, not, ◌&&◌, ◌||◌, cond, List, [], ◌∷◌, ◌++◌, length, reverse, take, drop, Option, Some, None, is_some, IsTrue, if◌then◌else◌, refl, sym, ap, subst, ◌∙◌, arith}
-use Rattle.std.proofs.lemmas.List.{append_assoc, length-append, length-reverse, map-append, reverse-append, reverse-reverse}
+use Rattle.std.proofs.Common.{◌≡◌, ℕ, ◌+◌, ◌==◌, Bool, true, false, not, ◌||◌, cond, List, [], ◌∷◌, ◌++◌, reverse, take, drop, Option, Some, None, IsTrue, if◌then◌else◌, refl, sym, ap, subst, ◌∙◌}
+use Rattle.std.proofs.lemmas.List.{append_assoc, map-append, reverse-append, reverse-reverse}
 use Rattle.std.proofs.lemmas.List.Folds.{find-append}
 use Rattle.std.specs.List.{find}
 use Rattle.std.specs.Option.{option_or}
@@ -13,7 +13,7 @@ use Rattle.jsonc_lines.specs.Siblings.{is_no_trivia_at, if_comma, trailing_comma
 use Rattle.jsonc_laws.specs.TriviaChanges.{AreTrivia}
 use Rattle.jsonc_laws.specs.Leaving.{AreBeside, IsRestOfLine, LeavesBehind, comma_alone, comma_and_line}
 use Rattle.jsonc_laws.proofs.RowParts.{line_trivia, rest_trivia}
-use Rattle.jsonc_remove.specs.Leaving.{comma_before, comma_behind, comma_gone, comma_unless, ends_line_at, first_gone, has_neighbours, if_inner, is_comma_at, last_gone, last_past, line_end_at, newline_there}
+use Rattle.jsonc_remove.specs.Leaving.{comma_before, comma_gone, comma_unless, ends_line_at, first_gone, is_comma_at, last_gone, last_past, line_end_at, newline_there}
 use Rattle.jsonc_nodes.specs.Comments.{first_not_beside}
 use Rattle.jsonc_remove.proofs.Contents.{apart, no_commas, comma_first, apart_behind, apart_rest, first_past, no_commas_rest}
 use Rattle.jsonc_remove.proofs.Places.{row_split, before_in, after_in, final, final_last, final_behind, up_to_final}
@@ -76,13 +76,6 @@ module _ (test : ℕ → Bool) where
   begins_with : (xs ys ls : List ℕ) (x first : ℕ) → xs ++ x ∷ ys ≡ first ∷ ls → test x ≡ false → test first ≡ true → (rest : List ℕ) × (xs ≡ first ∷ rest)
   begins_with [] ys ls x first e f g = let same : x ≡ first = cc in absurd (true_false g (ap test (sym same) ∙ f))
   begins_with (y ∷ xs) ys ls x first e f g = let same : y ≡ first = cc in (xs, ap (λ w. w ∷ xs) same)
-
-some_first : (l : List ℕ) → 0 < length l → is_some (first l) ≡ true
-some_first [] h = absurd (omega (arith, h))
-some_first (x ∷ l) h = refl
-
-some_back : (l : List ℕ) → 0 < length l → is_some (first (reverse l)) ≡ true
-some_back l h = some_first (reverse l) (omega (arith, h, length-reverse l))
 
 -- a stretch from a first to a last
 pub record Edges (stretch : List ℕ) (from to : ℕ) : Type 0 where
@@ -198,16 +191,6 @@ module _ (ns : List Node) (tree : IsTree ns) (c n open_with last : ℕ) (inner :
     behind_k : children_at ns c ≡ (pre ++ n ∷ between) ++ k ∷ after
     behind_k = split ∙ ap (λ (l : List ℕ). pre ++ n ∷ l) is ∙ sym (append_assoc pre (n ∷ between) (k ∷ after))
 
-    past_k : (front : List ℕ) × (after ≡ front ++ last ∷ [])
-    past_k = rest_from (between ++ k ∷ []) after (n ∷ between) k (is ∙ sym (append_assoc between (k ∷ []) after)) refl k_no_end
-
-    k_inner : has_neighbours ns k ≡ true
-    k_inner =
-        ap (λ l. is_some (first l) && is_some (first (siblings_after ns k))) (before_in ns tree c (pre ++ n ∷ between) after k behind_k)
-        ∙ ap (λ b. b && is_some (first (siblings_after ns k))) (some_back (pre ++ n ∷ between) (omega (arith, length-append pre (n ∷ between))))
-        ∙ ap (λ l. is_some (first l)) (after_in ns tree c (pre ++ n ∷ between) after k behind_k)
-        ∙ some_first after (omega (arith, ap length past_k.1, length-append past_k.0 (last ∷ [])))
-
     from_line : (to : ℕ) (l : Line ns after k to) → LeavesBehind (contents ns between) (contents ns l.line) → Goes to None
     from_line to l goes =
         let behind : post ≡ (between ++ k ∷ l.line) ++ l.rest = is ∙ ap (λ (r : List ℕ). between ++ k ∷ r) l.split ∙ sym (append_assoc between (k ∷ l.line) l.rest) in
@@ -265,22 +248,14 @@ module _ (ns : List Node) (tree : IsTree ns) (c n open_with last : ℕ) (inner :
         ∙ ap (λ o. option_or o (find (is_comma_at ns) (reverse around.away))) (find_none ns near around.beside) in
         subst (Ahead ns around.away) (sym found) (subst (λ l. Ahead ns l (find (is_comma_at ns) (reverse around.away))) (reverse-reverse around.away) (ahead_of ns (reverse around.away)))
 
-    goes_ahead : (o : Option ℕ) → Ahead ns around.away o → Goes (line_end_at ns n) (if_inner ns o)
+    goes_ahead : (o : Option ℕ) → Ahead ns around.away o → Goes (line_end_at ns n) o
     goes_ahead _ (none_ahead h) =
         with_none away near line.line rest.0 (whole ∙ ap (λ (x : List ℕ). x ++ ((near ++ n ∷ line.line) ++ (rest.0 ++ last ∷ []))) away_open.1) (edges line.line line.init (line_end_at ns n) line.last_is) around.beside away_apart
         (no_commas_rest (content_at ns open_with) (contents ns away) (subst (λ l. IsTrue (no_commas (contents ns l))) away_open.1 h)) line.ended none_past_line
     goes_ahead _ (comma_ahead front mid {k = k} e comma h) =
         let first_of = begins_with ends front mid away k open_with (sym e ∙ away_open.1) (comma_no_end (content_at ns k) comma) opens in
-        let row_k : children_at ns c ≡ front ++ k ∷ (mid ++ ((near ++ n ∷ line.line) ++ (rest.0 ++ last ∷ []))) = whole ∙ ap (λ (x : List ℕ). x ++ ((near ++ n ∷ line.line) ++ (rest.0 ++ last ∷ []))) e ∙ append_assoc front (k ∷ mid) ((near ++ n ∷ line.line) ++ (rest.0 ++ last ∷ [])) in
-        let back : List ℕ = mid ++ ((near ++ n ∷ line.line) ++ (rest.0 ++ last ∷ [])) in
-        let inside : has_neighbours ns k ≡ true =
-        ap (λ l. is_some (first l) && is_some (first (siblings_after ns k))) (before_in ns tree c front back k row_k)
-        ∙ ap (λ b. b && is_some (first (siblings_after ns k))) (some_back front (omega (arith, ap length first_of.1)))
-        ∙ ap (λ l. is_some (first l)) (after_in ns tree c front back k row_k)
-        ∙ some_first back (omega (arith, length-append mid ((near ++ n ∷ line.line) ++ (rest.0 ++ last ∷ [])), length-append (near ++ n ∷ line.line) (rest.0 ++ last ∷ []), length-append rest.0 (last ∷ []))) in
-        subst (Goes (line_end_at ns n)) (sym (ap (λ b. if b then Some k else None) inside))
-        (with_before first_of.0 mid near line.line rest.0 (whole ∙ ap (λ (x : List ℕ). x ++ ((near ++ n ∷ line.line) ++ (rest.0 ++ last ∷ []))) (e ∙ ap (λ (x : List ℕ). x ++ k ∷ mid) first_of.1)) (edges line.line line.init (line_end_at ns n) line.last_is)
-        around.beside (subst (λ b. IsTrue b) (ap apart (map-append (content_at ns) front (k ∷ mid)) ∙ apart_behind (contents ns front) (content_at ns k) (contents ns mid)) (subst (λ l. IsTrue (apart (contents ns l))) e around.apart)) h comma line.ended none_past_line)
+        with_before first_of.0 mid near line.line rest.0 (whole ∙ ap (λ (x : List ℕ). x ++ ((near ++ n ∷ line.line) ++ (rest.0 ++ last ∷ []))) (e ∙ ap (λ (x : List ℕ). x ++ k ∷ mid) first_of.1)) (edges line.line line.init (line_end_at ns n) line.last_is)
+        around.beside (subst (λ b. IsTrue b) (ap apart (map-append (content_at ns) front (k ∷ mid)) ∙ apart_behind (contents ns front) (content_at ns k) (contents ns mid)) (subst (λ l. IsTrue (apart (contents ns l))) e around.apart)) h comma line.ended none_past_line
 
     goes_none : Goes (last_past ns n None) (comma_unless None (comma_before ns n))
     goes_none = goes_ahead (find (is_comma_at ns) (siblings_before ns n)) ahead
@@ -290,8 +265,6 @@ module _ (ns : List Node) (tree : IsTree ns) (c n open_with last : ℕ) (inner :
     where
       by : (o : Option ℕ) → Past ns post o → trailing_comma_at ns n ≡ o → Goes (last_gone ns n) (comma_gone ns n)
       by _ (comma_past between after {k = k} e t f) told =
-          let is : comma_behind ns n ≡ Some k = ap (if_inner ns) told ∙ ap (λ b. if b then Some k else None) (k_inner between after k e t f) in
-          subst (λ o. Goes (last_past ns n o) (comma_unless o (comma_before ns n))) (sym is) (goes_behind between after k e t f)
+          subst (λ o. Goes (last_past ns n o) (comma_unless o (comma_before ns n))) (sym told) (goes_behind between after k e t f)
       by _ (none_past e) told =
-          let is : comma_behind ns n ≡ None = ap (if_inner ns) told in
-          subst (λ o. Goes (last_past ns n o) (comma_unless o (comma_before ns n))) (sym is) (goes_none e)
+          subst (λ o. Goes (last_past ns n o) (comma_unless o (comma_before ns n))) (sym told) (goes_none e)

@@ -17,7 +17,7 @@ use Rattle.jsonc_nodes.specs.Kinds.{is_trivia, is_element_at, is_property}
 use Rattle.jsonc_nodes.proofs.There.{All-reverse}
 use Rattle.jsonc_build.specs.Shape.{DocumentShaped, IsTrivia}
 use Rattle.jsonc_lines.specs.Kinds.{holds_values}
-use Rattle.jsonc_lines.specs.Siblings.{is_no_trivia_at, if_comma}
+use Rattle.jsonc_lines.specs.Siblings.{is_no_trivia_at, if_comma, trailing_comma_at}
 use Rattle.jsonc_tree.specs.OrderedTree.{Top}
 use Rattle.jsonc_laws.specs.TreeChanges.{IsElement}
 use Rattle.jsonc_laws.specs.TriviaChanges.{AreTrivia, leaves_then}
@@ -38,7 +38,7 @@ use Rattle.jsonc_edit.proofs.Kept.{top_stays, tree_stays}
 use Rattle.jsonc_edit.proofs.Uniqueness.{element_parent}
 use Rattle.jsonc_edit.proofs.Walk.{Shows-row_below, apart_kept, document_is}
 use Rattle.jsonc_remove.specs.Laws.{ValueTaken}
-use Rattle.jsonc_remove.specs.Leaving.{comes_to, comma_behind, comma_gone, first_gone, if_inner, is_blank_at, last_gone, last_past, line_end_at}
+use Rattle.jsonc_remove.specs.Leaving.{comes_to, comma_gone, first_gone, is_blank_at, last_gone, last_past, line_end_at}
 use Rattle.jsonc_remove.specs.Removed.{comma_in, due_at_comma, due_at_stretch, is_hollow, is_hollow_as, hollow_from, hollow_to, IsTakenFrom, LosesChild, TakesElement}
 use Rattle.jsonc_remove.proofs.Contents.{apart, apart_shown}
 use Rattle.jsonc_remove.proofs.Places.{row_split, before_in, after_in, place_in}
@@ -157,8 +157,8 @@ module _ (o : Options) (ns : List Node) (tree : IsTree ns) (n : ℕ) (said : par
   around : Near ns pre n (first_gone ns n)
   around = subst (λ r. Near ns r n (first_gone ns n)) (ap (λ (l : List ℕ). reverse l) (before_in ns tree 0 pre post n split) ∙ reverse-reverse pre) (near_of ns n (siblings_before ns n))
 
-  no_comma : comma_behind ns n ≡ None
-  no_comma = ap (λ l. if_inner ns (if_comma ns (find (is_no_trivia_at ns) l))) (after_in ns tree 0 pre post n split) ∙ ap (λ w. if_inner ns (if_comma ns w)) (none_found ns post trivia_both.1)
+  no_comma : trailing_comma_at ns n ≡ None
+  no_comma = ap (λ l. if_comma ns (find (is_no_trivia_at ns) l)) (after_in ns tree 0 pre post n split) ∙ ap (if_comma ns) (none_found ns post trivia_both.1)
 
   line_is : Line ns post n (last_gone ns n)
   line_is = subst (λ w. Line ns post n (last_past ns n w)) (sym no_comma) (subst (λ r. Line ns r n (line_end_at ns n)) (after_in ns tree 0 pre post n split) (line_of ns n (siblings_after ns n)))

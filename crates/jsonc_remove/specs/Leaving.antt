@@ -1,8 +1,8 @@
 -- What leaves with an element, by the numbers of nodes.
-use Rattle.std.specs.Prelude.{ℕ, Bool, true, false, not, ◌&&◌, ◌||◌, ◌==◌, List, [], ◌∷◌, Option, Some, None, is_some, if◌then◌else◌}
+use Rattle.std.specs.Prelude.{ℕ, Bool, true, false, not, ◌&&◌, ◌||◌, ◌==◌, List, [], ◌∷◌, Option, Some, None, if◌then◌else◌}
 use Rattle.std.specs.List.{find}
 use Rattle.jsonc_tree.specs.Tree.{Node, content_at}
-use Rattle.jsonc_tree.specs.Siblings.{first, siblings_after, siblings_before}
+use Rattle.jsonc_tree.specs.Siblings.{siblings_after, siblings_before}
 use Rattle.jsonc_nodes.specs.Kinds.{is_beside_at, is_newline_at, is_trivia_at, is_whitespace_at}
 use Rattle.jsonc_nodes.specs.Comments.{after_beside_at}
 use Rattle.jsonc_lines.specs.Kinds.{is_comma}
@@ -43,33 +43,21 @@ newline_there ns (Some m) = is_newline_at ns m
 abbrev pub ends_line_at : List Node → ℕ → Bool
 ends_line_at ns n = newline_there ns (after_beside_at ns n)
 
--- the node, if it stands between two others: it is no bracket then
-abbrev pub has_neighbours : List Node → ℕ → Bool
-has_neighbours ns k = is_some (first (siblings_before ns k)) && is_some (first (siblings_after ns k))
-
-abbrev pub if_inner : List Node → Option ℕ → Option ℕ
-if_inner ns None = None
-if_inner ns (Some k) = if has_neighbours ns k then Some k else None
-
--- the comma behind n, with nothing but trivia between
-abbrev pub comma_behind : List Node → ℕ → Option ℕ
-comma_behind ns n = if_inner ns (trailing_comma_at ns n)
-
 abbrev pub is_comma_at : List Node → ℕ → Bool
 is_comma_at ns m = is_comma (content_at ns m)
 
 -- the nearest comma before n
 abbrev pub comma_before : List Node → ℕ → Option ℕ
-comma_before ns n = if_inner ns (find (is_comma_at ns) (siblings_before ns n))
+comma_before ns n = find (is_comma_at ns) (siblings_before ns n)
 
--- the last that leaves: the comma behind n, with the rest of its line if nothing else stands on that and n's line has
+-- the last that leaves: the trailing comma of n, with the rest of its line if nothing else stands on that and n's line has
 -- not ended before; or without that comma the end of n's line
 abbrev pub last_past : List Node → ℕ → Option ℕ → ℕ
 last_past ns n None = line_end_at ns n
 last_past ns n (Some k) = if ends_line_at ns n || not (ends_line_at ns k) then k else line_end_at ns k
 
 abbrev pub last_gone : List Node → ℕ → ℕ
-last_gone ns n = last_past ns n (comma_behind ns n)
+last_gone ns n = last_past ns n (trailing_comma_at ns n)
 
 -- the comma that leaves from before n, where none stands behind it
 abbrev pub comma_unless : Option ℕ → Option ℕ → Option ℕ
@@ -77,7 +65,7 @@ comma_unless (Some k) found = None
 comma_unless None found = found
 
 abbrev pub comma_gone : List Node → ℕ → Option ℕ
-comma_gone ns n = comma_unless (comma_behind ns n) (comma_before ns n)
+comma_gone ns n = comma_unless (trailing_comma_at ns n) (comma_before ns n)
 
 -- past blanks the row comes to this node
 abbrev pub is_blank_at : List Node → ℕ → Bool

@@ -3,8 +3,9 @@
 ghost use Rattle.std.specs.Prelude.{◌≡◌, ◌<◌, length};
 ghost use Rattle.jsonc_tree.specs.Siblings.{siblings_after};
 ghost use Rattle.jsonc_nodes.specs.Siblings.{IsThere};
-ghost use Rattle.jsonc_remove.specs.Leaving.{begins_other, comma_before, comma_behind, comma_gone, ends_line_at};
-ghost use Rattle.jsonc_remove.specs.Leaving.{first_gone, if_inner, last_gone, last_past, line_end_at, trails};
+ghost use Rattle.jsonc_lines.specs.Siblings.{trailing_comma_at};
+ghost use Rattle.jsonc_remove.specs.Leaving.{begins_other, comma_before, comma_gone, ends_line_at};
+ghost use Rattle.jsonc_remove.specs.Leaving.{first_gone, last_gone, last_past, line_end_at, trails};
 
 use crate::kinds::{after_beside, is_beside};
 use jsonc_lines::{is_comma, trailing_comma};
@@ -81,28 +82,14 @@ fn ends_line<A: Allocator>(tree: &Tree<A>, node: usize) -> bool
     }
 }
 
-// The node, if it stands between two others.
-fn if_inner<A: Allocator>(tree: &Tree<A>, found: Option<usize>) -> Option<usize>
-    requires { IsThere tree.now.nodes found }
-    ensures inner { result ≡ if_inner tree.now.nodes found }
-    ensures there { IsThere tree.now.nodes result }
-{
-    let _ = tree.len();
-    let node = found?;
-    if tree.previous_sibling(node).is_some() && tree.next_sibling(node).is_some() {
-        return Some(node);
-    }
-    None
-}
-
 // The comma behind a node, with nothing but trivia between.
 fn comma_behind<A: Allocator>(tree: &Tree<A>, node: usize) -> Option<usize>
     requires { node < length tree.now.nodes }
-    ensures comma { result ≡ comma_behind tree.now.nodes node }
+    ensures comma { result ≡ trailing_comma_at tree.now.nodes node }
     ensures there { IsThere tree.now.nodes result }
 {
     let _ = tree.len();
-    if_inner(tree, trailing_comma(tree, node))
+    trailing_comma(tree, node)
 }
 
 // The nearest comma before a node.
@@ -111,8 +98,7 @@ fn comma_before<A: Allocator>(tree: &Tree<A>, node: usize) -> Option<usize>
     ensures comma { result ≡ comma_before tree.now.nodes node }
     ensures there { IsThere tree.now.nodes result }
 {
-    let found = previous_siblings(tree, node).find(|sibling| is_comma(tree.kind(*sibling)));
-    if_inner(tree, found)
+    previous_siblings(tree, node).find(|sibling| is_comma(tree.kind(*sibling)))
 }
 
 // The last that leaves with a node that has this comma behind it, or none.

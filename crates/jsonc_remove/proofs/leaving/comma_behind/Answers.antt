@@ -3,5 +3,5 @@ use Rattle.jsonc_nodes.specs.Siblings.{IsThere}
 use Rattle.jsonc_remove.proofs.Walking.{trailing_there}
 use Rattle.jsonc_remove.proofs.leaving.comma_behind.Goals as goal
 
-pub if_inner-requires : goal.if_inner-requires
-if_inner-requires g c = subst (IsThere c.args.tree.now.nodes) (sym c.trailing_comma.ensures.comma) (trailing_there c.args.tree.now.nodes c.len.ensures.tree c.args.node)
+pub returns-clause-there : goal.returns-clause-there
+returns-clause-there g c = subst (IsThere c.args.tree.now.nodes) (sym c.trailing_comma.ensures.comma) (trailing_there c.args.tree.now.nodes c.len.ensures.tree c.args.node)
