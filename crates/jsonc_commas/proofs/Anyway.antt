@@ -1,6 +1,6 @@
 -- Commas that are set in any document, sound or not.
-use Rattle.std.proofs.Common.{◌≡◌, ◌∙◌, sym, ap, subst, refl, ℕ, ◌⊎◌, inl, inr, false, List, [], ◌∷◌, ◌++◌, Option, Some, None, is_some, append_assoc}
-use Rattle.std.specs.List.{find, All}
+use Rattle.std.proofs.Common.{◌≡◌, ◌∙◌, sym, ap, subst, refl, ℕ, ◌⊎◌, ◌||◌, inl, inr, Bool, true, false, IsTrue, List, [], ◌∷◌, ◌++◌, Option, Some, None, is_some, append_assoc}
+use Rattle.std.specs.List.{find, list_any, All}
 use Rattle.std.proofs.lemmas.Bool.{cases_eq}
 use Rattle.std.proofs.lemmas.List.Elements.{All-cons, All-nil, All-weaker}
 use Rattle.jsonc_tree.specs.Siblings.{siblings_after}
@@ -8,8 +8,8 @@ use Rattle.jsonc_tree.specs.Tree.{Node, children_at, IsOver, IsTree}
 use Rattle.jsonc_lines.specs.Siblings.{if_comma, is_no_trivia_at, trailing_comma_at}
 use Rattle.jsonc_edit.specs.declared.modes.TrailingCommaMode.{TrailingCommaMode}
 use Rattle.jsonc_edit.specs.declared.modes.TrailingCommaMode.TheVariants.{Never, IfMultiline}
-use Rattle.jsonc_commas.specs.Commas.{comma_gone, comma_wanted_behind, CommaIsSet, GainsIt, LosesIt}
-use Rattle.jsonc_commas.specs.InTurn.{holders, AreSetInTurn}
+use Rattle.jsonc_commas.specs.Commas.{comma_gone, comma_wanted_behind, CommaIsSet, GainsIt, LosesIt, WantsComma}
+use Rattle.jsonc_commas.specs.InTurn.{holders, wants_comma, AreSetInPart, AreSetInTurn, CommaIsDue}
 use Rattle.jsonc_commas.specs.Laws.{HasSeveral, IsSet, SetsAllButSeveral}
 use Rattle.jsonc_commas.proofs.Children.{gone_child}
 use Rattle.jsonc_commas.proofs.CommaRows.{comma_first}
@@ -83,6 +83,27 @@ module _ (mode : TrailingCommaMode) where
               | inr ne ↦ set_same old now tree after m (other_row mode old now tree n s m ne) mode set
             ]);
       }
+
+-- one that wants a comma once others have theirs wanted it before
+wanted_before : (old new : List Node) → IsTree old → (next : ℕ) (done : List ℕ) → AreSetInTurn IfMultiline old done new → WantsComma new next → (o : Option ℕ) → comma_wanted_behind old next ≡ o → wants_comma old next ≡ true
+wanted_before old new tree next done set (n, w) None e = let wrong : None ≡ Some n = sym ((any_chain IfMultiline done old new tree set).stay next e) ∙ w in cc
+wanted_before old new tree next done set w (Some m) e = ap (λ (x : Option ℕ). is_some x) e
+
+any_with : (p : ℕ → Bool) (front back : List ℕ) (n : ℕ) → p n ≡ true → list_any p (front ++ n ∷ back) ≡ true
+any_with p [] back n e = ap (λ b. b || list_any p back) e
+any_with p (x ∷ front) back n e = by (p x) (any_with p front back n e)
+  where
+    by : (b : Bool) → list_any p (front ++ n ∷ back) ≡ true → b || list_any p (front ++ n ∷ back) ≡ true
+    by true h = refl
+    by false h = h
+
+comma_due : (old new : List Node) (c : ℕ) → IsTree old → AreSetInPart IfMultiline old (holders old c) new → CommaIsDue old c
+comma_due old new c tree part =
+    subst (λ l. IsTrue (list_any (wants_comma old) l)) (sym part.are)
+    (any_with (wants_comma old) part.done part.left part.next (wanted_before old new tree part.next part.done part.set part.wants (comma_wanted_behind old part.next) refl))
+
+pub due_where_refused : (mode : TrailingCommaMode) (old new : List Node) (c : ℕ) → IsTree old → mode ≡ IfMultiline → AreSetInPart mode old (holders old c) new → CommaIsDue old c
+due_where_refused mode old new c tree e part = comma_due old new c tree (subst (λ m. AreSetInPart m old (holders old c) new) e part)
 
 pub sets_anyway : (mode : TrailingCommaMode) (old : List Node) (c : ℕ) (new : List Node) → SetsAllButSeveral mode old c new
 sets_anyway mode old c new tree there set =

@@ -15,8 +15,8 @@ use Rattle.jsonc_edit.specs.declared.modes.TrailingCommaMode.TheVariants.{Never,
 use Rattle.jsonc_edit.proofs.Kept.{tree_stays}
 use Rattle.jsonc_edit.proofs.Splices.{respliced_others}
 use Rattle.jsonc_commas.specs.Commas.{a_comma, comma_gone, comma_wanted_behind, CommaIsSet, GainsIt, LosesIt}
-use Rattle.jsonc_commas.specs.InTurn.{AreSetInPart, holders, holds_at, AreSetInTurn}
-use Rattle.jsonc_commas.specs.Laws.{LeavesOthers}
+use Rattle.jsonc_commas.specs.InTurn.{holders, holds_at, AreSetInTurn}
+use Rattle.jsonc_commas.specs.Laws.{LeavesOthers, LeavesOthersInPart}
 use Rattle.jsonc_commas.proofs.Children.{may_come, wanted_child}
 use Rattle.jsonc_commas.proofs.Documents.{are_holders, longer, AreHolders}
 use Rattle.jsonc_commas.proofs.InOrder.{holds_same, over_back, KeepsContainers}
@@ -94,7 +94,7 @@ apart_chain mode (n ∷ rest) old new tree h (now, s, after, later) =
     apart_chain mode rest now new after (apart_kept old now tree after (set_keeps mode old now tree n s) rest h.3) later ∙ one_apart old now tree after n h.2 h.0 mode s
 
 pub leaves_others : (mode : TrailingCommaMode) (old : List Node) (c : ℕ) (new : List Node) → LeavesOthers mode old c new
-leaves_others mode old c new tree there out set =
+leaves_others mode old c new tree there set out =
     apart_chain mode (holders old c) old new tree (are_apart old tree c there out (holders old c) (are_holders old tree c c IsOver.itself)) set
 
 -- and so do the first of them
@@ -102,7 +102,7 @@ apart_first : (ns : List Node) (done left : List ℕ) → AreApart ns (done ++ l
 apart_first ns [] left h = tt
 apart_first ns (n ∷ rest) left h = (h.0, h.1, h.2, apart_first ns rest left h.3)
 
-pub leaves_others_in_part : (mode : TrailingCommaMode) (old : List Node) (c : ℕ) (new : List Node) → IsTree old → c < length old → (IsOver old 0 c → ⊥) → AreSetInPart mode old (holders old c) new → ordered_tree new 0 ≡ ordered_tree old 0
-leaves_others_in_part mode old c new tree there out part =
+pub leaves_others_in_part : (mode : TrailingCommaMode) (old : List Node) (c : ℕ) (new : List Node) → LeavesOthersInPart mode old c new
+leaves_others_in_part mode old c new tree there part out =
     let all = are_apart old tree c there out (holders old c) (are_holders old tree c c IsOver.itself) in
     apart_chain mode part.done old new tree (apart_first old part.done (part.next ∷ part.left) (subst (AreApart old) part.are all)) part.set

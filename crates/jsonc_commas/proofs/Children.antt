@@ -15,12 +15,11 @@ use Rattle.jsonc_tree.proofs.Appending.{CanAppend-adds}
 use Rattle.jsonc_tree.proofs.Order.{parent_there}
 use Rattle.jsonc_tree.proofs.Sideways.{first_drop}
 use Rattle.jsonc_nodes.specs.Kinds.{is_element_at}
-use Rattle.jsonc_nodes.specs.Siblings.{IsThere}
-use Rattle.jsonc_nodes.proofs.There.{All-reverse, after_there, find_there}
+use Rattle.jsonc_nodes.proofs.There.{All-reverse}
 use Rattle.jsonc_lines.specs.Kinds.{is_comma}
 use Rattle.jsonc_lines.specs.Siblings.{if_comma, is_no_trivia_at, trailing_comma_at}
 use Rattle.jsonc_tree.specs.Tree.{content_at}
-use Rattle.jsonc_commas.specs.Commas.{comma_gone, comma_wanted_behind, has_newline, if_followed, if_without_comma, last_element}
+use Rattle.jsonc_commas.specs.Commas.{comma_gone, comma_wanted_behind, has_newline, if_without_comma, last_element}
 
 -- the node is a child of c
 abbrev pub IsChild : List Node → ℕ → ℕ → Type 0
@@ -61,13 +60,9 @@ module _ (ns : List Node) (tree : IsTree ns) (c : ℕ) where
       let row : siblings_after ns n ≡ drop (place_at ns n + 1) (children_at ns c) = ap (λ o. drop (place_at ns n + 1) (with_parent o (children_at ns))) said in
       comma_like (find (is_no_trivia_at ns) (siblings_after ns n)) (found_like (IsChild ns c) (is_no_trivia_at ns) (siblings_after ns n) (subst (All (IsChild ns c)) (sym row) (All-drop (IsChild ns c) (place_at ns n + 1) (children_at ns c) children_are)))
 
-  followed_like : (o : Option ℕ) → IfSome o (IsChild ns c) → IfSome (if_followed ns o) (IsChild ns c)
-  followed_like None h = tt
-  followed_like (Some k) h = if_one (IsChild ns c) k None (is_some (first (siblings_after ns k))) h tt
-
-  gone_like : (o : Option ℕ) → IfSome o (IsChild ns c) → IfSome (option_and_then (λ n. if_followed ns (trailing_comma_at ns n)) o) (IsChild ns c)
+  gone_like : (o : Option ℕ) → IfSome o (IsChild ns c) → IfSome (option_and_then (trailing_comma_at ns) o) (IsChild ns c)
   gone_like None h = tt
-  gone_like (Some n) h = followed_like (trailing_comma_at ns n) (comma_child n h)
+  gone_like (Some n) h = comma_child n h
 
   -- the comma that leaves is a child of its container
   pub gone_child : (k : ℕ) → comma_gone ns c ≡ Some k → IsChild ns c k
@@ -103,15 +98,6 @@ module _ (ns : List Node) (tree : IsTree ns) (c : ℕ) where
 
   holds : (n : ℕ) → IsChild ns c n → is_container_at ns c ≡ true
   holds n said = true_from_ne_false (is_container_at ns c) (λ e. absurd (omega (arith, tree.within n c said, ap length (tree.leaf c e))))
-
--- the trailing comma of a node is there
-module _ (ns : List Node) (tree : IsTree ns) where
-  comma_there : (o : Option ℕ) → IsThere ns o → IsThere ns (if_comma ns o)
-  comma_there None h = tt
-  comma_there (Some m) h = if_one (λ n. n < length ns) m None (is_comma (content_at ns m)) h tt
-
-  pub trailing_there : (n k : ℕ) → Some k ≡ trailing_comma_at ns n → k < length ns
-  trailing_there n k e = subst (IsThere ns) (sym e) (comma_there (find (is_no_trivia_at ns) (siblings_after ns n)) (find_there ns (is_no_trivia_at ns) (siblings_after ns n) (after_there ns tree n)))
 
 -- where a leaf has been added, a child is still one, and the leaf may come behind it
 module _ (old new : List Node) (content : Content) (tree : IsTree old) (after : IsTree new) (added : Adds old new content) (c n : ℕ) (said : parent_at old n ≡ Some c) where

@@ -1,9 +1,8 @@
 -- Two changes of what stands at one path are one.
-use Rattle.std.proofs.Common.{◌≡◌, ◌∙◌, ℕ, zero, suc, List, [], ◌∷◌, refl, sym, ap, subst}
-use Rattle.jsonc_tree.specs.Content.{Content, array, object, property}
-use Rattle.jsonc_tree.specs.OrderedTree.{OrderedTree, Top, none, more}
-use Rattle.jsonc_tree.specs.Values.{is_passed_over}
-use Rattle.jsonc_laws.specs.TreeChanges.{IsElement, ElementChanged, this_element, passed, later_element, ValueChanged, itself, in_array, in_object, DocumentChanged, in_root, HeldChanged, property_of}
+use Rattle.std.proofs.Common.{◌≡◌, ℕ, zero, suc, List, refl, sym, ap, subst}
+use Rattle.jsonc_tree.specs.Content.{array, object}
+use Rattle.jsonc_tree.specs.OrderedTree.{OrderedTree, Top, more}
+use Rattle.jsonc_laws.specs.TreeChanges.{IsElement, ElementChanged, this_element, passed, later_element, ValueChanged, itself, in_array, in_object, DocumentChanged, in_root, property_of}
 use Rattle.jsonc_laws.proofs.FirstNodes.{here, over, beyond, meets_first, no_element}
 use Rattle.jsonc_commas.proofs.Steps.{same_top}
 

@@ -1,18 +1,18 @@
 -- A comma that is set keeps all containers where they stand.
-use Rattle.std.proofs.Common.{◌≡◌, ◌∙◌, sym, ap, subst, refl, ℕ, suc, ◌+◌, ◌-◌, ◌<◌, ◌≤◌, ◌||◌, inl, inr, Bool, true, false, cond, eqb, List, [], ◌∷◌, ◌++◌, length, take, drop, filter, Option, Some, None, IfSome, is_some, slice_range, ne_eqb, arith}
+use Rattle.std.proofs.Common.{◌≡◌, ◌∙◌, sym, ap, subst, refl, ℕ, suc, ◌+◌, ◌-◌, ◌<◌, ◌≤◌, ◌||◌, inl, inr, Bool, true, false, cond, eqb, List, [], ◌∷◌, ◌++◌, length, take, drop, filter, Option, Some, None, IfSome, slice_range, ne_eqb, arith}
 use Rattle.std.specs.List.{find}
 use Rattle.std.specs.Option.{option_and_then}
 use Rattle.std.proofs.lemmas.Bool.{cases_Bool, cases_lt, cases_eq, false≢true, eqb-true}
 use Rattle.std.proofs.lemmas.List.{drop_more, get_or_past, take-append-drop}
 use Rattle.std.proofs.lemmas.List.Elements.{filter-append}
 use Rattle.jsonc_tree.specs.Content.{Content, is_container}
-use Rattle.jsonc_tree.specs.Siblings.{first, siblings_after, TakesOut}
+use Rattle.jsonc_tree.specs.Siblings.{siblings_after, TakesOut}
 use Rattle.jsonc_tree.specs.Tree.{Node, nowhere, content_at, parent_at, children_at, place_at, is_container_at, is_in, node_at, IsTree}
 use Rattle.jsonc_lines.specs.Kinds.{is_comma}
 use Rattle.jsonc_lines.specs.Siblings.{if_comma, is_no_trivia_at, trailing_comma_at}
 use Rattle.jsonc_edit.specs.declared.modes.TrailingCommaMode.{TrailingCommaMode}
 use Rattle.jsonc_edit.specs.declared.modes.TrailingCommaMode.TheVariants.{Never, IfMultiline}
-use Rattle.jsonc_commas.specs.Commas.{comma_gone, comma_wanted_behind, if_followed, last_element, CommaComesBehind, CommaIsSet, GainsIt, LosesIt}
+use Rattle.jsonc_commas.specs.Commas.{comma_gone, comma_wanted_behind, last_element, CommaComesBehind, CommaIsSet, GainsIt, LosesIt}
 use Rattle.jsonc_commas.proofs.Children.{gone_child, some_like}
 use Rattle.jsonc_commas.proofs.InOrder.{KeepsContainers}
 
@@ -29,13 +29,9 @@ module _ (ns : List Node) where
   comma_is_one None = tt
   comma_is_one (Some m) = if_tested (IsComma ns) m (is_comma (content_at ns m)) (λ e. e)
 
-  followed_is_one : (o : Option ℕ) → IfSome o (IsComma ns) → IfSome (if_followed ns o) (IsComma ns)
-  followed_is_one None h = tt
-  followed_is_one (Some k) h = if_tested (IsComma ns) k (is_some (first (siblings_after ns k))) (λ e. h)
-
-  gone_is_one : (o : Option ℕ) → IfSome (option_and_then (λ n. if_followed ns (trailing_comma_at ns n)) o) (IsComma ns)
+  gone_is_one : (o : Option ℕ) → IfSome (option_and_then (trailing_comma_at ns) o) (IsComma ns)
   gone_is_one None = tt
-  gone_is_one (Some n) = followed_is_one (trailing_comma_at ns n) (comma_is_one (find (is_no_trivia_at ns) (siblings_after ns n)))
+  gone_is_one (Some n) = comma_is_one (find (is_no_trivia_at ns) (siblings_after ns n))
 
   pub gone_comma : (c k : ℕ) → comma_gone ns c ≡ Some k → IsComma ns k
   gone_comma c k e = some_like (IsComma ns) (comma_gone ns c) k e (gone_is_one (last_element ns c))

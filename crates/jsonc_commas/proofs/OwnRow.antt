@@ -9,7 +9,7 @@ use Rattle.jsonc_tree.specs.Tree.{Node, content_at, children_at, place_at, IsTre
 use Rattle.jsonc_nodes.specs.Kinds.{is_element, is_element_at, is_trivia}
 use Rattle.jsonc_lines.specs.Kinds.{is_comma}
 use Rattle.jsonc_lines.specs.Siblings.{if_comma, is_no_trivia_at, trailing_comma_at}
-use Rattle.jsonc_commas.specs.Commas.{a_comma, comma_gone, comma_wanted_behind, has_newline, if_followed, if_without_comma, last_element, CommaComesBehind}
+use Rattle.jsonc_commas.specs.Commas.{a_comma, comma_gone, comma_wanted_behind, has_newline, if_without_comma, last_element, CommaComesBehind}
 use Rattle.jsonc_commas.proofs.CommaRows.{comma_first}
 use Rattle.jsonc_commas.proofs.Kept.{ready_children}
 use Rattle.jsonc_commas.proofs.Splits.{comma_found, drop_past, found_first, found_last, found_past, none_joined, none_front, none_back, split_after, split_place, standing, GoneComma, NoneOf, WantedComma}
@@ -72,7 +72,7 @@ module _ (old new : List Node) (tree : IsTree old) (after : IsTree new) (c k : �
       ∙ none_of_none (if_comma old (find (is_no_trivia_at old) g.back)) (sym (comma_found old g.back) ∙ only)
 
   pub lost_now : comma_gone new c ≡ None
-  lost_now = ap (option_and_then (λ n. if_followed new (trailing_comma_at new n))) last_now ∙ ap (if_followed new) none_now
+  lost_now = ap (option_and_then (trailing_comma_at new)) last_now ∙ none_now
 
 pub take_past : (front back : List ℕ) (n k : ℕ) → k ≡ length front + 1 → take k (front ++ n ∷ back) ≡ front ++ n ∷ []
 take_past [] back n k e = ap (λ m. take m (n ∷ back)) e

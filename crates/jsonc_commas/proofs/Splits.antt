@@ -7,7 +7,7 @@ use Rattle.std.proofs.lemmas.List.{reverse-append, reverse-reverse}
 use Rattle.jsonc_tree.specs.Content.{Content}
 use Rattle.jsonc_tree.specs.OrderedTree.{OrderedTree, none, more, followed_by}
 use Rattle.jsonc_tree.specs.Order.{with_parent}
-use Rattle.jsonc_tree.specs.Siblings.{first, siblings_after}
+use Rattle.jsonc_tree.specs.Siblings.{siblings_after}
 use Rattle.jsonc_tree.specs.Tree.{Node, content_at, children_at, parent_at, place_at, IsTree}
 use Rattle.jsonc_tree.specs.Values as values
 use Rattle.jsonc_tree.specs.Values.{is_passed_over, HasNoValue}
@@ -15,7 +15,7 @@ use Rattle.jsonc_nodes.specs.Kinds.{is_element_at, is_trivia}
 use Rattle.jsonc_lines.specs.Kinds.{is_comma}
 use Rattle.jsonc_lines.specs.Siblings.{if_comma, is_no_trivia_at, trailing_comma_at}
 use Rattle.jsonc_edit.specs.Changes.{row_below}
-use Rattle.jsonc_commas.specs.Commas.{comma_gone, comma_wanted_behind, has_newline, if_followed, if_without_comma, last_element}
+use Rattle.jsonc_commas.specs.Commas.{comma_gone, comma_wanted_behind, has_newline, if_without_comma, last_element}
 use Rattle.jsonc_commas.proofs.CommaRows.{comma_first}
 
 -- no number of the list passes the test
@@ -190,10 +190,6 @@ module _ (ns : List Node) where
   comma_some None k e = let wrong : None ≡ Some k = e in cc
   comma_some (Some m) k e = let t = some_tested (is_comma (content_at ns m)) m k e in (ap (λ x. Some x) t.1, ap (λ x. is_comma (content_at ns x)) (sym t.1) ∙ t.0)
 
-  pub followed_some : (o : Option ℕ) (k : ℕ) → if_followed ns o ≡ Some k → o ≡ Some k
-  followed_some None k e = e
-  followed_some (Some m) k e = ap (λ x. Some x) (some_tested (is_some (first (siblings_after ns m))) m k e).1
-
 pub bind_some : (f : ℕ → Option ℕ) (o : Option ℕ) (k : ℕ) → option_and_then f o ≡ Some k → (n : ℕ) × (o ≡ Some n) × (f n ≡ Some k)
 bind_some f None k e = let wrong : None ≡ Some k = e in cc
 bind_some f (Some n) k e = (n, refl, e)
@@ -212,10 +208,10 @@ pub record GoneComma (ns : List Node) (c k : ℕ) : Type 0 where
 
 pub gone_parted : (ns : List Node) → IsTree ns → (c k : ℕ) → comma_gone ns c ≡ Some k → GoneComma ns c k
 gone_parted ns tree c k e =
-    let b = bind_some (λ n. if_followed ns (trailing_comma_at ns n)) (last_element ns c) k e in
+    let b = bind_some (trailing_comma_at ns) (last_element ns c) k e in
     let l = parted_last (is_element_at ns) (children_at ns c) b.0 b.1 in
     let row : siblings_after ns b.0 ≡ l.back = split_after ns tree c b.0 l.front l.back l.are in
-    let comma = comma_some ns (find (is_no_trivia_at ns) (siblings_after ns b.0)) k (followed_some ns (trailing_comma_at ns b.0) k b.2) in
+    let comma = comma_some ns (find (is_no_trivia_at ns) (siblings_after ns b.0)) k b.2 in
     let r = parted (is_no_trivia_at ns) l.back k (ap (find (is_no_trivia_at ns)) (sym row) ∙ comma.0) in
     record {
       front = l.front;

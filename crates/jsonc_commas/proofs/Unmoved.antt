@@ -3,7 +3,7 @@ use Rattle.std.proofs.Common.{◌≡◌, ◌≢◌, ◌∙◌, sym, ap, refl, �
 use Rattle.std.specs.List.{find, list_any, All}
 use Rattle.std.specs.Option.{option_and_then}
 use Rattle.jsonc_tree.specs.Order.{with_parent}
-use Rattle.jsonc_tree.specs.Siblings.{first, siblings_after}
+use Rattle.jsonc_tree.specs.Siblings.{siblings_after}
 use Rattle.jsonc_tree.specs.Tree.{Node, content_at, children_at, parent_at, place_among, place_at, place_under, IsTree}
 use Rattle.jsonc_nodes.specs.Kinds.{is_element, is_element_at, is_newline, is_newline_at, is_trivia}
 use Rattle.jsonc_nodes.specs.Siblings.{IsThere}
@@ -12,9 +12,9 @@ use Rattle.jsonc_lines.specs.Kinds.{is_comma}
 use Rattle.jsonc_lines.specs.Siblings.{if_comma, is_no_trivia_at, trailing_comma_at}
 use Rattle.jsonc_edit.specs.declared.modes.TrailingCommaMode.{TrailingCommaMode}
 use Rattle.jsonc_edit.specs.declared.modes.TrailingCommaMode.TheVariants.{Never, IfMultiline}
-use Rattle.jsonc_commas.specs.Commas.{comma_gone, comma_wanted_behind, has_newline, if_followed, if_without_comma, last_element, CommaIsSet, GainsIt, LosesIt}
+use Rattle.jsonc_commas.specs.Commas.{comma_gone, comma_wanted_behind, has_newline, if_without_comma, last_element, CommaIsSet, GainsIt, LosesIt}
 use Rattle.jsonc_commas.specs.Laws.{IsSet}
-use Rattle.jsonc_commas.proofs.Children.{comma_child, last_child, IsChild}
+use Rattle.jsonc_commas.proofs.Children.{last_child, IsChild}
 use Rattle.jsonc_commas.proofs.Kept.{ready_children, set_keeps}
 
 -- tests that agree on all of a list
@@ -77,16 +77,12 @@ module _ (old new : List Node) (tree : IsTree old) (after : IsTree new) (m : ℕ
       ∙ ap (if_comma new) (find_alike (is_no_trivia_at old) (is_no_trivia_at new) Low (λ k h. ap (λ w. not (is_trivia w)) (s.content k h)) row (after_there old tree x))
       ∙ if_comma_same (find (is_no_trivia_at old) row) (find_there old (is_no_trivia_at old) row (after_there old tree x))
 
-  followed_same : (o : Option ℕ) → IfSome o (IsChild old m) → if_followed new o ≡ if_followed old o
-  followed_same None h = refl
-  followed_same (Some k) h = ap (λ l. cond (is_some (first l)) (Some k) None) (after_same k h)
-
-  gone_by : (o : Option ℕ) → IfSome o (IsChild old m) → option_and_then (λ n. if_followed new (trailing_comma_at new n)) o ≡ option_and_then (λ n. if_followed old (trailing_comma_at old n)) o
+  gone_by : (o : Option ℕ) → IfSome o (IsChild old m) → option_and_then (trailing_comma_at new) o ≡ option_and_then (trailing_comma_at old) o
   gone_by None h = refl
-  gone_by (Some n) h = ap (if_followed new) (trailing_same n h) ∙ followed_same (trailing_comma_at old n) (comma_child old tree m n h)
+  gone_by (Some n) h = trailing_same n h
 
   pub gone_same : comma_gone new m ≡ comma_gone old m
-  gone_same = ap (option_and_then (λ n. if_followed new (trailing_comma_at new n))) last_same ∙ gone_by (last_element old m) (last_child old tree m)
+  gone_same = ap (option_and_then (trailing_comma_at new)) last_same ∙ gone_by (last_element old m) (last_child old tree m)
 
   wanted_by : (o : Option ℕ) → IfSome o (IsChild old m) → option_and_then (if_without_comma new) o ≡ option_and_then (if_without_comma old) o
   wanted_by None h = refl

@@ -1,9 +1,9 @@
 -- Where commas of an array or object are set, and of those in it, nothing changes outside of it.
-use Rattle.std.proofs.Common.{◌≡◌, ◌<◌, ◌∙◌, sym, ap, subst, refl, ℕ, suc, List, [], ◌∷◌, ◌++◌, length, Option, Some, None, IsTrue}
+use Rattle.std.proofs.Common.{◌≡◌, ◌<◌, ◌∙◌, sym, subst, refl, ℕ, suc, List, [], ◌∷◌, ◌++◌, length, Option, Some, None, IsTrue}
 use Rattle.jsonc_tree.specs.Building.{Keeps}
 use Rattle.jsonc_tree.specs.Changes.{CanAppend}
 use Rattle.jsonc_tree.specs.OrderedTree.{OrderedTree, Top, ordered_tree}
-use Rattle.jsonc_tree.specs.Tree.{Node, content_at, parent_at, place_at, IsTree, IsOver}
+use Rattle.jsonc_tree.specs.Tree.{Node, content_at, place_at, IsTree, IsOver}
 use Rattle.jsonc_tree.proofs.Appending.{CanJoin-one}
 use Rattle.jsonc_tree.proofs.Builder.{Keeps-adds}
 use Rattle.jsonc_tree.proofs.Order.{parent_there}
@@ -21,7 +21,7 @@ use Rattle.jsonc_edit.proofs.Kept.{at_kept, top_stays, tree_stays}
 use Rattle.jsonc_edit.proofs.Splices.{respliced_over}
 use Rattle.jsonc_edit.proofs.Walk.{changed_over}
 use Rattle.jsonc_commas.specs.Commas.{a_comma, comma_gone, comma_wanted_behind, CommaIsSet, GainsIt, LosesIt}
-use Rattle.jsonc_commas.specs.InTurn.{holders, AreSetInPart, AreSetInTurn}
+use Rattle.jsonc_commas.specs.InTurn.{holders, AreSetInTurn}
 use Rattle.jsonc_commas.specs.Laws.{StaysOutside, StaysOutsideInPart}
 use Rattle.jsonc_commas.proofs.Apart.{over_is_there}
 use Rattle.jsonc_commas.proofs.Children.{may_come, wanted_child}

@@ -4,7 +4,7 @@ use Rattle.std.specs.List.{find, list_any}
 use Rattle.std.specs.Option.{option_and_then}
 use Rattle.jsonc_tree.specs.Content.{Content, token}
 use Rattle.jsonc_tree.specs.Changes.{Adds, Splices}
-use Rattle.jsonc_tree.specs.Siblings.{first, siblings_after, TakesOut}
+use Rattle.jsonc_tree.specs.Siblings.{TakesOut}
 use Rattle.jsonc_tree.specs.Tree.{Node, children_at, place_at, IsTree}
 use Rattle.jsonc_nodes.specs.Kinds.{is_element_at, is_newline_at}
 use Rattle.jsonc_lines.specs.Siblings.{trailing_comma_at}
@@ -19,14 +19,9 @@ last_element ns c = find (is_element_at ns) (reverse (children_at ns c))
 abbrev pub has_newline : List Node → ℕ → Bool
 has_newline ns c = list_any (is_newline_at ns) (children_at ns c)
 
--- the node, if a sibling stands behind it: it is no bracket then
-abbrev pub if_followed : List Node → Option ℕ → Option ℕ
-if_followed ns None = None
-if_followed ns (Some k) = if is_some (first (siblings_after ns k)) then Some k else None
-
--- the trailing comma of c: it stands behind the last element, past trivia, and is no bracket
+-- the trailing comma of c: that of its last element, which may stand in the place of a bracket
 abbrev pub comma_gone : List Node → ℕ → Option ℕ
-comma_gone ns c = option_and_then (λ n. if_followed ns (trailing_comma_at ns n)) (last_element ns c)
+comma_gone ns c = option_and_then (trailing_comma_at ns) (last_element ns c)
 
 -- the node, if no comma stands behind it past trivia
 abbrev pub if_without_comma : List Node → ℕ → Option ℕ

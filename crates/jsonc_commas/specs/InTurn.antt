@@ -1,12 +1,13 @@
 -- The trailing commas of arrays and objects one after another.
-use Rattle.std.specs.Prelude.{◌≡◌, ◌≢◌, ◌==◌, ◌&&◌, ◌||◌, ℕ, Bool, true, false, not, List, [], ◌∷◌, ◌++◌, filter, Option, None, Some, if◌then◌else◌}
+use Rattle.std.specs.Prelude.{◌≡◌, ◌≢◌, ◌==◌, ◌&&◌, ◌||◌, ℕ, Bool, true, false, not, List, [], ◌∷◌, ◌++◌, filter, Option, None, Some, is_some, IsTrue, if◌then◌else◌}
+use Rattle.std.specs.List.{list_any}
 use Rattle.jsonc_tree.specs.Tree.{Node, content_at, parent_at, IsTree}
 use Rattle.jsonc_tree.specs.Order.{in_order, rest_at, upward}
 use Rattle.jsonc_nodes.specs.Kinds.{is_property}
 use Rattle.jsonc_nodes.specs.Properties.{value_at}
 use Rattle.jsonc_lines.specs.Kinds.{holds_values}
 use Rattle.jsonc_edit.specs.declared.modes.TrailingCommaMode.{TrailingCommaMode}
-use Rattle.jsonc_commas.specs.Commas.{CommaIsSet, WantsComma}
+use Rattle.jsonc_commas.specs.Commas.{comma_wanted_behind, CommaIsSet, WantsComma}
 
 -- the node is an array or an object
 abbrev pub holds_at : List Node → ℕ → Bool
@@ -54,6 +55,13 @@ to_come ns end o = filter (is_met ns end) (rest_at ns end o)
 abbrev pub AreSetInTurn : TrailingCommaMode → List Node → List ℕ → List Node → Type 0
 AreSetInTurn mode old [] new = new ≡ old
 AreSetInTurn mode old (n ∷ rest) new = (now : List Node) × CommaIsSet mode old now n × IsTree now × AreSetInTurn mode now rest new
+
+-- one of the arrays and objects that are reached from c wants a comma
+abbrev pub wants_comma : List Node → ℕ → Bool
+wants_comma ns n = is_some (comma_wanted_behind ns n)
+
+abbrev pub CommaIsDue : List Node → ℕ → Type 0
+CommaIsDue ns c = IsTrue (list_any (wants_comma ns) (holders ns c))
 
 -- those of the first of them have, and the next wants a comma
 pub record AreSetInPart (mode : TrailingCommaMode) (old : List Node) (all : List ℕ) (new : List Node) : Type 0 where

@@ -75,15 +75,18 @@ SetsAll mode o old c new = IsInSound o old c → AreSetInTurn mode old (holders 
 abbrev pub SetsThoseDone : TrailingCommaMode → Options → List Node → ℕ → List Node → Type 0
 SetsThoseDone mode o old c new = IsInSound o old c → (p : AreSetInPart mode old (holders old c) new) → All (IsSet mode new) p.done
 
--- behind the trailing comma of c another comma comes, which stands in no sound document
+-- behind the trailing comma of c another comma comes, which stands in no sound document: one alone leaves
 abbrev pub HasSeveral : TrailingCommaMode → List Node → ℕ → Type 0
 HasSeveral Never ns c = (k m : ℕ) × (comma_gone ns c ≡ Some k) × (trailing_comma_at ns k ≡ Some m)
 HasSeveral IfMultiline ns c = ⊥
 
--- in any document each is then as the mode says, but where several commas stood
+-- each array or object that is reached from c is as the mode says now, save where several commas stood
+abbrev pub AreAsSaid : TrailingCommaMode → List Node → List Node → ℕ → Type 0
+AreAsSaid mode old new c = All (λ n. IsSet mode new n ⊎ HasSeveral mode old n) (holders new c)
+
+-- so it is in any document, sound or not, and in what has been taken out of one
 abbrev pub SetsAllButSeveral : TrailingCommaMode → List Node → ℕ → List Node → Type 0
-SetsAllButSeveral mode old c new =
-    IsTree old → c < length old → AreSetInTurn mode old (holders old c) new → All (λ n. IsSet mode new n ⊎ HasSeveral mode old n) (holders new c)
+SetsAllButSeveral mode old c new = IsTree old → c < length old → AreSetInTurn mode old (holders old c) new → AreAsSaid mode old new c
 
 -- where each is as the mode says already, nothing changes; so of a sound document nothing does a second time
 abbrev pub LeavesWhatIsSet : TrailingCommaMode → List Node → ℕ → List Node → Type 0
@@ -98,9 +101,15 @@ abbrev pub KeepsHolders : TrailingCommaMode → List Node → ℕ → List Node 
 KeepsHolders mode old c new = IsTree old → c < length old → AreSetInTurn mode old (holders old c) new → holders new c ≡ holders old c
 
 -- where c is no node of the document, this stays as it is
+abbrev pub StaysApart : List Node → ℕ → List Node → Type 0
+StaysApart old c new = (IsOver old 0 c → ⊥) → ordered_tree new 0 ≡ ordered_tree old 0
+
 abbrev pub LeavesOthers : TrailingCommaMode → List Node → ℕ → List Node → Type 0
-LeavesOthers mode old c new =
-    IsTree old → c < length old → (IsOver old 0 c → ⊥) → AreSetInTurn mode old (holders old c) new → ordered_tree new 0 ≡ ordered_tree old 0
+LeavesOthers mode old c new = IsTree old → c < length old → AreSetInTurn mode old (holders old c) new → StaysApart old c new
+
+-- and where that was refused in part
+abbrev pub LeavesOthersInPart : TrailingCommaMode → List Node → ℕ → List Node → Type 0
+LeavesOthersInPart mode old c new = IsTree old → c < length old → AreSetInPart mode old (holders old c) new → StaysApart old c new
 
 -- where the commas of the array or object at a path are set, and of those in it, nothing changes outside of it
 abbrev pub StaysOutside : TrailingCommaMode → List Node → ℕ → List ℕ → List Node → Type 0

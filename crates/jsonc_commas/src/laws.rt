@@ -7,7 +7,7 @@ ghost use Rattle.jsonc_tree.specs.Order.{printed_at};
 ghost use Rattle.jsonc_commas.specs.Commas.{comma_gone, comma_wanted_behind};
 ghost use Rattle.jsonc_commas.specs.InTurn.{holders};
 ghost use Rattle.jsonc_commas.specs.Laws.{KeepsDocument, KeepsDocumentInPart, KeepsHolders};
-ghost use Rattle.jsonc_commas.specs.Laws.{LeavesOthers, LeavesWhatIsSet};
+ghost use Rattle.jsonc_commas.specs.Laws.{LeavesOthers, LeavesOthersInPart, LeavesWhatIsSet};
 ghost use Rattle.jsonc_commas.specs.Laws.{SetsAll, SetsAllButSeveral, SetsOnce, SetsThoseDone};
 ghost use Rattle.jsonc_commas.specs.Worked.{bare_array, colonless_object, comma_array, open_array};
 
@@ -15,7 +15,7 @@ ghost use Rattle.jsonc_commas.specs.Worked.{bare_array, colonless_object, comma_
 /// again, of the same value and with the same literals and comments, and the document is sound. With
 /// `Never` commas have left and with `IfMultiline` they have come, and nothing else has changed. It is so
 /// under all options, with trailing commas allowed where the mode sets some, and where memory was refused
-/// on the way. Where the node is none of the document, this stays.
+/// on the way. Where the node is none of the document, this stays, there too.
 pub fn documents_say_the_same()
     ensures whole { (mode : TrailingCommaMode) (o : Options) (old : List Node) (c : ℕ) (new : List Node)
         → KeepsDocument mode o old c new }
@@ -23,13 +23,15 @@ pub fn documents_say_the_same()
         → KeepsDocumentInPart mode o old c new }
     ensures others { (mode : TrailingCommaMode) (old : List Node) (c : ℕ) (new : List Node)
         → LeavesOthers mode old c new }
+    ensures apart { (mode : TrailingCommaMode) (old : List Node) (c : ℕ) (new : List Node)
+        → LeavesOthersInPart mode old c new }
 {}
 
 /// Then each array or object there is as the mode says: with `Never` none has a trailing comma, with
-/// `IfMultiline` none wants one. Where memory was refused, each of those before is so. In a document that
-/// is not sound `Never` may leave one where several commas stood. Where all is so before, nothing
-/// changes; so of a sound document nothing does a second time. The same arrays and objects are there
-/// afterwards, in the same order.
+/// `IfMultiline` none wants one. Where memory was refused, each of those before is so. So it is in any
+/// document, but that `Never` leaves a comma where several stood behind the last element, which is in no
+/// sound one. Where all is so before, nothing changes; so of a sound document nothing does a second time.
+/// The same arrays and objects are there afterwards, in the same order.
 pub fn commas_are_set()
     ensures all { (mode : TrailingCommaMode) (o : Options) (old : List Node) (c : ℕ) (new : List Node)
         → SetsAll mode o old c new }
@@ -46,9 +48,9 @@ pub fn commas_are_set()
 {}
 
 /// Worked documents: in `[`, `  1,`, `  {"a": [2]}`, `]`, each on a line, a comma is wanted behind the
-/// object alone, and once it is there it is the one that leaves. Where a comma is last in the row, in the
-/// place of the bracket, it does not. What stands in a property that has lost its colon is not reached
-/// from above, but its own comma can be set.
+/// object alone, and once it is there it is the one that leaves; so is a comma that is last in the row, in
+/// the place of the bracket. What stands in a property that has lost its colon is not reached from above,
+/// but its own comma can be set.
 pub fn worked_documents()
     ensures holders { holders bare_array 0 ≡ 1 ∷ 9 ∷ 15 ∷ [] }
     ensures text { printed_at bare_array 0 ≡ codes "[\n  1,\n  {\"a\": [2]}\n]" }
@@ -58,7 +60,7 @@ pub fn worked_documents()
     ensures once { comma_wanted_behind comma_array 1 ≡ None }
     ensures gone { comma_gone comma_array 1 ≡ Some 22 }
     ensures none { comma_gone bare_array 1 ≡ None }
-    ensures open { comma_gone open_array 1 ≡ None }
+    ensures open { comma_gone open_array 1 ≡ Some 22 }
     ensures lost { holders colonless_object 0 ≡ 1 ∷ [] }
     ensures itself { holders colonless_object 6 ≡ 6 ∷ [] }
 {}

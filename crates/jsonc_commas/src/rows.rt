@@ -4,9 +4,8 @@ ghost use Rattle.std.specs.Prelude.{◌≡◌, ◌<◌, IfSome, IsTrue, OnErr, O
 ghost use Rattle.jsonc_tree.specs.Stored.{content_of};
 ghost use Rattle.jsonc_tree.specs.Tree.{content_at, is_container_at, parent_at, IsTree};
 ghost use Rattle.jsonc_lines.specs.Kinds.{holds_values};
-ghost use Rattle.jsonc_lines.specs.Siblings.{trailing_comma_at};
 ghost use Rattle.jsonc_nodes.specs.Siblings.{IsThere};
-ghost use Rattle.jsonc_commas.specs.Commas.{comma_gone, comma_wanted_behind, has_newline, if_followed};
+ghost use Rattle.jsonc_commas.specs.Commas.{comma_gone, comma_wanted_behind, has_newline};
 ghost use Rattle.jsonc_commas.specs.Commas.{if_without_comma, last_element};
 ghost use Rattle.jsonc_commas.specs.Commas.{CommaComesBehind, CommaIsSet, GainsComma, LosesComma, WantsComma};
 ghost use Rattle.jsonc_tree.specs.Siblings.{TakesOut};
@@ -44,25 +43,12 @@ fn has_newline<A: Allocator>(tree: &Tree<A>, container: usize) -> bool
     children_from(tree, container, 0).any(|child| is_newline(tree, child))
 }
 
-// The trailing comma of a node, if something stands behind it: it is no bracket then.
-fn followed_comma<A: Allocator>(tree: &Tree<A>, node: usize) -> Option<usize>
-    requires { node < length tree.now.nodes }
-    ensures comma { result ≡ if_followed tree.now.nodes (trailing_comma_at tree.now.nodes node) }
-{
-    let _ = tree.len();
-    let comma = trailing_comma(tree, node)?;
-    if tree.next_sibling(comma).is_some() {
-        return Some(comma);
-    }
-    None
-}
-
-// The trailing comma of a container, which is none of its brackets.
+// The trailing comma of a container: that of its last element.
 fn comma_gone<A: Allocator>(tree: &Tree<A>, container: usize) -> Option<usize>
     requires { container < length tree.now.nodes }
     ensures { result ≡ comma_gone tree.now.nodes container }
 {
-    followed_comma(tree, last_element(tree, container)?)
+    trailing_comma(tree, last_element(tree, container)?)
 }
 
 // The node behind which a comma is to come: the last element of a container on several lines, if it

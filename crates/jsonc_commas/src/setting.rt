@@ -4,7 +4,8 @@ ghost use Rattle.std.specs.Prelude.{◌≡◌, ◌<◌, ◌∷◌, false, IfErr,
 ghost use Rattle.jsonc_tree.specs.Tree.{IsOver, IsTree};
 ghost use Rattle.jsonc_nodes.specs.Siblings.{IsThere};
 ghost use Rattle.jsonc_commas.specs.InTurn.{holders, is_entered, is_met, is_reached, to_come};
-ghost use Rattle.jsonc_commas.specs.InTurn.{AreSetInPart, AreSetInTurn, IsOpen};
+ghost use Rattle.jsonc_commas.specs.InTurn.{AreSetInPart, AreSetInTurn, CommaIsDue, IsOpen};
+ghost use Rattle.jsonc_commas.specs.Laws.{AreAsSaid, StaysApart};
 ghost use Rattle.jsonc_tree.specs.Order.{following, rest_at};
 
 use crate::rows::{holds_values, set_comma};
@@ -158,8 +159,10 @@ fn next_holder<A: Allocator>(tree: &Tree<A>, end: usize, node: usize) -> Option<
 ///
 /// With `IfMultiline` the last element of an array or object that has a newline among its children gets
 /// a comma directly behind it, if it has none; with `Never` the comma behind the last element leaves.
-/// A bracket is never taken for that comma. A comma that comes alone wants memory; where it is refused,
-/// the commas of arrays and objects before have been set, and nothing else has changed.
+/// The first comma behind it leaves, also where that is the last child, as the bracket is gone. So then
+/// each of these arrays and objects is as the mode says, save where more than one comma stood. A comma that
+/// comes alone wants memory; where it is refused, the commas of arrays and objects before have been set,
+/// and nothing else has changed. A document that the node does not stand in stays, then too.
 pub fn set_trailing_commas<A: Allocator>(
     tree: &mut Tree<A>,
     container: usize,
@@ -167,7 +170,10 @@ pub fn set_trailing_commas<A: Allocator>(
 ) -> Result<(), EditError>
     requires { container < length tree.old.nodes }
     ensures set { OnOk result (AreSetInTurn mode tree.old.nodes (holders tree.old.nodes container) tree.new.nodes) }
+    ensures said { OnOk result (AreAsSaid mode tree.old.nodes tree.new.nodes container) }
+    ensures apart { StaysApart tree.old.nodes container tree.new.nodes }
     ensures wanted { OnErr result (mode ≡ TrailingCommaMode.IfMultiline) }
+    ensures due { OnErr result (CommaIsDue tree.old.nodes container) }
     ensures memory { IfErr result (λ e. e ≡ EditError.OutOfMemory) }
     ensures part { OnErr result (AreSetInPart mode tree.old.nodes (holders tree.old.nodes container) tree.new.nodes) }
     ensures tree { IsTree tree.new.nodes }

@@ -1,4 +1,4 @@
-use Rattle.jsonc_commas.proofs.Apart.{leaves_others}
+use Rattle.jsonc_commas.proofs.Apart.{leaves_others, leaves_others_in_part}
 use Rattle.jsonc_commas.proofs.Documents.{keeps_document, keeps_in_part}
 use Rattle.jsonc_commas.proofs.laws.documents_say_the_same.Goals as goal
 
@@ -10,3 +10,6 @@ returns-clause-part c mode o old k new is = keeps_in_part mode o old k is new
 
 pub returns-clause-others : goal.returns-clause-others
 returns-clause-others c = leaves_others
+
+pub returns-clause-apart : goal.returns-clause-apart
+returns-clause-apart c = leaves_others_in_part

@@ -1,6 +1,9 @@
-use Rattle.std.proofs.Common.{◌∙◌}
+use Rattle.std.proofs.Common.{◌∙◌, ap}
 use Rattle.jsonc_tree.specs.Tree.{IsOver}
-use Rattle.jsonc_commas.proofs.InTurn.{all_to_come, fewer, goes_on, met_still, none_set, over_still, refused_here, where_refused}
+use Rattle.jsonc_commas.proofs.Anyway.{due_where_refused, sets_anyway}
+use Rattle.jsonc_commas.proofs.Apart.{leaves_others, leaves_others_in_part}
+use Rattle.jsonc_commas.specs.InTurn.{to_come}
+use Rattle.jsonc_commas.proofs.InTurn.{all_set, all_to_come, fewer, goes_on, met_still, none_set, over_still, refused_here, where_refused}
 use Rattle.jsonc_commas.proofs.setting.set_trailing_commas.Goals as goal
 
 pub holder_from-next-requires-clause-over : goal.holder_from-next-requires-clause-over
@@ -21,6 +24,19 @@ pub returns-in_err-set_comma-clause-part : goal.returns-in_err-set_comma-clause-
 returns-in_err-set_comma-clause-part g c =
     let kept = c.in_err-set_comma.ensures in
     where_refused c.from_residual.result (refused_here c.args.mode c.args.tree.now.nodes c.loop-next.tree.nodes c.args.container c.loop-next.next c.loop-next.invariant c.in-Some.node c.in-Some.is c.set_comma.new.tree.nodes kept.kept kept.missing)
+
+pub returns-in_err-set_comma-clause-due : goal.returns-in_err-set_comma-clause-due
+returns-in_err-set_comma-clause-due g c =
+    let kept = c.in_err-set_comma.ensures in
+    where_refused c.from_residual.result
+    (due_where_refused c.args.mode c.args.tree.now.nodes c.set_comma.new.tree.nodes c.args.container c.len.ensures.tree kept.wanted
+    (refused_here c.args.mode c.args.tree.now.nodes c.loop-next.tree.nodes c.args.container c.loop-next.next c.loop-next.invariant c.in-Some.node c.in-Some.is c.set_comma.new.tree.nodes kept.kept kept.missing))
+
+pub returns-in_err-set_comma-clause-apart : goal.returns-in_err-set_comma-clause-apart
+returns-in_err-set_comma-clause-apart g c =
+    let kept = c.in_err-set_comma.ensures in
+    leaves_others_in_part c.args.mode c.args.tree.now.nodes c.args.container c.set_comma.new.tree.nodes c.len.ensures.tree c.requires
+    (refused_here c.args.mode c.args.tree.now.nodes c.loop-next.tree.nodes c.args.container c.loop-next.next c.loop-next.invariant c.in-Some.node c.in-Some.is c.set_comma.new.tree.nodes kept.kept kept.missing)
 
 pub next_holder-next-requires-clause-over : goal.next_holder-next-requires-clause-over
 next_holder-next-requires-clause-over g c =
@@ -46,3 +62,14 @@ loop-next-preserved g c =
       set = goes_on c.args.mode c.args.tree.now.nodes c.loop-next.tree.nodes c.args.container c.loop-next.next c.loop-next.invariant c.in-Some.node c.in-Some.is c.set_comma.new.tree.nodes c.set_comma.ensures.tree c.in_ok-set_comma.ensures.set
           c.next_holder-next.result n.come;
     }
+
+pub returns-clause-set : goal.returns-clause-set
+returns-clause-set g c =
+    let now = c.loop-next.tree.nodes in
+    all_set c.args.mode c.args.tree.now.nodes now c.args.container c.loop-next.next c.loop-next.invariant.set (ap (to_come now c.args.container) c.in_default.is)
+
+pub returns-clause-said : goal.returns-clause-said
+returns-clause-said g c = sets_anyway c.args.mode c.args.tree.now.nodes c.args.container c.loop-next.tree.nodes c.len.ensures.tree c.requires (returns-clause-set g c)
+
+pub returns-clause-apart : goal.returns-clause-apart
+returns-clause-apart g c = leaves_others c.args.mode c.args.tree.now.nodes c.args.container c.loop-next.tree.nodes c.len.ensures.tree c.requires (returns-clause-set g c)
