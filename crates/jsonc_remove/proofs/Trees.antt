@@ -1,5 +1,5 @@
 -- The trees of a container's row by its parts, before an element leaves and behind.
-use Rattle.std.proofs.Common.{◌≡◌, ◌≢◌, ℕ, suc, ◌+◌, ◌<◌, ◌==◌, Bool, true, false, not, ◌&&◌, ◌||◌, List, [], ◌∷◌, ◌++◌, length, drop, reverse, slice_index, Option, Some, None, IsTrue, if◌then◌else◌, inl, inr, refl, sym, ap, subst, ◌∙◌, arith}
+use Rattle.std.proofs.Common.{◌≡◌, ◌≢◌, ℕ, suc, ◌+◌, ◌<◌, Bool, true, false, not, ◌&&◌, ◌||◌, List, [], ◌∷◌, ◌++◌, length, drop, reverse, slice_index, Option, Some, None, IsTrue, if◌then◌else◌, inl, inr, refl, sym, ap, subst, ◌∙◌, arith}
 use Rattle.std.proofs.lemmas.Bool.{cases_Bool, ne_eqb}
 use Rattle.std.proofs.lemmas.List.{length-append, reverse-append}
 use Rattle.std.proofs.lemmas.List.Elements.{All-nil, All-cons, All-head, All-tail}
@@ -130,11 +130,12 @@ pub data Closing (old new : List Node) (c open_with : ℕ) (inner : List ℕ) (l
 
 comes_blanks : (ns : List Node) (inner : List ℕ) (last : ℕ) → Others last inner → IsTrue (comes_to ns (Some last) (inner ++ last ∷ [])) → AreBlanks (contents ns inner)
 comes_blanks ns [] last h e = tt
-comes_blanks ns (m ∷ inner) last h e = by (is_blank_at ns m) refl e (comes_blanks ns inner last (All-tail (λ k. k ≢ last) m inner h))
+comes_blanks ns (m ∷ inner) last h e =
+    by (is_blank_at ns m) refl (subst (λ b. IsTrue (b || (is_blank_at ns m && comes_to ns (Some last) (inner ++ last ∷ [])))) (ne_eqb m last (All-head (λ k. k ≢ last) m inner h)) e) (comes_blanks ns inner last (All-tail (λ k. k ≢ last) m inner h))
   where
-    by : (b : Bool) → is_blank_at ns m ≡ b → IsTrue (if b then comes_to ns (Some last) (inner ++ last ∷ []) else (m == last)) → (IsTrue (comes_to ns (Some last) (inner ++ last ∷ [])) → AreBlanks (contents ns inner)) → AreBlanks (contents ns (m ∷ inner))
+    by : (b : Bool) → is_blank_at ns m ≡ b → IsTrue (b && comes_to ns (Some last) (inner ++ last ∷ [])) → (IsTrue (comes_to ns (Some last) (inner ++ last ∷ [])) → AreBlanks (contents ns inner)) → AreBlanks (contents ns (m ∷ inner))
     by true f g rest = (f, rest g)
-    by false f g rest = absurd (let wrong : true ≡ false = sym g ∙ ne_eqb m last (All-head (λ k. k ≢ last) m inner h) in cc)
+    by false f g rest = absurd (let wrong : false ≡ true = g in cc)
 
 hollow_row : (content : Content) (ns : List Node) (row : List ℕ) → IsTrue (holds_values content) → is_hollow_as content ns row ≡ comes_to_last ns (first (reverse row)) (drop 1 row)
 hollow_row array ns row h = refl

@@ -67,7 +67,7 @@ comma_unless None found = found
 abbrev pub comma_gone : List Node → ℕ → Option ℕ
 comma_gone ns n = comma_unless (trailing_comma_at ns n) (comma_before ns n)
 
--- past blanks the row comes to this node
+-- past blanks the row comes to this node, which may be a blank itself
 abbrev pub is_blank_at : List Node → ℕ → Bool
 is_blank_at ns m = is_whitespace_at ns m || is_newline_at ns m
 
@@ -75,4 +75,4 @@ abbrev pub comes_to : List Node → Option ℕ → List ℕ → Bool
 comes_to ns None [] = true
 comes_to ns (Some last) [] = false
 comes_to ns None (m ∷ rest) = is_blank_at ns m && comes_to ns None rest
-comes_to ns (Some last) (m ∷ rest) = if is_blank_at ns m then comes_to ns (Some last) rest else m == last
+comes_to ns (Some last) (m ∷ rest) = m == last || (is_blank_at ns m && comes_to ns (Some last) rest)

@@ -154,8 +154,11 @@ fn comes_to<A: Allocator>(
     ensures { result ≡ comes_to tree.now.nodes last (drop place (children_at tree.now.nodes container)) }
 {
     for child in children_from(tree, container, place) {
+        if is_node(last, child) {
+            return true;
+        }
         if !is_blank(tree, child) {
-            return is_node(last, child);
+            return false;
         }
     }
     last.is_none()

@@ -1,19 +1,26 @@
 use Rattle.std.proofs.Common.{sym, ◌∙◌}
 use Rattle.jsonc_nodes.proofs.There.{rest_there}
-use Rattle.jsonc_remove.proofs.Blanks.{comes_on, comes_stops}
+use Rattle.jsonc_remove.proofs.Blanks.{comes_here, comes_on, comes_stops}
 use Rattle.jsonc_remove.proofs.removing.comes_to.Goals as goal
+
+pub returns-then-is_node : goal.returns-then-is_node
+returns-then-is_node g c =
+    sym
+    (c.loop-child.invariant.same
+    ∙ comes_here c.args.tree.now.nodes c.in-Some.child c.loop-child.child-iterator c.next.new.self c.in-Some.ensures.steps c.args.last (sym c.is_node.ensures ∙ c.if-is_node.true))
 
 pub returns-then-not-is_blank : goal.returns-then-not-is_blank
 returns-then-not-is_blank g c =
-    c.is_node.ensures
-    ∙ sym
+    sym
     (c.loop-child.invariant.same
-    ∙ comes_stops c.args.tree.now.nodes c.in-Some.child c.loop-child.child-iterator c.next.new.self c.in-Some.ensures.steps c.args.last (sym c.is_blank.ensures ∙ c.if-not-is_blank.true))
+    ∙ comes_stops c.args.tree.now.nodes c.in-Some.child c.loop-child.child-iterator c.next.new.self c.in-Some.ensures.steps c.args.last (sym c.is_node.ensures ∙ c.if-is_node.false)
+    (sym c.is_blank.ensures ∙ c.if-not-is_blank.true))
 
 pub loop-child-preserved : goal.loop-child-preserved
 loop-child-preserved g c = record {
   same =
       c.loop-child.invariant.same
-      ∙ comes_on c.args.tree.now.nodes c.in-Some.child c.loop-child.child-iterator c.next.new.self c.in-Some.ensures.steps c.args.last (sym c.is_blank.ensures ∙ c.if-not-is_blank.false);
+      ∙ comes_on c.args.tree.now.nodes c.in-Some.child c.loop-child.child-iterator c.next.new.self c.in-Some.ensures.steps c.args.last (sym c.is_node.ensures ∙ c.if-is_node.false)
+      (sym c.is_blank.ensures ∙ c.if-not-is_blank.false);
   rest = rest_there c.args.tree.now.nodes c.loop-child.child-iterator c.in-Some.child c.next.new.self c.in-Some.ensures.steps c.loop-child.invariant.rest;
 }
