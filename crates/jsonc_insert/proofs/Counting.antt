@@ -159,11 +159,8 @@ module _ (ns : List Node) where
 
   -- behind a comma, and past comments, no other element has been passed
   module _ (row : List ℕ) (p : ℕ) where
-    inner_at : (q : ℕ) → p ≤ q → q - p < length (slice_range row p (length row - 1)) → slice_index (slice_range row p (length row - 1)) (q - p) ≡ slice_index row q
-    inner_at q low high =
-        let long : length (slice_range row p (length row - 1)) ≡ length row - 1 - p = length-between row p (length row - 1) (omega arith) in
-        let at : p + (q - p) ≡ q = omega (arith, low) in
-        get_or-between row p (length row - 1) (q - p) 0 (omega (arith, high, long, low)) ∙ ap (slice_index row) at
+    after_at : (q : ℕ) → p ≤ q → slice_index (drop p row) (q - p) ≡ slice_index row q
+    after_at q low = let at : p + (q - p) ≡ q = omega (arith, low) in get_or-drop p row (q - p) 0 ∙ ap (slice_index row) at
 
     trivia_is : (xs : List ℕ) → trivia ns xs ≡ prefix_len (is_trivia_at ns) xs
     trivia_is xs = length-prefix_len (is_trivia_at ns) xs
@@ -182,24 +179,24 @@ module _ (ns : List Node) where
     passes_comma = by (cases_Bool (has_comma ns row p))
       where
         by : (has_comma ns row p ≡ true) ⊎ (has_comma ns row p ≡ false) → count (take (behind_comma ns row p) row) ≡ count (take p row)
-        by (inr off) = ap (λ b. count (take (cond b (p + trivia ns (slice_range row p (length row - 1)) + 1) p) row)) off
+        by (inr off) = ap (λ b. count (take (cond b (p + trivia ns (drop p row) + 1) p) row)) off
         by (inl so) =
-            let there = comma_there (slice_range row p (length row - 1)) (trivia ns (slice_range row p (length row - 1))) so in
-            let one : p + trivia ns (slice_range row p (length row - 1)) + 1 ≡ p + (trivia ns (slice_range row p (length row - 1)) + 1) = omega arith in
-            ap (λ b. count (take (cond b (p + trivia ns (slice_range row p (length row - 1)) + 1) p) row)) so
+            let there = comma_there (drop p row) (trivia ns (drop p row)) so in
+            let one : p + trivia ns (drop p row) + 1 ≡ p + (trivia ns (drop p row) + 1) = omega arith in
+            ap (λ b. count (take (cond b (p + trivia ns (drop p row) + 1) p) row)) so
             ∙ ap (λ k. count (take k row)) one
-            ∙ count_skip row p (trivia ns (slice_range row p (length row - 1)) + 1) (λ q low high within. none q low high there (cases_lt (q - p) (trivia ns (slice_range row p (length row - 1)))))
+            ∙ count_skip row p (trivia ns (drop p row) + 1) (λ q low high within. none q low high there (cases_lt (q - p) (trivia ns (drop p row))))
           where
-            none : (q : ℕ) → p ≤ q → q < p + (trivia ns (slice_range row p (length row - 1)) + 1) → (trivia ns (slice_range row p (length row - 1)) < length (slice_range row p (length row - 1))) × (is_comma_at ns (slice_index (slice_range row p (length row - 1)) (trivia ns (slice_range row p (length row - 1)))) ≡ true)
-                → ((q - p) < trivia ns (slice_range row p (length row - 1))) ⊎ (trivia ns (slice_range row p (length row - 1)) ≤ (q - p)) → is_element_at ns (slice_index row q) ≡ false
+            none : (q : ℕ) → p ≤ q → q < p + (trivia ns (drop p row) + 1) → (trivia ns (drop p row) < length (drop p row)) × (is_comma_at ns (slice_index (drop p row) (trivia ns (drop p row))) ≡ true)
+                → ((q - p) < trivia ns (drop p row)) ⊎ (trivia ns (drop p row) ≤ (q - p)) → is_element_at ns (slice_index row q) ≡ false
             none q low high there (inl less) =
-                let is = trivia_is (slice_range row p (length row - 1)) in
-                let passes : is_trivia_at ns (slice_index (slice_range row p (length row - 1)) (q - p)) ≡ true = prefix_len_passes (is_trivia_at ns) (slice_range row p (length row - 1)) (q - p) 0 (omega (arith, less, is)) in
-                trivia_none (content_at ns (slice_index row q)) (sym (ap (is_trivia_at ns) (inner_at q low (omega (arith, less, there.0)))) ∙ passes)
+                let is = trivia_is (drop p row) in
+                let passes : is_trivia_at ns (slice_index (drop p row) (q - p)) ≡ true = prefix_len_passes (is_trivia_at ns) (drop p row) (q - p) 0 (omega (arith, less, is)) in
+                trivia_none (content_at ns (slice_index row q)) (sym (ap (is_trivia_at ns) (after_at q low)) ∙ passes)
             none q low high there (inr more) =
-                let at : trivia ns (slice_range row p (length row - 1)) ≡ q - p = omega (arith, more, high, low) in
-                let comma : is_comma_at ns (slice_index (slice_range row p (length row - 1)) (q - p)) ≡ true = subst (λ k. is_comma_at ns (slice_index (slice_range row p (length row - 1)) k) ≡ true) at there.1 in
-                comma_none (content_at ns (slice_index row q)) (sym (ap (is_comma_at ns) (inner_at q low (omega (arith, at, there.0)))) ∙ comma)
+                let at : trivia ns (drop p row) ≡ q - p = omega (arith, more, high, low) in
+                let comma : is_comma_at ns (slice_index (drop p row) (q - p)) ≡ true = subst (λ k. is_comma_at ns (slice_index (drop p row) k) ≡ true) at there.1 in
+                comma_none (content_at ns (slice_index row q)) (sym (ap (is_comma_at ns) (after_at q low)) ∙ comma)
 
     line_short : length (line ns (slice_range row p (length row))) ≤ length row - p
     line_short =

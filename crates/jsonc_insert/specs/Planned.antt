@@ -66,12 +66,12 @@ begins_with_comma ns (n ∷ rest) = is_comma_at ns n
 abbrev pub comma_comes : List Node → List ℕ → Bool
 comma_comes ns after = begins_with_comma ns (drop (trivia ns after) after)
 
--- the place behind the comma that follows this place of a row, if one does before the last bracket; else the place itself
+-- the place behind the comma that follows this place of a row, if one does; else the place itself. Where the last bracket is gone, or was set to a comma, it is the last node.
 abbrev pub has_comma : List Node → List ℕ → ℕ → Bool
-has_comma ns row place = comma_comes ns (slice_range row place (length row - 1))
+has_comma ns row place = comma_comes ns (drop place row)
 
 abbrev pub behind_comma : List Node → List ℕ → ℕ → ℕ
-behind_comma ns row place = if has_comma ns row place then place + trivia ns (slice_range row place (length row - 1)) + 1 else place
+behind_comma ns row place = if has_comma ns row place then place + trivia ns (drop place row) + 1 else place
 
 -- where no element stands: before the blanks that the last bracket stands behind
 abbrev pub plan_alone_at : List Node → Bool → List ℕ → ℕ → Plan

@@ -113,6 +113,11 @@ AppendsObject =
     text_with (mark 0x5B ∷ a_number (codes "1") ∷ mark 0x5D ∷ []) 1 one_named_b
     ≡ codes "[1," ++ 10 ∷ codes "  {" ++ 10 ∷ codes "    " ++ 34 ∷ codes "b" ++ 34 ∷ codes ": [2]" ++ 10 ∷ codes "  }]"
 
+-- where the last bracket is gone, the comma that stands last is the comma behind the last element
+abbrev pub AppendsBehindTheLastComma : Type 0
+AppendsBehindTheLastComma =
+    text_with (mark 0x5B ∷ a_number (codes "1") ∷ mark 0x2C ∷ a_number (codes "2") ∷ mark 0x2C ∷ []) 2 (Plain.number (codes "3")) ≡ codes "[1,2, 3"
+
 pub record WorkedInsertions : Type 0 where
   pub on_one_line : AppendsOnOneLine × InsertsOnOneLine
   pub behind_comment : AppendsBehindComment
@@ -121,3 +126,4 @@ pub record WorkedInsertions : Type 0 where
   pub to_empty_lines : AppendsToEmptyLines
   pub reads_what_stays : ReadsWhatStays
   pub an_object : AppendsObject
+  pub behind_the_last_comma : AppendsBehindTheLastComma

@@ -179,26 +179,26 @@ fn comma_comes<A: Allocator>(tree: &Tree<A>, after: &[usize]) -> bool
     is_comma(tree, after[place])
 }
 
-// Whether a comma follows a place of a row, before the last bracket.
+// Whether a comma follows a place of a row.
 fn has_comma<A: Allocator>(tree: &Tree<A>, row: &[usize], place: usize) -> bool
-    requires { place < length row.now }
+    requires { place ≤ length row.now }
     ensures { result ≡ has_comma tree.now.nodes row.now place }
 {
-    comma_comes(tree, &row[place..row.len() - 1])
+    comma_comes(tree, &row[place..])
 }
 
 // The place behind that comma, if there is one; else the place itself.
 fn behind_comma<A: Allocator>(tree: &Tree<A>, row: &[usize], place: usize) -> usize
-    requires { place < length row.now }
+    requires { place ≤ length row.now }
     ensures place { result ≡ behind_comma tree.now.nodes row.now place }
     ensures within { result ≤ length row.now }
 {
-    let inner = &row[place..row.len() - 1];
-    let count = trivia(tree, inner);
-    if count >= inner.len() {
+    let after = &row[place..];
+    let count = trivia(tree, after);
+    if count >= after.len() {
         return place;
     }
-    if is_comma(tree, inner[count]) {
+    if is_comma(tree, after[count]) {
         return place + count + 1;
     }
     place
@@ -206,7 +206,7 @@ fn behind_comma<A: Allocator>(tree: &Tree<A>, row: &[usize], place: usize) -> us
 
 // Where a comma is wanted behind the element that ends at a place.
 fn comma_wanted<A: Allocator>(tree: &Tree<A>, row: &[usize], place: usize) -> Option<usize>
-    requires { place < length row.now }
+    requires { place ≤ length row.now }
     ensures { result ≡ comma_wanted tree.now.nodes row.now place }
 {
     if has_comma(tree, row, place) {
@@ -295,7 +295,7 @@ fn plan_behind<A: Allocator>(
     more: bool,
     ended: usize,
 ) -> Plan
-    requires { ended < length row.now }
+    requires { ended ≤ length row.now }
     ensures plan { result ≡ plan_behind tree.now.nodes several commas row.now more ended }
     ensures within { result.place ≤ length row.now }
 {
