@@ -66,7 +66,7 @@ begins_with_comma ns (n ∷ rest) = is_comma_at ns n
 abbrev pub comma_comes : List Node → List ℕ → Bool
 comma_comes ns after = begins_with_comma ns (drop (trivia ns after) after)
 
--- the place behind the comma that follows this place of a row, if one does; else the place itself. Where the last bracket is gone, or was set to a comma, it is the last node.
+-- the place behind the comma that follows this place of a row, if one does; else the place itself; a comma in the place of the last bracket is one too
 abbrev pub has_comma : List Node → List ℕ → ℕ → Bool
 has_comma ns row place = comma_comes ns (drop place row)
 

@@ -1,4 +1,4 @@
-use Rattle.std.proofs.Common.{◌≡◌, ◌<◌, ◌≤◌, ◌++◌, ◌+◌, ℕ, List, [], Some, None, length, slice_index, drop, sym, ap, ◌∙◌, string_bytes}
+use Rattle.std.proofs.Common.{◌≡◌, ◌<◌, ◌++◌, ◌+◌, ℕ, List, [], Some, length, slice_index, drop, sym, ap, ◌∙◌, string_bytes}
 use Rattle.std.proofs.lemmas.List.{append-nil, append_assoc, at_drop_all}
 use Rattle.std.proofs.lemmas.Result.{IfOk-from_err}
 use Rattle.jsonc_tree.specs.Tree.{Node}
