@@ -1,25 +1,57 @@
-//! Prints the fault of each file that is no JSONC document, with its line and column: `example_lint FILE..`.
+//! Prints the fault of each file that is no JSONC document, with its line and column, and of each other
+//! file the comments in which something is left to do: `example_lint FILE..`.
 #![tactic(auto)]
 
-use jsonc_parser::ParseOptions;
-use jsonc_parser::cst::CstRootNode;
+use jsonc_parser::common::Ranged;
+use jsonc_parser::errors::ParseError;
+use jsonc_parser::tokens::Token;
+use jsonc_parser::{CollectOptions, CommentCollectionStrategy, ParseOptions, parse_to_ast};
+use std::alloc::Allocator;
 use std::default::Default;
 use std::process::ExitCode;
 use std::rt::Files;
 use std::{env, fs, io};
 
-/// Reads a file, and tells whether it is a document; if not, prints where its fault is, and what is wrong there.
+/// What is collected of a text: its tokens, with its comments among them.
+const COLLECTED: CollectOptions = CollectOptions {
+    comments: CommentCollectionStrategy::AsTokens,
+    tokens: true,
+};
+
+/// Whether a token is a comment.
+fn is_comment<A: Allocator>(token: &Token<A>) -> bool {
+    matches!(token, Token::CommentLine(_) | Token::CommentBlock(_))
+}
+
+/// Prints where the fault of a file is, and what is wrong there.
+fn print_fault<R: Print>(rt: &R, path: &str, fault: &ParseError) -> io::Result<()> {
+    let line = fault.line_display();
+    let column = fault.column_display();
+    println!(rt; "{path}:{line}:{column}: {}", fault.kind())
+}
+
+/// Reads a file, and tells whether it is a document. If not, prints its fault; if so, prints each comment
+/// that says `TODO`, as it is written.
 fn lint<R: Files + AllocGlobal + Print>(rt: &R, path: &str) -> io::Result<bool> {
-    let text = fs::read_to_string(rt, path)?;
-    match CstRootNode::parse(rt.alloc(), text.as_str(), &ParseOptions::default()) {
-        Ok(_) => Ok(true),
+    let file = fs::read_to_string(rt, path)?;
+    let text = file.as_str();
+    let read = match parse_to_ast(rt.alloc(), text, &COLLECTED, &ParseOptions::default()) {
+        Ok(read) => read,
         Err(fault) => {
-            let line = fault.line_display();
-            let column = fault.column_display();
-            println!(rt; "{path}:{line}:{column}: {}", fault.kind())?;
-            Ok(false)
+            print_fault(rt, path, &fault)?;
+            return Ok(false);
+        }
+    };
+    let Some(tokens) = &read.tokens else {
+        return Ok(true);
+    };
+    for token in tokens {
+        let written = token.text(text);
+        if is_comment(&token.token) && written.contains("TODO") {
+            println!(rt; "{path}: {written}")?;
         }
     }
+    Ok(true)
 }
 
 fn main(rt: HostRuntime) -> io::Result<ExitCode> {
