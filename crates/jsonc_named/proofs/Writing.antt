@@ -280,15 +280,15 @@ module _ (o : Options) (ns : List Node) (path : List ℕ) (c : ℕ) (name : List
       let held = value_held o ns tree s (path ++ it.0 ∷ []) r (a_property path c it.0 at inside) in
       held_by_name ns r held.value (sym (ap (λ w. value_by w ns r) inside.is) ∙ held.holds) lacks
 
-  memory_alone : (how : Over) (e : EditError) → IsUnensured how ns c name e → e ≡ OutOfMemory
-  memory_alone how OutOfMemory k = refl
-  memory_alone how MissingBrackets (none, told) = told_none (sym (wants_memory_alone o ns path c tree s at is).1 ∙ told)
+  memory_alone : (shape : Shape) (how : Over) (e : EditError) → IsUnensured shape how ns c name e → e ≡ OutOfMemory
+  memory_alone shape how OutOfMemory k = refl
+  memory_alone shape how MissingBrackets (none, told) = told_none (sym (wants_memory_alone o ns path c tree s at is).1 ∙ told)
     where
       told_none : {X : Type 0} → OutOfMemory ≡ MissingBrackets → X
       told_none e = absurd (let wrong : OutOfMemory ≡ MissingBrackets = e in cc)
-  memory_alone over.Replace MissingName (r, first, lacks) = absurd (named_there r first lacks)
-  memory_alone over.Keep MissingName k = absurd k
-  memory_alone how NoSuchPlace k = absurd k
+  memory_alone shape over.Replace MissingName (r, first, lacks) = absurd (named_there r first lacks)
+  memory_alone shape over.Keep MissingName k = absurd k
+  memory_alone shape how NoSuchPlace k = absurd k
 
-pub wants_memory : (o : Options) (ns : List Node) (path : List ℕ) (c : ℕ) (name : List ℕ) (how : Over) (e : EditError) → WantsMemoryAlone o ns path c name how e
-wants_memory o ns path c name how e tree s at is k = memory_alone o ns path c name tree s at is how e k
+pub wants_memory : (o : Options) (ns : List Node) (path : List ℕ) (c : ℕ) (name : List ℕ) (shape : Shape) (how : Over) (e : EditError) → WantsMemoryAlone o ns path c name shape how e
+wants_memory o ns path c name shape how e tree s at is k = memory_alone o ns path c name tree s at is shape how e k

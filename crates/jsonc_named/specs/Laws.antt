@@ -77,6 +77,6 @@ WritesNamed o old new path c name shape how answer =
     → NamedEnsured shape how old new c name answer → IsNamedWritten o path name shape how (ordered_tree old 0) (ordered_tree new 0)
 
 -- and there only memory is ever wanted
-abbrev pub WantsMemoryAlone : Options → List Node → List ℕ → ℕ → List ℕ → Over → EditError → Type 0
-WantsMemoryAlone o ns path c name how e =
-    IsTree ns → SoundTree o (ordered_tree ns 0) → IsAt ns path c → content_at ns c ≡ object → IsUnensured how ns c name e → e ≡ OutOfMemory
+abbrev pub WantsMemoryAlone : Options → List Node → List ℕ → ℕ → List ℕ → Shape → Over → EditError → Type 0
+WantsMemoryAlone o ns path c name shape how e =
+    IsTree ns → SoundTree o (ordered_tree ns 0) → IsAt ns path c → content_at ns c ≡ object → IsUnensured shape how ns c name e → e ≡ OutOfMemory

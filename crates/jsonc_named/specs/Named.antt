@@ -2,13 +2,14 @@
 use Rattle.std.specs.Prelude.{◌≡◌, ℕ, true, false, List, length, Option, Some, None, if◌then◌else◌}
 use Rattle.jsonc_text.specs.Plain.{Plain}
 use Rattle.jsonc_tree.specs.Tree.{Node, content_at}
-use Rattle.jsonc_nodes.specs.Names.{FirstInObject}
+use Rattle.jsonc_nodes.specs.Names.{FirstInObject, HoldsEscapedName}
 use Rattle.jsonc_nodes.specs.Properties.{lacks_name_at, value_at}
 use Rattle.jsonc_nodes.specs.Siblings.{elements_at}
 use Rattle.jsonc_edit.specs.declared.error.EditError.{EditError}
 use Rattle.jsonc_edit.specs.declared.error.EditError.TheVariants.{OutOfMemory, MissingBrackets, MissingName}
 use Rattle.jsonc_member_laws.specs.Below.insert.Inserted.{refusal}
 use Rattle.jsonc_member_laws.specs.Below.members.Inserted.{PropertyPut}
+use Rattle.jsonc_set.specs.Kinds.{LacksKind}
 use Rattle.jsonc_set.specs.PropertyValues.{HeldOrSet}
 use Rattle.jsonc_named.specs.declared.shape.Over.{Over}
 use Rattle.jsonc_named.specs.declared.shape.Over.TheVariants as over
@@ -45,9 +46,17 @@ EnsuredFor shape over.Replace old new c name (Some r) answer = (m : ℕ) × (ans
 abbrev pub NamedEnsured : Shape → Over → List Node → List Node → ℕ → List ℕ → Option ℕ → Type 0
 NamedEnsured shape how old new c name answer = (found : Option ℕ) × FirstInObject old c name found × EnsuredFor shape how old new c name found answer
 
--- Why it is not: memory was wanted, to decode names or for what comes; none has the name, and c lacks a bracket; or the one that has it lacks a colon.
-abbrev pub IsUnensured : Over → List Node → ℕ → List ℕ → EditError → Type 0
-IsUnensured how ns c name OutOfMemory = Unit {0}
-IsUnensured how ns c name MissingBrackets = FirstInObject ns c name None × (refusal ns c ≡ MissingBrackets)
-IsUnensured over.Replace ns c name MissingName = (r : ℕ) × FirstInObject ns c name (Some r) × (lacks_name_at ns r ≡ true)
-IsUnensured how ns c name e = ⊥
+-- Memory is wanted: to read a name with a backslash; or for a property that is to come into c, which has its brackets; or for the value of the one that was
+-- found, which has its name and its colon, where it holds none of the shape.
+pub data WantsMemoryFor (shape : Shape) (ns : List Node) (c : ℕ) (name : List ℕ) : Over → Type 0 where
+  to_read : {how : Over} → HoldsEscapedName ns c → WantsMemoryFor shape ns c name how
+  to_come : {how : Over} → FirstInObject ns c name None → refusal ns c ≡ OutOfMemory → WantsMemoryFor shape ns c name how
+  to_set : (r : ℕ) → FirstInObject ns c name (Some r) → lacks_name_at ns r ≡ false → LacksKind (is_of shape) ns (value_at ns r)
+      → WantsMemoryFor shape ns c name over.Replace
+
+-- Why it is not: memory was wanted; none has the name, and c lacks a bracket; or the one that has it lacks a colon.
+abbrev pub IsUnensured : Shape → Over → List Node → ℕ → List ℕ → EditError → Type 0
+IsUnensured shape how ns c name OutOfMemory = WantsMemoryFor shape ns c name how
+IsUnensured shape how ns c name MissingBrackets = FirstInObject ns c name None × (refusal ns c ≡ MissingBrackets)
+IsUnensured shape over.Replace ns c name MissingName = (r : ℕ) × FirstInObject ns c name (Some r) × (lacks_name_at ns r ≡ true)
+IsUnensured shape how ns c name e = ⊥

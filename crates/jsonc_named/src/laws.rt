@@ -20,6 +20,6 @@ pub fn names_are_those_of_values()
 pub fn named_values_are_written()
     ensures written { (o : Options) (old new : List Node) (path : List ℕ) (c : ℕ) (name : List ℕ) (shape : Shape)
         (how : Over) (answer : Option ℕ) → WritesNamed o old new path c name shape how answer }
-    ensures memory { (o : Options) (ns : List Node) (path : List ℕ) (c : ℕ) (name : List ℕ) (how : Over)
-        (e : EditError) → WantsMemoryAlone o ns path c name how e }
+    ensures memory { (o : Options) (ns : List Node) (path : List ℕ) (c : ℕ) (name : List ℕ) (shape : Shape)
+        (how : Over) (e : EditError) → WantsMemoryAlone o ns path c name shape how e }
 {}

@@ -80,6 +80,7 @@ fn value_or_set<A: Allocator + Copy>(
     ensures shape { IfOk result (λ m. is_of shape (content_at tree.new.nodes m) ≡ true) }
     ensures named { OnOk result (lacks_name_at tree.old.nodes property ≡ false) }
     ensures told { IfErr result (IsUnset (is_of shape) tree.old.nodes property) }
+    ensures missing { IfErr result (λ e. lacks_name_at tree.old.nodes property ≡ true → e ≡ EditError.MissingName) }
     ensures kept { OnErr result (Keeps (length tree.old.nodes) tree.old.nodes tree.new.nodes) }
     ensures document { OnErr result (ordered_tree tree.new.nodes 0 ≡ ordered_tree tree.old.nodes 0) }
     ensures tree { IsTree tree.new.nodes }
@@ -131,7 +132,8 @@ fn append_empty<A: Allocator + Copy>(
 /// `insert_property` of `jsonc_members`. A value of another kind gives way to an empty one, and one that is
 /// missing is set so, as by `property_object_or_set` of `jsonc_set`; or it stays as it is, and the answer is
 /// None. A property whose value is to be set, and that lacks its colon, answers `MissingName`; an object
-/// into which a property is to come, and that lacks a bracket, `MissingBrackets`. A refusal leaves the
+/// into which a property is to come, and that lacks a bracket, `MissingBrackets`. Want of memory is told
+/// where neither is so, or of a name with a backslash, which takes memory to read. A refusal leaves the
 /// document, and every node that was there, as it was.
 pub fn ensure_property<A: Allocator + Copy>(
     alloc: A,
@@ -146,7 +148,7 @@ pub fn ensure_property<A: Allocator + Copy>(
     ensures ensured { IfOk result
         (NamedEnsured shape over tree.old.nodes tree.new.nodes object (chars name.now)) }
     ensures shape { IfOk result (λ a. IfSome a (λ m. is_of shape (content_at tree.new.nodes m) ≡ true)) }
-    ensures told { IfErr result (IsUnensured over tree.old.nodes object (chars name.now)) }
+    ensures told { IfErr result (IsUnensured shape over tree.old.nodes object (chars name.now)) }
     ensures kept { OnErr result (Keeps (length tree.old.nodes) tree.old.nodes tree.new.nodes) }
     ensures document { OnErr result (ordered_tree tree.new.nodes 0 ≡ ordered_tree tree.old.nodes 0) }
     ensures tree { IsTree tree.new.nodes }

@@ -1,9 +1,8 @@
 -- Trailing commas that are set at a path, and what a refused edit leaves.
-use Rattle.std.proofs.Common.{◌≡◌, ℕ, Bool, true, false, List, Result, Ok, Err, OnOk, OnErr, IfErr, length, refl, sym, subst}
-use Rattle.jsonc_input.specs.declared.value.CstInputValue.{CstInputValue}
+use Rattle.std.proofs.Common.{◌≡◌, ℕ, true, false, List, Result, Ok, Err, OnOk, OnErr, IfErr, length, refl, sym, subst}
 use Rattle.jsonc_tree.specs.Building.{Keeps}
 use Rattle.jsonc_tree.specs.OrderedTree.{ordered_tree}
-use Rattle.jsonc_tree.specs.Tree.{Node}
+use Rattle.jsonc_tree.specs.Tree.{Node, IsTree}
 use Rattle.jsonc_commas.specs.InTurn.{holders, AreSetInPart, AreSetInTurn}
 use Rattle.jsonc_edit.specs.declared.error.EditError.{EditError}
 use Rattle.jsonc_edit.specs.declared.error.EditError.TheVariants.{OutOfMemory}
@@ -14,6 +13,7 @@ use Rattle.jsonc_run.specs.declared.edit.Edit.TheVariants.{Replace, Remove, Remo
 use Rattle.jsonc_run.specs.Edits.{Operation, is_sort, is_whole, set_commas, IsMade}
 use Rattle.jsonc_run.specs.Places.{IsContainerAt}
 use Rattle.jsonc_run.specs.Refusals.{IsLeft, IsToldBy, as_it_was, set_in_part}
+use Rattle.jsonc_run.proofs.Wanted.{wants_some}
 
 -- an edit that sets no commas, and is no sort, is made whole
 pub is_made_whole : {A : Type 0} (e : Edit A) → is_sort e ≡ false → ((path : _) (mode : TrailingCommaMode) → e ≡ SetTrailingCommas path mode → ⊥) → is_whole e ≡ true
@@ -51,6 +51,6 @@ module _ (ns : List Node) (path : List ℕ) (mode : TrailingCommaMode) (n : ℕ)
   commas_left (Ok x) new part = tt
   commas_left (Err e) new part = set_in_part n at part
 
-  pub commas_told : {T : Type 0} (r : Result T EditError) → IfErr r (λ e. e ≡ OutOfMemory) → OnErr r (mode ≡ IfMultiline) → IfErr r (IsToldBy ns (set_commas path mode))
-  commas_told (Ok x) memory wanted = tt
-  commas_told (Err e) memory wanted = subst (IsToldBy ns (set_commas path mode)) (sym memory) (n, at, wanted)
+  pub commas_told : {T : Type 0} (r : Result T EditError) (new : List Node) → IsTree ns → IfErr r (λ e. e ≡ OutOfMemory) → OnErr r (mode ≡ IfMultiline) → OnErr r (AreSetInPart mode ns (holders ns n) new) → IfErr r (IsToldBy ns (set_commas path mode))
+  commas_told (Ok x) new tree memory wanted part = tt
+  commas_told (Err e) new tree memory wanted part = subst (IsToldBy ns (set_commas path mode)) (sym memory) (n, at, wanted, wants_some mode ns new n tree wanted part)

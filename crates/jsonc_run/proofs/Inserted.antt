@@ -1,5 +1,5 @@
 -- Values that come into arrays at paths.
-use Rattle.std.proofs.Common.{◌≡◌, ℕ, ◌≤◌, ◌+◌, Bool, true, false, not, cond, List, [], ◌++◌, length, Option, Some, refl, sym, ap, subst, ◌∙◌, arith, append_assoc}
+use Rattle.std.proofs.Common.{◌≡◌, ℕ, ◌≤◌, ◌+◌, true, not, List, [], ◌++◌, length, Option, Some, refl, sym, ap, subst, ◌∙◌, arith, append_assoc}
 use Rattle.std.proofs.lemmas.List.Filters.{length-filter_both}
 use Rattle.jsonc_text.specs.Options.{Options}
 use Rattle.jsonc_text.specs.Plain.{Plain, array}
@@ -29,6 +29,7 @@ use Rattle.jsonc_run.specs.Edits.{append_element, insert_element}
 use Rattle.jsonc_run.specs.Places.{IsArrayAt}
 use Rattle.jsonc_run.specs.Refusals.{IsToldBy}
 use Rattle.jsonc_named.proofs.PathValues.{value_once}
+use Rattle.jsonc_named.proofs.Unensured.{no_other}
 
 -- the array at a path is what stands there, if it is one
 pub array_found : (ns : List Node) (path : List ℕ) (at found : Option ℕ) → FindsExactly at (IsAt ns path) → FindsExactly found (λ n. (at ≡ Some n) × (content_at ns n ≡ content.array)) → FindsExactly found (IsArrayAt ns path)
@@ -46,10 +47,6 @@ pub comes_last : (old new : List Node) (c : ℕ) (v : Plain) (m : ℕ) → has_b
 comes_last old new c v m brackets put = past_the_end old new c (length (children_at old c)) (length (elements_at old c)) v m brackets (fewer old c) (omega arith) put
 
 -- why nothing came in
-pub no_other : (b : Bool) (e : EditError) → e ≡ cond b OutOfMemory MissingBrackets → (e ≡ MissingName → ⊥) × (e ≡ NoSuchPlace → ⊥)
-no_other true e is = (λ other. let wrong : OutOfMemory ≡ MissingName = sym is ∙ other in cc, λ other. let wrong : OutOfMemory ≡ NoSuchPlace = sym is ∙ other in cc)
-no_other false e is = (λ other. let wrong : MissingBrackets ≡ MissingName = sym is ∙ other in cc, λ other. let wrong : MissingBrackets ≡ NoSuchPlace = sym is ∙ other in cc)
-
 module _ (ns : List Node) (path : List ℕ) (n : ℕ) (v : Plain) (at : IsArrayAt ns path n) where
   pub told_in : (i : ℕ) (e : EditError) → e ≡ refusal ns n → IsToldBy ns (insert_element path i v) e
   told_in i OutOfMemory is = (n, at, sym is)

@@ -3,6 +3,7 @@ pub mod EntryPaths
 pub mod Roots
 pub mod PropertyMade
 pub mod ValueMade
+pub mod Wanted
 pub mod Booleans
 pub mod OnLines
 pub mod Inserted

@@ -242,15 +242,15 @@ module _ (ns : List Node) where
   memory_placed (replace_property path name v) (n, at) = (n, at)
   memory_placed (ensure_root shape how) k = tt
   memory_placed (set_value path v) (n, at) = (n, at)
-  memory_placed (ensure_value path shape) (n, at, k) = (n, at)
+  memory_placed (ensure_value path shape) (n, at, named, k) = (n, at)
   memory_placed (set_boolean path b) (n, at, k) = (n, at)
   memory_placed (ensure_multiline path) (n, at, k) = (n, at)
   memory_placed (insert_element path i v) (n, at, k) = (n, at)
   memory_placed (append_element path v) (n, at, k) = (n, at)
   memory_placed (insert_property path i name v) (n, at, k) = (n, at)
   memory_placed (append_property path name v) (n, at, k) = (n, at)
-  memory_placed (ensure_property path name shape how) (n, at) = (n, at)
-  memory_placed (set_commas path mode) (n, at, k) = (n, at)
+  memory_placed (ensure_property path name shape how) (n, at, k) = (n, at)
+  memory_placed (set_commas path mode) (n, at, is, k) = (n, at)
   memory_placed (set_some_commas path mode) k = absurd k
   memory_placed (rearrange path headers order) (n, at) = (n, at)
 

@@ -31,7 +31,8 @@ use Rattle.jsonc_named.specs.Named.{IsUnensured}
 use Rattle.jsonc_run.specs.Edits.{append_property, ensure_property, insert_property}
 use Rattle.jsonc_run.specs.Places.{IsObjectAt}
 use Rattle.jsonc_run.specs.Refusals.{IsToldBy}
-use Rattle.jsonc_run.proofs.Inserted.{fewer, no_other}
+use Rattle.jsonc_named.proofs.Unensured.{no_other}
+use Rattle.jsonc_run.proofs.Inserted.{fewer}
 use Rattle.jsonc_named.proofs.PathValues.{value_once}
 
 -- the object at a path is what stands there, if it is one
@@ -65,8 +66,8 @@ module _ (ns : List Node) (path : List ℕ) (n : ℕ) (name : List ℕ) (v : Pla
 
 -- or why the first property of a name was not as it was to be
 module _ (ns : List Node) (path : List ℕ) (n : ℕ) (name : List ℕ) (shape : Shape) (how : Over) (at : IsObjectAt ns path n) where
-  pub told_for : (e : EditError) → IsUnensured how ns n name e → IsToldBy ns (ensure_property path name shape how) e
-  told_for OutOfMemory why = (n, at)
+  pub told_for : (e : EditError) → IsUnensured shape how ns n name e → IsToldBy ns (ensure_property path name shape how) e
+  told_for OutOfMemory why = (n, at, why)
   told_for MissingBrackets why = (n, at, why)
   told_for MissingName why = (n, at, why)
   told_for NoSuchPlace why = absurd why

@@ -71,12 +71,12 @@ module _ (o : Options) (ns : List Node) (tree : IsTree ns) (sound : SoundTree o 
   brackets_there (append_element path v) (n, at, k) = array_kept path n at k
   brackets_there (insert_property path i name v) (n, at, k) = object_kept path n at k
   brackets_there (append_property path name v) (n, at, k) = object_kept path n at k
-  brackets_there (ensure_property path name shape how) (n, at, k) = not_brackets (named_laws.wants_memory o ns path n name how MissingBrackets tree sound at.0 at.1 k)
+  brackets_there (ensure_property path name shape how) (n, at, k) = not_brackets (named_laws.wants_memory o ns path n name shape how MissingBrackets tree sound at.0 at.1 k)
   brackets_there _ k = k
 
   named : (e : Operation) → LacksName ns e → ⊥
   named (ensure_value path shape) (n, at, k) = name_there path n at k
-  named (ensure_property path name shape how) (n, at, k) = not_name (named_laws.wants_memory o ns path n name how MissingName tree sound at.0 at.1 k)
+  named (ensure_property path name shape how) (n, at, k) = not_name (named_laws.wants_memory o ns path n name shape how MissingName tree sound at.0 at.1 k)
   named _ k = k
 
   -- so memory or the edit's place was wanted

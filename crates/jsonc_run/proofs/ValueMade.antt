@@ -1,11 +1,11 @@
 -- What becomes of a document where the value of the property at a path is set, or has to be an array or an object.
-use Rattle.std.proofs.Common.{◌≡◌, ℕ, List, Option, Some, None, IfSome, IfNone, IfErr, Result, Ok, Err, subst}
+use Rattle.std.proofs.Common.{◌≡◌, ℕ, true, List, Option, Some, None, IfSome, IfNone, IfErr, Result, Ok, Err, subst}
 use Rattle.jsonc_text.specs.Options.{Options}
 use Rattle.jsonc_text.specs.Plain.{Plain}
 use Rattle.jsonc_tree.specs.Content.{property}
 use Rattle.jsonc_tree.specs.OrderedTree.{ordered_tree}
 use Rattle.jsonc_tree.specs.Tree.{Node, content_at, IsTree}
-use Rattle.jsonc_nodes.specs.Properties.{value_at}
+use Rattle.jsonc_nodes.specs.Properties.{lacks_name_at, value_at}
 use Rattle.jsonc_laws.specs.SoundTrees.{SoundTree}
 use Rattle.jsonc_edit.specs.Paths.{IsAt}
 use Rattle.jsonc_edit.specs.Reading.{IsReplaced}
@@ -18,6 +18,7 @@ use Rattle.jsonc_named.specs.Places.{IsPropertyAt, a_property}
 use Rattle.jsonc_run.specs.Refusals.{IsToldBy}
 use Rattle.jsonc_named.specs.Shapes.{is_of}
 use Rattle.jsonc_named.proofs.PropertyValues.{value_held}
+use Rattle.jsonc_named.proofs.Unensured.{named}
 
 -- a property at a path is one
 pub property_kind : (ns : List Node) (path : List ℕ) (r : ℕ) → IsPropertyAt ns path r → content_at ns r ≡ property
@@ -30,15 +31,15 @@ property_value_set old new r v m (Some n) replaced last = (m, replaced)
 
 -- why it is not what it has to be
 module _ (ns : List Node) (path : List ℕ) (r : ℕ) (shape : Shape) (at : IsPropertyAt ns path r) where
-  unset_told : (e : EditError) → IsUnset (is_of shape) ns r e → IsToldBy ns (ensure_value path shape) e
-  unset_told OutOfMemory why = (r, at, why)
-  unset_told MissingName why = (r, at, why)
-  unset_told MissingBrackets why = why
-  unset_told NoSuchPlace why = absurd why
+  unset_told : (e : EditError) → IsUnset (is_of shape) ns r e → (lacks_name_at ns r ≡ true → e ≡ MissingName) → IsToldBy ns (ensure_value path shape) e
+  unset_told OutOfMemory why missing = (r, at, named (lacks_name_at ns r) missing, why)
+  unset_told MissingName why missing = (r, at, why)
+  unset_told MissingBrackets why missing = why
+  unset_told NoSuchPlace why missing = absurd why
 
-  pub unset_answer : {T : Type 0} (a : Result T EditError) → IfErr a (IsUnset (is_of shape) ns r) → IfErr a (IsToldBy ns (ensure_value path shape))
-  unset_answer (Ok x) why = tt
-  unset_answer (Err e) why = unset_told e why
+  pub unset_answer : {T : Type 0} (a : Result T EditError) → IfErr a (IsUnset (is_of shape) ns r) → IfErr a (λ e. lacks_name_at ns r ≡ true → e ≡ MissingName) → IfErr a (IsToldBy ns (ensure_value path shape))
+  unset_answer (Ok x) why missing = tt
+  unset_answer (Err e) why missing = unset_told e why missing
 
 module _ (o : Options) (old new : List Node) (tree : IsTree old) (sound : SoundTree o (ordered_tree old 0)) (path : List ℕ) (r : ℕ) (at : IsPropertyAt old path r) where
   -- in a sound document a value that was set has been replaced

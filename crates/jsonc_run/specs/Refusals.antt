@@ -1,11 +1,13 @@
 -- Why an edit is not made, and what a list of edits has made until then.
-use Rattle.std.specs.Prelude.{◌≡◌, ℕ, true, List, Some, None, length}
+use Rattle.std.specs.Prelude.{◌≡◌, ℕ, true, false, List, Some, None, length}
+use Rattle.std.specs.List.{Contains}
 use Rattle.jsonc_tree.specs.Building.{Keeps}
 use Rattle.jsonc_tree.specs.OrderedTree.{ordered_tree}
 use Rattle.jsonc_tree.specs.Tree.{Node}
 use Rattle.jsonc_nodes.specs.Properties.{lacks_name_at, value_at}
 use Rattle.jsonc_edit.specs.declared.error.EditError.{EditError}
 use Rattle.jsonc_edit.specs.declared.error.EditError.TheVariants.{OutOfMemory, MissingBrackets, MissingName, NoSuchPlace}
+use Rattle.jsonc_commas.specs.Commas.{WantsComma}
 use Rattle.jsonc_commas.specs.InTurn.{holders, AreSetInPart}
 use Rattle.jsonc_edit.specs.Comments.{comment_at, WantsSpace}
 use Rattle.jsonc_edit.specs.declared.modes.TrailingCommaMode.{TrailingCommaMode}
@@ -53,7 +55,12 @@ abbrev pub WantsEmpty : Shape → Over → List Node → Type 0
 WantsEmpty shape over.Keep ns = value_at ns 0 ≡ None
 WantsEmpty shape over.Replace ns = LacksKind (is_of shape) ns (value_at ns 0)
 
--- memory may be wanted for what is written, where that has its place, and for the space that is due where an entry or a comment leaves, or before `false`
+-- a comma is due, in c or in an array or object below it that is reached
+abbrev pub WantsSomeComma : List Node → ℕ → Type 0
+WantsSomeComma ns c = (n : ℕ) × Contains (holders ns c) n × WantsComma ns n
+
+-- memory may be wanted for what is written, where that has its place and nothing that it needs is missing, for the space that is due where an entry or a comment
+-- leaves, or before `false`, and for a comma that is due
 abbrev pub MayWantMemory : List Node → Operation → Type 0
 MayWantMemory ns (replace path v) = (n : ℕ) × IsAt ns path n
 MayWantMemory ns (remove path) = (n : ℕ) × IsEntryAt ns path n × IsKeptFor ns n OutOfMemory
@@ -63,15 +70,15 @@ MayWantMemory ns clear_root = ⊥
 MayWantMemory ns (replace_property path name v) = (n : ℕ) × IsPropertyAt ns path n
 MayWantMemory ns (ensure_root shape how) = WantsEmpty shape how ns
 MayWantMemory ns (set_value path v) = (n : ℕ) × IsPropertyAt ns path n
-MayWantMemory ns (ensure_value path shape) = (n : ℕ) × IsPropertyAt ns path n × LacksKind (is_of shape) ns (value_at ns n)
+MayWantMemory ns (ensure_value path shape) = (n : ℕ) × IsPropertyAt ns path n × (lacks_name_at ns n ≡ false) × LacksKind (is_of shape) ns (value_at ns n)
 MayWantMemory ns (set_boolean path b) = (n : ℕ) × IsBooleanAt ns path n × WantsSpaceFor ns n b
 MayWantMemory ns (ensure_multiline path) = (n : ℕ) × IsContainerAt ns path n × IsUnspread ns n OutOfMemory
 MayWantMemory ns (insert_element path i v) = (n : ℕ) × IsArrayAt ns path n × (refusal ns n ≡ OutOfMemory)
 MayWantMemory ns (append_element path v) = (n : ℕ) × IsArrayAt ns path n × (refusal ns n ≡ OutOfMemory)
 MayWantMemory ns (insert_property path i name v) = (n : ℕ) × IsObjectAt ns path n × (refusal ns n ≡ OutOfMemory)
 MayWantMemory ns (append_property path name v) = (n : ℕ) × IsObjectAt ns path n × (refusal ns n ≡ OutOfMemory)
-MayWantMemory ns (ensure_property path name shape how) = (n : ℕ) × IsObjectAt ns path n
-MayWantMemory ns (set_commas path mode) = (n : ℕ) × IsContainerAt ns path n × (mode ≡ IfMultiline)
+MayWantMemory ns (ensure_property path name shape how) = (n : ℕ) × IsObjectAt ns path n × IsUnensured shape how ns n name OutOfMemory
+MayWantMemory ns (set_commas path mode) = (n : ℕ) × IsContainerAt ns path n × (mode ≡ IfMultiline) × WantsSomeComma ns n
 MayWantMemory ns (set_some_commas path mode) = ⊥
 MayWantMemory ns (rearrange path headers order) = (n : ℕ) × IsContainerAt ns path n
 
@@ -83,13 +90,13 @@ LacksBrackets ns (insert_element path i v) = (n : ℕ) × IsArrayAt ns path n ×
 LacksBrackets ns (append_element path v) = (n : ℕ) × IsArrayAt ns path n × (refusal ns n ≡ MissingBrackets)
 LacksBrackets ns (insert_property path i name v) = (n : ℕ) × IsObjectAt ns path n × (refusal ns n ≡ MissingBrackets)
 LacksBrackets ns (append_property path name v) = (n : ℕ) × IsObjectAt ns path n × (refusal ns n ≡ MissingBrackets)
-LacksBrackets ns (ensure_property path name shape how) = (n : ℕ) × IsObjectAt ns path n × IsUnensured how ns n name MissingBrackets
+LacksBrackets ns (ensure_property path name shape how) = (n : ℕ) × IsObjectAt ns path n × IsUnensured shape how ns n name MissingBrackets
 LacksBrackets ns e = ⊥
 
 -- the property whose value is to be of a shape lacks its name, or its colon, at a path or as the first of its name
 abbrev pub LacksName : List Node → Operation → Type 0
 LacksName ns (ensure_value path shape) = (n : ℕ) × IsPropertyAt ns path n × (lacks_name_at ns n ≡ true)
-LacksName ns (ensure_property path name shape how) = (n : ℕ) × IsObjectAt ns path n × IsUnensured how ns n name MissingName
+LacksName ns (ensure_property path name shape how) = (n : ℕ) × IsObjectAt ns path n × IsUnensured shape how ns n name MissingName
 LacksName ns e = ⊥
 
 -- why the edit was not made: memory was wanted, it has no place, or a bracket or a name is missing; nothing else is told

@@ -81,6 +81,7 @@ fn held_or_set<A: Allocator + Copy>(
         (value_at tree.old.nodes property)) }
     ensures named { OnOk result (lacks_name_at tree.old.nodes property ≡ false) }
     ensures told { IfErr result (IsUnset (is_of shape) tree.old.nodes property) }
+    ensures missing { IfErr result (λ e. lacks_name_at tree.old.nodes property ≡ true → e ≡ EditError.MissingName) }
     ensures kept { OnErr result (Keeps (length tree.old.nodes) tree.old.nodes tree.new.nodes) }
     ensures document { OnErr result (ordered_tree tree.new.nodes 0 ≡ ordered_tree tree.old.nodes 0) }
     ensures tree { IsTree tree.new.nodes }

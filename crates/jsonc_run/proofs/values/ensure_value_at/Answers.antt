@@ -1,4 +1,6 @@
-use Rattle.std.proofs.Common.{rules, IfErr}
+use Rattle.std.proofs.Common.{rules, ◌≡◌, true, IfErr}
+use Rattle.jsonc_nodes.specs.Properties.{lacks_name_at}
+use Rattle.jsonc_edit.specs.declared.error.EditError.TheVariants.{MissingName}
 use Rattle.jsonc_set.specs.PropertyValues.{IsUnset}
 use Rattle.jsonc_named.specs.Places.{IsPropertyAt}
 use Rattle.jsonc_named.specs.Shapes.{is_of}
@@ -21,4 +23,5 @@ returns-clause-made g c =
 pub returns-in_err-held_or_set-clause-told : goal.returns-in_err-held_or_set-clause-told
 returns-in_err-held_or_set-clause-told g c =
     let told : IfErr c.from_residual.result (IsUnset (is_of c.args.shape) c.args.tree.now.nodes c.in-Some.property) = search rules in
-    unset_answer c.args.tree.now.nodes c.args.path.now c.in-Some.property c.args.shape ((c.find_property.ensures.found c.in-Some.property).0 c.in-Some.is) c.from_residual.result told
+    let missing : IfErr c.from_residual.result (λ e. lacks_name_at c.args.tree.now.nodes c.in-Some.property ≡ true → e ≡ MissingName) = search rules in
+    unset_answer c.args.tree.now.nodes c.args.path.now c.in-Some.property c.args.shape ((c.find_property.ensures.found c.in-Some.property).0 c.in-Some.is) c.from_residual.result told missing
