@@ -84,10 +84,10 @@ module _ (old new : List Node) (c : ℕ) (name : List ℕ) (shape : Shape) (how 
   pub named_written : (o : Options) (answer : Option ℕ) → NamedEnsured shape how old new c name answer → NamedIsWritten old new o c name shape how
   named_written o answer e = λ sound texts path at. writes_named o old new path c name shape how answer tree sound at is texts e
 
-  pub named_for_memory : (o : Options) (e : EditError) → IsUnensured how old c name e → WantsMemoryAlone o old c e
+  pub named_for_memory : (o : Options) (e : EditError) → IsUnensured shape how old c name e → WantsMemoryAlone o old c e
   named_for_memory o e told = λ sound over.
       let place = holder_path o old tree sound c over (ap holds_values is) in
-      wants_memory o old place.0 c name how e tree sound place.1 is told
+      wants_memory o old place.0 c name shape how e tree sound place.1 is told
 
 -- where another gives way there is always one
 always_some : (old new : List Node) (c : ℕ) (name : List ℕ) (shape : Shape) (found answer : Option ℕ) → EnsuredFor shape over.Replace old new c name found answer → answer ≡ None → ⊥

@@ -69,5 +69,5 @@ module _ {A : Type 0} (old new : CstRootNode A) where
   HasWrittenNamed o node name shape how = NamedIsWritten (nodes_of old) (nodes_of new) o (number_of node) name shape how
 
 -- why not
-abbrev pub IsUnensuredIn : {A : Type 0} → CstRootNode A → Over → CstNode → List ℕ → EditError → Type 0
-IsUnensuredIn d how node name e = IsUnensured how (nodes_of d) (number_of node) name e
+abbrev pub IsUnensuredIn : {A : Type 0} → CstRootNode A → Shape → Over → CstNode → List ℕ → EditError → Type 0
+IsUnensuredIn d shape how node name e = IsUnensured shape how (nodes_of d) (number_of node) name e

@@ -38,7 +38,7 @@ fn ensure_object<A: Allocator + Copy>(
     ensures step { OnOk result
         (IsEnsuringNamed tree.old.nodes tree.new.nodes object (chars name.now) Shape.Object over) }
     ensures elsewhere { OnOk result (StaysElsewhere tree.old.nodes tree.new.nodes object) }
-    ensures told { IfErr result (IsUnensured over tree.old.nodes object (chars name.now)) }
+    ensures told { IfErr result (IsUnensured Shape.Object over tree.old.nodes object (chars name.now)) }
     ensures memory { (o : Options) → IfErr result (WantsMemoryAlone o tree.old.nodes object) }
     ensures held { IfOk result (λ a. IfSome a (λ x. IsNodeOf tree.new.nodes (object_node x))) }
     ensures stays { StillNodes tree.old.nodes tree.new.nodes }
@@ -70,7 +70,7 @@ fn set_object<A: Allocator + Copy>(
     ensures step { OnOk result
         (IsEnsuringNamed tree.old.nodes tree.new.nodes object (chars name.now) Shape.Object Over.Replace) }
     ensures elsewhere { OnOk result (StaysElsewhere tree.old.nodes tree.new.nodes object) }
-    ensures told { IfErr result (IsUnensured Over.Replace tree.old.nodes object (chars name.now)) }
+    ensures told { IfErr result (IsUnensured Shape.Object Over.Replace tree.old.nodes object (chars name.now)) }
     ensures memory { (o : Options) → IfErr result (WantsMemoryAlone o tree.old.nodes object) }
     ensures held { IfOk result (λ x. IsNodeOf tree.new.nodes (object_node x)) }
     ensures stays { StillNodes tree.old.nodes tree.new.nodes }
@@ -100,7 +100,7 @@ fn ensure_array<A: Allocator + Copy>(
     ensures step { OnOk result
         (IsEnsuringNamed tree.old.nodes tree.new.nodes object (chars name.now) Shape.Array over) }
     ensures elsewhere { OnOk result (StaysElsewhere tree.old.nodes tree.new.nodes object) }
-    ensures told { IfErr result (IsUnensured over tree.old.nodes object (chars name.now)) }
+    ensures told { IfErr result (IsUnensured Shape.Array over tree.old.nodes object (chars name.now)) }
     ensures memory { (o : Options) → IfErr result (WantsMemoryAlone o tree.old.nodes object) }
     ensures held { IfOk result (λ a. IfSome a (λ x. IsNodeOf tree.new.nodes (array_node x))) }
     ensures stays { StillNodes tree.old.nodes tree.new.nodes }
@@ -132,7 +132,7 @@ fn set_array<A: Allocator + Copy>(
     ensures step { OnOk result
         (IsEnsuringNamed tree.old.nodes tree.new.nodes object (chars name.now) Shape.Array Over.Replace) }
     ensures elsewhere { OnOk result (StaysElsewhere tree.old.nodes tree.new.nodes object) }
-    ensures told { IfErr result (IsUnensured Over.Replace tree.old.nodes object (chars name.now)) }
+    ensures told { IfErr result (IsUnensured Shape.Array Over.Replace tree.old.nodes object (chars name.now)) }
     ensures memory { (o : Options) → IfErr result (WantsMemoryAlone o tree.old.nodes object) }
     ensures held { IfOk result (λ x. IsNodeOf tree.new.nodes (array_node x)) }
     ensures stays { StillNodes tree.old.nodes tree.new.nodes }
@@ -169,7 +169,7 @@ pub trait EnsureProperty: IsNode {
         ensures step { OnOk result (IsEnsuringNamed (nodes_of doc.old) (nodes_of doc.new) (number_of (Self.node_of self))
             (chars name.now) Shape.Object Over.Keep) }
         ensures elsewhere { OnOk result (KeepsElsewhere doc.old doc.new (Self.node_of self)) }
-        ensures told { IfErr result (IsUnensuredIn doc.old Over.Keep (Self.node_of self) (chars name.now)) }
+        ensures told { IfErr result (IsUnensuredIn doc.old Shape.Object Over.Keep (Self.node_of self) (chars name.now)) }
         ensures memory { (o : Options) → IfErr result (IsKeptForMemory doc.old o (Self.node_of self)) }
         ensures held { IfOk result (λ a. IfSome a (λ x. Holds doc.new (object_node x))) }
         ensures stays { StillHolds doc.old doc.new }
@@ -197,7 +197,7 @@ pub trait EnsureProperty: IsNode {
         ensures step { OnOk result (IsEnsuringNamed (nodes_of doc.old) (nodes_of doc.new) (number_of (Self.node_of self))
             (chars name.now) Shape.Object Over.Replace) }
         ensures elsewhere { OnOk result (KeepsElsewhere doc.old doc.new (Self.node_of self)) }
-        ensures told { IfErr result (IsUnensuredIn doc.old Over.Replace (Self.node_of self) (chars name.now)) }
+        ensures told { IfErr result (IsUnensuredIn doc.old Shape.Object Over.Replace (Self.node_of self) (chars name.now)) }
         ensures memory { (o : Options) → IfErr result (IsKeptForMemory doc.old o (Self.node_of self)) }
         ensures held { IfOk result (λ x. Holds doc.new (object_node x)) }
         ensures stays { StillHolds doc.old doc.new }
@@ -224,7 +224,7 @@ pub trait EnsureProperty: IsNode {
         ensures step { OnOk result (IsEnsuringNamed (nodes_of doc.old) (nodes_of doc.new) (number_of (Self.node_of self))
             (chars name.now) Shape.Array Over.Keep) }
         ensures elsewhere { OnOk result (KeepsElsewhere doc.old doc.new (Self.node_of self)) }
-        ensures told { IfErr result (IsUnensuredIn doc.old Over.Keep (Self.node_of self) (chars name.now)) }
+        ensures told { IfErr result (IsUnensuredIn doc.old Shape.Array Over.Keep (Self.node_of self) (chars name.now)) }
         ensures memory { (o : Options) → IfErr result (IsKeptForMemory doc.old o (Self.node_of self)) }
         ensures held { IfOk result (λ a. IfSome a (λ x. Holds doc.new (array_node x))) }
         ensures stays { StillHolds doc.old doc.new }
@@ -252,7 +252,7 @@ pub trait EnsureProperty: IsNode {
         ensures step { OnOk result (IsEnsuringNamed (nodes_of doc.old) (nodes_of doc.new) (number_of (Self.node_of self))
             (chars name.now) Shape.Array Over.Replace) }
         ensures elsewhere { OnOk result (KeepsElsewhere doc.old doc.new (Self.node_of self)) }
-        ensures told { IfErr result (IsUnensuredIn doc.old Over.Replace (Self.node_of self) (chars name.now)) }
+        ensures told { IfErr result (IsUnensuredIn doc.old Shape.Array Over.Replace (Self.node_of self) (chars name.now)) }
         ensures memory { (o : Options) → IfErr result (IsKeptForMemory doc.old o (Self.node_of self)) }
         ensures held { IfOk result (λ x. Holds doc.new (array_node x)) }
         ensures stays { StillHolds doc.old doc.new }
