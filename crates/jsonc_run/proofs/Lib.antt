@@ -21,3 +21,4 @@ pub mod Numbered
 pub mod Marking
 pub mod Below
 pub mod Steps
+pub mod Parents

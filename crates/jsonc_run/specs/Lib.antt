@@ -6,3 +6,4 @@ pub mod Named
 pub mod Marked
 pub mod Below
 pub mod Steps
+pub mod Parents

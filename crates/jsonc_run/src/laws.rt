@@ -4,7 +4,12 @@ ghost use Rattle.jsonc_text.specs.Options.{Options};
 ghost use Rattle.jsonc_tree.specs.Tree.{IsTree, Node};
 ghost use Rattle.jsonc_run.specs.Edits.{AreMade, Operation};
 ghost use Rattle.jsonc_run.specs.Named.{PlacesAreNamed};
+ghost use Rattle.jsonc_run.specs.Parents.{CallKeepsParents, CallsKeepParents, EditIsCall, RefusalIsCall};
+ghost use Rattle.jsonc_run.specs.Parents.{StaysWithItsNodes};
 ghost use Rattle.jsonc_run.specs.Steps.{MakesSteps};
+
+pub use jsonc_named::laws::names_are_those_of_values;
+pub use jsonc_sort::laws::sorted_rows_keep_their_nodes;
 
 /// Where edits have their place: in a sound document the nodes have what an edit needs at its path exactly
 /// where the document's value has it there, whatever that is, a value, a truth value, an array, an object
@@ -19,4 +24,16 @@ pub fn places_are_named()
 pub fn edits_make_steps()
     ensures { (o : Options) (old new : List Node) (es : List Operation) → IsTree old
         → AreMade old es new → MakesSteps o old es new }
+{}
+
+/// No call, raw or structured, by a path or by the number of a node, made or refused, moves a node from one
+/// parent to another: what had a parent has it still, or is nobody's child, at place 0. So behind any list of
+/// calls the nodes are a tree, and what has another parent than it had was nobody's child between two of them.
+/// A call that changes no node that was there leaves the document.
+pub fn calls_keep_parents()
+    ensures one { (old new : List Node) → CallKeepsParents old new }
+    ensures list { (old new : List Node) → CallsKeepParents old new }
+    ensures document { (old new : List Node) → StaysWithItsNodes old new }
+    ensures edit { (old : List Node) (e : Operation) (new : List Node) → EditIsCall old e new }
+    ensures refused { (old : List Node) (e : Operation) (new : List Node) → RefusalIsCall old e new }
 {}
