@@ -1,5 +1,5 @@
 -- A property with an empty value that has come into an object: which node that value is.
-use Rattle.std.proofs.Common.{◌≡◌, ℕ, ◌<◌, ◌≤◌, Bool, true, false, not, cond, List, ◌∷◌, length, Option, Some, None, Result, Ok, Err, IfOk, refl, sym, ap, subst, ◌∙◌, arith}
+use Rattle.std.proofs.Common.{◌≡◌, ℕ, ◌<◌, ◌≤◌, Bool, true, false, not, cond, List, [], ◌∷◌, length, Option, Some, None, Result, Ok, Err, IfOk, refl, sym, ap, subst, ◌∙◌, arith}
 use Rattle.std.proofs.lemmas.List.Filters.{length-filter_both}
 use Rattle.std.specs.List.{find}
 use Rattle.jsonc_text.specs.Options.{all_on}
@@ -15,6 +15,7 @@ use Rattle.jsonc_nodes.proofs.Held.{held_in, value_is_held}
 use Rattle.jsonc_from_input.specs.Laid.{laid, laid_property}
 use Rattle.jsonc_from_input.specs.Layout.{Layout}
 use Rattle.jsonc_edit.specs.Changes.{row_below, top_at}
+use Rattle.jsonc_edit.specs.Put.{AreSpaced}
 use Rattle.jsonc_edit.proofs.FittingFinds.{passes, fails}
 use Rattle.jsonc_edit.proofs.Uniqueness.{element_parent}
 use Rattle.jsonc_edit.proofs.Walk.{Shows-row_below}
@@ -118,6 +119,11 @@ module _ (old new : List Node) (c i : ℕ) (name : List ℕ) (shape : Shape) (p 
       past_the_end old new c i (length (elements_at old c)) name (empty_of shape) p tree there brackets
       (subst (λ k. length (elements_at old c) ≤ k) (sym at) (fewer old c)) (omega arith) e
 
+-- each node stays what it is where spaces come
+contents_spaced : (xs : List ℕ) (old new : List Node) → AreSpaced old xs new → (k : ℕ) → content_at new k ≡ content_at old k
+contents_spaced [] old new e k = ap (λ ns. content_at ns k) e
+contents_spaced (x ∷ xs) old new (now, leaf, r, rest) k = contents_spaced xs now new rest k ∙ r.put.content k
+
 -- a value that was found, or has been set, is of the shape
 module _ (shape : Shape) (old new : List Node) (p : ℕ) where
   kept_shaped : (n m : ℕ) (b : Bool) → is_of shape (content_at old n) ≡ b → KeptOrReplaced b (empty_of shape) old new n m → is_of shape (content_at new m) ≡ true
@@ -125,7 +131,7 @@ module _ (shape : Shape) (old new : List Node) (p : ℕ) where
   kept_shaped n m false is r = ap (is_of shape) (r.2.place.replaces.spliced.content m ∙ ap (λ (t : Top). t.content) r.2.place.is) ∙ (empty_laid _ shape).1
 
   pub held_shaped : (o : Option ℕ) (m : ℕ) → HeldOrSet (is_of shape) (empty_of shape) old new p o m → is_of shape (content_at new m) ≡ true
-  held_shaped None m l = ap (is_of shape) (l.given.place.replaces.spliced.content m ∙ ap (λ (t : Top). t.content) l.given.place.is) ∙ (empty_laid _ shape).1
+  held_shaped None m l = ap (is_of shape) (contents_spaced _ l.held new l.spaces m ∙ l.put.content m ∙ ap (λ (t : Top). t.content) l.is) ∙ (empty_laid _ shape).1
   held_shaped (Some n) m r = kept_shaped n m (is_of shape (content_at old n)) refl r
 
   pub result_shaped : {E : Type 0} (o : Option ℕ) (r : Result ℕ E) → IfOk r (HeldOrSet (is_of shape) (empty_of shape) old new p o) → IfOk r (λ m. is_of shape (content_at new m) ≡ true)
