@@ -14,6 +14,7 @@ ghost use Rattle.jsonc_cst.specs.Document.{nodes_of, tree_of, Holds};
 ghost use Rattle.jsonc_cst.specs.Nodes.{number_of, object_node, object_prop_node, IsNodeOf};
 ghost use Rattle.jsonc_cst.specs.Tree.{NodesAreTree};
 ghost use Rattle.jsonc_typed.specs.Edits.{KeepsElsewhere, StaysElsewhere, StillHolds, StillNodes};
+ghost use Rattle.jsonc_typed.specs.Edits.{NodesStay, StaysAsItWas};
 ghost use Rattle.jsonc_typed.specs.Inserting.{element_count, IsShutFor, KeepsOthers};
 ghost use Rattle.jsonc_typed.specs.Removing.{IsKeptForMemory, WantsMemoryAlone};
 ghost use Rattle.jsonc_objects.specs.Members.{HasNamedComeIn, IsAppendingNamed, IsInsertingNamed};
@@ -77,6 +78,7 @@ fn insert_at<A: Allocator + Copy>(
     ensures memory { (o : Options) → IfErr result (WantsMemoryAlone o tree.old.nodes object) }
     ensures held { IfOk result (λ p. IsNodeOf tree.new.nodes (object_prop_node p)) }
     ensures stays { StillNodes tree.old.nodes tree.new.nodes }
+    ensures kept { OnErr result (NodesStay tree.old.nodes tree.new.nodes) }
     ensures document { OnErr result (ordered_tree tree.new.nodes 0 ≡ ordered_tree tree.old.nodes 0) }
     ensures tree { IsTree tree.new.nodes }
 {
@@ -113,6 +115,7 @@ fn append_to<A: Allocator + Copy>(
     ensures memory { (o : Options) → IfErr result (WantsMemoryAlone o tree.old.nodes object) }
     ensures held { IfOk result (λ p. IsNodeOf tree.new.nodes (object_prop_node p)) }
     ensures stays { StillNodes tree.old.nodes tree.new.nodes }
+    ensures kept { OnErr result (NodesStay tree.old.nodes tree.new.nodes) }
     ensures document { OnErr result (ordered_tree tree.new.nodes 0 ≡ ordered_tree tree.old.nodes 0) }
     ensures tree { IsTree tree.new.nodes }
 {
@@ -152,6 +155,7 @@ pub trait InsertProperty: IsNode {
         ensures memory { (o : Options) → IfErr result (IsKeptForMemory doc.old o (Self.node_of self)) }
         ensures held { IfOk result (λ p. Holds doc.new (object_prop_node p)) }
         ensures stays { StillHolds doc.old doc.new }
+        ensures kept { OnErr result (StaysAsItWas doc.old doc.new) }
         ensures document { OnErr result (tree_of doc.new ≡ tree_of doc.old) }
         ensures tree { NodesAreTree doc.new };
 
@@ -188,6 +192,7 @@ pub trait InsertProperty: IsNode {
         ensures memory { (o : Options) → IfErr result (IsKeptForMemory doc.old o (Self.node_of self)) }
         ensures held { IfOk result (λ p. Holds doc.new (object_prop_node p)) }
         ensures stays { StillHolds doc.old doc.new }
+        ensures kept { OnErr result (StaysAsItWas doc.old doc.new) }
         ensures document { OnErr result (tree_of doc.new ≡ tree_of doc.old) }
         ensures tree { NodesAreTree doc.new };
 }

@@ -10,6 +10,7 @@ ghost use Rattle.jsonc_cst.specs.Document.{nodes_of, tree_of, Holds};
 ghost use Rattle.jsonc_cst.specs.Nodes.{array_node, number_of, object_node, IsNodeOf};
 ghost use Rattle.jsonc_cst.specs.Tree.{NodesAreTree};
 ghost use Rattle.jsonc_typed.specs.Edits.{KeepsElsewhere, StaysElsewhere, StillHolds, StillNodes};
+ghost use Rattle.jsonc_typed.specs.Edits.{NodesStay, StaysAsItWas};
 ghost use Rattle.jsonc_typed.specs.Removing.{IsKeptForMemory, WantsMemoryAlone};
 ghost use Rattle.jsonc_objects.specs.Named.{ArrayEnsured, NamedIsWritten, ObjectEnsured};
 ghost use Rattle.jsonc_objects.specs.Named.{HasEnsuredArray, HasEnsuredObject, HasSetArray, HasSetObject};
@@ -42,6 +43,7 @@ fn ensure_object<A: Allocator + Copy>(
     ensures memory { (o : Options) → IfErr result (WantsMemoryAlone o tree.old.nodes object) }
     ensures held { IfOk result (λ a. IfSome a (λ x. IsNodeOf tree.new.nodes (object_node x))) }
     ensures stays { StillNodes tree.old.nodes tree.new.nodes }
+    ensures kept { OnErr result (NodesStay tree.old.nodes tree.new.nodes) }
     ensures document { OnErr result (ordered_tree tree.new.nodes 0 ≡ ordered_tree tree.old.nodes 0) }
     ensures tree { IsTree tree.new.nodes }
 {
@@ -74,6 +76,7 @@ fn set_object<A: Allocator + Copy>(
     ensures memory { (o : Options) → IfErr result (WantsMemoryAlone o tree.old.nodes object) }
     ensures held { IfOk result (λ x. IsNodeOf tree.new.nodes (object_node x)) }
     ensures stays { StillNodes tree.old.nodes tree.new.nodes }
+    ensures kept { OnErr result (NodesStay tree.old.nodes tree.new.nodes) }
     ensures document { OnErr result (ordered_tree tree.new.nodes 0 ≡ ordered_tree tree.old.nodes 0) }
     ensures tree { IsTree tree.new.nodes }
 {
@@ -104,6 +107,7 @@ fn ensure_array<A: Allocator + Copy>(
     ensures memory { (o : Options) → IfErr result (WantsMemoryAlone o tree.old.nodes object) }
     ensures held { IfOk result (λ a. IfSome a (λ x. IsNodeOf tree.new.nodes (array_node x))) }
     ensures stays { StillNodes tree.old.nodes tree.new.nodes }
+    ensures kept { OnErr result (NodesStay tree.old.nodes tree.new.nodes) }
     ensures document { OnErr result (ordered_tree tree.new.nodes 0 ≡ ordered_tree tree.old.nodes 0) }
     ensures tree { IsTree tree.new.nodes }
 {
@@ -136,6 +140,7 @@ fn set_array<A: Allocator + Copy>(
     ensures memory { (o : Options) → IfErr result (WantsMemoryAlone o tree.old.nodes object) }
     ensures held { IfOk result (λ x. IsNodeOf tree.new.nodes (array_node x)) }
     ensures stays { StillNodes tree.old.nodes tree.new.nodes }
+    ensures kept { OnErr result (NodesStay tree.old.nodes tree.new.nodes) }
     ensures document { OnErr result (ordered_tree tree.new.nodes 0 ≡ ordered_tree tree.old.nodes 0) }
     ensures tree { IsTree tree.new.nodes }
 {
@@ -173,6 +178,7 @@ pub trait EnsureProperty: IsNode {
         ensures memory { (o : Options) → IfErr result (IsKeptForMemory doc.old o (Self.node_of self)) }
         ensures held { IfOk result (λ a. IfSome a (λ x. Holds doc.new (object_node x))) }
         ensures stays { StillHolds doc.old doc.new }
+        ensures kept { OnErr result (StaysAsItWas doc.old doc.new) }
         ensures document { OnErr result (tree_of doc.new ≡ tree_of doc.old) }
         ensures tree { NodesAreTree doc.new };
 
@@ -201,6 +207,7 @@ pub trait EnsureProperty: IsNode {
         ensures memory { (o : Options) → IfErr result (IsKeptForMemory doc.old o (Self.node_of self)) }
         ensures held { IfOk result (λ x. Holds doc.new (object_node x)) }
         ensures stays { StillHolds doc.old doc.new }
+        ensures kept { OnErr result (StaysAsItWas doc.old doc.new) }
         ensures document { OnErr result (tree_of doc.new ≡ tree_of doc.old) }
         ensures tree { NodesAreTree doc.new };
 
@@ -228,6 +235,7 @@ pub trait EnsureProperty: IsNode {
         ensures memory { (o : Options) → IfErr result (IsKeptForMemory doc.old o (Self.node_of self)) }
         ensures held { IfOk result (λ a. IfSome a (λ x. Holds doc.new (array_node x))) }
         ensures stays { StillHolds doc.old doc.new }
+        ensures kept { OnErr result (StaysAsItWas doc.old doc.new) }
         ensures document { OnErr result (tree_of doc.new ≡ tree_of doc.old) }
         ensures tree { NodesAreTree doc.new };
 
@@ -256,6 +264,7 @@ pub trait EnsureProperty: IsNode {
         ensures memory { (o : Options) → IfErr result (IsKeptForMemory doc.old o (Self.node_of self)) }
         ensures held { IfOk result (λ x. Holds doc.new (array_node x)) }
         ensures stays { StillHolds doc.old doc.new }
+        ensures kept { OnErr result (StaysAsItWas doc.old doc.new) }
         ensures document { OnErr result (tree_of doc.new ≡ tree_of doc.old) }
         ensures tree { NodesAreTree doc.new };
 }

@@ -19,10 +19,11 @@ use Rattle.jsonc_nodes.specs.Kinds.{is_property}
 use Rattle.jsonc_nodes.specs.Properties.{value_at}
 use Rattle.jsonc_laws.specs.Adjacent.{or_else}
 use Rattle.jsonc_laws.specs.Spaces.{is_bare}
+use Rattle.jsonc_from_input.specs.Laid.{laid}
 use Rattle.jsonc_edit.specs.Comments.{removed_from, TakesOut}
 use Rattle.jsonc_edit.specs.Due.{begins_bare, behind_holder, behind_property, due_around, due_before, due_behind, due_between, ends_bare, listed, nearest, prints_within, seen_before, seen_behind}
 use Rattle.jsonc_edit.specs.Put.{AreSpaced, StandsBefore}
-use Rattle.jsonc_edit.specs.Reading.{IsReplaced, IsReplacedRaw}
+use Rattle.jsonc_edit.specs.Reading.{layout_for, IsReplaced, IsReplacedRaw}
 use Rattle.jsonc_edit.specs.Replacing.{GivesWay}
 use Rattle.jsonc_edit.proofs.Elements.{Some_same}
 use Rattle.jsonc_edit.proofs.Placed.{found_behind}
@@ -114,10 +115,10 @@ module _ (old : List Node) (tree : IsTree old) where
   one_out a true (Some x) f = All-cons (OutIn a) x [] (f x refl) (All-nil (OutIn a))
 
   -- before which nodes spaces are due beside children of c, once the rest was made ready
-  module _ (a : List Node) (at : IsTree a) (keeps : Keeps (length old) old a) (c : ℕ) (low : c < length old) (out : Out c) where
+  module _ (a : List Node) (at : IsTree a) (c : ℕ) (same : parent_at a c ≡ parent_at old c) (out : Out c) where
     holder_out : (x : ℕ) → nearest a (siblings_after a c) ≡ Some x → (o : Option ℕ) → parent_at a c ≡ o → OutIn a x
     holder_out x e None up = absurd (none_behind a c x up e)
-    holder_out x e (Some p) up = (p, (found_behind a at c p up x e).0, out_up c p (sym (keeps.parent c low) ∙ up) out)
+    holder_out x e (Some p) up = (p, (found_behind a at c p up x e).0, out_up c p (sym same ∙ up) out)
 
     either_out : (k : ℕ) → parent_at a k ≡ Some c → (x : ℕ) (o : Option ℕ) → nearest a (siblings_after a k) ≡ o → or_else o (behind_holder a k) ≡ Some x → OutIn a x
     either_out k told x (Some y) seen e = (c, (found_behind a at k c told x (seen ∙ e)).0, out)
@@ -159,7 +160,7 @@ module _ (old : List Node) (tree : IsTree old) where
       same_tree new after
       (same_both old g.ready new (same_kept g.ready g.prepared.keeps)
       (same_both g.ready g.spaced new
-      (same_spaced _ g.ready g.spaced g.prepared.tree g.spaces (around_out g.ready g.prepared.tree g.prepared.keeps c low.1 away n ready now.content))
+      (same_spaced _ g.ready g.spaced g.prepared.tree g.spaces (around_out g.ready g.prepared.tree c (g.prepared.keeps.parent c low.1) away n ready now.content))
       (same_spliced g.spaced new r.container _ _ _ r.spliced (subst Out (Some_same c r.container (sym spaced ∙ r.parent)) away))))
 
   pub replaced_elsewhere : (new : List Node) (n m : ℕ) (v : Plain) → IsTree new → IsReplaced old new n v m → StaysElsewhere old new n
@@ -183,7 +184,7 @@ module _ (old : List Node) (tree : IsTree old) where
       same_tree new after
       (same_both old g.ready new (same_kept g.ready g.prepared.keeps)
       (same_both g.ready g.spaced new
-      (same_spaced _ g.ready g.spaced g.prepared.tree g.spaces (after_out g.ready g.prepared.tree g.prepared.keeps c low.1 away n ready (is_bare_value v)))
+      (same_spaced _ g.ready g.spaced g.prepared.tree g.spaces (after_out g.ready g.prepared.tree c (g.prepared.keeps.parent c low.1) away n ready (is_bare_value v)))
       (same_spliced g.spaced new r.container _ _ _ r.spliced (subst Out (Some_same c r.container (sym spaced ∙ r.parent)) away))))
 
   -- a leaf that becomes another, where it stands
@@ -220,13 +221,10 @@ module _ (old : List Node) (tree : IsTree old) where
       same_tree new after
       (same_both old t.ready new (same_kept t.ready t.prepared.keeps)
       (same_both t.ready t.spaced new
-      (same_spaced _ t.ready t.spaced t.prepared.tree t.spaces (between_out t.ready t.prepared.tree t.prepared.keeps c low.1 away (slice_index (children_at t.ready c) (removed_from t.ready c n)) n ready))
+      (same_spaced _ t.ready t.spaced t.prepared.tree t.spaces (between_out t.ready t.prepared.tree c (t.prepared.keeps.parent c low.1) away (slice_index (children_at t.ready c) (removed_from t.ready c n)) n ready))
       (same_spliced t.spaced new c _ _ _ (t.removed c spaced) away)))
 
   -- an element that is taken out
-  keeps_itself : Keeps (length old) old old
-  keeps_itself = record { len = omega arith; content = λ m h. refl; parent = λ m h. refl; children = λ m h. refl }
-
   module _ (n c : ℕ) (said : parent_at old n ≡ Some c) (out : Out n) where
     low : (n < length old) × (c < length old)
     low = parent_there old tree n c said
@@ -235,7 +233,7 @@ module _ (old : List Node) (tree : IsTree old) where
     away = out_up n c said out
 
     between : (from k : ℕ) → parent_at old k ≡ Some c → All (OutIn old) (listed (due_between old from k))
-    between from k told = between_out old tree keeps_itself c low.1 away from k told
+    between from k told = between_out old tree c refl away from k told
 
     comma_child : (k : ℕ) → comma_in old c n ≡ Some k → parent_at old k ≡ Some c
     comma_child k is = by (holds_values (content_at old c)) is
@@ -322,24 +320,18 @@ module _ (old : List Node) (tree : IsTree old) where
 
 -- a value that comes last in a property
 module _ (old new : List Node) (tree : IsTree old) (after : IsTree new) (p : ℕ) (v : Plain) (m : ℕ) (l : LastValue old new p v m) where
-  pushed_same : (IsOver old 0 p → ⊥) → Same old tree old l.held
-  pushed_same out = record {
-    content = λ n over. l.pushed.contents n (there old tree n over);
-    children = λ n over. l.pushed.others n (there old tree n over) (λ e. out (subst (IsOver old 0) e over));
-  }
+  put_same : (IsOver old 0 p → ⊥) → Same old tree l.ready l.held
+  put_same out = record { content = λ n over. l.put.content n; children = λ n over. l.put.others n (λ e. out (subst (IsOver old 0) e over)) }
 
-  over_pushed : (n : ℕ) → n < length old → IsOver l.held 0 n → IsOver old 0 n
-  over_pushed _ below IsOver.itself = IsOver.itself
-  over_pushed n below (IsOver.above {c = c} said rest) =
-      let was : parent_at old n ≡ Some c = sym (l.pushed.parents n below) ∙ said in
-      IsOver.above was (over_pushed c (parent_there old tree n c was).1 rest)
-
-  last_out : p < length old → (IsOver old 0 p → ⊥) → IsOver l.held 0 (length old) → ⊥
-  last_out low out over = out_down l.held l.tree (length old) p l.pushed.parent (λ above. out (over_pushed p low above)) over
+  parent_same : p < length old → parent_at l.held p ≡ parent_at old p
+  parent_same low = l.put.parents p (λ e. omega (arith, l.fresh, low, e)) ∙ l.prepared.keeps.parent p low
 
   pub last_elsewhere : p < length old → StaysElsewhere old new p
   last_elsewhere low = λ out.
-      given_elsewhere l.held l.tree new (length old) m _ p after l.pushed.parent l.given (last_out low out) ∙ same_tree old tree l.held l.tree (pushed_same out)
+      same_tree old tree new after
+      (same_both old tree old l.ready new (same_kept old tree l.ready l.prepared.keeps)
+      (same_both old tree l.ready l.held new (put_same out)
+      (same_spaced old tree _ l.held new l.tree l.spaces (around_out old tree l.held l.tree p (parent_same low) out m l.put.parent (laid (layout_for old p p) v).content))))
 
 module _ (old new : List Node) (tree : IsTree old) (after : IsTree new) (p : ℕ) (low : p < length old) (is : content_at old p ≡ property) (v : Plain) where
   pub held_elsewhere : (o : Option ℕ) (m : ℕ) → value_at old p ≡ o → HeldBecomes old new p v o m → StaysElsewhere old new p

@@ -4,7 +4,7 @@ use Rattle.std.proofs.lemmas.Bool.{false≢true}
 use Rattle.jsonc_text.specs.Options.{Options}
 use Rattle.jsonc_text.specs.Plain.{Plain}
 use Rattle.jsonc_tree.specs.Building.{Keeps}
-use Rattle.jsonc_tree.specs.Changes.{Pushes}
+use Rattle.jsonc_tree.specs.Changes.{Appends}
 use Rattle.jsonc_tree.specs.Content as content
 use Rattle.jsonc_tree.specs.OrderedTree.{Top}
 use Rattle.jsonc_tree.specs.Tree.{Node, content_at, parent_at, IsTree}
@@ -33,7 +33,7 @@ use Rattle.jsonc_cst.specs.declared.cst.node.CstObjectProp.{CstObjectProp}
 use Rattle.jsonc_cst.specs.Nodes.{boolean_lit_node, object_prop_node, typed, typed_at, IsNodeOf}
 use Rattle.jsonc_typed.specs.Edits.{StillNodes}
 use Rattle.jsonc_typed.specs.Values.{BooleanIsWritten, HeldBecomes}
-use Rattle.jsonc_typed.proofs.Kept.{Stays, given_there, nodes_stay, of_some, replaced_there, stay_both, stay_given, stay_kept, stay_replaced, stay_spaced}
+use Rattle.jsonc_typed.proofs.Kept.{Stays, nodes_stay, of_some, replaced_there, stay_both, stay_kept, stay_replaced, stay_spaced}
 use Rattle.jsonc_typed.proofs.Leaves.{leaf_stays}
 use Rattle.jsonc_typed.proofs.Roots.{kept_is, kept_stays}
 
@@ -95,20 +95,23 @@ pub held_boolean : (ns : List Node) (x : CstBooleanLit) (n : ℕ) → n ≡ x.nu
 held_boolean ns x n e held =
     sym (boolean-typed (content_at ns n) n) ∙ ap is_boolean_node (ap (typed_at ns) e ∙ held.1)
 
--- where there is one more node, the last of a container
-stay_pushed : (old new : List Node) (c : ℕ) (what : content.Content) → Pushes old new c what → Stays old new
-stay_pushed old new c what p = record { len = omega (arith, p.len); content = λ n h. p.contents n h }
+-- where a node has come as the last child of a container
+stay_appended : (old new : List Node) (c m : ℕ) → Appends old new c m → Stays old new
+stay_appended old new c m a = record { len = omega (arith, a.len); content = λ n h. a.content n }
 
 -- where a value has come behind all that a property holds
 module _ (old new : List Node) (p : ℕ) (v : Plain) (m : ℕ) (l : LastValue old new p v m) where
+  spaces_stay : Stays l.held new
+  spaces_stay = stay_spaced _ l.held new l.spaces
+
   stay_last : Stays old new
-  stay_last = stay_both old l.held new (stay_pushed old l.held p content.null l.pushed) (stay_given l.held new (length old) m _ l.given)
+  stay_last = stay_both old l.ready new (stay_kept old l.ready l.prepared.keeps) (stay_both l.ready l.held new (stay_appended l.ready l.held p m l.put) spaces_stay)
 
   last_there : m < length new
-  last_there = given_there l.held new (length old) m _ l.given
+  last_there = omega (arith, l.can.node, l.put.len, spaces_stay.len)
 
   last_content : content_at new m ≡ (laid (layout_for old p p) v).content
-  last_content = l.given.place.replaces.spliced.content m ∙ ap (λ (t : Top). t.content) l.given.place.is
+  last_content = spaces_stay.content m (omega (arith, l.can.node, l.put.len)) ∙ l.put.content m ∙ ap (λ (t : Top). t.content) l.is
 
 -- a node that has taken the place of another is its container's child
 given_child : (old new : List Node) (n m : ℕ) (now : Top) (c : ℕ) → IsTree old → parent_at old n ≡ Some c → GivesWay old new n m now → parent_at new m ≡ Some c
@@ -121,7 +124,7 @@ given_child old new n m now c tree said g =
 -- and so the property's value is its child
 module _ (old new : List Node) (p : ℕ) (v : Plain) (tree : IsTree old) (is : content_at old p ≡ content.property) where
   last_child : (m : ℕ) → LastValue old new p v m → parent_at new m ≡ Some p
-  last_child m l = given_child l.held new (length old) m _ p l.tree l.pushed.parent l.given
+  last_child m l = parents_spaced _ l.held new l.tree l.spaces m p l.put.parent
 
   replaced_child : (n m : ℕ) → value_at old p ≡ Some n → IsReplaced old new n v m → parent_at new m ≡ Some p
   replaced_child n m e r = given_child old new n m _ p tree (held_child old tree p n is e) r.2

@@ -1,7 +1,8 @@
 -- What an edit makes of a document: in which node a child gives way to a value, and which nodes the document still has.
-use Rattle.std.specs.Prelude.{◌≡◌, ◌==◌, ℕ, Bool, true, false, List, Option, Some, None, if◌then◌else◌}
+use Rattle.std.specs.Prelude.{◌≡◌, ◌==◌, ℕ, Bool, true, false, List, length, Option, Some, None, if◌then◌else◌}
 use Rattle.jsonc_text.specs.Options.{Options}
 use Rattle.jsonc_text.specs.Plain.{Plain}
+use Rattle.jsonc_tree.specs.Building.{Keeps}
 use Rattle.jsonc_tree.specs.OrderedTree.{ordered_tree}
 use Rattle.jsonc_tree.specs.Tree.{Node, content_at, parent_at, place_at, IsOver}
 use Rattle.jsonc_nodes.specs.Kinds.{is_property}
@@ -18,6 +19,10 @@ use Rattle.jsonc_typed.specs.Marked.{IsMarkedFor}
 -- every node that is there is there still
 abbrev pub StillNodes : List Node → List Node → Type 0
 StillNodes old new = (node : CstNode) → IsNodeOf old node → IsNodeOf new node
+
+-- every node that was there is as it was: what it is, its parent and its children; so what stands apart from the document is printed as it was too
+abbrev pub NodesStay : List Node → List Node → Type 0
+NodesStay old new = Keeps (length old) old new
 
 -- the node is nobody's child, and so its place is 0
 abbrev pub IsNobodys : List Node → ℕ → Type 0
@@ -50,6 +55,10 @@ module _ {A : Type 0} (old new : CstRootNode A) where
   -- every node of the old document is one of the new document too
   abbrev pub StillHolds : Type 0
   StillHolds = StillNodes (nodes_of old) (nodes_of new)
+
+  -- every node of the old document is as it was, in the document and apart from it
+  abbrev pub StaysAsItWas : Type 0
+  StaysAsItWas = NodesStay (nodes_of old) (nodes_of new)
 
   -- no node is another than it was
   abbrev pub IsUntouched : Type 0

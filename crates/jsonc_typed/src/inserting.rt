@@ -14,6 +14,7 @@ ghost use Rattle.jsonc_cst.specs.Document.{nodes_of, tree_of, Holds};
 ghost use Rattle.jsonc_cst.specs.Nodes.{array_node, number_of, IsNodeOf};
 ghost use Rattle.jsonc_cst.specs.Tree.{NodesAreTree};
 ghost use Rattle.jsonc_typed.specs.Edits.{KeepsElsewhere, StaysElsewhere, StillHolds, StillNodes};
+ghost use Rattle.jsonc_typed.specs.Edits.{NodesStay, StaysAsItWas};
 ghost use Rattle.jsonc_typed.specs.Inserting.{element_count, ComesInAt, HasComeIn, IsItsElement, IsShutFor};
 ghost use Rattle.jsonc_typed.specs.Inserting.{IsPutAtItsPath, KeepsOthers, PutsAtItsPath, StandsAt};
 ghost use Rattle.jsonc_typed.specs.Removing.{IsKeptForMemory, WantsMemoryAlone};
@@ -57,6 +58,7 @@ fn insert_at<A: Allocator + Copy>(
     ensures memory { (o : Options) → IfErr result (WantsMemoryAlone o tree.old.nodes array) }
     ensures held { IfOk result (IsNodeOf tree.new.nodes) }
     ensures stays { StillNodes tree.old.nodes tree.new.nodes }
+    ensures kept { OnErr result (NodesStay tree.old.nodes tree.new.nodes) }
     ensures document { OnErr result (ordered_tree tree.new.nodes 0 ≡ ordered_tree tree.old.nodes 0) }
     ensures tree { IsTree tree.new.nodes }
 {
@@ -91,6 +93,7 @@ fn append_to<A: Allocator + Copy>(
     ensures memory { (o : Options) → IfErr result (WantsMemoryAlone o tree.old.nodes array) }
     ensures held { IfOk result (IsNodeOf tree.new.nodes) }
     ensures stays { StillNodes tree.old.nodes tree.new.nodes }
+    ensures kept { OnErr result (NodesStay tree.old.nodes tree.new.nodes) }
     ensures document { OnErr result (ordered_tree tree.new.nodes 0 ≡ ordered_tree tree.old.nodes 0) }
     ensures tree { IsTree tree.new.nodes }
 {
@@ -127,6 +130,7 @@ pub trait InsertElement: IsNode {
         ensures memory { (o : Options) → IfErr result (IsKeptForMemory doc.old o (Self.node_of self)) }
         ensures held { IfOk result (Holds doc.new) }
         ensures stays { StillHolds doc.old doc.new }
+        ensures kept { OnErr result (StaysAsItWas doc.old doc.new) }
         ensures document { OnErr result (tree_of doc.new ≡ tree_of doc.old) }
         ensures tree { NodesAreTree doc.new };
 
@@ -159,6 +163,7 @@ pub trait InsertElement: IsNode {
         ensures memory { (o : Options) → IfErr result (IsKeptForMemory doc.old o (Self.node_of self)) }
         ensures held { IfOk result (Holds doc.new) }
         ensures stays { StillHolds doc.old doc.new }
+        ensures kept { OnErr result (StaysAsItWas doc.old doc.new) }
         ensures document { OnErr result (tree_of doc.new ≡ tree_of doc.old) }
         ensures tree { NodesAreTree doc.new };
 }

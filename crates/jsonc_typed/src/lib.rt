@@ -2,7 +2,9 @@
 //!
 //! A call is a short body over an edit by the numbers of nodes, and says with the words of that edit
 //! what it makes of the document. Every node that the document held it holds after an edit too, also
-//! after a refusal (`specs/Edits.antt`): a node that has given way or left is nobody's child.
+//! after a refusal (`specs/Edits.antt`): a node that has given way or left is nobody's child. A refusal
+//! leaves each as it was, its parent and its children too, in the document and apart from it; of trailing
+//! commas some may have been set.
 //!
 //! Of a sound document each call is one step (`specs/Steps.antt`): if its node stands in the document,
 //! whatever text this shows, the edit that the call names, at the node's path, leads from that text to the

@@ -10,6 +10,7 @@ ghost use Rattle.jsonc_cst.specs.Document.{nodes_of, tree_of, Holds};
 ghost use Rattle.jsonc_cst.specs.Nodes.{number_of};
 ghost use Rattle.jsonc_cst.specs.Tree.{NodesAreTree};
 ghost use Rattle.jsonc_typed.specs.Edits.{KeepsElsewhere, StaysElsewhere, StillHolds, StillNodes};
+ghost use Rattle.jsonc_typed.specs.Edits.{NodesStay, StaysAsItWas};
 ghost use Rattle.jsonc_typed.specs.Lines.{HasSpreadOut, IsOnLines, LinesWritten, SpreadsAtItsPath, StaysUnspread};
 ghost use Rattle.jsonc_typed.specs.Removing.{IsKeptForMemory, WantsMemoryAlone};
 ghost use Rattle.jsonc_typed.specs.Steps.{IsSpreading};
@@ -30,6 +31,7 @@ fn spread<A: Allocator + Copy>(alloc: A, tree: &mut Tree<A>, number: usize) -> R
     ensures told { IfErr result (IsUnspread tree.old.nodes number) }
     ensures memory { (o : Options) → IfErr result (WantsMemoryAlone o tree.old.nodes number) }
     ensures stays { StillNodes tree.old.nodes tree.new.nodes }
+    ensures kept { OnErr result (NodesStay tree.old.nodes tree.new.nodes) }
     ensures document { OnErr result (ordered_tree tree.new.nodes 0 ≡ ordered_tree tree.old.nodes 0) }
     ensures tree { IsTree tree.new.nodes }
 {
@@ -60,6 +62,7 @@ pub trait EnsureMultiline: IsNode {
         ensures told { IfErr result (StaysUnspread doc.old (Self.node_of self)) }
         ensures memory { (o : Options) → IfErr result (IsKeptForMemory doc.old o (Self.node_of self)) }
         ensures stays { StillHolds doc.old doc.new }
+        ensures kept { OnErr result (StaysAsItWas doc.old doc.new) }
         ensures document { OnErr result (tree_of doc.new ≡ tree_of doc.old) }
         ensures tree { NodesAreTree doc.new };
 }

@@ -12,7 +12,7 @@ ghost use Rattle.jsonc_cst.specs.Document.{nodes_of, parent_of, tree_of, Holds};
 ghost use Rattle.jsonc_cst.specs.Nodes.{number_of, typed_at};
 ghost use Rattle.jsonc_cst.specs.Tree.{NodesAreTree};
 ghost use Rattle.jsonc_typed.specs.Edits.{HasGone, IsNobodys, IsUntouched, KeepsElsewhere, StaysElsewhere};
-ghost use Rattle.jsonc_typed.specs.Edits.{StillHolds, StillNodes};
+ghost use Rattle.jsonc_typed.specs.Edits.{NodesStay, StaysAsItWas, StillHolds, StillNodes};
 ghost use Rattle.jsonc_typed.specs.declared.removing.Removal.{Removal};
 ghost use Rattle.jsonc_typed.specs.Removing.{removal_of, IsCleared, IsKeptBy, IsLooseFor, IsTakenBy, IsWrittenBy, LeavesAlone};
 ghost use Rattle.jsonc_typed.specs.Removing.{HasLeft, HasLeftAlone, IsKeptForMemory, IsKeptIn, IsLoose};
@@ -70,6 +70,7 @@ fn remove_element<A: Allocator + Copy>(
     ensures stays { StillNodes tree.old.nodes tree.new.nodes }
     ensures told { IfErr result (IsKeptFor tree.old.nodes number) }
     ensures memory { (o : Options) → IfErr result (WantsMemoryAlone o tree.old.nodes number) }
+    ensures kept { OnErr result (NodesStay tree.old.nodes tree.new.nodes) }
     ensures document { OnErr result (ordered_tree tree.new.nodes 0 ≡ ordered_tree tree.old.nodes 0) }
     ensures tree { IsTree tree.new.nodes }
 {
@@ -98,6 +99,7 @@ fn remove_comment<A: Allocator + Copy>(
     ensures told { IfErr result (λ e. e ≡ EditError.OutOfMemory) }
     ensures memory { (o : Options) → IfErr result (WantsMemoryAlone o tree.old.nodes number) }
     ensures wanted { OnErr result (WantsSpace tree.old.nodes number) }
+    ensures kept { OnErr result (NodesStay tree.old.nodes tree.new.nodes) }
     ensures document { OnErr result (ordered_tree tree.new.nodes 0 ≡ ordered_tree tree.old.nodes 0) }
     ensures tree { IsTree tree.new.nodes }
 {
@@ -167,6 +169,7 @@ fn remove_by<A: Allocator + Copy>(
     ensures stays { StillNodes tree.old.nodes tree.new.nodes }
     ensures told { IfErr result (IsKeptBy removal tree.old.nodes number) }
     ensures memory { (o : Options) → IfErr result (WantsMemoryAlone o tree.old.nodes number) }
+    ensures kept { OnErr result (NodesStay tree.old.nodes tree.new.nodes) }
     ensures document { OnErr result (ordered_tree tree.new.nodes 0 ≡ ordered_tree tree.old.nodes 0) }
     ensures tree { IsTree tree.new.nodes }
 {
@@ -218,6 +221,7 @@ pub trait Remove: IsNode {
         ensures stays { StillHolds doc.old doc.new }
         ensures told { IfErr result (IsKeptIn doc.old (Self.node_of self)) }
         ensures memory { (o : Options) → IfErr result (IsKeptForMemory doc.old o (Self.node_of self)) }
+        ensures kept { OnErr result (StaysAsItWas doc.old doc.new) }
         ensures document { OnErr result (tree_of doc.new ≡ tree_of doc.old) }
         ensures tree { NodesAreTree doc.new }
     {

@@ -11,7 +11,8 @@ ghost use Rattle.jsonc_edit.specs.Written.{Writes};
 ghost use Rattle.jsonc_cst.specs.Document.{nodes_of, parent_of, tree_of, Holds};
 ghost use Rattle.jsonc_typed.specs.Edits.{is_found, is_name_in, IsReplacedAs};
 ghost use Rattle.jsonc_typed.specs.Edits.{HasGivenWay, HasGone, HasMarked, HasStayedAround, HasWritten, IsUntouched};
-ghost use Rattle.jsonc_typed.specs.Edits.{IsNobodys, KeepsElsewhere, StaysElsewhere, StillHolds, StillNodes};
+ghost use Rattle.jsonc_typed.specs.Edits.{IsNobodys, KeepsElsewhere, NodesStay, StaysAsItWas, StaysElsewhere};
+ghost use Rattle.jsonc_typed.specs.Edits.{StillHolds, StillNodes};
 ghost use Rattle.jsonc_typed.specs.Around.{StaysAroundValue};
 ghost use Rattle.jsonc_typed.specs.Marked.{IsMarkedFor};
 ghost use Rattle.jsonc_typed.specs.Steps.{IsReplacing, IsValueIn};
@@ -77,6 +78,7 @@ fn replace_value<A: Allocator + Copy>(
     ensures held { IfOk result (λ o. IfSome o (IsNodeOf tree.new.nodes)) }
     ensures stays { StillNodes tree.old.nodes tree.new.nodes }
     ensures memory { IfErr result (λ e. e ≡ EditError.OutOfMemory) }
+    ensures kept { OnErr result (NodesStay tree.old.nodes tree.new.nodes) }
     ensures document { OnErr result (ordered_tree tree.new.nodes 0 ≡ ordered_tree tree.old.nodes 0) }
     ensures tree { IsTree tree.new.nodes }
 {
@@ -104,6 +106,7 @@ fn replace_name<A: Allocator + Copy>(
     ensures held { IfOk result (λ o. IfSome o (IsNodeOf tree.new.nodes)) }
     ensures stays { StillNodes tree.old.nodes tree.new.nodes }
     ensures memory { IfErr result (λ e. e ≡ EditError.OutOfMemory) }
+    ensures kept { OnErr result (NodesStay tree.old.nodes tree.new.nodes) }
     ensures document { OnErr result (ordered_tree tree.new.nodes 0 ≡ ordered_tree tree.old.nodes 0) }
     ensures tree { IsTree tree.new.nodes }
 {
@@ -143,6 +146,7 @@ fn replace_node<A: Allocator + Copy>(
     ensures stays { StillNodes tree.old.nodes tree.new.nodes }
     ensures memory { IfErr result (λ e. e ≡ EditError.OutOfMemory) }
     ensures child { OnErr result (¬ (parent_at tree.old.nodes number ≡ None)) }
+    ensures kept { OnErr result (NodesStay tree.old.nodes tree.new.nodes) }
     ensures document { OnErr result (ordered_tree tree.new.nodes 0 ≡ ordered_tree tree.old.nodes 0) }
     ensures tree { IsTree tree.new.nodes }
 {
@@ -194,6 +198,7 @@ pub trait ReplaceWith: IsNode {
         ensures stays { StillHolds doc.old doc.new }
         ensures memory { IfErr result (λ e. e ≡ EditError.OutOfMemory) }
         ensures child { OnErr result (¬ (parent_of doc.old (Self.node_of self) ≡ None)) }
+        ensures kept { OnErr result (StaysAsItWas doc.old doc.new) }
         ensures document { OnErr result (tree_of doc.new ≡ tree_of doc.old) }
         ensures tree { NodesAreTree doc.new }
     {

@@ -17,7 +17,7 @@ ghost use Rattle.jsonc_cst.specs.Readings.{value_under};
 ghost use Rattle.jsonc_cst.specs.Tree.{NodesAreTree};
 ghost use Rattle.jsonc_typed.specs.Around.{IsLaidProperty};
 ghost use Rattle.jsonc_typed.specs.Edits.{HasGone, IsNobodys, IsUntouched, KeepsElsewhere, StaysElsewhere};
-ghost use Rattle.jsonc_typed.specs.Edits.{StillHolds, StillNodes};
+ghost use Rattle.jsonc_typed.specs.Edits.{NodesStay, StaysAsItWas, StillHolds, StillNodes};
 ghost use Rattle.jsonc_typed.specs.Marked.{MarksStay};
 ghost use Rattle.jsonc_typed.specs.Removing.{IsCleared};
 ghost use Rattle.jsonc_typed.specs.Setting.{EmptyArrayAround, EmptyArrayMarked, EmptyArrayWritten};
@@ -77,6 +77,7 @@ fn set_root<A: Allocator + Copy>(
     ensures held { IfOk result (IsNodeOf tree.new.nodes) }
     ensures stays { StillNodes tree.old.nodes tree.new.nodes }
     ensures memory { IfErr result (λ e. e ≡ EditError.OutOfMemory) }
+    ensures kept { OnErr result (NodesStay tree.old.nodes tree.new.nodes) }
     ensures document { OnErr result (ordered_tree tree.new.nodes 0 ≡ ordered_tree tree.old.nodes 0) }
     ensures tree { IsTree tree.new.nodes }
 {
@@ -100,6 +101,7 @@ fn object_or_create<A: Allocator + Copy>(
     ensures stays { StillNodes tree.old.nodes tree.new.nodes }
     ensures memory { IfErr result (λ e. e ≡ EditError.OutOfMemory) }
     ensures wanted { OnErr result (value_at tree.old.nodes 0 ≡ None) }
+    ensures kept { OnErr result (NodesStay tree.old.nodes tree.new.nodes) }
     ensures document { OnErr result (ordered_tree tree.new.nodes 0 ≡ ordered_tree tree.old.nodes 0) }
     ensures tree { IsTree tree.new.nodes }
 {
@@ -125,6 +127,7 @@ fn array_or_create<A: Allocator + Copy>(
     ensures stays { StillNodes tree.old.nodes tree.new.nodes }
     ensures memory { IfErr result (λ e. e ≡ EditError.OutOfMemory) }
     ensures wanted { OnErr result (value_at tree.old.nodes 0 ≡ None) }
+    ensures kept { OnErr result (NodesStay tree.old.nodes tree.new.nodes) }
     ensures document { OnErr result (ordered_tree tree.new.nodes 0 ≡ ordered_tree tree.old.nodes 0) }
     ensures tree { IsTree tree.new.nodes }
 {
@@ -147,6 +150,7 @@ fn object_or_set<A: Allocator + Copy>(alloc: A, tree: &mut Tree<A>) -> Result<Cs
     ensures stays { StillNodes tree.old.nodes tree.new.nodes }
     ensures memory { IfErr result (λ e. e ≡ EditError.OutOfMemory) }
     ensures wanted { OnErr result (LacksKind is_object tree.old.nodes (value_at tree.old.nodes 0)) }
+    ensures kept { OnErr result (NodesStay tree.old.nodes tree.new.nodes) }
     ensures document { OnErr result (ordered_tree tree.new.nodes 0 ≡ ordered_tree tree.old.nodes 0) }
     ensures tree { IsTree tree.new.nodes }
 {
@@ -167,6 +171,7 @@ fn array_or_set<A: Allocator + Copy>(alloc: A, tree: &mut Tree<A>) -> Result<Cst
     ensures stays { StillNodes tree.old.nodes tree.new.nodes }
     ensures memory { IfErr result (λ e. e ≡ EditError.OutOfMemory) }
     ensures wanted { OnErr result (LacksKind is_array tree.old.nodes (value_at tree.old.nodes 0)) }
+    ensures kept { OnErr result (NodesStay tree.old.nodes tree.new.nodes) }
     ensures document { OnErr result (ordered_tree tree.new.nodes 0 ≡ ordered_tree tree.old.nodes 0) }
     ensures tree { IsTree tree.new.nodes }
 {
@@ -202,6 +207,7 @@ fn replace_property<A: Allocator + Copy>(
     ensures stays { StillNodes tree.old.nodes tree.new.nodes }
     ensures memory { IfErr result (λ e. e ≡ EditError.OutOfMemory) }
     ensures child { OnErr result (¬ (parent_at tree.old.nodes number ≡ None)) }
+    ensures kept { OnErr result (NodesStay tree.old.nodes tree.new.nodes) }
     ensures document { OnErr result (ordered_tree tree.new.nodes 0 ≡ ordered_tree tree.old.nodes 0) }
     ensures tree { IsTree tree.new.nodes }
 {
@@ -269,6 +275,7 @@ impl<A: Allocator + Copy> SetRoot for CstRootNode<A> {
         ensures held { IfOk result (Holds self.new) }
         ensures stays { StillHolds self.old self.new }
         ensures memory { IfErr result (λ e. e ≡ EditError.OutOfMemory) }
+        ensures kept { OnErr result (StaysAsItWas self.old self.new) }
         ensures document { OnErr result (tree_of self.new ≡ tree_of self.old) }
         ensures tree { NodesAreTree self.new }
     {
@@ -299,6 +306,7 @@ impl<A: Allocator + Copy> SetRoot for CstRootNode<A> {
         ensures stays { StillHolds self.old self.new }
         ensures memory { IfErr result (λ e. e ≡ EditError.OutOfMemory) }
         ensures wanted { OnErr result (value_at (nodes_of self.old) 0 ≡ None) }
+        ensures kept { OnErr result (StaysAsItWas self.old self.new) }
         ensures document { OnErr result (tree_of self.new ≡ tree_of self.old) }
         ensures tree { NodesAreTree self.new }
     {
@@ -318,6 +326,7 @@ impl<A: Allocator + Copy> SetRoot for CstRootNode<A> {
         ensures stays { StillHolds self.old self.new }
         ensures memory { IfErr result (λ e. e ≡ EditError.OutOfMemory) }
         ensures wanted { OnErr result (LacksKind is_object (nodes_of self.old) (value_at (nodes_of self.old) 0)) }
+        ensures kept { OnErr result (StaysAsItWas self.old self.new) }
         ensures document { OnErr result (tree_of self.new ≡ tree_of self.old) }
         ensures tree { NodesAreTree self.new }
     {
@@ -337,6 +346,7 @@ impl<A: Allocator + Copy> SetRoot for CstRootNode<A> {
         ensures stays { StillHolds self.old self.new }
         ensures memory { IfErr result (λ e. e ≡ EditError.OutOfMemory) }
         ensures wanted { OnErr result (value_at (nodes_of self.old) 0 ≡ None) }
+        ensures kept { OnErr result (StaysAsItWas self.old self.new) }
         ensures document { OnErr result (tree_of self.new ≡ tree_of self.old) }
         ensures tree { NodesAreTree self.new }
     {
@@ -356,6 +366,7 @@ impl<A: Allocator + Copy> SetRoot for CstRootNode<A> {
         ensures stays { StillHolds self.old self.new }
         ensures memory { IfErr result (λ e. e ≡ EditError.OutOfMemory) }
         ensures wanted { OnErr result (LacksKind is_array (nodes_of self.old) (value_at (nodes_of self.old) 0)) }
+        ensures kept { OnErr result (StaysAsItWas self.old self.new) }
         ensures document { OnErr result (tree_of self.new ≡ tree_of self.old) }
         ensures tree { NodesAreTree self.new }
     {
@@ -399,6 +410,7 @@ pub trait ReplaceProperty: IsNode {
         ensures stays { StillHolds doc.old doc.new }
         ensures memory { IfErr result (λ e. e ≡ EditError.OutOfMemory) }
         ensures child { OnErr result (¬ (parent_of doc.old (Self.node_of self) ≡ None)) }
+        ensures kept { OnErr result (StaysAsItWas doc.old doc.new) }
         ensures document { OnErr result (tree_of doc.new ≡ tree_of doc.old) }
         ensures tree { NodesAreTree doc.new };
 }

@@ -16,6 +16,7 @@ ghost use Rattle.jsonc_cst.specs.Nodes.{array_node, boolean_lit_node, number_of,
 ghost use Rattle.jsonc_cst.specs.Nodes.{object_prop_node, IsNodeOf};
 ghost use Rattle.jsonc_cst.specs.Tree.{NodesAreTree};
 ghost use Rattle.jsonc_typed.specs.Edits.{KeepsElsewhere, StaysElsewhere, StillHolds, StillNodes};
+ghost use Rattle.jsonc_typed.specs.Edits.{NodesStay, StaysAsItWas};
 ghost use Rattle.jsonc_typed.specs.Removing.{IsKeptForMemory, WantsMemoryAlone};
 ghost use Rattle.jsonc_typed.specs.Steps.{IsEnsuringValue, IsSettingBoolean, IsSettingValue};
 ghost use Rattle.jsonc_typed.specs.Values.{BooleanIsWritten, FindsOrSetsHeldArray, FindsOrSetsHeldObject};
@@ -74,6 +75,7 @@ fn set_property_value<A: Allocator + Copy>(
     ensures held { IfOk result (IsNodeOf tree.new.nodes) }
     ensures stays { StillNodes tree.old.nodes tree.new.nodes }
     ensures memory { IfErr result (λ e. e ≡ EditError.OutOfMemory) }
+    ensures kept { OnErr result (NodesStay tree.old.nodes tree.new.nodes) }
     ensures document { OnErr result (ordered_tree tree.new.nodes 0 ≡ ordered_tree tree.old.nodes 0) }
     ensures tree { IsTree tree.new.nodes }
 {
@@ -102,6 +104,7 @@ fn property_object_or_set<A: Allocator + Copy>(
     ensures told { IfErr result (IsUnset is_object tree.old.nodes property) }
     ensures missing { IfErr result (λ e. lacks_name_at tree.old.nodes property ≡ true → e ≡ EditError.MissingName) }
     ensures memory { (o : Options) → IfErr result (WantsMemoryAlone o tree.old.nodes property) }
+    ensures kept { OnErr result (NodesStay tree.old.nodes tree.new.nodes) }
     ensures document { OnErr result (ordered_tree tree.new.nodes 0 ≡ ordered_tree tree.old.nodes 0) }
     ensures tree { IsTree tree.new.nodes }
 {
@@ -130,6 +133,7 @@ fn property_array_or_set<A: Allocator + Copy>(
     ensures told { IfErr result (IsUnset is_array tree.old.nodes property) }
     ensures missing { IfErr result (λ e. lacks_name_at tree.old.nodes property ≡ true → e ≡ EditError.MissingName) }
     ensures memory { (o : Options) → IfErr result (WantsMemoryAlone o tree.old.nodes property) }
+    ensures kept { OnErr result (NodesStay tree.old.nodes tree.new.nodes) }
     ensures document { OnErr result (ordered_tree tree.new.nodes 0 ≡ ordered_tree tree.old.nodes 0) }
     ensures tree { IsTree tree.new.nodes }
 {
@@ -154,6 +158,7 @@ fn set_boolean<A: Allocator + Copy>(
     ensures stays { StillNodes tree.old.nodes tree.new.nodes }
     ensures memory { IfErr result (λ e. e ≡ EditError.OutOfMemory) }
     ensures wanted { OnErr result (WantsSpaceFor tree.old.nodes boolean.number value) }
+    ensures kept { OnErr result (NodesStay tree.old.nodes tree.new.nodes) }
     ensures document { OnErr result (ordered_tree tree.new.nodes 0 ≡ ordered_tree tree.old.nodes 0) }
     ensures tree { IsTree tree.new.nodes }
 {
@@ -190,6 +195,7 @@ pub trait SetProperty: IsNode {
         ensures held { IfOk result (Holds doc.new) }
         ensures stays { StillHolds doc.old doc.new }
         ensures memory { IfErr result (λ e. e ≡ EditError.OutOfMemory) }
+        ensures kept { OnErr result (StaysAsItWas doc.old doc.new) }
         ensures document { OnErr result (tree_of doc.new ≡ tree_of doc.old) }
         ensures tree { NodesAreTree doc.new };
 
@@ -218,6 +224,7 @@ pub trait SetProperty: IsNode {
         ensures missing { IfErr result (λ e. lacks_name_at (nodes_of doc.old) (number_of (Self.node_of self)) ≡ true
             → e ≡ EditError.MissingName) }
         ensures memory { (o : Options) → IfErr result (IsKeptForMemory doc.old o (Self.node_of self)) }
+        ensures kept { OnErr result (StaysAsItWas doc.old doc.new) }
         ensures document { OnErr result (tree_of doc.new ≡ tree_of doc.old) }
         ensures tree { NodesAreTree doc.new };
 
@@ -246,6 +253,7 @@ pub trait SetProperty: IsNode {
         ensures missing { IfErr result (λ e. lacks_name_at (nodes_of doc.old) (number_of (Self.node_of self)) ≡ true
             → e ≡ EditError.MissingName) }
         ensures memory { (o : Options) → IfErr result (IsKeptForMemory doc.old o (Self.node_of self)) }
+        ensures kept { OnErr result (StaysAsItWas doc.old doc.new) }
         ensures document { OnErr result (tree_of doc.new ≡ tree_of doc.old) }
         ensures tree { NodesAreTree doc.new };
 }
@@ -306,6 +314,7 @@ pub trait SetBoolean: IsNode {
         ensures stays { StillHolds doc.old doc.new }
         ensures memory { IfErr result (λ e. e ≡ EditError.OutOfMemory) }
         ensures wanted { OnErr result (WantsSpaceFor (nodes_of doc.old) (number_of (Self.node_of self)) value) }
+        ensures kept { OnErr result (StaysAsItWas doc.old doc.new) }
         ensures document { OnErr result (tree_of doc.new ≡ tree_of doc.old) }
         ensures tree { NodesAreTree doc.new };
 }
