@@ -4,10 +4,10 @@ use Rattle.jsonc_text.specs.Options.{Options}
 use Rattle.jsonc_tree.specs.Tree.{Node, IsTree}
 use Rattle.jsonc_edit.specs.declared.modes.TrailingCommaMode.{TrailingCommaMode}
 use Rattle.jsonc_commas.specs.InTurn.{AreSetInTurn}
-use Rattle.jsonc_commas.proofs.Documents.{keeps_document, keeps_in_part, sets_all}
+use Rattle.jsonc_commas.proofs.Documents.{keeps_document, keeps_in_part, sets_all, sets_once}
 use Rattle.jsonc_commas.proofs.InOrder.{KeepsContainers}
 use Rattle.jsonc_commas.proofs.Kept.{set_keeps}
-use Rattle.jsonc_typed.specs.Commas.{CommasSet, CommasSetInPart, CommasStand, CommasWritten}
+use Rattle.jsonc_typed.specs.Commas.{CommasSet, CommasSetInPart, CommasStand, CommasStay, CommasWritten}
 use Rattle.jsonc_typed.proofs.Kept.{Stays, stay_both, stay_same}
 
 longer : (m n : ℕ) → (n ≡ m) ⊎ (n ≡ suc m) → m ≤ n
@@ -30,3 +30,6 @@ module _ (mode : TrailingCommaMode) (old new : List Node) (n : ℕ) (tree : IsTr
 
   pub commas_stand : (o : Options) → CommasSet old new mode n → CommasStand old new mode o n
   commas_stand o set = λ sound over. sets_all mode o old n (record { tree = tree; over = over; sound = sound }) new set
+
+  pub commas_stay : (o : Options) → CommasSet old new mode n → CommasStay old new mode o n
+  commas_stay o set = λ sound over later again. sets_once mode o old new n later (record { tree = tree; over = over; sound = sound }) set again

@@ -1,7 +1,6 @@
 use Rattle.jsonc_commas.specs.InTurn.{holders}
-use Rattle.jsonc_commas.proofs.Apart.{leaves_others, leaves_others_in_part}
 use Rattle.jsonc_typed.proofs.Kept.{nodes_stay}
-use Rattle.jsonc_typed.proofs.Trailing.{commas_stand, commas_written, part_written, stay_in_turn}
+use Rattle.jsonc_typed.proofs.Trailing.{commas_stand, commas_stay, commas_written, part_written, stay_in_turn}
 use Rattle.jsonc_typed.proofs.Steps.{commas_step, some_commas_step}
 use Rattle.jsonc_typed.proofs.commas.set_commas.Goals as goal
 
@@ -17,9 +16,9 @@ pub returns-in-Ok-clause-stand : goal.returns-in-Ok-clause-stand
 returns-in-Ok-clause-stand g c = λ o.
     commas_stand c.args.mode c.args.tree.now.nodes c.set_trailing_commas.new.tree.nodes c.args.number c.len.ensures.tree o c.in-Ok.ensures.set
 
-pub returns-in-Ok-clause-elsewhere : goal.returns-in-Ok-clause-elsewhere
-returns-in-Ok-clause-elsewhere g c = λ apart.
-    leaves_others c.args.mode c.args.tree.now.nodes c.args.number c.set_trailing_commas.new.tree.nodes c.len.ensures.tree c.requires apart c.in-Ok.ensures.set
+pub returns-in-Ok-clause-once : goal.returns-in-Ok-clause-once
+returns-in-Ok-clause-once g c = λ o.
+    commas_stay c.args.mode c.args.tree.now.nodes c.set_trailing_commas.new.tree.nodes c.args.number c.len.ensures.tree o c.in-Ok.ensures.set
 
 pub returns-in-Ok-clause-stays : goal.returns-in-Ok-clause-stays
 returns-in-Ok-clause-stays g c =
@@ -40,7 +39,3 @@ returns-in-Ok-clause-step g c =
 pub returns-in-Err-clause-begun : goal.returns-in-Err-clause-begun
 returns-in-Err-clause-begun g c =
     some_commas_step c.args.tree.now.nodes c.set_trailing_commas.new.tree.nodes c.len.ensures.tree c.args.mode c.args.number c.in-Err.ensures.part
-
-pub returns-in-Err-clause-elsewhere : goal.returns-in-Err-clause-elsewhere
-returns-in-Err-clause-elsewhere g c = λ apart.
-    leaves_others_in_part c.args.mode c.args.tree.now.nodes c.args.number c.set_trailing_commas.new.tree.nodes c.len.ensures.tree c.requires apart c.in-Err.ensures.part

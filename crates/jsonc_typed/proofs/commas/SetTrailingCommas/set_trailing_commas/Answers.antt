@@ -1,6 +1,7 @@
 use Rattle.std.proofs.Common.{◌≡◌, ℕ, OnErr, OnOk, ap, subst, ◌∙◌}
 use Rattle.jsonc_cst.specs.Nodes.{number_of, typed_at}
-use Rattle.jsonc_typed.specs.Commas.{CommasSet, CommasSetInPart, CommasStand, CommasWritten}
+use Rattle.jsonc_commas.specs.InTurn.{CommaIsDue}
+use Rattle.jsonc_typed.specs.Commas.{CommasSaid, CommasSet, CommasSetInPart, CommasStand, CommasStay, CommasWritten}
 use Rattle.jsonc_typed.specs.Edits.{StaysElsewhere}
 use Rattle.jsonc_typed.specs.Steps.{IsHolder, IsSettingCommas, IsSettingSomeCommas}
 use Rattle.jsonc_typed.proofs.Steps.{commas_on, some_commas_on}
@@ -12,6 +13,19 @@ returns-clause-set g c =
     let new = c.set_commas-set.new.tree.nodes in
     let same : c.number.result ≡ number_of (g.Self.IsNode.node_of c.args.self) = c.number.ensures ∙ ap number_of c.node.ensures in
     subst (λ (n : ℕ). OnOk c.set_commas-set.result (CommasSet old new c.args.mode n)) same c.set_commas-set.ensures.set
+
+pub returns-clause-said : goal.returns-clause-said
+returns-clause-said g c =
+    let old = c.args.doc.now.tree.nodes in
+    let new = c.set_commas-set.new.tree.nodes in
+    let same : c.number.result ≡ number_of (g.Self.IsNode.node_of c.args.self) = c.number.ensures ∙ ap number_of c.node.ensures in
+    subst (λ (n : ℕ). OnOk c.set_commas-set.result (CommasSaid old new c.args.mode n)) same c.set_commas-set.ensures.said
+
+pub returns-clause-due : goal.returns-clause-due
+returns-clause-due g c =
+    let old = c.args.doc.now.tree.nodes in
+    let same : c.number.result ≡ number_of (g.Self.IsNode.node_of c.args.self) = c.number.ensures ∙ ap number_of c.node.ensures in
+    subst (λ (n : ℕ). OnErr c.set_commas-set.result (CommaIsDue old n)) same c.set_commas-set.ensures.due
 
 pub returns-clause-part : goal.returns-clause-part
 returns-clause-part g c =
@@ -33,6 +47,13 @@ returns-clause-stand g c = λ o.
     let new = c.set_commas-set.new.tree.nodes in
     let same : c.number.result ≡ number_of (g.Self.IsNode.node_of c.args.self) = c.number.ensures ∙ ap number_of c.node.ensures in
     subst (λ (n : ℕ). OnOk c.set_commas-set.result (CommasStand old new c.args.mode o n)) same (c.set_commas-set.ensures.stand o)
+
+pub returns-clause-once : goal.returns-clause-once
+returns-clause-once g c = λ o.
+    let old = c.args.doc.now.tree.nodes in
+    let new = c.set_commas-set.new.tree.nodes in
+    let same : c.number.result ≡ number_of (g.Self.IsNode.node_of c.args.self) = c.number.ensures ∙ ap number_of c.node.ensures in
+    subst (λ (n : ℕ). OnOk c.set_commas-set.result (CommasStay old new c.args.mode o n)) same (c.set_commas-set.ensures.once o)
 
 pub returns-clause-elsewhere : goal.returns-clause-elsewhere
 returns-clause-elsewhere g c =
