@@ -17,10 +17,11 @@ use Rattle.jsonc_tree.specs.Tree.{Node, content_at, IsTree}
 use Rattle.jsonc_nodes.specs.Kinds.{is_beside, is_beside_at, is_element, is_element_at, is_newline, is_trivia, is_whitespace}
 use Rattle.jsonc_nodes.specs.Siblings.{is_no_newline_at}
 use Rattle.jsonc_lines.specs.Breadth.{last_element}
+use Rattle.jsonc_lines.specs.Kinds.{is_comma}
 use Rattle.jsonc_laws.specs.Alone.{StretchAlone}
 use Rattle.jsonc_laws.specs.Leaving as leaving
 use Rattle.jsonc_laws.specs.Leaving.{element_count}
-use Rattle.jsonc_laws.specs.Rows.{RowKind, opening, closing, Last, nothing_yet, a_comma, last_after, last_behind}
+use Rattle.jsonc_laws.specs.Rows.{RowKind, of_values, of_properties, opening, closing, Last, nothing_yet, a_comma, last_after, last_behind}
 use Rattle.jsonc_laws.proofs.SeamStretches.{last_is, parted_stretch}
 use Rattle.jsonc_edit.specs.Changes.{row_below}
 use Rattle.jsonc_insert.specs.Planned.{behind_comma, begins_with_comma, comma_comes, comma_wanted, element_before, elements, has_brackets, has_comma, is_comma_at, is_other, line, line_if, parting, past_comments, place_in, plan_alone, plan_behind, plan_by, plan_first, planned, trivia}
@@ -75,6 +76,18 @@ module _ (ns : List Node) where
   beside_no_comma (n ∷ xs) ys all =
       comma_past (content_at ns n) (row_below ns n) (standing ns (xs ++ ys)) (beside_trivia (content_at ns n) (All-head (λ m. is_beside_at ns m ≡ true) n xs all))
       ∙ beside_no_comma xs ys (All-tail (λ m. is_beside_at ns m ≡ true) n xs all)
+
+  -- a node behind a row that is no comma brings none
+  comma_before : (xs : List ℕ) (y : ℕ) → is_comma_at ns y ≡ false → leaving.comma_comes (standing ns (xs ++ y ∷ [])) ≡ leaving.comma_comes (standing ns xs)
+  comma_before [] y off = elim (cases_Bool (is_trivia (content_at ns y))) [
+    | inl h ↦ ap (λ v. cond v false (is_comma_at ns y)) h
+    | inr h ↦ ap (λ v. cond v false (is_comma_at ns y)) h ∙ off
+  ]
+  comma_before (n ∷ xs) y off = ap (λ v. cond (is_trivia (content_at ns n)) v (is_comma_at ns n)) (comma_before xs y off)
+
+closing_no_comma : (kind : RowKind) → is_comma (token (closing kind)) ≡ false
+closing_no_comma of_values = refl
+closing_no_comma of_properties = refl
 
 module _ (o : Options) (kind : RowKind) (ns : List Node) (tree : IsTree ns) (x y : ℕ) (inner : List ℕ) (opens : content_at ns x ≡ token (opening kind)) (closes : content_at ns y ≡ token (closing kind)) (r : IsRow o kind (standing ns inner)) where
   abbrev row : List ℕ
@@ -303,10 +316,11 @@ module _ (o : Options) (kind : RowKind) (ns : List Node) (tree : IsTree ns) (x y
           ∙ ap (λ m. take (b - 2) inner ++ m ∷ slice_range inner (b - 1) (p - 1)) node
 
       abbrev after : List ℕ
-      after = slice_range row e (length row - 1)
+      after = drop e row
 
-      after_long : length after ≡ length row - 1 - e
-      after_long = length-between row e (length row - 1) (omega arith)
+      -- the last bracket is no comma
+      last_no_comma : is_comma_at ns y ≡ false
+      last_no_comma = ap is_comma closes ∙ closing_no_comma kind
 
       -- the comma that stands behind it
       comma_there : has_comma ns row e ≡ true → (e + trivia ns after < length row - 1) × (is_comma_at ns (slice_index row (e + trivia ns after)) ≡ true)
@@ -316,10 +330,15 @@ module _ (o : Options) (kind : RowKind) (ns : List Node) (tree : IsTree ns) (x y
           by [] f k = absurd (false≢true k)
           by (m ∷ ys) f k =
               let t : ℕ = trivia ns after in
-              let within : t < length after = omega (arith, length-drop t after, ap length f) in
+              let within : e + t < length row = omega (arith, length-drop t after, length-drop e row, ap length f) in
               let at_m : slice_index after t ≡ m = ap (slice_index after) (let z : t ≡ t + 0 = omega arith in z) ∙ sym (get_or-drop t after 0 0) ∙ ap (λ l. slice_index l 0) f in
-              let in_row : slice_index after t ≡ slice_index row (e + t) = get_or-between row e (length row - 1) t 0 (omega (arith, within, after_long)) in
-              (omega (arith, within, after_long), ap (is_comma_at ns) (sym in_row ∙ at_m) ∙ k)
+              let comma : is_comma_at ns (slice_index row (e + t)) ≡ true = ap (is_comma_at ns) (sym (get_or-drop e row t 0) ∙ at_m) ∙ k in
+              elim (cases_lt (e + t) (length row - 1)) [
+                | inl low ↦ (low, comma)
+                | inr high ↦ (
+                    let last : e + t ≡ length inner + 1 = omega (arith, within, high, long) in
+                    absurd (false≢true (sym last_no_comma ∙ sym (ap (is_comma_at ns) (ap (slice_index row) last ∙ at_last)) ∙ comma)))
+              ]
 
       abbrev b : ℕ
       b = behind_comma ns row e
@@ -368,11 +387,8 @@ module _ (o : Options) (kind : RowKind) (ns : List Node) (tree : IsTree ns) (x y
           ∙ beside_stays ns a_comma mid (mid_beside b b_low b_high)
 
       -- where none does, none comes behind the line's comments
-      after_is : after ≡ drop (e - 1) inner
-      after_is =
-          let one : e ≡ suc (e - 1) = omega arith in
-          let behind_it : drop e row ≡ drop (e - 1) inner ++ y ∷ [] = ap (λ k. drop k row) one ∙ drop-append-le (e - 1) inner (y ∷ []) (omega (arith, there, long)) in
-          ap (take (length row - 1 - e)) behind_it ∙ take_at (drop (e - 1) inner) (y ∷ []) (length row - 1 - e) (omega (arith, length-drop (e - 1) inner, long))
+      after_is : after ≡ drop (e - 1) inner ++ y ∷ []
+      after_is = let one : e ≡ suc (e - 1) = omega arith in ap (λ k. drop k row) one ∙ drop-append-le (e - 1) inner (y ∷ []) (omega (arith, there, long))
 
       none_behind : has_comma ns row e ≡ false → IsTrue (not (leaving.comma_comes (standing ns (drop (end - 1) inner))))
       none_behind h =
@@ -381,7 +397,8 @@ module _ (o : Options) (kind : RowKind) (ns : List Node) (tree : IsTree ns) (x y
           let rest : List ℕ = drop (end - 1) inner in
           let parts : drop (e - 1) inner ≡ mid ++ rest = ap (λ k. drop (k - 1) inner) (sym same) ∙ drop_split inner (b - 1) (end - 1) (omega (arith, from_place b)) in
           let none : leaving.comma_comes (standing ns rest) ≡ false =
-          sym (beside_no_comma ns mid rest (mid_beside b b_low b_high)) ∙ ap (λ l. leaving.comma_comes (standing ns l)) (sym parts) ∙ standing_comma ns (drop (e - 1) inner) ∙ ap (comma_comes ns) (sym after_is) ∙ h in
+          sym (beside_no_comma ns mid rest (mid_beside b b_low b_high)) ∙ ap (λ l. leaving.comma_comes (standing ns l)) (sym parts) ∙ sym (comma_before ns (drop (e - 1) inner) y last_no_comma) ∙ standing_comma ns (drop (e - 1) inner ++ y ∷ [])
+          ∙ ap (comma_comes ns) (sym after_is) ∙ h in
           ap not none
 
       n_before : has_comma ns row e ≡ false → slice_index row (b - 1) ≡ n
