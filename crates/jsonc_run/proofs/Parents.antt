@@ -1,10 +1,10 @@
 -- No call moves a node from one parent to another.
 use Rattle.std.proofs.Common.{◌≡◌, ◌∙◌, sym, ap, subst, refl, ℕ, zero, suc, ◌-◌, ◌≤◌, ◌==◌, ◌⊎◌, Bool, true, false, not, ◌||◌, cond, inl, inr, List, [], ◌∷◌, drop, length, slice_range, Option, Some, None, arith}
-use Rattle.std.proofs.lemmas.Bool.{cases_Bool, ne_eqb}
+use Rattle.std.proofs.lemmas.Bool.{cases_Bool, cases_eq, ne_eqb}
 use Rattle.std.proofs.lemmas.List.Edits.{between_none}
 use Rattle.jsonc_text.specs.Plain.{Plain}
 use Rattle.jsonc_tree.specs.Building.{Keeps}
-use Rattle.jsonc_tree.specs.Changes.{CanJoin, IsFree, Splices}
+use Rattle.jsonc_tree.specs.Changes.{Appends, CanJoin, IsFree, Splices}
 use Rattle.jsonc_tree.specs.Content.{Content}
 use Rattle.jsonc_tree.specs.OrderedTree.{Top}
 use Rattle.jsonc_tree.proofs.Builder.{Keeps-same}
@@ -171,10 +171,20 @@ loses_given old new tree n m now g = loses_place old g.ready g.spaced new tree g
 loses_raw : (old new : List Node) → IsTree old → (n m : ℕ) (now : Top) → GivesWayRaw old new n m now → Loses old new
 loses_raw old new tree n m now g = loses_row old g.ready new tree g.prepared _ _ _ _ g.place.replaces.join g.place.replaces.spliced
 
+-- one comes as the last child
+held_appended : (old new : List Node) (c m : ℕ) → parent_at old m ≡ None → Appends old new c m → Holds old new
+held_appended old new c m alone a = record {
+  len = omega (arith, a.len);
+  parent = λ n p said. elim (cases_eq n m) [
+    | inl same ↦ none_some (parent_at old m) p alone (ap (parent_at old) (sym same) ∙ said)
+    | inr other ↦ a.parents n other ∙ said
+  ];
+}
+
 loses_last : (old new : List Node) → IsTree old → (p m : ℕ) (v : Plain) → LastValue old new p v m → Loses old new
 loses_last old new tree p m v l =
-    held_loses old l.held new (record { len = omega (arith, l.pushed.len); parent = λ n c said. l.pushed.parents n (parent_there old tree n c said).0 ∙ said })
-    (loses_given l.held new l.tree _ m _ l.given)
+    just_held old new (held_both old l.ready new (held_ready old l.ready tree l.prepared)
+    (held_both l.ready l.held new (held_appended l.ready l.held p m l.can.alone l.put) (held_spaced _ l.held new l.tree l.spaces)))
 
 -- what is made ready, and the spaces
 held_spaces : (old ready spaced : List Node) → IsTree old → Prepared old ready → (xs : List ℕ) → AreSpaced ready xs spaced → Holds old spaced
