@@ -5,6 +5,7 @@ ghost use Rattle.jsonc_cst.specs.Document.{tree_of, Holds};
 ghost use Rattle.jsonc_cst.specs.Nodes.{array_node};
 ghost use Rattle.jsonc_cst.specs.Tree.{NodesAreTree};
 ghost use Rattle.jsonc_typed.specs.Edits.{StillHolds};
+ghost use Rattle.jsonc_sorting.specs.Again.{ElementsStayInKeyOrder, ElementsStayInOrder};
 ghost use Rattle.jsonc_sorting.specs.Asking.{IsInItsOrder, IsInKeyOrder, IsUnkeyed, MayBeCompared, MayBeKeyed};
 ghost use Rattle.jsonc_sorting.specs.Rows.{elements_asked};
 ghost use Rattle.jsonc_sorting.specs.Sorted.{ElementsSorted};
@@ -94,7 +95,8 @@ impl<H: Drop> ElementSort<H> {
     /// the comments behind it on its line, and those above it that are not pinned. Where the order is the
     /// old one, or a bracket is missing, nothing changes. If the document is sound, it is sound again, its
     /// value has the elements in their order, and every comment is there as often: if the array stands
-    /// in it, the call is one step, the edit that rearranges what stands at its path. Only memory is ever
+    /// in it, the call is one step, the edit that rearranges what stands at its path. Without groups a second
+    /// sort by the same comparison changes no byte, if this answers by what the elements are. Only memory is ever
     /// wanted, and then the document is what it was.
     pub fn by<A: Allocator + Copy, D: IsDocument<A>, C: Fn(&D, CstNode, CstNode) -> Ordering>(
         self,
@@ -109,6 +111,8 @@ impl<H: Drop> ElementSort<H> {
         ensures sorted { OnOk result
             (ElementsSorted doc.old doc.new self.array (H.pins self.rule doc.old) self.groups
             (IsInItsOrder C.Fn compare (D.same doc.old) (Holds doc.old))) }
+        ensures again { self.groups ≡ false
+            → OnOk result (ElementsStayInOrder compare D.same doc.old doc.new C.Fn self.array) }
         ensures memory { IfErr result (λ e. e ≡ EditError.OutOfMemory) }
         ensures stays { StillHolds doc.old doc.new }
         ensures document { OnErr result (tree_of doc.new ≡ tree_of doc.old) }
@@ -139,6 +143,8 @@ impl<H: Drop> ElementSort<H> {
         ensures sorted { OnOk result
             (ElementsSorted doc.old doc.new self.array (H.pins self.rule doc.old) self.groups
             (IsInKeyOrder F.Fn key (D.same doc.old) K.cmp)) }
+        ensures again { self.groups ≡ false
+            → OnOk result (ElementsStayInKeyOrder key D.same K.cmp doc.old doc.new F.Fn self.array) }
         ensures refused { IfErr result
             (IsUnkeyed F.Fn key (D.same doc.old) (elements_asked doc.old (array_node self.array))) }
         ensures stays { StillHolds doc.old doc.new }
@@ -148,6 +154,8 @@ impl<H: Drop> ElementSort<H> {
         doc.nodes_are_tree();
         let nodes = elements_asked(doc, self.array)?;
         let pins = self.rule.pins(doc, self.array.node(), &nodes)?;
-        sort_by_key(doc, self.array.node(), &nodes, &pins, self.groups, &key)
+        let sorted = sort_by_key(doc, self.array.node(), &nodes, &pins, self.groups, &key);
+        doc.nodes_are_tree();
+        sorted
     }
 }

@@ -5,6 +5,7 @@ ghost use Rattle.jsonc_cst.specs.Document.{tree_of, Holds};
 ghost use Rattle.jsonc_cst.specs.Nodes.{object_node, object_prop_node};
 ghost use Rattle.jsonc_cst.specs.Tree.{NodesAreTree};
 ghost use Rattle.jsonc_typed.specs.Edits.{StillHolds};
+ghost use Rattle.jsonc_sorting.specs.Again.{PropertiesStayInKeyOrder, PropertiesStayInOrder};
 ghost use Rattle.jsonc_sorting.specs.Asking.{IsInItsOrder, IsInKeyOrder, IsUnkeyed, MayBeCompared, MayBeKeyed};
 ghost use Rattle.jsonc_sorting.specs.Rows.{properties_asked};
 ghost use Rattle.jsonc_sorting.specs.Sorted.{PropertiesSorted};
@@ -94,7 +95,8 @@ impl<H: Drop> PropertySort<H> {
     /// the comments behind it on its line, and those above it that are not pinned. Where the order is the
     /// old one, or a bracket is missing, nothing changes. If the document is sound, it is sound again, its
     /// value has the properties in their order, and every comment is there as often: if the object stands
-    /// in it, the call is one step, the edit that rearranges what stands at its path. Only memory is ever
+    /// in it, the call is one step, the edit that rearranges what stands at its path. Without groups a second
+    /// sort by the same comparison changes no byte, if this answers by what the properties are. Only memory is ever
     /// wanted, and then the document is what it was.
     pub fn by<
         A: Allocator + Copy,
@@ -109,6 +111,8 @@ impl<H: Drop> PropertySort<H> {
         ensures sorted { OnOk result
             (PropertiesSorted doc.old doc.new self.object (H.pins self.rule doc.old) self.groups
             (IsInItsOrder C.Fn compare (D.same doc.old) (λ p. Holds doc.old (object_prop_node p)))) }
+        ensures again { self.groups ≡ false
+            → OnOk result (PropertiesStayInOrder compare D.same doc.old doc.new C.Fn self.object) }
         ensures memory { IfErr result (λ e. e ≡ EditError.OutOfMemory) }
         ensures stays { StillHolds doc.old doc.new }
         ensures document { OnErr result (tree_of doc.new ≡ tree_of doc.old) }
@@ -146,6 +150,8 @@ impl<H: Drop> PropertySort<H> {
         ensures sorted { OnOk result
             (PropertiesSorted doc.old doc.new self.object (H.pins self.rule doc.old) self.groups
             (IsInKeyOrder F.Fn key (D.same doc.old) K.cmp)) }
+        ensures again { self.groups ≡ false
+            → OnOk result (PropertiesStayInKeyOrder key D.same K.cmp doc.old doc.new F.Fn self.object) }
         ensures refused { IfErr result
             (IsUnkeyed F.Fn key (D.same doc.old) (properties_asked doc.old (object_node self.object))) }
         ensures stays { StillHolds doc.old doc.new }
@@ -155,6 +161,8 @@ impl<H: Drop> PropertySort<H> {
         doc.nodes_are_tree();
         let nodes = properties_asked(doc, self.object)?;
         let pins = self.rule.pins(doc, self.object.node(), &nodes)?;
-        sort_by_key(doc, self.object.node(), &nodes, &pins, self.groups, &key)
+        let sorted = sort_by_key(doc, self.object.node(), &nodes, &pins, self.groups, &key);
+        doc.nodes_are_tree();
+        sorted
     }
 }

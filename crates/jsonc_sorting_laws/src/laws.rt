@@ -5,9 +5,11 @@ ghost use Rattle.jsonc_sorting.specs.Below.sort.Sorting.{Headers};
 ghost use Rattle.jsonc_cst.specs.declared.cst.CstRootNode.{CstRootNode};
 ghost use Rattle.jsonc_cst.specs.declared.cst.node.CstArray.{CstArray};
 ghost use Rattle.jsonc_cst.specs.declared.cst.node.CstObject.{CstObject};
-ghost use Rattle.jsonc_sorting_laws.specs.Typed.{ElementsSortOnce, ElementsSortOnceByKey, PropertiesSortOnce, PropertiesSortOnceByKey};
+ghost use Rattle.jsonc_sorting.specs.Again.{ElementsSortOnce, ElementsSortOnceByKey, PropertiesSortOnce, PropertiesSortOnceByKey};
 
 use jsonc_cst::cst::{CstNode, CstObjectProp, EditError};
+pub use jsonc_order_laws::laws::groups_keep_their_places;
+pub use jsonc_sort_laws::laws::blank_lines_part_groups;
 use jsonc_sorting::typed::IsDocument;
 use std::alloc::Allocator;
 use std::cmp::Ordering;

@@ -1,4 +1,4 @@
-use Rattle.jsonc_sorting_laws.proofs.Keyed.{elements_sort_once_by_key, properties_sort_once_by_key}
+use Rattle.jsonc_sorting.proofs.AgainByKey.{elements_sort_once_by_key, properties_sort_once_by_key}
 use Rattle.jsonc_sorting_laws.proofs.laws.second_sorts_by_key_change_no_byte.Goals as goal
 
 pub returns-clause-elements : goal.returns-clause-elements

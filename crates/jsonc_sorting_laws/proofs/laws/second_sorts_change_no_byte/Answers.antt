@@ -1,4 +1,4 @@
-use Rattle.jsonc_sorting_laws.proofs.Typed.{elements_sort_once, properties_sort_once}
+use Rattle.jsonc_sorting.proofs.Again.{elements_sort_once, properties_sort_once}
 use Rattle.jsonc_sorting_laws.proofs.laws.second_sorts_change_no_byte.Goals as goal
 
 pub returns-clause-elements : goal.returns-clause-elements

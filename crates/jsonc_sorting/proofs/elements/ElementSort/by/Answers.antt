@@ -4,6 +4,7 @@ use Rattle.jsonc_cst.specs.declared.cst.node.CstNode.{CstNode}
 use Rattle.jsonc_cst.specs.Nodes.{array_node}
 use Rattle.jsonc_sorting.specs.Asking.{IsInItsOrder}
 use Rattle.jsonc_sorting.specs.Rows.{elements_asked, starts_of}
+use Rattle.jsonc_sorting.proofs.Ordered.{elements_in_order}
 use Rattle.jsonc_sorting.proofs.Wired.{wired}
 use Rattle.jsonc_sorting.proofs.elements.ElementSort.by.Goals as goal
 
@@ -16,3 +17,7 @@ returns-clause-sorted g c =
     let wanted : CstNode → List (Option CstNode) → List ℕ → Type 0 = λ n xs order. IsInItsOrder g.C.Fn c.args.compare (g.D.IsDocument.same doc) (Holds doc) xs (starts_of doc n groups) order in
     wired doc c.sort_by.new.doc groups pinned wanted node c.node.result c.node-2.result (elements_asked doc node) c.deref.result.now c.deref-2.result.now c.in_ok-pins.pins.items c.deref-3.result.now c.sort_by.result
     c.node.ensures c.node-2.ensures (c.deref.ensures.value ∙ c.in_ok-nodes.ensures.nodes) (c.deref-2.ensures.value ∙ c.in_ok-nodes.ensures.nodes) c.deref-3.ensures.value c.in_ok-pins.ensures.pins c.sort_by.ensures.sorted
+
+pub returns-clause-again : goal.returns-clause-again
+returns-clause-again g c =
+    elements_in_order c.args.compare (g.D.IsDocument.same) c.args.doc.now c.sort_by.new.doc c.args.self.groups c.sort_by.result g.C.Fn c.args.self.array (λ n xs ps. g.H.HeaderRule.pins c.args.self.rule c.args.doc.now n xs ps) c.nodes_are_tree.ensures.stored c.requires.held (returns-clause-sorted g c)

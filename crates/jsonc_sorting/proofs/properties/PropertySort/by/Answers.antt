@@ -5,6 +5,7 @@ use Rattle.jsonc_cst.specs.declared.cst.node.CstObjectProp.{CstObjectProp}
 use Rattle.jsonc_cst.specs.Nodes.{object_node, object_prop_node}
 use Rattle.jsonc_sorting.specs.Asking.{IsInItsOrder}
 use Rattle.jsonc_sorting.specs.Rows.{properties_asked, starts_of}
+use Rattle.jsonc_sorting.proofs.Ordered.{properties_in_order}
 use Rattle.jsonc_sorting.proofs.Wired.{wired}
 use Rattle.jsonc_sorting.proofs.properties.PropertySort.by.Goals as goal
 
@@ -17,3 +18,7 @@ returns-clause-sorted g c =
     let wanted : CstNode → List (Option CstObjectProp) → List ℕ → Type 0 = λ n xs order. IsInItsOrder g.C.Fn c.args.compare (g.D.IsDocument.same doc) (λ (p : CstObjectProp). Holds doc (object_prop_node p)) xs (starts_of doc n groups) order in
     wired doc c.sort_by.new.doc groups pinned wanted node c.node.result c.node-2.result (properties_asked doc node) c.deref.result.now c.deref-2.result.now c.in_ok-pins.pins.items c.deref-3.result.now c.sort_by.result
     c.node.ensures c.node-2.ensures (c.deref.ensures.value ∙ c.in_ok-nodes.ensures.nodes) (c.deref-2.ensures.value ∙ c.in_ok-nodes.ensures.nodes) c.deref-3.ensures.value c.in_ok-pins.ensures.pins c.sort_by.ensures.sorted
+
+pub returns-clause-again : goal.returns-clause-again
+returns-clause-again g c =
+    properties_in_order c.args.compare (g.D.IsDocument.same) c.args.doc.now c.sort_by.new.doc c.args.self.groups c.sort_by.result g.C.Fn c.args.self.object (λ n xs ps. g.H.HeaderRule.pins c.args.self.rule c.args.doc.now n xs ps) c.nodes_are_tree.ensures.stored c.requires.held (returns-clause-sorted g c)

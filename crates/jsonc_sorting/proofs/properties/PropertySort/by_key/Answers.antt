@@ -4,6 +4,7 @@ use Rattle.jsonc_cst.specs.declared.cst.node.CstObjectProp.{CstObjectProp}
 use Rattle.jsonc_cst.specs.Nodes.{object_node}
 use Rattle.jsonc_sorting.specs.Asking.{IsInKeyOrder, IsUnkeyed}
 use Rattle.jsonc_sorting.specs.Rows.{properties_asked, starts_of}
+use Rattle.jsonc_sorting.proofs.Ordered.{properties_in_key_order}
 use Rattle.jsonc_sorting.proofs.Wired.{wired}
 use Rattle.jsonc_sorting.proofs.properties.PropertySort.by_key.Goals as goal
 
@@ -20,3 +21,7 @@ returns-clause-sorted g c =
 pub returns-clause-refused : goal.returns-clause-refused
 returns-clause-refused g c =
     subst (λ (nodes : List (Option CstObjectProp)). IfErr c.sort_by_key.result (IsUnkeyed g.F.Fn c.args.key (g.D.IsDocument.same c.args.doc.now) nodes)) (c.deref-2.ensures.value ∙ c.in_ok-nodes.ensures.nodes) c.sort_by_key.ensures.refused
+
+pub returns-clause-again : goal.returns-clause-again
+returns-clause-again g c =
+    properties_in_key_order c.args.key (g.D.IsDocument.same) g.K.Ord.cmp c.args.doc.now c.sort_by_key.new.doc c.args.self.groups c.sort_by_key.result g.F.Fn c.args.self.object (λ n xs ps. g.H.HeaderRule.pins c.args.self.rule c.args.doc.now n xs ps) c.nodes_are_tree.ensures.stored c.nodes_are_tree-2.ensures.stored c.requires.held (returns-clause-sorted g c)

@@ -17,11 +17,11 @@ use Rattle.jsonc_tree.specs.Tree.{Node, children_at, content_at, IsTree}
 use Rattle.jsonc_nodes.specs.Kinds.{is_element_at, is_property}
 use Rattle.jsonc_nodes.specs.Siblings.{elements_at, AreThere}
 use Rattle.jsonc_nodes.proofs.There.{children_there}
-use Rattle.jsonc_edit.specs.Changes.{top_at}
-use Rattle.jsonc_edit.specs.declared.error.EditError.{EditError}
+use Rattle.jsonc_cst.specs.Below.edit.Changes.{top_at}
+use Rattle.jsonc_cst.specs.Below.edit.declared.error.EditError.{EditError}
 use Rattle.jsonc_order.specs.Keys.{AreKeys, IsKeyOf}
 use Rattle.jsonc_order.specs.Order.{comes_before, node_in, option_before, start_in, IsOrderedBy}
-use Rattle.jsonc_sorting.specs.Below.sort.Sorting.{Headers}
+use Rattle.jsonc_sort.specs.Sorting.{Headers}
 use Rattle.jsonc_cst.specs.declared.cst.CstRootNode.{CstRootNode}
 use Rattle.jsonc_cst.specs.declared.cst.node.CstArray.{CstArray}
 use Rattle.jsonc_cst.specs.declared.cst.node.CstNode.{CstNode}
@@ -34,8 +34,8 @@ use Rattle.jsonc_cst.proofs.Family.{typed_held}
 use Rattle.jsonc_sorting.specs.Rows.{property_if}
 use Rattle.jsonc_sort_laws.specs.Again.{tops_asked, IsInOrderOf}
 use Rattle.jsonc_sort_laws.proofs.Once.{sorts_once}
-use Rattle.jsonc_sorting_laws.specs.Typed.{ElementsSortOnceByKey, IsSortedByKey, IsUntouched, KeysCompareTops, PropertiesSortOnceByKey}
-use Rattle.jsonc_sorting_laws.proofs.Typed.{count, elements_picked, every, properties_picked, told_in, tops_of, Picks}
+use Rattle.jsonc_sorting.specs.Again.{ElementsSortOnceByKey, IsSortedByKey, IsUntouched, KeysCompareTops, PropertiesSortOnceByKey}
+use Rattle.jsonc_sorting.proofs.Again.{count, elements_picked, every, properties_picked, told_in, tops_of, Picks}
 
 none_some : {T : Type 0} (x : T) → None ≡ Some x → ⊥
 none_some x e = cc

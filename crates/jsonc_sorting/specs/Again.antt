@@ -9,11 +9,11 @@ use denote.Ref.{Bor}
 use denote.Param.Members.{Shared}
 use Rattle.jsonc_tree.specs.OrderedTree.{Top}
 use Rattle.jsonc_tree.specs.Tree.{IsTree}
-use Rattle.jsonc_edit.specs.Changes.{top_at}
-use Rattle.jsonc_edit.specs.declared.error.EditError.{EditError}
+use Rattle.jsonc_cst.specs.Below.edit.Changes.{top_at}
+use Rattle.jsonc_cst.specs.Below.edit.declared.error.EditError.{EditError}
 use Rattle.jsonc_order.specs.Asking.{ComparesBy}
 use Rattle.jsonc_order.specs.Keys.{Answers}
-use Rattle.jsonc_sorting.specs.Below.sort.Sorting.{Headers}
+use Rattle.jsonc_sort.specs.Sorting.{Headers}
 use Rattle.jsonc_cst.specs.declared.cst.CstRootNode.{CstRootNode}
 use Rattle.jsonc_cst.specs.declared.cst.node.CstArray.{CstArray}
 use Rattle.jsonc_cst.specs.declared.cst.node.CstNode.{CstNode}
@@ -93,3 +93,31 @@ module _ {A : Type 0} where
       → KeysCompareTops g key same object_prop_node cmp lt now
       → IsSortedByKey g key same object_prop_node cmp now new (object_node object) (properties_asked now (object_node object)) k
       → IsUntouched now new
+
+-- What a sort leaves is in order: if what was asked answers before and behind by one order of what the elements are, any further sort by it, whatever comments
+-- are pinned, changes no byte. So of an array that was sorted by a comparison, and an object; and by keys.
+module _ {A F D : Type 0} (compare : F) (same : CstRootNode A → D) (old new : CstRootNode A) where
+  abbrev pub ElementsStayInOrder : Shared F (Bor D × (CstNode × (CstNode × Unit {0}))) Ordering → CstArray → Type 0
+  ElementsStayInOrder g array =
+      (lt : Top → Top → Bool) → IsStrictWeakOrder lt → ComparesTops g compare same (λ x. x) lt old → ComparesTops g compare same (λ x. x) lt new
+      → (next : CstRootNode A) (k : Headers) → IsSortedBy g compare same (λ x. x) new next (array_node array) (elements_asked new (array_node array)) k
+      → IsUntouched new next
+
+  abbrev pub PropertiesStayInOrder : Shared F (Bor D × (CstObjectProp × (CstObjectProp × Unit {0}))) Ordering → CstObject → Type 0
+  PropertiesStayInOrder g object =
+      (lt : Top → Top → Bool) → IsStrictWeakOrder lt → ComparesTops g compare same object_prop_node lt old → ComparesTops g compare same object_prop_node lt new
+      → (next : CstRootNode A) (k : Headers) → IsSortedBy g compare same object_prop_node new next (object_node object) (properties_asked new (object_node object)) k
+      → IsUntouched new next
+
+module _ {A F D K : Type 0} (key : F) (same : CstRootNode A → D) (cmp : K → K → Ordering) (old new : CstRootNode A) where
+  abbrev pub ElementsStayInKeyOrder : Shared F (Bor D × (CstNode × Unit {0})) (Result K EditError) → CstArray → Type 0
+  ElementsStayInKeyOrder g array =
+      (lt : Top → Top → Bool) → IsStrictWeakOrder lt → KeysCompareTops g key same (λ x. x) cmp lt old → KeysCompareTops g key same (λ x. x) cmp lt new
+      → (next : CstRootNode A) (k : Headers) → IsSortedByKey g key same (λ x. x) cmp new next (array_node array) (elements_asked new (array_node array)) k
+      → IsUntouched new next
+
+  abbrev pub PropertiesStayInKeyOrder : Shared F (Bor D × (CstObjectProp × Unit {0})) (Result K EditError) → CstObject → Type 0
+  PropertiesStayInKeyOrder g object =
+      (lt : Top → Top → Bool) → IsStrictWeakOrder lt → KeysCompareTops g key same object_prop_node cmp lt old → KeysCompareTops g key same object_prop_node cmp lt new
+      → (next : CstRootNode A) (k : Headers) → IsSortedByKey g key same object_prop_node cmp new next (object_node object) (properties_asked new (object_node object)) k
+      → IsUntouched new next

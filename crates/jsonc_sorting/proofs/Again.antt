@@ -11,9 +11,9 @@ use Rattle.jsonc_tree.specs.OrderedTree.{Top, ordered_tree, printed}
 use Rattle.jsonc_tree.specs.Tree.{Node, content_at, IsTree}
 use Rattle.jsonc_nodes.specs.Kinds.{is_property}
 use Rattle.jsonc_nodes.specs.Siblings.{elements_at}
-use Rattle.jsonc_edit.specs.Changes.{top_at}
+use Rattle.jsonc_cst.specs.Below.edit.Changes.{top_at}
 use Rattle.jsonc_order.specs.Order.{comes_before, node_in, option_before, start_in, IsOrderedBy}
-use Rattle.jsonc_sorting.specs.Below.sort.Sorting.{Headers}
+use Rattle.jsonc_sort.specs.Sorting.{Headers}
 use Rattle.jsonc_cst.specs.declared.cst.CstRootNode.{CstRootNode}
 use Rattle.jsonc_cst.specs.declared.cst.node.CstArray.{CstArray}
 use Rattle.jsonc_cst.specs.declared.cst.node.CstNode.{CstNode}
@@ -24,7 +24,7 @@ use Rattle.jsonc_cst.specs.Nodes.{array_node, number_of, object_node, object_pro
 use Rattle.jsonc_cst.proofs.Family.{number_of-typed}
 use Rattle.jsonc_sorting.specs.Rows.{property_if}
 use Rattle.jsonc_sort_laws.specs.Again.{top_if, tops_asked, IsInOrderOf}
-use Rattle.jsonc_sorting_laws.specs.Typed.{ComparesTops, ElementsSortOnce, IsSortedBy, IsUntouched, PropertiesSortOnce}
+use Rattle.jsonc_sorting.specs.Again.{ComparesTops, ElementsSortOnce, IsSortedBy, IsUntouched, PropertiesSortOnce}
 use Rattle.jsonc_sort_laws.proofs.Once.{sorts_once}
 
 -- an order of what nodes are told to be
