@@ -1,9 +1,39 @@
-//! Laws that lead from one call to the next, and from names and paths to what stands there.
+//! Laws that lead from one call to the next, and from names and paths to what stands there; and those that
+//! lead from what a call says to what users rely on.
+//!
+//! A text has at most one value ([`one_value`]), and what is at most 256 levels deep has at most 512
+//! containers and properties around a value ([`around_is_within_twice_depth`]). Equality of values is one
+//! ([`equality`]), is that of their parts ([`equality_by_parts`]), and copies are equal
+//! ([`equality_of_copies`]). What `to_value` answers of a parsed document is the text's value
+//! ([`documents_give_their_value`]). What is found of a name in an object is the first of that name in the
+//! object's value ([`names_are_those_of_values`]).
+//!
+//! Edits that are made are named in the document before them, one after another ([`edits_make_steps`]), and
+//! have their place exactly where the document's value has it ([`places_are_named`]). No call moves a node
+//! from one parent to another, and behind any list of calls the nodes are a tree ([`calls_keep_parents`]).
+//! Where commas may not be missing no space is due where children leave, so no memory is wanted for it
+//! ([`nearest_tell`]).
+//!
+//! The groups of a sort keep their places ([`groups_keep_their_places`], [`blank_lines_part_groups`]); a
+//! sorted row has each comment and each element once ([`sorted_rows_keep_their_nodes`]); and a second sort
+//! changes no byte ([`second_sorts_change_no_byte`], [`second_sorts_by_key_change_no_byte`]).
 
+pub use jsonc_cst::laws::documents_give_their_value;
+pub use jsonc_edit::space_laws::nearest_tell;
 pub use jsonc_promise::laws::{runs_join, shown_are_documents};
+pub use jsonc_run::laws::{
+    calls_keep_parents, edits_make_steps, names_are_those_of_values, places_are_named,
+    sorted_rows_keep_their_nodes,
+};
 pub use jsonc_settings::laws::{
     each_node_stands_at_its_place, names_lead_over_nodes, nodes_have_their_values,
     one_edit_puts_or_drops, one_operation_puts_or_drops, one_value_at_names, values_are_put,
     what_is_read_stands_at_paths, what_stands_can_leave, what_was_put_stands_there,
     worked_equal_names,
 };
+pub use jsonc_sorting_laws::laws::{
+    blank_lines_part_groups, groups_keep_their_places, second_sorts_by_key_change_no_byte,
+    second_sorts_change_no_byte,
+};
+pub use jsonc_text::laws::{around_is_within_twice_depth, one_value};
+pub use jsonc_value::laws::{equality, equality_by_parts, equality_of_copies};
