@@ -1,6 +1,7 @@
 -- Elements that have come into arrays: what the new node is, and which nodes stay.
-use Rattle.std.proofs.Common.{◌≡◌, ℕ, ◌<◌, ◌≤◌, true, not, List, length, min, Result, Ok, Err, OnOk, IfOk, refl, sym, ap, subst, ◌∙◌, arith}
-use Rattle.std.proofs.Math.Nat.{min-eq_right}
+use Rattle.std.proofs.Common.{◌≡◌, ℕ, ◌<◌, ◌≤◌, ◌⊎◌, inl, inr, true, not, List, length, min, Result, Ok, Err, OnOk, IfOk, refl, sym, ap, subst, ◌∙◌, arith}
+use Rattle.std.proofs.Math.Nat.{min-eq_left, min-eq_right}
+use Rattle.std.proofs.lemmas.Bool.{cases_lt}
 use Rattle.std.proofs.lemmas.List.Filters.{length-filter_both}
 use Rattle.jsonc_text.specs.Options.{Options}
 use Rattle.jsonc_text.specs.Plain.{Plain}
@@ -57,17 +58,22 @@ module _ (old new : List Node) (c : ℕ) (v : Plain) (tree : IsTree old) (is : c
 fewer : (ns : List Node) (c : ℕ) → length (elements_at ns c) ≤ length (children_at ns c)
 fewer ns c = omega (arith, length-filter_both (is_element_at ns) (λ n. not (is_element_at ns n)) (λ n. refl) (children_at ns c))
 
-module _ {E : Type 0} (old new : List Node) (c : ℕ) (v : Plain) where
-  pub appended : (r : Result CstNode E) → OnOk r (has_brackets old (children_at old c) ≡ true) → IfOk r (ComesInAt old new c (length (children_at old c)) v) → IfOk r (ComesInAt old new c (length (elements_at old c)) v)
-  appended (Ok x) brackets put = past_the_end old new c (length (children_at old c)) (length (elements_at old c)) v _ brackets (fewer old c) (omega arith) put
-  appended (Err e) brackets put = tt
+-- the number of a last one: past the end all do the same
+put_by_place : (old new : List Node) (c i : ℕ) (v : Plain) (m : ℕ) → has_brackets old (children_at old c) ≡ true → (i < length (elements_at old c)) ⊎ (length (elements_at old c) ≤ i)
+    → ElementPut old new c i v m → ElementPut old new c (min i (length (elements_at old c))) v m
+put_by_place old new c i v m brackets (inl low) e = subst (λ k. ElementPut old new c k v m) (sym (min-eq_left (let z : i ≤ length (elements_at old c) = omega (arith, low) in z))) e
+put_by_place old new c i v m brackets (inr high) e =
+    subst (λ k. ElementPut old new c k v m) (sym (min-eq_right high)) (past_the_end old new c i (length (elements_at old c)) v m brackets high (omega arith) e)
 
-  pub appended_element : (r : Result CstNode E) → IfOk r (StandsAt old new c (length (children_at old c))) → IfOk r (StandsAt old new c (length (elements_at old c)))
-  appended_element (Ok x) at =
-      let k : ℕ = length (elements_at old c) in
-      subst (λ j. IsElementOf new c j (number_of x)) (min-eq_right (fewer old c) ∙ sym (min-eq_right {n = k} {m = k} (omega arith))) at
-  appended_element (Err e) at = tt
+pub put_at_place : (old new : List Node) (c i : ℕ) (v : Plain) (m : ℕ) → has_brackets old (children_at old c) ≡ true → ElementPut old new c i v m → ElementPut old new c (min i (length (elements_at old c))) v m
+put_at_place old new c i v m brackets e = put_by_place old new c i v m brackets (cases_lt i (length (elements_at old c))) e
 
-  pub appended_written : (tree : IsTree old) (is : content_at old c ≡ content.array) (o : Options) (r : Result CstNode E) → OnOk r (has_brackets old (children_at old c) ≡ true) → IfOk r (ComesInAt old new c (length (children_at old c)) v) → OnOk r (PutsAtItsPath o old new c (length (elements_at old c)) v)
-  appended_written tree is o (Ok x) brackets put = put_written old new c v tree is o (length (elements_at old c)) _ (past_the_end old new c (length (children_at old c)) (length (elements_at old c)) v _ brackets (fewer old c) (omega arith) put)
-  appended_written tree is o (Err e) brackets put = tt
+-- as many as the children are mean the last
+pub behind_all : (ns : List Node) (c : ℕ) → min (length (children_at ns c)) (length (elements_at ns c)) ≡ length (elements_at ns c)
+behind_all ns c = min-eq_right (fewer ns c)
+
+pub appended_element : {E : Type 0} (old new : List Node) (c : ℕ) (r : Result CstNode E) → IfOk r (StandsAt old new c (length (children_at old c))) → IfOk r (StandsAt old new c (length (elements_at old c)))
+appended_element old new c (Ok x) at =
+    let k : ℕ = length (elements_at old c) in
+    subst (λ j. IsElementOf new c j (number_of x)) (behind_all old c ∙ sym (min-eq_right {n = k} {m = k} (omega arith))) at
+appended_element old new c (Err e) at = tt

@@ -1,6 +1,6 @@
 //! Elements that come into arrays.
 
-ghost use Rattle.std.specs.Prelude.{◌≡◌, ◌<◌, IfErr, IfOk, OnErr, OnOk, length, true};
+ghost use Rattle.std.specs.Prelude.{◌≡◌, ◌<◌, IfErr, IfOk, OnErr, OnOk, length, min, true};
 ghost use Rattle.jsonc_text.specs.Options.{Options};
 ghost use Rattle.jsonc_input.specs.Views.{plain};
 ghost use Rattle.jsonc_tree.specs.Content.{Content};
@@ -46,10 +46,14 @@ fn insert_at<A: Allocator + Copy>(
 ) -> Result<CstNode, EditError>
     requires there { array < length tree.old.nodes }
     requires array { content_at tree.old.nodes array ≡ Content.array }
-    ensures put { IfOk result (ComesInAt tree.old.nodes tree.new.nodes array index (plain value.now)) }
+    ensures put { IfOk result
+        (ComesInAt tree.old.nodes tree.new.nodes array (min index (length (elements_at tree.old.nodes array)))
+        (plain value.now)) }
     ensures element { IfOk result (StandsAt tree.old.nodes tree.new.nodes array index) }
     ensures written { (o : Options)
-        → OnOk result (PutsAtItsPath o tree.old.nodes tree.new.nodes array index (plain value.now)) }
+        → OnOk result
+        (PutsAtItsPath o tree.old.nodes tree.new.nodes array (min index (length (elements_at tree.old.nodes array)))
+        (plain value.now)) }
     ensures step { OnOk result (IsInserting tree.old.nodes tree.new.nodes array index (plain value.now)) }
     ensures others { OnOk result (KeepsNodesBut tree.old.nodes tree.new.nodes array) }
     ensures elsewhere { OnOk result (StaysElsewhere tree.old.nodes tree.new.nodes array) }
@@ -107,7 +111,7 @@ fn append_to<A: Allocator + Copy>(
 pub trait InsertElement: IsNode {
     /// Puts a value behind its last element, and answers the value's node.
     ///
-    /// It is what [`InsertElement::insert`] does with the number of its elements.
+    /// It is what [`InsertElement::insert`] does with the number of its elements, or a greater one.
     fn append<A: Allocator + Copy>(
         self,
         doc: &mut CstRootNode<A>,
@@ -151,10 +155,14 @@ pub trait InsertElement: IsNode {
         value: CstInputValue<A>,
     ) -> Result<CstNode, EditError>
         requires { Holds doc.old (Self.node_of self) }
-        ensures put { IfOk result (HasComeIn doc.old doc.new (Self.node_of self) index (plain value)) }
+        ensures put { IfOk result
+            (HasComeIn doc.old doc.new (Self.node_of self) (min index (element_count doc.old (Self.node_of self)))
+            (plain value)) }
         ensures element { IfOk result (IsItsElement doc.old doc.new (Self.node_of self) index) }
         ensures written { (o : Options)
-            → OnOk result (IsPutAtItsPath doc.old doc.new o (Self.node_of self) index (plain value)) }
+            → OnOk result
+            (IsPutAtItsPath doc.old doc.new o (Self.node_of self)
+            (min index (element_count doc.old (Self.node_of self))) (plain value)) }
         ensures step { OnOk result (IsInserting (nodes_of doc.old) (nodes_of doc.new) (number_of (Self.node_of self)) index
             (plain value)) }
         ensures others { OnOk result (KeepsOthers doc.old doc.new (Self.node_of self)) }

@@ -3,7 +3,7 @@ use Rattle.jsonc_input.specs.Views.{plain}
 use Rattle.jsonc_nodes.specs.Siblings.{elements_at}
 use Rattle.jsonc_edit.specs.Paths.{IsElementOf}
 use Rattle.jsonc_insertion_laws.specs.Below.insert.Inserted.{ElementPut}
-use Rattle.jsonc_typed.proofs.ComingIn.{put_element, put_for_memory, put_others, put_stays, put_there, put_written}
+use Rattle.jsonc_typed.proofs.ComingIn.{put_at_place, put_element, put_for_memory, put_others, put_stays, put_there, put_written}
 use Rattle.jsonc_typed.proofs.Elsewhere.{row_elsewhere}
 use Rattle.jsonc_typed.proofs.Kept.{as_typed, nodes_stay, stay_kept}
 use Rattle.jsonc_typed.proofs.Steps.{inserted_step}
@@ -18,7 +18,8 @@ pub returns-in-Ok-clause-put : goal.returns-in-Ok-clause-put
 returns-in-Ok-clause-put g c =
     let old = c.args.tree.now.nodes in
     let new = c.insert_element.new.tree.nodes in
-    as_typed (λ (m : ℕ). ElementPut old new c.args.array c.args.index (plain c.args.value.now) m) new c.in-Ok.element c.node_at.result c.node_at.ensures.node c.in-Ok.ensures.put
+    as_typed (λ (m : ℕ). ElementPut old new c.args.array (min c.args.index (length (elements_at old c.args.array))) (plain c.args.value.now) m) new c.in-Ok.element c.node_at.result c.node_at.ensures.node
+    (put_at_place old new c.args.array c.args.index (plain c.args.value.now) c.in-Ok.element c.in-Ok.ensures.brackets c.in-Ok.ensures.put)
 
 pub returns-in-Ok-clause-element : goal.returns-in-Ok-clause-element
 returns-in-Ok-clause-element g c =
@@ -29,7 +30,10 @@ returns-in-Ok-clause-element g c =
 
 pub returns-in-Ok-clause-written : goal.returns-in-Ok-clause-written
 returns-in-Ok-clause-written g c = λ o.
-    put_written c.args.tree.now.nodes c.insert_element.new.tree.nodes c.args.array (plain c.args.value.now) c.len.ensures.tree c.requires.array o c.args.index c.in-Ok.element c.in-Ok.ensures.put
+    let old = c.args.tree.now.nodes in
+    let new = c.insert_element.new.tree.nodes in
+    put_written old new c.args.array (plain c.args.value.now) c.len.ensures.tree c.requires.array o (min c.args.index (length (elements_at old c.args.array))) c.in-Ok.element
+    (put_at_place old new c.args.array c.args.index (plain c.args.value.now) c.in-Ok.element c.in-Ok.ensures.brackets c.in-Ok.ensures.put)
 
 pub returns-in-Ok-clause-others : goal.returns-in-Ok-clause-others
 returns-in-Ok-clause-others g c =

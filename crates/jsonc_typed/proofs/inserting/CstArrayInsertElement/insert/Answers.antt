@@ -1,5 +1,6 @@
-use Rattle.std.proofs.Common.{ℕ, OnOk, subst}
+use Rattle.std.proofs.Common.{ℕ, length, min, OnOk, subst}
 use Rattle.jsonc_input.specs.Views.{plain}
+use Rattle.jsonc_nodes.specs.Siblings.{elements_at}
 use Rattle.jsonc_typed.specs.Edits.{StaysElsewhere}
 use Rattle.jsonc_typed.specs.Inserting.{PutsAtItsPath}
 use Rattle.jsonc_typed.specs.Steps.{IsInserting}
@@ -8,7 +9,7 @@ use Rattle.jsonc_typed.proofs.inserting.CstArrayInsertElement.insert.Goals as go
 pub returns-clause-written : goal.returns-clause-written
 returns-clause-written g c = λ o.
     let old = c.args.doc.now.tree.nodes in
-    subst (λ (n : ℕ). OnOk c.insert_at-put.result (PutsAtItsPath o old c.insert_at-put.new.tree.nodes n c.args.index (plain c.args.value))) c.array_number-number.ensures.number (c.insert_at-put.ensures.written o)
+    subst (λ (n : ℕ). OnOk c.insert_at-put.result (PutsAtItsPath o old c.insert_at-put.new.tree.nodes n (min c.args.index (length (elements_at old n))) (plain c.args.value))) c.array_number-number.ensures.number (c.insert_at-put.ensures.written o)
 
 pub returns-clause-elsewhere : goal.returns-clause-elsewhere
 returns-clause-elsewhere g c =
