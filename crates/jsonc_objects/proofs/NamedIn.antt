@@ -1,6 +1,7 @@
 -- Properties that have come into objects: what the new node is, and which nodes stay.
-use Rattle.std.proofs.Common.{◌≡◌, ℕ, ◌<◌, ◌≤◌, true, not, List, length, min, Result, Ok, Err, OnOk, IfOk, refl, sym, ap, subst, ◌∙◌, arith}
-use Rattle.std.proofs.Math.Nat.{min-eq_right}
+use Rattle.std.proofs.Common.{◌≡◌, ℕ, ◌<◌, ◌≤◌, ◌⊎◌, inl, inr, true, not, List, length, min, Result, Ok, Err, IfOk, refl, sym, ap, subst, ◌∙◌, arith}
+use Rattle.std.proofs.Math.Nat.{min-eq_left, min-eq_right}
+use Rattle.std.proofs.lemmas.Bool.{cases_lt}
 use Rattle.std.proofs.lemmas.List.Filters.{length-filter_both}
 use Rattle.jsonc_text.specs.Options.{Options}
 use Rattle.jsonc_text.specs.Plain.{Plain}
@@ -28,7 +29,7 @@ use Rattle.jsonc_named.proofs.Below.member_laws.Coming.{properties_come_at}
 use Rattle.jsonc_cst.specs.declared.cst.node.CstObjectProp.{CstObjectProp}
 use Rattle.jsonc_typed.specs.Edits.{StaysElsewhere}
 use Rattle.jsonc_typed.specs.Removing.{WantsMemoryAlone}
-use Rattle.jsonc_objects.specs.Members.{NamedComesInAt, PropertyStandsAt, PutsNamedAtItsPath}
+use Rattle.jsonc_objects.specs.Members.{PropertyStandsAt, PutsNamedAtItsPath}
 use Rattle.jsonc_typed.proofs.Below.commas.Holders.{holder_path}
 use Rattle.jsonc_typed.proofs.Elsewhere.{row_elsewhere}
 use Rattle.jsonc_typed.proofs.Kept.{Stays, stay_both, stay_kept, stay_spliced}
@@ -72,17 +73,23 @@ module _ (old new : List Node) (c : ℕ) (name : List ℕ) (v : Plain) (tree : I
 fewer : (ns : List Node) (c : ℕ) → length (elements_at ns c) ≤ length (children_at ns c)
 fewer ns c = omega (arith, length-filter_both (is_element_at ns) (λ n. not (is_element_at ns n)) (λ n. refl) (children_at ns c))
 
-module _ {E : Type 0} (old new : List Node) (c : ℕ) (name : List ℕ) (v : Plain) (tree : IsTree old) (there : c < length old) where
-  pub appended : (r : Result CstObjectProp E) → OnOk r (has_brackets old (children_at old c) ≡ true) → IfOk r (NamedComesInAt old new c (length (children_at old c)) name v) → IfOk r (NamedComesInAt old new c (length (elements_at old c)) name v)
-  appended (Ok x) brackets put = past_the_end old new c (length (children_at old c)) (length (elements_at old c)) name v _ tree there brackets (fewer old c) (omega arith) put
-  appended (Err e) brackets put = tt
+-- the number of a last one: past the end all do the same
+module _ (old new : List Node) (c i : ℕ) (name : List ℕ) (v : Plain) (m : ℕ) (tree : IsTree old) (there : c < length old) (brackets : has_brackets old (children_at old c) ≡ true) (e : PropertyPut old new c i name v m) where
+  put_by_place : (i < length (elements_at old c)) ⊎ (length (elements_at old c) ≤ i) → PropertyPut old new c (min i (length (elements_at old c))) name v m
+  put_by_place (inl low) = subst (λ k. PropertyPut old new c k name v m) (sym (min-eq_left (let z : i ≤ length (elements_at old c) = omega (arith, low) in z))) e
+  put_by_place (inr high) =
+      subst (λ k. PropertyPut old new c k name v m) (sym (min-eq_right high)) (past_the_end old new c i (length (elements_at old c)) name v m tree there brackets high (omega arith) e)
 
-  pub appended_property : (r : Result CstObjectProp E) → IfOk r (PropertyStandsAt old new c (length (children_at old c))) → IfOk r (PropertyStandsAt old new c (length (elements_at old c)))
-  appended_property (Ok x) at =
-      let k : ℕ = length (elements_at old c) in
-      subst (λ j. IsElementOf new c j x.number) (min-eq_right (fewer old c) ∙ sym (min-eq_right {n = k} {m = k} (omega arith))) at
-  appended_property (Err e) at = tt
+  pub put_at_place : PropertyPut old new c (min i (length (elements_at old c))) name v m
+  put_at_place = put_by_place (cases_lt i (length (elements_at old c)))
 
-  pub appended_written : (is : content_at old c ≡ content.object) (o : Options) (r : Result CstObjectProp E) → OnOk r (has_brackets old (children_at old c) ≡ true) → IfOk r (NamedComesInAt old new c (length (children_at old c)) name v) → OnOk r (PutsNamedAtItsPath o old new c (length (elements_at old c)) name v)
-  appended_written is o (Ok x) brackets put = put_written old new c name v tree is o (length (elements_at old c)) _ (past_the_end old new c (length (children_at old c)) (length (elements_at old c)) name v _ tree there brackets (fewer old c) (omega arith) put)
-  appended_written is o (Err e) brackets put = tt
+-- as many as the children are mean the last
+pub behind_all : (ns : List Node) (c : ℕ) → min (length (children_at ns c)) (length (elements_at ns c)) ≡ length (elements_at ns c)
+behind_all ns c = min-eq_right (fewer ns c)
+
+pub appended_property : {E : Type 0} (old new : List Node) (c : ℕ) (r : Result CstObjectProp E) → IfOk r (PropertyStandsAt old new c (length (children_at old c)))
+    → IfOk r (PropertyStandsAt old new c (length (elements_at old c)))
+appended_property old new c (Ok x) at =
+    let k : ℕ = length (elements_at old c) in
+    subst (λ j. IsElementOf new c j x.number) (behind_all old c ∙ sym (min-eq_right {n = k} {m = k} (omega arith))) at
+appended_property old new c (Err e) at = tt

@@ -1,6 +1,6 @@
 //! Properties that come into objects.
 
-ghost use Rattle.std.specs.Prelude.{◌≡◌, ◌<◌, IfErr, IfOk, OnErr, OnOk, chars, length, true};
+ghost use Rattle.std.specs.Prelude.{◌≡◌, ◌<◌, IfErr, IfOk, OnErr, OnOk, chars, length, min, true};
 ghost use Rattle.jsonc_text.specs.Options.{Options};
 ghost use Rattle.jsonc_input.specs.Views.{plain};
 ghost use Rattle.jsonc_tree.specs.Content.{Content};
@@ -64,11 +64,13 @@ fn insert_at<A: Allocator + Copy>(
     requires there { object < length tree.old.nodes }
     requires object { content_at tree.old.nodes object ≡ Content.object }
     ensures put { IfOk result
-        (NamedComesInAt tree.old.nodes tree.new.nodes object index (chars name.now) (plain value.now)) }
+        (NamedComesInAt tree.old.nodes tree.new.nodes object
+        (min index (length (elements_at tree.old.nodes object))) (chars name.now) (plain value.now)) }
     ensures property { IfOk result (PropertyStandsAt tree.old.nodes tree.new.nodes object index) }
     ensures written { (o : Options)
         → OnOk result
-        (PutsNamedAtItsPath o tree.old.nodes tree.new.nodes object index (chars name.now) (plain value.now)) }
+        (PutsNamedAtItsPath o tree.old.nodes tree.new.nodes object
+        (min index (length (elements_at tree.old.nodes object))) (chars name.now) (plain value.now)) }
     ensures step { OnOk result
         (IsInsertingNamed tree.old.nodes tree.new.nodes object index (chars name.now) (plain value.now)) }
     ensures others { OnOk result (KeepsNodesBut tree.old.nodes tree.new.nodes object) }
@@ -129,8 +131,8 @@ fn append_to<A: Allocator + Copy>(
 pub trait InsertProperty: IsNode {
     /// Puts a property of this name and value behind its last one, and answers it.
     ///
-    /// It is what [`InsertProperty::insert`] does with the number of its properties. Another property of
-    /// the name, if there is one, stays: `jsonc_cst`'s `get` then answers that.
+    /// It is what [`InsertProperty::insert`] does with the number of its properties, or a greater one.
+    /// Another property of the name, if there is one, stays: `jsonc_cst`'s `get` then answers that.
     fn append<A: Allocator + Copy>(
         self,
         doc: &mut CstRootNode<A>,
@@ -179,11 +181,13 @@ pub trait InsertProperty: IsNode {
     ) -> Result<CstObjectProp, EditError>
         requires { Holds doc.old (Self.node_of self) }
         ensures put { IfOk result
-            (HasNamedComeIn doc.old doc.new (Self.node_of self) index (chars name.now) (plain value)) }
+            (HasNamedComeIn doc.old doc.new (Self.node_of self) (min index (element_count doc.old (Self.node_of self)))
+            (chars name.now) (plain value)) }
         ensures property { IfOk result (IsItsProperty doc.old doc.new (Self.node_of self) index) }
         ensures written { (o : Options)
             → OnOk result
-            (IsNamedAtItsPath doc.old doc.new o (Self.node_of self) index (chars name.now) (plain value)) }
+            (IsNamedAtItsPath doc.old doc.new o (Self.node_of self)
+            (min index (element_count doc.old (Self.node_of self))) (chars name.now) (plain value)) }
         ensures step { OnOk result (IsInsertingNamed (nodes_of doc.old) (nodes_of doc.new) (number_of (Self.node_of self))
             index (chars name.now) (plain value)) }
         ensures others { OnOk result (KeepsOthers doc.old doc.new (Self.node_of self)) }

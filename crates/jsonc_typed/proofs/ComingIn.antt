@@ -1,5 +1,5 @@
 -- Elements that have come into arrays: what the new node is, and which nodes stay.
-use Rattle.std.proofs.Common.{◌≡◌, ℕ, ◌<◌, ◌≤◌, ◌⊎◌, inl, inr, true, not, List, length, min, Result, Ok, Err, OnOk, IfOk, refl, sym, ap, subst, ◌∙◌, arith}
+use Rattle.std.proofs.Common.{◌≡◌, ℕ, ◌<◌, ◌≤◌, ◌⊎◌, inl, inr, true, not, List, length, min, Result, Ok, Err, IfOk, refl, sym, ap, subst, ◌∙◌, arith}
 use Rattle.std.proofs.Math.Nat.{min-eq_left, min-eq_right}
 use Rattle.std.proofs.lemmas.Bool.{cases_lt}
 use Rattle.std.proofs.lemmas.List.Filters.{length-filter_both}
@@ -26,7 +26,7 @@ use Rattle.jsonc_cst.specs.Nodes.{number_of}
 use Rattle.jsonc_insertion_laws.proofs.Comes.{elements_come_at}
 use Rattle.jsonc_insertion_laws.proofs.Containers.{wants_memory_alone}
 use Rattle.jsonc_insertion_laws.proofs.Written.{inserts_element}
-use Rattle.jsonc_typed.specs.Inserting.{ComesInAt, PutsAtItsPath, StandsAt}
+use Rattle.jsonc_typed.specs.Inserting.{PutsAtItsPath, StandsAt}
 use Rattle.jsonc_typed.specs.Removing.{WantsMemoryAlone}
 use Rattle.jsonc_typed.proofs.Kept.{Stays, stay_both, stay_kept, stay_spliced}
 

@@ -1,7 +1,8 @@
-use Rattle.std.proofs.Common.{ℕ, IfOk, chars, subst}
+use Rattle.std.proofs.Common.{ℕ, length, min, IfOk, OnOk, chars, ap, subst, ◌∙◌}
 use Rattle.jsonc_input.specs.Views.{plain}
-use Rattle.jsonc_objects.specs.Members.{NamedComesInAt, PropertyStandsAt}
-use Rattle.jsonc_objects.proofs.NamedIn.{appended, appended_property, appended_written}
+use Rattle.jsonc_nodes.specs.Siblings.{elements_at}
+use Rattle.jsonc_objects.specs.Members.{NamedComesInAt, PropertyStandsAt, PutsNamedAtItsPath}
+use Rattle.jsonc_objects.proofs.NamedIn.{appended_property, behind_all}
 use Rattle.jsonc_objects.proofs.Steps.{appended_step}
 use Rattle.jsonc_typed.proofs.Steps.{ok_with}
 use Rattle.jsonc_from_input.proofs.Texts.{of_texts}
@@ -12,22 +13,22 @@ pub returns-clause-put : goal.returns-clause-put
 returns-clause-put g c =
     let old = c.args.tree.now.nodes in
     let new = c.insert_at.new.tree.nodes in
-    appended old new c.args.object (chars c.args.name.now) (plain c.args.value.now) c.len.ensures.tree c.requires.there c.insert_at.result c.insert_at.ensures.brackets
-    (subst (λ (k : ℕ). IfOk c.insert_at.result (NamedComesInAt old new c.args.object k (chars c.args.name.now) (plain c.args.value.now))) c.child_count-count.ensures c.insert_at.ensures.put)
+    subst (λ (k : ℕ). IfOk c.insert_at.result (NamedComesInAt old new c.args.object k (chars c.args.name.now) (plain c.args.value.now)))
+    (ap (λ k. min k (length (elements_at old c.args.object))) c.child_count-count.ensures ∙ behind_all old c.args.object) c.insert_at.ensures.put
 
 pub returns-clause-property : goal.returns-clause-property
 returns-clause-property g c =
     let old = c.args.tree.now.nodes in
     let new = c.insert_at.new.tree.nodes in
-    appended_property old new c.args.object (chars c.args.name.now) (plain c.args.value.now) c.len.ensures.tree c.requires.there c.insert_at.result
+    appended_property old new c.args.object c.insert_at.result
     (subst (λ (k : ℕ). IfOk c.insert_at.result (PropertyStandsAt old new c.args.object k)) c.child_count-count.ensures c.insert_at.ensures.property)
 
 pub returns-clause-written : goal.returns-clause-written
 returns-clause-written g c = λ o.
     let old = c.args.tree.now.nodes in
     let new = c.insert_at.new.tree.nodes in
-    appended_written old new c.args.object (chars c.args.name.now) (plain c.args.value.now) c.len.ensures.tree c.requires.there c.requires.object o c.insert_at.result c.insert_at.ensures.brackets
-    (subst (λ (k : ℕ). IfOk c.insert_at.result (NamedComesInAt old new c.args.object k (chars c.args.name.now) (plain c.args.value.now))) c.child_count-count.ensures c.insert_at.ensures.put)
+    subst (λ (k : ℕ). OnOk c.insert_at.result (PutsNamedAtItsPath o old new c.args.object k (chars c.args.name.now) (plain c.args.value.now)))
+    (ap (λ k. min k (length (elements_at old c.args.object))) c.child_count-count.ensures ∙ behind_all old c.args.object) (c.insert_at.ensures.written o)
 
 pub returns-clause-step : goal.returns-clause-step
 returns-clause-step g c =
@@ -37,5 +38,5 @@ returns-clause-step g c =
     let v = plain c.args.value.now in
     ok_with c.insert_at.result
     (λ x put. appended_step old new c.len.ensures.tree c.insert_at.ensures.tree c.args.object name (scalars-chars c.args.name.now c.utf8.name) c.requires.object x.number v (of_texts _ c.args.value.now) put)
-    (appended old new c.args.object name v c.len.ensures.tree c.requires.there c.insert_at.result c.insert_at.ensures.brackets
-    (subst (λ (k : ℕ). IfOk c.insert_at.result (NamedComesInAt old new c.args.object k name v)) c.child_count-count.ensures c.insert_at.ensures.put))
+    (subst (λ (k : ℕ). IfOk c.insert_at.result (NamedComesInAt old new c.args.object k name v))
+    (ap (λ k. min k (length (elements_at old c.args.object))) c.child_count-count.ensures ∙ behind_all old c.args.object) c.insert_at.ensures.put)

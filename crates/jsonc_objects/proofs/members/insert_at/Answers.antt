@@ -3,7 +3,7 @@ use Rattle.jsonc_input.specs.Views.{plain}
 use Rattle.jsonc_nodes.specs.Siblings.{elements_at}
 use Rattle.jsonc_edit.specs.Paths.{IsElementOf}
 use Rattle.jsonc_named.specs.Below.members.Inserted.{PropertyPut}
-use Rattle.jsonc_objects.proofs.NamedIn.{put_element, put_elsewhere, put_for_memory, put_others, put_property, put_stays, put_there, put_written}
+use Rattle.jsonc_objects.proofs.NamedIn.{put_at_place, put_element, put_elsewhere, put_for_memory, put_others, put_property, put_stays, put_there, put_written}
 use Rattle.jsonc_typed.proofs.Kept.{nodes_stay, stay_kept}
 use Rattle.jsonc_objects.proofs.Steps.{inserted_step}
 use Rattle.jsonc_from_input.proofs.Texts.{of_texts}
@@ -22,7 +22,8 @@ pub returns-in-Ok-clause-put : goal.returns-in-Ok-clause-put
 returns-in-Ok-clause-put g c =
     let old = c.args.tree.now.nodes in
     let new = c.insert_property.new.tree.nodes in
-    subst (λ (m : ℕ). PropertyPut old new c.args.object c.args.index (chars c.args.name.now) (plain c.args.value.now) m) (sym c.property_at.ensures.number) c.in-Ok.ensures.put
+    subst (λ (m : ℕ). PropertyPut old new c.args.object (min c.args.index (length (elements_at old c.args.object))) (chars c.args.name.now) (plain c.args.value.now) m) (sym c.property_at.ensures.number)
+    (put_at_place old new c.args.object c.args.index (chars c.args.name.now) (plain c.args.value.now) c.in-Ok.property c.len.ensures.tree c.requires.there c.in-Ok.ensures.brackets c.in-Ok.ensures.put)
 
 pub returns-in-Ok-clause-property : goal.returns-in-Ok-clause-property
 returns-in-Ok-clause-property g c =
@@ -33,7 +34,10 @@ returns-in-Ok-clause-property g c =
 
 pub returns-in-Ok-clause-written : goal.returns-in-Ok-clause-written
 returns-in-Ok-clause-written g c = λ o.
-    put_written c.args.tree.now.nodes c.insert_property.new.tree.nodes c.args.object (chars c.args.name.now) (plain c.args.value.now) c.len.ensures.tree c.requires.object o c.args.index c.in-Ok.property c.in-Ok.ensures.put
+    let old = c.args.tree.now.nodes in
+    let new = c.insert_property.new.tree.nodes in
+    put_written old new c.args.object (chars c.args.name.now) (plain c.args.value.now) c.len.ensures.tree c.requires.object o (min c.args.index (length (elements_at old c.args.object))) c.in-Ok.property
+    (put_at_place old new c.args.object c.args.index (chars c.args.name.now) (plain c.args.value.now) c.in-Ok.property c.len.ensures.tree c.requires.there c.in-Ok.ensures.brackets c.in-Ok.ensures.put)
 
 pub returns-in-Ok-clause-others : goal.returns-in-Ok-clause-others
 returns-in-Ok-clause-others g c =

@@ -1,5 +1,6 @@
-use Rattle.std.proofs.Common.{ℕ, OnOk, chars, subst}
+use Rattle.std.proofs.Common.{ℕ, length, min, OnOk, chars, subst}
 use Rattle.jsonc_input.specs.Views.{plain}
+use Rattle.jsonc_nodes.specs.Siblings.{elements_at}
 use Rattle.jsonc_typed.specs.Edits.{StaysElsewhere}
 use Rattle.jsonc_objects.specs.Members.{PutsNamedAtItsPath, IsInsertingNamed}
 use Rattle.jsonc_objects.proofs.members.CstObjectInsertProperty.insert.Goals as goal
@@ -7,7 +8,7 @@ use Rattle.jsonc_objects.proofs.members.CstObjectInsertProperty.insert.Goals as 
 pub returns-clause-written : goal.returns-clause-written
 returns-clause-written g c = λ o.
     let old = c.args.doc.now.tree.nodes in
-    subst (λ (n : ℕ). OnOk c.insert_at-put.result (PutsNamedAtItsPath o old c.insert_at-put.new.tree.nodes n c.args.index (chars c.args.name.now) (plain c.args.value))) c.object_number-number.ensures.number (c.insert_at-put.ensures.written o)
+    subst (λ (n : ℕ). OnOk c.insert_at-put.result (PutsNamedAtItsPath o old c.insert_at-put.new.tree.nodes n (min c.args.index (length (elements_at old n))) (chars c.args.name.now) (plain c.args.value))) c.object_number-number.ensures.number (c.insert_at-put.ensures.written o)
 
 pub returns-clause-elsewhere : goal.returns-clause-elsewhere
 returns-clause-elsewhere g c =
