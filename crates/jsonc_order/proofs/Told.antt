@@ -1,10 +1,10 @@
 -- Keys that were told, one after another.
-use Rattle.std.proofs.Common.{◌≡◌, ◌++◌, [], ◌∷◌, ℕ, ◌+◌, ◌<◌, List, Option, Some, None, Result, Ok, Err, length, refl, sym, subst, ◌∙◌, arith, inl, inr}
+use Rattle.std.proofs.Common.{◌≡◌, ◌++◌, [], ◌∷◌, ℕ, ◌+◌, ◌<◌, ◌≤◌, List, Option, Some, None, Result, Ok, Err, length, refl, sym, subst, ◌∙◌, arith, inl, inr}
 use Rattle.std.proofs.lemmas.Bool.{cases_lt}
 use Rattle.std.proofs.lemmas.List.{get_or_append_left, get_or_push}
 use denote.Ref.{Bor}
 use denote.Param.Members.{Shared}
-use Rattle.jsonc_order.specs.Keys.{Answers, AreKeys, IsFirstRefused, IsKeyOf}
+use Rattle.jsonc_order.specs.Keys.{Answers, AreKeys, IsFirstRefused, IsKeyOf, WantsMemory}
 use Rattle.jsonc_order.specs.Order.{node_in}
 
 module _ {F D N K E : Type 0} (g : Shared F (Bor D × (N × Unit {0})) (Result K E)) (key : F) (doc : D) where
@@ -30,3 +30,15 @@ module _ {F D N K E : Type 0} (g : Shared F (Bor D × (N × Unit {0})) (Result K
 
   pub first_refused : (nodes : List (Option N)) (n : ℕ) (keys : List (Option K)) (e : E) → AreKeysBelow nodes n keys → (x : N) × (node_in nodes n ≡ Some x) × Answers g key doc x (Err e) → IsFirstRefused g key doc nodes e
   first_refused nodes n keys e below told = record { place = n; node = told.0; there = told.1; told = told.2; before = λ i h. (node_in keys i, below i h) }
+
+  pub memory_wanted : (nodes : List (Option N)) (n : ℕ) (keys : List (Option K)) (k : Option K) → n < length nodes → AreKeysBelow nodes n keys → IsKeyOf g key doc (node_in nodes n) k → WantsMemory g key doc nodes
+  memory_wanted nodes n keys k there below now = record {
+    place = n;
+    there = there;
+    told = λ i h. elim (cases_lt i n) [
+      | inl less ↦ (node_in keys i, below i less)
+      | inr more ↦
+          let same : n ≡ i = omega (arith, h, more) in
+          (k, subst (λ (j : ℕ). IsKeyOf g key doc (node_in nodes j) k) same now)
+    ];
+  }

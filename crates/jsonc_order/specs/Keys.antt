@@ -1,5 +1,5 @@
 -- Keys of the nodes of a row, which a closure gives that reads something lent, a document.
-use Rattle.std.specs.Prelude.{◌≡◌, ℕ, ◌<◌, List, length, Option, Some, None, ⊤}
+use Rattle.std.specs.Prelude.{◌≡◌, ℕ, ◌<◌, ◌≤◌, List, length, Option, Some, None}
 use Rattle.std.specs.declared.result.Result.{Result}
 use Rattle.std.specs.declared.result.Result.TheVariants.{Ok, Err}
 use denote.Ref.{Bor}
@@ -34,7 +34,13 @@ module _ {F D N K E : Type 0} (g : Shared F (Bor D × (N × Unit {0})) (Result K
     pub told : Answers node (Err e)
     pub before : (i : ℕ) → i < place → (k : Option K) × IsKeyOf (node_in nodes i) k
 
-  -- why there are no keys: want of memory, or the first that was refused
+  -- memory was wanted for the key of a place, which was told, as were all before it
+  pub record WantsMemory (nodes : List (Option N)) : Type 0 where
+    pub place : ℕ
+    pub there : place < length nodes
+    pub told : (i : ℕ) → i ≤ place → (k : Option K) × IsKeyOf (node_in nodes i) k
+
+  -- why there are no keys: memory was wanted, or the first that was refused
   abbrev pub WhyNone : List (Option N) → KeysError E → Type 0
-  WhyNone nodes OutOfMemory = ⊤
+  WhyNone nodes OutOfMemory = WantsMemory nodes
   WhyNone nodes (Refused e) = IsFirstRefused nodes e

@@ -41,7 +41,8 @@ fn key_of<D, N: Copy, K, E, F: Fn(&D, N) -> Result<K, E>>(
     }
 }
 
-/// The keys of the nodes of a row, which are asked for in turn: the first that is refused is the answer.
+/// The keys of the nodes of a row, which are asked for in turn: the first that is refused is the answer, and
+/// memory is wanted only for one that was told, as were all before it.
 pub fn keys_of<A: Allocator, D, N: Copy, K: Drop, E, F: Fn(&D, N) -> Result<K, E>>(
     alloc: A,
     doc: &D,

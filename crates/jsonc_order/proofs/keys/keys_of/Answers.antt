@@ -1,5 +1,5 @@
-use Rattle.std.proofs.Common.{rules, [], ◌∷◌, ◌++◌, ◌+◌, subst, sym, ◌≡◌, List, Option}
-use Rattle.jsonc_order.proofs.Told.{AreKeysBelow, first_refused, one_more}
+use Rattle.std.proofs.Common.{rules, [], ◌∷◌, ◌++◌, ◌+◌, subst, sym, ◌≡◌, ◌<◌, length, List, Option}
+use Rattle.jsonc_order.proofs.Told.{AreKeysBelow, first_refused, memory_wanted, one_more}
 use Rattle.jsonc_order.proofs.keys.keys_of.Goals as goal
 
 pub returns-in-Err-clause-refused : goal.returns-in-Err-clause-refused
@@ -14,3 +14,8 @@ loop-place-preserved g c =
       subst (λ (ks : List (Option g.row.K.Denot)). AreKeysBelow g.F.Fn c.args.key.now c.args.doc.now c.args.nodes.now (c.loop-place.place + 1) ks) (sym pushed)
           (one_more g.F.Fn c.args.key.now c.args.doc.now c.args.nodes.now c.loop-place.place was c.in-Ok.found c.loop-place.invariant.0 c.loop-place.invariant.1 c.in-Ok.ensures.key),
     )
+
+pub returns-in_default-clause-refused : goal.returns-in_default-clause-refused
+returns-in_default-clause-refused g c =
+    let there : c.loop-place.place < length c.args.nodes.now = search rules in
+    memory_wanted g.F.Fn c.args.key.now c.args.doc.now c.args.nodes.now c.loop-place.place c.loop-place.keys.items c.in-Ok.found there c.loop-place.invariant.1 c.in-Ok.ensures.key
