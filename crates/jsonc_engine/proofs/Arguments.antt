@@ -1,6 +1,7 @@
 -- The value of a command's JSON text may be written into any document that allows all.
 use Rattle.std.proofs.Common.{◌≡◌, ℕ, Bool, true, false, cond, List, chars, Option, Some, None, option_map, refl, sym, ap, subst, ◌∙◌}
 use Rattle.std.specs.Borrow.{Bor}
+use Rattle.std.specs.Prelude.{is_some}
 use Rattle.std.specs.declared.string.String.{String}
 use Rattle.std.specs.declared.vec.Vec.{Vec}
 use Rattle.std.specs.Str.{bytes_eq}
@@ -14,21 +15,33 @@ use Rattle.jsonc_text.specs.Grammar.{IsValue, AreElements, AreProperties, IsProp
 use Rattle.jsonc_text.proofs.NumberFrames.{number_whole}
 use Rattle.jsonc_tree.specs.OrderedTree.{OrderedTree}
 use Rattle.jsonc_tree.specs.Values.{DocumentValueOf}
+use Rattle.jsonc_tree.specs.Tree.{IsTree}
+use Rattle.jsonc_build.specs.Lines.{DocumentLinesEnd}
 use Rattle.jsonc_build.specs.Shape.{DocumentShaped}
 use Rattle.jsonc_input.specs.Views.{plain}
 use Rattle.jsonc_input.specs.declared.value.CstInputValue.{CstInputValue}
 use Rattle.jsonc_from_input.proofs.Texts.{of_texts}
 use Rattle.jsonc_to_input.specs.Taken.{IsTaken}
 use Rattle.jsonc_edit.specs.Writing.{IsOfNumbers, AreOfNumbers, AreNamedOfNumbers}
+use Rattle.jsonc_edit.specs.declared.error.EditError.{EditError}
+use Rattle.jsonc_edit.specs.declared.error.EditError.TheVariants.{OutOfMemory}
+use Rattle.jsonc_cst.specs.declared.cst.CstRootNode.{CstRootNode}
+use Rattle.jsonc_cst.specs.declared.cst.node.CstArray.{CstArray}
+use Rattle.jsonc_cst.specs.declared.cst.node.CstNode.{CstNode}
+use Rattle.jsonc_cst.specs.Document.{nodes_of, printed_of, tree_of}
+use Rattle.jsonc_cst.specs.Readings.{array_if, value_under}
 use Rattle.jsonc_cst.proofs.Colons.{taken_is_the_value}
 use Rattle.jsonc_parser.specs.Below.settings.Found.{names_of}
 use Rattle.jsonc_engine.specs.declared.argument.Change.TheVariants.{Append, Drop, Get, Remove, Set, Sort, Stay}
 use Rattle.jsonc_engine.specs.declared.command.Command.{Command}
 use Rattle.jsonc_engine.specs.declared.command.Command.TheVariants as command
 use Rattle.jsonc_engine.specs.declared.fault.Fault.{Fault}
+use Rattle.jsonc_engine.specs.declared.fault.Fault.TheVariants.{Edit, NotNames}
 use Rattle.jsonc_engine.specs.Argument.{IsArgument, IsFaultOfArgument, of_json, of_path, IsFaultOfJson, IsFaultOfPath, IsPath}
 use Rattle.jsonc_engine.specs.Change.{IsChangeFor, for_check, for_print, for_set, for_append, for_remove, for_sort, for_get, for_drop}
 use Rattle.jsonc_engine.specs.Command.{put, request_of}
+use Rattle.jsonc_engine.proofs.Changes.{parsed_sound}
+use Rattle.jsonc_engine.proofs.RootKinds.{no_names, reads_array, reads_none, reads_one, said_of_text}
 
 module _ (o : Options) where
   -- a literal's number is one
@@ -133,6 +146,29 @@ module _ {A : Type 0} (json : List ℕ) (o : Options) (all : o ≡ all_on) (tree
 
   pub no_argument : (taken : Option (CstInputValue A)) → taken ≡ None → IsTaken tree taken → IsDocument all_on (chars json) None
   no_argument taken e is = valueless_by value.0 value.1 taken e (told taken is)
+
+-- and whether it has one, as its nodes tell
+module _ {A : Type 0} (json : List ℕ) (o : Options) (all : o ≡ all_on) (doc : CstRootNode A) (reads : printed_of doc ≡ json) (tree : IsTree (nodes_of doc)) (shaped : DocumentShaped o (tree_of doc))
+    (lines : DocumentLinesEnd (tree_of doc)) where
+  pub no_value_there : (w : Option CstNode) → w ≡ value_under doc 0 → is_some w ≡ false → IsDocument all_on (chars json) None
+  no_value_there w same none =
+      said_of_text o all_on (printed_of doc) json all reads (reads_none o (nodes_of doc) tree (parsed_sound o (nodes_of doc) shaped lines) w same none)
+
+  pub value_wanted : (w : Option CstNode) → w ≡ value_under doc 0 → is_some w ≡ true → (e : EditError) → e ≡ OutOfMemory → IsFaultOfJson json (Edit e)
+  value_wanted w same one e is =
+      let h = reads_one o (nodes_of doc) tree (parsed_sound o (nodes_of doc) shaped lines) w same one in
+      subst (λ (x : EditError). IsFaultOfJson json (Edit x)) (sym is) (h.0, said_of_text o all_on (printed_of doc) json all reads h.1)
+
+  -- no array is no list of names
+  pub no_array_there : (w : Option CstArray) → w ≡ array_if (value_under doc 0) → is_some w ≡ false → IsFaultOfPath json NotNames
+  no_array_there w same none =
+      let h = no_names o (nodes_of doc) tree (parsed_sound o (nodes_of doc) shaped lines) w same none in
+      (h.0, said_of_text o all_on (printed_of doc) json all reads h.1, h.2)
+
+  pub array_wanted : (w : Option CstArray) → w ≡ array_if (value_under doc 0) → is_some w ≡ true → (e : EditError) → e ≡ OutOfMemory → IsFaultOfPath json (Edit e)
+  array_wanted w same one e is =
+      let h = reads_array o (nodes_of doc) tree (parsed_sound o (nodes_of doc) shaped lines) w same one in
+      subst (λ (x : EditError). IsFaultOfPath json (Edit x)) (sym is) (h.0, said_of_text o all_on (printed_of doc) json all reads h.1, h.2)
 
 -- what a command asks for
 module _ {A : Type 0} (c : Command) where

@@ -1,9 +1,9 @@
 -- What a command makes of a document that was read, and why it does not.
-use Rattle.std.proofs.Common.{◌≡◌, ℕ, List, Option, Some, None, Result, Ok, Err, IfErr, IfOk, OnOk, refl, sym, ap, subst, ◌∙◌, chars}
+use Rattle.std.proofs.Common.{◌≡◌, ℕ, List, Option, Some, None, Result, Ok, Err, IfErr, IfOk, OnErr, OnOk, refl, sym, ap, subst, ◌∙◌, chars}
 use Rattle.std.specs.Borrow.{Bor}
 use Rattle.std.specs.declared.string.String.{String}
 use Rattle.std.specs.declared.vec.Vec.{Vec}
-use Rattle.std.specs.Prelude.{IfSome, IsErrOf}
+use Rattle.std.specs.Prelude.{IfSome}
 use Rattle.jsonc_text.specs.Options.{Options}
 use Rattle.jsonc_input.specs.Views.{plain}
 use Rattle.jsonc_input.specs.declared.value.CstInputValue.{CstInputValue}
@@ -12,6 +12,7 @@ use Rattle.jsonc_tree.specs.Tree.{Node}
 use Rattle.jsonc_build.specs.Lines.{DocumentLinesEnd}
 use Rattle.jsonc_build.specs.Shape.{DocumentShaped}
 use Rattle.jsonc_build.proofs.LooseLines.{document_loosens}
+use Rattle.jsonc_build.proofs.ShapeValues.{document_printed}
 use Rattle.jsonc_laws.specs.SoundTrees.{SoundTree}
 use Rattle.jsonc_edit.specs.declared.error.EditError.TheVariants.{OutOfMemory}
 use Rattle.jsonc_parser.specs.Below.settings.Found.{names_of}
@@ -19,13 +20,13 @@ use Rattle.jsonc_engine.specs.declared.argument.Change.{Change}
 use Rattle.jsonc_engine.specs.declared.argument.Change.TheVariants.{Append, Drop, Get, Put, Remove, Set, Sort, Stay}
 use Rattle.jsonc_engine.specs.declared.fault.Fault.{Fault}
 use Rattle.jsonc_engine.specs.declared.output.Output.{Output}
-use Rattle.jsonc_engine.specs.declared.fault.Fault.TheVariants.{Edit, NoSetting, NotObject, OnTheWay}
+use Rattle.jsonc_engine.specs.declared.fault.Fault.TheVariants.{Edit, NoSetting, NotArray, NotObject, OnTheWay}
 use Rattle.jsonc_engine.specs.Appending.{AppendsIfSound}
 use Rattle.jsonc_engine.specs.Change.{GetsNothing, IsChangeFor, for_check, for_print, for_set, for_append, for_remove, for_sort, for_get, for_put, for_drop, MakesIfSound}
 use Rattle.jsonc_engine.specs.Command.{Request, check, print, set, append, remove, sort, get, put, drop}
-use Rattle.jsonc_engine.specs.Fault.{EndsGetting, EndsOnObject, EndsPutting, FindsNoObject, IsFaultOn}
+use Rattle.jsonc_engine.specs.Fault.{EndsAppending, EndsGetting, EndsOnObject, EndsPutting, EndsSetting, IsFaultOn}
 use Rattle.jsonc_engine.specs.Output.{IsLeft, output_bytes}
-use Rattle.jsonc_engine.specs.Removal.{HasNoObject, LosesIfSound}
+use Rattle.jsonc_engine.specs.Removal.{LosesIfSound}
 use Rattle.jsonc_engine.specs.Setting.{SetsIfSound}
 use Rattle.jsonc_engine.specs.Settings.{DropsIfSound, PutsIfSound, ShownIfSound}
 use Rattle.jsonc_engine.specs.Sorting.{SortsIfSound}
@@ -44,12 +45,10 @@ pub on_ok : {T E : Type 0} {P : Type 0} (r : Result T E) → P → OnOk r P
 on_ok (Ok x) h = h
 on_ok (Err e) h = tt
 
--- what a removal or a sort is refused for is true of the document
-refused_on_object : (o : Options) (ns : List Node) (request : Request) (fault : Fault) → (HasNoObject o (ordered_tree ns 0) → FindsNoObject o request (printed (ordered_tree ns 0)))
-    → EndsOnObject fault → (IsErrOf {T = Unit {0}} (Err fault) NotObject → HasNoObject o (ordered_tree ns 0)) → IsFaultOn o request (printed (ordered_tree ns 0)) fault
-refused_on_object o ns request NotObject finds ends none = finds (none refl)
-refused_on_object o ns request (Edit OutOfMemory) finds ends none = tt
-refused_on_object o ns request _ finds ends none = absurd ends
+-- what is true of any refusal
+pub err_so : {T E : Type 0} {P Q : Type 0} (r : Result T E) → (Q → P) → OnErr r Q → OnErr r P
+err_so (Ok x) f h = tt
+err_so (Err e) f h = f h
 
 module _ {A : Type 0} (o : Options) where
   -- each change is what its command makes
@@ -95,7 +94,7 @@ module _ {A : Type 0} (o : Options) where
   put_refused : (request : Request) (ns : List Node) (names : Vec (String A) A) (value : CstInputValue A) → IsChangeFor request (Put names value) → (fault : Fault)
       → EndsPutting o (printed (ordered_tree ns 0)) (names_of names.items) fault → IsFaultOn o request (printed (ordered_tree ns 0)) fault
   put_refused _ ns _ _ (for_put path json names value is argument) OnTheWay ends = (names_of names.items, is, ends)
-  put_refused _ ns _ _ (for_put path json names value is argument) (Edit OutOfMemory) ends = tt
+  put_refused _ ns _ _ (for_put path json names value is argument) (Edit OutOfMemory) ends = (names_of names.items, is, ends)
   put_refused _ ns _ _ (for_put path json names value is argument) _ ends = absurd ends
 
   pub put_told : (request : Request) (ns : List Node) (names : Vec (String A) A) (value : CstInputValue A) → IsChangeFor request (Put names value) → (l : List (String A)) → l ≡ names.items
@@ -107,7 +106,7 @@ module _ {A : Type 0} (o : Options) where
   get_refused : (request : Request) (ns : List Node) (names : Vec (String A) A) → IsChangeFor request (Get names) → (fault : Fault)
       → EndsGetting o (printed (ordered_tree ns 0)) (names_of names.items) fault → IsFaultOn o request (printed (ordered_tree ns 0)) fault
   get_refused _ ns _ (for_get path names is) NoSetting ends = (names_of names.items, is, ends)
-  get_refused _ ns _ (for_get path names is) (Edit OutOfMemory) ends = tt
+  get_refused _ ns _ (for_get path names is) (Edit OutOfMemory) ends = (names_of names.items, is, ends)
   get_refused _ ns _ (for_get path names is) _ ends = absurd ends
 
   pub get_told : (request : Request) (ns : List Node) (names : Vec (String A) A) → IsChangeFor request (Get names) → (l : List (String A)) → l ≡ names.items → (r : Result (Output A) Fault)
@@ -127,16 +126,61 @@ module _ {A : Type 0} (o : Options) where
       got_so request ns names (output_bytes output) is sound (subst (λ (k : List (String A)). ShownIfSound o (names_of k) ns (output_bytes output)) same shown)
   got_by request ns names is l same sound (Err fault) shown = tt
 
-  -- and what refuses a removal or a sort is true of the document
-  pub remove_told : (request : Request) (ns : List Node) (name : Bor (List ℕ)) → IsChangeFor {A = A} request (Remove name) → (r : Result (Unit {0}) Fault) → IfErr r EndsOnObject
-      → (IsErrOf r NotObject → HasNoObject o (ordered_tree ns 0)) → IfErr r (IsFaultOn o request (printed (ordered_tree ns 0)))
-  remove_told _ ns _ (for_remove name) (Ok x) ends none = tt
-  remove_told _ ns _ (for_remove name) (Err fault) ends none = refused_on_object o ns (remove name.now) fault (λ h. h) ends none
+  -- and what refuses any other change is true of the document
+  set_refused : (request : Request) (ns : List Node) (name : Bor (List ℕ)) (value : CstInputValue A) → IsChangeFor request (Set name value) → (fault : Fault)
+      → EndsSetting o (printed (ordered_tree ns 0)) fault → IsFaultOn o request (printed (ordered_tree ns 0)) fault
+  set_refused _ ns _ _ (for_set name json value argument) NotObject ends = ends
+  set_refused _ ns _ _ (for_set name json value argument) (Edit OutOfMemory) ends = ends
+  set_refused _ ns _ _ (for_set name json value argument) _ ends = absurd ends
 
-  pub sort_told : (request : Request) (ns : List Node) → IsChangeFor {A = A} request Sort → (r : Result (Unit {0}) Fault) → IfErr r EndsOnObject → (IsErrOf r NotObject → HasNoObject o (ordered_tree ns 0))
+  pub set_told : (request : Request) (ns : List Node) (name : Bor (List ℕ)) (value : CstInputValue A) → IsChangeFor request (Set name value) → (r : Result (Unit {0}) Fault)
+      → IfErr r (EndsSetting o (printed (ordered_tree ns 0))) → IfErr r (IsFaultOn o request (printed (ordered_tree ns 0)))
+  set_told request ns name value is (Ok x) ends = tt
+  set_told request ns name value is (Err fault) ends = set_refused request ns name value is fault ends
+
+  append_refused : (request : Request) (ns : List Node) (value : CstInputValue A) → IsChangeFor request (Append value) → (fault : Fault)
+      → EndsAppending o (printed (ordered_tree ns 0)) fault → IsFaultOn o request (printed (ordered_tree ns 0)) fault
+  append_refused _ ns _ (for_append json value argument) NotArray ends = ends
+  append_refused _ ns _ (for_append json value argument) (Edit OutOfMemory) ends = ends
+  append_refused _ ns _ (for_append json value argument) _ ends = absurd ends
+
+  pub append_told : (request : Request) (ns : List Node) (value : CstInputValue A) → IsChangeFor request (Append value) → (r : Result (Unit {0}) Fault)
+      → IfErr r (EndsAppending o (printed (ordered_tree ns 0))) → IfErr r (IsFaultOn o request (printed (ordered_tree ns 0)))
+  append_told request ns value is (Ok x) ends = tt
+  append_told request ns value is (Err fault) ends = append_refused request ns value is fault ends
+
+  remove_refused : (request : Request) (ns : List Node) (name : Bor (List ℕ)) → IsChangeFor {A = A} request (Remove name) → (fault : Fault)
+      → EndsOnObject o (printed (ordered_tree ns 0)) fault → IsFaultOn o request (printed (ordered_tree ns 0)) fault
+  remove_refused _ ns _ (for_remove name) NotObject ends = ends
+  remove_refused _ ns _ (for_remove name) (Edit OutOfMemory) ends = ends
+  remove_refused _ ns _ (for_remove name) _ ends = absurd ends
+
+  pub remove_told : (request : Request) (ns : List Node) (name : Bor (List ℕ)) → IsChangeFor {A = A} request (Remove name) → (r : Result (Unit {0}) Fault)
+      → IfErr r (EndsOnObject o (printed (ordered_tree ns 0))) → IfErr r (IsFaultOn o request (printed (ordered_tree ns 0)))
+  remove_told request ns name is (Ok x) ends = tt
+  remove_told request ns name is (Err fault) ends = remove_refused request ns name is fault ends
+
+  sort_refused : (request : Request) (ns : List Node) → IsChangeFor {A = A} request Sort → (fault : Fault)
+      → EndsOnObject o (printed (ordered_tree ns 0)) fault → IsFaultOn o request (printed (ordered_tree ns 0)) fault
+  sort_refused _ ns for_sort NotObject ends = ends
+  sort_refused _ ns for_sort (Edit OutOfMemory) ends = ends
+  sort_refused _ ns for_sort _ ends = absurd ends
+
+  pub sort_told : (request : Request) (ns : List Node) → IsChangeFor {A = A} request Sort → (r : Result (Unit {0}) Fault) → IfErr r (EndsOnObject o (printed (ordered_tree ns 0)))
       → IfErr r (IsFaultOn o request (printed (ordered_tree ns 0)))
-  sort_told _ ns for_sort (Ok x) ends none = tt
-  sort_told _ ns for_sort (Err fault) ends none = refused_on_object o ns sort fault (λ h. h) ends none
+  sort_told request ns is (Ok x) ends = tt
+  sort_told request ns is (Err fault) ends = sort_refused request ns is fault ends
+
+  drop_refused : (request : Request) (ns : List Node) (names : Vec (String A) A) → IsChangeFor request (Drop names) → SoundTree o (ordered_tree ns 0)
+      → IsFaultOn o request (printed (ordered_tree ns 0)) (Edit OutOfMemory)
+  drop_refused _ ns _ (for_drop path names is) sound =
+      let text = document_printed o (ordered_tree ns 0) sound.shaped sound.lines in
+      (text.0, text.1)
+
+  pub drop_told : (request : Request) (ns : List Node) (names : Vec (String A) A) → IsChangeFor request (Drop names) → SoundTree o (ordered_tree ns 0) → (r : Result (Unit {0}) Fault)
+      → IfErr r (λ fault. fault ≡ Edit OutOfMemory) → IfErr r (IsFaultOn o request (printed (ordered_tree ns 0)))
+  drop_told request ns names is sound (Ok x) ends = tt
+  drop_told request ns names is sound (Err fault) ends = subst (IsFaultOn o request (printed (ordered_tree ns 0))) (sym ends) (drop_refused request ns names is sound)
 
 -- so the document of the input is left, where the change is not to get a value
 module _ {A : Type 0} (o : Options) (change : Change A) (other : GetsNothing change) where

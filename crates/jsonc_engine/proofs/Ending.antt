@@ -1,10 +1,13 @@
 -- What a run has written, of the input that was read.
-use Rattle.std.proofs.Common.{◌≡◌, ℕ, ◌==◌, if◌then◌else◌, List, [], ◌∷◌, Option, Result, Ok, Err, IfSome, OnOk, IsTrue, refl, sym, ap, subst, ◌∙◌}
+use Rattle.std.proofs.Common.{◌≡◌, ℕ, ◌==◌, if◌then◌else◌, List, [], ◌∷◌, Option, Result, Ok, Err, IfErr, IfSome, OnErr, OnOk, IsTrue, refl, sym, ap, subst, ◌∙◌}
 use Rattle.std.specs.Io.KnownBytes.{Appends}
 use Rattle.jsonc_text.specs.Options.{Options, all_on}
+use Rattle.std.specs.Prelude.{IsErrOf}
+use Rattle.jsonc_edit.specs.declared.error.EditError.TheVariants.{OutOfMemory}
 use Rattle.jsonc_engine.specs.declared.fault.Fault.{Fault}
+use Rattle.jsonc_engine.specs.declared.fault.Fault.TheVariants.{Edit, Write}
 use Rattle.jsonc_engine.specs.Command.{Request, check, print, set, append, remove, sort, get, put, drop, words_of, writes}
-use Rattle.jsonc_engine.specs.Fault.{IsFaultOn, TellsOfInput}
+use Rattle.jsonc_engine.specs.Fault.{IsFaultOn, IsForMemory, TellsOfInput}
 use Rattle.jsonc_engine.specs.Input.{IsInput, IsInputOf}
 use Rattle.jsonc_engine.specs.Output.{IsLeft, Puts}
 use Rattle.jsonc_engine.proofs.Changes.{of_input}
@@ -60,7 +63,22 @@ module _ (known : Option (List ℕ)) (read input : List ℕ) (o : Options) (all 
       let there : IsFaultOn all_on r read fault = subst (λ (i : List ℕ). IsFaultOn all_on r i fault) value (subst (λ (p : Options). IsFaultOn p r input fault) all h) in
       of_input known read (λ i. TellsOfInput q i fault) bytes (tells_of_input q read fault (subst (λ (p : Request). IsFaultOn all_on p read fault) (same_request r q e) there))
 
+  pub memory_known : (r q : Request) → words_of r ≡ words_of q → (fault : Fault) → fault ≡ Edit OutOfMemory → IsFaultOn o r input fault → IfSome known (IsForMemory all_on q)
+  memory_known r q e fault is h =
+      let wanted : IsForMemory o r input = subst (IsFaultOn o r input) is h in
+      let there : IsForMemory all_on r read = subst (λ (i : List ℕ). IsForMemory all_on r i) value (subst (λ (p : Options). IsForMemory p r input) all wanted) in
+      of_input known read (IsForMemory all_on q) bytes (subst (λ (p : Request). IsForMemory all_on p read) (same_request r q e) there)
+
+-- what is told of a write is no want of memory
+pub no_memory : {T P : Type 0} (r : Result T Fault) → OnErr r (IsErrOf r Write) → IsErrOf r (Edit OutOfMemory) → P
+no_memory (Ok x) h e = cc
+no_memory (Err fault) h e = cc
+
 -- what holds anyway
+pub err_always : {T : Type 0} {P : Fault → Type 0} (r : Result T Fault) → ((fault : Fault) → P fault) → IfErr r P
+err_always (Ok x) h = tt
+err_always (Err fault) h = h fault
+
 pub ok_always : {T P : Type 0} (r : Result T Fault) → P → OnOk r P
 ok_always (Ok x) h = h
 ok_always (Err e) h = tt

@@ -1,4 +1,5 @@
 mod Reading
+mod RootKinds
 mod Removing
 mod Sorting
 mod Arguments

@@ -19,7 +19,7 @@ use Rattle.jsonc_edit.proofs.FittingFinds.{none_is_some}
 use Rattle.jsonc_set.proofs.PropertyRows.{over_at}
 use Rattle.jsonc_set.specs.Kinds.{FoundOrCreated}
 use Rattle.jsonc_parser.specs.Below.named.Places.{IsPropertyOf, a_property}
-use Rattle.jsonc_parser.specs.Below.named.Shapes.{has_shape, is_of, empty_of}
+use Rattle.jsonc_parser.specs.Below.named.Shapes.{has_shape, is_array, is_object, is_of, empty_of}
 use Rattle.jsonc_parser.specs.Below.named.declared.shape.Shape.{Shape}
 use Rattle.jsonc_parser.specs.Below.named.declared.shape.Shape.TheVariants.{Object, Array}
 use Rattle.jsonc_parser.proofs.Below.run.Ensured.{held}
@@ -38,30 +38,11 @@ use Rattle.jsonc_parser.specs.Below.typed.Setting.{FindsOrCreatesArray, FindsOrC
 use Rattle.jsonc_parser.specs.Below.typed.Values.{HeldIsMarked, HeldIsWritten, PropertyHolds}
 use Rattle.jsonc_engine.specs.declared.fault.Fault.TheVariants.{Edit, NotArray, NotObject}
 use Rattle.jsonc_engine.specs.Appending.{AppendsLast}
-use Rattle.jsonc_engine.specs.Fault.{EndsAppending, EndsSetting, HasAnother}
+use Rattle.jsonc_engine.specs.Fault.{EndsAppending, EndsOnObject, EndsSetting}
+use Rattle.jsonc_engine.specs.Input.{HasAnother, HasKind, MayHave}
 use Rattle.jsonc_engine.specs.Setting.{HasSet, SetsFirst, SetOrAppended}
+use Rattle.jsonc_engine.proofs.RootKinds.{array_read, of_found, wanted}
 use Rattle.jsonc_engine.proofs.Removing.{object_read, found_element}
-
--- a node that reads as an array is one
-number_or : ℕ → Option CstArray → ℕ
-number_or n None = n
-number_or n (Some x) = x.number
-
-is_read : Option CstArray → Bool
-is_read None = false
-is_read (Some x) = true
-
-read_array : (c : Content) (n : ℕ) (x : CstArray) → array_if (Some (typed c n)) ≡ Some x → (c ≡ array) × (n ≡ x.number)
-unfolding number_or is_read
-read_array content.array n x e = (refl, ap (number_or n) e)
-read_array _ n x e = let wrong : false ≡ true = ap is_read e in cc
-
-pub array_read : (ns : List Node) (w : Option ℕ) (x : CstArray) → array_if (typed_if ns w) ≡ Some x → (w ≡ Some x.number) × (content_at ns x.number ≡ array)
-unfolding is_read
-array_read ns None x e = let wrong : false ≡ true = ap is_read e in cc
-array_read ns (Some n) x e =
-    let is = read_array (content_at ns n) n x e in
-    (ap Some is.1, subst (λ m. content_at ns m ≡ array) is.1 is.0)
 
 -- what was found stands there
 pub array_stands : (ns : List Node) (found : Option CstArray) (x : CstArray) → found ≡ Some x → IfSome found (λ a. typed_if ns (value_at ns 0) ≡ Some (array_node a))
@@ -111,12 +92,23 @@ module _ (o : Options) (old made : List Node) where
   no_object tree s found none h =
       another_by Object tree s (value_at old 0) refl (subst (λ (f : Option CstObject). FindsOrCreatesObject old made f) none h)
 
--- want of memory can end an edit
-pub memory_appending : (o : Options) (bytes : List ℕ) (e : EditError) → e ≡ OutOfMemory → EndsAppending o bytes (Edit e)
-memory_appending o bytes e is = subst (λ (x : EditError). EndsAppending o bytes (Edit x)) (sym is) tt
+-- want of memory can end an edit, where the value is of the kind that is wanted
+pub memory_appending : (o : Options) (bytes : List ℕ) (e : EditError) → e ≡ OutOfMemory → MayHave is_array o bytes → EndsAppending o bytes (Edit e)
+memory_appending o bytes e is has = subst (λ (x : EditError). EndsAppending o bytes (Edit x)) (sym is) has
 
-pub memory_setting : (o : Options) (bytes : List ℕ) (e : EditError) → e ≡ OutOfMemory → EndsSetting o bytes (Edit e)
-memory_setting o bytes e is = subst (λ (x : EditError). EndsSetting o bytes (Edit x)) (sym is) tt
+pub memory_setting : (o : Options) (bytes : List ℕ) (e : EditError) → e ≡ OutOfMemory → MayHave is_object o bytes → EndsSetting o bytes (Edit e)
+memory_setting o bytes e is has = subst (λ (x : EditError). EndsSetting o bytes (Edit x)) (sym is) has
+
+pub memory_on_object : (o : Options) (bytes : List ℕ) (e : EditError) → e ≡ OutOfMemory → HasKind is_object o bytes → EndsOnObject o bytes (Edit e)
+memory_on_object o bytes e is has = subst (λ (x : EditError). EndsOnObject o bytes (Edit x)) (sym is) has
+
+-- so it is while the first value is made
+module _ (o : Options) (old : List Node) (tree : IsTree old) (s : SoundTree o (ordered_tree old 0)) (none : value_at old 0 ≡ None) where
+  pub array_wanted : (e : EditError) → e ≡ OutOfMemory → EndsAppending o (printed (ordered_tree old 0)) (Edit e)
+  array_wanted e is = memory_appending o (printed (ordered_tree old 0)) e is (wanted o old tree s Array none)
+
+  pub object_wanted : (e : EditError) → e ≡ OutOfMemory → EndsSetting o (printed (ordered_tree old 0)) (Edit e)
+  object_wanted e is = memory_setting o (printed (ordered_tree old 0)) e is (wanted o old tree s Object none)
 
 -- what is put into the array
 module _ (o : Options) (old made : List Node) (tree : IsTree made) (x : CstArray) (stands : typed_if made (value_at made 0) ≡ Some (array_node x))
@@ -145,8 +137,9 @@ module _ (o : Options) (old made : List Node) (tree : IsTree made) (x : CstArray
     put = λ may. put (sound_array o old made first s) may [] at;
   }
 
-  pub array_memory : (e : EditError) → WantsMemoryAlone o made c e → EndsAppending o (printed (ordered_tree old 0)) (Edit e)
-  array_memory e told = memory_appending o (printed (ordered_tree old 0)) e (told (sound_array o old made first s) (over_at made tree [] c at))
+  pub array_memory : IsTree old → FindsOrCreatesArray old made (Some x) → (e : EditError) → WantsMemoryAlone o made c e → EndsAppending o (printed (ordered_tree old 0)) (Edit e)
+  array_memory before found e told =
+      memory_appending o (printed (ordered_tree old 0)) e (told (sound_array o old made first s) (over_at made tree [] c at)) (of_found o old before s Array made c found)
 
 -- a property that was found is one
 Property : List Node → Option ℕ → Type 0
@@ -218,5 +211,8 @@ module _ (o : Options) (old made : List Node) (tree : IsTree made) (x : CstObjec
       pub sets_property : PropertyHolds made new p v now → HeldIsWritten made new o p v now → HeldIsMarked made new p v → SetsFirst o name v old new
       sets_property becomes written marked = sets_by (Some p) named (sets_value becomes written marked)
 
-  pub object_memory : (e : EditError) → WantsMemoryAlone o made k e → EndsSetting o (printed (ordered_tree old 0)) (Edit e)
-  object_memory e told = memory_setting o (printed (ordered_tree old 0)) e (told sound (over_at made tree [] k stands_there))
+  pub object_memory : IsTree old → FindsOrCreatesObject old made (Some x) → (e : EditError) → e ≡ OutOfMemory → EndsSetting o (printed (ordered_tree old 0)) (Edit e)
+  object_memory before found e is = memory_setting o (printed (ordered_tree old 0)) e is (of_found o old before s Object made k found)
+
+  pub append_memory : IsTree old → FindsOrCreatesObject old made (Some x) → (e : EditError) → WantsMemoryAlone o made k e → EndsSetting o (printed (ordered_tree old 0)) (Edit e)
+  append_memory before found e told = object_memory before found e (told sound (over_at made tree [] k stands_there))

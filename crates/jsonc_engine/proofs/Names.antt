@@ -1,6 +1,7 @@
 -- The names of a command's path.
-use Rattle.std.proofs.Common.{◌≡◌, ◌++◌, ◌∙◌, ℕ, Bool, true, false, List, [], ◌∷◌, Option, Some, None, append-nil, chars, length, map, option_map, Result, Ok, Err, IfOk, IfErr, refl, sym, ap, subst}
+use Rattle.std.proofs.Common.{◌≡◌, ◌++◌, ◌+◌, ◌<◌, ◌≤◌, ◌∙◌, ℕ, Bool, true, false, List, [], ◌∷◌, Option, Some, None, append-nil, chars, drop, get_or, length, map, option_map, Result, Ok, Err, IfOk, IfErr, refl, sym, ap, subst}
 use Rattle.std.proofs.lemmas.Bool.{false≢true}
+use Rattle.std.proofs.lemmas.List.{drop_all, drop_more}
 use Rattle.std.specs.declared.string.String.{String}
 use Rattle.std.specs.declared.vec.Vec.{Vec}
 use Rattle.jsonc_text.specs.Grammar.{IsDocument}
@@ -18,7 +19,9 @@ use Rattle.jsonc_input.specs.declared.value.CstInputValue.TheVariants as values
 use Rattle.jsonc_to_input.specs.Taken.{IsTaken}
 use Rattle.jsonc_cst.proofs.Colons.{taken_is_the_value}
 use Rattle.jsonc_parser.specs.Below.settings.Found.{names_of}
-use Rattle.jsonc_engine.specs.Argument.{AreNoNames, IsFaultOfNames, IsFaultOfPath, IsPath, strings}
+use Rattle.jsonc_parser.specs.Below.named.Shapes as Shapes
+use Rattle.jsonc_engine.specs.Argument.{AreNames, AreNoNames, IsFaultOfNames, IsFaultOfPath, IsPath, strings}
+use Rattle.jsonc_engine.specs.Input.{HasKind}
 use Rattle.jsonc_engine.specs.Parser.{OutOfMemory}
 use Rattle.jsonc_engine.specs.declared.fault.Fault.{Fault}
 use Rattle.jsonc_engine.specs.declared.fault.Fault.TheVariants.{Edit, NotNames}
@@ -71,9 +74,12 @@ module _ {A : Type 0} (path : List ℕ) (o : Options) (all : o ≡ all_on) (tree
     λ names e. none names (told taken is ∙ ap (option_map collapse) e ∙ ap (λ (vs : Items). Some (plains.array vs)) (strings_stay names)),
   )
 
+  listing : (names : List (List ℕ)) → IsPath path names → HasKind Shapes.is_array all_on path
+  listing names d = (strings names, d, refl)
+
   path_fault : (taken : Option (CstInputValue A)) (f : Fault) → IsTaken tree taken → IsFaultOfNames (option_map plain taken) f → IsFaultOfPath path f
   path_fault taken NotNames is h = no_path taken is h
-  path_fault taken (Edit OutOfMemory) is h = tt
+  path_fault taken (Edit OutOfMemory) is h = listing h.0 (path_is taken h.0 is h.1)
   path_fault taken _ is h = absurd h
 
 -- a value among others that is no string
@@ -151,6 +157,39 @@ module _ {A : Type 0} where
       → ((s : String A) → v ≡ values.String s → ⊥) → AreNoNames (Some (plains.array (items_plain all)))
   not_all all rest left names v so_far steps =
       one_no_string all (names_of names) v left (so_far ∙ ap (λ (l : List (CstInputValue A)). map plains.string (names_of names) ++ map plain l) steps)
+
+  -- so it is of values that are looked at
+  behind_one : (names : List (List ℕ)) (s : List ℕ) (rest : List Plain) → map plains.string names ++ plains.string s ∷ rest ≡ map plains.string (names ++ s ∷ []) ++ rest
+  behind_one [] s rest = refl
+  behind_one (n ∷ names) s rest = ap (λ (l : List Plain). plains.string n ∷ l) (behind_one names s rest)
+
+  -- the values before the rest are strings
+  abbrev pub StringsBefore : List (CstInputValue A) → List (CstInputValue A) → Type 0
+  StringsBefore all rest = (names : List (List ℕ)) × (map plain all ≡ map plains.string names ++ map plain rest)
+
+  pub one_seen : (all : List (CstInputValue A)) (k : ℕ) (v : CstInputValue A) (s : String A) → k < length all → v ≡ get_or all k v → v ≡ values.String s → StringsBefore all (drop k all)
+      → StringsBefore all (drop (k + 1) all)
+  one_seen all k v s inside there is (names, so_far) = (
+    names ++ chars_of s ∷ [],
+    so_far
+    ∙ ap (λ (l : List (CstInputValue A)). map plains.string names ++ map plain l) (drop_more all k v inside ∙ ap (λ (x : CstInputValue A). x ∷ drop (k + 1) all) (sym there))
+    ∙ ap (λ (p : Plain). map plains.string names ++ p ∷ map plain (drop (k + 1) all)) (ap plain is ∙ string_is s)
+    ∙ behind_one names (chars_of s) (map plain (drop (k + 1) all)),
+  )
+
+  all_seen_by : (all rest : List (CstInputValue A)) → rest ≡ [] → StringsBefore all rest → AreNames (Some (plains.array (items_plain all)))
+  all_seen_by all rest none (names, so_far) =
+      let whole : map plain all ≡ map plains.string names = so_far ∙ ap (λ (l : List (CstInputValue A)). map plains.string names ++ map plain l) none ∙ append-nil (map plains.string names) in
+      (names, ap (λ (l : List Plain). Some (plains.array (items_of l))) whole)
+
+  pub all_seen : (all : List (CstInputValue A)) (k : ℕ) → length all ≤ k → StringsBefore all (drop k all) → AreNames (Some (plains.array (items_plain all)))
+  all_seen all k end so_far = all_seen_by all (drop k all) (drop_all k all end) so_far
+
+  pub other_seen : (all : List (CstInputValue A)) (k : ℕ) (v : CstInputValue A) → k < length all → v ≡ get_or all k v → StringsBefore all (drop k all) → ((s : String A) → v ≡ values.String s → ⊥)
+      → AreNoNames (Some (plains.array (items_plain all)))
+  other_seen all k v inside there (names, so_far) =
+      one_no_string all names v (drop (k + 1) all)
+      (so_far ∙ ap (λ (l : List (CstInputValue A)). map plains.string names ++ map plain l) (drop_more all k v inside ∙ ap (λ (x : CstInputValue A). x ∷ drop (k + 1) all) (sym there)))
 
   array_is : (vs : Vec (CstInputValue A) A) → plain (values.Array vs) ≡ plains.array (items_plain vs.items)
   unfolding roll-CstInputValue denote.Hole.Carrier.roll

@@ -9,7 +9,7 @@ use Rattle.jsonc_text.specs.Grammar.{IsDocument}
 use Rattle.jsonc_text.proofs.UniqueValues.{document_unique}
 use Rattle.jsonc_tree.specs.Content as content
 use Rattle.jsonc_tree.specs.Content.{Content, root, array, object, property}
-use Rattle.jsonc_tree.specs.OrderedTree.{OrderedTree, none, more, Shows, shows_none, shows_more, ordered_tree}
+use Rattle.jsonc_tree.specs.OrderedTree.{OrderedTree, none, more, Shows, shows_none, shows_more, ordered_tree, printed}
 use Rattle.jsonc_tree.specs.Tree.{Node, content_at, children_at, IsTree, IsOver}
 use Rattle.jsonc_tree.specs.Values as values
 use Rattle.jsonc_tree.specs.Values.{HoldsValue, DocumentValueOf}
@@ -44,9 +44,7 @@ use Rattle.jsonc_cst.specs.declared.cst.CstRootNode.{CstRootNode}
 use Rattle.jsonc_cst.specs.Document.{nodes_of}
 use Rattle.jsonc_cst.specs.Readings.{object_if, typed_if, IsFirstNamed}
 use Rattle.jsonc_parser.specs.Below.typed.Removing.{IsElementGone, WantsMemoryAlone}
-use Rattle.jsonc_engine.specs.declared.fault.Fault.TheVariants.{Edit}
-use Rattle.jsonc_engine.specs.Fault.{EndsOnObject}
-use Rattle.jsonc_engine.specs.Removal.{HasNoObject, LosesFirst}
+use Rattle.jsonc_engine.specs.Removal.{IsNoObject, LosesFirst}
 
 -- a node that reads as an object is one
 number_or : ℕ → Option CstObject → ℕ
@@ -108,10 +106,10 @@ module _ (ns : List Node) where
   holds_one o x _ _ (shows_more {n = k} {rest = rest} p q) (values.value_of v g) e = none_is_some k (sym e ∙ passes (is_element_at ns) k rest (value_of_element v))
 
 module _ (o : Options) (ns : List Node) (tree : IsTree ns) (sound : SoundTree o (ordered_tree ns 0)) where
-  text : (w : Option Plain) × IsDocument o (printed_text (ordered_tree ns 0)) w × DocumentValueOf o (ordered_tree ns 0) w
+  pub text : (w : Option Plain) × IsDocument o (printed_text (ordered_tree ns 0)) w × DocumentValueOf o (ordered_tree ns 0) w
   text = document_printed o (ordered_tree ns 0) sound.shaped sound.lines
 
-  no_value : value_at ns 0 ≡ None → (x : Plain) → DocumentValueOf o (ordered_tree ns 0) (Some x) → ⊥
+  pub no_value : value_at ns 0 ≡ None → (x : Plain) → DocumentValueOf o (ordered_tree ns 0) (Some x) → ⊥
   no_value e x (below, same, h) =
       let both : more root below none ≡ more root (row_below ns 0) none = sym same ∙ root_is ns tree in
       let row : below ≡ row_below ns 0 = cc in
@@ -121,7 +119,7 @@ module _ (o : Options) (ns : List Node) (tree : IsTree ns) (sound : SoundTree o 
   object_is content.object e = refl
   object_is _ e = cc
 
-  from_value : (w : Option ℕ) → value_at ns 0 ≡ w → object_if (typed_if ns w) ≡ None → HasNoObject o (ordered_tree ns 0)
+  from_value : (w : Option ℕ) → value_at ns 0 ≡ w → object_if (typed_if ns w) ≡ None → IsNoObject o (printed (ordered_tree ns 0))
   from_value None at read = λ ms is.
       let same : text.0 ≡ Some (plain.object ms) = document_unique o (printed_text (ordered_tree ns 0)) text.0 (Some (plain.object ms)) text.1 is in
       no_value at (plain.object ms) (subst (DocumentValueOf o (ordered_tree ns 0)) same text.2)
@@ -131,12 +129,8 @@ module _ (o : Options) (ns : List Node) (tree : IsTree ns) (sound : SoundTree o 
       let value : h.value ≡ plain.object ms = cc in
       no_object_read ns n read (object_is (content_at ns n) (h.told Object ∙ ap (Rattle.jsonc_parser.specs.Below.named.Shapes.is_object) value))
 
-  pub no_object : object_if (typed_if ns (value_at ns 0)) ≡ None → HasNoObject o (ordered_tree ns 0)
+  pub no_object : object_if (typed_if ns (value_at ns 0)) ≡ None → IsNoObject o (printed (ordered_tree ns 0))
   no_object read = from_value (value_at ns 0) refl read
-
--- want of memory can end what is done to an object
-pub memory_on_object : (e : EditError) → e ≡ OutOfMemory → EndsOnObject (Edit e)
-memory_on_object e is = subst (λ (x : EditError). EndsOnObject (Edit x)) (sym is) tt
 
 -- what stands at the empty path is the root's child
 over_root : (ns : List Node) → IsTree ns → (n v : ℕ) → IsElementOf ns 0 0 v → LeadsTo ns n v [] → IsOver ns 0 n
@@ -175,11 +169,8 @@ module _ (o : Options) (old new : List Node) (tree : IsTree old) (name : List �
     over = IsOver.above (element_parent old tree c element.0 n element.1) (over_root old tree c stands.0 stands.1 stands.2)
 
     -- and only memory is ever wanted
-    wants_memory : (e : EditError) → SoundTree o (ordered_tree old 0) → WantsMemoryAlone o old n e → e ≡ OutOfMemory
+    pub wants_memory : (e : EditError) → SoundTree o (ordered_tree old 0) → WantsMemoryAlone o old n e → e ≡ OutOfMemory
     wants_memory e sound told = told sound over
-
-    pub ends_removal : (e : EditError) → SoundTree o (ordered_tree old 0) → WantsMemoryAlone o old n e → EndsOnObject (Edit e)
-    ends_removal e sound told = memory_on_object e (wants_memory e sound told)
 
 -- the property that was found
 module _ {A : Type 0} where

@@ -20,8 +20,8 @@ use Rattle.jsonc_cst.specs.Nodes.{number_of}
 use Rattle.jsonc_parser.specs.Below.named.declared.shape.Over.TheVariants.{Keep}
 use Rattle.jsonc_parser.specs.Below.settings.Calls.{DropsWhatShown, PutsWhatShown, WantsMemory}
 use Rattle.jsonc_parser.specs.Below.settings.Found.{FindsWhatShown}
-use Rattle.jsonc_engine.specs.Fault.{EndsPutting}
-use Rattle.jsonc_engine.specs.Settings.{DropsSetting, HasInTheWay, HasNothingAt, IsShownAt, PutsSetting, ShowsOne}
+use Rattle.jsonc_engine.specs.Fault.{EndsGetting, EndsPutting}
+use Rattle.jsonc_engine.specs.Settings.{DropsSetting, HasBeginning, HasInTheWay, HasNothingAt, IsShownAt, MayBegin, PutsSetting, ShowsOne}
 use Rattle.jsonc_engine.specs.declared.fault.Fault.TheVariants.{Edit}
 
 module _ (o : Options) (ns : List Node) (sound : SoundTree o (ordered_tree ns 0)) where
@@ -52,8 +52,12 @@ module _ (o : Options) (ns : List Node) (sound : SoundTree o (ordered_tree ns 0)
   pub for_memory : (e : EditError) → WantsMemory ns e → e ≡ OutOfMemory
   for_memory e wants = wants d shown
 
-  pub memory_putting : (names : List (List ℕ)) (e : EditError) → WantsMemory ns e → EndsPutting o (printed (ordered_tree ns 0)) names (Edit e)
-  memory_putting names e wants = subst (λ (x : EditError). EndsPutting o (printed (ordered_tree ns 0)) names (Edit x)) (sym (wants d shown)) tt
+  pub memory_putting : (names : List (List ℕ)) (e : EditError) → WantsMemory ns e → MayBegin o (printed (ordered_tree ns 0)) names → EndsPutting o (printed (ordered_tree ns 0)) names (Edit e)
+  memory_putting names e wants begin = subst (λ (x : EditError). EndsPutting o (printed (ordered_tree ns 0)) names (Edit x)) (sym (wants d shown)) begin
+
+-- want of memory for what is got
+pub memory_getting : (o : Options) (bytes : List ℕ) (names : List (List ℕ)) (e : EditError) → e ≡ OutOfMemory → HasBeginning o bytes names → EndsGetting o bytes names (Edit e)
+memory_getting o bytes names e is begin = subst (λ (x : EditError). EndsGetting o bytes names (Edit x)) (sym is) begin
 
 module _ {A : Type 0} (o : Options) (doc : CstRootNode A) (sound : SoundTree o (tree_of doc)) (names : List (List ℕ)) where
   pub nothing_there : FindsWhatShown doc names None → HasNothingAt o (printed (tree_of doc)) names

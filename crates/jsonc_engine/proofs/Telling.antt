@@ -1,5 +1,5 @@
 -- What a fault tells of a command's path and JSON text, and of the input.
-use Rattle.std.proofs.Common.{◌≡◌, ℕ, List, Result, Ok, Err, IfErr, OnErr, inr, sym, subst}
+use Rattle.std.proofs.Common.{◌≡◌, ℕ, List, Result, Ok, Err, IfErr, OnErr, inl, inr, sym, subst}
 use Rattle.std.specs.Prelude.{IsErrOf}
 use Rattle.jsonc_text.specs.Options.{Options, all_on}
 use Rattle.jsonc_input.specs.Views.{plain}
@@ -7,11 +7,12 @@ use Rattle.jsonc_edit.specs.declared.error.EditError.TheVariants.{OutOfMemory}
 use Rattle.jsonc_parser.specs.Below.settings.Found.{names_of}
 use Rattle.jsonc_engine.specs.declared.argument.Change.{Change}
 use Rattle.jsonc_engine.specs.declared.fault.Fault.{Fault}
-use Rattle.jsonc_engine.specs.declared.fault.Fault.TheVariants.{Argument, Edit, NoValue, NotNames, Path, Read, Usage, Write}
-use Rattle.jsonc_engine.specs.Argument.{IsArgument, IsPath, IsReady}
+use Rattle.jsonc_engine.specs.declared.fault.Fault.TheVariants.{Argument, Edit, Input, NoSetting, NoValue, NotArray, NotNames, NotObject, NotUtf8, OnTheWay, Path, Read, Usage, Write}
+use Rattle.jsonc_engine.specs.Argument.{IsArgument, IsFaultOfArgument, of_json, of_path, IsPath, IsReady}
 use Rattle.jsonc_engine.specs.Change.{IsChangeFor, for_check, for_print, for_set, for_append, for_remove, for_sort, for_get, for_put, for_drop}
 use Rattle.jsonc_engine.specs.Command.{Request}
-use Rattle.jsonc_engine.specs.Fault.{IsCause, IsFaultOn, TellsOfArgument, TellsOfInput}
+use Rattle.jsonc_engine.specs.Fault.{EndsBehindInput, IsCause, IsFaultOn, TellsOfArgument, TellsOfInput}
+use Rattle.jsonc_engine.specs.Output.{IsLeft}
 
 -- where a command's change is known its path and JSON text are as they have to be
 pub is_ready : {A : Type 0} (request : Request) (change : Change A) → IsChangeFor request change → IsReady request
@@ -42,7 +43,7 @@ module _ (request : Request) (ready : IsReady request) where
   told_of_input o input NotNames h = absurd h
   told_of_input o input (Argument e) h = absurd h
   told_of_input o input NoValue h = absurd h
-  told_of_input o input (Edit e) h = tt
+  told_of_input o input (Edit e) h = inr ready
   told_of_input o input Usage h = tt
   told_of_input o input _ h = ready
 
@@ -52,7 +53,7 @@ module _ (request : Request) (ready : IsReady request) where
   by_read NotNames h = let wrong : NotNames ≡ Edit OutOfMemory = h (λ x. cc) in cc
   by_read (Argument e) h = let wrong : Argument e ≡ Edit OutOfMemory = h (λ x. cc) in cc
   by_read NoValue h = let wrong : NoValue ≡ Edit OutOfMemory = h (λ x. cc) in cc
-  by_read (Edit e) h = tt
+  by_read (Edit e) h = inr ready
   by_read Usage h = tt
   by_read _ h = ready
 
@@ -71,9 +72,48 @@ tells_of_input request input (Argument e) h = tt
 tells_of_input request input NoValue h = tt
 tells_of_input request input Read h = tt
 tells_of_input request input Write h = tt
+tells_of_input request input (Edit OutOfMemory) h = tt
 tells_of_input request input _ h = h
 
--- want of memory behind all that is asked of the words and of the input
-pub memory_told : {T : Type 0} (o : Options) (request : Request) (input : List ℕ) → IsReady request → (r : Result T Fault) → IfErr r (λ fault. fault ≡ Edit OutOfMemory) → IfErr r (IsCause o request input)
-memory_told o request input ready (Ok x) h = tt
-memory_told o request input ready (Err fault) h = subst (IsCause o request input) (sym h) (inr (ready, tt))
+-- and of the words, where they are refused
+pub told_of_words : (request : Request) (fault : Fault) → IsFaultOfArgument request fault → TellsOfArgument request fault
+told_of_words request (Path e) h = h
+told_of_words request NotNames h = h
+told_of_words request (Argument e) h = h
+told_of_words request NoValue h = h
+told_of_words request (Edit e) h = inl h
+told_of_words request Usage h = tt
+told_of_words request _ (of_path path e h) = absurd h
+told_of_words request _ (of_json json names e h) = absurd h
+
+-- a fault of the words is told before the source is read
+pub never_behind_words : (request : Request) (fault : Fault) → IsFaultOfArgument request fault → EndsBehindInput fault → ⊥
+never_behind_words request (Path e) h behind = behind
+never_behind_words request NotNames h behind = behind
+never_behind_words request (Argument e) h behind = behind
+never_behind_words request NoValue h behind = behind
+never_behind_words request (Edit e) h behind = behind
+never_behind_words request _ (of_path path e h) behind = absurd h
+never_behind_words request _ (of_json json names e h) behind = absurd h
+
+-- and want of memory while it is read, and a failed read, before its end
+never_behind_by : (fault : Fault) → (¬ (fault ≡ Read) → fault ≡ Edit OutOfMemory) → EndsBehindInput fault → ⊥
+never_behind_by (Edit e) h behind = behind
+never_behind_by Read h behind = behind
+never_behind_by (Input e) h behind = let wrong : Input e ≡ Edit OutOfMemory = h (λ x. cc) in cc
+never_behind_by NotObject h behind = let wrong : NotObject ≡ Edit OutOfMemory = h (λ x. cc) in cc
+never_behind_by NotArray h behind = let wrong : NotArray ≡ Edit OutOfMemory = h (λ x. cc) in cc
+never_behind_by NoSetting h behind = let wrong : NoSetting ≡ Edit OutOfMemory = h (λ x. cc) in cc
+never_behind_by OnTheWay h behind = let wrong : OnTheWay ≡ Edit OutOfMemory = h (λ x. cc) in cc
+never_behind_by NotUtf8 h behind = let wrong : NotUtf8 ≡ Edit OutOfMemory = h (λ x. cc) in cc
+never_behind_by Write h behind = let wrong : Write ≡ Edit OutOfMemory = h (λ x. cc) in cc
+never_behind_by _ h behind = behind
+
+pub never_behind : {T : Type 0} (fault : Fault) → (¬ (IsErrOf {T = T} (Err fault) Read) → IsErrOf {T = T} (Err fault) (Edit OutOfMemory)) → EndsBehindInput fault → ⊥
+never_behind {T} fault h behind = never_behind_by fault (λ other. the_fault T fault (Edit OutOfMemory) (h (λ e. other (the_fault T fault Read e)))) behind
+
+-- want of memory for the text that a command writes
+pub memory_told : {T : Type 0} (o : Options) (request : Request) (input text : List ℕ) → IsReady request → IsLeft o request input text → (r : Result T Fault)
+    → IfErr r (λ fault. fault ≡ Edit OutOfMemory) → IfErr r (IsCause o request input)
+memory_told o request input text ready left (Ok x) h = tt
+memory_told o request input text ready left (Err fault) h = inr (ready, inr (h, text, left))

@@ -5,8 +5,9 @@ use Rattle.jsonc_text.specs.Options.{all_on}
 use Rattle.jsonc_text.specs.Plain.{Plain, array, collapse, string}
 use Rattle.jsonc_input.specs.Views.{items_of}
 use Rattle.jsonc_edit.specs.Writing.{IsWritable}
+use Rattle.jsonc_parser.specs.Below.named.Shapes.{is_array}
 use Rattle.jsonc_engine.specs.Command.{Request, json_of, path_of}
-use Rattle.jsonc_engine.specs.Input.{IsRefusal}
+use Rattle.jsonc_engine.specs.Input.{HasKind, IsRefusal}
 use Rattle.jsonc_engine.specs.Parser.{OutOfMemory}
 use Rattle.jsonc_engine.specs.declared.fault.Fault.{Fault}
 use Rattle.jsonc_engine.specs.declared.fault.Fault.TheVariants.{Argument, Edit, NoValue, NotNames, Path}
@@ -42,24 +43,29 @@ IsReady request = HasNames request × HasValue request
 abbrev pub AreNoNames : Option Plain → Type 0
 AreNoNames w = (names : List (List ℕ)) → w ≢ Some (strings names)
 
--- reading this value as names can end with the fault
+-- it is an array of strings
+abbrev pub AreNames : Option Plain → Type 0
+AreNames w = (names : List (List ℕ)) × (w ≡ Some (strings names))
+
+-- reading this value as names can end with the fault; for want of memory where it is one
 abbrev pub IsFaultOfNames : Option Plain → Fault → Type 0
 IsFaultOfNames w NotNames = AreNoNames w
-IsFaultOfNames w (Edit OutOfMemory) = Unit {0}
+IsFaultOfNames w (Edit OutOfMemory) = AreNames w
 IsFaultOfNames w other = ⊥
 
--- the fault is true of the bytes of a path, and reading its names can end with it
+-- the fault is true of the bytes of a path, and reading its names can end with it; for want of memory, told by no parse, where their text is a document whose value
+-- is an array
 abbrev pub IsFaultOfPath : List ℕ → Fault → Type 0
 IsFaultOfPath path (Path error) = IsRefusal path error
 IsFaultOfPath path NotNames = (w : Option Plain) × IsDocument all_on (chars path) w × AreNoNames w
-IsFaultOfPath path (Edit OutOfMemory) = Unit {0}
+IsFaultOfPath path (Edit OutOfMemory) = HasKind is_array all_on path
 IsFaultOfPath path other = ⊥
 
--- the fault is true of the bytes of a JSON text, and reading its value can end with it
+-- the fault is true of the bytes of a JSON text, and reading its value can end with it; for want of memory, told by no parse, where their text is a document with a value
 abbrev pub IsFaultOfJson : List ℕ → Fault → Type 0
 IsFaultOfJson json (Argument error) = IsRefusal json error
 IsFaultOfJson json NoValue = IsDocument all_on (chars json) None
-IsFaultOfJson json (Edit OutOfMemory) = Unit {0}
+IsFaultOfJson json (Edit OutOfMemory) = (x : Plain) × IsDocument all_on (chars json) (Some x)
 IsFaultOfJson json other = ⊥
 
 -- the fault is true of the path that the command has; or of its JSON text, which is not read before the path is known to be a list of names

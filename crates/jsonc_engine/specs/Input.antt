@@ -1,5 +1,5 @@
 -- Which bytes the program takes.
-use Rattle.std.specs.Prelude.{ℕ, List, Option, IsUtf8, chars, true}
+use Rattle.std.specs.Prelude.{◌≡◌, ℕ, Bool, true, false, List, Option, Some, IfSome, IsUtf8, chars}
 use Rattle.jsonc_engine.specs.Parser.{IsDocument, IsFault, IsTold, Options, ParseError, Plain, RefusesText, all_on}
 
 -- the bytes are UTF-8, and their text is a document of the options, with some value or with none
@@ -21,3 +21,15 @@ pub record IsRefusalOf (o : Options) (bytes : List ℕ) (e : ParseError) : Type 
 
 abbrev pub IsRefusal : List ℕ → ParseError → Type 0
 IsRefusal = IsRefusalOf all_on
+
+-- the text of these bytes is a document whose value is of this kind
+abbrev pub HasKind : (Plain → Bool) → Options → List ℕ → Type 0
+HasKind kind o bytes = (x : Plain) × IsDocument o (chars bytes) (Some x) × (kind x ≡ true)
+
+-- it is one whose value, if it has one, is of this kind
+abbrev pub MayHave : (Plain → Bool) → Options → List ℕ → Type 0
+MayHave kind o bytes = (w : Option Plain) × IsDocument o (chars bytes) w × IfSome w (λ x. kind x ≡ true)
+
+-- it is one whose value is of another kind
+abbrev pub HasAnother : (Plain → Bool) → Options → List ℕ → Type 0
+HasAnother kind o bytes = (x : Plain) × IsDocument o (chars bytes) (Some x) × (kind x ≡ false)

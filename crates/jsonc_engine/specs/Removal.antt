@@ -5,9 +5,8 @@ use Rattle.jsonc_text.specs.Options.{Options}
 use Rattle.jsonc_text.specs.Plain as plain
 use Rattle.jsonc_text.specs.Plain.{Members}
 use Rattle.jsonc_tree.specs.Content.{object}
-use Rattle.jsonc_tree.specs.OrderedTree.{OrderedTree, ordered_tree}
+use Rattle.jsonc_tree.specs.OrderedTree.{ordered_tree}
 use Rattle.jsonc_tree.specs.Tree.{Node, content_at}
-use Rattle.jsonc_build.specs.Shape.{printed_text}
 use Rattle.jsonc_nodes.specs.Names.{FirstInObject}
 use Rattle.jsonc_nodes.specs.Properties.{value_at}
 use Rattle.jsonc_laws.specs.SoundTrees.{SoundTree}
@@ -40,10 +39,6 @@ pub record LosesFirst (o : Options) (name : List ℕ) (old new : List Node) : Ty
 -- so it is if the document was sound
 abbrev pub LosesIfSound : Options → List ℕ → List Node → List Node → Type 0
 LosesIfSound o name old new = SoundTree o (ordered_tree old 0) → LosesFirst o name old new
-
--- what is printed is no document whose value is an object
-abbrev pub HasNoObject : Options → OrderedTree → Type 0
-HasNoObject o tree = (ms : Members) → IsDocument o (printed_text tree) (Some (plain.object ms)) → ⊥
 
 -- the text of these bytes is no document whose value is an object
 abbrev pub IsNoObject : Options → List ℕ → Type 0

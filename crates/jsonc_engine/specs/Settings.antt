@@ -1,5 +1,5 @@
 -- What `get`, `put` and `drop` find at a path of names in a document, and make of it.
-use Rattle.std.specs.Prelude.{◌≡◌, ◌++◌, ◌∷◌, [], ℕ, Bool, true, List, Option, chars}
+use Rattle.std.specs.Prelude.{◌≡◌, ◌++◌, ◌∷◌, [], ℕ, Bool, true, List, Option, Some, IfSome, chars}
 use Rattle.jsonc_text.specs.Edits.{Document}
 use Rattle.jsonc_text.specs.Grammar.{IsDocument}
 use Rattle.jsonc_text.specs.Options.{Options}
@@ -8,6 +8,7 @@ use Rattle.jsonc_tree.specs.OrderedTree.{ordered_tree, printed}
 use Rattle.jsonc_tree.specs.Tree.{Node}
 use Rattle.jsonc_laws.specs.Documents.{Shows}
 use Rattle.jsonc_laws.specs.SoundTrees.{SoundTree}
+use Rattle.jsonc_parser.specs.Below.named.Shapes.{is_object}
 use Rattle.jsonc_parser.specs.Below.named.declared.shape.Over.TheVariants.{Keep}
 use Rattle.jsonc_parser.specs.Below.settings.Calls.{DropsAt, PutsAt}
 use Rattle.jsonc_parser.specs.Below.settings.Settings.{At, StandsInTheWay}
@@ -44,6 +45,23 @@ HasNothingAt o bytes names = (w : Option Plain) × IsDocument o (chars bytes) w 
 -- it is one, and a value of another kind than an object stands in the way
 abbrev pub HasInTheWay : Options → List ℕ → List (List ℕ) → Type 0
 HasInTheWay o bytes names = (w : Option Plain) × IsDocument o (chars bytes) w × StandsInTheWay w names
+
+-- names begin at a value: none is to lead on, or it is an object
+abbrev pub Begin : List (List ℕ) → Plain → Type 0
+Begin [] x = Unit {0}
+Begin (name ∷ names) x = is_object x ≡ true
+
+-- the text of these bytes is a document, and the names begin at its value
+abbrev pub HasBeginning : Options → List ℕ → List (List ℕ) → Type 0
+HasBeginning o bytes names = (x : Plain) × IsDocument o (chars bytes) (Some x) × Begin names x
+
+-- they do not begin at it
+abbrev pub HasNoBeginning : Options → List ℕ → List (List ℕ) → Type 0
+HasNoBeginning o bytes names = (x : Plain) × IsDocument o (chars bytes) (Some x) × ¬ (Begin names x)
+
+-- they begin at it, or it has no value
+abbrev pub MayBegin : Options → List ℕ → List (List ℕ) → Type 0
+MayBegin o bytes names = (w : Option Plain) × IsDocument o (chars bytes) w × IfSome w (Begin names)
 
 -- so it is if the document was sound
 abbrev pub ShownIfSound : Options → List (List ℕ) → List Node → List ℕ → Type 0

@@ -1,10 +1,10 @@
 //! What a command asks for, once the names of its path and the value of its JSON text are read.
-ghost use Rattle.std.specs.Prelude.{◌≡◌, IfErr, IfOk, Some, chars};
+ghost use Rattle.std.specs.Prelude.{◌≡◌, IfErr, IfOk, Some, chars, false, true};
 ghost use Rattle.jsonc_text.specs.Plain.{array};
 ghost use Rattle.jsonc_input.specs.Views.{items_plain, plain};
 ghost use Rattle.jsonc_parser.specs.Below.settings.Found.{names_of};
-ghost use Rattle.jsonc_engine.specs.Argument.{IsArgument, IsFaultOfArgument, IsFaultOfJson, IsFaultOfNames, IsFaultOfPath};
-ghost use Rattle.jsonc_engine.specs.Argument.{IsPath, strings};
+ghost use Rattle.jsonc_engine.specs.Argument.{AreNames, AreNoNames, IsArgument, IsFaultOfArgument, IsFaultOfJson};
+ghost use Rattle.jsonc_engine.specs.Argument.{IsFaultOfNames, IsFaultOfPath, IsPath, strings};
 ghost use Rattle.jsonc_engine.specs.Change.{IsChangeFor};
 ghost use Rattle.jsonc_engine.specs.Command.{put, request_of};
 
@@ -47,6 +47,11 @@ fn value_of<A: Allocator + Copy>(alloc: A, json: &str) -> Result<CstInputValue<A
         Ok(document) => document,
         Err(error) => return Err(Fault::Argument(error)),
     };
+    // That there is no value is seen without memory.
+    let _ = document.tree.len();
+    if document.value().is_none() {
+        return Err(Fault::NoValue);
+    }
     match document.to_value() {
         Ok(Some(value)) => Ok(value),
         Ok(None) => Err(Fault::NoValue),
@@ -54,7 +59,20 @@ fn value_of<A: Allocator + Copy>(alloc: A, json: &str) -> Result<CstInputValue<A
     }
 }
 
-/// The strings that these values are, or `Fault::NotNames` where one is no string.
+/// Whether these values are strings.
+fn are_strings<A: Allocator>(values: &[CstInputValue<A>]) -> bool
+    ensures strings { result ≡ true → AreNames (Some (array (items_plain values.now))) }
+    ensures other { result ≡ false → AreNoNames (Some (array (items_plain values.now))) }
+{
+    for value in values {
+        let CstInputValue::String(_) = value else {
+            return false;
+        };
+    }
+    true
+}
+
+/// The strings that these values are, or `Fault::NotNames` where one is no string, which is seen without memory.
 fn strings_of<A: Allocator + Copy>(
     alloc: A,
     values: Vec<CstInputValue<A>, A>,
@@ -62,6 +80,9 @@ fn strings_of<A: Allocator + Copy>(
     ensures strings { IfOk result (λ names. array (items_plain values.items) ≡ strings (names_of names.items)) }
     ensures refused { IfErr result (IsFaultOfNames (Some (array (items_plain values.items)))) }
 {
+    if !are_strings(&values) {
+        return Err(Fault::NotNames);
+    }
     let mut names = Vec::new(alloc);
     for value in values {
         match value {
@@ -84,6 +105,11 @@ fn read_path<A: Allocator + Copy>(alloc: A, path: &str) -> Result<Vec<String<A>,
         Ok(document) => document,
         Err(error) => return Err(Fault::Path(error)),
     };
+    // That the value is another is seen without memory.
+    let _ = document.tree.len();
+    if document.array_value().is_none() {
+        return Err(Fault::NotNames);
+    }
     let taken = match document.to_value() {
         Ok(taken) => taken,
         Err(error) => return Err(Fault::Edit(error)),

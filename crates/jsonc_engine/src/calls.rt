@@ -1,8 +1,8 @@
-//! Where the program's bytes come from and go to, with a count of the calls that failed.
+//! Where the program's bytes come from and go to, with counts of the calls that failed and of the reads that gave nothing.
 ghost use Rattle.std.specs.Prelude.{◌≡◌, ℕ, List, Option, OnOk, false};
 ghost use Rattle.std.specs.Io.{ReadsAtMost};
 ghost use Rattle.std.specs.Io.KnownBytes.{Appends, Keeps, ReadConsumes};
-ghost use Rattle.jsonc_engine.specs.Calls.{IsCounted};
+ghost use Rattle.jsonc_engine.specs.Calls.{IsCounted, IsEndCounted};
 
 use std::io;
 use std::io::{Read, Write};
@@ -15,11 +15,15 @@ pub trait Source {
     // How many reads failed, up to `u64::MAX`.
     ghost failed_reads: { Self → ℕ };
 
+    // How many reads gave no bytes, up to `u64::MAX`.
+    ghost empty_reads: { Self → ℕ };
+
     /// Reads some bytes to the front of `buffer`, none only at the end.
     fn read(&mut self, buffer: &mut [u8]) -> io::Result<usize>
         ensures bound { ReadsAtMost result buffer.new }
         ensures bytes { ReadConsumes (remaining self.old) (remaining self.new) result buffer.new }
-        ensures counted { IsCounted result (failed_reads self.old) (failed_reads self.new) };
+        ensures counted { IsCounted result (failed_reads self.old) (failed_reads self.new) }
+        ensures ended { IsEndCounted result (empty_reads self.old) (empty_reads self.new) };
 }
 
 /// Where output goes.
@@ -51,15 +55,22 @@ pub struct FromReader<R> {
     pub reader: R,
     /// How many reads failed, up to `u64::MAX`.
     pub failed: u64,
+    /// How many reads gave no bytes, up to `u64::MAX`.
+    pub empty: u64,
 }
 
 impl<R: Read> FromReader<R> {
-    /// The reader as a source, of which no read has failed.
+    /// The reader as a source, of which no read has failed or given nothing.
     pub fn new(reader: R) -> FromReader<R>
         ensures reader { result.reader ≡ reader }
         ensures fresh { result.failed ≡ 0 }
+        ensures begun { result.empty ≡ 0 }
     {
-        FromReader { reader, failed: 0 }
+        FromReader {
+            reader,
+            failed: 0,
+            empty: 0,
+        }
     }
 }
 
@@ -68,9 +79,16 @@ impl<R: Read> Source for FromReader<R> {
 
     ghost failed_reads = { λ s. s.failed };
 
+    ghost empty_reads = { λ s. s.empty };
+
     fn read(&mut self, buffer: &mut [u8]) -> io::Result<usize> {
         match self.reader.read(buffer) {
-            Ok(count) => Ok(count),
+            Ok(count) => {
+                if count == 0 {
+                    self.empty = self.empty.saturating_add(1);
+                }
+                Ok(count)
+            }
             Err(error) => {
                 self.failed = self.failed.saturating_add(1);
                 Err(error)

@@ -1,5 +1,5 @@
 //! Commands that change the document.
-ghost use Rattle.std.specs.Prelude.{◌≡◌, chars, IfErr, IsErrOf, OnErr, OnOk};
+ghost use Rattle.std.specs.Prelude.{◌≡◌, chars, IfErr, OnErr, OnOk};
 ghost use Rattle.jsonc_text.specs.Options.{Options};
 ghost use Rattle.jsonc_input.specs.Views.{plain};
 ghost use Rattle.jsonc_laws.specs.SoundTrees.{SoundTree};
@@ -8,7 +8,7 @@ ghost use Rattle.jsonc_engine.specs.Appending.{AppendsIfSound};
 ghost use Rattle.jsonc_engine.specs.Change.{IsChangeFor, MakesIfSound};
 ghost use Rattle.jsonc_engine.specs.Command.{Request};
 ghost use Rattle.jsonc_engine.specs.Fault.{EndsAppending, EndsOnObject, EndsSetting, IsFaultOn};
-ghost use Rattle.jsonc_engine.specs.Removal.{HasNoObject, LosesIfSound};
+ghost use Rattle.jsonc_engine.specs.Removal.{LosesIfSound};
 ghost use Rattle.jsonc_engine.specs.Setting.{SetsIfSound};
 
 use crate::argument::Change;
@@ -31,9 +31,8 @@ fn remove_property<A: Allocator + Copy>(
 ) -> Result<(), Fault>
     ensures removed { (o : Options)
         → OnOk result (LosesIfSound o (chars name.now) (nodes_of document.old) (nodes_of document.new)) }
-    ensures no_object { (o : Options) → IsErrOf result Fault.NotObject → SoundTree o (tree_of document.old)
-        → HasNoObject o (tree_of document.old) }
-    ensures told { (o : Options) → SoundTree o (tree_of document.old) → IfErr result EndsOnObject }
+    ensures told { (o : Options)
+        → SoundTree o (tree_of document.old) → IfErr result (EndsOnObject o (printed_of document.old)) }
     ensures document { OnErr result (tree_of document.new ≡ tree_of document.old) }
 {
     let _ = document.tree.len();

@@ -1,14 +1,15 @@
 //! One run of the program, over any source and sink.
-ghost use Rattle.std.specs.Prelude.{◌≡◌, ◌↔◌, ◌<◌, IsTrue, false, vec_len, IfSome, IfOk, IfErr, OnOk, OnErr, IsErrOf, IsUtf8, string_bytes};
-ghost use Rattle.std.specs.Io.KnownBytes.{Appends};
+ghost use Rattle.std.specs.Prelude.{◌≡◌, ◌↔◌, ◌<◌, ◌+◌, ◌++◌, length, vec_capacity, vec_len, string_bytes, IsTrue, false};
+ghost use Rattle.std.specs.Prelude.{IfSome, IfOk, IfErr, OnOk, OnErr, IsErrOf, IsUtf8};
+ghost use Rattle.std.specs.Io.KnownBytes.{Appends, Keeps};
 ghost use Rattle.jsonc_text.specs.Options.{Options};
 ghost use Rattle.jsonc_laws.specs.SoundTrees.{SoundTree};
 ghost use Rattle.jsonc_cst.specs.Document.{tree_of};
 ghost use Rattle.jsonc_engine.specs.Calls.{one_more};
 ghost use Rattle.jsonc_engine.specs.Change.{GetsNothing, IsChangeFor};
 ghost use Rattle.jsonc_engine.specs.Command.{Name, Request, request_of, writes};
-ghost use Rattle.jsonc_engine.specs.Fault.{EndsRun, EndsUnread, IsCause, IsFaultOn, IsNoText, TellsOfArgument};
-ghost use Rattle.jsonc_engine.specs.Fault.{TellsOfInput};
+ghost use Rattle.jsonc_engine.specs.Fault.{EndsBehindInput, EndsRun, EndsUnread, IsBeforeOrForMemory, IsCause, IsFaultOn};
+ghost use Rattle.jsonc_engine.specs.Fault.{IsNoText, TellsOfArgument, TellsOfInput};
 ghost use Rattle.jsonc_engine.specs.Input.{IsInput, IsInputOf};
 ghost use Rattle.jsonc_engine.specs.Output.{IsLeft, IsOutput, IsWritten, Puts, output_bytes};
 ghost use Rattle.jsonc_engine.specs.Parser.{all_on, parse_options, printed_of};
@@ -33,32 +34,80 @@ fn make_buffer<A: Allocator>(alloc: A) -> Result<Vec<u8, A>, AllocError>
     Vec::from_elem(alloc, 0u8, BUFFER_LEN)
 }
 
+/// Reads the source to its end, behind what was read before.
+///
+/// A read of no bytes is the last one, and only that ends it, or a failed read, or the want of memory where the room
+/// that there was does not hold what was read and one read more. Reads of no bytes and failed ones are counted, and
+/// any read may be one of them, so none is made behind one.
+fn read_on<A: Allocator, S: Source>(
+    source: &mut S,
+    buffer: &mut [u8],
+    read: &mut Vec<u8, A>,
+) -> Result<(), Fault>
+    requires { 0 < length buffer.old }
+    ensures bytes { OnOk result (IfSome (S.remaining source.old) (λ input. read.new.items ≡ read.old.items ++ input)) }
+    ensures ended { OnOk result (S.empty_reads source.new ≡ one_more (S.empty_reads source.old)) }
+    ensures not_ended { OnErr result (S.empty_reads source.new ≡ S.empty_reads source.old) }
+    ensures failed { IsErrOf result Fault.Read
+        → S.failed_reads source.new ≡ one_more (S.failed_reads source.old) }
+    ensures kept { ¬ (IsErrOf result Fault.Read) → S.failed_reads source.new ≡ S.failed_reads source.old }
+    ensures causes { OnErr result (¬ (IsErrOf result Fault.Read)
+        → IsErrOf result (Fault.Edit EditError.OutOfMemory)) }
+    ensures full { IsErrOf result (Fault.Edit EditError.OutOfMemory)
+        → vec_capacity read.old < vec_len read.new + length buffer.old }
+{
+    // Each of these reads gives a byte or ends it.
+    for _done in 0..u64::MAX {
+        let Ok(count) = source.read(buffer) else {
+            return Err(Fault::Read);
+        };
+        if count == 0 {
+            return Ok(());
+        }
+        let Ok(()) = read.extend_from_slice(&buffer[..count]) else {
+            return Err(Fault::Edit(EditError::OutOfMemory));
+        };
+    }
+    // So many bytes fit in no memory.
+    Err(Fault::Edit(EditError::OutOfMemory))
+}
+
 /// All that the source has left.
 fn read_whole<A: Allocator + Copy, S: Source>(alloc: A, source: &mut S) -> Result<Vec<u8, A>, Fault>
     ensures bytes { IfOk result (λ read. IfSome (S.remaining source.old) (λ input. read.items ≡ input)) }
+    ensures ended { OnOk result (S.empty_reads source.new ≡ one_more (S.empty_reads source.old)) }
+    ensures not_ended { OnErr result (S.empty_reads source.new ≡ S.empty_reads source.old) }
     ensures failed { IsErrOf result Fault.Read
         → S.failed_reads source.new ≡ one_more (S.failed_reads source.old) }
     ensures kept { ¬ (IsErrOf result Fault.Read) → S.failed_reads source.new ≡ S.failed_reads source.old }
     ensures causes { OnErr result (¬ (IsErrOf result Fault.Read)
         → IsErrOf result (Fault.Edit EditError.OutOfMemory)) }
 {
-    let mut room = make_buffer(alloc)?;
-    let buffer = room.as_mut_slice();
+    let mut buffer = make_buffer(alloc)?;
     let mut read = Vec::new(alloc);
-    for _ in 0..u64::MAX {
-        let Ok(count) = source.read(buffer) else {
-            return Err(Fault::Read);
-        };
-        if count == 0 {
-            return Ok(read);
-        }
-        read.extend_from_slice(&buffer[..count])?;
+    match read_on(source, buffer.as_mut_slice(), &mut read) {
+        Ok(()) => Ok(read),
+        Err(fault) => Err(fault),
     }
-    // So many bytes fit in no memory.
-    Err(Fault::Edit(EditError::OutOfMemory))
+}
+
+/// Sees that what was written has left.
+fn finish<K: Sink>(sink: &mut K) -> Result<(), Fault>
+    ensures bytes { OnOk result (Keeps (K.contents sink.old) (K.contents sink.new)) }
+    ensures flushed { OnOk result (K.is_flushed sink.new) }
+    ensures kept { OnOk result (K.failed_writes sink.new ≡ K.failed_writes sink.old) }
+    ensures cause { OnErr result (IsErrOf result Fault.Write) }
+    ensures failed { OnErr result (K.failed_writes sink.new ≡ one_more (K.failed_writes sink.old)) }
+{
+    match sink.flush() {
+        Ok(()) => Ok(()),
+        Err(_) => Err(Fault::Write),
+    }
 }
 
 /// Writes the document piece by piece, and sees that it has left.
+///
+/// The first write that fails is told, and as each may fail none is made behind it, and no flush.
 fn write_document<A: Allocator, K: Sink>(
     sink: &mut K,
     document: &CstRootNode<A>,
@@ -74,10 +123,7 @@ fn write_document<A: Allocator, K: Sink>(
             return Err(Fault::Write);
         };
     }
-    let Ok(()) = sink.flush() else {
-        return Err(Fault::Write);
-    };
-    Ok(())
+    finish(sink)
 }
 
 /// Writes a text, and sees that it has left.
@@ -91,10 +137,7 @@ fn write_text<A: Allocator, K: Sink>(sink: &mut K, text: &String<A>) -> Result<(
     let Ok(()) = sink.write(text.as_bytes()) else {
         return Err(Fault::Write);
     };
-    match sink.flush() {
-        Ok(()) => Ok(()),
-        Err(_) => Err(Fault::Write),
-    }
+    finish(sink)
 }
 
 /// The text of what is to be written.
@@ -139,10 +182,10 @@ fn write_for<A: Allocator, K: Sink>(
     ensures cause { OnErr result (IsErrOf result Fault.Write) }
     ensures failed { OnErr result (K.failed_writes sink.new ≡ one_more (K.failed_writes sink.old)) }
 {
-    if !command.writes() {
-        return Ok(());
+    if command.writes() {
+        return write_output(sink, output);
     }
-    write_output(sink, output)
+    Ok(())
 }
 
 /// The document with a change made, to be written. To get a value is none.
@@ -297,6 +340,16 @@ pub fn engine<A: Allocator + Copy, S: Source, K: Sink>(
     ensures write { IsErrOf result Fault.Write
         → K.failed_writes sink.new ≡ one_more (K.failed_writes sink.old) }
     ensures causes { IfErr result EndsRun }
+    ensures memory { (request : Request) → Name words.now request
+        → IsErrOf result (Fault.Edit EditError.OutOfMemory)
+        → IsBeforeOrForMemory request (S.empty_reads source.old) (S.empty_reads source.new)
+        (S.remaining source.old) }
+
+    // The source is read until one read gives nothing, and no further: a read more might give nothing again.
+    ensures ended { OnOk result (S.empty_reads source.new ≡ one_more (S.empty_reads source.old)) }
+    ensures behind { IfErr result (λ fault. EndsBehindInput fault
+        → S.empty_reads source.new ≡ one_more (S.empty_reads source.old)) }
+    ensures not_ended { IsErrOf result Fault.Read → S.empty_reads source.new ≡ S.empty_reads source.old }
 
     // A failed call is told as such, and as nothing else.
     ensures no_failed_read { ¬ (IsErrOf result Fault.Read)

@@ -1,5 +1,5 @@
 //! Values at paths of names.
-ghost use Rattle.std.specs.Prelude.{◌≡◌, IfErr, IfOk, OnErr, OnOk};
+ghost use Rattle.std.specs.Prelude.{◌≡◌, false, true, IfErr, IfOk, OnErr, OnOk};
 ghost use Rattle.jsonc_text.specs.Options.{Options};
 ghost use Rattle.jsonc_input.specs.Views.{plain};
 ghost use Rattle.jsonc_laws.specs.SoundTrees.{SoundTree};
@@ -7,13 +7,27 @@ ghost use Rattle.jsonc_cst.specs.Document.{nodes_of, printed_of, tree_of};
 ghost use Rattle.jsonc_parser.specs.Below.settings.Found.{names_of};
 ghost use Rattle.jsonc_engine.specs.Fault.{EndsGetting, EndsPutting};
 ghost use Rattle.jsonc_engine.specs.Output.{output_bytes};
-ghost use Rattle.jsonc_engine.specs.Settings.{DropsIfSound, PutsIfSound, ShownIfSound};
+ghost use Rattle.jsonc_engine.specs.Settings.{DropsIfSound, HasNoBeginning, MayBegin, PutsIfSound, ShownIfSound};
 
 use crate::fault::Fault;
 use crate::output::Output;
 use jsonc_parser::cst::{CstInputValue, CstRootNode, EditError, IsNode, Over};
 use jsonc_parser::settings::{find_at, remove_at, set_at};
 use std::alloc::Allocator;
+
+/// Whether the document's value is of another kind than an object, and a name is to lead on from it.
+fn is_in_the_way<A: Allocator>(document: &CstRootNode<A>, names: &[String<A>]) -> bool
+    ensures stands { (o : Options) → SoundTree o (tree_of document.now)
+        → result ≡ true → HasNoBeginning o (printed_of document.now) (names_of names.now) }
+    ensures begins { (o : Options) → SoundTree o (tree_of document.now)
+        → result ≡ false → MayBegin o (printed_of document.now) (names_of names.now) }
+{
+    let _ = document.tree.len();
+    if names.is_empty() || document.value().is_none() {
+        return false;
+    }
+    document.object_value().is_none()
+}
 
 /// The value at names as it is written, and a line feed behind it.
 ///
@@ -27,6 +41,11 @@ pub(crate) fn get_setting<A: Allocator + Copy>(
     ensures told { (o : Options) → SoundTree o (tree_of document.now)
         → IfErr result (EndsGetting o (printed_of document.now) (names_of names.now)) }
 {
+    // What is seen without memory.
+    let _ = document.tree.len();
+    if document.value().is_none() || is_in_the_way(document, names) {
+        return Err(Fault::NoSetting);
+    }
     let node = match find_at(document, names) {
         Ok(Some(node)) => node,
         Ok(None) => return Err(Fault::NoSetting),
@@ -54,6 +73,9 @@ pub(crate) fn put_setting<A: Allocator + Copy>(
     ensures document { (o : Options) → SoundTree o (tree_of document.old)
         → OnErr result (tree_of document.new ≡ tree_of document.old) }
 {
+    if is_in_the_way(document, names) {
+        return Err(Fault::OnTheWay);
+    }
     match set_at(document, names, value, Over::Keep) {
         Ok(true) => Ok(()),
         Ok(false) => Err(Fault::OnTheWay),

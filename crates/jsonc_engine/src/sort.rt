@@ -1,13 +1,12 @@
 //! Properties that are sorted by their names as they are written.
-ghost use Rattle.std.specs.Prelude.{◌≡◌, IfErr, IsErrOf, OnErr, OnOk};
+ghost use Rattle.std.specs.Prelude.{◌≡◌, IfErr, OnErr, OnOk};
 ghost use Rattle.std.specs.Cmp.Lexicographic.{slice_cmp};
 ghost use Rattle.std.specs.Ordering.{nat_cmp};
 ghost use Rattle.jsonc_text.specs.Options.{Options};
 ghost use Rattle.jsonc_laws.specs.SoundTrees.{SoundTree};
-ghost use Rattle.jsonc_cst.specs.Document.{nodes_of, tree_of, Holds};
+ghost use Rattle.jsonc_cst.specs.Document.{nodes_of, printed_of, tree_of, Holds};
 ghost use Rattle.jsonc_cst.specs.Nodes.{object_prop_node};
 ghost use Rattle.jsonc_engine.specs.Fault.{EndsOnObject};
-ghost use Rattle.jsonc_engine.specs.Removal.{HasNoObject};
 ghost use Rattle.jsonc_engine.specs.Sorting.{SortsIfSound, between_quotes, written_name};
 
 use crate::fault::Fault;
@@ -63,9 +62,8 @@ pub(crate) fn sort_properties<A: Allocator + Copy>(
 ) -> Result<(), Fault>
     ensures sorted { (o : Options)
         → OnOk result (SortsIfSound o (nodes_of document.old) (nodes_of document.new)) }
-    ensures no_object { (o : Options) → IsErrOf result Fault.NotObject → SoundTree o (tree_of document.old)
-        → HasNoObject o (tree_of document.old) }
-    ensures told { IfErr result EndsOnObject }
+    ensures told { (o : Options)
+        → SoundTree o (tree_of document.old) → IfErr result (EndsOnObject o (printed_of document.old)) }
     ensures document { OnErr result (tree_of document.new ≡ tree_of document.old) }
 {
     let _ = document.tree.len();

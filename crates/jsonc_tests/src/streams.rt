@@ -12,18 +12,30 @@ use std::test::Fail;
 /// The most bytes that a call moves.
 const STEP: usize = 5;
 
-/// Counts calls, and tells that one has failed.
+/// Counts calls, and fails each one behind so many.
 #[derive(Drop)]
 struct Calls {
     left: usize,
+    made: usize,
+    failed: usize,
 }
 
 impl Calls {
+    fn new(left: usize) -> Calls {
+        Calls {
+            left,
+            made: 0,
+            failed: 0,
+        }
+    }
+
     fn next(&mut self) -> io::Result<()> {
         if self.left == 0 {
+            self.failed = self.failed.saturating_add(1);
             return Err(io::Error::from(ErrorKind::Other));
         }
         self.left -= 1;
+        self.made = self.made.saturating_add(1);
         Ok(())
     }
 }
@@ -165,56 +177,82 @@ static CASES: [Case; 10] = [
     },
 ];
 
-/// A run of a command over a text, with so many reads and so many writes and flushes that succeed, and what it
-/// wrote.
-fn run(
-    alloc: Global,
-    words: &[&str],
-    input: &'static [u8],
-    reads: usize,
-    writes: usize,
-) -> (Result<(), Fault>, Vec<u8>) {
+/// What came of a run.
+#[derive(Drop)]
+struct Run {
+    ended: Result<(), Fault>,
+    written: Vec<u8>,
+    reads: Calls,
+    /// How many reads the source has seen give nothing.
+    empty_reads: u64,
+    writes: Calls,
+}
+
+/// A run of a command over a text, with so many reads and so many writes and flushes that succeed.
+fn run(alloc: Global, words: &[&str], input: &'static [u8], reads: usize, writes: usize) -> Run {
     let mut source = FromReader::new(Reader {
         rest: input,
-        calls: Calls { left: reads },
+        calls: Calls::new(reads),
     });
     let mut sink = ToWriter::new(Writer {
         bytes: Vec::new(alloc),
-        calls: Calls { left: writes },
+        calls: Calls::new(writes),
     });
     let ended = engine(alloc, words, &mut source, &mut sink);
+    let FromReader { reader, empty, .. } = source;
     let ToWriter { writer, .. } = sink;
-    (ended, writer.bytes)
-}
-
-/// Whether a run failed with the status 1 and this line.
-fn is_told(ended: &Result<(), Fault>, line: &str) -> bool {
-    match ended {
-        Ok(()) => false,
-        Err(fault) => fault.status() == 1 && prints(fault, line),
+    Run {
+        ended,
+        written: writer.bytes,
+        reads: reader.calls,
+        empty_reads: empty,
+        writes: writer.calls,
     }
 }
 
-/// After so many reads the next one fails, and nothing is written.
-fn fails_to_read(alloc: Global, case: &Case, reads: usize) -> bool {
-    let (ended, written) = run(alloc, case.words, case.input, reads, 100);
-    is_told(&ended, "jsonc: read failed") && written.is_empty()
+/// Whether a run failed with the status 1 and this line, and wrote nothing.
+fn is_told(run: &Run, line: &str) -> bool {
+    match &run.ended {
+        Ok(()) => false,
+        Err(fault) => fault.status() == 1 && prints(fault, line) && run.written.is_empty(),
+    }
 }
 
-/// After so many writes the next one fails, and what they took is a beginning of what is to be written.
+/// After so many reads the next one fails, and nothing is called behind it.
+fn fails_to_read(alloc: Global, case: &Case, reads: usize) -> bool {
+    let run = run(alloc, case.words, case.input, reads, 100);
+    is_told(&run, "jsonc: read failed")
+        && run.reads.failed == 1
+        && run.empty_reads == 0
+        && run.writes.made == 0
+}
+
+/// After so many writes the next one fails, and nothing is called behind it; what they took is a beginning of what is
+/// to be written.
 fn fails_to_write(alloc: Global, case: &Case, writes: usize) -> bool {
-    let (ended, written) = run(alloc, case.words, case.input, 100, writes);
-    let count = written.len();
-    let is_beginning = case.written.starts_with(written.as_slice());
-    is_told(&ended, "jsonc: write failed")
+    let run = run(alloc, case.words, case.input, 100, writes);
+    let is_failure = match &run.ended {
+        Ok(()) => false,
+        Err(fault) => fault.status() == 1 && prints(fault, "jsonc: write failed"),
+    };
+    let count = run.written.len();
+    let is_beginning = case.written.starts_with(run.written.as_slice());
+    is_failure
         && is_beginning
         && count >= writes
         && count <= writes.saturating_mul(STEP)
+        && run.writes.failed == 1
+        && run.reads.made == case.reads
 }
 
+/// All is read, by one read more that finds the end, and all is written.
 fn writes_all(alloc: Global, case: &Case, reads: usize, writes: usize) -> bool {
-    let (ended, written) = run(alloc, case.words, case.input, reads, writes);
-    ended.is_ok() && written.as_slice() == case.written
+    let run = run(alloc, case.words, case.input, reads, writes);
+    run.ended.is_ok()
+        && run.written.as_slice() == case.written
+        && run.reads.made == case.reads
+        && run.empty_reads == 1
+        && run.writes.made == case.writes
 }
 
 #[test]
@@ -258,11 +296,10 @@ fn a_failed_write_leaves_a_beginning(rt: HostRuntime) -> Result<(), Fail> {
 #[test]
 fn a_json_text_is_read_before_the_input(rt: HostRuntime) -> Result<(), Fail> {
     // The first read would fail.
-    let (ended, written) = run(rt.alloc(), &["set", "a", "@"], TEXT, 0, 100);
     let line = "jsonc: argument: Unexpected token on line 1 column 1";
-    assert!(rt; is_told(&ended, line) && written.is_empty());
-    let (ended, written) = run(rt.alloc(), &["append", "/**/"], TEXT, 0, 100);
-    assert!(rt; is_told(&ended, "jsonc: argument: no value") && written.is_empty());
+    assert!(rt; is_told(&run(rt.alloc(), &["set", "a", "@"], TEXT, 0, 100), line));
+    let line = "jsonc: argument: no value";
+    assert!(rt; is_told(&run(rt.alloc(), &["append", "/**/"], TEXT, 0, 100), line));
     Ok(())
 }
 
@@ -293,8 +330,8 @@ static FIRST: [(&[&str], &str); 8] = [
 #[test]
 fn a_path_is_read_before_a_json_text_and_the_input(rt: HostRuntime) -> Result<(), Fail> {
     for (words, line) in &FIRST {
-        let (ended, written) = run(rt.alloc(), words, TEXT, 0, 100);
-        assert!(rt; is_told(&ended, line) && written.is_empty(), "{words:?}");
+        let run = run(rt.alloc(), words, TEXT, 0, 100);
+        assert!(rt; is_told(&run, line), "{words:?}");
     }
     Ok(())
 }
@@ -318,8 +355,41 @@ static AT_PATHS: [(&[&str], &[u8], &str); 4] = [
 #[test]
 fn nothing_is_written_where_a_path_leads_nowhere(rt: HostRuntime) -> Result<(), Fail> {
     for (words, input, line) in &AT_PATHS {
-        let (ended, written) = run(rt.alloc(), words, input, 100, 100);
-        assert!(rt; is_told(&ended, line) && written.is_empty(), "{words:?}");
+        let run = run(rt.alloc(), words, input, 100, 100);
+        assert!(rt; is_told(&run, line), "{words:?}");
     }
+    Ok(())
+}
+
+/// A reader that gives one part a read, be it empty.
+#[derive(Drop)]
+struct Parts {
+    rest: &'static [&'static [u8]],
+}
+
+impl Read for Parts {
+    fn read(&mut self, buffer: &mut [u8]) -> io::Result<usize> {
+        let Some((part, rest)) = self.rest.split_first() else {
+            return Err(io::Error::from(ErrorKind::Other));
+        };
+        self.rest = rest;
+        let count = buffer.len().min(part.len());
+        buffer[..count].copy_from_slice(&part[..count]);
+        Ok(count)
+    }
+}
+
+static PARTS: [&[u8]; 4] = [b"[1", b"]", b"", b", 2"];
+
+#[test]
+fn a_read_of_no_bytes_is_the_last(rt: HostRuntime) -> Result<(), Fail> {
+    let mut source = FromReader::new(Parts { rest: &PARTS });
+    let mut sink = ToWriter::new(Writer {
+        bytes: Vec::new(rt.alloc()),
+        calls: Calls::new(100),
+    });
+    let ended = engine(rt.alloc(), &["print"], &mut source, &mut sink);
+    assert!(rt; ended.is_ok() && sink.writer.bytes.as_slice() == b"[1]".as_slice());
+    assert_eq!(rt; source.reader.rest.len(), 1);
     Ok(())
 }

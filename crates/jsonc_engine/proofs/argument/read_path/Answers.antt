@@ -1,7 +1,8 @@
 use Rattle.std.proofs.Common.{◌≡◌, rules}
 use Rattle.jsonc_text.specs.Options.{all_on}
 use Rattle.jsonc_text.specs.OptionsOf.{parse_options}
-use Rattle.jsonc_cst.specs.Document.{tree_of}
+use Rattle.jsonc_cst.specs.Document.{printed_of, tree_of}
+use Rattle.jsonc_engine.proofs.Arguments.{array_wanted, no_array_there}
 use Rattle.jsonc_engine.proofs.Names.{another_value, names_read, names_refused, no_value}
 use Rattle.jsonc_engine.proofs.argument.read_path.Goals as goal
 
@@ -38,3 +39,15 @@ returns-clause-refused g c =
     let o = parse_options c.default.result in
     names_refused c.args.path.now o all tree c.in-Ok.ensures.shaped c.in-Ok.ensures.value c.in-Ok-to_value.taken c.in-Ok-to_value.ensures.value c.in-Some.value c.in-Some.is c.in-Array.values c.in-Array.is c.strings_of.result
     c.strings_of.ensures.refused
+
+pub returns-then-is_none-clause-refused : goal.returns-then-is_none-clause-refused
+returns-then-is_none-clause-refused g c =
+    let all : parse_options c.default.result ≡ all_on = search rules in
+    let reads : printed_of c.in-Ok.document ≡ c.args.path.now = search rules in
+    no_array_there c.args.path.now (parse_options c.default.result) all c.in-Ok.document reads c.len.ensures.tree c.in-Ok.ensures.shaped c.in-Ok.ensures.lines ?
+
+pub returns-in-Err-to_value-clause-refused : goal.returns-in-Err-to_value-clause-refused
+returns-in-Err-to_value-clause-refused g c =
+    let all : parse_options c.default.result ≡ all_on = search rules in
+    let reads : printed_of c.in-Ok.document ≡ c.args.path.now = search rules in
+    array_wanted c.args.path.now (parse_options c.default.result) all c.in-Ok.document reads c.len.ensures.tree c.in-Ok.ensures.shaped c.in-Ok.ensures.lines ? ? c.in-Err-to_value.error c.in-Err-to_value.ensures.memory

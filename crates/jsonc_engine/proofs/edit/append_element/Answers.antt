@@ -3,7 +3,7 @@ use Rattle.jsonc_input.specs.Views.{plain}
 use Rattle.jsonc_cst.specs.declared.cst.node.CstArray.{CstArray}
 use Rattle.jsonc_cst.specs.Document.{nodes_of}
 use Rattle.jsonc_parser.specs.Below.typed.Setting.{FindsOrCreatesArray}
-use Rattle.jsonc_engine.proofs.Making.{appends_last, array_memory, array_stands, no_array, said_of}
+use Rattle.jsonc_engine.proofs.Making.{appends_last, array_memory, array_stands, array_wanted, no_array, said_of}
 use Rattle.jsonc_engine.proofs.edit.append_element.Goals as goal
 
 pub returns-in-Ok-None-clause-told : goal.returns-in-Ok-None-clause-told
@@ -22,4 +22,10 @@ pub returns-in-Err-append-clause-told : goal.returns-in-Err-append-clause-told
 returns-in-Err-append-clause-told g c = λ o sound.
     let made = nodes_of c.array_value_or_create.new.self in
     array_memory o (nodes_of c.args.document.now) made c.len-2.ensures.tree c.in-Ok-Some.array (array_stands (nodes_of c.array_value_or_create.new.self) c.in-Ok-Some.field-0 c.in-Ok-Some.array c.in-Ok-Some.field-0-is c.in-Ok-Some.ensures.stands)
-    (c.in-Ok-Some.ensures.written o) sound c.in-Err-append.error (c.in-Err-append.ensures.memory o)
+    (c.in-Ok-Some.ensures.written o) sound c.len.ensures.tree
+    (said_of c.in-Ok-Some.field-0 c.in-Ok-Some.array (λ (f : Option CstArray). FindsOrCreatesArray (nodes_of c.args.document.now) made f) c.in-Ok-Some.field-0-is c.in-Ok-Some.ensures.value)
+    c.in-Err-append.error (c.in-Err-append.ensures.memory o)
+
+pub returns-in-Err-clause-told : goal.returns-in-Err-clause-told
+returns-in-Err-clause-told g c = λ o sound.
+    array_wanted o (nodes_of c.args.document.now) c.len.ensures.tree sound c.in-Err.ensures.wanted c.in-Err.error c.in-Err.ensures.memory

@@ -1,7 +1,7 @@
 use Rattle.std.proofs.Common.{subst}
 use Rattle.jsonc_cst.specs.Document.{nodes_of}
 use Rattle.jsonc_engine.specs.Change.{IsChangeFor}
-use Rattle.jsonc_engine.proofs.Changes.{append_makes, drop_makes, get_makes, ok_so, put_makes, put_told, remove_makes, remove_told, set_makes, sort_makes, sort_told, stay_makes}
+use Rattle.jsonc_engine.proofs.Changes.{append_makes, append_told, drop_makes, drop_told, get_makes, ok_so, put_makes, put_told, remove_makes, remove_told, set_makes, set_told, sort_makes, sort_told, stay_makes}
 use Rattle.jsonc_engine.proofs.edit.make.Goals as goal
 
 pub returns-in-Set-clause-made : goal.returns-in-Set-clause-made
@@ -9,10 +9,18 @@ returns-in-Set-clause-made g c = λ o request is.
     ok_so c.set_property.result (set_makes o request (nodes_of c.args.document.now) (nodes_of c.set_property.new.document) c.in-Set.name c.in-Set.value (subst (IsChangeFor request) c.in-Set.is is))
     (c.set_property.ensures.set o)
 
+pub returns-in-Set-clause-told : goal.returns-in-Set-clause-told
+returns-in-Set-clause-told g c = λ o request is sound.
+    set_told o request (nodes_of c.args.document.now) c.in-Set.name c.in-Set.value (subst (IsChangeFor request) c.in-Set.is is) c.set_property.result (c.set_property.ensures.told o sound)
+
 pub returns-in-Append-clause-made : goal.returns-in-Append-clause-made
 returns-in-Append-clause-made g c = λ o request is.
     ok_so c.append_element.result (append_makes o request (nodes_of c.args.document.now) (nodes_of c.append_element.new.document) c.in-Append.value (subst (IsChangeFor request) c.in-Append.is is))
     (c.append_element.ensures.appended o)
+
+pub returns-in-Append-clause-told : goal.returns-in-Append-clause-told
+returns-in-Append-clause-told g c = λ o request is sound.
+    append_told o request (nodes_of c.args.document.now) c.in-Append.value (subst (IsChangeFor request) c.in-Append.is is) c.append_element.result (c.append_element.ensures.told o sound)
 
 pub returns-in-Remove-clause-made : goal.returns-in-Remove-clause-made
 returns-in-Remove-clause-made g c = λ o request is.
@@ -22,7 +30,6 @@ returns-in-Remove-clause-made g c = λ o request is.
 pub returns-in-Remove-clause-told : goal.returns-in-Remove-clause-told
 returns-in-Remove-clause-told g c = λ o request is sound.
     remove_told o request (nodes_of c.args.document.now) c.in-Remove.name (subst (IsChangeFor request) c.in-Remove.is is) c.remove_property.result (c.remove_property.ensures.told o sound)
-    (λ none. c.remove_property.ensures.no_object o none sound)
 
 pub returns-in-Sort-clause-made : goal.returns-in-Sort-clause-made
 returns-in-Sort-clause-made g c = λ o request is.
@@ -31,8 +38,7 @@ returns-in-Sort-clause-made g c = λ o request is.
 
 pub returns-in-Sort-clause-told : goal.returns-in-Sort-clause-told
 returns-in-Sort-clause-told g c = λ o request is sound.
-    sort_told o request (nodes_of c.args.document.now) (subst (IsChangeFor request) c.in-Sort.is is) c.sort_properties.result c.sort_properties.ensures.told
-    (λ none. c.sort_properties.ensures.no_object o none sound)
+    sort_told o request (nodes_of c.args.document.now) (subst (IsChangeFor request) c.in-Sort.is is) c.sort_properties.result (c.sort_properties.ensures.told o sound)
 
 pub returns-in-Put-clause-made : goal.returns-in-Put-clause-made
 returns-in-Put-clause-made g c = λ o request is.
@@ -47,6 +53,10 @@ pub returns-clause-made : goal.returns-clause-made
 returns-clause-made g c = λ o request is.
     ok_so c.drop_setting.result (drop_makes o request (nodes_of c.args.document.now) (nodes_of c.drop_setting.new.document) c.in-Drop.names (subst (IsChangeFor request) c.in-Drop.is is) c.deref-in-Drop.result.now c.deref-in-Drop.ensures.value)
     (c.drop_setting.ensures.dropped o)
+
+pub returns-clause-told : goal.returns-clause-told
+returns-clause-told g c = λ o request is sound.
+    drop_told o request (nodes_of c.args.document.now) c.in-Drop.names (subst (IsChangeFor request) c.in-Drop.is is) sound c.drop_setting.result (c.drop_setting.ensures.told o sound)
 
 pub returns-in-Stay-clause-made : goal.returns-in-Stay-clause-made
 returns-in-Stay-clause-made g c = λ o request is. stay_makes o request (nodes_of c.args.document.now) (subst (IsChangeFor request) c.in-Stay.is is)

@@ -1,17 +1,25 @@
 use Rattle.std.proofs.Common.{sym, ◌∙◌, chars}
-use Rattle.jsonc_cst.specs.Document.{nodes_of}
-use Rattle.jsonc_engine.proofs.Removing.{ends_removal, first_found, no_object, one_loses}
+use Rattle.jsonc_cst.specs.Document.{nodes_of, printed_of}
+use Rattle.jsonc_engine.proofs.RootKinds.{has_object}
+use Rattle.jsonc_engine.proofs.Making.{memory_on_object}
+use Rattle.jsonc_engine.proofs.Removing.{first_found, no_object, one_loses, wants_memory}
 use Rattle.jsonc_engine.proofs.edit.remove_property.Goals as goal
 
-pub returns-in_default-clause-no_object : goal.returns-in_default-clause-no_object
-returns-in_default-clause-no_object g c = λ o _ sound.
+pub returns-in_default-clause-told : goal.returns-in_default-clause-told
+returns-in_default-clause-told g c = λ o sound.
     no_object o (nodes_of c.args.document.now) c.len.ensures.tree sound (sym c.object_value.ensures.value ∙ c.in_default.is)
+
+pub returns-in_err-property-clause-told : goal.returns-in_err-property-clause-told
+returns-in_err-property-clause-told g c = λ o sound. ?
 
 pub returns-in-Err-clause-told : goal.returns-in-Err-clause-told
 returns-in-Err-clause-told g c = λ o sound.
+    let old = nodes_of c.args.document.now in
+    let read = sym c.object_value.ensures.value ∙ c.in-Some.is in
     let first = first_found c.args.document.now c.in-Some.object (chars c.args.name.now) c.in_ok-property.field-0 c.in-Some-2.property c.in_ok-property.ensures.found c.in-Some-2.is in
-    ends_removal o (nodes_of c.args.document.now) (nodes_of c.remove.new.doc) c.len.ensures.tree (chars c.args.name.now) c.in-Some.object
-    (sym c.object_value.ensures.value ∙ c.in-Some.is) c.in-Some-2.property.number first c.in-Err.error sound (c.in-Err.ensures.memory o)
+    memory_on_object o (printed_of c.args.document.now) c.in-Err.error
+    (wants_memory o old (nodes_of c.remove.new.doc) c.len.ensures.tree (chars c.args.name.now) c.in-Some.object read c.in-Some-2.property.number first c.in-Err.error sound (c.in-Err.ensures.memory o))
+    (has_object o old c.len.ensures.tree sound c.in-Some.object read)
 
 pub returns-in-Ok-clause-removed : goal.returns-in-Ok-clause-removed
 returns-in-Ok-clause-removed g c = λ o sound.

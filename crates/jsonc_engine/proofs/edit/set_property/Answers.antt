@@ -4,7 +4,7 @@ use Rattle.jsonc_input.specs.Views.{plain}
 use Rattle.jsonc_cst.specs.declared.cst.node.CstObject.{CstObject}
 use Rattle.jsonc_cst.specs.Document.{nodes_of}
 use Rattle.jsonc_parser.specs.Below.typed.Setting.{FindsOrCreatesObject}
-use Rattle.jsonc_engine.proofs.Making.{appends_property, no_object, object_memory, object_stands, said_of, sets_property}
+use Rattle.jsonc_engine.proofs.Making.{append_memory, appends_property, no_object, object_memory, object_stands, object_wanted, said_of, sets_property}
 use Rattle.jsonc_engine.proofs.Removing.{first_found, none_found}
 use Rattle.jsonc_engine.proofs.edit.set_property.Goals as goal
 
@@ -34,5 +34,25 @@ returns-in-Ok-append-clause-set g c = λ o sound.
 
 pub returns-in-Err-append-clause-told : goal.returns-in-Err-append-clause-told
 returns-in-Err-append-clause-told g c = λ o sound.
+    append_memory o (nodes_of c.args.document.now) (nodes_of c.object_value_or_create.new.self) c.len-2.ensures.tree c.in-Ok-Some.object
+    (object_stands (nodes_of c.object_value_or_create.new.self) c.in-Ok-Some.field-0 c.in-Ok-Some.object c.in-Ok-Some.field-0-is c.in-Ok-Some.ensures.stands) (c.in-Ok-Some.ensures.written o) sound c.len.ensures.tree
+    (said_of c.in-Ok-Some.field-0 c.in-Ok-Some.object (λ (f : Option CstObject). FindsOrCreatesObject (nodes_of c.args.document.now) (nodes_of c.object_value_or_create.new.self) f) c.in-Ok-Some.field-0-is c.in-Ok-Some.ensures.value)
+    c.in-Err-append.error (c.in-Err-append.ensures.memory o)
+
+pub returns-in-Err-set_value-clause-told : goal.returns-in-Err-set_value-clause-told
+returns-in-Err-set_value-clause-told g c = λ o sound.
     object_memory o (nodes_of c.args.document.now) (nodes_of c.object_value_or_create.new.self) c.len-2.ensures.tree c.in-Ok-Some.object
-    (object_stands (nodes_of c.object_value_or_create.new.self) c.in-Ok-Some.field-0 c.in-Ok-Some.object c.in-Ok-Some.field-0-is c.in-Ok-Some.ensures.stands) (c.in-Ok-Some.ensures.written o) sound c.in-Err-append.error (c.in-Err-append.ensures.memory o)
+    (object_stands (nodes_of c.object_value_or_create.new.self) c.in-Ok-Some.field-0 c.in-Ok-Some.object c.in-Ok-Some.field-0-is c.in-Ok-Some.ensures.stands) (c.in-Ok-Some.ensures.written o) sound c.len.ensures.tree
+    (said_of c.in-Ok-Some.field-0 c.in-Ok-Some.object (λ (f : Option CstObject). FindsOrCreatesObject (nodes_of c.args.document.now) (nodes_of c.object_value_or_create.new.self) f) c.in-Ok-Some.field-0-is c.in-Ok-Some.ensures.value)
+    c.in-Err-set_value.error c.in-Err-set_value.ensures.memory
+
+pub returns-in-Err-get-clause-told : goal.returns-in-Err-get-clause-told
+returns-in-Err-get-clause-told g c = λ o sound.
+    object_memory o (nodes_of c.args.document.now) (nodes_of c.object_value_or_create.new.self) c.len-2.ensures.tree c.in-Ok-Some.object
+    (object_stands (nodes_of c.object_value_or_create.new.self) c.in-Ok-Some.field-0 c.in-Ok-Some.object c.in-Ok-Some.field-0-is c.in-Ok-Some.ensures.stands) (c.in-Ok-Some.ensures.written o) sound c.len.ensures.tree
+    (said_of c.in-Ok-Some.field-0 c.in-Ok-Some.object (λ (f : Option CstObject). FindsOrCreatesObject (nodes_of c.args.document.now) (nodes_of c.object_value_or_create.new.self) f) c.in-Ok-Some.field-0-is c.in-Ok-Some.ensures.value)
+    c.in-Err-get.error c.in-Err-get.ensures.memory
+
+pub returns-in-Err-clause-told : goal.returns-in-Err-clause-told
+returns-in-Err-clause-told g c = λ o sound.
+    object_wanted o (nodes_of c.args.document.now) c.len.ensures.tree sound c.in-Err.ensures.wanted c.in-Err.error c.in-Err.ensures.memory

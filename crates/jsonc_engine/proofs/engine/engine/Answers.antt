@@ -1,12 +1,14 @@
-use Rattle.std.proofs.Common.{◌≡◌, IfErr, IsTrue, ap, rules, subst, sym, ◌∙◌}
+use Rattle.std.proofs.Common.{◌≡◌, IfErr, IsTrue, ap, inl, inr, refl, rules, subst, sym, ◌∙◌}
 use Rattle.jsonc_text.specs.Options.{all_on}
 use Rattle.jsonc_text.specs.OptionsOf.{parse_options}
+use Rattle.jsonc_edit.specs.declared.error.EditError.TheVariants.{OutOfMemory}
+use Rattle.jsonc_engine.specs.declared.fault.Fault.TheVariants.{Edit}
 use Rattle.jsonc_engine.specs.Command.{Request, request_of, writes}
 use Rattle.jsonc_engine.specs.Fault.{TellsOfArgument}
 use Rattle.jsonc_engine.specs.Output.{output_bytes}
 use Rattle.jsonc_engine.proofs.Changes.{ok_so}
-use Rattle.jsonc_engine.proofs.Ending.{input_known, ok_always, puts_known, same_request, tells_known}
-use Rattle.jsonc_engine.proofs.Telling.{is_ready, told_of_input, told_of_read, told_of_write}
+use Rattle.jsonc_engine.proofs.Ending.{err_always, input_known, memory_known, no_memory, ok_always, puts_known, same_request, tells_known}
+use Rattle.jsonc_engine.proofs.Telling.{is_ready, never_behind, never_behind_words, told_of_input, told_of_read, told_of_words, told_of_write}
 use Rattle.jsonc_engine.proofs.engine.engine.Goals as goal
 
 pub returns-clause-written : goal.returns-clause-written
@@ -43,6 +45,47 @@ returns-in-Err-output_of-clause-argument g c = λ request named.
     let fault = c.in-Err-output_of.fault in
     subst (λ (r : Request). TellsOfArgument r fault) (same_request asked request (sym c.in-Some.ensures ∙ named))
     (told_of_input asked (is_ready asked c.in-Ok.change c.in-Ok.ensures.change) (parse_options c.default-options.result) c.as_slice.result.now fault (c.in-Err-output_of.ensures.refused asked c.in-Ok.ensures.change))
+
+pub returns-in-Err-clause-argument : goal.returns-in-Err-clause-argument
+returns-in-Err-clause-argument g c = λ request named.
+    let asked = request_of c.in-Some.command in
+    let fault = c.in-Err.fault in
+    subst (λ (r : Request). TellsOfArgument r fault) (same_request asked request (sym c.in-Some.ensures ∙ named)) (told_of_words asked fault c.in-Err.ensures.refused)
+
+pub returns-in-Err-clause-memory : goal.returns-in-Err-clause-memory
+returns-in-Err-clause-memory g c = λ request named memory. inl refl
+
+pub returns-in-Err-clause-behind : goal.returns-in-Err-clause-behind
+returns-in-Err-clause-behind g c = λ behind. absurd (never_behind_words (request_of c.in-Some.command) c.in-Err.fault c.in-Err.ensures.refused behind)
+
+pub returns-in-Err-read_whole-clause-memory : goal.returns-in-Err-read_whole-clause-memory
+returns-in-Err-read_whole-clause-memory g c = λ request named memory. inl c.in-Err-read_whole.ensures.not_ended
+
+pub returns-in-Err-read_whole-clause-behind : goal.returns-in-Err-read_whole-clause-behind
+returns-in-Err-read_whole-clause-behind g c = λ behind. absurd (never_behind c.in-Err-read_whole.fault c.in-Err-read_whole.ensures.causes behind)
+
+pub returns-in-Err-output_of-clause-memory : goal.returns-in-Err-output_of-clause-memory
+returns-in-Err-output_of-clause-memory g c = λ request named memory.
+    let all : parse_options c.default-options.result ≡ all_on = search rules in
+    let asked = request_of c.in-Some.command in
+    let is : c.in-Err-output_of.fault ≡ Edit OutOfMemory = cc in
+    inr (
+      c.in-Ok-read_whole.ensures.ended,
+      memory_known (g.S.Source.remaining c.args.source.now) c.in-Ok-read_whole.input.items c.as_slice.result.now (parse_options c.default-options.result) all c.as_slice.ensures.value c.in-Ok-read_whole.ensures.bytes
+      asked request (sym c.in-Some.ensures ∙ named) c.in-Err-output_of.fault is (c.in-Err-output_of.ensures.refused asked c.in-Ok.ensures.change),
+    )
+
+pub returns-in-Err-output_of-clause-behind : goal.returns-in-Err-output_of-clause-behind
+returns-in-Err-output_of-clause-behind g c = λ behind. c.in-Ok-read_whole.ensures.ended
+
+pub returns-clause-memory : goal.returns-clause-memory
+returns-clause-memory g c = λ request named memory. no_memory c.write_for.result c.write_for.ensures.cause memory
+
+pub returns-clause-ended : goal.returns-clause-ended
+returns-clause-ended g c = ok_always c.write_for.result c.in-Ok-read_whole.ensures.ended
+
+pub returns-clause-behind : goal.returns-clause-behind
+returns-clause-behind g c = err_always c.write_for.result (λ fault behind. c.in-Ok-read_whole.ensures.ended)
 
 pub returns-clause-argument : goal.returns-clause-argument
 returns-clause-argument g c = λ request named.

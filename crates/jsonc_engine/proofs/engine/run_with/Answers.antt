@@ -1,5 +1,6 @@
 use Rattle.std.proofs.Common.{inl, inr}
 use Rattle.jsonc_engine.specs.Command.{request_of}
+use Rattle.jsonc_engine.specs.Output.{output_bytes}
 use Rattle.jsonc_text.specs.OptionsOf.{parse_options}
 use Rattle.jsonc_engine.proofs.Telling.{is_ready, memory_told}
 use Rattle.jsonc_engine.proofs.engine.run_with.Goals as goal
@@ -16,8 +17,11 @@ returns-in-Err-output_of-clause-not_utf8 g c = λ other.
 
 pub returns-in-Err-output_of-clause-refused : goal.returns-in-Err-output_of-clause-refused
 returns-in-Err-output_of-clause-refused g c =
-    inr (is_ready (request_of c.args.command) c.in-Ok.change c.in-Ok.ensures.change, c.in-Err-output_of.ensures.refused (request_of c.args.command) c.in-Ok.ensures.change)
+    let asked = request_of c.args.command in
+    inr (is_ready asked c.in-Ok.change c.in-Ok.ensures.change, inl (c.in-Err-output_of.ensures.refused asked c.in-Ok.ensures.change))
 
 pub returns-clause-refused : goal.returns-clause-refused
 returns-clause-refused g c =
-    memory_told (parse_options c.args.options.now) (request_of c.args.command) c.args.input.now (is_ready (request_of c.args.command) c.in-Ok.change c.in-Ok.ensures.change) c.text_of.result c.text_of.ensures.memory
+    let asked = request_of c.args.command in
+    memory_told (parse_options c.args.options.now) asked c.args.input.now (output_bytes c.in-Ok-output_of.output) (is_ready asked c.in-Ok.change c.in-Ok.ensures.change)
+    (c.in-Ok-output_of.ensures.left asked c.in-Ok.ensures.change) c.text_of.result c.text_of.ensures.memory

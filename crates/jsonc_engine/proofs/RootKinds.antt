@@ -1,0 +1,228 @@
+-- The kind of a sound document's value, as its nodes tell.
+use Rattle.std.proofs.Common.{◌≡◌, ◌≢◌, ℕ, Bool, true, false, List, [], ◌∷◌, chars, Option, Some, None, IfSome, if◌then◌else◌, refl, sym, ap, subst, ◌∙◌}
+use Rattle.std.proofs.lemmas.Bool.{false≢true, true≢false}
+use Rattle.std.specs.Prelude.{is_some}
+use Rattle.jsonc_text.specs.Options.{Options}
+use Rattle.jsonc_text.specs.Plain.{Plain}
+use Rattle.jsonc_text.specs.Grammar.{IsDocument}
+use Rattle.jsonc_text.proofs.UniqueValues.{document_unique}
+use Rattle.jsonc_tree.specs.Content as content
+use Rattle.jsonc_tree.specs.Content.{Content, array, object}
+use Rattle.jsonc_tree.specs.OrderedTree.{ordered_tree, printed}
+use Rattle.jsonc_tree.specs.Tree.{Node, content_at, IsTree}
+use Rattle.jsonc_tree.specs.Values.{DocumentValueOf}
+use Rattle.jsonc_build.specs.Shape.{printed_text}
+use Rattle.jsonc_nodes.specs.Properties.{value_at}
+use Rattle.jsonc_laws.specs.SoundTrees.{SoundTree}
+use Rattle.jsonc_edit.proofs.FittingFinds.{none_is_some}
+use Rattle.jsonc_set.specs.Kinds as kinds
+use Rattle.jsonc_set.specs.Kinds.{FoundOrCreated}
+use Rattle.jsonc_cst.specs.declared.cst.node.CstArray.{CstArray}
+use Rattle.jsonc_cst.specs.declared.cst.node.CstNode.{CstNode}
+use Rattle.jsonc_cst.specs.declared.cst.node.CstObject.{CstObject}
+use Rattle.jsonc_cst.specs.Nodes.{typed}
+use Rattle.jsonc_cst.specs.Readings.{array_if, object_if, typed_if}
+use Rattle.jsonc_parser.specs.Below.named.Shapes.{empty_of, has_shape, is_array, is_object, is_of}
+use Rattle.jsonc_parser.specs.Below.named.declared.shape.Shape.{Shape}
+use Rattle.jsonc_parser.specs.Below.named.declared.shape.Shape.TheVariants.{Object, Array}
+use Rattle.jsonc_parser.specs.Below.settings.Settings.{At, in_object, itself, StandsInTheWay, this_stands}
+use Rattle.jsonc_parser.proofs.Below.run.Ensured.{held}
+use Rattle.jsonc_engine.specs.Argument.{AreNoNames, strings}
+use Rattle.jsonc_engine.specs.Input.{HasKind, MayHave}
+use Rattle.jsonc_engine.specs.Settings.{Begin, HasBeginning, HasInTheWay, HasNoBeginning, HasNothingAt, MayBegin}
+use Rattle.jsonc_engine.proofs.Removing.{no_value, object_read, text}
+
+-- a node that reads as an array is one
+number_or : ℕ → Option CstArray → ℕ
+number_or n None = n
+number_or n (Some x) = x.number
+
+is_read : Option CstArray → Bool
+is_read None = false
+is_read (Some x) = true
+
+read_array : (c : Content) (n : ℕ) (x : CstArray) → array_if (Some (typed c n)) ≡ Some x → (c ≡ array) × (n ≡ x.number)
+unfolding number_or is_read
+read_array content.array n x e = (refl, ap (number_or n) e)
+read_array _ n x e = let wrong : false ≡ true = ap is_read e in cc
+
+pub array_read : (ns : List Node) (w : Option ℕ) (x : CstArray) → array_if (typed_if ns w) ≡ Some x → (w ≡ Some x.number) × (content_at ns x.number ≡ array)
+unfolding is_read
+array_read ns None x e = let wrong : false ≡ true = ap is_read e in cc
+array_read ns (Some n) x e =
+    let is = read_array (content_at ns n) n x e in
+    (ap Some is.1, subst (λ m. content_at ns m ≡ array) is.1 is.0)
+
+-- and what does not read as one is none
+no_array_read : (c : Content) (n : ℕ) → array_if (Some (typed c n)) ≡ None → kinds.is_array c ≡ false
+unfolding is_read
+no_array_read content.array n e = let wrong : true ≡ false = ap is_read e in cc
+no_array_read _ n e = refl
+
+is_object_read : Option CstObject → Bool
+is_object_read None = false
+is_object_read (Some x) = true
+
+no_object_read : (c : Content) (n : ℕ) → object_if (Some (typed c n)) ≡ None → kinds.is_object c ≡ false
+unfolding is_object_read
+no_object_read content.object n e = let wrong : true ≡ false = ap is_object_read e in cc
+no_object_read _ n e = refl
+
+if_some : (b : Bool) (n m : ℕ) → Some m ≡ (if b then Some n else None) → b ≡ true
+if_some true n m e = refl
+if_some false n m e = none_is_some m (sym e)
+
+-- names begin at an object, and no names at any value
+object_begins : (names : List (List ℕ)) (x : Plain) → is_object x ≡ true → Begin names x
+object_begins [] x is = tt
+object_begins (name ∷ names) x is = is
+
+no_beginning : (names : List (List ℕ)) (x : Plain) → names ≢ [] → is_object x ≡ false → ¬ (Begin names x)
+no_beginning [] x some other = λ begin. some refl
+no_beginning (name ∷ names) x some other = λ begin. false≢true (sym other ∙ begin)
+
+all_begin : (names : List (List ℕ)) (w : Option Plain) → names ≡ [] → IfSome w (Begin names)
+all_begin names None none = tt
+all_begin names (Some x) none = subst (λ (l : List (List ℕ)). Begin l x) (sym none) tt
+
+module _ (o : Options) (ns : List Node) (tree : IsTree ns) (sound : SoundTree o (ordered_tree ns 0)) where
+  abbrev bytes : List ℕ
+  bytes = printed (ordered_tree ns 0)
+
+  -- where no value stands there is none
+  none_by : (w : Option Plain) → value_at ns 0 ≡ None → IsDocument o (chars bytes) w → DocumentValueOf o (ordered_tree ns 0) w → IsDocument o (chars bytes) None
+  none_by None e d v = d
+  none_by (Some x) e d v = absurd (no_value o ns tree sound e x v)
+
+  pub valueless : value_at ns 0 ≡ None → IsDocument o (chars bytes) None
+  valueless e =
+      let t = text o ns tree sound in
+      none_by t.0 e t.1 t.2
+
+  valueless_by : (w : Option ℕ) → value_at ns 0 ≡ w → is_some (typed_if ns w) ≡ false → IsDocument o (chars bytes) None
+  valueless_by None e none = valueless e
+  valueless_by (Some n) e none = absurd (true≢false none)
+
+  pub reads_none : (w : Option CstNode) → w ≡ typed_if ns (value_at ns 0) → is_some w ≡ false → IsDocument o (chars bytes) None
+  reads_none w same none = valueless_by (value_at ns 0) refl (ap is_some (sym same) ∙ none)
+
+  -- and else there is one
+  valued_by : (w : Option ℕ) → value_at ns 0 ≡ w → is_some (typed_if ns w) ≡ true → (x : Plain) × IsDocument o (chars bytes) (Some x)
+  valued_by None e one = absurd (false≢true one)
+  valued_by (Some n) e one =
+      let h = held o ns tree sound n e in
+      (h.value, h.text)
+
+  pub reads_one : (w : Option CstNode) → w ≡ typed_if ns (value_at ns 0) → is_some w ≡ true → (x : Plain) × IsDocument o (chars bytes) (Some x)
+  reads_one w same one = valued_by (value_at ns 0) refl (ap is_some (sym same) ∙ one)
+
+  -- whose kind is that of its node
+  pub of_shape : (shape : Shape) (n : ℕ) (b : Bool) → value_at ns 0 ≡ Some n → is_of shape (content_at ns n) ≡ b → (x : Plain) × IsDocument o (chars bytes) (Some x) × (has_shape shape x ≡ b)
+  of_shape shape n b e is =
+      let h = held o ns tree sound n e in
+      (h.value, h.text, sym (h.told shape) ∙ is)
+
+  pub has_object : (x : CstObject) → object_if (typed_if ns (value_at ns 0)) ≡ Some x → HasKind is_object o bytes
+  has_object x read =
+      let is = object_read ns (value_at ns 0) x read in
+      of_shape Object x.number true is.0 (ap kinds.is_object is.1)
+
+  has_array : (x : CstArray) → array_if (typed_if ns (value_at ns 0)) ≡ Some x → HasKind is_array o bytes
+  has_array x read =
+      let is = array_read ns (value_at ns 0) x read in
+      of_shape Array x.number true is.0 (ap kinds.is_array is.1)
+
+  pub reads_array : (w : Option CstArray) → w ≡ array_if (typed_if ns (value_at ns 0)) → is_some w ≡ true → HasKind is_array o bytes
+  reads_array None same one = absurd (false≢true one)
+  reads_array (Some x) same one = has_array x (sym same)
+
+  -- what was found is of its shape, and where one was made there was none
+  found_by : (shape : Shape) (made : List Node) (w : Option ℕ) (m : ℕ) → value_at ns 0 ≡ w → FoundOrCreated (is_of shape) (empty_of shape) ns made w (Some m) → MayHave (has_shape shape) o bytes
+  found_by shape made None m e f = (None, valueless e, tt)
+  found_by shape made (Some n) m e (told, same) =
+      let h = of_shape shape n true e (if_some (is_of shape (content_at ns n)) n m told) in
+      (Some h.0, h.1, h.2)
+
+  pub of_found : (shape : Shape) (made : List Node) (m : ℕ) → FoundOrCreated (is_of shape) (empty_of shape) ns made (value_at ns 0) (Some m) → MayHave (has_shape shape) o bytes
+  of_found shape made m f = found_by shape made (value_at ns 0) m refl f
+
+  pub wanted : (shape : Shape) → value_at ns 0 ≡ None → MayHave (has_shape shape) o bytes
+  wanted shape e = (None, valueless e, tt)
+
+  -- what does not read as an array is no list of names
+  no_names_by : (w : Option ℕ) → value_at ns 0 ≡ w → array_if (typed_if ns w) ≡ None → (v : Option Plain) × IsDocument o (chars bytes) v × AreNoNames v
+  no_names_by None e read = (None, valueless e, λ names same. let wrong : None ≡ Some (strings names) = same in cc)
+  no_names_by (Some n) e read =
+      let h = of_shape Array n false e (no_array_read (content_at ns n) n read) in
+      (
+        Some h.0,
+        h.1,
+        λ names same.
+            (let is : h.0 ≡ strings names = cc in
+            absurd (false≢true (sym h.2 ∙ ap is_array is))),
+      )
+
+  pub no_names : (w : Option CstArray) → w ≡ array_if (typed_if ns (value_at ns 0)) → is_some w ≡ false → (v : Option Plain) × IsDocument o (chars bytes) v × AreNoNames v
+  no_names None same none = no_names_by (value_at ns 0) refl (sym same)
+  no_names (Some x) same none = absurd (true≢false none)
+
+  module _ (names : List (List ℕ)) where
+    -- where names begin
+    pub none_begin : names ≡ [] → MayBegin o bytes names
+    none_begin none =
+        let t = text o ns tree sound in
+        (t.0, t.1, all_begin names t.0 none)
+
+    pub may_begin : (w : Option CstNode) → w ≡ typed_if ns (value_at ns 0) → is_some w ≡ false → MayBegin o bytes names
+    may_begin w same none = (None, reads_none w same none, tt)
+
+    no_beginning_by : (w : Option ℕ) → value_at ns 0 ≡ w → is_some (typed_if ns w) ≡ true → object_if (typed_if ns w) ≡ None → names ≢ [] → HasNoBeginning o bytes names
+    no_beginning_by None e one read some = absurd (false≢true one)
+    no_beginning_by (Some n) e one read some =
+        let h = of_shape Object n false e (no_object_read (content_at ns n) n read) in
+        (h.0, h.1, no_beginning names h.0 some h.2)
+
+    module _ (v : Option CstNode) (value : v ≡ typed_if ns (value_at ns 0)) (one : is_some v ≡ true) (some : names ≢ []) where
+      pub stands : (w : Option CstObject) → w ≡ object_if (typed_if ns (value_at ns 0)) → is_some w ≡ false → HasNoBeginning o bytes names
+      stands None same none = no_beginning_by (value_at ns 0) refl (ap is_some (sym value) ∙ one) (sym same) some
+      stands (Some x) same none = absurd (true≢false none)
+
+    pub begin_at : (w : Option CstObject) → w ≡ object_if (typed_if ns (value_at ns 0)) → is_some w ≡ true → MayBegin o bytes names
+    begin_at None same one = absurd (false≢true one)
+    begin_at (Some x) same one =
+        let h = has_object x (sym same) in
+        (Some h.0, h.1, object_begins names h.0 h.2)
+
+-- where names may begin and there is a value they begin
+beginning_by : (o : Options) (text : List ℕ) (names : List (List ℕ)) (w : Option Plain) → IsDocument o (chars text) w → IfSome w (Begin names) → (x : Plain) → IsDocument o (chars text) (Some x) → HasBeginning o text names
+beginning_by o text names None d begins x e = let wrong : None ≡ Some x = document_unique o (chars text) None (Some x) d e in cc
+beginning_by o text names (Some y) d begins x e = (y, d, begins)
+
+pub beginning : (o : Options) (text : List ℕ) (names : List (List ℕ)) → MayBegin o text names → (x : Plain) × IsDocument o (chars text) (Some x) → HasBeginning o text names
+beginning o text names (w, d, begins) (x, e) = beginning_by o text names w d begins x e
+
+-- where they do not begin nothing stands at them, and the value is in their way
+nothing_by : (names : List (List ℕ)) (x : Plain) → ¬ (Begin names x) → (v : Plain) → At (Some x) names v → ⊥
+nothing_by _ x none v itself = none tt
+nothing_by _ _ none v (in_object first at) = none refl
+
+pub nothing_begins : (o : Options) (text : List ℕ) (names : List (List ℕ)) → HasNoBeginning o text names → HasNothingAt o text names
+nothing_begins o text names (x, d, none) = (Some x, d, nothing_by names x none)
+
+no_value_at : (names : List (List ℕ)) (v : Plain) → At None names v → ⊥
+no_value_at names v at = elim at [ ]
+
+pub nothing_stands : (o : Options) (text : List ℕ) (names : List (List ℕ)) → IsDocument o (chars text) None → HasNothingAt o text names
+nothing_stands o text names d = (None, d, no_value_at names)
+
+way_by : (names : List (List ℕ)) (x : Plain) → ¬ (Begin names x) → StandsInTheWay (Some x) names
+way_by [] x none = absurd (none tt)
+way_by (name ∷ names) x none = this_stands (λ ms is. none (ap is_object is))
+
+pub way_begins : (o : Options) (text : List ℕ) (names : List (List ℕ)) → HasNoBeginning o text names → HasInTheWay o text names
+way_begins o text names (x, d, none) = (Some x, d, way_by names x none)
+
+-- what is said of the text that a document prints, where it is another's
+pub said_of_text : {w : Option Plain} (o p : Options) (bytes text : List ℕ) → o ≡ p → bytes ≡ text → IsDocument o (chars bytes) w → IsDocument p (chars text) w
+said_of_text {w} o p bytes text same_options same d =
+    subst (λ (q : Options). IsDocument q (chars text) w) same_options (subst (λ (b : List ℕ). IsDocument o (chars b) w) same d)
