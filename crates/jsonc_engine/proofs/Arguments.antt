@@ -152,23 +152,23 @@ module _ {A : Type 0} (json : List ℕ) (o : Options) (all : o ≡ all_on) (doc 
     (lines : DocumentLinesEnd (tree_of doc)) where
   pub no_value_there : (w : Option CstNode) → w ≡ value_under doc 0 → is_some w ≡ false → IsDocument all_on (chars json) None
   no_value_there w same none =
-      said_of_text o all_on (printed_of doc) json all reads (reads_none o (nodes_of doc) tree (parsed_sound o (nodes_of doc) shaped lines) w same none)
+      said_of_text None o all_on (printed_of doc) json all reads (reads_none o (nodes_of doc) tree (parsed_sound o (nodes_of doc) shaped lines) w same none)
 
   pub value_wanted : (w : Option CstNode) → w ≡ value_under doc 0 → is_some w ≡ true → (e : EditError) → e ≡ OutOfMemory → IsFaultOfJson json (Edit e)
   value_wanted w same one e is =
       let h = reads_one o (nodes_of doc) tree (parsed_sound o (nodes_of doc) shaped lines) w same one in
-      subst (λ (x : EditError). IsFaultOfJson json (Edit x)) (sym is) (h.0, said_of_text o all_on (printed_of doc) json all reads h.1)
+      subst (λ (x : EditError). IsFaultOfJson json (Edit x)) (sym is) (h.0, said_of_text (Some h.0) o all_on (printed_of doc) json all reads h.1)
 
   -- no array is no list of names
   pub no_array_there : (w : Option CstArray) → w ≡ array_if (value_under doc 0) → is_some w ≡ false → IsFaultOfPath json NotNames
   no_array_there w same none =
       let h = no_names o (nodes_of doc) tree (parsed_sound o (nodes_of doc) shaped lines) w same none in
-      (h.0, said_of_text o all_on (printed_of doc) json all reads h.1, h.2)
+      (h.0, said_of_text h.0 o all_on (printed_of doc) json all reads h.1, h.2)
 
   pub array_wanted : (w : Option CstArray) → w ≡ array_if (value_under doc 0) → is_some w ≡ true → (e : EditError) → e ≡ OutOfMemory → IsFaultOfPath json (Edit e)
   array_wanted w same one e is =
       let h = reads_array o (nodes_of doc) tree (parsed_sound o (nodes_of doc) shaped lines) w same one in
-      subst (λ (x : EditError). IsFaultOfPath json (Edit x)) (sym is) (h.0, said_of_text o all_on (printed_of doc) json all reads h.1, h.2)
+      subst (λ (x : EditError). IsFaultOfPath json (Edit x)) (sym is) (h.0, said_of_text (Some h.0) o all_on (printed_of doc) json all reads h.1, h.2)
 
 -- what a command asks for
 module _ {A : Type 0} (c : Command) where

@@ -3,7 +3,7 @@ use Rattle.std.proofs.Common.{◌≡◌, ℕ, List, Option, Some, None, Result, 
 use Rattle.std.specs.Borrow.{Bor}
 use Rattle.std.specs.declared.string.String.{String}
 use Rattle.std.specs.declared.vec.Vec.{Vec}
-use Rattle.std.specs.Prelude.{IfSome}
+use Rattle.std.specs.Prelude.{IfSome, IsErrAnd}
 use Rattle.jsonc_text.specs.Options.{Options}
 use Rattle.jsonc_input.specs.Views.{plain}
 use Rattle.jsonc_input.specs.declared.value.CstInputValue.{CstInputValue}
@@ -49,6 +49,11 @@ on_ok (Err e) h = tt
 pub err_so : {T E : Type 0} {P Q : Type 0} (r : Result T E) → (Q → P) → OnErr r Q → OnErr r P
 err_so (Ok x) f h = tt
 err_so (Err e) f h = f h
+
+-- and of one that `?` makes
+pub err_by : {T : Type 0} (P : Fault → Type 0) (fault : Fault) (r : Result T Fault) → IsErrAnd r (λ told. told ≡ fault) → P fault → IfErr r P
+err_by P fault (Ok x) told h = tt
+err_by P fault (Err e) told h = subst P (sym told) h
 
 module _ {A : Type 0} (o : Options) where
   -- each change is what its command makes

@@ -2,8 +2,7 @@
 use Rattle.std.proofs.Common.{◌≡◌, ℕ, Bool, true, false, List, [], ◌∷◌, length, Option, Some, None, IfSome, if◌then◌else◌, refl, sym, ap, subst, ◌∙◌}
 use Rattle.jsonc_text.specs.Options.{Options}
 use Rattle.jsonc_text.specs.Plain.{Plain}
-use Rattle.jsonc_tree.specs.Content as content
-use Rattle.jsonc_tree.specs.Content.{Content, array, object, property}
+use Rattle.jsonc_tree.specs.Content.{array, object, property}
 use Rattle.jsonc_tree.specs.OrderedTree.{ordered_tree, printed}
 use Rattle.jsonc_tree.specs.Tree.{Node, content_at, children_at, IsTree}
 use Rattle.jsonc_nodes.specs.Names.{FirstNamed, FirstInObject}
@@ -29,7 +28,7 @@ use Rattle.jsonc_cst.specs.declared.cst.node.CstArray.{CstArray}
 use Rattle.jsonc_cst.specs.declared.cst.node.CstObject.{CstObject}
 use Rattle.jsonc_cst.specs.declared.cst.node.CstNode.{CstNode}
 use Rattle.jsonc_cst.specs.declared.cst.node.CstObjectProp.{CstObjectProp}
-use Rattle.jsonc_cst.specs.Nodes.{array_node, object_node, typed}
+use Rattle.jsonc_cst.specs.Nodes.{array_node, object_node}
 use Rattle.jsonc_cst.specs.Readings.{array_if, object_if, typed_if}
 use Rattle.jsonc_parser.specs.Below.typed.Inserting.{ComesInAt, PutsAtItsPath}
 use Rattle.jsonc_parser.specs.Below.typed.Removing.{WantsMemoryAlone}

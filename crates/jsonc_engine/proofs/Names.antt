@@ -19,9 +19,7 @@ use Rattle.jsonc_input.specs.declared.value.CstInputValue.TheVariants as values
 use Rattle.jsonc_to_input.specs.Taken.{IsTaken}
 use Rattle.jsonc_cst.proofs.Colons.{taken_is_the_value}
 use Rattle.jsonc_parser.specs.Below.settings.Found.{names_of}
-use Rattle.jsonc_parser.specs.Below.named.Shapes as Shapes
 use Rattle.jsonc_engine.specs.Argument.{AreNames, AreNoNames, IsFaultOfNames, IsFaultOfPath, IsPath, strings}
-use Rattle.jsonc_engine.specs.Input.{HasKind}
 use Rattle.jsonc_engine.specs.Parser.{OutOfMemory}
 use Rattle.jsonc_engine.specs.declared.fault.Fault.{Fault}
 use Rattle.jsonc_engine.specs.declared.fault.Fault.TheVariants.{Edit, NotNames}
@@ -74,12 +72,9 @@ module _ {A : Type 0} (path : List ℕ) (o : Options) (all : o ≡ all_on) (tree
     λ names e. none names (told taken is ∙ ap (option_map collapse) e ∙ ap (λ (vs : Items). Some (plains.array vs)) (strings_stay names)),
   )
 
-  listing : (names : List (List ℕ)) → IsPath path names → HasKind Shapes.is_array all_on path
-  listing names d = (strings names, d, refl)
-
   path_fault : (taken : Option (CstInputValue A)) (f : Fault) → IsTaken tree taken → IsFaultOfNames (option_map plain taken) f → IsFaultOfPath path f
   path_fault taken NotNames is h = no_path taken is h
-  path_fault taken (Edit OutOfMemory) is h = listing h.0 (path_is taken h.0 is h.1)
+  path_fault taken (Edit OutOfMemory) is h = (strings h.0, path_is taken h.0 is h.1, refl)
   path_fault taken _ is h = absurd h
 
 -- a value among others that is no string
@@ -99,6 +94,11 @@ listed (v ∷ vs) (w ∷ ws) e =
     let head : v ≡ w = cc in
     let rest : items_of vs ≡ items_of ws = cc in
     ap (λ (x : Plain). x ∷ vs) head ∙ ap (λ (l : List Plain). w ∷ l) (listed vs ws rest)
+
+-- a string behind others
+behind_one : (names : List (List ℕ)) (s : List ℕ) (rest : List Plain) → map plains.string names ++ plains.string s ∷ rest ≡ map plains.string (names ++ s ∷ []) ++ rest
+behind_one [] s rest = refl
+behind_one (n ∷ names) s rest = ap (λ (l : List Plain). plains.string n ∷ l) (behind_one names s rest)
 
 abbrev is_string : Plain → Bool
 is_string (plains.string s) = true
@@ -158,11 +158,6 @@ module _ {A : Type 0} where
   not_all all rest left names v so_far steps =
       one_no_string all (names_of names) v left (so_far ∙ ap (λ (l : List (CstInputValue A)). map plains.string (names_of names) ++ map plain l) steps)
 
-  -- so it is of values that are looked at
-  behind_one : (names : List (List ℕ)) (s : List ℕ) (rest : List Plain) → map plains.string names ++ plains.string s ∷ rest ≡ map plains.string (names ++ s ∷ []) ++ rest
-  behind_one [] s rest = refl
-  behind_one (n ∷ names) s rest = ap (λ (l : List Plain). plains.string n ∷ l) (behind_one names s rest)
-
   -- the values before the rest are strings
   abbrev pub StringsBefore : List (CstInputValue A) → List (CstInputValue A) → Type 0
   StringsBefore all rest = (names : List (List ℕ)) × (map plain all ≡ map plains.string names ++ map plain rest)
@@ -172,9 +167,9 @@ module _ {A : Type 0} where
   one_seen all k v s inside there is (names, so_far) = (
     names ++ chars_of s ∷ [],
     so_far
-    ∙ ap (λ (l : List (CstInputValue A)). map plains.string names ++ map plain l) (drop_more all k v inside ∙ ap (λ (x : CstInputValue A). x ∷ drop (k + 1) all) (sym there))
-    ∙ ap (λ (p : Plain). map plains.string names ++ p ∷ map plain (drop (k + 1) all)) (ap plain is ∙ string_is s)
-    ∙ behind_one names (chars_of s) (map plain (drop (k + 1) all)),
+        ∙ ap (λ (l : List (CstInputValue A)). map plains.string names ++ map plain l) (drop_more all k v inside ∙ ap (λ (x : CstInputValue A). x ∷ drop (k + 1) all) (sym there))
+        ∙ ap (λ (p : Plain). map plains.string names ++ p ∷ map plain (drop (k + 1) all)) (ap plain is ∙ string_is s)
+        ∙ behind_one names (chars_of s) (map plain (drop (k + 1) all)),
   )
 
   all_seen_by : (all rest : List (CstInputValue A)) → rest ≡ [] → StringsBefore all rest → AreNames (Some (plains.array (items_plain all)))

@@ -1,7 +1,8 @@
 -- The kind of a sound document's value, as its nodes tell.
-use Rattle.std.proofs.Common.{◌≡◌, ◌≢◌, ℕ, Bool, true, false, List, [], ◌∷◌, chars, Option, Some, None, IfSome, if◌then◌else◌, refl, sym, ap, subst, ◌∙◌}
+use Rattle.std.proofs.Common.{◌≡◌, ◌≢◌, ℕ, Bool, true, false, List, [], ◌∷◌, chars, length, Option, Some, None, IfSome, if◌then◌else◌, refl, sym, ap, subst, ◌∙◌}
 use Rattle.std.proofs.lemmas.Bool.{false≢true, true≢false}
 use Rattle.std.specs.Prelude.{is_some}
+use Rattle.std.specs.declared.string.String.{String}
 use Rattle.jsonc_text.specs.Options.{Options}
 use Rattle.jsonc_text.specs.Plain.{Plain}
 use Rattle.jsonc_text.specs.Grammar.{IsDocument}
@@ -11,7 +12,6 @@ use Rattle.jsonc_tree.specs.Content.{Content, array, object}
 use Rattle.jsonc_tree.specs.OrderedTree.{ordered_tree, printed}
 use Rattle.jsonc_tree.specs.Tree.{Node, content_at, IsTree}
 use Rattle.jsonc_tree.specs.Values.{DocumentValueOf}
-use Rattle.jsonc_build.specs.Shape.{printed_text}
 use Rattle.jsonc_nodes.specs.Properties.{value_at}
 use Rattle.jsonc_laws.specs.SoundTrees.{SoundTree}
 use Rattle.jsonc_edit.proofs.FittingFinds.{none_is_some}
@@ -25,6 +25,7 @@ use Rattle.jsonc_cst.specs.Readings.{array_if, object_if, typed_if}
 use Rattle.jsonc_parser.specs.Below.named.Shapes.{empty_of, has_shape, is_array, is_object, is_of}
 use Rattle.jsonc_parser.specs.Below.named.declared.shape.Shape.{Shape}
 use Rattle.jsonc_parser.specs.Below.named.declared.shape.Shape.TheVariants.{Object, Array}
+use Rattle.jsonc_parser.specs.Below.settings.Found.{names_of}
 use Rattle.jsonc_parser.specs.Below.settings.Settings.{At, in_object, itself, StandsInTheWay, this_stands}
 use Rattle.jsonc_parser.proofs.Below.run.Ensured.{held}
 use Rattle.jsonc_engine.specs.Argument.{AreNoNames, strings}
@@ -80,6 +81,14 @@ object_begins (name ∷ names) x is = is
 no_beginning : (names : List (List ℕ)) (x : Plain) → names ≢ [] → is_object x ≡ false → ¬ (Begin names x)
 no_beginning [] x some other = λ begin. some refl
 no_beginning (name ∷ names) x some other = λ begin. false≢true (sym other ∙ begin)
+
+pub names_none : {A : Type 0} (names : List (String A)) → length names ≡ 0 → names_of names ≡ []
+names_none [] none = refl
+names_none (n ∷ names) none = cc
+
+pub names_some : {A : Type 0} (names : List (String A)) → ¬ (length names ≡ 0) → names_of names ≢ []
+names_some [] some = absurd (some refl)
+names_some (n ∷ names) some = λ none. cc
 
 all_begin : (names : List (List ℕ)) (w : Option Plain) → names ≡ [] → IfSome w (Begin names)
 all_begin names None none = tt
@@ -153,8 +162,7 @@ module _ (o : Options) (ns : List Node) (tree : IsTree ns) (sound : SoundTree o 
   no_names_by : (w : Option ℕ) → value_at ns 0 ≡ w → array_if (typed_if ns w) ≡ None → (v : Option Plain) × IsDocument o (chars bytes) v × AreNoNames v
   no_names_by None e read = (None, valueless e, λ names same. let wrong : None ≡ Some (strings names) = same in cc)
   no_names_by (Some n) e read =
-      let h = of_shape Array n false e (no_array_read (content_at ns n) n read) in
-      (
+      let h = of_shape Array n false e (no_array_read (content_at ns n) n read) in (
         Some h.0,
         h.1,
         λ names same.
@@ -194,35 +202,35 @@ module _ (o : Options) (ns : List Node) (tree : IsTree ns) (sound : SoundTree o 
         (Some h.0, h.1, object_begins names h.0 h.2)
 
 -- where names may begin and there is a value they begin
-beginning_by : (o : Options) (text : List ℕ) (names : List (List ℕ)) (w : Option Plain) → IsDocument o (chars text) w → IfSome w (Begin names) → (x : Plain) → IsDocument o (chars text) (Some x) → HasBeginning o text names
-beginning_by o text names None d begins x e = let wrong : None ≡ Some x = document_unique o (chars text) None (Some x) d e in cc
-beginning_by o text names (Some y) d begins x e = (y, d, begins)
+beginning_by : (o : Options) (input : List ℕ) (names : List (List ℕ)) (w : Option Plain) → IsDocument o (chars input) w → IfSome w (Begin names) → (x : Plain) → IsDocument o (chars input) (Some x) → HasBeginning o input names
+beginning_by o input names None d begins x e = let wrong : None ≡ Some x = document_unique o (chars input) None (Some x) d e in cc
+beginning_by o input names (Some y) d begins x e = (y, d, begins)
 
-pub beginning : (o : Options) (text : List ℕ) (names : List (List ℕ)) → MayBegin o text names → (x : Plain) × IsDocument o (chars text) (Some x) → HasBeginning o text names
-beginning o text names (w, d, begins) (x, e) = beginning_by o text names w d begins x e
+pub beginning : (o : Options) (input : List ℕ) (names : List (List ℕ)) → MayBegin o input names → (x : Plain) × IsDocument o (chars input) (Some x) → HasBeginning o input names
+beginning o input names (w, d, begins) (x, e) = beginning_by o input names w d begins x e
 
 -- where they do not begin nothing stands at them, and the value is in their way
 nothing_by : (names : List (List ℕ)) (x : Plain) → ¬ (Begin names x) → (v : Plain) → At (Some x) names v → ⊥
 nothing_by _ x none v itself = none tt
 nothing_by _ _ none v (in_object first at) = none refl
 
-pub nothing_begins : (o : Options) (text : List ℕ) (names : List (List ℕ)) → HasNoBeginning o text names → HasNothingAt o text names
-nothing_begins o text names (x, d, none) = (Some x, d, nothing_by names x none)
+pub nothing_begins : (o : Options) (input : List ℕ) (names : List (List ℕ)) → HasNoBeginning o input names → HasNothingAt o input names
+nothing_begins o input names (x, d, none) = (Some x, d, nothing_by names x none)
 
 no_value_at : (names : List (List ℕ)) (v : Plain) → At None names v → ⊥
 no_value_at names v at = elim at [ ]
 
-pub nothing_stands : (o : Options) (text : List ℕ) (names : List (List ℕ)) → IsDocument o (chars text) None → HasNothingAt o text names
-nothing_stands o text names d = (None, d, no_value_at names)
+pub nothing_stands : (o : Options) (input : List ℕ) (names : List (List ℕ)) → IsDocument o (chars input) None → HasNothingAt o input names
+nothing_stands o input names d = (None, d, no_value_at names)
 
 way_by : (names : List (List ℕ)) (x : Plain) → ¬ (Begin names x) → StandsInTheWay (Some x) names
 way_by [] x none = absurd (none tt)
 way_by (name ∷ names) x none = this_stands (λ ms is. none (ap is_object is))
 
-pub way_begins : (o : Options) (text : List ℕ) (names : List (List ℕ)) → HasNoBeginning o text names → HasInTheWay o text names
-way_begins o text names (x, d, none) = (Some x, d, way_by names x none)
+pub way_begins : (o : Options) (input : List ℕ) (names : List (List ℕ)) → HasNoBeginning o input names → HasInTheWay o input names
+way_begins o input names (x, d, none) = (Some x, d, way_by names x none)
 
 -- what is said of the text that a document prints, where it is another's
-pub said_of_text : {w : Option Plain} (o p : Options) (bytes text : List ℕ) → o ≡ p → bytes ≡ text → IsDocument o (chars bytes) w → IsDocument p (chars text) w
-said_of_text {w} o p bytes text same_options same d =
-    subst (λ (q : Options). IsDocument q (chars text) w) same_options (subst (λ (b : List ℕ). IsDocument o (chars b) w) same d)
+pub said_of_text : (w : Option Plain) (o p : Options) (printed_bytes same_bytes : List ℕ) → o ≡ p → printed_bytes ≡ same_bytes → IsDocument o (chars printed_bytes) w → IsDocument p (chars same_bytes) w
+said_of_text w o p printed_bytes same_bytes same_options same d =
+    subst (λ (q : Options). IsDocument q (chars same_bytes) w) same_options (subst (λ (b : List ℕ). IsDocument o (chars b) w) same d)

@@ -23,7 +23,10 @@ fn is_in_the_way<A: Allocator>(document: &CstRootNode<A>, names: &[String<A>]) -
         → result ≡ false → MayBegin o (printed_of document.now) (names_of names.now) }
 {
     let _ = document.tree.len();
-    if names.is_empty() || document.value().is_none() {
+    if names.is_empty() {
+        return false;
+    }
+    if document.value().is_none() {
         return false;
     }
     document.object_value().is_none()
@@ -43,7 +46,10 @@ pub(crate) fn get_setting<A: Allocator + Copy>(
 {
     // What is seen without memory.
     let _ = document.tree.len();
-    if document.value().is_none() || is_in_the_way(document, names) {
+    if document.value().is_none() {
+        return Err(Fault::NoSetting);
+    }
+    if is_in_the_way(document, names) {
         return Err(Fault::NoSetting);
     }
     let node = match find_at(document, names) {

@@ -46,12 +46,7 @@ static CAUSES: [(&[&str], &str, &str, bool); 13] = [
         "jsonc: path is not a list of strings",
         true,
     ),
-    (
-        &["append", "/**/"],
-        "[]",
-        "jsonc: argument: no value",
-        true,
-    ),
+    (&["append", "/**/"], "[]", "jsonc: argument: no value", true),
     (
         &["set", "a", "1"],
         "[1]",

@@ -177,9 +177,9 @@ static CASES: [Case; 10] = [
     },
 ];
 
-/// What came of a run.
+/// What came of a run, and what was called in it.
 #[derive(Drop)]
-struct Run {
+struct Course {
     ended: Result<(), Fault>,
     written: Vec<u8>,
     reads: Calls,
@@ -189,7 +189,7 @@ struct Run {
 }
 
 /// A run of a command over a text, with so many reads and so many writes and flushes that succeed.
-fn run(alloc: Global, words: &[&str], input: &'static [u8], reads: usize, writes: usize) -> Run {
+fn run(alloc: Global, words: &[&str], input: &'static [u8], reads: usize, writes: usize) -> Course {
     let mut source = FromReader::new(Reader {
         rest: input,
         calls: Calls::new(reads),
@@ -201,7 +201,7 @@ fn run(alloc: Global, words: &[&str], input: &'static [u8], reads: usize, writes
     let ended = engine(alloc, words, &mut source, &mut sink);
     let FromReader { reader, empty, .. } = source;
     let ToWriter { writer, .. } = sink;
-    Run {
+    Course {
         ended,
         written: writer.bytes,
         reads: reader.calls,
@@ -211,7 +211,7 @@ fn run(alloc: Global, words: &[&str], input: &'static [u8], reads: usize, writes
 }
 
 /// Whether a run failed with the status 1 and this line, and wrote nothing.
-fn is_told(run: &Run, line: &str) -> bool {
+fn is_told(run: &Course, line: &str) -> bool {
     match &run.ended {
         Ok(()) => false,
         Err(fault) => fault.status() == 1 && prints(fault, line) && run.written.is_empty(),

@@ -44,10 +44,10 @@ pub returns-then-is_none-clause-refused : goal.returns-then-is_none-clause-refus
 returns-then-is_none-clause-refused g c =
     let all : parse_options c.default.result ≡ all_on = search rules in
     let reads : printed_of c.in-Ok.document ≡ c.args.path.now = search rules in
-    no_array_there c.args.path.now (parse_options c.default.result) all c.in-Ok.document reads c.len.ensures.tree c.in-Ok.ensures.shaped c.in-Ok.ensures.lines ?
+    no_array_there c.args.path.now (parse_options c.default.result) all c.in-Ok.document reads c.len.ensures.tree c.in-Ok.ensures.shaped c.in-Ok.ensures.lines c.array_value.result c.array_value.ensures.value c.if-is_none.ensures
 
 pub returns-in-Err-to_value-clause-refused : goal.returns-in-Err-to_value-clause-refused
 returns-in-Err-to_value-clause-refused g c =
     let all : parse_options c.default.result ≡ all_on = search rules in
     let reads : printed_of c.in-Ok.document ≡ c.args.path.now = search rules in
-    array_wanted c.args.path.now (parse_options c.default.result) all c.in-Ok.document reads c.len.ensures.tree c.in-Ok.ensures.shaped c.in-Ok.ensures.lines ? ? c.in-Err-to_value.error c.in-Err-to_value.ensures.memory
+    array_wanted c.args.path.now (parse_options c.default.result) all c.in-Ok.document reads c.len.ensures.tree c.in-Ok.ensures.shaped c.in-Ok.ensures.lines c.array_value.result c.array_value.ensures.value c.if-is_none.ensures c.in-Err-to_value.error c.in-Err-to_value.ensures.memory

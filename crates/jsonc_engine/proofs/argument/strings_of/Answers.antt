@@ -1,4 +1,11 @@
-use Rattle.std.proofs.Common.{sym, ◌∙◌}
+use Rattle.std.proofs.Common.{◌≡◌, ◌∙◌, List, Some, rules, subst, sym, true}
+use Rattle.jsonc_text.specs.Plain.{array}
+use Rattle.jsonc_input.specs.Views.{items_plain}
+use Rattle.jsonc_input.specs.declared.value.CstInputValue.{CstInputValue}
+use Rattle.jsonc_edit.specs.declared.error.EditError.TheVariants.{OutOfMemory}
+use Rattle.jsonc_engine.specs.Argument.{AreNames, IsFaultOfNames}
+use Rattle.jsonc_engine.specs.declared.fault.Fault.TheVariants.{Edit}
+use Rattle.jsonc_engine.proofs.Changes.{err_by}
 use Rattle.jsonc_engine.proofs.Names.{all_named, none_yet, not_all, one_more}
 use Rattle.jsonc_engine.proofs.argument.strings_of.Goals as goal
 
@@ -20,3 +27,9 @@ returns-in_default g c = record {
 
 pub returns-clause-strings : goal.returns-clause-strings
 returns-clause-strings g c = all_named c.args.values.items c.loop-value.value-iterator.rest.items c.loop-value.names.items c.loop-value.invariant (sym c.loop-value.value-iterator.rest.ok.0 ∙ c.in-None.ensures.steps.0)
+
+pub returns-in_err-push-in-String-clause-refused : goal.returns-in_err-push-in-String-clause-refused
+returns-in_err-push-in-String-clause-refused g c =
+    let yes : c.are_strings.result ≡ true = search rules in
+    err_by (IsFaultOfNames (Some (array (items_plain c.args.values.items)))) (Edit OutOfMemory) c.from_residual.result c.from_residual.ensures.1
+    (subst (λ (l : List (CstInputValue g.row.A.Denot)). AreNames (Some (array (items_plain l)))) c.deref.ensures.value (c.are_strings.ensures.strings yes))

@@ -1,5 +1,8 @@
 use Rattle.std.proofs.Common.{sym, ◌∙◌, chars}
 use Rattle.jsonc_cst.specs.Document.{nodes_of, printed_of}
+use Rattle.jsonc_engine.specs.Fault.{EndsOnObject}
+use Rattle.jsonc_engine.specs.declared.fault.Fault.TheVariants.{Edit}
+use Rattle.jsonc_engine.proofs.Changes.{err_by}
 use Rattle.jsonc_engine.proofs.RootKinds.{has_object}
 use Rattle.jsonc_engine.proofs.Making.{memory_on_object}
 use Rattle.jsonc_engine.proofs.Removing.{first_found, no_object, one_loses, wants_memory}
@@ -10,7 +13,11 @@ returns-in_default-clause-told g c = λ o sound.
     no_object o (nodes_of c.args.document.now) c.len.ensures.tree sound (sym c.object_value.ensures.value ∙ c.in_default.is)
 
 pub returns-in_err-property-clause-told : goal.returns-in_err-property-clause-told
-returns-in_err-property-clause-told g c = λ o sound. ?
+returns-in_err-property-clause-told g c = λ o sound.
+    let bytes = printed_of c.args.document.now in
+    err_by (EndsOnObject o bytes) (Edit c.in_err-property.field-0.0) c.from_residual.result c.from_residual.ensures.1
+    (memory_on_object o bytes c.in_err-property.field-0.0 c.in_err-property.ensures.memory
+    (has_object o (nodes_of c.args.document.now) c.len.ensures.tree sound c.in-Some.object (sym c.object_value.ensures.value ∙ c.in-Some.is)))
 
 pub returns-in-Err-clause-told : goal.returns-in-Err-clause-told
 returns-in-Err-clause-told g c = λ o sound.

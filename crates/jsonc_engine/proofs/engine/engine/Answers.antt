@@ -72,7 +72,7 @@ returns-in-Err-output_of-clause-memory g c = λ request named memory.
     inr (
       c.in-Ok-read_whole.ensures.ended,
       memory_known (g.S.Source.remaining c.args.source.now) c.in-Ok-read_whole.input.items c.as_slice.result.now (parse_options c.default-options.result) all c.as_slice.ensures.value c.in-Ok-read_whole.ensures.bytes
-      asked request (sym c.in-Some.ensures ∙ named) c.in-Err-output_of.fault is (c.in-Err-output_of.ensures.refused asked c.in-Ok.ensures.change),
+          asked request (sym c.in-Some.ensures ∙ named) c.in-Err-output_of.fault is (c.in-Err-output_of.ensures.refused asked c.in-Ok.ensures.change),
     )
 
 pub returns-in-Err-output_of-clause-behind : goal.returns-in-Err-output_of-clause-behind
