@@ -1,13 +1,13 @@
 -- What the closures of a sort are asked, of the document as it stands before, and what they answer.
-use Rattle.std.specs.Prelude.{◌≡◌, ◌⊎◌, ℕ, Bool, List, length, Option}
+use Rattle.std.specs.Prelude.{◌≡◌, ◌⊎◌, ◌<◌, ℕ, Bool, List, length, Option}
 use Rattle.std.specs.Ordering.{is_lt}
 use Rattle.std.specs.declared.cmp.Ordering.{Ordering}
 use Rattle.std.specs.declared.result.Result.{Result}
 use denote.Ref.{Bor}
 use denote.Param.Members.{Shared}
 use Rattle.jsonc_order.specs.Asking.{ComparesBy}
-use Rattle.jsonc_order.specs.Keys.{AreKeys, IsFirstRefused}
-use Rattle.jsonc_order.specs.Order.{comes_before, IsOrderedBy}
+use Rattle.jsonc_order.specs.Keys.{AreKeys, IsFirstRefused, IsKeyOf}
+use Rattle.jsonc_order.specs.Order.{comes_before, node_in, IsOrderedBy}
 use Rattle.jsonc_cst.specs.Below.edit.declared.error.EditError.{EditError}
 use Rattle.jsonc_cst.specs.Below.edit.declared.error.EditError.TheVariants.{OutOfMemory}
 
@@ -31,6 +31,16 @@ module _ {F D N K : Type 0} (g : Shared F (Bor D × (N × Unit {0})) (Result K E
   abbrev pub IsInKeyOrder : (K → K → Ordering) → List (Option N) → List ℕ → List ℕ → Type 0
   IsInKeyOrder cmp nodes starts order =
       (keys : List (Option K)) × AreKeys g key doc nodes keys × IsOrderedBy (comes_before (λ x y. is_lt (cmp x y)) keys starts) (length nodes) order
+
+  -- the keys of the first nodes were told, of one at least, if there is any
+  pub record HaveTold (nodes : List (Option N)) : Type 0 where
+    pub count : ℕ
+    pub some : count ≡ 0 → length nodes ≡ 0
+    pub told : (i : ℕ) → i < count → (k : Option K) × IsKeyOf g key doc (node_in nodes i) k
+
+  -- why they come in no order: memory was wanted where each key that was asked so far had been told; or the first was refused
+  abbrev pub LacksKeys : List (Option N) → EditError → Type 0
+  LacksKeys nodes e = ((e ≡ OutOfMemory) × HaveTold nodes) ⊎ IsFirstRefused g key doc nodes e
 
   -- why nothing was sorted: want of memory, or the first key that was refused
   abbrev pub IsUnkeyed : List (Option N) → EditError → Type 0

@@ -12,7 +12,8 @@ ghost use Rattle.jsonc_cst.specs.Tree.{NodesAreTree};
 ghost use Rattle.jsonc_typed.specs.Edits.{StillHolds};
 ghost use Rattle.jsonc_order.specs.Keys.{AreKeys};
 ghost use Rattle.jsonc_sort.specs.Rearranged.{headers_of};
-ghost use Rattle.jsonc_sorting.specs.Asking.{IsInItsOrder, IsInKeyOrder, IsUnkeyed, MayBeCompared, MayBeKeyed};
+ghost use Rattle.jsonc_sorting.specs.Asking.{IsInItsOrder, IsInKeyOrder, IsUnkeyed, LacksKeys};
+ghost use Rattle.jsonc_sorting.specs.Asking.{MayBeCompared, MayBeKeyed};
 ghost use Rattle.jsonc_sorting.specs.Rows.{starts_of};
 ghost use Rattle.jsonc_sorting.specs.Sorted.{HasSorted};
 
@@ -92,7 +93,7 @@ fn keys_asked<
     requires held { All (λ o. IfSome o (λ x. Holds doc.now (N.node_of x))) nodes.now }
     requires asked { MayBeKeyed F.Fn key.now (D.same doc.now) (λ x. Holds doc.now (N.node_of x)) }
     ensures keys { IfOk result (λ v. AreKeys F.Fn key.now (D.same doc.now) nodes.now v.items) }
-    ensures refused { IfErr result (IsUnkeyed F.Fn key.now (D.same doc.now) nodes.now) }
+    ensures refused { IfErr result (LacksKeys F.Fn key.now (D.same doc.now) nodes.now) }
 {
     match keys_of(doc.alloc, D::of(doc), nodes, key) {
         Ok(keys) => Ok(keys),
@@ -119,7 +120,7 @@ fn order_of_keys<
     ensures all { IfOk result (λ v. IsPermutation (range_with_len 0 (length nodes.now)) v.items) }
     ensures order { IfOk result
         (λ v. IsInKeyOrder F.Fn key.now (D.same doc.now) K.cmp nodes.now starts.now v.items) }
-    ensures refused { IfErr result (IsUnkeyed F.Fn key.now (D.same doc.now) nodes.now) }
+    ensures refused { IfErr result (LacksKeys F.Fn key.now (D.same doc.now) nodes.now) }
 {
     let keys = keys_asked(doc, nodes, key)?;
     let Ok(order) = order_by_key(doc.alloc, &keys, starts) else {

@@ -1,6 +1,6 @@
 use Rattle.std.proofs.Common.{rules, inr, subst}
 use Rattle.jsonc_order.specs.Keys.{AreKeys, WhyNone}
-use Rattle.jsonc_sorting.proofs.Keyed.{first_refused}
+use Rattle.jsonc_sorting.proofs.Keyed.{first_refused, memory_behind}
 use Rattle.jsonc_sorting.proofs.sorting.keys_asked.Goals as goal
 
 pub returns-in-Ok-clause-keys : goal.returns-in-Ok-clause-keys
@@ -11,3 +11,8 @@ pub returns-in-Err-Refused-clause-refused : goal.returns-in-Err-Refused-clause-r
 returns-in-Err-Refused-clause-refused g c =
     inr (first_refused g.F.Fn c.args.key.now (g.D.IsDocument.same c.args.doc.now) c.args.nodes.now c.in-Err-Refused.field-0 c.in-Err-Refused.error (search rules)
     (subst (λ (d : g.row.D.Denot). WhyNone g.F.Fn c.args.key.now d c.args.nodes.now c.in-Err-Refused.field-0) c.of.ensures c.in-Err-Refused.ensures.refused))
+
+pub returns-in-Err-OutOfMemory-clause-refused : goal.returns-in-Err-OutOfMemory-clause-refused
+returns-in-Err-OutOfMemory-clause-refused g c =
+    memory_behind g.F.Fn c.args.key.now (g.D.IsDocument.same c.args.doc.now) c.args.nodes.now c.in-Err-OutOfMemory.field-0 (search rules)
+    (subst (λ (d : g.row.D.Denot). WhyNone g.F.Fn c.args.key.now d c.args.nodes.now c.in-Err-OutOfMemory.field-0) c.of.ensures c.in-Err-OutOfMemory.ensures.refused)
