@@ -4,7 +4,7 @@ ghost use Rattle.std.specs.Prelude.{◌≡◌, IfErr, OnErr, OnOk, false, true};
 ghost use Rattle.jsonc_cst.specs.Document.{tree_of, Holds};
 ghost use Rattle.jsonc_cst.specs.Nodes.{array_node};
 ghost use Rattle.jsonc_cst.specs.Tree.{NodesAreTree};
-ghost use Rattle.jsonc_typed.specs.Edits.{StillHolds};
+ghost use Rattle.jsonc_typed.specs.Edits.{StaysAsItWas, StillHolds};
 ghost use Rattle.jsonc_sorting.specs.Again.{ElementsStayInKeyOrder, ElementsStayInOrder};
 ghost use Rattle.jsonc_sorting.specs.Asking.{IsInItsOrder, IsInKeyOrder, IsUnkeyed, MayBeCompared, MayBeKeyed};
 ghost use Rattle.jsonc_sorting.specs.Rows.{elements_asked};
@@ -115,6 +115,7 @@ impl<H: Drop> ElementSort<H> {
             → OnOk result (ElementsStayInOrder compare D.same doc.old doc.new C.Fn self.array) }
         ensures memory { IfErr result (λ e. e ≡ EditError.OutOfMemory) }
         ensures stays { StillHolds doc.old doc.new }
+        ensures kept { OnErr result (StaysAsItWas doc.old doc.new) }
         ensures document { OnErr result (tree_of doc.new ≡ tree_of doc.old) }
         ensures tree { NodesAreTree doc.new }
     {
@@ -148,6 +149,7 @@ impl<H: Drop> ElementSort<H> {
         ensures refused { IfErr result
             (IsUnkeyed F.Fn key (D.same doc.old) (elements_asked doc.old (array_node self.array))) }
         ensures stays { StillHolds doc.old doc.new }
+        ensures kept { OnErr result (StaysAsItWas doc.old doc.new) }
         ensures document { OnErr result (tree_of doc.new ≡ tree_of doc.old) }
         ensures tree { NodesAreTree doc.new }
     {

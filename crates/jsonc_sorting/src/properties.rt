@@ -4,7 +4,7 @@ ghost use Rattle.std.specs.Prelude.{◌≡◌, IfErr, OnErr, OnOk, false, true};
 ghost use Rattle.jsonc_cst.specs.Document.{tree_of, Holds};
 ghost use Rattle.jsonc_cst.specs.Nodes.{object_node, object_prop_node};
 ghost use Rattle.jsonc_cst.specs.Tree.{NodesAreTree};
-ghost use Rattle.jsonc_typed.specs.Edits.{StillHolds};
+ghost use Rattle.jsonc_typed.specs.Edits.{StaysAsItWas, StillHolds};
 ghost use Rattle.jsonc_sorting.specs.Again.{PropertiesStayInKeyOrder, PropertiesStayInOrder};
 ghost use Rattle.jsonc_sorting.specs.Asking.{IsInItsOrder, IsInKeyOrder, IsUnkeyed, MayBeCompared, MayBeKeyed};
 ghost use Rattle.jsonc_sorting.specs.Rows.{properties_asked};
@@ -115,6 +115,7 @@ impl<H: Drop> PropertySort<H> {
             → OnOk result (PropertiesStayInOrder compare D.same doc.old doc.new C.Fn self.object) }
         ensures memory { IfErr result (λ e. e ≡ EditError.OutOfMemory) }
         ensures stays { StillHolds doc.old doc.new }
+        ensures kept { OnErr result (StaysAsItWas doc.old doc.new) }
         ensures document { OnErr result (tree_of doc.new ≡ tree_of doc.old) }
         ensures tree { NodesAreTree doc.new }
     {
@@ -155,6 +156,7 @@ impl<H: Drop> PropertySort<H> {
         ensures refused { IfErr result
             (IsUnkeyed F.Fn key (D.same doc.old) (properties_asked doc.old (object_node self.object))) }
         ensures stays { StillHolds doc.old doc.new }
+        ensures kept { OnErr result (StaysAsItWas doc.old doc.new) }
         ensures document { OnErr result (tree_of doc.new ≡ tree_of doc.old) }
         ensures tree { NodesAreTree doc.new }
     {

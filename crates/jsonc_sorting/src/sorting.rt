@@ -153,6 +153,7 @@ pub(crate) fn sort_by_key<
         (IsInKeyOrder F.Fn key.now (D.same doc.old) K.cmp nodes.now (starts_of doc.old container groups))) }
     ensures refused { IfErr result (IsUnkeyed F.Fn key.now (D.same doc.old) nodes.now) }
     ensures stays { StillHolds doc.old doc.new }
+    ensures kept { OnErr result (Keeps (length (nodes_of doc.old)) (nodes_of doc.old) (nodes_of doc.new)) }
     ensures document { OnErr result (tree_of doc.new ≡ tree_of doc.old) }
     ensures tree { NodesAreTree doc.new }
 {
