@@ -2,9 +2,12 @@
 //! file the comments in which something is left to do: `example_lint FILE..`.
 #![tactic(auto)]
 
+ghost use Rattle.std.specs.List.{All};
+ghost use Rattle.jsonc_text.specs.Text.{Spans};
+
 use jsonc_parser::common::Ranged;
 use jsonc_parser::errors::ParseError;
-use jsonc_parser::tokens::Token;
+use jsonc_parser::tokens::{Token, TokenAndRange};
 use jsonc_parser::{CollectOptions, CommentCollectionStrategy, ParseOptions, parse_to_ast};
 use std::alloc::Allocator;
 use std::default::Default;
@@ -30,28 +33,40 @@ fn print_fault<R: Print>(rt: &R, path: &str, fault: &ParseError) -> io::Result<(
     println!(rt; "{path}:{line}:{column}: {}", fault.kind())
 }
 
-/// Reads a file, and tells whether it is a document. If not, prints its fault; if so, prints each comment
-/// that says `TODO`, as it is written.
-fn lint<R: Files + AllocGlobal + Print>(rt: &R, path: &str) -> io::Result<bool> {
-    let file = fs::read_to_string(rt, path)?;
-    let text = file.as_str();
-    let read = match parse_to_ast(rt.alloc(), text, &COLLECTED, &ParseOptions::default()) {
-        Ok(read) => read,
-        Err(fault) => {
-            print_fault(rt, path, &fault)?;
-            return Ok(false);
-        }
-    };
-    let Some(tokens) = &read.tokens else {
-        return Ok(true);
-    };
+/// Prints each of these comments that says `TODO`, as it is written.
+fn print_todos<R: Print, A: Allocator>(
+    rt: &R,
+    path: &str,
+    text: &str,
+    tokens: &[TokenAndRange<'_, A>],
+) -> io::Result<()>
+    requires { All (λ t. Spans text.now t.range.start t.range.end) tokens.now }
+{
     for token in tokens {
         let written = token.text(text);
         if is_comment(&token.token) && written.contains("TODO") {
             println!(rt; "{path}: {written}")?;
         }
     }
-    Ok(true)
+    Ok(())
+}
+
+/// Reads a file, and tells whether it is a document. If not, prints its fault; if so, what is left to do there.
+fn lint<R: Files + AllocGlobal + Print>(rt: &R, path: &str) -> io::Result<bool> {
+    let file = fs::read_to_string(rt, path)?;
+    let text = file.as_str();
+    match parse_to_ast(rt.alloc(), text, &COLLECTED, &ParseOptions::default()) {
+        Ok(read) => {
+            if let Some(tokens) = &read.tokens {
+                print_todos(rt, path, text, tokens)?;
+            }
+            Ok(true)
+        }
+        Err(fault) => {
+            print_fault(rt, path, &fault)?;
+            Ok(false)
+        }
+    }
 }
 
 fn main(rt: HostRuntime) -> io::Result<ExitCode> {

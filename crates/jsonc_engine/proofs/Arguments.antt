@@ -26,22 +26,21 @@ use Rattle.jsonc_edit.specs.Writing.{IsOfNumbers, AreOfNumbers, AreNamedOfNumber
 use Rattle.jsonc_edit.specs.declared.error.EditError.{EditError}
 use Rattle.jsonc_edit.specs.declared.error.EditError.TheVariants.{OutOfMemory}
 use Rattle.jsonc_cst.specs.declared.cst.CstRootNode.{CstRootNode}
-use Rattle.jsonc_cst.specs.declared.cst.node.CstArray.{CstArray}
 use Rattle.jsonc_cst.specs.declared.cst.node.CstNode.{CstNode}
 use Rattle.jsonc_cst.specs.Document.{nodes_of, printed_of, tree_of}
-use Rattle.jsonc_cst.specs.Readings.{array_if, value_under}
+use Rattle.jsonc_cst.specs.Readings.{value_under}
 use Rattle.jsonc_cst.proofs.Colons.{taken_is_the_value}
 use Rattle.jsonc_parser.specs.Below.settings.Found.{names_of}
 use Rattle.jsonc_engine.specs.declared.argument.Change.TheVariants.{Append, Drop, Get, Remove, Set, Sort, Stay}
 use Rattle.jsonc_engine.specs.declared.command.Command.{Command}
 use Rattle.jsonc_engine.specs.declared.command.Command.TheVariants as command
 use Rattle.jsonc_engine.specs.declared.fault.Fault.{Fault}
-use Rattle.jsonc_engine.specs.declared.fault.Fault.TheVariants.{Edit, NotNames}
+use Rattle.jsonc_engine.specs.declared.fault.Fault.TheVariants.{Edit}
 use Rattle.jsonc_engine.specs.Argument.{IsArgument, IsFaultOfArgument, of_json, of_path, IsFaultOfJson, IsFaultOfPath, IsPath}
 use Rattle.jsonc_engine.specs.Change.{IsChangeFor, for_check, for_print, for_set, for_append, for_remove, for_sort, for_get, for_drop}
 use Rattle.jsonc_engine.specs.Command.{put, request_of}
 use Rattle.jsonc_engine.proofs.Changes.{parsed_sound}
-use Rattle.jsonc_engine.proofs.RootKinds.{no_names, reads_array, reads_none, reads_one, said_of_text}
+use Rattle.jsonc_engine.proofs.RootKinds.{reads_none, reads_one, said_of_text}
 
 module _ (o : Options) where
   -- a literal's number is one
@@ -158,17 +157,6 @@ module _ {A : Type 0} (json : List ℕ) (o : Options) (all : o ≡ all_on) (doc 
   value_wanted w same one e is =
       let h = reads_one o (nodes_of doc) tree (parsed_sound o (nodes_of doc) shaped lines) w same one in
       subst (λ (x : EditError). IsFaultOfJson json (Edit x)) (sym is) (h.0, said_of_text (Some h.0) o all_on (printed_of doc) json all reads h.1)
-
-  -- no array is no list of names
-  pub no_array_there : (w : Option CstArray) → w ≡ array_if (value_under doc 0) → is_some w ≡ false → IsFaultOfPath json NotNames
-  no_array_there w same none =
-      let h = no_names o (nodes_of doc) tree (parsed_sound o (nodes_of doc) shaped lines) w same none in
-      (h.0, said_of_text h.0 o all_on (printed_of doc) json all reads h.1, h.2)
-
-  pub array_wanted : (w : Option CstArray) → w ≡ array_if (value_under doc 0) → is_some w ≡ true → (e : EditError) → e ≡ OutOfMemory → IsFaultOfPath json (Edit e)
-  array_wanted w same one e is =
-      let h = reads_array o (nodes_of doc) tree (parsed_sound o (nodes_of doc) shaped lines) w same one in
-      subst (λ (x : EditError). IsFaultOfPath json (Edit x)) (sym is) (h.0, said_of_text (Some h.0) o all_on (printed_of doc) json all reads h.1, h.2)
 
 -- what a command asks for
 module _ {A : Type 0} (c : Command) where

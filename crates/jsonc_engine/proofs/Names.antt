@@ -1,81 +1,53 @@
 -- The names of a command's path.
-use Rattle.std.proofs.Common.{◌≡◌, ◌++◌, ◌+◌, ◌<◌, ◌≤◌, ◌∙◌, ℕ, Bool, true, false, List, [], ◌∷◌, Option, Some, None, append-nil, chars, drop, get_or, length, map, option_map, Result, Ok, Err, IfOk, IfErr, refl, sym, ap, subst}
-use Rattle.std.proofs.lemmas.Bool.{false≢true}
+use Rattle.std.proofs.Common.{◌≡◌, ◌++◌, ◌+◌, ◌<◌, ◌≤◌, ◌∙◌, ℕ, List, [], ◌∷◌, Option, Some, None, append-nil, chars, drop, get_or, length, map, option_map, Result, Ok, Err, IfOk, IfErr, refl, sym, ap, subst}
 use Rattle.std.proofs.lemmas.List.{drop_all, drop_more}
+use Rattle.std.specs.Cow.{cow_str_bytes}
 use Rattle.std.specs.declared.string.String.{String}
 use Rattle.std.specs.declared.vec.Vec.{Vec}
 use Rattle.jsonc_text.specs.Grammar.{IsDocument}
 use Rattle.jsonc_text.specs.Options.{Options, all_on}
 use Rattle.jsonc_text.specs.Plain as plains
-use Rattle.jsonc_text.specs.Plain.{Plain, Items, no_items, item, collapse, collapse_items}
-use Rattle.jsonc_tree.specs.OrderedTree.{OrderedTree}
-use Rattle.jsonc_tree.specs.Values.{DocumentValueOf}
-use Rattle.jsonc_build.specs.Shape.{DocumentShaped}
-use Rattle.jsonc_input.specs.Views.{chars_of, items_of, items_plain, plain, value_step}
-use Rattle.jsonc_input.specs.declared.value.CstInputValue.{CstInputValue, map-CstInputValue, roll-CstInputValue}
-use Rattle.jsonc_input.specs.declared.value.CstInputValue.TheFolds.{fold-roll-CstInputValue, ind-CstInputValue}
-use Rattle.jsonc_input.specs.declared.value.CstInputValue.TheOpen.{CstInputValue-F}
-use Rattle.jsonc_input.specs.declared.value.CstInputValue.TheVariants as values
-use Rattle.jsonc_to_input.specs.Taken.{IsTaken}
-use Rattle.jsonc_cst.proofs.Colons.{taken_is_the_value}
+use Rattle.jsonc_text.specs.Plain.{Plain, Items, no_items, item}
+use Rattle.jsonc_ast.specs.Located.{items_at, value_at}
+use Rattle.jsonc_ast.specs.Views.{items_located, plain}
+use Rattle.jsonc_ast.specs.declared.ast.Array.{Array}
+use Rattle.jsonc_ast.specs.declared.ast.BooleanLit.{BooleanLit}
+use Rattle.jsonc_ast.specs.declared.ast.NullKeyword.{NullKeyword}
+use Rattle.jsonc_ast.specs.declared.ast.NumberLit.{NumberLit}
+use Rattle.jsonc_ast.specs.declared.ast.Object.{Object}
+use Rattle.jsonc_ast.specs.declared.ast.StringLit.{StringLit}
+use Rattle.jsonc_ast.specs.declared.ast.Value.{Value}
+use Rattle.jsonc_ast.specs.declared.ast.Value as values
+use Rattle.jsonc_build.proofs.Views.{view-Array, view-BooleanLit, view-NullKeyword, view-NumberLit, view-Object, view-StringLit}
+use Rattle.jsonc_input.specs.Views.{chars_of, items_of}
 use Rattle.jsonc_parser.specs.Below.settings.Found.{names_of}
-use Rattle.jsonc_engine.specs.Argument.{AreNames, AreNoNames, IsFaultOfNames, IsFaultOfPath, IsPath, strings}
+use Rattle.jsonc_engine.specs.Argument.{AreNames, AreNoNames, IsFaultOfNames, IsFaultOfPath, IsPath, items_in, strings, text_in}
 use Rattle.jsonc_engine.specs.Parser.{OutOfMemory}
 use Rattle.jsonc_engine.specs.declared.fault.Fault.{Fault}
 use Rattle.jsonc_engine.specs.declared.fault.Fault.TheVariants.{Edit, NotNames}
 
--- an array of strings is what it collapses to, and nothing else collapses to it
-string_so : (v : Plain) (s : List ℕ) → collapse v ≡ plains.string s → v ≡ plains.string s
-string_so (plains.string t) s e = e
-string_so _ s e = cc
+-- a value that has a text is that string, and one that has none is no string; so of elements and arrays
+string_from : (p : Plain) (t : List ℕ) → text_in p ≡ Some t → p ≡ plains.string t
+string_from (plains.string s) t e = let same : s ≡ t = cc in ap plains.string same
+string_from _ t e = cc
 
-items_so : (vs : Items) (names : List (List ℕ)) → collapse_items vs ≡ items_of (map plains.string names) → vs ≡ items_of (map plains.string names)
-items_so no_items [] e = refl
-items_so no_items (n ∷ ns) e = cc
-items_so (item v vs) [] e = cc
-items_so (item v vs) (n ∷ ns) e =
-    let head : collapse v ≡ plains.string n = cc in
-    let rest : collapse_items vs ≡ items_of (map plains.string ns) = cc in
-    ap (λ (x : Plain). item x vs) (string_so v n head) ∙ ap (item (plains.string n)) (items_so vs ns rest)
+no_string : (p : Plain) → text_in p ≡ None → (t : List ℕ) → p ≡ plains.string t → ⊥
+no_string p none t is = let wrong : None ≡ Some t = sym none ∙ ap text_in is in cc
 
-array_so : (v : Plain) (names : List (List ℕ)) → collapse v ≡ strings names → v ≡ strings names
-array_so (plains.array vs) names e =
-    let inner : collapse_items vs ≡ items_of (map plains.string names) = cc in
-    ap plains.array (items_so vs names inner)
-array_so _ names e = cc
+array_from : (p : Plain) (vs : Items) → items_in p ≡ Some vs → p ≡ plains.array vs
+array_from (plains.array ws) vs e = let same : ws ≡ vs = cc in ap plains.array same
+array_from _ vs e = cc
 
-strings_stay : (names : List (List ℕ)) → collapse_items (items_of (map plains.string names)) ≡ items_of (map plains.string names)
-strings_stay [] = refl
-strings_stay (n ∷ ns) = ap (item (plains.string n)) (strings_stay ns)
+no_array : (p : Plain) → items_in p ≡ None → (names : List (List ℕ)) → p ≡ strings names → ⊥
+no_array p none names is = let wrong : None ≡ Some (items_of (map plains.string names)) = sym none ∙ ap items_in is in cc
 
--- a document whose value collapses to an array of strings is a path
-path_by : (path : List ℕ) (o : Options) → o ≡ all_on → (w : Option Plain) → IsDocument o (chars path) w → (names : List (List ℕ)) → Some (strings names) ≡ option_map collapse w → IsPath path names
-path_by path o all None d names e = cc
-path_by path o all (Some x) d names e =
-    let same : collapse x ≡ strings names = cc in
-    subst (λ (p : Options). IsDocument p (chars path) (Some (strings names))) all
-    (subst (λ (y : Plain). IsDocument o (chars path) (Some y)) (array_so x names same) d)
+-- what is told of an optional text that is seen through f
+pub some_text : {X : Type 0} (f : X → List ℕ) (o : Option X) (x : X) (p : Plain) → option_map f o ≡ text_in p → o ≡ Some x → text_in p ≡ Some (f x)
+some_text f o x p e is = sym e ∙ ap (option_map f) is
 
--- what the document of a path tells of its value
-module _ {A : Type 0} (path : List ℕ) (o : Options) (all : o ≡ all_on) (tree : OrderedTree) (shaped : DocumentShaped o tree)
-    (value : (w : Option Plain) × IsDocument o (chars path) w × DocumentValueOf o tree w) where
-  told : (taken : Option (CstInputValue A)) → IsTaken tree taken → option_map plain taken ≡ option_map collapse value.0
-  told taken is = taken_is_the_value o tree value.0 taken shaped value.2 is
-
-  path_is : (taken : Option (CstInputValue A)) (names : List (List ℕ)) → IsTaken tree taken → option_map plain taken ≡ Some (strings names) → IsPath path names
-  path_is taken names is e = path_by path o all value.0 value.1 names (sym e ∙ told taken is)
-
-  no_path : (taken : Option (CstInputValue A)) → IsTaken tree taken → AreNoNames (option_map plain taken) → (w : Option Plain) × IsDocument all_on (chars path) w × AreNoNames w
-  no_path taken is none = (
-    value.0,
-    subst (λ (p : Options). IsDocument p (chars path) value.0) all value.1,
-    λ names e. none names (told taken is ∙ ap (option_map collapse) e ∙ ap (λ (vs : Items). Some (plains.array vs)) (strings_stay names)),
-  )
-
-  path_fault : (taken : Option (CstInputValue A)) (f : Fault) → IsTaken tree taken → IsFaultOfNames (option_map plain taken) f → IsFaultOfPath path f
-  path_fault taken NotNames is h = no_path taken is h
-  path_fault taken (Edit OutOfMemory) is h = (strings h.0, path_is taken h.0 is h.1, refl)
-  path_fault taken _ is h = absurd h
+pub no_text : {X : Type 0} (f : X → List ℕ) (o : Option X) (p : Plain) → option_map f o ≡ text_in p → ((x : X) → o ≡ Some x → ⊥) → text_in p ≡ None
+no_text f None p e other = sym e
+no_text f (Some x) p e other = absurd (other x refl)
 
 -- a value among others that is no string
 among : (done names : List (List ℕ)) (v : Plain) (rest : List Plain) → map plains.string done ++ v ∷ rest ≡ map plains.string names → (t : List ℕ) × (v ≡ plains.string t)
@@ -100,127 +72,151 @@ behind_one : (names : List (List ℕ)) (s : List ℕ) (rest : List Plain) → ma
 behind_one [] s rest = refl
 behind_one (n ∷ names) s rest = ap (λ (l : List Plain). plains.string n ∷ l) (behind_one names s rest)
 
-abbrev is_string : Plain → Bool
-is_string (plains.string s) = true
-is_string v = false
-
-abbrev is_array : Plain → Bool
-is_array (plains.array vs) = true
-is_array v = false
-
 module _ {A : Type 0} where
-  -- a value that is written as no string stands for none, and one that is written as no array stands for none
-  string_by : (x : CstInputValue-F A (CstInputValue A)) → ((s : String A) → roll-CstInputValue A x ≡ values.String s → ⊥) → (t : List ℕ)
-      → value_step (map-CstInputValue A (CstInputValue A) Plain plain x) ≡ plains.string t → ⊥
-  unfolding roll-CstInputValue denote.Hole.Carrier.roll
-  string_by (CstInputValue-F.String s) other t e = other s refl
-  string_by _ other t e = absurd (false≢true (ap is_string e))
+  -- what a value stands for, variant by variant
+  items_plain : (vs : List (Value A)) → items_at (items_located vs) ≡ items_of (map plain vs)
+  items_plain [] = refl
+  items_plain (v ∷ vs) = ap (item (plain v)) (items_plain vs)
 
-  no_string : (v : CstInputValue A) → ((s : String A) → v ≡ values.String s → ⊥) → (t : List ℕ) → plain v ≡ plains.string t → ⊥
-  no_string = ind-CstInputValue A (λ (v : CstInputValue A). ((s : String A) → v ≡ values.String s → ⊥) → (t : List ℕ) → plain v ≡ plains.string t → ⊥)
-      (λ x y is other t e. string_by x other t (sym (fold-roll-CstInputValue A Plain value_step x) ∙ e))
+  pub text_of_string : (v : Value A) (s : StringLit A) → v ≡ values.StringLit s → text_in (plain v) ≡ Some (chars (cow_str_bytes s.value))
+  text_of_string v s is = ap (λ (x : Value A). text_in (plain x)) is ∙ ap (λ x. text_in (value_at x)) (view-StringLit s)
 
-  one_no_string : (all : List (CstInputValue A)) (done : List (List ℕ)) (v : CstInputValue A) (rest : List (CstInputValue A))
-      → map plain all ≡ map plains.string done ++ map plain (v ∷ rest) → ((s : String A) → v ≡ values.String s → ⊥) → AreNoNames (Some (plains.array (items_plain all)))
+  pub text_of_number : (v : Value A) (n : NumberLit) → v ≡ values.NumberLit n → text_in (plain v) ≡ None
+  text_of_number v n is = ap (λ (x : Value A). text_in (plain x)) is ∙ ap (λ x. text_in (value_at x)) (view-NumberLit A n)
+
+  pub text_of_boolean : (v : Value A) (b : BooleanLit) → v ≡ values.BooleanLit b → text_in (plain v) ≡ None
+  text_of_boolean v b is = ap (λ (x : Value A). text_in (plain x)) is ∙ ap (λ x. text_in (value_at x)) (view-BooleanLit A b)
+
+  pub text_of_object : (v : Value A) (o : Object A) → v ≡ values.Object o → text_in (plain v) ≡ None
+  text_of_object v o is = ap (λ (x : Value A). text_in (plain x)) is ∙ ap (λ x. text_in (value_at x)) (view-Object o)
+
+  pub text_of_array : (v : Value A) (a : Array A) → v ≡ values.Array a → text_in (plain v) ≡ None
+  text_of_array v a is = ap (λ (x : Value A). text_in (plain x)) is ∙ ap (λ x. text_in (value_at x)) (view-Array a)
+
+  pub text_of_null : (v : Value A) (n : NullKeyword) → v ≡ values.NullKeyword n → text_in (plain v) ≡ None
+  text_of_null v n is = ap (λ (x : Value A). text_in (plain x)) is ∙ ap (λ x. text_in (value_at x)) (view-NullKeyword A n)
+
+  pub items_of_string : (v : Value A) (s : StringLit A) → v ≡ values.StringLit s → items_in (plain v) ≡ None
+  items_of_string v s is = ap (λ (x : Value A). items_in (plain x)) is ∙ ap (λ x. items_in (value_at x)) (view-StringLit s)
+
+  pub items_of_number : (v : Value A) (n : NumberLit) → v ≡ values.NumberLit n → items_in (plain v) ≡ None
+  items_of_number v n is = ap (λ (x : Value A). items_in (plain x)) is ∙ ap (λ x. items_in (value_at x)) (view-NumberLit A n)
+
+  pub items_of_boolean : (v : Value A) (b : BooleanLit) → v ≡ values.BooleanLit b → items_in (plain v) ≡ None
+  items_of_boolean v b is = ap (λ (x : Value A). items_in (plain x)) is ∙ ap (λ x. items_in (value_at x)) (view-BooleanLit A b)
+
+  pub items_of_object : (v : Value A) (o : Object A) → v ≡ values.Object o → items_in (plain v) ≡ None
+  items_of_object v o is = ap (λ (x : Value A). items_in (plain x)) is ∙ ap (λ x. items_in (value_at x)) (view-Object o)
+
+  pub items_of_array : (v : Value A) (a : Array A) → v ≡ values.Array a → items_in (plain v) ≡ Some (items_of (map plain a.elements.items))
+  items_of_array v a is = ap (λ (x : Value A). items_in (plain x)) is ∙ ap (λ x. items_in (value_at x)) (view-Array a) ∙ ap Some (items_plain a.elements.items)
+
+  pub items_of_null : (v : Value A) (n : NullKeyword) → v ≡ values.NullKeyword n → items_in (plain v) ≡ None
+  items_of_null v n is = ap (λ (x : Value A). items_in (plain x)) is ∙ ap (λ x. items_in (value_at x)) (view-NullKeyword A n)
+
+  one_no_string : (all : List (Value A)) (done : List (List ℕ)) (v : Value A) (rest : List (Value A))
+      → map plain all ≡ map plains.string done ++ map plain (v ∷ rest) → text_in (plain v) ≡ None → AreNoNames (Some (plains.array (items_of (map plain all))))
   one_no_string all done v rest split other names e =
       let same : items_of (map plain all) ≡ items_of (map plains.string names) = cc in
       let found = among done names (plain v) (map plain rest) (sym split ∙ listed (map plain all) (map plains.string names) same) in
-      no_string v other found.0 found.1
-
-  string_is : (s : String A) → plain (values.String s) ≡ plains.string (chars_of s)
-  unfolding roll-CstInputValue denote.Hole.Carrier.roll
-  string_is s = fold-roll-CstInputValue A Plain value_step (CstInputValue-F.String s)
-
-  -- the names so far, and the values that are left
-  pub none_yet : (all rest : List (CstInputValue A)) (names : List (String A)) → names ≡ [] → rest ≡ all → map plain all ≡ map plains.string (names_of names) ++ map plain rest
-  none_yet all rest names none same = ap (map plain) (sym same) ∙ ap (λ (l : List (String A)). map plains.string (names_of l) ++ map plain rest) (sym none)
-
-  further : (names : List (String A)) (s : String A) (rest : List Plain) → map plains.string (names_of names) ++ plains.string (chars_of s) ∷ rest ≡ map plains.string (names_of (names ++ s ∷ [])) ++ rest
-  further [] s rest = refl
-  further (n ∷ names) s rest = ap (λ (l : List Plain). plains.string (chars_of n) ∷ l) (further names s rest)
-
-  pub one_more : (all rest left : List (CstInputValue A)) (names more : List (String A)) (v : CstInputValue A) (s : String A) → map plain all ≡ map plains.string (names_of names) ++ map plain rest → rest ≡ v ∷ left
-      → v ≡ values.String s → more ≡ names ++ s ∷ [] → map plain all ≡ map plains.string (names_of more) ++ map plain left
-  one_more all rest left names more v s so_far steps is grown =
-      so_far
-      ∙ ap (λ (l : List (CstInputValue A)). map plains.string (names_of names) ++ map plain l) steps
-      ∙ ap (λ (p : Plain). map plains.string (names_of names) ++ p ∷ map plain left) (ap plain is ∙ string_is s)
-      ∙ further names s (map plain left)
-      ∙ ap (λ (l : List (String A)). map plains.string (names_of l) ++ map plain left) (sym grown)
-
-  pub all_named : (all rest : List (CstInputValue A)) (names : List (String A)) → map plain all ≡ map plains.string (names_of names) ++ map plain rest → length rest ≡ 0
-      → plains.array (items_plain all) ≡ strings (names_of names)
-  all_named all [] names so_far none = ap (λ (l : List Plain). plains.array (items_of l)) (so_far ∙ append-nil (map plains.string (names_of names)))
-  all_named all (v ∷ rest) names so_far none = cc
-
-  pub not_all : (all rest left : List (CstInputValue A)) (names : List (String A)) (v : CstInputValue A) → map plain all ≡ map plains.string (names_of names) ++ map plain rest → rest ≡ v ∷ left
-      → ((s : String A) → v ≡ values.String s → ⊥) → AreNoNames (Some (plains.array (items_plain all)))
-  not_all all rest left names v so_far steps =
-      one_no_string all (names_of names) v left (so_far ∙ ap (λ (l : List (CstInputValue A)). map plains.string (names_of names) ++ map plain l) steps)
+      no_string (plain v) other found.0 found.1
 
   -- the values before the rest are strings
-  abbrev pub StringsBefore : List (CstInputValue A) → List (CstInputValue A) → Type 0
+  abbrev pub StringsBefore : List (Value A) → List (Value A) → Type 0
   StringsBefore all rest = (names : List (List ℕ)) × (map plain all ≡ map plains.string names ++ map plain rest)
 
-  pub one_seen : (all : List (CstInputValue A)) (k : ℕ) (v : CstInputValue A) (s : String A) → k < length all → v ≡ get_or all k v → v ≡ values.String s → StringsBefore all (drop k all)
-      → StringsBefore all (drop (k + 1) all)
-  one_seen all k v s inside there is (names, so_far) = (
-    names ++ chars_of s ∷ [],
-    so_far
-        ∙ ap (λ (l : List (CstInputValue A)). map plains.string names ++ map plain l) (drop_more all k v inside ∙ ap (λ (x : CstInputValue A). x ∷ drop (k + 1) all) (sym there))
-        ∙ ap (λ (p : Plain). map plains.string names ++ p ∷ map plain (drop (k + 1) all)) (ap plain is ∙ string_is s)
-        ∙ behind_one names (chars_of s) (map plain (drop (k + 1) all)),
-  )
+  next_string : (all : List (Value A)) (names : List (List ℕ)) (k : ℕ) (v : Value A) (t : List ℕ) → k < length all → v ≡ get_or all k v → text_in (plain v) ≡ Some t
+      → map plain all ≡ map plains.string names ++ map plain (drop k all) → map plain all ≡ map plains.string (names ++ t ∷ []) ++ map plain (drop (k + 1) all)
+  next_string all names k v t inside there is so_far =
+      so_far
+      ∙ ap (λ (l : List (Value A)). map plains.string names ++ map plain l) (drop_more all k v inside ∙ ap (λ (x : Value A). x ∷ drop (k + 1) all) (sym there))
+      ∙ ap (λ (p : Plain). map plains.string names ++ p ∷ map plain (drop (k + 1) all)) (string_from (plain v) t is)
+      ∙ behind_one names t (map plain (drop (k + 1) all))
 
-  all_seen_by : (all rest : List (CstInputValue A)) → rest ≡ [] → StringsBefore all rest → AreNames (Some (plains.array (items_plain all)))
+  pub one_seen : (all : List (Value A)) (k : ℕ) (v : Value A) (t : List ℕ) → k < length all → v ≡ get_or all k v → text_in (plain v) ≡ Some t → StringsBefore all (drop k all)
+      → StringsBefore all (drop (k + 1) all)
+  one_seen all k v t inside there is (names, so_far) = (names ++ t ∷ [], next_string all names k v t inside there is so_far)
+
+  all_seen_by : (all rest : List (Value A)) → rest ≡ [] → StringsBefore all rest → AreNames (Some (plains.array (items_of (map plain all))))
   all_seen_by all rest none (names, so_far) =
-      let whole : map plain all ≡ map plains.string names = so_far ∙ ap (λ (l : List (CstInputValue A)). map plains.string names ++ map plain l) none ∙ append-nil (map plains.string names) in
+      let whole : map plain all ≡ map plains.string names = so_far ∙ ap (λ (l : List (Value A)). map plains.string names ++ map plain l) none ∙ append-nil (map plains.string names) in
       (names, ap (λ (l : List Plain). Some (plains.array (items_of l))) whole)
 
-  pub all_seen : (all : List (CstInputValue A)) (k : ℕ) → length all ≤ k → StringsBefore all (drop k all) → AreNames (Some (plains.array (items_plain all)))
+  pub all_seen : (all : List (Value A)) (k : ℕ) → length all ≤ k → StringsBefore all (drop k all) → AreNames (Some (plains.array (items_of (map plain all))))
   all_seen all k end so_far = all_seen_by all (drop k all) (drop_all k all end) so_far
 
-  pub other_seen : (all : List (CstInputValue A)) (k : ℕ) (v : CstInputValue A) → k < length all → v ≡ get_or all k v → StringsBefore all (drop k all) → ((s : String A) → v ≡ values.String s → ⊥)
-      → AreNoNames (Some (plains.array (items_plain all)))
-  other_seen all k v inside there (names, so_far) =
+  pub other_seen : (all : List (Value A)) (k : ℕ) (v : Value A) → k < length all → v ≡ get_or all k v → StringsBefore all (drop k all) → text_in (plain v) ≡ None
+      → AreNoNames (Some (plains.array (items_of (map plain all))))
+  other_seen all k v inside there (names, so_far) other =
       one_no_string all names v (drop (k + 1) all)
-      (so_far ∙ ap (λ (l : List (CstInputValue A)). map plains.string names ++ map plain l) (drop_more all k v inside ∙ ap (λ (x : CstInputValue A). x ∷ drop (k + 1) all) (sym there)))
+      (so_far ∙ ap (λ (l : List (Value A)). map plains.string names ++ map plain l) (drop_more all k v inside ∙ ap (λ (x : Value A). x ∷ drop (k + 1) all) (sym there))) other
 
-  array_is : (vs : Vec (CstInputValue A) A) → plain (values.Array vs) ≡ plains.array (items_plain vs.items)
-  unfolding roll-CstInputValue denote.Hole.Carrier.roll
-  array_is vs = fold-roll-CstInputValue A Plain value_step (CstInputValue-F.Array vs)
+  -- the names so far, and the values that are left
+  abbrev pub NamedBefore : List (Value A) → List (String A) → List (Value A) → Type 0
+  NamedBefore all names rest = map plain all ≡ map plains.string (names_of names) ++ map plain rest
 
-  array_by : (x : CstInputValue-F A (CstInputValue A)) → ((vs : Vec (CstInputValue A) A) → roll-CstInputValue A x ≡ values.Array vs → ⊥) → (names : List (List ℕ))
-      → value_step (map-CstInputValue A (CstInputValue A) Plain plain x) ≡ strings names → ⊥
-  unfolding roll-CstInputValue denote.Hole.Carrier.roll
-  array_by (CstInputValue-F.Array vs) other names e = other vs refl
-  array_by _ other names e = absurd (false≢true (ap is_array e))
+  names_grown : (names : List (String A)) (s : String A) → names_of (names ++ s ∷ []) ≡ names_of names ++ chars_of s ∷ []
+  names_grown [] s = refl
+  names_grown (n ∷ names) s = ap (λ (l : List (List ℕ)). chars_of n ∷ l) (names_grown names s)
 
-  no_array : (v : CstInputValue A) → ((vs : Vec (CstInputValue A) A) → v ≡ values.Array vs → ⊥) → (names : List (List ℕ)) → plain v ≡ strings names → ⊥
-  no_array = ind-CstInputValue A (λ (v : CstInputValue A). ((vs : Vec (CstInputValue A) A) → v ≡ values.Array vs → ⊥) → (names : List (List ℕ)) → plain v ≡ strings names → ⊥)
-      (λ x y is other names e. array_by x other names (sym (fold-roll-CstInputValue A Plain value_step x) ∙ e))
+  pub one_more : (all : List (Value A)) (names more : List (String A)) (s : String A) (k : ℕ) (v : Value A) (t : List ℕ) → k < length all → v ≡ get_or all k v → text_in (plain v) ≡ Some t
+      → chars_of s ≡ t → more ≡ names ++ s ∷ [] → NamedBefore all names (drop k all) → NamedBefore all more (drop (k + 1) all)
+  one_more all names more s k v t inside there is same grown so_far =
+      next_string all (names_of names) k v t inside there is so_far
+      ∙ ap (λ (l : List (List ℕ)). map plains.string l ++ map plain (drop (k + 1) all))
+      (sym (ap names_of grown ∙ names_grown names s ∙ ap (λ (c : List ℕ). names_of names ++ c ∷ []) same))
 
--- the names of a path whose document was read, and what refuses them
-module _ {A : Type 0} (path : List ℕ) (o : Options) (all : o ≡ all_on) (tree : OrderedTree) (shaped : DocumentShaped o tree)
-    (value : (w : Option Plain) × IsDocument o (chars path) w × DocumentValueOf o tree w) (taken : Option (CstInputValue A)) (is : IsTaken tree taken) where
-  pub no_value : taken ≡ None → IsFaultOfPath path NotNames
-  no_value none = no_path path o all tree shaped value taken is (λ names e. let wrong : None ≡ Some (strings names) = sym (ap (option_map plain) none) ∙ e in cc)
+  all_named_by : (all rest : List (Value A)) (names : List (String A)) → rest ≡ [] → NamedBefore all names rest → plains.array (items_of (map plain all)) ≡ strings (names_of names)
+  all_named_by all rest names none so_far =
+      ap (λ (l : List Plain). plains.array (items_of l))
+      (so_far ∙ ap (λ (l : List (Value A)). map plains.string (names_of names) ++ map plain l) none ∙ append-nil (map plains.string (names_of names)))
 
-  module _ (v : CstInputValue A) (one : taken ≡ Some v) where
-    pub another_value : ((vs : Vec (CstInputValue A) A) → v ≡ values.Array vs → ⊥) → IsFaultOfPath path NotNames
-    another_value other = no_path path o all tree shaped value taken is (λ names e.
-        (let same : Some (plain v) ≡ Some (strings names) = sym (ap (option_map plain) one) ∙ e in
-        let inner : plain v ≡ strings names = cc in
-        no_array v other names inner))
+  pub all_named : (all : List (Value A)) (names : List (String A)) (k : ℕ) → length all ≤ k → NamedBefore all names (drop k all) → plains.array (items_of (map plain all)) ≡ strings (names_of names)
+  all_named all names k end so_far = all_named_by all (drop k all) names (drop_all k all end) so_far
 
-    module _ (vs : Vec (CstInputValue A) A) (array : v ≡ values.Array vs) where
-      stands_for : option_map plain taken ≡ Some (plains.array (items_plain vs.items))
-      stands_for = ap (option_map plain) one ∙ ap Some (ap plain array ∙ array_is vs)
+  pub not_all : (all : List (Value A)) (names : List (String A)) (k : ℕ) (v : Value A) → k < length all → v ≡ get_or all k v → text_in (plain v) ≡ None → NamedBefore all names (drop k all)
+      → AreNoNames (Some (plains.array (items_of (map plain all))))
+  not_all all names k v inside there other so_far = other_seen all k v inside there (names_of names, so_far) other
 
-      pub names_read : (r : Result (Vec (String A) A) Fault) → IfOk r (λ names. plains.array (items_plain vs.items) ≡ strings (names_of names.items)) → IfOk r (λ names. IsPath path (names_of names.items))
-      names_read (Ok names) h = path_is path o all tree shaped value taken (names_of names.items) is (stands_for ∙ ap Some h)
-      names_read (Err fault) h = tt
+  -- a value that is no array is no list of names, and one that is has its elements
+  pub another_value : (w : Option (Value A)) (v : Value A) → w ≡ Some v → items_in (plain v) ≡ None → AreNoNames (option_map plain w)
+  another_value w v is other names e =
+      let same : Some (plain v) ≡ Some (strings names) = sym (ap (option_map plain) is) ∙ e in
+      let inner : plain v ≡ strings names = cc in
+      no_array (plain v) other names inner
 
-      pub names_refused : (r : Result (Vec (String A) A) Fault) → IfErr r (IsFaultOfNames (Some (plains.array (items_plain vs.items)))) → IfErr r (IsFaultOfPath path)
-      names_refused (Ok names) h = tt
-      names_refused (Err fault) h = path_fault path o all tree shaped value taken fault is (subst (λ (w : Option Plain). IsFaultOfNames w fault) (sym stands_for) h)
+  pub no_value : (w : Option (Value A)) → w ≡ None → AreNoNames (option_map plain w)
+  no_value w is names e = let wrong : None ≡ Some (strings names) = sym (ap (option_map plain) is) ∙ e in cc
+
+  pub stands_for : (w : Option (Value A)) (v : Value A) (vs : Items) → w ≡ Some v → items_in (plain v) ≡ Some vs → option_map plain w ≡ Some (plains.array vs)
+  stands_for w v vs is has = ap (option_map plain) is ∙ ap Some (array_from (plain v) vs has)
+
+  pub names_of_value : (w : Option Plain) (vs : Items) (r : Result (Vec (String A) A) Fault) → w ≡ Some (plains.array vs) → IfOk r (λ names. plains.array vs ≡ strings (names_of names.items))
+      → IfOk r (λ names. w ≡ Some (strings (names_of names.items)))
+  names_of_value w vs (Ok names) is h = is ∙ ap Some h
+  names_of_value w vs (Err fault) is h = tt
+
+  pub fault_of_value : (w : Option Plain) (vs : Items) (r : Result (Vec (String A) A) Fault) → w ≡ Some (plains.array vs) → IfErr r (IsFaultOfNames (Some (plains.array vs))) → IfErr r (IsFaultOfNames w)
+  fault_of_value w vs (Ok names) is h = tt
+  fault_of_value w vs (Err fault) is h = subst (λ (x : Option Plain). IsFaultOfNames x fault) (sym is) h
+
+-- what the text of a path tells of its value
+module _ (path : List ℕ) (o : Options) (all : o ≡ all_on) (w : Option Plain) (d : IsDocument o (chars path) w) where
+  document : IsDocument all_on (chars path) w
+  document = subst (λ (p : Options). IsDocument p (chars path) w) all d
+
+  path_by : (names : List (List ℕ)) → w ≡ Some (strings names) → IsPath path names
+  path_by names is = subst (λ (x : Option Plain). IsDocument all_on (chars path) x) is document
+
+  path_fault : (f : Fault) → IsFaultOfNames w f → IsFaultOfPath path f
+  path_fault NotNames h = (w, document, h)
+  path_fault (Edit OutOfMemory) h = (h.0, path_by h.0 h.1)
+  path_fault _ h = absurd h
+
+  pub names_read : {A : Type 0} (r : Result (Vec (String A) A) Fault) → IfOk r (λ names. w ≡ Some (strings (names_of names.items))) → IfOk r (λ names. IsPath path (names_of names.items))
+  names_read (Ok names) h = path_by (names_of names.items) h
+  names_read (Err fault) h = tt
+
+  pub names_refused : {A : Type 0} (r : Result (Vec (String A) A) Fault) → IfErr r (IsFaultOfNames w) → IfErr r (IsFaultOfPath path)
+  names_refused (Ok names) h = tt
+  names_refused (Err fault) h = path_fault fault h

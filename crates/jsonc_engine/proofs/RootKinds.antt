@@ -22,13 +22,12 @@ use Rattle.jsonc_cst.specs.declared.cst.node.CstNode.{CstNode}
 use Rattle.jsonc_cst.specs.declared.cst.node.CstObject.{CstObject}
 use Rattle.jsonc_cst.specs.Nodes.{typed}
 use Rattle.jsonc_cst.specs.Readings.{array_if, object_if, typed_if}
-use Rattle.jsonc_parser.specs.Below.named.Shapes.{empty_of, has_shape, is_array, is_object, is_of}
+use Rattle.jsonc_parser.specs.Below.named.Shapes.{empty_of, has_shape, is_object, is_of}
 use Rattle.jsonc_parser.specs.Below.named.declared.shape.Shape.{Shape}
-use Rattle.jsonc_parser.specs.Below.named.declared.shape.Shape.TheVariants.{Object, Array}
+use Rattle.jsonc_parser.specs.Below.named.declared.shape.Shape.TheVariants.{Object}
 use Rattle.jsonc_parser.specs.Below.settings.Found.{names_of}
 use Rattle.jsonc_parser.specs.Below.settings.Settings.{At, in_object, itself, StandsInTheWay, this_stands}
 use Rattle.jsonc_parser.proofs.Below.run.Ensured.{held}
-use Rattle.jsonc_engine.specs.Argument.{AreNoNames, strings}
 use Rattle.jsonc_engine.specs.Input.{HasKind, MayHave}
 use Rattle.jsonc_engine.specs.Settings.{Begin, HasBeginning, HasInTheWay, HasNoBeginning, HasNothingAt, MayBegin}
 use Rattle.jsonc_engine.proofs.Removing.{no_value, object_read, text}
@@ -136,15 +135,6 @@ module _ (o : Options) (ns : List Node) (tree : IsTree ns) (sound : SoundTree o 
       let is = object_read ns (value_at ns 0) x read in
       of_shape Object x.number true is.0 (ap kinds.is_object is.1)
 
-  has_array : (x : CstArray) → array_if (typed_if ns (value_at ns 0)) ≡ Some x → HasKind is_array o bytes
-  has_array x read =
-      let is = array_read ns (value_at ns 0) x read in
-      of_shape Array x.number true is.0 (ap kinds.is_array is.1)
-
-  pub reads_array : (w : Option CstArray) → w ≡ array_if (typed_if ns (value_at ns 0)) → is_some w ≡ true → HasKind is_array o bytes
-  reads_array None same one = absurd (false≢true one)
-  reads_array (Some x) same one = has_array x (sym same)
-
   -- what was found is of its shape, and where one was made there was none
   found_by : (shape : Shape) (made : List Node) (w : Option ℕ) (m : ℕ) → value_at ns 0 ≡ w → FoundOrCreated (is_of shape) (empty_of shape) ns made w (Some m) → MayHave (has_shape shape) o bytes
   found_by shape made None m e f = (None, valueless e, tt)
@@ -157,22 +147,6 @@ module _ (o : Options) (ns : List Node) (tree : IsTree ns) (sound : SoundTree o 
 
   pub wanted : (shape : Shape) → value_at ns 0 ≡ None → MayHave (has_shape shape) o bytes
   wanted shape e = (None, valueless e, tt)
-
-  -- what does not read as an array is no list of names
-  no_names_by : (w : Option ℕ) → value_at ns 0 ≡ w → array_if (typed_if ns w) ≡ None → (v : Option Plain) × IsDocument o (chars bytes) v × AreNoNames v
-  no_names_by None e read = (None, valueless e, λ names same. let wrong : None ≡ Some (strings names) = same in cc)
-  no_names_by (Some n) e read =
-      let h = of_shape Array n false e (no_array_read (content_at ns n) n read) in (
-        Some h.0,
-        h.1,
-        λ names same.
-            (let is : h.0 ≡ strings names = cc in
-            absurd (false≢true (sym h.2 ∙ ap is_array is))),
-      )
-
-  pub no_names : (w : Option CstArray) → w ≡ array_if (typed_if ns (value_at ns 0)) → is_some w ≡ false → (v : Option Plain) × IsDocument o (chars bytes) v × AreNoNames v
-  no_names None same none = no_names_by (value_at ns 0) refl (sym same)
-  no_names (Some x) same none = absurd (true≢false none)
 
   module _ (names : List (List ℕ)) where
     -- where names begin

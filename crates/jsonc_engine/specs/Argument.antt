@@ -2,15 +2,24 @@
 use Rattle.std.specs.Prelude.{◌≡◌, ◌≢◌, ℕ, List, Option, Some, None, chars, map}
 use Rattle.jsonc_text.specs.Grammar.{IsDocument}
 use Rattle.jsonc_text.specs.Options.{all_on}
-use Rattle.jsonc_text.specs.Plain.{Plain, array, collapse, string}
+use Rattle.jsonc_text.specs.Plain.{Plain, Items, array, collapse, string}
 use Rattle.jsonc_input.specs.Views.{items_of}
 use Rattle.jsonc_edit.specs.Writing.{IsWritable}
-use Rattle.jsonc_parser.specs.Below.named.Shapes.{is_array}
 use Rattle.jsonc_engine.specs.Command.{Request, json_of, path_of}
-use Rattle.jsonc_engine.specs.Input.{HasKind, IsRefusal}
+use Rattle.jsonc_engine.specs.Input.{IsRefusal}
 use Rattle.jsonc_engine.specs.Parser.{OutOfMemory}
 use Rattle.jsonc_engine.specs.declared.fault.Fault.{Fault}
 use Rattle.jsonc_engine.specs.declared.fault.Fault.TheVariants.{Argument, Edit, NoValue, NotNames, Path}
+
+-- the text of a value that is a string
+abbrev pub text_in : Plain → Option (List ℕ)
+text_in (string s) = Some s
+text_in v = None
+
+-- the elements of one that is an array
+abbrev pub items_in : Plain → Option Items
+items_in (array vs) = Some vs
+items_in v = None
 
 -- the array of these strings
 abbrev pub strings : List (List ℕ) → Plain
@@ -53,12 +62,11 @@ IsFaultOfNames w NotNames = AreNoNames w
 IsFaultOfNames w (Edit OutOfMemory) = AreNames w
 IsFaultOfNames w other = ⊥
 
--- the fault is true of the bytes of a path, and reading its names can end with it; for want of memory, told by no parse, where their text is a document whose value
--- is an array
+-- the fault is true of the bytes of a path, and reading its names can end with it; for want of memory, told by no parse, where it is a list of names
 abbrev pub IsFaultOfPath : List ℕ → Fault → Type 0
 IsFaultOfPath path (Path error) = IsRefusal path error
 IsFaultOfPath path NotNames = (w : Option Plain) × IsDocument all_on (chars path) w × AreNoNames w
-IsFaultOfPath path (Edit OutOfMemory) = HasKind is_array all_on path
+IsFaultOfPath path (Edit OutOfMemory) = (names : List (List ℕ)) × IsPath path names
 IsFaultOfPath path other = ⊥
 
 -- the fault is true of the bytes of a JSON text, and reading its value can end with it; for want of memory, told by no parse, where their text is a document with a value

@@ -1,17 +1,19 @@
 //! What a command asks for, once the names of its path and the value of its JSON text are read.
-ghost use Rattle.std.specs.Prelude.{◌≡◌, IfErr, IfOk, Some, chars, false, true};
+ghost use Rattle.std.specs.Prelude.{◌≡◌, IfErr, IfOk, Some, chars, false, map, option_map, true};
 ghost use Rattle.jsonc_text.specs.Plain.{array};
-ghost use Rattle.jsonc_input.specs.Views.{items_plain, plain};
+ghost use Rattle.jsonc_ast.specs.Views as ast;
+ghost use Rattle.jsonc_input.specs.Views.{items_of, plain};
 ghost use Rattle.jsonc_parser.specs.Below.settings.Found.{names_of};
 ghost use Rattle.jsonc_engine.specs.Argument.{AreNames, AreNoNames, IsArgument, IsFaultOfArgument, IsFaultOfJson};
-ghost use Rattle.jsonc_engine.specs.Argument.{IsFaultOfNames, IsFaultOfPath, IsPath, strings};
+ghost use Rattle.jsonc_engine.specs.Argument.{IsFaultOfNames, IsFaultOfPath, IsPath, items_in, strings, text_in};
 ghost use Rattle.jsonc_engine.specs.Change.{IsChangeFor};
 ghost use Rattle.jsonc_engine.specs.Command.{put, request_of};
 
 use crate::command::Command;
 use crate::fault::Fault;
-use jsonc_parser::ParseOptions;
+use jsonc_parser::ast::Value;
 use jsonc_parser::cst::{CstInputValue, CstRootNode};
+use jsonc_parser::{CollectOptions, ParseOptions, parse_to_ast};
 use std::alloc::Allocator;
 
 /// What a command makes of the document.
@@ -59,13 +61,41 @@ fn value_of<A: Allocator + Copy>(alloc: A, json: &str) -> Result<CstInputValue<A
     }
 }
 
+/// The text of a value that is a string.
+fn text_of<'b, A: Allocator>(value: &'b Value<'_, A>) -> Option<&'b str>
+    ensures { option_map (λ s. chars s.now) result ≡ text_in (ast.plain value.now) }
+{
+    match value {
+        Value::StringLit(string) => Some(string.value.as_str()),
+        Value::NumberLit(_) => None,
+        Value::BooleanLit(_) => None,
+        Value::Object(_) => None,
+        Value::Array(_) => None,
+        Value::NullKeyword(_) => None,
+    }
+}
+
+/// The elements of a value that is an array.
+fn elements_of<'b, 'a, A: Allocator>(value: &'b Value<'a, A>) -> Option<&'b [Value<'a, A>]>
+    ensures { option_map (λ vs. items_of (map ast.plain vs.now)) result ≡ items_in (ast.plain value.now) }
+{
+    match value {
+        Value::StringLit(_) => None,
+        Value::NumberLit(_) => None,
+        Value::BooleanLit(_) => None,
+        Value::Object(_) => None,
+        Value::Array(array) => Some(array.elements.as_slice()),
+        Value::NullKeyword(_) => None,
+    }
+}
+
 /// Whether these values are strings.
-fn are_strings<A: Allocator>(values: &[CstInputValue<A>]) -> bool
-    ensures strings { result ≡ true → AreNames (Some (array (items_plain values.now))) }
-    ensures other { result ≡ false → AreNoNames (Some (array (items_plain values.now))) }
+fn are_strings<A: Allocator>(values: &[Value<'_, A>]) -> bool
+    ensures strings { result ≡ true → AreNames (Some (array (items_of (map ast.plain values.now)))) }
+    ensures other { result ≡ false → AreNoNames (Some (array (items_of (map ast.plain values.now)))) }
 {
     for value in values {
-        let CstInputValue::String(_) = value else {
+        let Some(_) = text_of(value) else {
             return false;
         };
     }
@@ -75,52 +105,60 @@ fn are_strings<A: Allocator>(values: &[CstInputValue<A>]) -> bool
 /// The strings that these values are, or `Fault::NotNames` where one is no string, which is seen without memory.
 fn strings_of<A: Allocator + Copy>(
     alloc: A,
-    values: Vec<CstInputValue<A>, A>,
+    values: &[Value<'_, A>],
 ) -> Result<Vec<String<A>, A>, Fault>
-    ensures strings { IfOk result (λ names. array (items_plain values.items) ≡ strings (names_of names.items)) }
-    ensures refused { IfErr result (IsFaultOfNames (Some (array (items_plain values.items)))) }
+    ensures strings { IfOk result (λ names. array (items_of (map ast.plain values.now)) ≡ strings (names_of names.items)) }
+    ensures refused { IfErr result (IsFaultOfNames (Some (array (items_of (map ast.plain values.now))))) }
 {
-    if !are_strings(&values) {
+    if !are_strings(values) {
         return Err(Fault::NotNames);
     }
     let mut names = Vec::new(alloc);
     for value in values {
-        match value {
-            CstInputValue::String(name) => names.push(name)?,
-            _ => return Err(Fault::NotNames),
-        }
+        let Some(text) = text_of(value) else {
+            return Err(Fault::NotNames);
+        };
+        let name = String::from_str(alloc, text)?;
+        names.push(name)?;
     }
     Ok(names)
+}
+
+/// The names that a value is, if there is one.
+fn names_in<A: Allocator + Copy>(
+    alloc: A,
+    value: &Option<Value<'_, A>>,
+) -> Result<Vec<String<A>, A>, Fault>
+    ensures names { IfOk result (λ names. option_map ast.plain value.now ≡ Some (strings (names_of names.items))) }
+    ensures refused { IfErr result (IsFaultOfNames (option_map ast.plain value.now)) }
+{
+    let Some(value) = value else {
+        return Err(Fault::NotNames);
+    };
+    match elements_of(value) {
+        Some(elements) => strings_of(alloc, elements),
+        None => Err(Fault::NotNames),
+    }
 }
 
 /// The names of a command's path.
 ///
 /// A text that is no document is `Fault::Path`; one that has no value, or a value that is no list of strings, is
-/// `Fault::NotNames`. The text is parsed as a JSON text of a command is.
+/// `Fault::NotNames`. The text is parsed as a JSON text of a command is. Behind the parse, memory is wanted for the
+/// names alone.
 fn read_path<A: Allocator + Copy>(alloc: A, path: &str) -> Result<Vec<String<A>, A>, Fault>
     ensures names { IfOk result (λ names. IsPath path.now (names_of names.items)) }
     ensures refused { IfErr result (IsFaultOfPath path.now) }
 {
-    let document = match CstRootNode::parse(alloc, path, &ParseOptions::default()) {
-        Ok(document) => document,
-        Err(error) => return Err(Fault::Path(error)),
-    };
-    // That the value is another is seen without memory.
-    let _ = document.tree.len();
-    if document.array_value().is_none() {
-        return Err(Fault::NotNames);
+    match parse_to_ast(
+        alloc,
+        path,
+        &CollectOptions::default(),
+        &ParseOptions::default(),
+    ) {
+        Ok(read) => names_in(alloc, &read.value),
+        Err(error) => Err(Fault::Path(error)),
     }
-    let taken = match document.to_value() {
-        Ok(taken) => taken,
-        Err(error) => return Err(Fault::Edit(error)),
-    };
-    let Some(value) = taken else {
-        return Err(Fault::NotNames);
-    };
-    let CstInputValue::Array(values) = value else {
-        return Err(Fault::NotNames);
-    };
-    strings_of(alloc, values)
 }
 
 /// A value that is put at names: the path is read before the JSON text.
