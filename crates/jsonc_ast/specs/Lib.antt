@@ -5,3 +5,4 @@ pub mod Node
 pub mod Comment
 pub mod Copies
 pub mod Spelled
+pub mod to_ast

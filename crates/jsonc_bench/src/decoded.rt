@@ -2,7 +2,7 @@
 
 use crate::show::push_string_kind;
 use jsonc_cases::escape::Escaped;
-use jsonc_string::provider::parse_string;
+use jsonc_text::string::provider::parse_string;
 use std::alloc::{AllocError, Global};
 use std::borrow::CowStr;
 

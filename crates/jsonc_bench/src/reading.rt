@@ -9,7 +9,7 @@ use crate::show::{push_fault, push_string_kind};
 use jsonc_cases::edits::Step;
 use jsonc_cases::escape::Escaped;
 use jsonc_cases::push_children;
-use jsonc_lines::indents_at;
+use jsonc_layout::lines::indents_at;
 use jsonc_parser::ParseOptions;
 use jsonc_parser::cst::{
     CstComment, CstContainerNode, CstLeafNode, CstNewlineKind, CstNode, CstObjectProp, CstRootNode,

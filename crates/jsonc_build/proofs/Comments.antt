@@ -9,7 +9,7 @@ use Rattle.jsonc_text.specs.Gaps.{is_in_line, ends_block, line, UpToBlockEnd, he
 use Rattle.jsonc_text.proofs.Basics.{and_both, test_eq, tails}
 use Rattle.jsonc_text.proofs.BlockComments.{block_inside}
 use Rattle.jsonc_text.proofs.Cuts.{rest_past, byte_length-one, many_split}
-use Rattle.jsonc_build.specs.Filling.{BeginsComment}
+use Rattle.jsonc_sound.specs.Filling.{BeginsComment}
 
 -- a comment's text, with its marks
 pub comment_text : {t u : List ℕ} → IsComment t u → (s : List ℕ) × (t ≡ s ++ u)

@@ -8,7 +8,7 @@ use Rattle.jsonc_text.specs.Grammar.{Separates, Closes}
 use Rattle.jsonc_text.specs.Grammar as grammar
 use Rattle.jsonc_text.proofs.Steps.{no_at_end}
 use Rattle.jsonc_ast.specs.Located.{Located, LocatedItems, LocatedMembers, Between, One, Colon, leaf_at, array_at, object_at, no_items_at, item_at, no_members_at, member_at, range_at, IsLocated, AreItems, AreFurtherItems, AreMembers, AreFurtherMembers, IsLocatedDocument}
-use Rattle.jsonc_build.specs.Filling.{Filling, nothing, character, comment, IsFillable, is_filling, is_separator}
+use Rattle.jsonc_sound.specs.Filling.{Filling, nothing, character, comment, IsFillable, is_filling, is_separator}
 use Rattle.jsonc_build.specs.Laid.{CanLay, CanLayItems, CanLayMembers, CanLayDocument}
 use Rattle.jsonc_build.proofs.Stretches.{filling_append, filling_order}
 use Rattle.jsonc_build.proofs.Starts.{StartsAt, no_blank, value_starts, property_starts}

@@ -14,8 +14,8 @@ use Rattle.jsonc_tree.specs.OrderedTree.{OrderedTree, followed_by, printed}
 use Rattle.jsonc_tree.proofs.OrderedTrees.{printed-more}
 use Rattle.jsonc_tree.specs.declared.node.CstNewlineKind.TheVariants.{LineFeed, CarriageReturnLineFeed, CarriageReturn}
 use Rattle.jsonc_text.specs.Chars.{Steps}
-use Rattle.jsonc_build.specs.Leaves.{GapLeaf, line_feed, cr_lf, cr, blanks, a_comment, mark, Fills, end, leaf, LeafAt, is_inner_blank}
-use Rattle.jsonc_build.specs.Filling.{BeginsComment, is_filling, is_separator}
+use Rattle.jsonc_sound.specs.Leaves.{GapLeaf, line_feed, cr_lf, cr, blanks, a_comment, mark, Fills, end, leaf, LeafAt, is_inner_blank}
+use Rattle.jsonc_sound.specs.Filling.{BeginsComment, is_filling, is_separator}
 use Rattle.jsonc_text.proofs.Cuts.{chars_between, slice_encodes}
 use Rattle.jsonc_text.proofs.UniqueGaps.{comment_begins}
 

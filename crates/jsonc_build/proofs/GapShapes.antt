@@ -14,11 +14,11 @@ use Rattle.jsonc_text.proofs.NumberFrames.{many_cut}
 use Rattle.jsonc_text.proofs.UniqueGaps.{comment_begins, comment_no_blank, comment_unique}
 use Rattle.jsonc_tree.specs.Content.{Content, token}
 use Rattle.jsonc_tree.specs.OrderedTree.{OrderedTree, followed_by}
-use Rattle.jsonc_build.specs.Filling.{is_separator}
-use Rattle.jsonc_build.specs.Leaves.{GapLeaf, line_feed, cr_lf, cr, blanks, a_comment, mark, Fills, end, leaf, is_inner_blank}
-use Rattle.jsonc_build.specs.Shape.{IsText, IsTrivia, Trivia, nothing, trivia, token_then}
+use Rattle.jsonc_sound.specs.Filling.{is_separator}
+use Rattle.jsonc_sound.specs.Leaves.{GapLeaf, line_feed, cr_lf, cr, blanks, a_comment, mark, Fills, end, leaf, is_inner_blank}
+use Rattle.jsonc_sound.specs.Shape.{IsText, IsTrivia, Trivia, nothing, trivia, token_then}
 use Rattle.jsonc_build.proofs.GapLeaves.{leaf_text}
-use Rattle.jsonc_build.proofs.LexemeEnds.{many_length}
+use Rattle.jsonc_sound.proofs.LexemeEnds.{many_length}
 use Rattle.jsonc_build.proofs.Stretches.{separator_no_slash}
 
 -- what stands at the front of a text, alone

@@ -18,7 +18,7 @@ use Rattle.jsonc_tree.specs.Content.{Content}
 use Rattle.jsonc_ast.specs.Located.{In, IsLeaf}
 use Rattle.jsonc_build.specs.Laid as laid
 use Rattle.jsonc_build.specs.Laid.{bytes_in, NameLaid}
-use Rattle.jsonc_build.specs.Shape.{IsLexemeBefore, IsLiteralBefore, IsNameBefore}
+use Rattle.jsonc_sound.specs.Shape.{IsLexemeBefore, IsLiteralBefore, IsNameBefore}
 use Rattle.jsonc_build.proofs.Meanings.{quote_first}
 use Rattle.jsonc_build.proofs.Names.{loose_first}
 

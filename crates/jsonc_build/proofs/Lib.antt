@@ -10,12 +10,8 @@ pub mod Names
 pub mod Filling
 pub mod Lines
 pub mod Meanings
-pub mod LexemeEnds
 pub mod GapShapes
 pub mod LeafShapes
 pub mod Shapes
-pub mod ShapeTexts
-pub mod LooseLines
-pub mod ShapeValues
 pub mod Building
 pub mod Parts

@@ -9,11 +9,11 @@ use Rattle.jsonc_text.proofs.UniqueTokens.{not_blank}
 use Rattle.jsonc_tree.specs.Content.{Content, token}
 use Rattle.jsonc_tree.specs.OrderedTree.{OrderedTree, none, more, followed_by}
 use Rattle.jsonc_ast.specs.Located.{Located, LocatedItems, LocatedMembers, LocatedName, Between, One, IsLocated, IsLocatedDocument}
-use Rattle.jsonc_build.specs.Filling.{is_separator}
-use Rattle.jsonc_build.specs.Leaves.{GapLeaf, line_feed, cr_lf, cr, blanks, a_comment, mark, Fills, end, leaf, is_inner_blank}
+use Rattle.jsonc_sound.specs.Filling.{is_separator}
+use Rattle.jsonc_sound.specs.Leaves.{GapLeaf, line_feed, cr_lf, cr, blanks, a_comment, mark, Fills, end, leaf, is_inner_blank}
 use Rattle.jsonc_build.specs.Laid as laid
 use Rattle.jsonc_build.specs.Laid.{bracketed, FillsBetween, NameLaid, Laid, ItemsLaid, MembersLaid, PropertyLaid, RootLaid, DocumentLaid}
-use Rattle.jsonc_build.specs.Lines.{is_line_comment, ends_line, LinesEnd, DocumentLinesEnd}
+use Rattle.jsonc_sound.specs.Lines.{is_line_comment, ends_line, LinesEnd, DocumentLinesEnd}
 use Rattle.jsonc_build.proofs.Meanings.{AllItems, all_items, AllMembers, all_members}
 use Rattle.jsonc_build.proofs.Rows.{followed_assoc, followed_none}
 use Rattle.jsonc_build.proofs.Starts.{StartsAt, value_starts, property_starts}

@@ -12,11 +12,11 @@ use Rattle.jsonc_text.proofs.Steps.{no_at_end}
 use Rattle.jsonc_tree.specs.Content.{Content}
 use Rattle.jsonc_tree.specs.OrderedTree.{OrderedTree, none, more, followed_by}
 use Rattle.jsonc_ast.specs.Located.{Located, LocatedItems, LocatedMembers, LocatedName, Between, One, range_at, IsLocated, AreItems, AreFurtherItems, AreMembers, AreFurtherMembers, IsNamed, IsLocatedDocument}
-use Rattle.jsonc_build.specs.Filling.{is_separator}
+use Rattle.jsonc_sound.specs.Filling.{is_separator}
 use Rattle.jsonc_build.specs.Laid as laid
 use Rattle.jsonc_build.specs.Laid.{bracketed, FillsBetween, Laid, ItemsLaid, MembersLaid, PropertyLaid, RootLaid, DocumentLaid}
-use Rattle.jsonc_build.specs.Shape as shape
-use Rattle.jsonc_build.specs.Shape.{Trivia, Separated, Closed, ValueShaped, ElementsShaped, PropertiesShaped, PropertyShaped, DocumentShaped, token_then, printed_text}
+use Rattle.jsonc_sound.specs.Shape as shape
+use Rattle.jsonc_sound.specs.Shape.{Trivia, Separated, Closed, ValueShaped, ElementsShaped, PropertiesShaped, PropertyShaped, DocumentShaped, token_then, printed_text}
 use Rattle.jsonc_build.proofs.GapShapes.{gap_trivia, gap_mark}
 use Rattle.jsonc_build.proofs.Meanings.{Prints, prints_append, prints_fill, prints_bracket, laid_prints, items_print, members_print, further_items, further_members}
 use Rattle.jsonc_build.proofs.LeafShapes.{string_shaped, number_shaped, keyword_shaped, name_shaped}

@@ -7,8 +7,8 @@ use Rattle.jsonc_text.proofs.Basics.{clash, and_both, test_eq, heads}
 use Rattle.jsonc_text.proofs.Cuts.{spans, same_place}
 use Rattle.jsonc_text.proofs.UniqueGaps.{comment_begins, comment_unique}
 use Rattle.jsonc_tree.specs.Content.{Content}
-use Rattle.jsonc_build.specs.Filling.{Filling, nothing, character, comment, BeginsComment, is_filling, is_separator}
-use Rattle.jsonc_build.specs.Leaves.{GapLeaf, line_feed, cr_lf, cr, blanks, a_comment, mark, is_inner_blank}
+use Rattle.jsonc_sound.specs.Filling.{Filling, nothing, character, comment, BeginsComment, is_filling, is_separator}
+use Rattle.jsonc_sound.specs.Leaves.{GapLeaf, line_feed, cr_lf, cr, blanks, a_comment, mark, is_inner_blank}
 use Rattle.jsonc_build.proofs.Comments.{comment_text}
 
 pub filling_append : {t u r : List ℕ} → Filling t u → Filling u r → Filling t r

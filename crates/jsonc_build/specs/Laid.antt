@@ -8,8 +8,8 @@ use Rattle.jsonc_text.specs.Plain.{Plain}
 use Rattle.jsonc_tree.specs.Content.{Content, token}
 use Rattle.jsonc_tree.specs.OrderedTree.{OrderedTree, none, more, followed_by}
 use Rattle.jsonc_ast.specs.Located.{Located, LocatedItems, LocatedMembers, LocatedName, Brackets, leaf_at, array_at, object_at, no_items_at, item_at, no_members_at, member_at, range_at, IsLocatedDocument}
-use Rattle.jsonc_build.specs.Leaves.{Fills}
-use Rattle.jsonc_build.specs.Filling.{IsFillable}
+use Rattle.jsonc_sound.specs.Leaves.{Fills}
+use Rattle.jsonc_sound.specs.Filling.{IsFillable}
 
 -- the bytes of a range
 abbrev pub bytes_in : List ℕ → Range → List ℕ

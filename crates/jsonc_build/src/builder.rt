@@ -11,8 +11,8 @@ ghost use Rattle.jsonc_ast.specs.Located.{IsLocatedDocument, value_at};
 ghost use Rattle.jsonc_ast.specs.Views.{items_located, located, members_located, member_of};
 ghost use Rattle.jsonc_build.specs.Given.{located_in};
 ghost use Rattle.jsonc_build.specs.Growth.{Grows};
-ghost use Rattle.jsonc_build.specs.Lines.{DocumentLinesEnd};
-ghost use Rattle.jsonc_build.specs.Shape.{DocumentShaped};
+ghost use Rattle.jsonc_sound.specs.Lines.{DocumentLinesEnd};
+ghost use Rattle.jsonc_sound.specs.Shape.{DocumentShaped};
 ghost use Rattle.jsonc_build.specs.Laid.{CanLay, CanLayDocument, CanLayItems, CanLayMembers, CanLayProperty, DocumentLaid, HasLocatedValue, ItemsLaid, Laid, MembersLaid, NameLaid, PropertyLaid, RootLaid, is_quote_at};
 
 use crate::fill::fill_between;

@@ -9,10 +9,10 @@ ghost use Rattle.jsonc_tree.specs.Content.{newline};
 ghost use Rattle.jsonc_tree.specs.OrderedTree.{OrderedTree};
 ghost use Rattle.jsonc_tree.specs.Stored.{content_of};
 ghost use Rattle.jsonc_tree.specs.Tree.{is_container_at};
-ghost use Rattle.jsonc_build.specs.Filling.{BeginsComment, IsFillable, is_filling, is_separator};
+ghost use Rattle.jsonc_sound.specs.Filling.{BeginsComment, IsFillable, is_filling, is_separator};
 ghost use Rattle.jsonc_build.specs.Growth.{Grows};
 ghost use Rattle.jsonc_build.specs.Laid.{FillsBetween};
-ghost use Rattle.jsonc_build.specs.Leaves.{GapLeaf, LeafAt, is_inner_blank};
+ghost use Rattle.jsonc_sound.specs.Leaves.{GapLeaf, LeafAt, is_inner_blank};
 
 use crate::room::make_room;
 use jsonc_text::chars::char_at;

@@ -1,8 +1,8 @@
 //! Laws of the definitions: each is the contract of a function that does nothing.
 ghost use Rattle.jsonc_text.specs.Options.{Options};
 ghost use Rattle.jsonc_tree.specs.OrderedTree.{OrderedTree};
-ghost use Rattle.jsonc_build.specs.Lines.{DocumentLinesEnd, DocumentLinesEndLoosely};
-ghost use Rattle.jsonc_build.specs.Shape.{DocumentShaped, PrintsDocument};
+ghost use Rattle.jsonc_sound.specs.Lines.{DocumentLinesEnd, DocumentLinesEndLoosely};
+ghost use Rattle.jsonc_sound.specs.Shape.{DocumentShaped, PrintsDocument};
 
 /// A tree of a document's shape whose line comments end with their lines, in an array or object
 /// perhaps behind whitespace, prints a text of the grammar, and has the value of that text, whatever

@@ -5,13 +5,13 @@ use Rattle.jsonc_text.specs.Plain.{Plain, collapse}
 use Rattle.jsonc_tree.specs.Content.{Content}
 use Rattle.jsonc_tree.specs.OrderedTree.{OrderedTree, none, more}
 use Rattle.jsonc_tree.specs.Values.{DocumentValueOf}
-use Rattle.jsonc_build.specs.Shape.{IsTrivia, IsLiteralBefore, IsNameBefore, Trivia, Separated, Closed, ValueShaped, ElementsShaped, PropertiesShaped, PropertyShaped, DocumentShaped}
-use Rattle.jsonc_input.specs.Views.{plain}
-use Rattle.jsonc_input.specs.declared.value.CstInputValue.{CstInputValue}
-use Rattle.jsonc_to_input.specs.Given.{Gives, HasColon, HaveColons, colon_first, name_first}
-use Rattle.jsonc_to_input.specs.Taken.{IsTaken}
-use Rattle.jsonc_to_input.proofs.Given.{document_gives}
-use Rattle.jsonc_to_input.proofs.Once.{gives_once}
+use Rattle.jsonc_sound.specs.Shape.{IsTrivia, IsLiteralBefore, IsNameBefore, Trivia, Separated, Closed, ValueShaped, ElementsShaped, PropertiesShaped, PropertyShaped, DocumentShaped}
+use Rattle.jsonc_layout.specs.input.Views.{plain}
+use Rattle.jsonc_layout.specs.declared.input.value.CstInputValue.{CstInputValue}
+use Rattle.jsonc_layout.specs.to_input.Given.{Gives, HasColon, HaveColons, colon_first, name_first}
+use Rattle.jsonc_layout.specs.to_input.Taken.{IsTaken}
+use Rattle.jsonc_layout.proofs.lemmas.to_input.Given.{document_gives}
+use Rattle.jsonc_layout.proofs.lemmas.to_input.Once.{gives_once}
 
 -- what is no property needs no colon
 no_property_colon : (content : Content) (below : OrderedTree) → (content ≡ Content.property → ⊥) → HasColon content below

@@ -4,3 +4,4 @@ pub mod Readings
 pub mod Colons
 pub mod Tree
 pub mod Shown
+pub mod lemmas

@@ -10,7 +10,7 @@ use Rattle.jsonc_tree.specs.OrderedTree.{OrderedTree, ordered_tree, printed}
 pub use Rattle.jsonc_edit.specs.Errors.{edit_error_text}
 pub use Rattle.jsonc_edit.specs.declared.error.EditError.{EditError}
 pub use Rattle.jsonc_edit.specs.declared.error.EditError.TheVariants.{OutOfMemory}
-pub use Rattle.jsonc_to_ast.specs.Refusals.{RefusesText, IsWithin}
+pub use Rattle.jsonc_ast.specs.to_ast.Refusals.{RefusesText, IsWithin}
 pub use Rattle.jsonc_build.specs.Laid.{DocumentLaid}
 use Rattle.jsonc_cst.specs.declared.cst.CstRootNode.{CstRootNode}
 use Rattle.jsonc_cst.specs.declared.cst.node.CstContainerNode.{CstContainerNode}

@@ -1,9 +1,9 @@
 -- How a document is laid out: the readings of its tree, with typed nodes for numbers.
 use Rattle.std.specs.Prelude.{ℕ, Bool, List, map, Option, option_map}
-use Rattle.jsonc_nodes.specs.Comments.{leading_comments, trailing_comments}
-use Rattle.jsonc_lines.specs.Breadth.{uses_trailing_commas_at}
-use Rattle.jsonc_lines.specs.Lines.{indent_at, single_indent_of}
-use Rattle.jsonc_lines.specs.Siblings.{trailing_comma_at}
+use Rattle.jsonc_layout.specs.nodes.Comments.{leading_comments, trailing_comments}
+use Rattle.jsonc_layout.specs.lines.Breadth.{uses_trailing_commas_at}
+use Rattle.jsonc_layout.specs.lines.Lines.{indent_at, single_indent_of}
+use Rattle.jsonc_layout.specs.lines.Siblings.{trailing_comma_at}
 use Rattle.jsonc_cst.specs.declared.cst.CstRootNode.{CstRootNode}
 use Rattle.jsonc_cst.specs.declared.cst.node.CstToken.{CstToken}
 use Rattle.jsonc_cst.specs.declared.cst.node.CstComment.{CstComment}

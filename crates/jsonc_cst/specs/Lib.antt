@@ -4,4 +4,6 @@ pub mod Tree
 pub mod Nodes
 pub mod Layout
 pub mod Values
-pub mod Below
+pub mod sorting
+pub mod typed
+pub mod objects

@@ -4,10 +4,10 @@ use Rattle.std.specs.List.{find}
 use Rattle.jsonc_text.specs.declared.errors.ParseStringErrorKind.{ParseStringErrorKind}
 use Rattle.jsonc_tree.specs.Content.{text_of}
 use Rattle.jsonc_tree.specs.Tree.{Node, content_at, children_at}
-use Rattle.jsonc_nodes.specs.Kinds.{is_property}
-use Rattle.jsonc_nodes.specs.Names.{FirstNamed, IsNoString, StandsFor}
-use Rattle.jsonc_nodes.specs.Properties.{name_at, value_at}
-use Rattle.jsonc_nodes.specs.Siblings.{siblings_after, siblings_before, root_above, elements_at, element_index_at}
+use Rattle.jsonc_layout.specs.nodes.Kinds.{is_property}
+use Rattle.jsonc_layout.specs.nodes.Names.{FirstNamed, IsNoString, StandsFor}
+use Rattle.jsonc_layout.specs.nodes.Properties.{name_at, value_at}
+use Rattle.jsonc_layout.specs.nodes.Siblings.{siblings_after, siblings_before, root_above, elements_at, element_index_at}
 use Rattle.jsonc_cst.specs.declared.cst.CstRootNode.{CstRootNode}
 use Rattle.jsonc_cst.specs.declared.cst.node.CstRoot.{CstRoot}
 use Rattle.jsonc_cst.specs.declared.cst.node.CstArray.{CstArray}

@@ -4,10 +4,10 @@ use Rattle.jsonc_text.specs.Options.{Options}
 use Rattle.jsonc_text.specs.Plain.{Plain, collapse}
 use Rattle.jsonc_tree.specs.OrderedTree.{OrderedTree, ordered_tree}
 use Rattle.jsonc_tree.specs.Values.{DocumentValueOf}
-use Rattle.jsonc_build.specs.Shape.{DocumentShaped}
-use Rattle.jsonc_input.specs.Views.{plain}
-use Rattle.jsonc_input.specs.declared.value.CstInputValue.{CstInputValue}
-use Rattle.jsonc_to_input.specs.Taken.{IsTaken}
+use Rattle.jsonc_sound.specs.Shape.{DocumentShaped}
+use Rattle.jsonc_layout.specs.input.Views.{plain}
+use Rattle.jsonc_layout.specs.declared.input.value.CstInputValue.{CstInputValue}
+use Rattle.jsonc_layout.specs.to_input.Taken.{IsTaken}
 use Rattle.jsonc_cst.specs.declared.cst.CstRootNode.{CstRootNode}
 use Rattle.jsonc_cst.specs.declared.cst.node.CstObject.{CstObject}
 use Rattle.jsonc_cst.specs.declared.cst.node.CstObjectProp.{CstObjectProp}

@@ -2,9 +2,9 @@
 
 use crate::reading::read;
 use jsonc_edit::find;
-use jsonc_from_input::{Layout, lay_out_property};
+use jsonc_layout::from_input::{Layout, lay_out_property};
+use jsonc_layout::to_input::to_value;
 use jsonc_parser::cst::{CstInputValue, CstNode, CstRootNode, Edit, run};
-use jsonc_to_input::to_value;
 use jsonc_tree::{CstNewlineKind, Tree};
 use refusing::awaited::prints;
 use refusing::outcome::Outcome;

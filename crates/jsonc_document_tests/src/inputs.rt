@@ -1,8 +1,8 @@
 //! Values handed to edits, and the spelling of strings.
 
-use jsonc_from_input::{Layout, lay_out};
-use jsonc_input::CstInputValue;
-use jsonc_input::spelling::spell;
+use jsonc_layout::from_input::{Layout, lay_out};
+use jsonc_layout::input::CstInputValue;
+use jsonc_layout::input::spelling::spell;
 use jsonc_tree::{CstNewlineKind, Tree};
 use refusing::Refusing;
 use refusing::awaited::prints;

@@ -10,13 +10,13 @@ use Rattle.jsonc_tree.specs.Order.{below, in_order}
 use Rattle.jsonc_tree.specs.OrderedTree.{own_leaf}
 use Rattle.jsonc_tree.specs.Tree.{Node, content_at, parent_at, children_at, place_at, IsTree, IsOver, itself, above}
 use Rattle.jsonc_tree.proofs.Order.{flat_map_same, in_order_is, line_long, line_of, over_step, parent_there, steady}
-use Rattle.jsonc_nodes.specs.Kinds.{is_comment, is_trivia, is_comment_at, is_trivia_at}
-use Rattle.jsonc_nodes.specs.Siblings.{AreThere}
-use Rattle.jsonc_laws.specs.MarkChanges.{AreBlanks}
-use Rattle.jsonc_laws.specs.Marks as marks
-use Rattle.jsonc_laws.specs.Marks.{comments_of, marks_of}
-use Rattle.jsonc_laws.specs.TriviaChanges.{AreTrivia}
-use Rattle.jsonc_laws.proofs.GivingWay.{marks_join}
+use Rattle.jsonc_layout.specs.nodes.Kinds.{is_comment, is_trivia, is_comment_at, is_trivia_at}
+use Rattle.jsonc_layout.specs.nodes.Siblings.{AreThere}
+use Rattle.jsonc_sound.specs.MarkChanges.{AreBlanks}
+use Rattle.jsonc_sound.specs.Marks as marks
+use Rattle.jsonc_sound.specs.Marks.{comments_of, marks_of}
+use Rattle.jsonc_sound.specs.TriviaChanges.{AreTrivia}
+use Rattle.jsonc_sound.proofs.GivingWay.{marks_join}
 use Rattle.jsonc_edit.specs.Comments.{comment_at}
 use Rattle.jsonc_edit.specs.Put.{StandsBefore}
 use Rattle.jsonc_edit.proofs.InOrder.{leaf_at, spliced_order}

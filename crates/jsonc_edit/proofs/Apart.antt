@@ -13,25 +13,25 @@ use Rattle.jsonc_tree.proofs.Order.{not_over_parent, parent_there}
 use Rattle.jsonc_tree.proofs.Over.{sibling_not_over}
 use Rattle.jsonc_tree.proofs.OrderedTrees.{Shows-unique}
 use Rattle.jsonc_tree.proofs.Rows.{Shows-append, Shows-part}
-use Rattle.jsonc_nodes.specs.Kinds.{is_element_at}
-use Rattle.jsonc_laws.specs.Below.build.Lines.{LinesEnd, is_loose, LinesEndLoosely}
-use Rattle.jsonc_laws.specs.Below.build.Shape as shape
-use Rattle.jsonc_laws.specs.Below.build.Shape.{Trivia, token_then}
-use Rattle.jsonc_laws.specs.Rows as rows
-use Rattle.jsonc_laws.specs.Rows.{RowKind, Last, closing}
-use Rattle.jsonc_laws.specs.Sound.{IsValueBefore}
-use Rattle.jsonc_laws.proofs.HeldValues.{document_held}
-use Rattle.jsonc_laws.specs.TreeChanges.{IsElement, leaves_of, DocumentChanged}
-use Rattle.jsonc_laws.specs.Adjacent.{or_else, last_printed}
-use Rattle.jsonc_laws.specs.Alone as alone
-use Rattle.jsonc_laws.specs.Alone.{ValueAlone, RowAlone, PropertyAlone}
-use Rattle.jsonc_laws.specs.InRows.{row_around, holding}
-use Rattle.jsonc_laws.specs.SoundTrees.{SoundTree}
-use Rattle.jsonc_laws.specs.Spaces.{is_bare, is_bare_leaf, first_printed, meet}
-use Rattle.jsonc_laws.proofs.Apart.{value_alone, document_alone}
-use Rattle.jsonc_laws.proofs.Below.build.LooseLines.{loosens}
-use Rattle.jsonc_laws.proofs.RowsTell.{kept_by_value_in_row, kept_by_value_in_root, kept_by_value_in_property}
-use Rattle.jsonc_laws.proofs.Spaces.{first_append}
+use Rattle.jsonc_layout.specs.nodes.Kinds.{is_element_at}
+use Rattle.jsonc_sound.specs.Lines.{LinesEnd, is_loose, LinesEndLoosely}
+use Rattle.jsonc_sound.specs.Shape as shape
+use Rattle.jsonc_sound.specs.Shape.{Trivia, token_then}
+use Rattle.jsonc_sound.specs.Rows as rows
+use Rattle.jsonc_sound.specs.Rows.{RowKind, Last, closing}
+use Rattle.jsonc_sound.specs.Sound.{IsValueBefore}
+use Rattle.jsonc_sound.proofs.HeldValues.{document_held}
+use Rattle.jsonc_sound.specs.TreeChanges.{IsElement, leaves_of, DocumentChanged}
+use Rattle.jsonc_sound.specs.Adjacent.{or_else, last_printed}
+use Rattle.jsonc_sound.specs.Alone as alone
+use Rattle.jsonc_sound.specs.Alone.{ValueAlone, RowAlone, PropertyAlone}
+use Rattle.jsonc_sound.specs.InRows.{row_around, holding}
+use Rattle.jsonc_sound.specs.SoundTrees.{SoundTree}
+use Rattle.jsonc_sound.specs.Spaces.{is_bare, is_bare_leaf, first_printed, meet}
+use Rattle.jsonc_sound.proofs.Apart.{value_alone, document_alone}
+use Rattle.jsonc_sound.proofs.LooseLines.{loosens}
+use Rattle.jsonc_sound.proofs.RowsTell.{kept_by_value_in_row, kept_by_value_in_root, kept_by_value_in_property}
+use Rattle.jsonc_sound.proofs.Spaces.{first_append}
 use Rattle.jsonc_edit.specs.Due.{nearest, begins_bare, ends_bare, seen_before, seen_behind, behind_holder, behind_property}
 use Rattle.jsonc_edit.proofs.Whole.{IsWhole, whole_leaf, whole_value, whole_property, Whole, more_whole, whole_before, whole_behind, value_row_whole, property_whole, root_whole}
 use Rattle.jsonc_edit.proofs.Meeting.{Printed, value_first, value_last, front_bare, back_bare}

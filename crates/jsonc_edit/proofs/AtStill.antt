@@ -6,10 +6,10 @@ use Rattle.jsonc_tree.specs.Content.{property}
 use Rattle.jsonc_tree.specs.Tree.{Node, content_at, parent_at, children_at, IsTree, IsOver}
 use Rattle.jsonc_tree.proofs.Order.{not_over_parent}
 use Rattle.jsonc_tree.proofs.Over.{over_up}
-use Rattle.jsonc_nodes.specs.Kinds.{is_element, is_element_at}
-use Rattle.jsonc_nodes.specs.Properties.{value_at}
-use Rattle.jsonc_nodes.specs.Siblings.{elements_at}
-use Rattle.jsonc_nodes.proofs.Held.{IsAlike, held_alike, held_in, same_kind, value_is_held}
+use Rattle.jsonc_layout.specs.nodes.Kinds.{is_element, is_element_at}
+use Rattle.jsonc_layout.specs.nodes.Properties.{value_at}
+use Rattle.jsonc_layout.specs.nodes.Siblings.{elements_at}
+use Rattle.jsonc_layout.proofs.lemmas.nodes.Held.{IsAlike, held_alike, held_in, same_kind, value_is_held}
 use Rattle.jsonc_edit.specs.Paths.{IsElementOf, StepsTo, LeadsTo, itself, step, IsAt}
 use Rattle.jsonc_edit.proofs.Kept.{filter_same}
 use Rattle.jsonc_edit.proofs.Uniqueness.{element_parent, leads_over}

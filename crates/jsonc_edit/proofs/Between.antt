@@ -11,8 +11,8 @@ use Rattle.jsonc_tree.proofs.Order.{not_over_parent}
 use Rattle.jsonc_tree.proofs.Over.{over_up, sibling_not_over}
 use Rattle.jsonc_tree.proofs.OrderedTrees.{leaves-followed_by}
 use Rattle.jsonc_tree.proofs.Rows.{Shows-append, Shows-part}
-use Rattle.jsonc_laws.specs.Adjacent.{first_char}
-use Rattle.jsonc_laws.specs.Spaces.{is_bare, space_then}
+use Rattle.jsonc_sound.specs.Adjacent.{first_char}
+use Rattle.jsonc_sound.specs.Spaces.{is_bare, space_then}
 use Rattle.jsonc_edit.specs.Due.{prints_at, nearest, begins_bare, ends_bare, seen_before, seen_behind, listed, behind_holder, prints_within}
 use Rattle.jsonc_tree.specs.Siblings.{siblings_after}
 use Rattle.jsonc_edit.specs.Put.{a_space, StandsBefore, AreSpaced}

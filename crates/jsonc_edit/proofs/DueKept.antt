@@ -9,10 +9,10 @@ use Rattle.jsonc_tree.specs.Order.{with_parent}
 use Rattle.jsonc_tree.specs.Siblings.{first, row_of, siblings_after, siblings_before}
 use Rattle.jsonc_tree.specs.Tree.{Node, content_at, parent_at, children_at, place_at, place_among, place_under, IsTree}
 use Rattle.jsonc_tree.proofs.Order.{parent_there}
-use Rattle.jsonc_nodes.specs.Siblings.{AreThere, IsThere}
-use Rattle.jsonc_nodes.proofs.There.{All-reverse, children_there, after_there, before_there, find_there}
-use Rattle.jsonc_laws.specs.Adjacent.{or_else}
-use Rattle.jsonc_laws.specs.Spaces.{is_bare}
+use Rattle.jsonc_layout.specs.nodes.Siblings.{AreThere, IsThere}
+use Rattle.jsonc_layout.proofs.lemmas.nodes.There.{All-reverse, children_there, after_there, before_there, find_there}
+use Rattle.jsonc_sound.specs.Adjacent.{or_else}
+use Rattle.jsonc_sound.specs.Spaces.{is_bare}
 use Rattle.jsonc_edit.specs.Due.{prints, prints_at, nearest, beginning_in, is_bare_at, begins_bare, ends_bare, seen_before, seen_behind, behind_holder, behind_property, due_before, due_behind, due_between, is_other, prints_within}
 
 module _ (old new : List Node) (tree : IsTree old) (keeps : Keeps (length old) old new) where

@@ -4,8 +4,8 @@ use Rattle.std.proofs.lemmas.Bool.{cases_Bool}
 use Rattle.jsonc_tree.specs.Tree.{Node, content_at}
 use Rattle.jsonc_tree.specs.Values.{is_passed_over}
 use Rattle.jsonc_tree.specs.OrderedTree.{OrderedTree, more, followed_by, Shows, shows_none, shows_more, Top}
-use Rattle.jsonc_nodes.specs.Kinds.{is_element_at}
-use Rattle.jsonc_laws.specs.TreeChanges.{ElementChanged, passed, later_element}
+use Rattle.jsonc_layout.specs.nodes.Kinds.{is_element_at}
+use Rattle.jsonc_sound.specs.TreeChanges.{ElementChanged, passed, later_element}
 
 pub Some_same : (m n : ℕ) → Some m ≡ Some n → m ≡ n
 Some_same m n e = cc

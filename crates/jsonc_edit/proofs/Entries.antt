@@ -5,8 +5,8 @@ use Rattle.jsonc_text.specs.Options.{Options}
 use Rattle.jsonc_tree.specs.Content.{Content, is_container}
 use Rattle.jsonc_tree.specs.OrderedTree.{OrderedTree, none, more}
 use Rattle.jsonc_tree.specs.Values.{is_passed_over}
-use Rattle.jsonc_laws.specs.Below.build.Shape.{IsTrivia, IsLiteralBefore, IsNameBefore, Trivia, nothing, trivia, Separated, comma, no_comma, Closed, plain, trailing_comma, token_then, printed_text, ValueShaped, ElementsShaped, PropertiesShaped, PropertyShaped, DocumentShaped, no_value, a_value}
-use Rattle.jsonc_laws.specs.TreeChanges.{IsElement}
+use Rattle.jsonc_sound.specs.Shape.{IsTrivia, IsLiteralBefore, IsNameBefore, Trivia, nothing, trivia, Separated, comma, no_comma, Closed, plain, trailing_comma, token_then, printed_text, ValueShaped, ElementsShaped, PropertiesShaped, PropertyShaped, DocumentShaped, no_value, a_value}
+use Rattle.jsonc_sound.specs.TreeChanges.{IsElement}
 
 -- in the row stands, behind so many elements, a node of this content over these
 pub data Entry (content : Content) (below : OrderedTree) : ℕ → OrderedTree → Type 0 where

@@ -5,8 +5,8 @@ use Rattle.jsonc_text.specs.Options.{Options}
 use Rattle.jsonc_tree.specs.Tree.{Node, content_at, parent_at, IsTree, IsOver}
 use Rattle.jsonc_tree.specs.OrderedTree.{ordered_tree}
 use Rattle.jsonc_tree.proofs.Order.{over_step}
-use Rattle.jsonc_laws.specs.Below.build.Shape.{DocumentShaped}
-use Rattle.jsonc_nodes.specs.Kinds.{is_property}
+use Rattle.jsonc_sound.specs.Shape.{DocumentShaped}
+use Rattle.jsonc_layout.specs.nodes.Kinds.{is_property}
 use Rattle.jsonc_edit.specs.Reading.{layout_for, commas_told_by}
 use Rattle.jsonc_edit.specs.Writing.{FitsLayout}
 use Rattle.jsonc_edit.proofs.FittingCommas.{commas_fit}

@@ -8,13 +8,13 @@ use Rattle.jsonc_tree.specs.Content.{Content}
 use Rattle.jsonc_tree.specs.Order.{with_parent}
 use Rattle.jsonc_tree.specs.Tree.{Node, content_at, children_at, place_at, IsTree, IsOver}
 use Rattle.jsonc_tree.specs.OrderedTree.{OrderedTree, none, more, Shows, shows_none, shows_more, ordered_tree}
-use Rattle.jsonc_laws.specs.Below.build.Shape.{IsTrivia, Trivia, nothing, trivia, Separated, comma, no_comma, Closed, plain, trailing_comma, token_then, printed_text, ValueShaped, ElementsShaped, PropertiesShaped, DocumentShaped}
-use Rattle.jsonc_nodes.specs.Kinds.{is_element_at, is_trivia}
-use Rattle.jsonc_nodes.specs.Siblings.{siblings_after}
-use Rattle.jsonc_laws.specs.TreeChanges.{IsElement}
-use Rattle.jsonc_lines.specs.Kinds.{is_comma, holds_values}
-use Rattle.jsonc_lines.specs.Siblings.{is_no_trivia_at, after_trivia_at, if_comma, trailing_comma_at}
-use Rattle.jsonc_lines.specs.Breadth.{levels, breadth_first, last_element, is_spaced, ends_with_comma, uses_trailing_commas_at}
+use Rattle.jsonc_sound.specs.Shape.{IsTrivia, Trivia, nothing, trivia, Separated, comma, no_comma, Closed, plain, trailing_comma, token_then, printed_text, ValueShaped, ElementsShaped, PropertiesShaped, DocumentShaped}
+use Rattle.jsonc_layout.specs.nodes.Kinds.{is_element_at, is_trivia}
+use Rattle.jsonc_layout.specs.nodes.Siblings.{siblings_after}
+use Rattle.jsonc_sound.specs.TreeChanges.{IsElement}
+use Rattle.jsonc_layout.specs.lines.Kinds.{is_comma, holds_values}
+use Rattle.jsonc_layout.specs.lines.Siblings.{is_no_trivia_at, after_trivia_at, if_comma, trailing_comma_at}
+use Rattle.jsonc_layout.specs.lines.Breadth.{levels, breadth_first, last_element, is_spaced, ends_with_comma, uses_trailing_commas_at}
 use Rattle.jsonc_edit.specs.Changes.{row_below}
 use Rattle.jsonc_edit.proofs.Elements.{Some_same}
 use Rattle.jsonc_edit.proofs.Entries.{Passed, not_both, trivia_passed, value_element}

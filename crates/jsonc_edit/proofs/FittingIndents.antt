@@ -16,13 +16,13 @@ use Rattle.jsonc_tree.specs.Content.{Content, text_of}
 use Rattle.jsonc_tree.specs.Order.{text_at, with_parent, line_up, upward}
 use Rattle.jsonc_tree.specs.Tree.{Node, content_at, parent_at, children_at, place_at, IsTree, IsOver}
 use Rattle.jsonc_tree.specs.OrderedTree.{OrderedTree, ordered_tree}
-use Rattle.jsonc_laws.specs.Below.build.Leaves.{is_inner_blank}
-use Rattle.jsonc_laws.specs.Below.build.Shape.{IsTrivia, IsLiteralBefore, IsNameBefore, ValueShaped, DocumentShaped}
-use Rattle.jsonc_nodes.specs.Kinds.{is_element_at, is_whitespace, is_whitespace_at, is_property}
-use Rattle.jsonc_nodes.specs.Properties.{element_from}
-use Rattle.jsonc_nodes.specs.Siblings.{is_no_newline_at, row_of, root_above, siblings_before, line_before}
-use Rattle.jsonc_lines.specs.Lines.{begins_line, first_blank_at, blanks, blanks_at, indent_at}
-use Rattle.jsonc_lines.specs.Indents.{IndentTexts, is_some_property, beyond_properties, above_properties, levels_among, levels_above, more_of, held_after, repeated, levels_in, told_by, told_at, first_indent, first_indent_in, document_indent, only_indent, single_at, indents_at}
+use Rattle.jsonc_sound.specs.Leaves.{is_inner_blank}
+use Rattle.jsonc_sound.specs.Shape.{IsTrivia, IsLiteralBefore, IsNameBefore, ValueShaped, DocumentShaped}
+use Rattle.jsonc_layout.specs.nodes.Kinds.{is_element_at, is_whitespace, is_whitespace_at, is_property}
+use Rattle.jsonc_layout.specs.nodes.Properties.{element_from}
+use Rattle.jsonc_layout.specs.nodes.Siblings.{is_no_newline_at, row_of, root_above, siblings_before, line_before}
+use Rattle.jsonc_layout.specs.lines.Lines.{begins_line, first_blank_at, blanks, blanks_at, indent_at}
+use Rattle.jsonc_layout.specs.lines.Indents.{IndentTexts, is_some_property, beyond_properties, above_properties, levels_among, levels_above, more_of, held_after, repeated, levels_in, told_by, told_at, first_indent, first_indent_in, document_indent, only_indent, single_at, indents_at}
 use Rattle.jsonc_edit.specs.Changes.{row_below}
 use Rattle.jsonc_edit.specs.Writing.{IsIndent}
 use Rattle.jsonc_edit.proofs.FittingFinds.{found_one}

@@ -7,7 +7,7 @@ use Rattle.jsonc_tree.specs.Tree.{Node, content_at, parent_at, children_at, plac
 use Rattle.jsonc_tree.specs.OrderedTree.{OrderedTree, none, more, Shows, shows_none, shows_more, ordered_tree}
 use Rattle.jsonc_tree.proofs.Order.{parent_there}
 use Rattle.jsonc_tree.proofs.OrderedTrees.{Shows-unique}
-use Rattle.jsonc_laws.specs.Below.build.Shape.{IsTrivia, IsNameBefore, Trivia, nothing, trivia, Separated, comma, no_comma, Closed, plain, trailing_comma, token_then, printed_text, ValueShaped, ElementsShaped, PropertiesShaped, PropertyShaped, DocumentShaped, no_value, a_value}
+use Rattle.jsonc_sound.specs.Shape.{IsTrivia, IsNameBefore, Trivia, nothing, trivia, Separated, comma, no_comma, Closed, plain, trailing_comma, token_then, printed_text, ValueShaped, ElementsShaped, PropertiesShaped, PropertyShaped, DocumentShaped, no_value, a_value}
 use Rattle.jsonc_edit.specs.Changes.{row_below}
 use Rattle.jsonc_edit.proofs.Walk.{Shows-row_below, document_is}
 

@@ -12,11 +12,11 @@ use Rattle.jsonc_tree.specs.Building.{Builds, Keeps}
 use Rattle.jsonc_tree.proofs.Order.{parent_there}
 use Rattle.jsonc_tree.proofs.Splicing.{in_at, out_from}
 use Rattle.jsonc_tree.proofs.Appending.{CanJoin-one}
-use Rattle.jsonc_laws.specs.TreeChanges.{IsElement, DocumentChanged}
-use Rattle.jsonc_from_input.specs.Layout.{Layout}
-use Rattle.jsonc_from_input.specs.Laid.{laid}
+use Rattle.jsonc_sound.specs.TreeChanges.{IsElement, DocumentChanged}
+use Rattle.jsonc_layout.specs.from_input.Layout.{Layout}
+use Rattle.jsonc_layout.specs.from_input.Laid.{laid}
 use Rattle.jsonc_tree.specs.OrderedTree.{OrderedTree, ordered_tree, Top}
-use Rattle.jsonc_laws.specs.Spaces.{is_bare}
+use Rattle.jsonc_sound.specs.Spaces.{is_bare}
 use Rattle.jsonc_edit.specs.Due.{due_around, due_before, due_behind, listed}
 use Rattle.jsonc_edit.specs.Put.{AreAtHand, AreChildren, AreSpaced, Prepared, nodes_of}
 use Rattle.jsonc_edit.specs.declared.put.Spaces.{Spaces}

@@ -5,13 +5,13 @@ use Rattle.jsonc_text.specs.Grammar.{IsDocument}
 use Rattle.jsonc_tree.specs.Content.{root, comment}
 use Rattle.jsonc_tree.specs.OrderedTree.{leaves, ordered_tree}
 use Rattle.jsonc_tree.specs.Tree.{Node, content_at, IsTree, IsOver}
-use Rattle.jsonc_nodes.specs.Kinds.{is_comment}
-use Rattle.jsonc_laws.specs.Below.build.Shape.{printed_text}
-use Rattle.jsonc_laws.specs.MarkChanges.{MarksDifferIn}
-use Rattle.jsonc_laws.specs.Marks.{comment_mark, marks}
-use Rattle.jsonc_laws.specs.SoundTrees.{SoundTree}
-use Rattle.jsonc_laws.proofs.Below.build.ShapeValues.{document_printed}
-use Rattle.jsonc_laws.proofs.GivingWay.{one_mark_leaves}
+use Rattle.jsonc_layout.specs.nodes.Kinds.{is_comment}
+use Rattle.jsonc_sound.specs.Shape.{printed_text}
+use Rattle.jsonc_sound.specs.MarkChanges.{MarksDifferIn}
+use Rattle.jsonc_sound.specs.Marks.{comment_mark, marks}
+use Rattle.jsonc_sound.specs.SoundTrees.{SoundTree}
+use Rattle.jsonc_sound.proofs.ShapeValues.{document_printed}
+use Rattle.jsonc_sound.proofs.GivingWay.{one_mark_leaves}
 use Rattle.jsonc_edit.specs.Comments.{CommentLeaves, CommentLeavesAlone, CommentTaken, IsCommentGone, LosesComment, TakesOut}
 use Rattle.jsonc_edit.proofs.OneValue.{document_once}
 use Rattle.jsonc_edit.proofs.Spacing.{spaces_marks}

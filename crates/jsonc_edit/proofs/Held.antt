@@ -3,7 +3,7 @@ use Rattle.std.proofs.Common.{◌≡◌, ℕ, List, [], ◌∷◌, ◌++◌, sub
 use Rattle.jsonc_tree.specs.Content.{Content, array, object}
 use Rattle.jsonc_tree.specs.OrderedTree.{OrderedTree, none, more, Replaced, here, deeper, later, Top}
 use Rattle.jsonc_tree.specs.Tree.{Node, content_at}
-use Rattle.jsonc_laws.specs.TreeChanges.{ElementChanged, this_element, passed, later_element, ValueChanged, DocumentChanged, in_root}
+use Rattle.jsonc_sound.specs.TreeChanges.{ElementChanged, this_element, passed, later_element, ValueChanged, DocumentChanged, in_root}
 use Rattle.jsonc_edit.specs.Paths.{IsElementOf, IsHeldBy, StepsTo, in_array, in_object, LeadsTo, itself, step, IsAt}
 use Rattle.jsonc_edit.proofs.Standing.{at_further}
 

@@ -14,8 +14,8 @@ use Rattle.jsonc_tree.specs.Tree.{Node, content_at, parent_at, children_at, plac
 use Rattle.jsonc_tree.proofs.Order.{flat_map_same, following_end, following_next, following_up, in_order_is, not_over_parent, parent_there, rest_down, rest_over}
 use Rattle.jsonc_tree.proofs.OrderedTrees.{Shows-ordered_tree}
 use Rattle.jsonc_tree.proofs.Over.{over_up, sibling_not_over}
-use Rattle.jsonc_nodes.specs.Siblings.{AreThere}
-use Rattle.jsonc_nodes.proofs.There.{children_there}
+use Rattle.jsonc_layout.specs.nodes.Siblings.{AreThere}
+use Rattle.jsonc_layout.proofs.lemmas.nodes.There.{children_there}
 
 -- the leaf that a node is, and none of a container
 abbrev pub leaf_at : List Node → ℕ → List Content

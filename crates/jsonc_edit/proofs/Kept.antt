@@ -8,10 +8,10 @@ use Rattle.jsonc_tree.specs.Building.{Keeps, Builds}
 use Rattle.jsonc_tree.proofs.Order.{parent_there}
 use Rattle.jsonc_tree.proofs.OrderedTrees.{Shows-unique}
 use Rattle.jsonc_tree.proofs.Builder.{Shows-keeps}
-use Rattle.jsonc_nodes.specs.Kinds.{is_element, is_element_at}
-use Rattle.jsonc_nodes.specs.Properties.{value_at}
-use Rattle.jsonc_nodes.specs.Siblings.{elements_at}
-use Rattle.jsonc_nodes.proofs.Held.{IsAlike, held_alike, held_in, same_kind, value_is_held}
+use Rattle.jsonc_layout.specs.nodes.Kinds.{is_element, is_element_at}
+use Rattle.jsonc_layout.specs.nodes.Properties.{value_at}
+use Rattle.jsonc_layout.specs.nodes.Siblings.{elements_at}
+use Rattle.jsonc_layout.proofs.lemmas.nodes.Held.{IsAlike, held_alike, held_in, same_kind, value_is_held}
 use Rattle.jsonc_edit.specs.Paths.{IsElementOf, StepsTo, LeadsTo, itself, step, IsAt}
 use Rattle.jsonc_edit.specs.Changes.{row_below, top_at}
 use Rattle.jsonc_edit.proofs.Uniqueness.{element_there}

@@ -47,3 +47,4 @@ pub mod SeamsOfComments
 pub mod AtStill
 pub mod SeamsParting
 pub mod SeamsOfEntries
+pub mod lemmas

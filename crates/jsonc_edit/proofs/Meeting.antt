@@ -9,18 +9,18 @@ use Rattle.jsonc_tree.specs.Content.{Content, property, is_container}
 use Rattle.jsonc_tree.specs.OrderedTree.{OrderedTree, none, more, own_leaf, leaves, Shows, shows_none, shows_more}
 use Rattle.jsonc_tree.specs.Siblings.{first, row_of, siblings_after}
 use Rattle.jsonc_tree.specs.Tree.{Node, content_at, children_at, place_at}
-use Rattle.jsonc_laws.specs.Below.build.Shape as shape
-use Rattle.jsonc_laws.specs.Below.build.Shape.{Trivia, IsLiteralBefore}
-use Rattle.jsonc_laws.specs.Rows as rows
-use Rattle.jsonc_laws.specs.Rows.{RowKind, closing, Last}
-use Rattle.jsonc_laws.specs.Adjacent.{first_char, or_else, last_printed}
-use Rattle.jsonc_laws.specs.Alone as alone
-use Rattle.jsonc_laws.specs.Alone.{ValueAlone, RowAlone, PropertyAlone, StretchAlone}
-use Rattle.jsonc_laws.specs.Spaces.{is_bare, is_bare_leaf, first_printed, meet}
-use Rattle.jsonc_laws.proofs.Commas.{none_meet}
-use Rattle.jsonc_laws.proofs.RowsWithin.{LeafPrints, literal_prints, name_prints, ends_print, opening_print, closing_print, row_ends}
-use Rattle.jsonc_laws.proofs.Spaces.{own_last, first_append, last_append}
-use Rattle.jsonc_laws.proofs.Texts.{literal_leaf, name_leaf}
+use Rattle.jsonc_sound.specs.Shape as shape
+use Rattle.jsonc_sound.specs.Shape.{Trivia, IsLiteralBefore}
+use Rattle.jsonc_sound.specs.Rows as rows
+use Rattle.jsonc_sound.specs.Rows.{RowKind, closing, Last}
+use Rattle.jsonc_sound.specs.Adjacent.{first_char, or_else, last_printed}
+use Rattle.jsonc_sound.specs.Alone as alone
+use Rattle.jsonc_sound.specs.Alone.{ValueAlone, RowAlone, PropertyAlone, StretchAlone}
+use Rattle.jsonc_sound.specs.Spaces.{is_bare, is_bare_leaf, first_printed, meet}
+use Rattle.jsonc_sound.proofs.Commas.{none_meet}
+use Rattle.jsonc_sound.proofs.RowsWithin.{LeafPrints, literal_prints, name_prints, ends_print, opening_print, closing_print, row_ends}
+use Rattle.jsonc_sound.proofs.Spaces.{own_last, first_append, last_append}
+use Rattle.jsonc_sound.proofs.Texts.{literal_leaf, name_leaf}
 use Rattle.jsonc_edit.specs.Due.{prints, prints_at, nearest, beginning_in, begins_bare, ends_bare, is_bare_at, seen_before, behind_holder, due_between, prints_within}
 use Rattle.jsonc_edit.proofs.Whole as whole
 use Rattle.jsonc_edit.proofs.Whole.{IsWhole, Whole, row_whole, stretch_whole}

@@ -8,13 +8,13 @@ use Rattle.jsonc_tree.specs.Content.{property}
 use Rattle.jsonc_tree.specs.Tree.{Node, content_at, parent_at, children_at, place_at, IsTree, IsOver}
 use Rattle.jsonc_tree.proofs.Order.{not_over_parent}
 use Rattle.jsonc_tree.proofs.Over.{over_up}
-use Rattle.jsonc_nodes.specs.Kinds.{is_element, is_element_at}
-use Rattle.jsonc_nodes.specs.Properties.{value_at}
-use Rattle.jsonc_nodes.specs.Siblings.{elements_at}
-use Rattle.jsonc_nodes.proofs.Held.{IsAlike, held_alike, held_in, held_replaced, value_is_held}
-use Rattle.jsonc_nodes.proofs.Held as kinds
+use Rattle.jsonc_layout.specs.nodes.Kinds.{is_element, is_element_at}
+use Rattle.jsonc_layout.specs.nodes.Properties.{value_at}
+use Rattle.jsonc_layout.specs.nodes.Siblings.{elements_at}
+use Rattle.jsonc_layout.proofs.lemmas.nodes.Held.{IsAlike, held_alike, held_in, held_replaced, value_is_held}
+use Rattle.jsonc_layout.proofs.lemmas.nodes.Held as kinds
 use Rattle.jsonc_tree.specs.OrderedTree.{Top}
-use Rattle.jsonc_laws.specs.TreeChanges.{IsElement}
+use Rattle.jsonc_sound.specs.TreeChanges.{IsElement}
 use Rattle.jsonc_edit.specs.Paths.{IsElementOf, IsHeldBy, StepsTo, LeadsTo, itself, step, IsAt}
 use Rattle.jsonc_edit.proofs.Elements.{taken, left, StandsAt, stands_at}
 use Rattle.jsonc_edit.proofs.GivingWay.{InPlace}

@@ -9,11 +9,11 @@ use Rattle.jsonc_tree.specs.Order.{in_order}
 use Rattle.jsonc_tree.specs.OrderedTree.{leaves, ordered_tree, own_leaf}
 use Rattle.jsonc_tree.specs.Tree.{Node, content_at, parent_at, children_at, place_at, IsTree, IsOver}
 use Rattle.jsonc_tree.proofs.Order.{over_step, parent_there}
-use Rattle.jsonc_nodes.specs.Kinds.{is_comment_at}
-use Rattle.jsonc_nodes.specs.Siblings.{AreThere}
-use Rattle.jsonc_nodes.proofs.There.{children_there}
-use Rattle.jsonc_laws.specs.ChangeLaws.{DiffersIn}
-use Rattle.jsonc_laws.specs.Marks.{comments_of, marks_of}
+use Rattle.jsonc_layout.specs.nodes.Kinds.{is_comment_at}
+use Rattle.jsonc_layout.specs.nodes.Siblings.{AreThere}
+use Rattle.jsonc_layout.proofs.lemmas.nodes.There.{children_there}
+use Rattle.jsonc_sound.specs.ChangeLaws.{DiffersIn}
+use Rattle.jsonc_sound.specs.Marks.{comments_of, marks_of}
 use Rattle.jsonc_edit.specs.Comments.{comment_at, removed_from, CommentRemoved, leaves_gone}
 use Rattle.jsonc_edit.proofs.Ahead.{blanks_uncounted, comments_counted, picked, trivia_in_order, trivia_leaves}
 use Rattle.jsonc_edit.proofs.InOrder.{as_many_before, leaf_at, leaves_in_order, spliced_order, SplicedOrder}

@@ -7,7 +7,7 @@ use Rattle.jsonc_tree.specs.Content.{Content}
 use Rattle.jsonc_tree.specs.OrderedTree.{OrderedTree}
 use Rattle.jsonc_tree.specs.Values as values
 use Rattle.jsonc_tree.specs.Values.{IsNameLeaf, HasNoValue, ValueOf, ItemsOf, MembersOf, PropertyOf, HoldsValue, HoldsAtMostOne, DocumentValueOf}
-use Rattle.jsonc_laws.proofs.FirstNodes.{no_element, value_of_element, name_leaf_element}
+use Rattle.jsonc_sound.proofs.FirstNodes.{no_element, value_of_element, name_leaf_element}
 
 module _ (o : Options) where
   name_once : (content : Content) (a b : List ℕ) → IsNameLeaf o content a → IsNameLeaf o content b → a ≡ b

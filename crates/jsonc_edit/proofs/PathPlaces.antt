@@ -9,8 +9,8 @@ use Rattle.jsonc_tree.specs.Values.{is_passed_over}
 use Rattle.jsonc_tree.proofs.Order.{not_over_parent, parent_there}
 use Rattle.jsonc_tree.proofs.OrderedTrees.{Shows-unique}
 use Rattle.jsonc_tree.proofs.Rows.{Shows-part}
-use Rattle.jsonc_nodes.specs.Kinds.{is_element_at}
-use Rattle.jsonc_laws.specs.TreeChanges.{property_of}
+use Rattle.jsonc_layout.specs.nodes.Kinds.{is_element_at}
+use Rattle.jsonc_sound.specs.TreeChanges.{property_of}
 use Rattle.jsonc_edit.specs.Changes.{row_below, top_at, Replaces}
 use Rattle.jsonc_edit.specs.Paths.{IsElementOf, StepsTo, LeadsTo, IsAt}
 use Rattle.jsonc_edit.specs.Paths as paths

@@ -9,9 +9,9 @@ use Rattle.jsonc_tree.specs.Order.{with_parent}
 use Rattle.jsonc_tree.specs.Siblings.{row_of, siblings_after}
 use Rattle.jsonc_tree.specs.Tree.{Node, content_at, parent_at, children_at, place_at, IsTree, IsOver}
 use Rattle.jsonc_tree.proofs.Order.{not_over_parent}
-use Rattle.jsonc_laws.specs.TreeChanges.{IsElement}
-use Rattle.jsonc_laws.specs.Adjacent.{or_else}
-use Rattle.jsonc_laws.specs.Spaces.{is_bare}
+use Rattle.jsonc_sound.specs.TreeChanges.{IsElement}
+use Rattle.jsonc_sound.specs.Adjacent.{or_else}
+use Rattle.jsonc_sound.specs.Spaces.{is_bare}
 use Rattle.jsonc_edit.specs.Due.{prints_at, nearest, beginning_in, is_bare_at, begins_bare, ends_bare, seen_before, seen_behind, behind_holder, behind_property, due_before, due_behind, due_between, due_around, listed, prints_within}
 
 -- a node before which a space may come, and that is no part of n: nor is its container

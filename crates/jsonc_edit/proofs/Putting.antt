@@ -14,12 +14,12 @@ use Rattle.jsonc_tree.proofs.Order.{over_step, parent_there}
 use Rattle.jsonc_tree.proofs.Over.{over_up}
 use Rattle.jsonc_tree.proofs.OrderedTrees.{Shows-ordered_tree}
 use Rattle.jsonc_tree.proofs.Rows.{Shows-append, Shows-part, Shows-kept, followed_by-assoc}
-use Rattle.jsonc_nodes.specs.Kinds.{is_element, is_element_at}
-use Rattle.jsonc_nodes.specs.Siblings.{elements_at}
-use Rattle.jsonc_laws.specs.TreeChanges.{IsElement}
-use Rattle.jsonc_laws.specs.InRows as rows
-use Rattle.jsonc_laws.specs.InRows.{SpaceCome, before_element, SpacePut}
-use Rattle.jsonc_laws.specs.Spaces.{space_then}
+use Rattle.jsonc_layout.specs.nodes.Kinds.{is_element, is_element_at}
+use Rattle.jsonc_layout.specs.nodes.Siblings.{elements_at}
+use Rattle.jsonc_sound.specs.TreeChanges.{IsElement}
+use Rattle.jsonc_sound.specs.InRows as rows
+use Rattle.jsonc_sound.specs.InRows.{SpaceCome, before_element, SpacePut}
+use Rattle.jsonc_sound.specs.Spaces.{space_then}
 use Rattle.jsonc_edit.specs.Put.{a_space, StandsBefore}
 
 -- the document is its root over a row

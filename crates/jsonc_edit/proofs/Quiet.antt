@@ -11,9 +11,9 @@ use Rattle.jsonc_tree.specs.Order.{with_parent}
 use Rattle.jsonc_tree.specs.Tree.{Node, content_at, parent_at, children_at, place_at, place_among, place_under, IsTree, IsOver}
 use Rattle.jsonc_tree.specs.Siblings.{first, row_of, siblings_after, siblings_before}
 use Rattle.jsonc_tree.proofs.Order.{not_over_parent}
-use Rattle.jsonc_laws.specs.Adjacent.{or_else}
-use Rattle.jsonc_laws.specs.Spaces.{is_bare}
-use Rattle.jsonc_laws.proofs.Spaced.{space_first}
+use Rattle.jsonc_sound.specs.Adjacent.{or_else}
+use Rattle.jsonc_sound.specs.Spaces.{is_bare}
+use Rattle.jsonc_sound.proofs.Spaced.{space_first}
 use Rattle.jsonc_edit.specs.Due.{prints, prints_at, nearest, beginning_in, beginning_of, end_of, is_bare_at, begins_bare, ends_bare, seen_before, behind_property, behind_holder, seen_behind, listed, due_around}
 use Rattle.jsonc_edit.specs.Put.{a_space, StandsBefore, AreSpaced}
 use Rattle.jsonc_edit.proofs.Putting.{placed_ahead, placed_behind, place_within, space_no_container, contents_kept, parent_kept, children_kept, container_row}

@@ -10,22 +10,22 @@ use Rattle.jsonc_tree.specs.Tree.{Node, content_at, parent_at, children_at, plac
 use Rattle.jsonc_tree.proofs.Around.{Shows-spliced, Replaced-splice}
 use Rattle.jsonc_tree.proofs.Order.{over_step, parent_there}
 use Rattle.jsonc_tree.proofs.Rows.{Shows-part}
-use Rattle.jsonc_nodes.specs.Kinds.{is_whitespace, is_newline, is_comment, is_trivia, is_whitespace_at, is_newline_at, is_comment_at, is_trivia_at}
-use Rattle.jsonc_laws.specs.Below.build.Lines.{is_line_comment}
-use Rattle.jsonc_laws.specs.TriviaChanges.{AreTrivia, leaves_then, LeavesChanged, StretchChanged, in_root, inside, EndsInComment, one_comment, line_comment}
+use Rattle.jsonc_layout.specs.nodes.Kinds.{is_whitespace, is_newline, is_comment, is_trivia, is_whitespace_at, is_newline_at, is_comment_at, is_trivia_at}
+use Rattle.jsonc_sound.specs.Lines.{is_line_comment}
+use Rattle.jsonc_sound.specs.TriviaChanges.{AreTrivia, leaves_then, LeavesChanged, StretchChanged, in_root, inside, EndsInComment, one_comment, line_comment}
 use Rattle.jsonc_text.specs.Options.{Options}
 use Rattle.jsonc_tree.specs.Order.{with_parent}
 use Rattle.jsonc_tree.specs.Siblings.{row_of, siblings_after}
-use Rattle.jsonc_laws.specs.Adjacent.{first_char, or_else}
-use Rattle.jsonc_laws.proofs.Flat.{AllLeaves, begins_slash, behind_all, document_leaves_all}
-use Rattle.jsonc_laws.proofs.TriviaLeaves.{document_differs}
+use Rattle.jsonc_sound.specs.Adjacent.{first_char, or_else}
+use Rattle.jsonc_sound.proofs.Flat.{AllLeaves, begins_slash, behind_all, document_leaves_all}
+use Rattle.jsonc_sound.proofs.TriviaLeaves.{document_differs}
 use Rattle.jsonc_text.specs.Text.{starts}
-use Rattle.jsonc_laws.specs.SoundTrees.{SoundTree}
-use Rattle.jsonc_laws.specs.Spaces.{meet}
-use Rattle.jsonc_laws.proofs.Apart.{document_alone}
-use Rattle.jsonc_laws.proofs.RowsTell.{kept_without_comment_in_row}
-use Rattle.jsonc_laws.proofs.RowsWithin.{both_within}
-use Rattle.jsonc_laws.specs.MarkChanges.{AreBlanks}
+use Rattle.jsonc_sound.specs.SoundTrees.{SoundTree}
+use Rattle.jsonc_sound.specs.Spaces.{meet}
+use Rattle.jsonc_sound.proofs.Apart.{document_alone}
+use Rattle.jsonc_sound.proofs.RowsTell.{kept_without_comment_in_row}
+use Rattle.jsonc_sound.proofs.RowsWithin.{both_within}
+use Rattle.jsonc_sound.specs.MarkChanges.{AreBlanks}
 use Rattle.jsonc_edit.specs.Due.{prints, prints_at, nearest, begins_bare, ends_bare, seen_before, seen_behind, behind_holder}
 use Rattle.jsonc_edit.proofs.Whole.{Whole, whole_before, whole_behind, whole_within}
 use Rattle.jsonc_edit.proofs.Meeting.{meet_bare}

@@ -9,30 +9,30 @@ use Rattle.jsonc_tree.proofs.Order.{parent_there}
 use Rattle.jsonc_tree.specs.Values as values
 use Rattle.jsonc_tree.specs.Values.{HasNoValue, DocumentValueOf}
 use Rattle.jsonc_tree.proofs.Over.{over_up}
-use Rattle.jsonc_laws.specs.Below.build.Shape.{PrintsDocument, printed_text}
-use Rattle.jsonc_laws.specs.Below.build.Lines.{LinesEnd}
-use Rattle.jsonc_nodes.specs.Kinds.{is_element_at}
-use Rattle.jsonc_from_input.specs.Layout.{Layout}
-use Rattle.jsonc_from_input.proofs.Meanings.{laid_value}
-use Rattle.jsonc_laws.specs.Sound.{IsValueBefore}
-use Rattle.jsonc_laws.specs.TreeChanges.{IsElement, ElementChanged, DocumentChanged, in_root, leaves_of}
-use Rattle.jsonc_laws.specs.ChangeLaws.{DiffersIn}
-use Rattle.jsonc_laws.proofs.FirstNodes.{here, over, beyond, meets_first, none_changed, no_element}
-use Rattle.jsonc_laws.specs.MarkChanges.{MarksDifferIn, marks_under}
-use Rattle.jsonc_laws.specs.Marks.{marks}
-use Rattle.jsonc_laws.proofs.GivingWay.{values_marks}
-use Rattle.jsonc_laws.proofs.Laid.{laid_as_written}
-use Rattle.jsonc_laws.proofs.LeavesAround.{document_differs}
-use Rattle.jsonc_laws.proofs.Values.{document_change}
-use Rattle.jsonc_laws.specs.SoundTrees.{SoundTree}
-use Rattle.jsonc_laws.specs.Spaces.{is_bare}
-use Rattle.jsonc_laws.proofs.Below.build.ShapeValues.{document_printed}
+use Rattle.jsonc_sound.specs.Shape.{PrintsDocument, printed_text}
+use Rattle.jsonc_sound.specs.Lines.{LinesEnd}
+use Rattle.jsonc_layout.specs.nodes.Kinds.{is_element_at}
+use Rattle.jsonc_layout.specs.from_input.Layout.{Layout}
+use Rattle.jsonc_layout.proofs.lemmas.from_input.Meanings.{laid_value}
+use Rattle.jsonc_sound.specs.Sound.{IsValueBefore}
+use Rattle.jsonc_sound.specs.TreeChanges.{IsElement, ElementChanged, DocumentChanged, in_root, leaves_of}
+use Rattle.jsonc_sound.specs.ChangeLaws.{DiffersIn}
+use Rattle.jsonc_sound.proofs.FirstNodes.{here, over, beyond, meets_first, none_changed, no_element}
+use Rattle.jsonc_sound.specs.MarkChanges.{MarksDifferIn, marks_under}
+use Rattle.jsonc_sound.specs.Marks.{marks}
+use Rattle.jsonc_sound.proofs.GivingWay.{values_marks}
+use Rattle.jsonc_sound.proofs.Laid.{laid_as_written}
+use Rattle.jsonc_sound.proofs.LeavesAround.{document_differs}
+use Rattle.jsonc_sound.proofs.Values.{document_change}
+use Rattle.jsonc_sound.specs.SoundTrees.{SoundTree}
+use Rattle.jsonc_sound.specs.Spaces.{is_bare}
+use Rattle.jsonc_sound.proofs.ShapeValues.{document_printed}
 use Rattle.jsonc_edit.specs.Due.{due_around}
 use Rattle.jsonc_edit.proofs.Quiet.{none_due}
 use Rattle.jsonc_edit.specs.Changes.{top_at}
 use Rattle.jsonc_edit.specs.Paths.{IsAt}
 use Rattle.jsonc_edit.specs.Reading.{layout_for}
-use Rattle.jsonc_from_input.specs.Laid.{laid}
+use Rattle.jsonc_layout.specs.from_input.Laid.{laid}
 use Rattle.jsonc_edit.specs.Replacing.{GivesWay}
 use Rattle.jsonc_edit.specs.Spaced.{SpacesPut}
 use Rattle.jsonc_edit.specs.Writing.{FitsLayout, IsWritable}

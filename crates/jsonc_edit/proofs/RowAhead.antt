@@ -6,8 +6,8 @@ use Rattle.jsonc_text.proofs.Basics.{eq_test, test_eq}
 use Rattle.jsonc_tree.specs.Tree.{Node, content_at, parent_at, children_at, place_at, IsTree, IsOver}
 use Rattle.jsonc_tree.specs.Siblings.{siblings_after}
 use Rattle.jsonc_tree.proofs.Order.{not_over_parent}
-use Rattle.jsonc_nodes.specs.Kinds.{is_newline, is_newline_at, is_whitespace, is_whitespace_at}
-use Rattle.jsonc_laws.specs.Below.build.Lines.{is_line_comment}
+use Rattle.jsonc_layout.specs.nodes.Kinds.{is_newline, is_newline_at, is_whitespace, is_whitespace_at}
+use Rattle.jsonc_sound.specs.Lines.{is_line_comment}
 use Rattle.jsonc_edit.specs.Comments.{blanks_from, newline_from, removed_from}
 use Rattle.jsonc_edit.specs.Due.{nearest, behind_holder, seen_behind}
 use Rattle.jsonc_edit.specs.Put.{StandsBefore}

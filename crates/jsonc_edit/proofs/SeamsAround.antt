@@ -8,9 +8,9 @@ use Rattle.jsonc_tree.specs.Tree.{Node, content_at, parent_at, children_at, plac
 use Rattle.jsonc_tree.proofs.Order.{parent_there}
 use Rattle.jsonc_tree.proofs.OrderedTrees.{Shows-unique, leaves-followed_by}
 use Rattle.jsonc_tree.proofs.Rows.{Shows-append, Shows-part}
-use Rattle.jsonc_nodes.specs.Kinds.{is_whitespace, is_newline}
-use Rattle.jsonc_laws.specs.MarkChanges.{AreBlanks}
-use Rattle.jsonc_laws.specs.TreeChanges.{leaves_of}
+use Rattle.jsonc_layout.specs.nodes.Kinds.{is_whitespace, is_newline}
+use Rattle.jsonc_sound.specs.MarkChanges.{AreBlanks}
+use Rattle.jsonc_sound.specs.TreeChanges.{leaves_of}
 use Rattle.jsonc_edit.specs.Changes.{row_below, top_at}
 use Rattle.jsonc_edit.proofs.Walk.{Shows-row_below}
 use Rattle.jsonc_edit.specs.Seams.{StandsBetween, as_root, as_child}

@@ -10,13 +10,13 @@ use Rattle.jsonc_tree.specs.Changes.{Splices}
 use Rattle.jsonc_tree.proofs.Order.{not_over_parent, parent_there}
 use Rattle.jsonc_tree.proofs.OrderedTrees.{Shows-unique, leaves-followed_by}
 use Rattle.jsonc_tree.proofs.Rows.{Shows-append, Shows-part}
-use Rattle.jsonc_laws.specs.MarkChanges.{AreBlanks}
-use Rattle.jsonc_laws.specs.Adjacent.{last_printed}
-use Rattle.jsonc_laws.specs.Marks.{comments_of, marks_of}
-use Rattle.jsonc_laws.specs.SoundTrees.{SoundTree}
-use Rattle.jsonc_laws.specs.Spaces.{first_printed, is_bare_leaf}
-use Rattle.jsonc_laws.proofs.GivingWay.{blanks_unmarked, marks_join}
-use Rattle.jsonc_laws.specs.TreeChanges.{leaves_of}
+use Rattle.jsonc_sound.specs.MarkChanges.{AreBlanks}
+use Rattle.jsonc_sound.specs.Adjacent.{last_printed}
+use Rattle.jsonc_sound.specs.Marks.{comments_of, marks_of}
+use Rattle.jsonc_sound.specs.SoundTrees.{SoundTree}
+use Rattle.jsonc_sound.specs.Spaces.{first_printed, is_bare_leaf}
+use Rattle.jsonc_sound.proofs.GivingWay.{blanks_unmarked, marks_join}
+use Rattle.jsonc_sound.specs.TreeChanges.{leaves_of}
 use Rattle.jsonc_edit.specs.Changes.{row_below, top_at}
 use Rattle.jsonc_edit.specs.Comments.{comment_at, removed_from, due_without, CommentRemoved, CommentTaken}
 use Rattle.jsonc_edit.proofs.Kept.{tree_stays}
@@ -26,7 +26,7 @@ use Rattle.jsonc_edit.proofs.Elements.{Some_same}
 use Rattle.jsonc_edit.proofs.TakingOut.{over_keeps, parents_spaced, removed}
 use Rattle.jsonc_edit.specs.Due.{begins_bare, ends_bare, listed, prints_within, seen_before, seen_behind}
 use Rattle.jsonc_edit.specs.Put.{AreSpaced}
-use Rattle.jsonc_nodes.specs.Kinds.{is_comment}
+use Rattle.jsonc_layout.specs.nodes.Kinds.{is_comment}
 use Rattle.jsonc_edit.proofs.Walk.{ChangedIn, Shows-row_below, apart_kept}
 use Rattle.jsonc_edit.specs.SeamLaws.{comments_before, LosesWithSeam}
 use Rattle.jsonc_edit.specs.Seams.{space_if, is_due_between, StandsBetween, as_child}

@@ -7,12 +7,12 @@ use Rattle.jsonc_tree.specs.Order.{with_parent}
 use Rattle.jsonc_tree.specs.OrderedTree.{OrderedTree, none, more, own_leaf, leaves, followed_by, ordered_tree}
 use Rattle.jsonc_tree.specs.Siblings.{siblings_after}
 use Rattle.jsonc_tree.specs.Tree.{Node, content_at, parent_at, children_at, place_at, IsTree}
-use Rattle.jsonc_laws.specs.Adjacent.{last_printed, or_else}
-use Rattle.jsonc_laws.specs.SoundTrees.{SoundTree}
-use Rattle.jsonc_laws.specs.Spaces.{first_printed, is_bare_leaf}
-use Rattle.jsonc_laws.proofs.Apart.{document_alone}
-use Rattle.jsonc_laws.proofs.RowsWithin.{Within, here, deeper, later}
-use Rattle.jsonc_laws.proofs.Spaces.{first_append, last_append}
+use Rattle.jsonc_sound.specs.Adjacent.{last_printed, or_else}
+use Rattle.jsonc_sound.specs.SoundTrees.{SoundTree}
+use Rattle.jsonc_sound.specs.Spaces.{first_printed, is_bare_leaf}
+use Rattle.jsonc_sound.proofs.Apart.{document_alone}
+use Rattle.jsonc_sound.proofs.RowsWithin.{Within, here, deeper, later}
+use Rattle.jsonc_sound.proofs.Spaces.{first_append, last_append}
 use Rattle.jsonc_edit.specs.Changes.{row_below}
 use Rattle.jsonc_edit.specs.Due.{nearest, begins_bare, ends_bare, seen_before, seen_behind, behind_holder, behind_property}
 use Rattle.jsonc_edit.proofs.Meeting.{back_bare, front_bare, nothing_printed_back}

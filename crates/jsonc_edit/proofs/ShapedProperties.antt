@@ -5,10 +5,10 @@ use Rattle.jsonc_text.specs.Options.{Options}
 use Rattle.jsonc_tree.specs.Content.{Content, property, token}
 use Rattle.jsonc_tree.specs.Tree.{Node, content_at, children_at}
 use Rattle.jsonc_tree.specs.OrderedTree.{OrderedTree, none, more, Shows, shows_none, shows_more}
-use Rattle.jsonc_laws.specs.Below.build.Shape.{IsTrivia, IsNameBefore, Trivia, PropertyShaped, token_then, printed_text}
-use Rattle.jsonc_nodes.specs.Kinds.{is_element, is_colon, is_element_at, is_colon_at}
-use Rattle.jsonc_nodes.specs.Properties.{is_name, is_name_at, behind_first, value_at}
-use Rattle.jsonc_nodes.proofs.Held.{first_kept, held_in, value_is_held}
+use Rattle.jsonc_sound.specs.Shape.{IsTrivia, IsNameBefore, Trivia, PropertyShaped, token_then, printed_text}
+use Rattle.jsonc_layout.specs.nodes.Kinds.{is_element, is_colon, is_element_at, is_colon_at}
+use Rattle.jsonc_layout.specs.nodes.Properties.{is_name, is_name_at, behind_first, value_at}
+use Rattle.jsonc_layout.proofs.lemmas.nodes.Held.{first_kept, held_in, value_is_held}
 use Rattle.jsonc_edit.specs.Paths.{IsElementOf}
 use Rattle.jsonc_edit.proofs.Elements.{taken, left}
 

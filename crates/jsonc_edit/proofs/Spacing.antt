@@ -12,16 +12,16 @@ use Rattle.jsonc_tree.specs.Tree.{Node, content_at, parent_at, children_at, plac
 use Rattle.jsonc_tree.specs.Values.{DocumentValueOf}
 use Rattle.jsonc_tree.proofs.OrderedTrees.{Shows-unique}
 use Rattle.jsonc_tree.proofs.Over.{either_over}
-use Rattle.jsonc_nodes.specs.Kinds.{is_trivia}
-use Rattle.jsonc_nodes.specs.Properties.{value_at}
-use Rattle.jsonc_nodes.proofs.Held.{IsAlike, held_alike, held_beside, held_in, same_kind, value_is_held}
-use Rattle.jsonc_laws.specs.TreeChanges.{IsElement}
-use Rattle.jsonc_laws.proofs.TriviaValues.{document_kept}
-use Rattle.jsonc_laws.specs.InRows.{SpacePut}
-use Rattle.jsonc_laws.specs.Marks.{marks}
-use Rattle.jsonc_laws.specs.SoundTrees.{SoundTree}
-use Rattle.jsonc_laws.proofs.GivingWay.{space_keeps_marks}
-use Rattle.jsonc_laws.proofs.SpacePut.{document_put, kept_with_space}
+use Rattle.jsonc_layout.specs.nodes.Kinds.{is_trivia}
+use Rattle.jsonc_layout.specs.nodes.Properties.{value_at}
+use Rattle.jsonc_layout.proofs.lemmas.nodes.Held.{IsAlike, held_alike, held_beside, held_in, same_kind, value_is_held}
+use Rattle.jsonc_sound.specs.TreeChanges.{IsElement}
+use Rattle.jsonc_sound.proofs.TriviaValues.{document_kept}
+use Rattle.jsonc_sound.specs.InRows.{SpacePut}
+use Rattle.jsonc_sound.specs.Marks.{marks}
+use Rattle.jsonc_sound.specs.SoundTrees.{SoundTree}
+use Rattle.jsonc_sound.proofs.GivingWay.{space_keeps_marks}
+use Rattle.jsonc_sound.proofs.SpacePut.{document_put, kept_with_space}
 use Rattle.jsonc_edit.specs.Put.{a_space, StandsBefore, AreSpaced}
 use Rattle.jsonc_edit.proofs.Putting.{contents_kept, parent_kept, children_kept, container_row, row_kept, elements_kept, over_kept, over_before, no_parent_space, placed_ahead, placed_behind, placed_elsewhere, puts_space}
 use Rattle.jsonc_edit.specs.Changes.{row_below, top_at}

@@ -8,9 +8,9 @@ use Rattle.jsonc_tree.specs.OrderedTree.{OrderedTree, none, more, Shows, shows_n
 use Rattle.jsonc_tree.specs.Values.{is_passed_over}
 use Rattle.jsonc_tree.proofs.Order.{parent_there}
 use Rattle.jsonc_tree.proofs.OrderedTrees.{Shows-unique}
-use Rattle.jsonc_laws.specs.Below.build.Shape.{DocumentShaped}
-use Rattle.jsonc_nodes.specs.Kinds.{is_element_at}
-use Rattle.jsonc_laws.specs.TreeChanges.{IsElement}
+use Rattle.jsonc_sound.specs.Shape.{DocumentShaped}
+use Rattle.jsonc_layout.specs.nodes.Kinds.{is_element_at}
+use Rattle.jsonc_sound.specs.TreeChanges.{IsElement}
 use Rattle.jsonc_edit.specs.Paths.{IsElementOf, StepsTo, in_array, in_object, LeadsTo, itself, step, IsAt, Stands, as_root, as_value, as_property, as_name, between}
 use Rattle.jsonc_edit.specs.Changes.{row_below}
 use Rattle.jsonc_edit.proofs.Elements.{taken, left, found_among}

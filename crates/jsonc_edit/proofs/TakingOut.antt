@@ -11,11 +11,11 @@ use Rattle.jsonc_tree.specs.OrderedTree.{leaves, ordered_tree}
 use Rattle.jsonc_tree.specs.Tree.{Node, content_at, parent_at, children_at, place_at, IsTree, IsOver}
 use Rattle.jsonc_tree.specs.Values.{DocumentValueOf}
 use Rattle.jsonc_tree.proofs.Order.{parent_there}
-use Rattle.jsonc_nodes.specs.Kinds.{is_comment, is_newline, is_whitespace, is_whitespace_at}
-use Rattle.jsonc_laws.specs.Below.build.Lines.{is_line_comment}
-use Rattle.jsonc_laws.specs.ChangeLaws.{DiffersIn}
-use Rattle.jsonc_laws.proofs.TriviaValues.{document_kept}
-use Rattle.jsonc_laws.specs.SoundTrees.{SoundTree}
+use Rattle.jsonc_layout.specs.nodes.Kinds.{is_comment, is_newline, is_whitespace, is_whitespace_at}
+use Rattle.jsonc_sound.specs.Lines.{is_line_comment}
+use Rattle.jsonc_sound.specs.ChangeLaws.{DiffersIn}
+use Rattle.jsonc_sound.proofs.TriviaValues.{document_kept}
+use Rattle.jsonc_sound.specs.SoundTrees.{SoundTree}
 use Rattle.jsonc_edit.specs.Due as due
 use Rattle.jsonc_edit.specs.Due.{prints_at, prints_within, is_other, begins_bare, ends_bare, seen_before, seen_behind, due_between, listed}
 use Rattle.jsonc_edit.specs.Put.{AreChildren, AreSpaced, Prepared, nodes_of}

@@ -5,7 +5,7 @@ use Rattle.jsonc_tree.specs.Content.{Content, array, object}
 use Rattle.jsonc_tree.specs.Tree.{Node, content_at, parent_at, children_at, place_at, IsTree, IsOver}
 use Rattle.jsonc_tree.proofs.Order.{not_over_parent, not_over_sibling}
 use Rattle.jsonc_tree.proofs.Over.{either_over, over_up}
-use Rattle.jsonc_nodes.specs.Kinds.{is_element_at}
+use Rattle.jsonc_layout.specs.nodes.Kinds.{is_element_at}
 use Rattle.jsonc_edit.specs.Paths.{IsElementOf, StepsTo, in_array, in_object, LeadsTo, itself, step, IsAt}
 use Rattle.jsonc_edit.proofs.Elements.{Some_same, StandsAt, stands_at}
 

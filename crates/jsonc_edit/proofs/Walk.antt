@@ -8,8 +8,8 @@ use Rattle.jsonc_tree.proofs.Order.{not_over_parent, parent_there}
 use Rattle.jsonc_tree.proofs.Over.{over_up, sibling_not_over}
 use Rattle.jsonc_tree.proofs.OrderedTrees.{Shows-ordered_tree, Shows-unique}
 use Rattle.jsonc_tree.proofs.Rows.{Shows-append, Shows-part, Shows-kept}
-use Rattle.jsonc_nodes.specs.Kinds.{is_element_at}
-use Rattle.jsonc_laws.specs.TreeChanges.{IsElement, ElementChanged, this_element, ValueChanged, DocumentChanged, in_root}
+use Rattle.jsonc_layout.specs.nodes.Kinds.{is_element_at}
+use Rattle.jsonc_sound.specs.TreeChanges.{IsElement, ElementChanged, this_element, ValueChanged, DocumentChanged, in_root}
 use Rattle.jsonc_edit.specs.Paths.{IsElementOf, StepsTo, LeadsTo, itself, step, IsAt}
 use Rattle.jsonc_edit.specs.Changes.{row_below, top_at, ChangesAt}
 use Rattle.jsonc_edit.proofs.Elements.{StandsAt, stands_at, changed_behind}

@@ -3,12 +3,12 @@ use Rattle.std.proofs.Common.{◌≡◌, refl, subst, Bool, false, List, []}
 use Rattle.jsonc_text.specs.Options.{Options}
 use Rattle.jsonc_tree.specs.Content.{Content, root, property, is_container}
 use Rattle.jsonc_tree.specs.OrderedTree.{OrderedTree, none, more, followed_by}
-use Rattle.jsonc_laws.specs.Below.build.Shape as shape
-use Rattle.jsonc_laws.specs.Below.build.Shape.{IsTrivia, Trivia, IsNameBefore, token_then}
-use Rattle.jsonc_laws.specs.Rows.{RowKind, Last}
-use Rattle.jsonc_laws.specs.Alone as alone
-use Rattle.jsonc_laws.specs.Alone.{ValueAlone, PartAlone, RowAlone, PropertyAlone, StretchAlone, RootAlone, DocumentAlone}
-use Rattle.jsonc_laws.proofs.RowsWithin.{Within, here, deeper, later, no_row}
+use Rattle.jsonc_sound.specs.Shape as shape
+use Rattle.jsonc_sound.specs.Shape.{IsTrivia, Trivia, IsNameBefore, token_then}
+use Rattle.jsonc_sound.specs.Rows.{RowKind, Last}
+use Rattle.jsonc_sound.specs.Alone as alone
+use Rattle.jsonc_sound.specs.Alone.{ValueAlone, PartAlone, RowAlone, PropertyAlone, StretchAlone, RootAlone, DocumentAlone}
+use Rattle.jsonc_sound.proofs.RowsWithin.{Within, here, deeper, later, no_row}
 
 -- a leaf with nothing below it, a value, or a property
 pub data IsWhole (o : Options) : Content → OrderedTree → Type 0 where

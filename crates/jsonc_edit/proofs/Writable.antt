@@ -8,20 +8,20 @@ use Rattle.jsonc_text.specs.Numbers.{Number, NumberLit}
 use Rattle.jsonc_text.specs.Strings.{IsString}
 use Rattle.jsonc_text.specs.Plain.{Plain, Items, no_items, item, Members, no_members, member}
 use Rattle.jsonc_tree.specs.Content.{Content}
-use Rattle.jsonc_laws.specs.Below.build.Shape as shape
-use Rattle.jsonc_laws.specs.Below.build.Shape.{IsLexemeBefore, IsLiteralBefore, ValueShaped, token_then}
-use Rattle.jsonc_input.specs.Numbers.{IsAlwaysNumber}
+use Rattle.jsonc_sound.specs.Shape as shape
+use Rattle.jsonc_sound.specs.Shape.{IsLexemeBefore, IsLiteralBefore, ValueShaped, token_then}
+use Rattle.jsonc_layout.specs.input.Numbers.{IsAlwaysNumber}
 use Rattle.jsonc_text.specs.Spelling.{spelled}
-use Rattle.jsonc_input.proofs.Spelled.{spelled_string}
-use Rattle.jsonc_from_input.specs.Layout.{Layout, deeper}
+use Rattle.jsonc_layout.proofs.lemmas.input.Spelled.{spelled_string}
+use Rattle.jsonc_layout.specs.from_input.Layout.{Layout, deeper}
 use Rattle.jsonc_tree.specs.OrderedTree.{Top}
-use Rattle.jsonc_from_input.specs.Laid.{laid, laid_items, laid_members, laid_property, leaf, property_of, number_leaf, string_leaf, holds_filled}
-use Rattle.jsonc_from_input.specs.Texts.{IsCharacters, IsOfTexts, AreOfTexts, AreNamedOfTexts}
-use Rattle.jsonc_from_input.proofs.Meanings.{laid_value, laid_pair}
-use Rattle.jsonc_from_input.proofs.SpelledTexts.{spelled_characters}
-use Rattle.jsonc_laws.specs.Sound.{IsNewValue}
-use Rattle.jsonc_laws.proofs.Followers.{value_ends}
-use Rattle.jsonc_laws.specs.Properties.{IsNewProperty}
+use Rattle.jsonc_layout.specs.from_input.Laid.{laid, laid_items, laid_members, laid_property, leaf, property_of, number_leaf, string_leaf, holds_filled}
+use Rattle.jsonc_layout.specs.from_input.Texts.{IsCharacters, IsOfTexts, AreOfTexts, AreNamedOfTexts}
+use Rattle.jsonc_layout.proofs.lemmas.from_input.Meanings.{laid_value, laid_pair}
+use Rattle.jsonc_layout.proofs.lemmas.from_input.SpelledTexts.{spelled_characters}
+use Rattle.jsonc_sound.specs.Sound.{IsNewValue}
+use Rattle.jsonc_sound.proofs.Followers.{value_ends}
+use Rattle.jsonc_sound.specs.Properties.{IsNewProperty}
 use Rattle.jsonc_edit.specs.Writing.{FitsLayout, IsOfNumbers, AreOfNumbers, AreNamedOfNumbers, IsWritable}
 use Rattle.jsonc_edit.proofs.WrittenRows.{EachNode, one_of_rows, IsValueNode, IsPropertyNode, deeper_fits, space_is_trivia, line_is_trivia, array_of_lines, object_of_lines, elements_on_line}
 use Rattle.jsonc_edit.proofs.WrittenLines.{pair_ends}

@@ -3,9 +3,9 @@ use Rattle.std.proofs.Common.{◌≡◌, ℕ, Bool, true, false, ◌||◌, List,
 use Rattle.jsonc_text.specs.Plain.{Plain, Items, no_items, item, Members, no_members, member}
 use Rattle.jsonc_tree.specs.Content.{Content, token, whitespace, newline}
 use Rattle.jsonc_tree.specs.OrderedTree.{OrderedTree, none, Top}
-use Rattle.jsonc_laws.specs.Below.build.Lines.{is_line_comment, LinesEnd}
-use Rattle.jsonc_from_input.specs.Layout.{Layout, deeper}
-use Rattle.jsonc_from_input.specs.Laid.{laid, laid_items, laid_members, laid_property, on_one_line, on_lines, node_then, leaf_then, line_then, comma_if, gap_if, closed, property_of, string_leaf, holds_filled, is_some_node}
+use Rattle.jsonc_sound.specs.Lines.{is_line_comment, LinesEnd}
+use Rattle.jsonc_layout.specs.from_input.Layout.{Layout, deeper}
+use Rattle.jsonc_layout.specs.from_input.Laid.{laid, laid_items, laid_members, laid_property, on_one_line, on_lines, node_then, leaf_then, line_then, comma_if, gap_if, closed, property_of, string_leaf, holds_filled, is_some_node}
 use Rattle.jsonc_edit.proofs.WrittenRows.{EachNode, one_of_rows}
 
 -- the line comments of a row end with their lines

@@ -8,14 +8,14 @@ use Rattle.jsonc_text.proofs.Steps.{many_append}
 use Rattle.jsonc_text.proofs.UniqueWords.{many_more}
 use Rattle.jsonc_tree.specs.Content.{Content, whitespace}
 use Rattle.jsonc_tree.specs.OrderedTree.{OrderedTree, none, Top}
-use Rattle.jsonc_laws.specs.Below.build.Leaves.{is_inner_blank}
-use Rattle.jsonc_laws.specs.Below.build.Shape as shape
-use Rattle.jsonc_laws.specs.Below.build.Shape.{IsTrivia, Trivia, Separated, Closed, ValueShaped, ElementsShaped, PropertiesShaped, PropertyShaped, token_then, printed_text}
-use Rattle.jsonc_laws.proofs.Below.build.ShapeValues.{Mark, comma_mark, close_bracket_mark, close_brace_mark}
-use Rattle.jsonc_from_input.specs.Layout.{Layout, deeper}
-use Rattle.jsonc_from_input.specs.Laid.{on_one_line, on_lines, node_then, space_then, line_then, comma_if, closed, is_some_node}
-use Rattle.jsonc_laws.specs.Followers.{ends_literals, EndsLiterals}
-use Rattle.jsonc_laws.proofs.Followers.{mark_next, closed_ends}
+use Rattle.jsonc_sound.specs.Leaves.{is_inner_blank}
+use Rattle.jsonc_sound.specs.Shape as shape
+use Rattle.jsonc_sound.specs.Shape.{IsTrivia, Trivia, Separated, Closed, ValueShaped, ElementsShaped, PropertiesShaped, PropertyShaped, token_then, printed_text}
+use Rattle.jsonc_sound.proofs.ShapeValues.{Mark, comma_mark, close_bracket_mark, close_brace_mark}
+use Rattle.jsonc_layout.specs.from_input.Layout.{Layout, deeper}
+use Rattle.jsonc_layout.specs.from_input.Laid.{on_one_line, on_lines, node_then, space_then, line_then, comma_if, closed, is_some_node}
+use Rattle.jsonc_sound.specs.Followers.{ends_literals, EndsLiterals}
+use Rattle.jsonc_sound.proofs.Followers.{mark_next, closed_ends}
 use Rattle.jsonc_edit.specs.Writing.{IsIndent, FitsLayout}
 
 -- each node of a list

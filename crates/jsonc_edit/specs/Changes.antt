@@ -4,7 +4,7 @@ use Rattle.jsonc_tree.specs.Content.{Content}
 use Rattle.jsonc_tree.specs.Tree.{Node, content_at, parent_at, place_at, IsTree}
 use Rattle.jsonc_tree.specs.Changes.{Splices, CanJoin, LeafBecomes}
 use Rattle.jsonc_tree.specs.OrderedTree.{OrderedTree, grown, ordered_tree, Top}
-use Rattle.jsonc_laws.specs.TreeChanges.{IsElement, DocumentChanged}
+use Rattle.jsonc_sound.specs.TreeChanges.{IsElement, DocumentChanged}
 use Rattle.jsonc_edit.specs.Paths.{IsAt}
 
 -- the row of trees below a node

@@ -11,14 +11,14 @@ use Rattle.jsonc_tree.specs.Order.{in_order}
 use Rattle.jsonc_tree.specs.OrderedTree.{OrderedTree, leaves, ordered_tree}
 use Rattle.jsonc_tree.specs.Tree.{Node, content_at, parent_at, children_at, place_at, IsTree, IsOver}
 use Rattle.jsonc_tree.specs.Values.{DocumentValueOf}
-use Rattle.jsonc_nodes.specs.Kinds.{is_whitespace_at, is_newline_at, is_comment_at}
-use Rattle.jsonc_laws.specs.Below.build.Lines.{is_line_comment}
-use Rattle.jsonc_laws.specs.Below.build.Shape.{printed_text}
-use Rattle.jsonc_laws.specs.ChangeLaws.{DiffersIn}
-use Rattle.jsonc_laws.specs.TriviaChanges.{AreTrivia, StretchChanged, EndsInComment}
-use Rattle.jsonc_laws.specs.SoundTrees.{SoundTree}
-use Rattle.jsonc_laws.specs.MarkChanges.{AreBlanks, MarksDifferIn}
-use Rattle.jsonc_laws.specs.Marks.{comment_mark, comments_of, marks, marks_of}
+use Rattle.jsonc_layout.specs.nodes.Kinds.{is_whitespace_at, is_newline_at, is_comment_at}
+use Rattle.jsonc_sound.specs.Lines.{is_line_comment}
+use Rattle.jsonc_sound.specs.Shape.{printed_text}
+use Rattle.jsonc_sound.specs.ChangeLaws.{DiffersIn}
+use Rattle.jsonc_sound.specs.TriviaChanges.{AreTrivia, StretchChanged, EndsInComment}
+use Rattle.jsonc_sound.specs.SoundTrees.{SoundTree}
+use Rattle.jsonc_sound.specs.MarkChanges.{AreBlanks, MarksDifferIn}
+use Rattle.jsonc_sound.specs.Marks.{comment_mark, comments_of, marks, marks_of}
 use Rattle.jsonc_edit.specs.Due.{due_between, listed}
 use Rattle.jsonc_edit.specs.Put.{AreSpaced, IfDue, Prepared}
 use Rattle.jsonc_edit.specs.Spaced.{SpacesPut}

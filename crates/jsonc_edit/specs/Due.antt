@@ -6,8 +6,8 @@ use Rattle.jsonc_text.specs.Text.{starts}
 use Rattle.jsonc_tree.specs.Content.{Content, property, is_container}
 use Rattle.jsonc_tree.specs.Tree.{Node, content_at, children_at, parent_at}
 use Rattle.jsonc_tree.specs.Siblings.{first, siblings_after, siblings_before}
-use Rattle.jsonc_laws.specs.Adjacent.{first_char, or_else}
-use Rattle.jsonc_laws.specs.Spaces.{is_bare}
+use Rattle.jsonc_sound.specs.Adjacent.{first_char, or_else}
+use Rattle.jsonc_sound.specs.Spaces.{is_bare}
 
 -- a leaf without text prints nothing
 abbrev pub prints : Content → Bool

@@ -5,17 +5,17 @@ use Rattle.jsonc_text.specs.Plain.{Plain}
 use Rattle.jsonc_tree.specs.Tree.{Node, content_at, parent_at, children_at, IsTree, IsOver}
 use Rattle.jsonc_tree.specs.OrderedTree.{OrderedTree, followed_by, ordered_tree, Shows, Top}
 use Rattle.jsonc_tree.specs.Values.{DocumentValueOf}
-use Rattle.jsonc_laws.specs.Below.build.Shape.{DocumentShaped}
-use Rattle.jsonc_laws.specs.Sound.{HasValue, IsNewValue}
-use Rattle.jsonc_laws.specs.TreeChanges.{IsElement}
-use Rattle.jsonc_laws.specs.ChangeLaws.{HasChangedValue}
-use Rattle.jsonc_from_input.specs.Layout.{Layout}
-use Rattle.jsonc_from_input.specs.Laid.{laid, laid_property}
-use Rattle.jsonc_from_input.specs.Texts.{IsCharacters, IsOfTexts}
-use Rattle.jsonc_laws.specs.Spaces.{is_bare}
-use Rattle.jsonc_laws.specs.SoundTrees.{SoundTree}
+use Rattle.jsonc_sound.specs.Shape.{DocumentShaped}
+use Rattle.jsonc_sound.specs.Sound.{HasValue, IsNewValue}
+use Rattle.jsonc_sound.specs.TreeChanges.{IsElement}
+use Rattle.jsonc_sound.specs.ChangeLaws.{HasChangedValue}
+use Rattle.jsonc_layout.specs.from_input.Layout.{Layout}
+use Rattle.jsonc_layout.specs.from_input.Laid.{laid, laid_property}
+use Rattle.jsonc_layout.specs.from_input.Texts.{IsCharacters, IsOfTexts}
+use Rattle.jsonc_sound.specs.Spaces.{is_bare}
+use Rattle.jsonc_sound.specs.SoundTrees.{SoundTree}
 use Rattle.jsonc_edit.specs.Due.{begins_bare, ends_bare, seen_before, seen_behind}
-use Rattle.jsonc_laws.specs.Properties.{IsNewProperty}
+use Rattle.jsonc_sound.specs.Properties.{IsNewProperty}
 use Rattle.jsonc_edit.specs.Paths.{IsAt, Stands}
 use Rattle.jsonc_edit.specs.Changes.{row_below, top_at, ChangesAt, Replaces, Respliced, LeafChanged}
 use Rattle.jsonc_edit.specs.Reading.{layout_for, IsReplaced}

@@ -19,4 +19,7 @@ pub mod SeamPlaces
 pub mod SeamRemovals
 pub mod SeamEntries
 pub mod SeamLaws
-pub mod Below
+pub mod commas
+pub mod remove
+pub mod set
+pub mod multiline

@@ -4,9 +4,9 @@ use Rattle.jsonc_text.specs.Options.{Options}
 use Rattle.jsonc_tree.specs.OrderedTree.{OrderedTree, leaves, Shows}
 use Rattle.jsonc_tree.specs.Siblings.{row_of, siblings_after}
 use Rattle.jsonc_tree.specs.Tree.{Node, place_at}
-use Rattle.jsonc_laws.specs.Rows.{RowKind, Last}
-use Rattle.jsonc_laws.specs.Alone.{RowAlone, StretchAlone}
-use Rattle.jsonc_laws.specs.Spaces.{meet}
+use Rattle.jsonc_sound.specs.Rows.{RowKind, Last}
+use Rattle.jsonc_sound.specs.Alone.{RowAlone, StretchAlone}
+use Rattle.jsonc_sound.specs.Spaces.{meet}
 use Rattle.jsonc_edit.specs.Due.{nearest, ends_bare, begins_bare, due_between}
 
 -- they meet between a stretch of a row and the rest of it where the nearest children that print something are such literals

@@ -4,8 +4,8 @@ use Rattle.std.specs.List.{slice_get}
 use Rattle.jsonc_tree.specs.Content.{array, object, property}
 use Rattle.jsonc_tree.specs.Tree.{Node, content_at}
 use Rattle.jsonc_tree.specs.Values.{is_passed_over}
-use Rattle.jsonc_nodes.specs.Properties.{value_at}
-use Rattle.jsonc_nodes.specs.Siblings.{elements_at}
+use Rattle.jsonc_layout.specs.nodes.Properties.{value_at}
+use Rattle.jsonc_layout.specs.nodes.Siblings.{elements_at}
 
 -- q is the element of p at this place among its elements
 abbrev pub IsElementOf : List Node → ℕ → ℕ → ℕ → Type 0

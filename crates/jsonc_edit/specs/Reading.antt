@@ -2,11 +2,11 @@
 use Rattle.std.specs.Prelude.{◌≡◌, ℕ, List, Some, if◌then◌else◌}
 use Rattle.jsonc_text.specs.Plain.{Plain}
 use Rattle.jsonc_tree.specs.Tree.{Node, content_at, parent_at}
-use Rattle.jsonc_nodes.specs.Kinds.{is_property}
-use Rattle.jsonc_lines.specs.Indents.{indents_at}
-use Rattle.jsonc_lines.specs.Breadth.{newline_kind_at, uses_trailing_commas_at}
-use Rattle.jsonc_from_input.specs.Layout.{Layout}
-use Rattle.jsonc_from_input.specs.Laid.{laid}
+use Rattle.jsonc_layout.specs.nodes.Kinds.{is_property}
+use Rattle.jsonc_layout.specs.lines.Indents.{indents_at}
+use Rattle.jsonc_layout.specs.lines.Breadth.{newline_kind_at, uses_trailing_commas_at}
+use Rattle.jsonc_layout.specs.from_input.Layout.{Layout}
+use Rattle.jsonc_layout.specs.from_input.Laid.{laid}
 use Rattle.jsonc_edit.specs.Replacing.{GivesWay, GivesWayRaw}
 
 -- the node whose containers tell whether trailing commas are used, for a child n of c: the value itself in a property, else the container

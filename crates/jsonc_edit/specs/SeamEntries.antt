@@ -3,9 +3,9 @@ use Rattle.std.specs.Prelude.{◌≡◌, ℕ, Bool, true, List, ◌++◌}
 use Rattle.jsonc_text.specs.Options.{Options}
 use Rattle.jsonc_tree.specs.Content.{Content, object}
 use Rattle.jsonc_tree.specs.OrderedTree.{OrderedTree}
-use Rattle.jsonc_laws.specs.SoundTrees.{SoundTree}
-use Rattle.jsonc_laws.specs.Spaces.{first_printed, is_bare_leaf}
-use Rattle.jsonc_laws.specs.TreeChanges.{property_of}
+use Rattle.jsonc_sound.specs.SoundTrees.{SoundTree}
+use Rattle.jsonc_sound.specs.Spaces.{first_printed, is_bare_leaf}
+use Rattle.jsonc_sound.specs.TreeChanges.{property_of}
 use Rattle.jsonc_edit.specs.SeamPlaces.{RowHolds, DocumentHolds}
 use Rattle.jsonc_edit.specs.Seams.{PrintNothing, space_if}
 

@@ -4,11 +4,11 @@ use Rattle.jsonc_text.specs.Options.{Options}
 use Rattle.jsonc_tree.specs.Content.{Content, comment}
 use Rattle.jsonc_tree.specs.OrderedTree.{OrderedTree, leaves, ordered_tree, Top}
 use Rattle.jsonc_tree.specs.Tree.{Node, IsTree}
-use Rattle.jsonc_laws.specs.Adjacent.{last_printed}
-use Rattle.jsonc_laws.specs.MarkChanges.{AreBlanks}
-use Rattle.jsonc_laws.specs.Marks.{comments_of, marks_of}
-use Rattle.jsonc_laws.specs.SoundTrees.{SoundTree}
-use Rattle.jsonc_laws.specs.Spaces.{first_printed, is_bare_leaf}
+use Rattle.jsonc_sound.specs.Adjacent.{last_printed}
+use Rattle.jsonc_sound.specs.MarkChanges.{AreBlanks}
+use Rattle.jsonc_sound.specs.Marks.{comments_of, marks_of}
+use Rattle.jsonc_sound.specs.SoundTrees.{SoundTree}
+use Rattle.jsonc_sound.specs.Spaces.{first_printed, is_bare_leaf}
 use Rattle.jsonc_edit.specs.Changes.{top_at}
 use Rattle.jsonc_edit.specs.Comments.{comment_at, CommentTaken}
 use Rattle.jsonc_edit.specs.Due.{begins_bare, ends_bare, seen_before, seen_behind}

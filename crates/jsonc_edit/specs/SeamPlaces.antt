@@ -4,10 +4,10 @@ use Rattle.jsonc_text.specs.Options.{Options}
 use Rattle.jsonc_tree.specs.Content.{Content, root, array, object}
 use Rattle.jsonc_tree.specs.OrderedTree.{OrderedTree, none, more, own_leaf, leaves, Top}
 use Rattle.jsonc_tree.specs.Values.{is_passed_over}
-use Rattle.jsonc_laws.specs.Adjacent.{last_printed}
-use Rattle.jsonc_laws.specs.SoundTrees.{SoundTree}
-use Rattle.jsonc_laws.specs.Spaces.{first_printed, is_bare, is_bare_leaf}
-use Rattle.jsonc_laws.specs.TreeChanges.{IsElement, property_of}
+use Rattle.jsonc_sound.specs.Adjacent.{last_printed}
+use Rattle.jsonc_sound.specs.SoundTrees.{SoundTree}
+use Rattle.jsonc_sound.specs.Spaces.{first_printed, is_bare, is_bare_leaf}
+use Rattle.jsonc_sound.specs.TreeChanges.{IsElement, property_of}
 use Rattle.jsonc_edit.specs.Seams.{PrintNothing, space_if}
 
 -- the element of this number in the row is this node: before it in the row stand these leaves, and behind it those

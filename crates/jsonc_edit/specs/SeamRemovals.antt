@@ -2,13 +2,13 @@
 use Rattle.std.specs.Prelude.{◌≡◌, ℕ, ◌+◌, true, List, ◌++◌}
 use Rattle.jsonc_tree.specs.Content.{Content}
 use Rattle.jsonc_tree.specs.OrderedTree.{OrderedTree, leaves, followed_by, Top}
-use Rattle.jsonc_build.specs.Shape.{token_then}
-use Rattle.jsonc_laws.specs.Leaving.{AreBeside, ClosesUp, IsRestOfLine, LeavesBehind, among, element_count}
-use Rattle.jsonc_laws.specs.Rows.{RowKind, container_of}
-use Rattle.jsonc_laws.specs.Adjacent.{last_printed}
-use Rattle.jsonc_laws.specs.Spaces.{first_printed, is_bare_leaf, space_then}
-use Rattle.jsonc_laws.specs.TreeChanges.{IsElement}
-use Rattle.jsonc_laws.specs.TriviaChanges.{leaves_then}
+use Rattle.jsonc_sound.specs.Shape.{token_then}
+use Rattle.jsonc_sound.specs.Leaving.{AreBeside, ClosesUp, IsRestOfLine, LeavesBehind, among, element_count}
+use Rattle.jsonc_sound.specs.Rows.{RowKind, container_of}
+use Rattle.jsonc_sound.specs.Adjacent.{last_printed}
+use Rattle.jsonc_sound.specs.Spaces.{first_printed, is_bare_leaf, space_then}
+use Rattle.jsonc_sound.specs.TreeChanges.{IsElement}
+use Rattle.jsonc_sound.specs.TriviaChanges.{leaves_then}
 use Rattle.jsonc_edit.specs.SeamPlaces.{DocumentHolds}
 use Rattle.jsonc_edit.specs.Seams.{PrintNothing}
 

@@ -3,10 +3,10 @@ use Rattle.std.specs.Prelude.{◌≡◌, ◌<◌, ℕ, false, List, IsTrue}
 use Rattle.jsonc_tree.specs.Content.{Content}
 use Rattle.jsonc_tree.specs.OrderedTree.{ordered_tree}
 use Rattle.jsonc_tree.specs.Tree.{Node, content_at, place_at, IsTree, IsOver}
-use Rattle.jsonc_nodes.specs.Siblings.{elements_at}
-use Rattle.jsonc_laws.specs.TreeChanges.{IsElement}
-use Rattle.jsonc_laws.specs.InRows.{SpacePut}
-use Rattle.jsonc_laws.specs.Spaces.{is_bare}
+use Rattle.jsonc_layout.specs.nodes.Siblings.{elements_at}
+use Rattle.jsonc_sound.specs.TreeChanges.{IsElement}
+use Rattle.jsonc_sound.specs.InRows.{SpacePut}
+use Rattle.jsonc_sound.specs.Spaces.{is_bare}
 use Rattle.jsonc_edit.specs.Due.{due_around, begins_bare, ends_bare, seen_before, seen_behind}
 use Rattle.jsonc_edit.specs.Put.{StandsBefore, AreSpaced}
 

@@ -1,6 +1,6 @@
 -- Spaces that have come into a document.
 use Rattle.jsonc_tree.specs.OrderedTree.{OrderedTree}
-use Rattle.jsonc_laws.specs.InRows.{SpacePut}
+use Rattle.jsonc_sound.specs.InRows.{SpacePut}
 
 -- one after another, each before an element and behind another node; and nothing else has
 pub data SpacesPut : OrderedTree → OrderedTree → Type 0 where

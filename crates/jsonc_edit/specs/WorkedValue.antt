@@ -2,7 +2,7 @@
 use Rattle.std.specs.Prelude.{false, [], codes}
 use Rattle.jsonc_text.specs.Plain.{Plain, no_items, item, no_members, member}
 use Rattle.jsonc_tree.specs.declared.node.CstNewlineKind.TheVariants.{LineFeed}
-use Rattle.jsonc_from_input.specs.Layout.{Layout}
+use Rattle.jsonc_layout.specs.from_input.Layout.{Layout}
 
 -- two spaces a level, no trailing commas
 abbrev pub two_spaces : Layout

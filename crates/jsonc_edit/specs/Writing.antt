@@ -4,10 +4,10 @@ use Rattle.jsonc_text.specs.Options.{Options}
 use Rattle.jsonc_text.specs.Text.{Many}
 use Rattle.jsonc_text.specs.Numbers.{NumberLit}
 use Rattle.jsonc_text.specs.Plain.{Plain, Items, no_items, item, Members, no_members, member}
-use Rattle.jsonc_laws.specs.Below.build.Leaves.{is_inner_blank}
-use Rattle.jsonc_laws.specs.Below.build.Shape.{IsText}
-use Rattle.jsonc_from_input.specs.Layout.{Layout}
-use Rattle.jsonc_from_input.specs.Texts.{IsOfTexts}
+use Rattle.jsonc_sound.specs.Leaves.{is_inner_blank}
+use Rattle.jsonc_sound.specs.Shape.{IsText}
+use Rattle.jsonc_layout.specs.from_input.Layout.{Layout}
+use Rattle.jsonc_layout.specs.from_input.Texts.{IsOfTexts}
 
 -- an indent: blanks within a line, or none
 abbrev pub IsIndent : List ℕ → Type 0

@@ -5,14 +5,14 @@ use Rattle.jsonc_text.specs.Plain.{Plain}
 use Rattle.jsonc_text.specs.Grammar.{IsDocument}
 use Rattle.jsonc_tree.specs.Tree.{Node}
 use Rattle.jsonc_tree.specs.OrderedTree.{OrderedTree, leaves, ordered_tree, Top}
-use Rattle.jsonc_laws.specs.Below.build.Shape.{printed_text}
-use Rattle.jsonc_laws.specs.Changes.{Changed}
-use Rattle.jsonc_laws.specs.ChangeLaws.{DiffersIn}
-use Rattle.jsonc_laws.specs.TreeChanges.{leaves_of}
-use Rattle.jsonc_laws.specs.MarkChanges.{MarksDifferIn, marks_under}
-use Rattle.jsonc_laws.specs.Marks.{marks}
-use Rattle.jsonc_laws.specs.SoundTrees.{SoundTree}
-use Rattle.jsonc_laws.specs.Written.{written}
+use Rattle.jsonc_sound.specs.Shape.{printed_text}
+use Rattle.jsonc_sound.specs.Changes.{Changed}
+use Rattle.jsonc_sound.specs.ChangeLaws.{DiffersIn}
+use Rattle.jsonc_sound.specs.TreeChanges.{leaves_of}
+use Rattle.jsonc_sound.specs.MarkChanges.{MarksDifferIn, marks_under}
+use Rattle.jsonc_sound.specs.Marks.{marks}
+use Rattle.jsonc_sound.specs.SoundTrees.{SoundTree}
+use Rattle.jsonc_sound.specs.Written.{written}
 use Rattle.jsonc_edit.specs.Changes.{top_at}
 use Rattle.jsonc_edit.specs.Paths.{IsAt}
 use Rattle.jsonc_edit.specs.Spaced.{SpacesPut}

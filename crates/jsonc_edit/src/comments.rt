@@ -7,14 +7,14 @@ ghost use Rattle.jsonc_tree.specs.Content.{Content};
 ghost use Rattle.jsonc_tree.specs.OrderedTree.{ordered_tree};
 ghost use Rattle.jsonc_tree.specs.Stored.{content_of};
 ghost use Rattle.jsonc_tree.specs.Tree.{children_at, content_at, parent_at, place_at, IsTree};
-ghost use Rattle.jsonc_laws.specs.Below.build.Lines.{is_line_comment};
+ghost use Rattle.jsonc_sound.specs.Lines.{is_line_comment};
 ghost use Rattle.jsonc_edit.specs.Comments.{blanks_from, removed_from, newline_from, CommentLeaves, CommentLeavesAlone};
 ghost use Rattle.jsonc_edit.specs.Comments.{IsRemoved, TakesOut, WantsSpace};
 
 use crate::due::due_between;
 use crate::error::EditError;
 use crate::put::{make_spaces, put_spaces};
-use jsonc_nodes::{is_newline, is_whitespace};
+use jsonc_layout::nodes::{is_newline, is_whitespace};
 use jsonc_tree::{Kind, Tree};
 use std::alloc::Allocator;
 

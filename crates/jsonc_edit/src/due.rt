@@ -5,14 +5,14 @@ ghost use Rattle.jsonc_text.specs.Text.{next, starts};
 ghost use Rattle.jsonc_tree.specs.Siblings.{siblings_after};
 ghost use Rattle.jsonc_tree.specs.Stored.{content_of};
 ghost use Rattle.jsonc_tree.specs.Tree.{children_at};
-ghost use Rattle.jsonc_nodes.specs.Siblings.{AreThere, IsThere};
-ghost use Rattle.jsonc_laws.specs.Spaces.{is_bare};
+ghost use Rattle.jsonc_layout.specs.nodes.Siblings.{AreThere, IsThere};
+ghost use Rattle.jsonc_sound.specs.Spaces.{is_bare};
 ghost use Rattle.jsonc_edit.specs.Due.{prints, prints_at, nearest, beginning_of, end_of, is_bare_at};
 ghost use Rattle.jsonc_edit.specs.Due.{begins_bare, ends_bare, seen_before, behind_holder, seen_behind};
 ghost use Rattle.jsonc_edit.specs.Due.{due_between, due_before, due_behind, due_last, due_past, is_other};
 ghost use Rattle.jsonc_edit.specs.Due.{prints_within, seen_last};
 
-use jsonc_nodes::{PreviousSiblings, next_siblings, previous_siblings};
+use jsonc_layout::nodes::{PreviousSiblings, next_siblings, previous_siblings};
 use jsonc_tree::{Kind, Tree};
 use std::alloc::Allocator;
 

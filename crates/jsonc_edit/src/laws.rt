@@ -5,9 +5,9 @@ ghost use Rattle.jsonc_text.specs.Options.{Options};
 ghost use Rattle.jsonc_text.specs.Plain.{Plain};
 ghost use Rattle.jsonc_tree.specs.OrderedTree.{OrderedTree, printed};
 ghost use Rattle.jsonc_tree.specs.Tree.{Node};
-ghost use Rattle.jsonc_input.specs.Numbers.{IsAlwaysNumber};
-ghost use Rattle.jsonc_input.specs.Views.{plain};
-ghost use Rattle.jsonc_from_input.specs.Layout.{Layout};
+ghost use Rattle.jsonc_layout.specs.input.Numbers.{IsAlwaysNumber};
+ghost use Rattle.jsonc_layout.specs.input.Views.{plain};
+ghost use Rattle.jsonc_layout.specs.from_input.Layout.{Layout};
 ghost use Rattle.jsonc_edit.specs.Laws.{AllStand, HasOneNode, HasOnePath, ShowsBelow};
 ghost use Rattle.jsonc_edit.specs.Laws.{ReplacesAtPath, KeepsReplacement};
 ghost use Rattle.jsonc_edit.specs.Laws.{ChangesElementsOver, ChangesOver, KeepsOthers, HasNewContent, HasNewRow};
@@ -19,12 +19,12 @@ ghost use Rattle.jsonc_edit.specs.Laws.{TakesPath, WritesLaidOut, WritesReplaced
 ghost use Rattle.jsonc_edit.specs.Changes.{LeafChanged, Respliced};
 ghost use Rattle.jsonc_edit.specs.Comments.{commented, removed_from, CommentRemoved, HasLeavesWithout, HasValueWithout, IsSoundWithout, TakesTrivia};
 ghost use Rattle.jsonc_edit.specs.Paths.{IsAt};
-ghost use Rattle.jsonc_from_input.specs.Laid.{laid};
+ghost use Rattle.jsonc_layout.specs.from_input.Laid.{laid};
 ghost use Rattle.jsonc_edit.specs.Worked.{worked_nodes};
 ghost use Rattle.jsonc_edit.specs.WorkedValue.{two_spaces, worked_value};
 ghost use Rattle.jsonc_edit.specs.Writing.{FitsLayout, IsOfNumbers, IsWritable};
 
-use jsonc_input::CstInputValue;
+use jsonc_layout::input::CstInputValue;
 use std::alloc::Allocator;
 
 /// A path leads to at most one node, and in a tree at most one path leads to a node.

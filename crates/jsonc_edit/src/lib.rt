@@ -23,18 +23,25 @@
 //! [`due_between`], [`due_before`] and [`due_behind`] tell where one is due, and [`due_last`] and
 //! [`due_past`] where something comes last; [`make_spaces`] makes it, nobody's child yet, and
 //! [`put_spaces`] puts it in, which takes no memory (`specs/Put.antt`).
+//!
+//! [`set`] has the edits that set values, [`remove`] those that take entries out; [`multiline`] puts arrays and objects on
+//! several lines, and [`commas`] sets trailing commas.
 #![tactic(auto)]
 
+pub mod commas;
 mod comments;
 mod due;
 mod error;
 pub mod laws;
 mod modes;
+pub mod multiline;
 mod paths;
 mod put;
 mod reading;
+pub mod remove;
 mod replacing;
 pub mod seam_laws;
+pub mod set;
 pub mod space_laws;
 
 pub use comments::{newline_from, remove_comment};

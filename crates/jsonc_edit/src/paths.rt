@@ -1,10 +1,10 @@
 //! Nodes by their paths.
 
 ghost use Rattle.std.specs.Prelude.{◌≡◌, ◌<◌, IfSome, Some, length};
-ghost use Rattle.jsonc_nodes.specs.Siblings.{IsThere};
+ghost use Rattle.jsonc_layout.specs.nodes.Siblings.{IsThere};
 ghost use Rattle.jsonc_edit.specs.Paths.{FindsExactly, IsAt, IsHeldBy, StepsTo};
 
-use jsonc_nodes::{element_at, value_of};
+use jsonc_layout::nodes::{element_at, value_of};
 use jsonc_tree::{Kind, Tree};
 use std::alloc::Allocator;
 

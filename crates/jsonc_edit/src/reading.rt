@@ -1,11 +1,11 @@
 //! How the document tells to lay out what replaces a node of it.
 
 ghost use Rattle.std.specs.Prelude.{◌≡◌, ◌<◌, IfOk, length};
-ghost use Rattle.jsonc_from_input.specs.Layout.{layout_of};
+ghost use Rattle.jsonc_layout.specs.from_input.Layout.{layout_of};
 ghost use Rattle.jsonc_edit.specs.Reading.{commas_told_by, layout_for};
 
-use jsonc_from_input::Layout;
-use jsonc_lines::{indents_at, newline_kind_at, uses_trailing_commas};
+use jsonc_layout::from_input::Layout;
+use jsonc_layout::lines::{indents_at, newline_kind_at, uses_trailing_commas};
 use jsonc_tree::{Kind, Tree};
 use std::alloc::{AllocError, Allocator};
 

@@ -6,13 +6,13 @@ ghost use Rattle.jsonc_tree.specs.Building.{Keeps};
 ghost use Rattle.jsonc_tree.specs.Changes.{CanJoin, Splices};
 ghost use Rattle.jsonc_tree.specs.OrderedTree.{ordered_tree};
 ghost use Rattle.jsonc_tree.specs.Tree.{content_at, parent_at, place_at, IsTree};
-ghost use Rattle.jsonc_input.specs.Views.{plain};
-ghost use Rattle.jsonc_from_input.specs.Layout.{layout_of};
-ghost use Rattle.jsonc_laws.specs.Spaces.{is_bare};
+ghost use Rattle.jsonc_layout.specs.input.Views.{plain};
+ghost use Rattle.jsonc_layout.specs.from_input.Layout.{layout_of};
+ghost use Rattle.jsonc_sound.specs.Spaces.{is_bare};
 ghost use Rattle.jsonc_edit.specs.Due.{listed};
 ghost use Rattle.jsonc_edit.specs.Put.{AreAtHand, Prepared};
 ghost use Rattle.jsonc_edit.specs.Reading.{IsReplaced, IsReplacedRaw};
-ghost use Rattle.jsonc_from_input.specs.Laid.{laid};
+ghost use Rattle.jsonc_layout.specs.from_input.Laid.{laid};
 ghost use Rattle.jsonc_edit.specs.Replacing.{GivesWay, GivesWayRaw};
 ghost use Rattle.jsonc_edit.specs.Written.{Writes};
 
@@ -20,8 +20,8 @@ use crate::due::{due_before, due_behind, is_bare};
 use crate::error::EditError;
 use crate::put::{Spaces, make_spaces, put_spaces};
 use crate::reading::layout_for;
-use jsonc_from_input::{Layout, lay_out};
-use jsonc_input::CstInputValue;
+use jsonc_layout::from_input::{Layout, lay_out};
+use jsonc_layout::input::CstInputValue;
 use jsonc_tree::Tree;
 use std::alloc::{AllocError, Allocator};
 

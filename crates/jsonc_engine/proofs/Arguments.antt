@@ -16,12 +16,12 @@ use Rattle.jsonc_text.proofs.NumberFrames.{number_whole}
 use Rattle.jsonc_tree.specs.OrderedTree.{OrderedTree}
 use Rattle.jsonc_tree.specs.Values.{DocumentValueOf}
 use Rattle.jsonc_tree.specs.Tree.{IsTree}
-use Rattle.jsonc_build.specs.Lines.{DocumentLinesEnd}
-use Rattle.jsonc_build.specs.Shape.{DocumentShaped}
-use Rattle.jsonc_input.specs.Views.{plain}
-use Rattle.jsonc_input.specs.declared.value.CstInputValue.{CstInputValue}
-use Rattle.jsonc_from_input.proofs.Texts.{of_texts}
-use Rattle.jsonc_to_input.specs.Taken.{IsTaken}
+use Rattle.jsonc_sound.specs.Lines.{DocumentLinesEnd}
+use Rattle.jsonc_sound.specs.Shape.{DocumentShaped}
+use Rattle.jsonc_layout.specs.input.Views.{plain}
+use Rattle.jsonc_layout.specs.declared.input.value.CstInputValue.{CstInputValue}
+use Rattle.jsonc_layout.proofs.lemmas.from_input.Texts.{of_texts}
+use Rattle.jsonc_layout.specs.to_input.Taken.{IsTaken}
 use Rattle.jsonc_edit.specs.Writing.{IsOfNumbers, AreOfNumbers, AreNamedOfNumbers}
 use Rattle.jsonc_edit.specs.declared.error.EditError.{EditError}
 use Rattle.jsonc_edit.specs.declared.error.EditError.TheVariants.{OutOfMemory}
@@ -30,7 +30,7 @@ use Rattle.jsonc_cst.specs.declared.cst.node.CstNode.{CstNode}
 use Rattle.jsonc_cst.specs.Document.{nodes_of, printed_of, tree_of}
 use Rattle.jsonc_cst.specs.Readings.{value_under}
 use Rattle.jsonc_cst.proofs.Colons.{taken_is_the_value}
-use Rattle.jsonc_parser.specs.Below.settings.Found.{names_of}
+use Rattle.jsonc_parser.specs.paths.Found.{names_of}
 use Rattle.jsonc_engine.specs.declared.argument.Change.TheVariants.{Append, Drop, Get, Remove, Set, Sort, Stay}
 use Rattle.jsonc_engine.specs.declared.command.Command.{Command}
 use Rattle.jsonc_engine.specs.declared.command.Command.TheVariants as command

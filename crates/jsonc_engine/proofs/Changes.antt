@@ -5,17 +5,17 @@ use Rattle.std.specs.declared.string.String.{String}
 use Rattle.std.specs.declared.vec.Vec.{Vec}
 use Rattle.std.specs.Prelude.{IfSome, IsErrAnd}
 use Rattle.jsonc_text.specs.Options.{Options}
-use Rattle.jsonc_input.specs.Views.{plain}
-use Rattle.jsonc_input.specs.declared.value.CstInputValue.{CstInputValue}
+use Rattle.jsonc_layout.specs.input.Views.{plain}
+use Rattle.jsonc_layout.specs.declared.input.value.CstInputValue.{CstInputValue}
 use Rattle.jsonc_tree.specs.OrderedTree.{ordered_tree, printed}
 use Rattle.jsonc_tree.specs.Tree.{Node}
-use Rattle.jsonc_build.specs.Lines.{DocumentLinesEnd}
-use Rattle.jsonc_build.specs.Shape.{DocumentShaped}
-use Rattle.jsonc_build.proofs.LooseLines.{document_loosens}
-use Rattle.jsonc_build.proofs.ShapeValues.{document_printed}
-use Rattle.jsonc_laws.specs.SoundTrees.{SoundTree}
+use Rattle.jsonc_sound.specs.Lines.{DocumentLinesEnd}
+use Rattle.jsonc_sound.specs.Shape.{DocumentShaped}
+use Rattle.jsonc_sound.proofs.LooseLines.{document_loosens}
+use Rattle.jsonc_sound.proofs.ShapeValues.{document_printed}
+use Rattle.jsonc_sound.specs.SoundTrees.{SoundTree}
 use Rattle.jsonc_edit.specs.declared.error.EditError.TheVariants.{OutOfMemory}
-use Rattle.jsonc_parser.specs.Below.settings.Found.{names_of}
+use Rattle.jsonc_parser.specs.paths.Found.{names_of}
 use Rattle.jsonc_engine.specs.declared.argument.Change.{Change}
 use Rattle.jsonc_engine.specs.declared.argument.Change.TheVariants.{Append, Drop, Get, Put, Remove, Set, Sort, Stay}
 use Rattle.jsonc_engine.specs.declared.fault.Fault.{Fault}

@@ -5,36 +5,36 @@ use Rattle.jsonc_text.specs.Plain.{Plain}
 use Rattle.jsonc_tree.specs.Content.{array, object, property}
 use Rattle.jsonc_tree.specs.OrderedTree.{ordered_tree, printed}
 use Rattle.jsonc_tree.specs.Tree.{Node, content_at, children_at, IsTree}
-use Rattle.jsonc_nodes.specs.Names.{FirstNamed, FirstInObject}
-use Rattle.jsonc_nodes.specs.Names as names
-use Rattle.jsonc_nodes.specs.Properties.{value_at}
-use Rattle.jsonc_nodes.specs.Siblings.{elements_at}
-use Rattle.jsonc_from_input.specs.Texts.{IsCharacters}
-use Rattle.jsonc_laws.specs.SoundTrees.{SoundTree}
+use Rattle.jsonc_layout.specs.nodes.Names.{FirstNamed, FirstInObject}
+use Rattle.jsonc_layout.specs.nodes.Names as names
+use Rattle.jsonc_layout.specs.nodes.Properties.{value_at}
+use Rattle.jsonc_layout.specs.nodes.Siblings.{elements_at}
+use Rattle.jsonc_layout.specs.from_input.Texts.{IsCharacters}
+use Rattle.jsonc_sound.specs.SoundTrees.{SoundTree}
 use Rattle.jsonc_edit.specs.Paths.{IsAt, IsElementOf}
 use Rattle.jsonc_edit.specs.declared.error.EditError.{EditError}
 use Rattle.jsonc_edit.specs.declared.error.EditError.TheVariants.{OutOfMemory}
 use Rattle.jsonc_edit.proofs.FittingFinds.{none_is_some}
-use Rattle.jsonc_set.proofs.PropertyRows.{over_at}
-use Rattle.jsonc_set.specs.Kinds.{FoundOrCreated}
-use Rattle.jsonc_parser.specs.Below.named.Places.{IsPropertyOf, a_property}
-use Rattle.jsonc_parser.specs.Below.named.Shapes.{has_shape, is_array, is_object, is_of, empty_of}
-use Rattle.jsonc_parser.specs.Below.named.declared.shape.Shape.{Shape}
-use Rattle.jsonc_parser.specs.Below.named.declared.shape.Shape.TheVariants.{Object, Array}
-use Rattle.jsonc_parser.proofs.Below.run.Ensured.{held}
-use Rattle.jsonc_parser.proofs.Below.named.PropertyValues.{value_held}
-use Rattle.jsonc_parser.proofs.Below.run.Roots.{value_stands}
+use Rattle.jsonc_edit.proofs.lemmas.set.PropertyRows.{over_at}
+use Rattle.jsonc_edit.specs.set.Kinds.{FoundOrCreated}
+use Rattle.jsonc_insert.specs.named.Places.{IsPropertyOf, a_property}
+use Rattle.jsonc_insert.specs.named.Shapes.{has_shape, is_array, is_object, is_of, empty_of}
+use Rattle.jsonc_insert.specs.declared.named.shape.Shape.{Shape}
+use Rattle.jsonc_insert.specs.declared.named.shape.Shape.TheVariants.{Object, Array}
+use Rattle.jsonc_run.proofs.Ensured.{held}
+use Rattle.jsonc_insert.proofs.lemmas.named.PropertyValues.{value_held}
+use Rattle.jsonc_run.proofs.Roots.{value_stands}
 use Rattle.jsonc_cst.specs.declared.cst.node.CstArray.{CstArray}
 use Rattle.jsonc_cst.specs.declared.cst.node.CstObject.{CstObject}
 use Rattle.jsonc_cst.specs.declared.cst.node.CstNode.{CstNode}
 use Rattle.jsonc_cst.specs.declared.cst.node.CstObjectProp.{CstObjectProp}
 use Rattle.jsonc_cst.specs.Nodes.{array_node, object_node}
 use Rattle.jsonc_cst.specs.Readings.{array_if, object_if, typed_if}
-use Rattle.jsonc_parser.specs.Below.typed.Inserting.{ComesInAt, PutsAtItsPath}
-use Rattle.jsonc_parser.specs.Below.typed.Removing.{WantsMemoryAlone}
-use Rattle.jsonc_parser.specs.Below.objects.Members.{NamedComesInAt, PutsNamedAtItsPath}
-use Rattle.jsonc_parser.specs.Below.typed.Setting.{FindsOrCreatesArray, FindsOrCreatesObject, FirstArrayAround, FirstArrayWritten, FirstObjectAround, FirstObjectWritten, FirstOrSame}
-use Rattle.jsonc_parser.specs.Below.typed.Values.{HeldIsMarked, HeldIsWritten, PropertyHolds}
+use Rattle.jsonc_cst.specs.typed.Inserting.{ComesInAt, PutsAtItsPath}
+use Rattle.jsonc_cst.specs.typed.Removing.{WantsMemoryAlone}
+use Rattle.jsonc_cst.specs.objects.Members.{NamedComesInAt, PutsNamedAtItsPath}
+use Rattle.jsonc_cst.specs.typed.Setting.{FindsOrCreatesArray, FindsOrCreatesObject, FirstArrayAround, FirstArrayWritten, FirstObjectAround, FirstObjectWritten, FirstOrSame}
+use Rattle.jsonc_cst.specs.typed.Values.{HeldIsMarked, HeldIsWritten, PropertyHolds}
 use Rattle.jsonc_engine.specs.declared.fault.Fault.TheVariants.{Edit, NotArray, NotObject}
 use Rattle.jsonc_engine.specs.Appending.{AppendsLast}
 use Rattle.jsonc_engine.specs.Fault.{EndsAppending, EndsOnObject, EndsSetting}

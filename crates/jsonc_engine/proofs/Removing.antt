@@ -13,17 +13,17 @@ use Rattle.jsonc_tree.specs.OrderedTree.{OrderedTree, none, more, Shows, shows_n
 use Rattle.jsonc_tree.specs.Tree.{Node, content_at, children_at, IsTree, IsOver}
 use Rattle.jsonc_tree.specs.Values as values
 use Rattle.jsonc_tree.specs.Values.{HoldsValue, DocumentValueOf}
-use Rattle.jsonc_build.specs.Shape.{printed_text}
-use Rattle.jsonc_build.proofs.ShapeValues.{document_printed}
-use Rattle.jsonc_lines.specs.Kinds.{holds_values}
-use Rattle.jsonc_nodes.specs.Kinds.{is_element, is_element_at}
-use Rattle.jsonc_nodes.specs.Names.{FirstNamed, FirstInObject}
-use Rattle.jsonc_nodes.specs.Names as names
-use Rattle.jsonc_nodes.specs.Properties.{value_at, value_by}
-use Rattle.jsonc_laws.proofs.FirstNodes.{value_of_element}
-use Rattle.jsonc_laws.specs.SoundTrees.{SoundTree}
+use Rattle.jsonc_sound.specs.Shape.{printed_text}
+use Rattle.jsonc_sound.proofs.ShapeValues.{document_printed}
+use Rattle.jsonc_layout.specs.lines.Kinds.{holds_values}
+use Rattle.jsonc_layout.specs.nodes.Kinds.{is_element, is_element_at}
+use Rattle.jsonc_layout.specs.nodes.Names.{FirstNamed, FirstInObject}
+use Rattle.jsonc_layout.specs.nodes.Names as names
+use Rattle.jsonc_layout.specs.nodes.Properties.{value_at, value_by}
+use Rattle.jsonc_sound.proofs.FirstNodes.{value_of_element}
+use Rattle.jsonc_sound.specs.SoundTrees.{SoundTree}
 use Rattle.jsonc_edit.specs.Changes.{row_below}
-use Rattle.jsonc_remove.specs.Removed.{TakesElement}
+use Rattle.jsonc_edit.specs.remove.Removed.{TakesElement}
 use Rattle.jsonc_edit.specs.Paths as paths
 use Rattle.jsonc_edit.specs.Paths.{IsAt, IsElementOf, LeadsTo}
 use Rattle.jsonc_edit.specs.declared.error.EditError.{EditError}
@@ -32,18 +32,18 @@ use Rattle.jsonc_edit.proofs.Elements.{taken, left}
 use Rattle.jsonc_edit.proofs.FittingFinds.{passes, fails, none_is_some}
 use Rattle.jsonc_edit.proofs.Uniqueness.{element_parent}
 use Rattle.jsonc_edit.proofs.Walk.{Shows-row_below}
-use Rattle.jsonc_parser.specs.Below.named.Shapes.{is_of}
-use Rattle.jsonc_parser.specs.Below.named.declared.shape.Shape.TheVariants.{Object}
-use Rattle.jsonc_parser.proofs.Below.run.Ensured.{held}
-use Rattle.jsonc_parser.proofs.Below.run.Roots.{root_is, value_stands}
-use Rattle.jsonc_set.specs.Kinds as kinds
+use Rattle.jsonc_insert.specs.named.Shapes.{is_of}
+use Rattle.jsonc_insert.specs.declared.named.shape.Shape.TheVariants.{Object}
+use Rattle.jsonc_run.proofs.Ensured.{held}
+use Rattle.jsonc_run.proofs.Roots.{root_is, value_stands}
+use Rattle.jsonc_edit.specs.set.Kinds as kinds
 use Rattle.jsonc_cst.specs.declared.cst.node.CstObject.{CstObject}
 use Rattle.jsonc_cst.specs.Nodes.{typed}
 use Rattle.jsonc_cst.specs.declared.cst.node.CstObjectProp.{CstObjectProp}
 use Rattle.jsonc_cst.specs.declared.cst.CstRootNode.{CstRootNode}
 use Rattle.jsonc_cst.specs.Document.{nodes_of}
 use Rattle.jsonc_cst.specs.Readings.{object_if, typed_if, IsFirstNamed}
-use Rattle.jsonc_parser.specs.Below.typed.Removing.{IsElementGone, WantsMemoryAlone}
+use Rattle.jsonc_cst.specs.typed.Removing.{IsElementGone, WantsMemoryAlone}
 use Rattle.jsonc_engine.specs.Removal.{IsNoObject, LosesFirst}
 
 -- a node that reads as an object is one
@@ -127,7 +127,7 @@ module _ (o : Options) (ns : List Node) (tree : IsTree ns) (sound : SoundTree o 
       let h = held o ns tree sound n at in
       let same : Some h.value ≡ Some (plain.object ms) = document_unique o (printed_text (ordered_tree ns 0)) (Some h.value) (Some (plain.object ms)) h.text is in
       let value : h.value ≡ plain.object ms = cc in
-      no_object_read ns n read (object_is (content_at ns n) (h.told Object ∙ ap (Rattle.jsonc_parser.specs.Below.named.Shapes.is_object) value))
+      no_object_read ns n read (object_is (content_at ns n) (h.told Object ∙ ap (Rattle.jsonc_insert.specs.named.Shapes.is_object) value))
 
   pub no_object : object_if (typed_if ns (value_at ns 0)) ≡ None → IsNoObject o (printed (ordered_tree ns 0))
   no_object read = from_value (value_at ns 0) refl read

@@ -12,22 +12,22 @@ use Rattle.jsonc_tree.specs.Content.{Content, array, object}
 use Rattle.jsonc_tree.specs.OrderedTree.{ordered_tree, printed}
 use Rattle.jsonc_tree.specs.Tree.{Node, content_at, IsTree}
 use Rattle.jsonc_tree.specs.Values.{DocumentValueOf}
-use Rattle.jsonc_nodes.specs.Properties.{value_at}
-use Rattle.jsonc_laws.specs.SoundTrees.{SoundTree}
+use Rattle.jsonc_layout.specs.nodes.Properties.{value_at}
+use Rattle.jsonc_sound.specs.SoundTrees.{SoundTree}
 use Rattle.jsonc_edit.proofs.FittingFinds.{none_is_some}
-use Rattle.jsonc_set.specs.Kinds as kinds
-use Rattle.jsonc_set.specs.Kinds.{FoundOrCreated}
+use Rattle.jsonc_edit.specs.set.Kinds as kinds
+use Rattle.jsonc_edit.specs.set.Kinds.{FoundOrCreated}
 use Rattle.jsonc_cst.specs.declared.cst.node.CstArray.{CstArray}
 use Rattle.jsonc_cst.specs.declared.cst.node.CstNode.{CstNode}
 use Rattle.jsonc_cst.specs.declared.cst.node.CstObject.{CstObject}
 use Rattle.jsonc_cst.specs.Nodes.{typed}
 use Rattle.jsonc_cst.specs.Readings.{array_if, object_if, typed_if}
-use Rattle.jsonc_parser.specs.Below.named.Shapes.{empty_of, has_shape, is_object, is_of}
-use Rattle.jsonc_parser.specs.Below.named.declared.shape.Shape.{Shape}
-use Rattle.jsonc_parser.specs.Below.named.declared.shape.Shape.TheVariants.{Object}
-use Rattle.jsonc_parser.specs.Below.settings.Found.{names_of}
-use Rattle.jsonc_parser.specs.Below.settings.Settings.{At, in_object, itself, StandsInTheWay, this_stands}
-use Rattle.jsonc_parser.proofs.Below.run.Ensured.{held}
+use Rattle.jsonc_insert.specs.named.Shapes.{empty_of, has_shape, is_object, is_of}
+use Rattle.jsonc_insert.specs.declared.named.shape.Shape.{Shape}
+use Rattle.jsonc_insert.specs.declared.named.shape.Shape.TheVariants.{Object}
+use Rattle.jsonc_parser.specs.paths.Found.{names_of}
+use Rattle.jsonc_parser.specs.paths.Settings.{At, in_object, itself, StandsInTheWay, this_stands}
+use Rattle.jsonc_run.proofs.Ensured.{held}
 use Rattle.jsonc_engine.specs.Input.{HasKind, MayHave}
 use Rattle.jsonc_engine.specs.Settings.{Begin, HasBeginning, HasInTheWay, HasNoBeginning, HasNothingAt, MayBegin}
 use Rattle.jsonc_engine.proofs.Removing.{no_value, object_read, text}

@@ -17,28 +17,28 @@ use Rattle.jsonc_tree.specs.Content as content
 use Rattle.jsonc_tree.specs.Content.{Content, object, property}
 use Rattle.jsonc_tree.specs.OrderedTree.{OrderedTree, none, more, Shows, shows_none, shows_more, ordered_tree}
 use Rattle.jsonc_tree.specs.Tree.{Node, content_at, children_at, IsTree}
-use Rattle.jsonc_nodes.specs.Kinds.{is_element_at}
-use Rattle.jsonc_nodes.specs.Properties.{value_at}
-use Rattle.jsonc_nodes.specs.Siblings.{elements_at}
-use Rattle.jsonc_lines.specs.Kinds.{holds_values}
-use Rattle.jsonc_laws.specs.Alone as alone
-use Rattle.jsonc_laws.specs.Alone.{RowAlone}
-use Rattle.jsonc_laws.specs.Rows.{RowKind, Last, holder, nothing_yet, of_properties, of_values}
-use Rattle.jsonc_laws.specs.SoundTrees.{SoundTree}
-use Rattle.jsonc_laws.specs.TreeChanges.{IsElement}
-use Rattle.jsonc_laws.proofs.FirstNodes.{no_element, trivia_over}
+use Rattle.jsonc_layout.specs.nodes.Kinds.{is_element_at}
+use Rattle.jsonc_layout.specs.nodes.Properties.{value_at}
+use Rattle.jsonc_layout.specs.nodes.Siblings.{elements_at}
+use Rattle.jsonc_layout.specs.lines.Kinds.{holds_values}
+use Rattle.jsonc_sound.specs.Alone as alone
+use Rattle.jsonc_sound.specs.Alone.{RowAlone}
+use Rattle.jsonc_sound.specs.Rows.{RowKind, Last, holder, nothing_yet, of_properties, of_values}
+use Rattle.jsonc_sound.specs.SoundTrees.{SoundTree}
+use Rattle.jsonc_sound.specs.TreeChanges.{IsElement}
+use Rattle.jsonc_sound.proofs.FirstNodes.{no_element, trivia_over}
 use Rattle.jsonc_edit.specs.Changes.{row_below}
 use Rattle.jsonc_edit.specs.Paths.{IsAt}
 use Rattle.jsonc_edit.proofs.Elements.{taken, left}
 use Rattle.jsonc_edit.proofs.FittingNodes.{over_there}
 use Rattle.jsonc_edit.proofs.Kept.{filter_same}
 use Rattle.jsonc_edit.proofs.Walk.{Shows-row_below}
-use Rattle.jsonc_remove.proofs.Containers.{Held, held_at}
-use Rattle.jsonc_set.proofs.PropertyRows.{over_at}
-use Rattle.jsonc_parser.proofs.Below.run.Roots.{value_stands}
-use Rattle.jsonc_order.specs.Asking.{ComparesBy}
-use Rattle.jsonc_order.specs.Order.{IsOrderedBy, comes_before, node_in, option_before}
-use Rattle.jsonc_parser.specs.Below.sort.Rearranged.{Rearranged, headers_of}
+use Rattle.jsonc_edit.proofs.lemmas.remove.Containers.{Held, held_at}
+use Rattle.jsonc_edit.proofs.lemmas.set.PropertyRows.{over_at}
+use Rattle.jsonc_run.proofs.Roots.{value_stands}
+use Rattle.jsonc_sort.specs.ordering.Asking.{ComparesBy}
+use Rattle.jsonc_sort.specs.ordering.Order.{IsOrderedBy, comes_before, node_in, option_before}
+use Rattle.jsonc_sort.specs.Rearranged.{Rearranged, headers_of}
 use Rattle.jsonc_cst.specs.declared.cst.CstRootNode.{CstRootNode}
 use Rattle.jsonc_cst.specs.declared.cst.node.CstNode.{CstNode}
 use Rattle.jsonc_cst.specs.declared.cst.node.CstObject.{CstObject}
@@ -46,9 +46,9 @@ use Rattle.jsonc_cst.specs.declared.cst.node.CstObjectProp.{CstObjectProp}
 use Rattle.jsonc_cst.specs.Document.{nodes_of, Holds}
 use Rattle.jsonc_cst.specs.Nodes.{object_prop_node, typed, typed_at}
 use Rattle.jsonc_cst.specs.Readings.{object_if, property_under, typed_if}
-use Rattle.jsonc_parser.specs.Below.sorting.Asking.{IsInItsOrder}
-use Rattle.jsonc_parser.specs.Below.sorting.Rows.{property_if}
-use Rattle.jsonc_parser.specs.Below.sorting.Sorted.{PropertiesSorted}
+use Rattle.jsonc_cst.specs.sorting.Asking.{IsInItsOrder}
+use Rattle.jsonc_cst.specs.sorting.Rows.{property_if}
+use Rattle.jsonc_cst.specs.sorting.Sorted.{PropertiesSorted}
 use Rattle.jsonc_engine.specs.Sorting.{IsByName, SortsIfSound, has_less_name, is_less, numbers_in, written_name}
 use Rattle.jsonc_engine.proofs.Removing.{object_read}
 

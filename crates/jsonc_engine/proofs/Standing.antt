@@ -7,19 +7,19 @@ use Rattle.jsonc_text.specs.Plain.{Plain}
 use Rattle.jsonc_tree.specs.OrderedTree.{ordered_tree, printed}
 use Rattle.jsonc_tree.specs.Tree.{Node}
 use Rattle.jsonc_tree.specs.Values.{DocumentValueOf}
-use Rattle.jsonc_build.specs.Shape.{printed_text}
-use Rattle.jsonc_build.proofs.ShapeValues.{document_printed}
-use Rattle.jsonc_laws.specs.Documents.{Shows, document_of}
-use Rattle.jsonc_laws.specs.SoundTrees.{SoundTree}
+use Rattle.jsonc_sound.specs.Shape.{printed_text}
+use Rattle.jsonc_sound.proofs.ShapeValues.{document_printed}
+use Rattle.jsonc_sound.specs.Documents.{Shows, document_of}
+use Rattle.jsonc_sound.specs.SoundTrees.{SoundTree}
 use Rattle.jsonc_edit.specs.declared.error.EditError.{EditError}
 use Rattle.jsonc_edit.specs.declared.error.EditError.TheVariants.{OutOfMemory}
 use Rattle.jsonc_cst.specs.declared.cst.CstRootNode.{CstRootNode}
 use Rattle.jsonc_cst.specs.declared.cst.node.CstNode.{CstNode}
 use Rattle.jsonc_cst.specs.Document.{nodes_of, tree_of}
 use Rattle.jsonc_cst.specs.Nodes.{number_of}
-use Rattle.jsonc_parser.specs.Below.named.declared.shape.Over.TheVariants.{Keep}
-use Rattle.jsonc_parser.specs.Below.settings.Calls.{DropsWhatShown, PutsWhatShown, WantsMemory}
-use Rattle.jsonc_parser.specs.Below.settings.Found.{FindsWhatShown}
+use Rattle.jsonc_insert.specs.declared.named.shape.Over.TheVariants.{Keep}
+use Rattle.jsonc_parser.specs.paths.Calls.{DropsWhatShown, PutsWhatShown, WantsMemory}
+use Rattle.jsonc_parser.specs.paths.Found.{FindsWhatShown}
 use Rattle.jsonc_engine.specs.Fault.{EndsGetting, EndsPutting}
 use Rattle.jsonc_engine.specs.Settings.{DropsSetting, HasBeginning, HasInTheWay, HasNothingAt, IsShownAt, MayBegin, PutsSetting, ShowsOne}
 use Rattle.jsonc_engine.specs.declared.fault.Fault.TheVariants.{Edit}

@@ -5,14 +5,14 @@ use Rattle.jsonc_text.specs.Plain.{Plain}
 use Rattle.jsonc_tree.specs.Content.{array}
 use Rattle.jsonc_tree.specs.OrderedTree.{ordered_tree}
 use Rattle.jsonc_tree.specs.Tree.{Node, content_at}
-use Rattle.jsonc_nodes.specs.Properties.{value_at}
-use Rattle.jsonc_nodes.specs.Siblings.{elements_at}
-use Rattle.jsonc_laws.specs.SoundTrees.{SoundTree}
+use Rattle.jsonc_layout.specs.nodes.Properties.{value_at}
+use Rattle.jsonc_layout.specs.nodes.Siblings.{elements_at}
+use Rattle.jsonc_sound.specs.SoundTrees.{SoundTree}
 use Rattle.jsonc_edit.specs.Writing.{IsWritable}
 use Rattle.jsonc_cst.specs.declared.cst.node.CstArray.{CstArray}
 use Rattle.jsonc_cst.specs.declared.cst.node.CstNode.{CstNode}
-use Rattle.jsonc_parser.specs.Below.typed.Inserting.{ComesInAt, IsPutIn}
-use Rattle.jsonc_parser.specs.Below.typed.Setting.{FindsOrCreatesArray, FirstArrayAround, FirstArrayWritten}
+use Rattle.jsonc_cst.specs.typed.Inserting.{ComesInAt, IsPutIn}
+use Rattle.jsonc_cst.specs.typed.Setting.{FindsOrCreatesArray, FirstArrayAround, FirstArrayWritten}
 
 -- The document's value is an array, an empty one that has come first where it had none, and v has come behind its last element, in these two steps and no more.
 -- Where v may be written the text is a document again, sound, whose value has v more, and of the literals and comments those of v have come.

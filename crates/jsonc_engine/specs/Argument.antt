@@ -3,7 +3,7 @@ use Rattle.std.specs.Prelude.{◌≡◌, ◌≢◌, ℕ, List, Option, Some, Non
 use Rattle.jsonc_text.specs.Grammar.{IsDocument}
 use Rattle.jsonc_text.specs.Options.{all_on}
 use Rattle.jsonc_text.specs.Plain.{Plain, Items, array, collapse, string}
-use Rattle.jsonc_input.specs.Views.{items_of}
+use Rattle.jsonc_layout.specs.input.Views.{items_of}
 use Rattle.jsonc_edit.specs.Writing.{IsWritable}
 use Rattle.jsonc_engine.specs.Command.{Request, json_of, path_of}
 use Rattle.jsonc_engine.specs.Input.{IsRefusal}

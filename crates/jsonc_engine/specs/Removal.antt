@@ -7,13 +7,13 @@ use Rattle.jsonc_text.specs.Plain.{Members}
 use Rattle.jsonc_tree.specs.Content.{object}
 use Rattle.jsonc_tree.specs.OrderedTree.{ordered_tree}
 use Rattle.jsonc_tree.specs.Tree.{Node, content_at}
-use Rattle.jsonc_nodes.specs.Names.{FirstInObject}
-use Rattle.jsonc_nodes.specs.Properties.{value_at}
-use Rattle.jsonc_laws.specs.SoundTrees.{SoundTree}
+use Rattle.jsonc_layout.specs.nodes.Names.{FirstInObject}
+use Rattle.jsonc_layout.specs.nodes.Properties.{value_at}
+use Rattle.jsonc_sound.specs.SoundTrees.{SoundTree}
 use Rattle.jsonc_edit.specs.Changes.{top_at}
 use Rattle.jsonc_edit.specs.Paths.{IsElementOf}
-use Rattle.jsonc_remove.specs.Laws.{IsEntryRemoved}
-use Rattle.jsonc_remove.specs.Removed.{TakesElement}
+use Rattle.jsonc_edit.specs.remove.Laws.{IsEntryRemoved}
+use Rattle.jsonc_edit.specs.remove.Removed.{TakesElement}
 
 -- the property n has left the object c, with what leaves with it and nothing else, and what is left is a document without that entry
 pub record PropertyLeft (o : Options) (old new : List Node) (c n : ℕ) : Type 0 where

@@ -5,12 +5,12 @@ use Rattle.jsonc_text.specs.Plain.{Plain}
 use Rattle.jsonc_tree.specs.Content.{object}
 use Rattle.jsonc_tree.specs.OrderedTree.{ordered_tree}
 use Rattle.jsonc_tree.specs.Tree.{Node, content_at}
-use Rattle.jsonc_nodes.specs.Names.{FirstInObject}
-use Rattle.jsonc_nodes.specs.Properties.{value_at}
-use Rattle.jsonc_nodes.specs.Siblings.{elements_at}
-use Rattle.jsonc_laws.specs.MarkChanges.{marks_under}
-use Rattle.jsonc_laws.specs.SoundTrees.{SoundTree}
-use Rattle.jsonc_laws.specs.Written as marks
+use Rattle.jsonc_layout.specs.nodes.Names.{FirstInObject}
+use Rattle.jsonc_layout.specs.nodes.Properties.{value_at}
+use Rattle.jsonc_layout.specs.nodes.Siblings.{elements_at}
+use Rattle.jsonc_sound.specs.MarkChanges.{marks_under}
+use Rattle.jsonc_sound.specs.SoundTrees.{SoundTree}
+use Rattle.jsonc_sound.specs.Written as marks
 use Rattle.jsonc_edit.specs.Changes.{top_at}
 use Rattle.jsonc_edit.specs.Paths.{IsElementOf}
 use Rattle.jsonc_edit.specs.Writing.{IsWritable}
@@ -19,10 +19,10 @@ use Rattle.jsonc_cst.specs.declared.cst.node.CstNode.{CstNode}
 use Rattle.jsonc_cst.specs.declared.cst.node.CstObject.{CstObject}
 use Rattle.jsonc_cst.specs.declared.cst.node.CstObjectProp.{CstObjectProp}
 use Rattle.jsonc_cst.specs.Nodes.{number_of}
-use Rattle.jsonc_parser.specs.Below.typed.Marked.{MarksGiveWay}
-use Rattle.jsonc_parser.specs.Below.objects.Members.{IsNamedPutIn, NamedComesInAt}
-use Rattle.jsonc_parser.specs.Below.typed.Setting.{FindsOrCreatesObject, FirstObjectAround, FirstObjectWritten}
-use Rattle.jsonc_parser.specs.Below.typed.Values.{PropertyHolds}
+use Rattle.jsonc_cst.specs.typed.Marked.{MarksGiveWay}
+use Rattle.jsonc_cst.specs.objects.Members.{IsNamedPutIn, NamedComesInAt}
+use Rattle.jsonc_cst.specs.typed.Setting.{FindsOrCreatesObject, FirstObjectAround, FirstObjectWritten}
+use Rattle.jsonc_cst.specs.typed.Values.{PropertyHolds}
 
 -- The value of the property p, an element of the object c that is the document's value, has given way to v, and nothing else has changed. Where v may be written
 -- the text is a document again, sound, whose value has changed there alone; the literals and comments of the old value have given way to the literals of v, and all

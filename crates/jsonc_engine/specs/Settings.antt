@@ -6,13 +6,13 @@ use Rattle.jsonc_text.specs.Options.{Options}
 use Rattle.jsonc_text.specs.Plain.{Plain}
 use Rattle.jsonc_tree.specs.OrderedTree.{ordered_tree, printed}
 use Rattle.jsonc_tree.specs.Tree.{Node}
-use Rattle.jsonc_laws.specs.Documents.{Shows}
-use Rattle.jsonc_laws.specs.SoundTrees.{SoundTree}
-use Rattle.jsonc_parser.specs.Below.named.Shapes.{is_object}
-use Rattle.jsonc_parser.specs.Below.named.declared.shape.Over.TheVariants.{Keep}
-use Rattle.jsonc_parser.specs.Below.settings.Calls.{DropsAt, PutsAt}
-use Rattle.jsonc_parser.specs.Below.settings.Settings.{At, StandsInTheWay}
-use Rattle.jsonc_parser.specs.Below.settings.Standing.{NamesNode}
+use Rattle.jsonc_sound.specs.Documents.{Shows}
+use Rattle.jsonc_sound.specs.SoundTrees.{SoundTree}
+use Rattle.jsonc_insert.specs.named.Shapes.{is_object}
+use Rattle.jsonc_insert.specs.declared.named.shape.Over.TheVariants.{Keep}
+use Rattle.jsonc_parser.specs.paths.Calls.{DropsAt, PutsAt}
+use Rattle.jsonc_parser.specs.paths.Settings.{At, StandsInTheWay}
+use Rattle.jsonc_parser.specs.paths.Standing.{NamesNode}
 
 -- the nodes show a document under these options
 pub record ShowsOne (o : Options) (ns : List Node) : Type 0 where

@@ -8,11 +8,11 @@ use Rattle.jsonc_text.specs.Options.{Options}
 use Rattle.jsonc_tree.specs.Content.{Content, object, string, word}
 use Rattle.jsonc_tree.specs.OrderedTree.{ordered_tree}
 use Rattle.jsonc_tree.specs.Tree.{Node, content_at}
-use Rattle.jsonc_nodes.specs.Properties.{name_at, value_at}
-use Rattle.jsonc_nodes.specs.Siblings.{elements_at}
-use Rattle.jsonc_laws.specs.SoundTrees.{SoundTree}
-use Rattle.jsonc_parser.specs.Below.sort.Rearranged.{Rearranged, headers_of}
-use Rattle.jsonc_parser.specs.Below.sorting.Sorted.{IsSortedAt}
+use Rattle.jsonc_layout.specs.nodes.Properties.{name_at, value_at}
+use Rattle.jsonc_layout.specs.nodes.Siblings.{elements_at}
+use Rattle.jsonc_sound.specs.SoundTrees.{SoundTree}
+use Rattle.jsonc_sort.specs.Rearranged.{Rearranged, headers_of}
+use Rattle.jsonc_cst.specs.sorting.Sorted.{IsSortedAt}
 
 -- the bytes of a string without its quotes: all but the first and the last
 abbrev pub between_quotes : List ℕ → List ℕ

@@ -2,8 +2,8 @@
 ghost use Rattle.std.specs.Prelude.{◌≡◌, IfErr, IfOk, Some, chars, false, map, option_map, true};
 ghost use Rattle.jsonc_text.specs.Plain.{array};
 ghost use Rattle.jsonc_ast.specs.Views as ast;
-ghost use Rattle.jsonc_input.specs.Views.{items_of, plain};
-ghost use Rattle.jsonc_parser.specs.Below.settings.Found.{names_of};
+ghost use Rattle.jsonc_layout.specs.input.Views.{items_of, plain};
+ghost use Rattle.jsonc_parser.specs.paths.Found.{names_of};
 ghost use Rattle.jsonc_engine.specs.Argument.{AreNames, AreNoNames, IsArgument, IsFaultOfArgument, IsFaultOfJson};
 ghost use Rattle.jsonc_engine.specs.Argument.{IsFaultOfNames, IsFaultOfPath, IsPath, items_in, strings, text_in};
 ghost use Rattle.jsonc_engine.specs.Change.{IsChangeFor};

@@ -1,8 +1,8 @@
 //! Commands that change the document.
 ghost use Rattle.std.specs.Prelude.{◌≡◌, chars, IfErr, OnErr, OnOk};
 ghost use Rattle.jsonc_text.specs.Options.{Options};
-ghost use Rattle.jsonc_input.specs.Views.{plain};
-ghost use Rattle.jsonc_laws.specs.SoundTrees.{SoundTree};
+ghost use Rattle.jsonc_layout.specs.input.Views.{plain};
+ghost use Rattle.jsonc_sound.specs.SoundTrees.{SoundTree};
 ghost use Rattle.jsonc_cst.specs.Document.{nodes_of, printed_of, tree_of};
 ghost use Rattle.jsonc_engine.specs.Appending.{AppendsIfSound};
 ghost use Rattle.jsonc_engine.specs.Change.{IsChangeFor, MakesIfSound};

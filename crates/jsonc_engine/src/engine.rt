@@ -3,7 +3,7 @@ ghost use Rattle.std.specs.Prelude.{◌≡◌, ◌↔◌, ◌<◌, ◌+◌, ◌+
 ghost use Rattle.std.specs.Prelude.{IfSome, IfOk, IfErr, OnOk, OnErr, IsErrOf, IsUtf8};
 ghost use Rattle.std.specs.Io.KnownBytes.{Appends, Keeps};
 ghost use Rattle.jsonc_text.specs.Options.{Options};
-ghost use Rattle.jsonc_laws.specs.SoundTrees.{SoundTree};
+ghost use Rattle.jsonc_sound.specs.SoundTrees.{SoundTree};
 ghost use Rattle.jsonc_cst.specs.Document.{tree_of};
 ghost use Rattle.jsonc_engine.specs.Calls.{one_more};
 ghost use Rattle.jsonc_engine.specs.Change.{GetsNothing, IsChangeFor};

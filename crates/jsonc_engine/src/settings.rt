@@ -1,10 +1,10 @@
 //! Values at paths of names.
 ghost use Rattle.std.specs.Prelude.{◌≡◌, false, true, IfErr, IfOk, OnErr, OnOk};
 ghost use Rattle.jsonc_text.specs.Options.{Options};
-ghost use Rattle.jsonc_input.specs.Views.{plain};
-ghost use Rattle.jsonc_laws.specs.SoundTrees.{SoundTree};
+ghost use Rattle.jsonc_layout.specs.input.Views.{plain};
+ghost use Rattle.jsonc_sound.specs.SoundTrees.{SoundTree};
 ghost use Rattle.jsonc_cst.specs.Document.{nodes_of, printed_of, tree_of};
-ghost use Rattle.jsonc_parser.specs.Below.settings.Found.{names_of};
+ghost use Rattle.jsonc_parser.specs.paths.Found.{names_of};
 ghost use Rattle.jsonc_engine.specs.Fault.{EndsGetting, EndsPutting};
 ghost use Rattle.jsonc_engine.specs.Output.{output_bytes};
 ghost use Rattle.jsonc_engine.specs.Settings.{DropsIfSound, HasNoBeginning, MayBegin, PutsIfSound, ShownIfSound};

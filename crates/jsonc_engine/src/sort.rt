@@ -3,7 +3,7 @@ ghost use Rattle.std.specs.Prelude.{◌≡◌, IfErr, OnErr, OnOk};
 ghost use Rattle.std.specs.Cmp.Lexicographic.{slice_cmp};
 ghost use Rattle.std.specs.Ordering.{nat_cmp};
 ghost use Rattle.jsonc_text.specs.Options.{Options};
-ghost use Rattle.jsonc_laws.specs.SoundTrees.{SoundTree};
+ghost use Rattle.jsonc_sound.specs.SoundTrees.{SoundTree};
 ghost use Rattle.jsonc_cst.specs.Document.{nodes_of, printed_of, tree_of, Holds};
 ghost use Rattle.jsonc_cst.specs.Nodes.{object_prop_node};
 ghost use Rattle.jsonc_engine.specs.Fault.{EndsOnObject};

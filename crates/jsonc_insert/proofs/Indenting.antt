@@ -5,11 +5,11 @@ use Rattle.std.proofs.lemmas.Bool.{false≢true}
 use Rattle.std.proofs.lemmas.List.{drop_all, drop_more, get_or-drop, take_more}
 use Rattle.std.proofs.lemmas.List.Edits.{between_none}
 use Rattle.jsonc_tree.specs.Tree.{Node}
-use Rattle.jsonc_nodes.specs.Kinds.{is_newline_at}
-use Rattle.jsonc_lines.specs.IndentViews.{text_in}
-use Rattle.jsonc_lines.specs.Kinds.{blank_at}
-use Rattle.jsonc_lines.specs.Lines.{blanks}
-use Rattle.jsonc_lines.proofs.Walking.{blanks_more, blanks_over}
+use Rattle.jsonc_layout.specs.nodes.Kinds.{is_newline_at}
+use Rattle.jsonc_layout.specs.lines.IndentViews.{text_in}
+use Rattle.jsonc_layout.specs.lines.Kinds.{blank_at}
+use Rattle.jsonc_layout.specs.lines.Lines.{blanks}
+use Rattle.jsonc_layout.proofs.lemmas.lines.Walking.{blanks_more, blanks_over}
 use Rattle.jsonc_insert.specs.Settings.{first_indent_past, indent_of_line, line_past}
 
 module _ (ns : List Node) (row : List ℕ) (i : ℕ) (h : i < length row) where

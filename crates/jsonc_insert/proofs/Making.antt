@@ -9,8 +9,8 @@ use Rattle.jsonc_tree.specs.Content.{Content}
 use Rattle.jsonc_tree.specs.Tree.{Node, content_at, IsTree}
 use Rattle.jsonc_tree.proofs.Builder.{Keeps-adds, Keeps-fewer, Keeps-same, Keeps-then}
 use Rattle.jsonc_edit.proofs.Kept.{built_top, top_stays}
-use Rattle.jsonc_from_input.specs.Laid.{laid}
-use Rattle.jsonc_from_input.specs.Layout.{Layout}
+use Rattle.jsonc_layout.specs.from_input.Laid.{laid}
+use Rattle.jsonc_layout.specs.from_input.Layout.{Layout}
 use Rattle.jsonc_insert.specs.Made.{comma_at, AreFresh, Gains, IsFresh, LeavesMade}
 use Rattle.jsonc_insert.specs.Inserted.{leaves_before, leaves_behind, NodesMade}
 use Rattle.jsonc_insert.specs.declared.plan.Plan.{Plan}

@@ -9,10 +9,10 @@ use Rattle.jsonc_tree.specs.Tree.{Node, content_at, parent_at, children_at, is_i
 use Rattle.jsonc_tree.proofs.Order.{parent_there}
 use Rattle.jsonc_tree.proofs.Splicing.{out_from}
 use Rattle.jsonc_tree.specs.declared.node.CstNewlineKind.{CstNewlineKind}
-use Rattle.jsonc_nodes.specs.Kinds.{is_element, is_element_at}
+use Rattle.jsonc_layout.specs.nodes.Kinds.{is_element, is_element_at}
 use Rattle.jsonc_edit.proofs.Kept.{filter_same}
-use Rattle.jsonc_from_input.specs.Laid.{laid}
-use Rattle.jsonc_from_input.specs.Layout.{Layout}
+use Rattle.jsonc_layout.specs.from_input.Laid.{laid}
+use Rattle.jsonc_layout.specs.from_input.Layout.{Layout}
 use Rattle.jsonc_insert.specs.Inserted.{leaves_before, outer_indent, plan_of, put_by, with_comma, ElementPut}
 use Rattle.jsonc_insert.specs.Made.{comma_at, comma_leaf, gap_leaves, IsFresh}
 use Rattle.jsonc_insert.specs.Planned.{elements, has_brackets}

@@ -5,7 +5,7 @@ use Rattle.std.proofs.lemmas.Bool.{cases_lt}
 use Rattle.std.proofs.lemmas.Option.{slice_get_past}
 use Rattle.jsonc_text.specs.Plain.{Plain}
 use Rattle.jsonc_tree.specs.Tree.{Node, children_at}
-use Rattle.jsonc_lines.specs.Breadth.{last_element}
+use Rattle.jsonc_layout.specs.lines.Breadth.{last_element}
 use Rattle.jsonc_insert.specs.Inserted.{outer_indent, plan_of, put_by, NodesMade}
 use Rattle.jsonc_insert.specs.Laws.{PastTheEnd}
 use Rattle.jsonc_insert.specs.Planned.{element_before, elements, place_in, plan_behind, plan_by, planned}

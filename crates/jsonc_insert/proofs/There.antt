@@ -3,10 +3,10 @@ use Rattle.std.proofs.Common.{◌≡◌, ◌<◌, ◌≤◌, ◌⊎◌, inl, inr
 use Rattle.std.proofs.lemmas.List.Elements.{All-filter}
 use Rattle.std.proofs.lemmas.Option.{slice_get_cases}
 use Rattle.jsonc_tree.specs.Tree.{Node}
-use Rattle.jsonc_nodes.specs.Kinds.{is_element_at}
-use Rattle.jsonc_nodes.specs.Siblings.{AreThere, IsThere}
-use Rattle.jsonc_nodes.proofs.There.{All-reverse, find_there}
-use Rattle.jsonc_lines.specs.Breadth.{last_element}
+use Rattle.jsonc_layout.specs.nodes.Kinds.{is_element_at}
+use Rattle.jsonc_layout.specs.nodes.Siblings.{AreThere, IsThere}
+use Rattle.jsonc_layout.proofs.lemmas.nodes.There.{All-reverse, find_there}
+use Rattle.jsonc_layout.specs.lines.Breadth.{last_element}
 use Rattle.jsonc_insert.specs.Planned.{elements}
 
 got_there : (ns : List Node) (xs : List ℕ) (i : ℕ) → AreThere ns xs → IsThere ns (slice_get xs i)

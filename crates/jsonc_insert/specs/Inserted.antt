@@ -8,8 +8,8 @@ use Rattle.jsonc_edit.specs.Changes.{top_at}
 use Rattle.jsonc_edit.specs.Put.{Prepared}
 use Rattle.jsonc_edit.specs.declared.error.EditError.{EditError}
 use Rattle.jsonc_edit.specs.declared.error.EditError.TheVariants.{MissingBrackets, OutOfMemory}
-use Rattle.jsonc_from_input.specs.Laid.{laid}
-use Rattle.jsonc_from_input.specs.Layout.{Layout}
+use Rattle.jsonc_layout.specs.from_input.Laid.{laid}
+use Rattle.jsonc_layout.specs.from_input.Layout.{Layout}
 use Rattle.jsonc_insert.specs.Trimmed.{trimmed, with_at}
 use Rattle.jsonc_insert.specs.Planned.{has_brackets, planned}
 use Rattle.jsonc_insert.specs.Made.{AreFresh, comma_at, comma_leaf, gap_leaves}

@@ -4,10 +4,10 @@ use Rattle.std.specs.Option.{option_or}
 use Rattle.std.specs.List.{list_any, list_all, take_while}
 use Rattle.jsonc_tree.specs.Content.{Content, token}
 use Rattle.jsonc_tree.specs.Tree.{Node, content_at}
-use Rattle.jsonc_nodes.specs.Kinds.{is_beside_at, is_element_at, is_newline_at, is_trivia_at}
-use Rattle.jsonc_nodes.specs.Siblings.{is_no_newline_at}
-use Rattle.jsonc_lines.specs.Breadth.{last_element}
-use Rattle.jsonc_lines.specs.Kinds.{is_comma}
+use Rattle.jsonc_layout.specs.nodes.Kinds.{is_beside_at, is_element_at, is_newline_at, is_trivia_at}
+use Rattle.jsonc_layout.specs.nodes.Siblings.{is_no_newline_at}
+use Rattle.jsonc_layout.specs.lines.Breadth.{last_element}
+use Rattle.jsonc_layout.specs.lines.Kinds.{is_comma}
 use Rattle.jsonc_insert.specs.Trimmed.{last_blanks, last_spaces}
 use Rattle.jsonc_insert.specs.declared.plan.Gap.{Gap}
 use Rattle.jsonc_insert.specs.declared.plan.Gap.TheVariants.{Nothing, Space, Line}

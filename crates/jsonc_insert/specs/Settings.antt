@@ -6,14 +6,14 @@ use Rattle.jsonc_text.specs.Plain.{Plain, member}
 use Rattle.jsonc_tree.specs.Tree.{Node, children_at, is_in, parent_at}
 use Rattle.jsonc_tree.specs.declared.node.CstNewlineKind.{CstNewlineKind}
 use Rattle.jsonc_tree.specs.declared.node.CstNewlineKind.TheVariants.{LineFeed}
-use Rattle.jsonc_nodes.specs.Kinds.{is_newline_at, is_trivia_at, is_whitespace_at}
-use Rattle.jsonc_nodes.specs.Properties.{element_from}
-use Rattle.jsonc_lines.specs.Breadth.{ends_with_comma, is_in_document, is_spaced, last_element, levels, line_end_at}
-use Rattle.jsonc_lines.specs.Indents.{IndentTexts, indents_at}
-use Rattle.jsonc_lines.specs.Lines.{blanks, indent_at}
-use Rattle.jsonc_lines.specs.Siblings.{trailing_comma_at}
-use Rattle.jsonc_from_input.specs.Laid.{holds_filled}
-use Rattle.jsonc_from_input.specs.Layout.{Layout}
+use Rattle.jsonc_layout.specs.nodes.Kinds.{is_newline_at, is_trivia_at, is_whitespace_at}
+use Rattle.jsonc_layout.specs.nodes.Properties.{element_from}
+use Rattle.jsonc_layout.specs.lines.Breadth.{ends_with_comma, is_in_document, is_spaced, last_element, levels, line_end_at}
+use Rattle.jsonc_layout.specs.lines.Indents.{IndentTexts, indents_at}
+use Rattle.jsonc_layout.specs.lines.Lines.{blanks, indent_at}
+use Rattle.jsonc_layout.specs.lines.Siblings.{trailing_comma_at}
+use Rattle.jsonc_layout.specs.from_input.Laid.{holds_filled}
+use Rattle.jsonc_layout.specs.from_input.Layout.{Layout}
 use Rattle.jsonc_insert.specs.Trimmed.{trimmed}
 use Rattle.jsonc_insert.specs.Planned.{elements}
 use Rattle.jsonc_insert.specs.declared.walk.Sought.{Sought}

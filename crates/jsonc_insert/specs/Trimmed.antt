@@ -2,7 +2,7 @@
 use Rattle.std.specs.Prelude.{ℕ, ◌+◌, ◌-◌, Bool, ◌||◌, List, ◌++◌, length, take, drop, reverse, slice_range, nat_lt, if◌then◌else◌}
 use Rattle.std.specs.List.{take_while}
 use Rattle.jsonc_tree.specs.Tree.{Node}
-use Rattle.jsonc_nodes.specs.Kinds.{is_newline_at, is_whitespace_at}
+use Rattle.jsonc_layout.specs.nodes.Kinds.{is_newline_at, is_whitespace_at}
 use Rattle.jsonc_insert.specs.declared.trim.Stretch.{Stretch}
 
 -- whitespace or a line's end

@@ -7,8 +7,8 @@ use Rattle.jsonc_tree.specs.Content.{Content, newline, root, token, whitespace, 
 use Rattle.jsonc_tree.specs.OrderedTree.{none, Top}
 use Rattle.jsonc_tree.specs.Tree.{Node, children_at}
 use Rattle.jsonc_tree.specs.declared.node.CstNewlineKind.TheVariants.{LineFeed, CarriageReturnLineFeed}
-use Rattle.jsonc_from_input.specs.Laid.{laid}
-use Rattle.jsonc_edit.specs.Below.laws.TreeChanges.{leaves_of}
+use Rattle.jsonc_layout.specs.from_input.Laid.{laid}
+use Rattle.jsonc_sound.specs.TreeChanges.{leaves_of}
 use Rattle.jsonc_edit.specs.Changes.{top_at}
 use Rattle.jsonc_insert.specs.Trimmed.{trimmed}
 use Rattle.jsonc_insert.specs.Settings.{layout_inside}

@@ -10,15 +10,22 @@
 //!
 //! [`insert_element`] does so with a value and a number; a number past the end means the end
 //! (`specs/Laws.antt`, which also says what stays and that blanks alone leave). `specs/Worked.antt` has
-//! worked insertions. What becomes of a sound document is said in `jsonc_insertion_laws`. What objects
-//! need of all this, whose properties come in by `jsonc_members`, is given out as well.
+//! worked insertions. What becomes of a sound document is said in `jsonc_insert::elements`. What objects
+//! need of all this, whose properties come in by `jsonc_insert::members`, is given out as well.
+//!
+//! [`members`] puts properties into objects, and [`named`] sees that the first property of a name has an array or an object.
+//! What becomes of a sound document is said in [`elements`] and [`properties`].
 #![tactic(auto)]
 
+pub mod elements;
 mod insert;
 pub mod laws;
 mod lines;
 mod made;
+pub mod members;
+pub mod named;
 mod plan;
+pub mod properties;
 mod settings;
 mod trim;
 mod walk;

@@ -2,14 +2,14 @@
 
 ghost use Rattle.std.specs.Prelude.{◌≡◌, ◌≤◌, ◌<◌, ◌+◌, [], IfOk, length, slice_index, string_bytes, if◌then◌else◌};
 ghost use Rattle.std.specs.List.{list_all, list_any};
-ghost use Rattle.jsonc_nodes.specs.Kinds.{is_newline_at, is_trivia_at, is_whitespace_at};
-ghost use Rattle.jsonc_lines.specs.IndentViews.{text_in};
-ghost use Rattle.jsonc_lines.specs.Kinds.{blank_at};
-ghost use Rattle.jsonc_lines.specs.Lines.{blanks};
+ghost use Rattle.jsonc_layout.specs.nodes.Kinds.{is_newline_at, is_trivia_at, is_whitespace_at};
+ghost use Rattle.jsonc_layout.specs.lines.IndentViews.{text_in};
+ghost use Rattle.jsonc_layout.specs.lines.Kinds.{blank_at};
+ghost use Rattle.jsonc_layout.specs.lines.Lines.{blanks};
 ghost use Rattle.jsonc_insert.specs.Settings.{begins_blank, first_indent_past, indent_of_line, single_in};
 
-use jsonc_lines::blank_at;
-use jsonc_nodes::{is_newline, is_trivia, is_whitespace};
+use jsonc_layout::lines::blank_at;
+use jsonc_layout::nodes::{is_newline, is_trivia, is_whitespace};
 use jsonc_tree::Tree;
 use std::alloc::{AllocError, Allocator};
 

@@ -3,15 +3,15 @@
 ghost use Rattle.std.specs.Prelude.{◌≡◌, ◌∷◌, [], IfOk, OnOk, string_bytes};
 ghost use Rattle.jsonc_tree.specs.Content.{newline, whitespace};
 ghost use Rattle.jsonc_tree.specs.Stored.{content_of};
-ghost use Rattle.jsonc_input.specs.Views.{plain};
-ghost use Rattle.jsonc_from_input.specs.Layout.{layout_of};
+ghost use Rattle.jsonc_layout.specs.input.Views.{plain};
+ghost use Rattle.jsonc_layout.specs.from_input.Layout.{layout_of};
 ghost use Rattle.jsonc_edit.specs.Put.{Prepared};
 ghost use Rattle.jsonc_insert.specs.Inserted.{leaves_before, leaves_behind, NodesMade};
 ghost use Rattle.jsonc_insert.specs.Made.{comma_leaf, gap_leaves, Gains, LeavesMade};
 
 use crate::plan::{Gap, Plan};
-use jsonc_from_input::{Layout, lay_out};
-use jsonc_input::CstInputValue;
+use jsonc_layout::from_input::{Layout, lay_out};
+use jsonc_layout::input::CstInputValue;
 use jsonc_tree::{CstNewlineKind, Kind, Tree};
 use std::alloc::{AllocError, Allocator};
 

@@ -4,16 +4,16 @@ ghost use Rattle.std.specs.Prelude.{◌≡◌, ◌≤◌, ◌<◌, length, slice
 ghost use Rattle.std.specs.List.{list_all};
 ghost use Rattle.jsonc_tree.specs.Stored.{content_of};
 ghost use Rattle.jsonc_tree.specs.Tree.{children_at, content_at};
-ghost use Rattle.jsonc_nodes.specs.Kinds.{is_beside, is_beside_at};
-ghost use Rattle.jsonc_lines.specs.Breadth.{last_element};
-ghost use Rattle.jsonc_lines.specs.Kinds.{is_comma};
+ghost use Rattle.jsonc_layout.specs.nodes.Kinds.{is_beside, is_beside_at};
+ghost use Rattle.jsonc_layout.specs.lines.Breadth.{last_element};
+ghost use Rattle.jsonc_layout.specs.lines.Kinds.{is_comma};
 ghost use Rattle.jsonc_insert.specs.Planned.{before_next, behind_comma, comma_comes, comma_wanted, element_before};
 ghost use Rattle.jsonc_insert.specs.Planned.{elements, has_brackets, has_comma, is_comma_at, is_token, line, line_ends};
 ghost use Rattle.jsonc_insert.specs.Planned.{line_if, line_unless, parting, past_comments, place_in, plan_alone, plan_behind};
 ghost use Rattle.jsonc_insert.specs.Planned.{plan_first, planned, through_comments, trivia};
 
 use crate::trim::{last_blanks, last_spaces};
-use jsonc_nodes::{is_element, is_newline, is_trivia};
+use jsonc_layout::nodes::{is_element, is_newline, is_trivia};
 use jsonc_tree::{Kind, Tree};
 use std::alloc::Allocator;
 

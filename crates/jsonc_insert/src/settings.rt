@@ -2,24 +2,24 @@
 //! when blank lines have left.
 
 ghost use Rattle.std.specs.Prelude.{◌≡◌, ◌<◌, All, IfOk, length, string_bytes};
-ghost use Rattle.jsonc_input.specs.Views.{plain};
-ghost use Rattle.jsonc_nodes.specs.Siblings.{IsThere};
-ghost use Rattle.jsonc_lines.specs.Breadth.{is_in_document};
-ghost use Rattle.jsonc_lines.specs.IndentViews.{texts_of};
-ghost use Rattle.jsonc_from_input.specs.Laid.{holds_filled, is_filled};
-ghost use Rattle.jsonc_from_input.specs.Layout.{layout_of};
+ghost use Rattle.jsonc_layout.specs.input.Views.{plain};
+ghost use Rattle.jsonc_layout.specs.nodes.Siblings.{IsThere};
+ghost use Rattle.jsonc_layout.specs.lines.Breadth.{is_in_document};
+ghost use Rattle.jsonc_layout.specs.lines.IndentViews.{texts_of};
+ghost use Rattle.jsonc_layout.specs.from_input.Laid.{holds_filled, is_filled};
+ghost use Rattle.jsonc_layout.specs.from_input.Layout.{layout_of};
 ghost use Rattle.jsonc_insert.specs.Settings.{indents_at_first, indents_of, is_document_value, is_spaced_row, is_spread, has_last_comma};
 ghost use Rattle.jsonc_insert.specs.Settings.{layout_in, newline_kind_with, on_several_lines, one_deeper, told_by_row, uses_commas_in};
 
 use crate::lines::{has_newline, has_whitespace, single_in};
 use crate::plan::{last_element, nth_element};
 use crate::walk::{Sought, first_sought};
-use jsonc_from_input::{Layout, holds_filled, is_filled};
-use jsonc_input::CstInputValue;
-use jsonc_lines::{
+use jsonc_layout::from_input::{Layout, holds_filled, is_filled};
+use jsonc_layout::input::CstInputValue;
+use jsonc_layout::lines::{
     Indents, indent_text, indents_at, is_in_document, last_child_element, trailing_comma,
 };
-use jsonc_nodes::first_element_from;
+use jsonc_layout::nodes::first_element_from;
 use jsonc_tree::{CstNewlineKind, Kind, Tree};
 use std::alloc::{AllocError, Allocator};
 

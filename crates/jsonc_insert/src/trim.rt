@@ -4,7 +4,7 @@ ghost use Rattle.std.specs.Prelude.{◌≡◌, ◌≤◌, ◌<◌, ◌+◌, ◌^
 ghost use Rattle.jsonc_insert.specs.Trimmed.{before_last_line, behind_first_line, blanks, first_gone, is_blank_at, last_blanks};
 ghost use Rattle.jsonc_insert.specs.Trimmed.{last_gone, last_spaces, spaces, trimmed, with_at, without};
 
-use jsonc_nodes::{is_newline, is_whitespace};
+use jsonc_layout::nodes::{is_newline, is_whitespace};
 use jsonc_tree::Tree;
 use std::alloc::{AllocError, Allocator};
 

@@ -3,11 +3,11 @@
 ghost use Rattle.std.specs.Prelude.{◌≡◌, ◌<◌, All, IfOk, IfSome, length};
 ghost use Rattle.std.specs.List.{find};
 ghost use Rattle.jsonc_tree.specs.Tree.{is_in};
-ghost use Rattle.jsonc_lines.specs.Breadth.{is_spaced, level_below};
+ghost use Rattle.jsonc_layout.specs.lines.Breadth.{is_spaced, level_below};
 ghost use Rattle.jsonc_insert.specs.Settings.{ends_line_still, first_sought, is_child, is_sought, stays_in};
 
-use jsonc_lines::{is_spaced, level_below};
-use jsonc_nodes::is_newline;
+use jsonc_layout::lines::{is_spaced, level_below};
+use jsonc_layout::nodes::is_newline;
 use jsonc_tree::Tree;
 use std::alloc::{AllocError, Allocator};
 

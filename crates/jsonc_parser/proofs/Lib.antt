@@ -1,4 +1,4 @@
 pub mod Lists
 pub mod Sorts
 pub mod Promise
-pub mod Below
+pub mod lemmas

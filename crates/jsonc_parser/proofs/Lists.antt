@@ -16,10 +16,10 @@ use Rattle.jsonc_run.specs.Edits.{Operation, Sorting, is_sort, operation_of, rea
 use Rattle.jsonc_run.specs.Steps.{Fits, IsOfCharacters, NumbersFit}
 use Rattle.jsonc_run.specs.Refusals.{IsLeft, IsToldBy}
 use Rattle.jsonc_run.proofs.Steps.{of_characters, fits_alike}
-use Rattle.jsonc_promise.specs.Asked.{Ask, none_asked, one_asked}
-use Rattle.jsonc_promise.specs.Words.{all_in_texts, in_texts}
-use Rattle.jsonc_promise.proofs.Asked.{asks_so, stops_so}
-use Rattle.jsonc_promise.proofs.Leads.{edits_lead}
+use Rattle.jsonc_run.specs.promise.Asked.{Ask, none_asked, one_asked}
+use Rattle.jsonc_run.specs.promise.Words.{all_in_texts, in_texts}
+use Rattle.jsonc_run.proofs.lemmas.promise.Asked.{asks_so, stops_so}
+use Rattle.jsonc_run.proofs.lemmas.promise.Leads.{edits_lead}
 use Rattle.jsonc_cst.specs.declared.cst.CstRootNode.{CstRootNode}
 use Rattle.jsonc_cst.specs.declared.cst.node.CstNode.{CstNode}
 use Rattle.jsonc_cst.specs.Document.{nodes_of}

@@ -5,13 +5,13 @@ use Rattle.std.proofs.lemmas.Option.{slice_get_within}
 use Rattle.jsonc_text.specs.Edits.{Document, IsOne}
 use Rattle.jsonc_text.specs.Options.{Options}
 use Rattle.jsonc_tree.specs.OrderedTree.{OrderedTree, printed}
-use Rattle.jsonc_laws.specs.Documents.{Shows, ShowsText}
+use Rattle.jsonc_sound.specs.Documents.{Shows, ShowsText}
 use Rattle.jsonc_edit.specs.declared.error.EditError.{EditError}
 use Rattle.jsonc_edit.specs.declared.error.EditError.TheVariants.{OutOfMemory}
 use Rattle.jsonc_run.specs.declared.edit.Edit.{Edit}
 use Rattle.jsonc_run.specs.Steps.{Fits}
-use Rattle.jsonc_promise.specs.Asked.{EditsTheText, EditsTo, IsStopped, StopsInText}
-use Rattle.jsonc_promise.proofs.Leads.{shown_are_documents}
+use Rattle.jsonc_run.specs.promise.Asked.{EditsTheText, EditsTo, IsStopped, StopsInText}
+use Rattle.jsonc_run.proofs.lemmas.promise.Leads.{shown_are_documents}
 use Rattle.jsonc_parser.specs.Promise.{IsEditedText, StopsText}
 
 module _ {A : Type 0} (o : Options) (text : List ℕ) (t : OrderedTree) (edits : List (Edit A)) where

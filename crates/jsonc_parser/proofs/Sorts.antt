@@ -6,10 +6,10 @@ use denote.Param.Members.{Shared}
 use Rattle.jsonc_tree.specs.Building.{Keeps}
 use Rattle.jsonc_tree.specs.OrderedTree.{ordered_tree}
 use Rattle.jsonc_tree.specs.Tree.{Node, content_at}
-use Rattle.jsonc_lines.specs.Kinds.{holds_values}
+use Rattle.jsonc_layout.specs.lines.Kinds.{holds_values}
 use Rattle.jsonc_edit.specs.declared.error.EditError.{EditError}
 use Rattle.jsonc_edit.specs.declared.error.EditError.TheVariants.{OutOfMemory}
-use Rattle.jsonc_run.specs.Below.sort.Rearranged.{headers_of, IsOrderIn, Rearranged}
+use Rattle.jsonc_sort.specs.Rearranged.{headers_of, IsOrderIn, Rearranged}
 use Rattle.jsonc_run.specs.Edits.{Sorting, rearrange, IsMade}
 use Rattle.jsonc_run.specs.Places.{IsContainerAt}
 use Rattle.jsonc_run.specs.Refusals.{IsLeft, IsToldBy, as_it_was}
@@ -18,9 +18,9 @@ use Rattle.jsonc_cst.specs.declared.cst.node.CstNode.{CstNode}
 use Rattle.jsonc_cst.specs.Document.{content_of, nodes_of, Holds}
 use Rattle.jsonc_cst.specs.Nodes.{number_of, typed_at}
 use Rattle.jsonc_cst.proofs.Family.{number_of-typed}
-use Rattle.jsonc_sorting.specs.Asking.{IsInItsOrder}
-use Rattle.jsonc_sorting.specs.Pins.{pins_where}
-use Rattle.jsonc_sorting.specs.Sorted.{ContainerSorted}
+use Rattle.jsonc_cst.specs.sorting.Asking.{IsInItsOrder}
+use Rattle.jsonc_cst.specs.sorting.Pins.{pins_where}
+use Rattle.jsonc_cst.specs.sorting.Sorted.{ContainerSorted}
 use Rattle.jsonc_parser.specs.Lists.{IsSorting}
 
 -- the node that is sorted is the one at the path

@@ -1,4 +1,4 @@
 pub mod Lists
 pub mod Promise
 pub mod Errors
-pub mod Below
+pub mod paths

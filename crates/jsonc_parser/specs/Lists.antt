@@ -6,20 +6,20 @@ use denote.Ref.{Bor}
 use denote.Param.Members.{Shared}
 use Rattle.jsonc_tree.specs.Tree.{IsTree}
 use Rattle.jsonc_edit.specs.declared.error.EditError.{EditError}
-use Rattle.jsonc_run.specs.Below.sort.Rearranged.{headers_of}
+use Rattle.jsonc_sort.specs.Rearranged.{headers_of}
 use Rattle.jsonc_run.specs.declared.edit.Edit.{Edit}
 use Rattle.jsonc_run.specs.declared.edit.Edit.TheVariants.{Sort}
 use Rattle.jsonc_run.specs.Edits.{Operation, Sorting, operation_of, IsMade}
 use Rattle.jsonc_run.specs.Places.{IsContainerAt}
 use Rattle.jsonc_run.specs.Refusals.{IsLeft, IsToldBy}
-use Rattle.jsonc_promise.specs.Asked.{EditsTheText, StopsInText}
+use Rattle.jsonc_run.specs.promise.Asked.{EditsTheText, StopsInText}
 use Rattle.jsonc_cst.specs.declared.cst.CstRootNode.{CstRootNode}
 use Rattle.jsonc_cst.specs.declared.cst.node.CstNode.{CstNode}
 use Rattle.jsonc_cst.specs.Document.{nodes_of, tree_of, Holds}
 use Rattle.jsonc_cst.specs.Nodes.{typed_at}
-use Rattle.jsonc_sorting.specs.Asking.{IsInItsOrder}
-use Rattle.jsonc_sorting.specs.Pins.{pins_where}
-use Rattle.jsonc_sorting.specs.Rows.{elements_asked, starts_of}
+use Rattle.jsonc_cst.specs.sorting.Asking.{IsInItsOrder}
+use Rattle.jsonc_cst.specs.sorting.Pins.{pins_where}
+use Rattle.jsonc_cst.specs.sorting.Rows.{elements_asked, starts_of}
 
 -- a comparison of two nodes of a document
 module _ {C D A : Type 0} (call : Shared C (Bor D × (CstNode × (CstNode × Unit {0}))) Ordering) (compare : C) (same : CstRootNode A → D) where

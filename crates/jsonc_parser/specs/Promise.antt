@@ -4,13 +4,13 @@ use Rattle.std.specs.List.{All}
 use Rattle.jsonc_text.specs.Edits.{Document, IsOne}
 use Rattle.jsonc_text.specs.Faults.{IsFault}
 use Rattle.jsonc_text.specs.Options.{Options}
-use Rattle.jsonc_to_ast.specs.Refusals.{RefusesText}
-use Rattle.jsonc_to_ast.specs.Told.{IsTold}
+use Rattle.jsonc_ast.specs.to_ast.Refusals.{RefusesText}
+use Rattle.jsonc_ast.specs.to_ast.Told.{IsTold}
 use Rattle.jsonc_edit.specs.declared.error.EditError.{EditError}
 use Rattle.jsonc_edit.specs.declared.error.EditError.TheVariants.{OutOfMemory}
 use Rattle.jsonc_run.specs.declared.edit.Edit.{Edit}
 use Rattle.jsonc_run.specs.Steps.{Fits}
-use Rattle.jsonc_promise.specs.Asked.{EditsTo, IsStopped}
+use Rattle.jsonc_run.specs.promise.Asked.{EditsTo, IsStopped}
 use Rattle.jsonc_parser.specs.declared.cst.texts.EditTextError.{EditTextError}
 use Rattle.jsonc_parser.specs.declared.cst.texts.EditTextError.TheVariants as error
 

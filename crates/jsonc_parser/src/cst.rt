@@ -23,16 +23,16 @@ pub use jsonc_cst::cst::{
     EditError, HasChildren, IsNode, NextSiblingIterator, ObjectPropName, Pieces,
     PreviousSiblingIterator, Readings, Shown, TrailingCommaMode, input,
 };
-pub use jsonc_objects::typed::{
+pub use jsonc_cst::objects::{EnsureProperty, InsertProperty};
+pub use jsonc_cst::sorting::{
+    BlankLineHeaders, ElementSort, HeaderRule, HeadersBy, NoHeaders, PropertySort, SortElements,
+    SortProperties,
+};
+pub use jsonc_cst::typed::{
     EnsureMultiline, InsertElement, IsDocument, Remove, RemoveLeaf, ReplaceProperty, ReplaceWith,
     SetBoolean, SetNewline, SetProperty, SetRawValue, SetRoot, SetToken, SetTrailingCommas,
     SetWhitespace,
 };
-pub use jsonc_objects::{EnsureProperty, InsertProperty};
 pub use jsonc_run::{Edit, Over, Shape};
-pub use jsonc_sorting::{
-    BlankLineHeaders, ElementSort, HeaderRule, HeadersBy, NoHeaders, PropertySort, SortElements,
-    SortProperties,
-};
 pub use lists::run;
 pub use texts::{EditTextError, edit_text};

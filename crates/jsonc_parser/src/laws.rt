@@ -18,22 +18,22 @@
 //! sorted row has each comment and each element once ([`sorted_rows_keep_their_nodes`]); and a second sort
 //! changes no byte ([`second_sorts_change_no_byte`], [`second_sorts_by_key_change_no_byte`]).
 
-pub use jsonc_cst::laws::documents_give_their_value;
-pub use jsonc_edit::space_laws::nearest_tell;
-pub use jsonc_promise::laws::{runs_join, shown_are_documents};
-pub use jsonc_run::laws::{
-    calls_keep_parents, edits_make_steps, names_are_those_of_values, places_are_named,
-    sorted_rows_keep_their_nodes,
-};
-pub use jsonc_settings::laws::{
+pub use crate::paths::laws::{
     each_node_stands_at_its_place, names_lead_over_nodes, nodes_have_their_values,
     one_edit_puts_or_drops, one_operation_puts_or_drops, one_value_at_names, values_are_put,
     what_is_read_stands_at_paths, what_stands_can_leave, what_was_put_stands_there,
     worked_equal_names,
 };
-pub use jsonc_sorting_laws::laws::{
+pub use jsonc_cst::laws::documents_give_their_value;
+pub use jsonc_cst::sorted::laws::{
     blank_lines_part_groups, groups_keep_their_places, second_sorts_by_key_change_no_byte,
     second_sorts_change_no_byte,
 };
+pub use jsonc_edit::space_laws::nearest_tell;
+pub use jsonc_run::laws::{
+    calls_keep_parents, edits_make_steps, names_are_those_of_values, places_are_named,
+    sorted_rows_keep_their_nodes,
+};
+pub use jsonc_run::promise::laws::{runs_join, shown_are_documents};
 pub use jsonc_text::laws::{around_is_within_twice_depth, one_value};
 pub use jsonc_value::laws::{equality, equality_by_parts, equality_of_copies};

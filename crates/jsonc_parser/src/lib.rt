@@ -8,17 +8,18 @@
 
 pub mod cst;
 pub mod laws;
+mod paths;
 pub mod settings;
 pub mod string;
 
 pub use jsonc_ast::ast;
+pub use jsonc_ast::to_ast::collect::{
+    CollectOptions, CommentCollectionStrategy, CommentMap, ParseResult,
+};
+pub use jsonc_ast::to_ast::parse_to_ast;
 pub use jsonc_scan::scanner::Scanner;
 pub use jsonc_text::errors::ParseStringErrorKind;
 pub use jsonc_text::options::{ParseOptions, ScannerOptions};
 pub use jsonc_text::{common, errors, tokens};
-pub use jsonc_to_ast::collect::{
-    CollectOptions, CommentCollectionStrategy, CommentMap, ParseResult,
-};
-pub use jsonc_to_ast::parse_to_ast;
-pub use jsonc_to_value::parse_to_value;
+pub use jsonc_value::to_value::parse_to_value;
 pub use jsonc_value::{JsonArray, JsonObject, JsonValue, Map, map};

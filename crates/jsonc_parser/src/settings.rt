@@ -5,4 +5,4 @@
 //! there and [`remove_at`] drops what stands there, by one edit of [`cst::Edit`](crate::cst::Edit) each, or
 //! none.
 
-pub use jsonc_settings::{find_at, read_at, remove_at, set_at};
+pub use crate::paths::{find_at, read_at, remove_at, set_at};

@@ -8,23 +8,23 @@ use Rattle.jsonc_tree.specs.OrderedTree.{OrderedTree, ordered_tree}
 use Rattle.jsonc_tree.specs.Tree.{Node, content_at, IsTree}
 use Rattle.jsonc_tree.specs.Values as values
 use Rattle.jsonc_tree.specs.Values.{ValueOf}
-use Rattle.jsonc_build.specs.Shape.{printed_text}
-use Rattle.jsonc_laws.specs.Booleans.{boolean_leaf}
-use Rattle.jsonc_laws.specs.Changes.{Changed}
-use Rattle.jsonc_laws.specs.SoundTrees.{SoundTree}
-use Rattle.jsonc_laws.proofs.LeavesAround.{document_differs}
+use Rattle.jsonc_sound.specs.Shape.{printed_text}
+use Rattle.jsonc_sound.specs.Booleans.{boolean_leaf}
+use Rattle.jsonc_sound.specs.Changes.{Changed}
+use Rattle.jsonc_sound.specs.SoundTrees.{SoundTree}
+use Rattle.jsonc_sound.proofs.LeavesAround.{document_differs}
 use Rattle.jsonc_edit.specs.Paths.{FindsExactly, IsAt}
 use Rattle.jsonc_edit.specs.Reading.{layout_for}
 use Rattle.jsonc_edit.specs.declared.error.EditError.{EditError}
 use Rattle.jsonc_edit.specs.declared.error.EditError.TheVariants.{OutOfMemory}
-use Rattle.jsonc_set.specs.Booleans.{is_boolean, BooleanSet, WantsSpaceFor}
-use Rattle.jsonc_set.proofs.BooleanSetting.{boolean_of}
-use Rattle.jsonc_set.proofs.WrittenBoolean.{boolean_gives_way}
+use Rattle.jsonc_edit.specs.set.Booleans.{is_boolean, BooleanSet, WantsSpaceFor}
+use Rattle.jsonc_edit.proofs.lemmas.set.BooleanSetting.{boolean_of}
+use Rattle.jsonc_edit.proofs.lemmas.set.WrittenBoolean.{boolean_gives_way}
 use Rattle.jsonc_run.specs.Edits.{set_boolean, IsMade}
 use Rattle.jsonc_run.specs.Places.{IsBooleanAt}
 use Rattle.jsonc_run.specs.Refusals.{IsToldBy}
-use Rattle.jsonc_named.specs.Values.{ValueGivesWay}
-use Rattle.jsonc_named.proofs.PathValues.{value_of_text, value_at_path, value_once}
+use Rattle.jsonc_insert.specs.named.Values.{ValueGivesWay}
+use Rattle.jsonc_insert.proofs.lemmas.named.PathValues.{value_of_text, value_at_path, value_once}
 
 -- what is found at a path, if it is a truth value
 pub boolean_found : (ns : List Node) (path : List ℕ) (at found : Option ℕ) → FindsExactly at (IsAt ns path) → FindsExactly found (λ n. (at ≡ Some n) × (is_boolean (content_at ns n) ≡ true)) → FindsExactly found (IsBooleanAt ns path)

@@ -10,25 +10,25 @@ use Rattle.jsonc_tree.specs.OrderedTree.{OrderedTree, none, more, Shows, shows_n
 use Rattle.jsonc_tree.specs.Tree.{Node, content_at, children_at, IsTree}
 use Rattle.jsonc_tree.specs.Values as values
 use Rattle.jsonc_tree.specs.Values.{HasNoValue, HoldsValue, ValueOf, DocumentValueOf}
-use Rattle.jsonc_build.specs.Shape.{printed_text}
-use Rattle.jsonc_build.proofs.ShapeValues.{document_printed}
-use Rattle.jsonc_nodes.specs.Kinds.{is_element_at}
-use Rattle.jsonc_nodes.specs.Properties.{value_at, value_by}
-use Rattle.jsonc_laws.proofs.FirstNodes.{value_of_element}
-use Rattle.jsonc_laws.specs.SoundTrees.{SoundTree}
+use Rattle.jsonc_sound.specs.Shape.{printed_text}
+use Rattle.jsonc_sound.proofs.ShapeValues.{document_printed}
+use Rattle.jsonc_layout.specs.nodes.Kinds.{is_element_at}
+use Rattle.jsonc_layout.specs.nodes.Properties.{value_at, value_by}
+use Rattle.jsonc_sound.proofs.FirstNodes.{value_of_element}
+use Rattle.jsonc_sound.specs.SoundTrees.{SoundTree}
 use Rattle.jsonc_edit.specs.Changes.{row_below}
 use Rattle.jsonc_edit.specs.Reading.{layout_for, IsReplaced}
 use Rattle.jsonc_edit.proofs.Elements.{Some_same}
 use Rattle.jsonc_edit.proofs.FittingFinds.{passes, fails, none_is_some}
 use Rattle.jsonc_edit.proofs.Walk.{Shows-row_below}
-use Rattle.jsonc_set.specs.Kinds.{FoundOrCreated, FoundOrSet, KeptOrReplaced}
-use Rattle.jsonc_set.specs.RootSet.{FirstValue}
-use Rattle.jsonc_set.proofs.Coming.{comes_among_rows}
-use Rattle.jsonc_named.specs.declared.shape.Over.{Over}
-use Rattle.jsonc_named.specs.declared.shape.Over.TheVariants as over
-use Rattle.jsonc_named.specs.declared.shape.Shape.{Shape}
-use Rattle.jsonc_named.specs.Shapes.{has_shape, is_of, empty_of}
-use Rattle.jsonc_named.proofs.Values.{same_shape, other_gives_way}
+use Rattle.jsonc_edit.specs.set.Kinds.{FoundOrCreated, FoundOrSet, KeptOrReplaced}
+use Rattle.jsonc_edit.specs.set.RootSet.{FirstValue}
+use Rattle.jsonc_edit.proofs.lemmas.set.Coming.{comes_among_rows}
+use Rattle.jsonc_insert.specs.declared.named.shape.Over.{Over}
+use Rattle.jsonc_insert.specs.declared.named.shape.Over.TheVariants as over
+use Rattle.jsonc_insert.specs.declared.named.shape.Shape.{Shape}
+use Rattle.jsonc_insert.specs.named.Shapes.{has_shape, is_of, empty_of}
+use Rattle.jsonc_insert.proofs.lemmas.named.Values.{same_shape, other_gives_way}
 use Rattle.jsonc_run.specs.Edits.{RootEnsured}
 use Rattle.jsonc_run.specs.Written.{RootValueEnsured, all_kept, empty_come, empty_given}
 use Rattle.jsonc_run.proofs.Roots.{root_is, value_stands}

@@ -3,11 +3,11 @@ use Rattle.std.proofs.Common.{◌≡◌, ℕ, List, [], ◌∷◌, ◌++◌, len
 use Rattle.std.proofs.lemmas.List.{same_from_push}
 use Rattle.jsonc_tree.specs.Content.{object, property}
 use Rattle.jsonc_tree.specs.Tree.{Node, content_at}
-use Rattle.jsonc_nodes.specs.Siblings.{elements_at}
+use Rattle.jsonc_layout.specs.nodes.Siblings.{elements_at}
 use Rattle.jsonc_edit.specs.Paths.{IsAt, FindsExactly}
 use Rattle.jsonc_edit.proofs.Elements.{Some_same}
 use Rattle.jsonc_edit.proofs.FittingFinds.{none_is_some}
-use Rattle.jsonc_named.specs.Places.{IsPropertyAt, a_property, IsPropertyOf}
+use Rattle.jsonc_insert.specs.named.Places.{IsPropertyAt, a_property, IsPropertyOf}
 use Rattle.jsonc_run.specs.Places.{IsEntryAt, the_value, an_entry, IsEntryOf}
 
 not_empty : (front : List ℕ) (i : ℕ) → front ++ i ∷ [] ≡ [] → ⊥

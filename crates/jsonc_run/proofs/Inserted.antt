@@ -7,29 +7,29 @@ use Rattle.jsonc_text.proofs.UniqueValues.{document_unique}
 use Rattle.jsonc_tree.specs.Content as content
 use Rattle.jsonc_tree.specs.OrderedTree.{OrderedTree, ordered_tree}
 use Rattle.jsonc_tree.specs.Tree.{Node, children_at, content_at, IsTree}
-use Rattle.jsonc_build.specs.Shape.{printed_text}
-use Rattle.jsonc_nodes.specs.Kinds.{is_element_at}
-use Rattle.jsonc_nodes.specs.Siblings.{elements_at}
-use Rattle.jsonc_laws.specs.Changes.{Changed}
-use Rattle.jsonc_laws.specs.MarkChanges.{MarksDifferIn}
-use Rattle.jsonc_laws.specs.Marks.{Mark, marks}
-use Rattle.jsonc_laws.specs.SoundTrees.{SoundTree}
+use Rattle.jsonc_sound.specs.Shape.{printed_text}
+use Rattle.jsonc_layout.specs.nodes.Kinds.{is_element_at}
+use Rattle.jsonc_layout.specs.nodes.Siblings.{elements_at}
+use Rattle.jsonc_sound.specs.Changes.{Changed}
+use Rattle.jsonc_sound.specs.MarkChanges.{MarksDifferIn}
+use Rattle.jsonc_sound.specs.Marks.{Mark, marks}
+use Rattle.jsonc_sound.specs.SoundTrees.{SoundTree}
 use Rattle.jsonc_edit.specs.Paths.{FindsExactly, IsAt}
 use Rattle.jsonc_edit.specs.Writing.{IsWritable}
 use Rattle.jsonc_edit.specs.declared.error.EditError.{EditError}
 use Rattle.jsonc_edit.specs.declared.error.EditError.TheVariants.{OutOfMemory, MissingBrackets, MissingName, NoSuchPlace}
-use Rattle.jsonc_named.specs.Below.insert.Inserted.{refusal, ElementPut}
-use Rattle.jsonc_named.specs.Below.insert.Planned.{has_brackets}
-use Rattle.jsonc_named.proofs.Below.insert.Past.{past_the_end}
-use Rattle.jsonc_named.specs.Below.insertion_laws.Laws.{item_count, ElementComesAt, GainsMarks, IsInserted}
-use Rattle.jsonc_named.proofs.Below.insertion_laws.Comes.{elements_come_at}
-use Rattle.jsonc_named.proofs.Below.insertion_laws.Containers.{has_its_brackets}
-use Rattle.jsonc_named.proofs.Below.insertion_laws.Written.{inserts_element}
+use Rattle.jsonc_insert.specs.Inserted.{refusal, ElementPut}
+use Rattle.jsonc_insert.specs.Planned.{has_brackets}
+use Rattle.jsonc_insert.proofs.Past.{past_the_end}
+use Rattle.jsonc_insert.specs.elements.Laws.{item_count, ElementComesAt, GainsMarks, IsInserted}
+use Rattle.jsonc_insert.proofs.lemmas.elements.Comes.{elements_come_at}
+use Rattle.jsonc_insert.proofs.lemmas.elements.Containers.{has_its_brackets}
+use Rattle.jsonc_insert.proofs.lemmas.elements.Written.{inserts_element}
 use Rattle.jsonc_run.specs.Edits.{append_element, insert_element}
 use Rattle.jsonc_run.specs.Places.{IsArrayAt}
 use Rattle.jsonc_run.specs.Refusals.{IsToldBy}
-use Rattle.jsonc_named.proofs.PathValues.{value_once}
-use Rattle.jsonc_named.proofs.Unensured.{no_other}
+use Rattle.jsonc_insert.proofs.lemmas.named.PathValues.{value_once}
+use Rattle.jsonc_insert.proofs.lemmas.named.Unensured.{no_other}
 
 -- the array at a path is what stands there, if it is one
 pub array_found : (ns : List Node) (path : List ℕ) (at found : Option ℕ) → FindsExactly at (IsAt ns path) → FindsExactly found (λ n. (at ≡ Some n) × (content_at ns n ≡ content.array)) → FindsExactly found (IsArrayAt ns path)

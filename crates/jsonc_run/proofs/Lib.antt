@@ -19,6 +19,6 @@ pub mod CommentCount
 pub mod Named
 pub mod Numbered
 pub mod Marking
-pub mod Below
 pub mod Steps
 pub mod Parents
+pub mod lemmas

@@ -5,11 +5,11 @@ use Rattle.jsonc_edit.specs.Paths.{FindsExactly, IsAt, LeadsTo, StepsTo, itself,
 use Rattle.jsonc_edit.proofs.Uniqueness.{element_parent}
 use Rattle.jsonc_edit.specs.declared.error.EditError.{EditError}
 use Rattle.jsonc_edit.specs.declared.error.EditError.TheVariants.{OutOfMemory, MissingBrackets, MissingName, NoSuchPlace}
-use Rattle.jsonc_remove.specs.Removed.{IsKeptFor, TakesElement}
+use Rattle.jsonc_edit.specs.remove.Removed.{IsKeptFor, TakesElement}
 use Rattle.jsonc_edit.specs.Reading.{IsReplaced}
-use Rattle.jsonc_set.specs.RootSet.{FirstValue}
+use Rattle.jsonc_edit.specs.set.RootSet.{FirstValue}
 use Rattle.jsonc_text.specs.Plain.{Plain}
-use Rattle.jsonc_named.specs.Places.{IsPropertyAt, a_property}
+use Rattle.jsonc_insert.specs.named.Places.{IsPropertyAt, a_property}
 use Rattle.jsonc_run.specs.Places.{IsEntryAt}
 use Rattle.jsonc_run.specs.Edits.{remove, IsMade, RootSet}
 use Rattle.jsonc_run.specs.Refusals.{IsToldBy}

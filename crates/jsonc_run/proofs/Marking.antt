@@ -5,41 +5,41 @@ use Rattle.jsonc_text.specs.Options.{Options}
 use Rattle.jsonc_text.specs.Plain.{Plain}
 use Rattle.jsonc_tree.specs.OrderedTree.{OrderedTree, none, leaves, ordered_tree, Top}
 use Rattle.jsonc_tree.specs.Tree.{Node, IsTree}
-use Rattle.jsonc_from_input.specs.Laid.{laid, laid_property}
-use Rattle.jsonc_from_input.specs.Layout.{Layout}
-use Rattle.jsonc_from_input.specs.Texts.{IsCharacters}
-use Rattle.jsonc_laws.specs.TreeChanges.{property_of}
-use Rattle.jsonc_laws.specs.SoundTrees.{SoundTree}
-use Rattle.jsonc_laws.specs.MarkChanges.{MarksDifferIn, marks_under}
-use Rattle.jsonc_laws.specs.Marks.{Mark, comments_of, marks, trimmed}
-use Rattle.jsonc_laws.specs.Written.{property_written, written}
-use Rattle.jsonc_laws.proofs.GivingWay.{one_mark_leaves}
-use Rattle.jsonc_laws.proofs.Laid.{laid_as_written, laid_as_written_named}
-use Rattle.jsonc_laws.proofs.OneList.{marks_unique}
-use Rattle.jsonc_laws.proofs.Printed.{prints_its_marks}
-use Rattle.jsonc_laws.specs.Coming.{ValueComes}
-use Rattle.jsonc_laws.specs.EntryLaws.{root_with}
-use Rattle.jsonc_laws.proofs.FirstValue.{marks_with_first}
-use Rattle.jsonc_laws.proofs.RootRows.{root_marks}
+use Rattle.jsonc_layout.specs.from_input.Laid.{laid, laid_property}
+use Rattle.jsonc_layout.specs.from_input.Layout.{Layout}
+use Rattle.jsonc_layout.specs.from_input.Texts.{IsCharacters}
+use Rattle.jsonc_sound.specs.TreeChanges.{property_of}
+use Rattle.jsonc_sound.specs.SoundTrees.{SoundTree}
+use Rattle.jsonc_sound.specs.MarkChanges.{MarksDifferIn, marks_under}
+use Rattle.jsonc_sound.specs.Marks.{Mark, comments_of, marks, trimmed}
+use Rattle.jsonc_sound.specs.Written.{property_written, written}
+use Rattle.jsonc_sound.proofs.GivingWay.{one_mark_leaves}
+use Rattle.jsonc_sound.proofs.Laid.{laid_as_written, laid_as_written_named}
+use Rattle.jsonc_sound.proofs.OneList.{marks_unique}
+use Rattle.jsonc_sound.proofs.Printed.{prints_its_marks}
+use Rattle.jsonc_sound.specs.Coming.{ValueComes}
+use Rattle.jsonc_sound.specs.EntryLaws.{root_with}
+use Rattle.jsonc_sound.proofs.FirstValue.{marks_with_first}
+use Rattle.jsonc_sound.proofs.RootRows.{root_marks}
 use Rattle.jsonc_edit.specs.Comments.{LosesComment}
 use Rattle.jsonc_edit.specs.Writing.{IsWritable}
 use Rattle.jsonc_edit.proofs.Spacing.{spaces_marks}
-use Rattle.jsonc_multiline.proofs.SameDocument.{keeps_document}
-use Rattle.jsonc_remove.proofs.Lost.{removes_entry}
-use Rattle.jsonc_remove.proofs.LostValue.{removes_value}
-use Rattle.jsonc_named.specs.declared.shape.Over.{Over}
-use Rattle.jsonc_named.specs.declared.shape.Over.TheVariants as over
-use Rattle.jsonc_named.specs.declared.shape.Shape.{Shape}
-use Rattle.jsonc_named.specs.declared.shape.Shape.TheVariants.{Object, Array}
-use Rattle.jsonc_named.specs.Shapes.{empty_of}
+use Rattle.jsonc_edit.proofs.lemmas.multiline.SameDocument.{keeps_document}
+use Rattle.jsonc_edit.proofs.lemmas.remove.Lost.{removes_entry}
+use Rattle.jsonc_edit.proofs.lemmas.remove.LostValue.{removes_value}
+use Rattle.jsonc_insert.specs.declared.named.shape.Over.{Over}
+use Rattle.jsonc_insert.specs.declared.named.shape.Over.TheVariants as over
+use Rattle.jsonc_insert.specs.declared.named.shape.Shape.{Shape}
+use Rattle.jsonc_insert.specs.declared.named.shape.Shape.TheVariants.{Object, Array}
+use Rattle.jsonc_insert.specs.named.Shapes.{empty_of}
 use Rattle.jsonc_run.specs.Edits.{Operation, replace, remove, remove_comment, set_root, clear_root, replace_property, ensure_root, set_value, ensure_value, set_boolean, ensure_multiline, insert_element, append_element, insert_property, append_property, ensure_property, set_commas, set_some_commas, rearrange, AreMade, none_made, first_made, IsMade}
 use Rattle.jsonc_run.specs.Written.{MayBeMade, EntryLeft, entry_left, value_left, RootValueSet, given_way, has_come, RootValueEnsured, all_kept, empty_come, empty_given, PropertyGivenWay, property_given, options_after, options_behind}
 use Rattle.jsonc_run.specs.Marked.{IsMarked}
-use Rattle.jsonc_named.proofs.Below.insertion_laws.Named.{inserts_member}
-use Rattle.jsonc_named.proofs.Below.insertion_laws.Written.{inserts_element}
+use Rattle.jsonc_insert.proofs.lemmas.elements.Named.{inserts_member}
+use Rattle.jsonc_insert.proofs.lemmas.elements.Written.{inserts_element}
 use Rattle.jsonc_run.proofs.Inserted.{gained_marks}
-use Rattle.jsonc_named.proofs.Values.{empty_writable, ensured_marks, marks_given, value_marked}
-use Rattle.jsonc_named.proofs.Writing.{around_marks}
+use Rattle.jsonc_insert.proofs.lemmas.named.Values.{empty_writable, ensured_marks, marks_given, value_marked}
+use Rattle.jsonc_insert.proofs.lemmas.named.Writing.{around_marks}
 use Rattle.jsonc_run.proofs.Wider.{may_behind}
 use Rattle.jsonc_run.proofs.Sorts.{commas_say, some_commas_say, sorted_says}
 use Rattle.jsonc_run.specs.Steps.{MadeIn}

@@ -11,13 +11,13 @@ use Rattle.jsonc_tree.specs.OrderedTree.{OrderedTree, ordered_tree}
 use Rattle.jsonc_tree.specs.Tree.{Node, content_at, IsTree}
 use Rattle.jsonc_tree.specs.Values as values
 use Rattle.jsonc_tree.specs.Values.{ValueOf, MembersOf, DocumentValueOf}
-use Rattle.jsonc_nodes.specs.Kinds.{is_comment_at}
-use Rattle.jsonc_nodes.specs.Siblings.{elements_at}
-use Rattle.jsonc_lines.specs.Kinds.{holds_values}
-use Rattle.jsonc_laws.specs.Changes as changes
-use Rattle.jsonc_laws.specs.Changes.{MemberChanged}
-use Rattle.jsonc_laws.specs.Sound.{HasValue}
-use Rattle.jsonc_laws.specs.SoundTrees.{SoundTree}
+use Rattle.jsonc_layout.specs.nodes.Kinds.{is_comment_at}
+use Rattle.jsonc_layout.specs.nodes.Siblings.{elements_at}
+use Rattle.jsonc_layout.specs.lines.Kinds.{holds_values}
+use Rattle.jsonc_sound.specs.Changes as changes
+use Rattle.jsonc_sound.specs.Changes.{MemberChanged}
+use Rattle.jsonc_sound.specs.Sound.{HasValue}
+use Rattle.jsonc_sound.specs.SoundTrees.{SoundTree}
 use Rattle.jsonc_edit.specs.Changes.{top_at}
 use Rattle.jsonc_edit.specs.Paths as paths
 use Rattle.jsonc_edit.specs.Paths.{IsAt, LeadsTo, StepsTo}
@@ -27,14 +27,14 @@ use Rattle.jsonc_edit.proofs.FittingNodes.{over_there}
 use Rattle.jsonc_edit.proofs.OneValue.{document_once}
 use Rattle.jsonc_edit.proofs.Standing.{at_further}
 use Rattle.jsonc_edit.proofs.Walk.{Shows-row_below}
-use Rattle.jsonc_set.specs.Booleans.{is_boolean}
-use Rattle.jsonc_set.proofs.BooleanSetting.{boolean_of}
-use Rattle.jsonc_set.proofs.PropertyRows.{counted_elements, over_at, some_value_of}
-use Rattle.jsonc_named.specs.Below.insertion_laws.Members.{member_count}
-use Rattle.jsonc_named.proofs.Below.insertion_laws.Members.{members_counted}
-use Rattle.jsonc_named.specs.Places.{IsPropertyAt, a_property}
-use Rattle.jsonc_named.proofs.PathValues.{gives_way_to_itself, value_at_path}
-use Rattle.jsonc_named.proofs.PropertyValues.{value_held}
+use Rattle.jsonc_edit.specs.set.Booleans.{is_boolean}
+use Rattle.jsonc_edit.proofs.lemmas.set.BooleanSetting.{boolean_of}
+use Rattle.jsonc_edit.proofs.lemmas.set.PropertyRows.{counted_elements, over_at, some_value_of}
+use Rattle.jsonc_insert.specs.elements.Members.{member_count}
+use Rattle.jsonc_insert.proofs.lemmas.elements.Members.{members_counted}
+use Rattle.jsonc_insert.specs.named.Places.{IsPropertyAt, a_property}
+use Rattle.jsonc_insert.proofs.lemmas.named.PathValues.{gives_way_to_itself, value_at_path}
+use Rattle.jsonc_insert.proofs.lemmas.named.PropertyValues.{value_held}
 use Rattle.jsonc_run.specs.Edits.{Operation, replace, remove, remove_comment, set_root, clear_root, replace_property, ensure_root, set_value, ensure_value, set_boolean, ensure_multiline, insert_element, append_element, insert_property, append_property, ensure_property, set_commas, set_some_commas, rearrange}
 use Rattle.jsonc_run.specs.Named.{StandsAt, HasValueAt, HasBooleanAt, HasArrayAt, HasObjectAt, HasContainerAt, HasPropertyAt, IsNamed, comment_count, PlacesAreNamed, TellsUnnamed}
 use Rattle.jsonc_edit.specs.Comments.{comment_at}

@@ -6,7 +6,7 @@ use Rattle.jsonc_tree.specs.Content.{Content, root}
 use Rattle.jsonc_tree.specs.Tree.{Node, IsTree, children_at, parent_at, IsOver, itself, above}
 use Rattle.jsonc_tree.specs.Order.{in_order, following, rest_at}
 use Rattle.jsonc_tree.proofs.Order.{in_order_is, following_end}
-use Rattle.jsonc_nodes.specs.Kinds.{is_comment, is_comment_at}
+use Rattle.jsonc_layout.specs.nodes.Kinds.{is_comment, is_comment_at}
 use Rattle.jsonc_edit.specs.Comments.{comment_at, CommentTaken, TakesOut, WantsSpace}
 use Rattle.jsonc_edit.specs.declared.error.EditError.{EditError}
 use Rattle.jsonc_edit.specs.declared.error.EditError.TheVariants.{OutOfMemory}

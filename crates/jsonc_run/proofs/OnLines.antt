@@ -1,11 +1,11 @@
 -- An array or object at a path that is put on several lines.
 use Rattle.std.proofs.Common.{◌≡◌, ℕ, List, Option, Some, IfErr, OnOk, Result, Ok, Err, IsTrue}
 use Rattle.jsonc_tree.specs.Tree.{Node, content_at}
-use Rattle.jsonc_lines.specs.Kinds.{holds_values}
+use Rattle.jsonc_layout.specs.lines.Kinds.{holds_values}
 use Rattle.jsonc_edit.specs.Paths.{FindsExactly, IsAt}
 use Rattle.jsonc_edit.specs.declared.error.EditError.{EditError}
 use Rattle.jsonc_edit.specs.declared.error.EditError.TheVariants.{OutOfMemory, MissingBrackets, MissingName, NoSuchPlace}
-use Rattle.jsonc_multiline.specs.Multiline.{IsUnspread, MadeMultiline}
+use Rattle.jsonc_edit.specs.multiline.Multiline.{IsUnspread, MadeMultiline}
 use Rattle.jsonc_run.specs.Edits.{ensure_multiline, IsMade}
 use Rattle.jsonc_run.specs.Places.{IsContainerAt}
 use Rattle.jsonc_run.specs.Refusals.{IsToldBy}

@@ -12,7 +12,7 @@ use Rattle.jsonc_tree.specs.Tree.{Node, children_at, content_at, parent_at, plac
 use Rattle.jsonc_tree.proofs.Order.{parent_there}
 use Rattle.jsonc_tree.proofs.Splicing.{in_where}
 use Rattle.jsonc_tree.proofs.Stretches.{take_in}
-use Rattle.jsonc_nodes.specs.Properties.{value_at}
+use Rattle.jsonc_layout.specs.nodes.Properties.{value_at}
 use Rattle.jsonc_edit.specs.Paths as paths
 use Rattle.jsonc_edit.specs.Paths.{IsElementOf, LeadsTo}
 use Rattle.jsonc_edit.proofs.Uniqueness.{element_parent}
@@ -23,21 +23,21 @@ use Rattle.jsonc_edit.proofs.Kept.{tree_stays}
 use Rattle.jsonc_edit.proofs.TakingOut.{parents_spaced}
 use Rattle.jsonc_edit.specs.declared.modes.TrailingCommaMode.{TrailingCommaMode}
 use Rattle.jsonc_edit.specs.declared.modes.TrailingCommaMode.TheVariants.{Never, IfMultiline}
-use Rattle.jsonc_commas.specs.Commas.{comma_gone, comma_wanted_behind, GainsIt, LosesIt}
-use Rattle.jsonc_commas.specs.InTurn.{AreSetInPart, AreSetInTurn}
-use Rattle.jsonc_multiline.specs.Multiline.{has_line_end, MadeMultiline, TakesRow}
-use Rattle.jsonc_multiline.specs.Slots.{Slot}
-use Rattle.jsonc_remove.specs.Removed.{is_hollow, IsClosedUp, IsTakenFrom, LosesChild}
-use Rattle.jsonc_set.specs.Booleans.{BooleanSet}
-use Rattle.jsonc_set.specs.Kinds.{FoundOrCreated, FoundOrSet, KeptOrReplaced}
-use Rattle.jsonc_set.specs.PropertyValues.{HeldOrSet, LastValue}
+use Rattle.jsonc_edit.specs.commas.Commas.{comma_gone, comma_wanted_behind, GainsIt, LosesIt}
+use Rattle.jsonc_edit.specs.commas.InTurn.{AreSetInPart, AreSetInTurn}
+use Rattle.jsonc_edit.specs.multiline.Multiline.{has_line_end, MadeMultiline, TakesRow}
+use Rattle.jsonc_edit.specs.multiline.Slots.{Slot}
+use Rattle.jsonc_edit.specs.remove.Removed.{is_hollow, IsClosedUp, IsTakenFrom, LosesChild}
+use Rattle.jsonc_edit.specs.set.Booleans.{BooleanSet}
+use Rattle.jsonc_edit.specs.set.Kinds.{FoundOrCreated, FoundOrSet, KeptOrReplaced}
+use Rattle.jsonc_edit.specs.set.PropertyValues.{HeldOrSet, LastValue}
 use Rattle.jsonc_sort.specs.Rearranged.{moves, Rearranged}
 use Rattle.jsonc_sort.specs.Sorting.{Headers}
-use Rattle.jsonc_named.specs.declared.shape.Over.{Over}
-use Rattle.jsonc_named.specs.declared.shape.Over.TheVariants as over
-use Rattle.jsonc_named.specs.declared.shape.Shape.{Shape}
-use Rattle.jsonc_named.specs.Named.{EnsuredFor}
-use Rattle.jsonc_named.specs.Shapes.{is_of, empty_of}
+use Rattle.jsonc_insert.specs.declared.named.shape.Over.{Over}
+use Rattle.jsonc_insert.specs.declared.named.shape.Over.TheVariants as over
+use Rattle.jsonc_insert.specs.declared.named.shape.Shape.{Shape}
+use Rattle.jsonc_insert.specs.named.Named.{EnsuredFor}
+use Rattle.jsonc_insert.specs.named.Shapes.{is_of, empty_of}
 use Rattle.jsonc_run.specs.Edits.{Operation, replace, remove, remove_comment, set_root, clear_root, replace_property, ensure_root, set_value, ensure_value, set_boolean, ensure_multiline, insert_element, append_element, insert_property, append_property, ensure_property, set_commas, set_some_commas, rearrange, PropertyValueSet, RootEnsured, RootSet}
 use Rattle.jsonc_run.specs.Places.{IsEntryAt, an_entry, in_array, in_object, the_value}
 use Rattle.jsonc_run.specs.Refusals.{as_it_was, set_in_part}

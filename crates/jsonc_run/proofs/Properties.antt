@@ -6,34 +6,34 @@ use Rattle.jsonc_text.proofs.UniqueValues.{document_unique}
 use Rattle.jsonc_tree.specs.Content as content
 use Rattle.jsonc_tree.specs.OrderedTree.{OrderedTree, ordered_tree}
 use Rattle.jsonc_tree.specs.Tree.{Node, children_at, content_at, IsTree}
-use Rattle.jsonc_build.specs.Shape.{printed_text}
-use Rattle.jsonc_nodes.specs.Siblings.{elements_at}
-use Rattle.jsonc_from_input.specs.Texts.{IsCharacters}
-use Rattle.jsonc_laws.specs.Changes.{Changed}
-use Rattle.jsonc_laws.specs.SoundTrees.{SoundTree}
+use Rattle.jsonc_sound.specs.Shape.{printed_text}
+use Rattle.jsonc_layout.specs.nodes.Siblings.{elements_at}
+use Rattle.jsonc_layout.specs.from_input.Texts.{IsCharacters}
+use Rattle.jsonc_sound.specs.Changes.{Changed}
+use Rattle.jsonc_sound.specs.SoundTrees.{SoundTree}
 use Rattle.jsonc_edit.specs.Paths.{FindsExactly, IsAt}
 use Rattle.jsonc_edit.specs.Writing.{IsWritable}
 use Rattle.jsonc_edit.specs.declared.error.EditError.{EditError}
 use Rattle.jsonc_edit.specs.declared.error.EditError.TheVariants.{OutOfMemory, MissingBrackets, MissingName, NoSuchPlace}
 use Rattle.jsonc_edit.proofs.FittingNodes.{over_there}
-use Rattle.jsonc_named.specs.Below.insert.Inserted.{refusal}
-use Rattle.jsonc_named.specs.Below.insert.Planned.{has_brackets}
-use Rattle.jsonc_multiline.proofs.Documents.{over_at}
-use Rattle.jsonc_named.specs.Below.members.Inserted.{PropertyPut}
-use Rattle.jsonc_named.proofs.Below.members.Past.{past_the_end}
-use Rattle.jsonc_named.proofs.Below.members.Spreading.{wants_memory_alone}
-use Rattle.jsonc_named.specs.Below.insertion_laws.Members.{member_count, IsMemberInserted, PropertyComesAt}
-use Rattle.jsonc_named.proofs.Below.insertion_laws.Named.{inserts_member}
-use Rattle.jsonc_named.proofs.Below.member_laws.Coming.{properties_come_at}
-use Rattle.jsonc_named.specs.declared.shape.Over.{Over}
-use Rattle.jsonc_named.specs.declared.shape.Shape.{Shape}
-use Rattle.jsonc_named.specs.Named.{IsUnensured}
+use Rattle.jsonc_insert.specs.Inserted.{refusal}
+use Rattle.jsonc_insert.specs.Planned.{has_brackets}
+use Rattle.jsonc_edit.proofs.lemmas.multiline.Documents.{over_at}
+use Rattle.jsonc_insert.specs.members.Inserted.{PropertyPut}
+use Rattle.jsonc_insert.proofs.lemmas.members.Past.{past_the_end}
+use Rattle.jsonc_insert.proofs.lemmas.members.Spreading.{wants_memory_alone}
+use Rattle.jsonc_insert.specs.elements.Members.{member_count, IsMemberInserted, PropertyComesAt}
+use Rattle.jsonc_insert.proofs.lemmas.elements.Named.{inserts_member}
+use Rattle.jsonc_insert.proofs.lemmas.properties.Coming.{properties_come_at}
+use Rattle.jsonc_insert.specs.declared.named.shape.Over.{Over}
+use Rattle.jsonc_insert.specs.declared.named.shape.Shape.{Shape}
+use Rattle.jsonc_insert.specs.named.Named.{IsUnensured}
 use Rattle.jsonc_run.specs.Edits.{append_property, ensure_property, insert_property}
 use Rattle.jsonc_run.specs.Places.{IsObjectAt}
 use Rattle.jsonc_run.specs.Refusals.{IsToldBy}
-use Rattle.jsonc_named.proofs.Unensured.{no_other}
+use Rattle.jsonc_insert.proofs.lemmas.named.Unensured.{no_other}
 use Rattle.jsonc_run.proofs.Inserted.{fewer}
-use Rattle.jsonc_named.proofs.PathValues.{value_once}
+use Rattle.jsonc_insert.proofs.lemmas.named.PathValues.{value_once}
 
 -- the object at a path is what stands there, if it is one
 pub object_found : (ns : List Node) (path : List ℕ) (at found : Option ℕ) → FindsExactly at (IsAt ns path) → FindsExactly found (λ n. (at ≡ Some n) × (content_at ns n ≡ content.object)) → FindsExactly found (IsObjectAt ns path)

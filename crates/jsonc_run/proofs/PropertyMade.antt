@@ -6,14 +6,14 @@ use Rattle.jsonc_tree.specs.Content.{Content, object, property}
 use Rattle.jsonc_tree.specs.OrderedTree.{OrderedTree, Top, leaves, ordered_tree}
 use Rattle.jsonc_tree.specs.Tree.{Node, content_at, children_at, IsTree}
 use Rattle.jsonc_tree.proofs.Order.{parent_there}
-use Rattle.jsonc_nodes.specs.Kinds.{is_element, is_element_at}
-use Rattle.jsonc_from_input.specs.Layout.{Layout}
-use Rattle.jsonc_from_input.specs.Texts.{IsCharacters}
-use Rattle.jsonc_laws.specs.ChangeLaws.{DiffersIn}
-use Rattle.jsonc_laws.specs.TreeChanges.{leaves_of, property_of}
-use Rattle.jsonc_laws.specs.SoundTrees.{SoundTree}
-use Rattle.jsonc_laws.specs.Spaces.{first_printed, is_bare_leaf}
-use Rattle.jsonc_laws.specs.Properties.{PropertyChanged}
+use Rattle.jsonc_layout.specs.nodes.Kinds.{is_element, is_element_at}
+use Rattle.jsonc_layout.specs.from_input.Layout.{Layout}
+use Rattle.jsonc_layout.specs.from_input.Texts.{IsCharacters}
+use Rattle.jsonc_sound.specs.ChangeLaws.{DiffersIn}
+use Rattle.jsonc_sound.specs.TreeChanges.{leaves_of, property_of}
+use Rattle.jsonc_sound.specs.SoundTrees.{SoundTree}
+use Rattle.jsonc_sound.specs.Spaces.{first_printed, is_bare_leaf}
+use Rattle.jsonc_sound.specs.Properties.{PropertyChanged}
 use Rattle.jsonc_edit.specs.Changes.{row_below, top_at}
 use Rattle.jsonc_edit.specs.Due.{begins_bare, listed, seen_behind}
 use Rattle.jsonc_edit.specs.Paths.{IsAt, IsElementOf}
@@ -29,10 +29,10 @@ use Rattle.jsonc_edit.proofs.Between.{space_behind}
 use Rattle.jsonc_edit.proofs.SeamsParting.{tells_what_is_printed}
 use Rattle.jsonc_edit.proofs.SeamsOfEntries.{property_front, property_back, property_stands, property_holds}
 use Rattle.jsonc_edit.proofs.PathPlaces.{takes_between}
-use Rattle.jsonc_set.specs.Giving.{due_after, is_bare_value, property_top, IsPropertyReplaced, PropertyGivesWay}
-use Rattle.jsonc_set.proofs.PropertyPlace.{takes_propertys_place}
-use Rattle.jsonc_set.proofs.WrittenProperty.{writes_property}
-use Rattle.jsonc_named.specs.Places.{IsPropertyAt, a_property}
+use Rattle.jsonc_edit.specs.set.Giving.{due_after, is_bare_value, property_top, IsPropertyReplaced, PropertyGivesWay}
+use Rattle.jsonc_edit.proofs.lemmas.set.PropertyPlace.{takes_propertys_place}
+use Rattle.jsonc_edit.proofs.lemmas.set.WrittenProperty.{writes_property}
+use Rattle.jsonc_insert.specs.named.Places.{IsPropertyAt, a_property}
 use Rattle.jsonc_run.specs.Written.{PropertyGivenWay, property_given}
 
 -- the new property is laid out as the document tells

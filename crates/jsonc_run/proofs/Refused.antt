@@ -4,26 +4,26 @@ use Rattle.std.proofs.lemmas.Bool.{false≢true}
 use Rattle.jsonc_text.specs.Options.{Options}
 use Rattle.jsonc_tree.specs.OrderedTree.{ordered_tree}
 use Rattle.jsonc_tree.specs.Tree.{Node, content_at, IsTree}
-use Rattle.jsonc_nodes.specs.Properties.{lacks_name_at, value_by}
-use Rattle.jsonc_lines.specs.Kinds.{holds_values}
-use Rattle.jsonc_laws.specs.SoundTrees.{SoundTree}
+use Rattle.jsonc_layout.specs.nodes.Properties.{lacks_name_at, value_by}
+use Rattle.jsonc_layout.specs.lines.Kinds.{holds_values}
+use Rattle.jsonc_sound.specs.SoundTrees.{SoundTree}
 use Rattle.jsonc_edit.specs.declared.error.EditError.{EditError}
 use Rattle.jsonc_edit.specs.declared.error.EditError.TheVariants.{OutOfMemory, MissingBrackets, MissingName, NoSuchPlace}
 use Rattle.jsonc_edit.specs.Paths as paths
 use Rattle.jsonc_edit.specs.Paths.{IsAt, IsElementOf, LeadsTo}
 use Rattle.jsonc_edit.proofs.Uniqueness.{element_parent}
-use Rattle.jsonc_remove.specs.Removed.{has_brackets, IsKeptFor}
-use Rattle.jsonc_multiline.specs.Multiline.{IsUnspread}
-use Rattle.jsonc_multiline.proofs.LineEnds.{has_its_brackets}
-use Rattle.jsonc_named.proofs.Writing as named_laws
+use Rattle.jsonc_edit.specs.remove.Removed.{has_brackets, IsKeptFor}
+use Rattle.jsonc_edit.specs.multiline.Multiline.{IsUnspread}
+use Rattle.jsonc_edit.proofs.lemmas.multiline.LineEnds.{has_its_brackets}
+use Rattle.jsonc_insert.proofs.lemmas.named.Writing as named_laws
 use Rattle.jsonc_run.specs.Edits.{Operation, remove, ensure_value, ensure_multiline, insert_element, append_element, insert_property, append_property, ensure_property, AreMade, none_made, first_made}
-use Rattle.jsonc_named.specs.Below.insert.Inserted.{refusal}
-use Rattle.jsonc_named.proofs.Below.insertion_laws.Containers.{wants_memory_alone}
-use Rattle.jsonc_named.proofs.Below.members.Spreading as objects
-use Rattle.jsonc_named.specs.Places.{IsPropertyAt, a_property}
+use Rattle.jsonc_insert.specs.Inserted.{refusal}
+use Rattle.jsonc_insert.proofs.lemmas.elements.Containers.{wants_memory_alone}
+use Rattle.jsonc_insert.proofs.lemmas.members.Spreading as objects
+use Rattle.jsonc_insert.specs.named.Places.{IsPropertyAt, a_property}
 use Rattle.jsonc_run.specs.Places.{IsArrayAt, IsContainerAt, IsEntryAt, IsObjectAt, an_entry, in_array, in_object, the_value}
 use Rattle.jsonc_run.specs.Refusals.{IsToldBy, LacksBrackets, LacksName, WantsMemoryOrPlace}
-use Rattle.jsonc_named.proofs.PropertyValues.{held_by_name, value_held}
+use Rattle.jsonc_insert.proofs.lemmas.named.PropertyValues.{held_by_name, value_held}
 
 not_brackets : MissingBrackets ≡ OutOfMemory → ⊥
 not_brackets e = cc

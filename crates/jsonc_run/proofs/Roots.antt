@@ -8,20 +8,20 @@ use Rattle.jsonc_text.specs.Plain.{Plain}
 use Rattle.jsonc_tree.specs.Changes.{Splices}
 use Rattle.jsonc_tree.specs.OrderedTree.{none, Shows, shows_none, ordered_tree}
 use Rattle.jsonc_tree.specs.Tree.{Node, children_at, IsTree}
-use Rattle.jsonc_nodes.specs.Kinds.{is_element_at}
-use Rattle.jsonc_nodes.specs.Properties.{value_at, value_by}
-use Rattle.jsonc_laws.specs.Changes as changes
-use Rattle.jsonc_laws.specs.Changes.{Changed}
-use Rattle.jsonc_laws.specs.SoundTrees.{SoundTree}
-use Rattle.jsonc_laws.specs.EntryLaws.{root_with}
+use Rattle.jsonc_layout.specs.nodes.Kinds.{is_element_at}
+use Rattle.jsonc_layout.specs.nodes.Properties.{value_at, value_by}
+use Rattle.jsonc_sound.specs.Changes as changes
+use Rattle.jsonc_sound.specs.Changes.{Changed}
+use Rattle.jsonc_sound.specs.SoundTrees.{SoundTree}
+use Rattle.jsonc_sound.specs.EntryLaws.{root_with}
 use Rattle.jsonc_edit.specs.Changes.{row_below}
 use Rattle.jsonc_edit.specs.Paths.{IsAt, itself}
 use Rattle.jsonc_edit.specs.Reading.{layout_for}
 use Rattle.jsonc_edit.proofs.Elements.{taken, left}
 use Rattle.jsonc_edit.proofs.FittingFinds.{passes, fails, none_is_some}
 use Rattle.jsonc_edit.proofs.Walk.{Shows-row_below, document_is}
-use Rattle.jsonc_set.proofs.Coming.{comes_among_rows}
-use Rattle.jsonc_named.proofs.Values.{value_gives_way}
+use Rattle.jsonc_edit.proofs.lemmas.set.Coming.{comes_among_rows}
+use Rattle.jsonc_insert.proofs.lemmas.named.Values.{value_gives_way}
 use Rattle.jsonc_run.specs.Edits.{RootSet}
 use Rattle.jsonc_run.specs.Written.{RootValueSet, given_way, has_come}
 

@@ -3,14 +3,14 @@ use Rattle.std.proofs.Common.{ℕ, List}
 use Rattle.jsonc_text.specs.Options.{Options}
 use Rattle.jsonc_tree.specs.OrderedTree.{ordered_tree}
 use Rattle.jsonc_tree.specs.Tree.{Node, IsTree}
-use Rattle.jsonc_laws.specs.SoundTrees.{SoundTree}
-use Rattle.jsonc_commas.specs.InTurn.{holders, AreSetInPart, AreSetInTurn}
-use Rattle.jsonc_commas.specs.Laws.{IsInSound, SaysTheSame}
-use Rattle.jsonc_commas.proofs.Documents.{keeps_document, keeps_in_part}
-use Rattle.jsonc_commas.proofs.Within.{stays_outside, stays_outside_in_part}
+use Rattle.jsonc_sound.specs.SoundTrees.{SoundTree}
+use Rattle.jsonc_edit.specs.commas.InTurn.{holders, AreSetInPart, AreSetInTurn}
+use Rattle.jsonc_edit.specs.commas.Laws.{IsInSound, SaysTheSame}
+use Rattle.jsonc_edit.proofs.lemmas.commas.Documents.{keeps_document, keeps_in_part}
+use Rattle.jsonc_edit.proofs.lemmas.commas.Within.{stays_outside, stays_outside_in_part}
 use Rattle.jsonc_edit.specs.Changes.{top_at}
 use Rattle.jsonc_edit.specs.declared.modes.TrailingCommaMode.{TrailingCommaMode}
-use Rattle.jsonc_multiline.proofs.Documents.{over_at}
+use Rattle.jsonc_edit.proofs.lemmas.multiline.Documents.{over_at}
 use Rattle.jsonc_run.specs.Places.{IsContainerAt}
 use Rattle.jsonc_run.specs.Steps.{IsChangedAt}
 use Rattle.jsonc_sort.specs.Paths.{KeepsOutside, SaysSorted, SortedAt}

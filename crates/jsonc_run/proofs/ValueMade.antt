@@ -5,20 +5,20 @@ use Rattle.jsonc_text.specs.Plain.{Plain}
 use Rattle.jsonc_tree.specs.Content.{property}
 use Rattle.jsonc_tree.specs.OrderedTree.{ordered_tree}
 use Rattle.jsonc_tree.specs.Tree.{Node, content_at, IsTree}
-use Rattle.jsonc_nodes.specs.Properties.{lacks_name_at, value_at}
-use Rattle.jsonc_laws.specs.SoundTrees.{SoundTree}
+use Rattle.jsonc_layout.specs.nodes.Properties.{lacks_name_at, value_at}
+use Rattle.jsonc_sound.specs.SoundTrees.{SoundTree}
 use Rattle.jsonc_edit.specs.Paths.{IsAt}
 use Rattle.jsonc_edit.specs.Reading.{IsReplaced}
 use Rattle.jsonc_edit.specs.declared.error.EditError.{EditError}
 use Rattle.jsonc_edit.specs.declared.error.EditError.TheVariants.{OutOfMemory, MissingBrackets, MissingName, NoSuchPlace}
-use Rattle.jsonc_set.specs.PropertyValues.{IsUnset, LastValue}
-use Rattle.jsonc_named.specs.declared.shape.Shape.{Shape}
+use Rattle.jsonc_edit.specs.set.PropertyValues.{IsUnset, LastValue}
+use Rattle.jsonc_insert.specs.declared.named.shape.Shape.{Shape}
 use Rattle.jsonc_run.specs.Edits.{ensure_value, PropertyValueSet}
-use Rattle.jsonc_named.specs.Places.{IsPropertyAt, a_property}
+use Rattle.jsonc_insert.specs.named.Places.{IsPropertyAt, a_property}
 use Rattle.jsonc_run.specs.Refusals.{IsToldBy}
-use Rattle.jsonc_named.specs.Shapes.{is_of}
-use Rattle.jsonc_named.proofs.PropertyValues.{value_held}
-use Rattle.jsonc_named.proofs.Unensured.{named}
+use Rattle.jsonc_insert.specs.named.Shapes.{is_of}
+use Rattle.jsonc_insert.proofs.lemmas.named.PropertyValues.{value_held}
+use Rattle.jsonc_insert.proofs.lemmas.named.Unensured.{named}
 
 -- a property at a path is one
 pub property_kind : (ns : List Node) (path : List ℕ) (r : ℕ) → IsPropertyAt ns path r → content_at ns r ≡ property

@@ -8,15 +8,15 @@ use Rattle.jsonc_tree.specs.OrderedTree.{OrderedTree, none, more, Shows, shows_n
 use Rattle.jsonc_tree.specs.Tree.{Node, children_at, content_at, IsTree}
 use Rattle.jsonc_tree.specs.Values as values
 use Rattle.jsonc_tree.specs.Values.{is_passed_over, ValueOf, ItemsOf, MembersOf, PropertyOf, HoldsValue, HoldsAtMostOne, DocumentValueOf}
-use Rattle.jsonc_nodes.specs.Kinds.{is_element_at}
-use Rattle.jsonc_nodes.proofs.Held.{held_in, value_is_held}
-use Rattle.jsonc_laws.specs.Alone as alone
-use Rattle.jsonc_laws.specs.Alone.{PropertyAlone}
-use Rattle.jsonc_laws.specs.Changes as changes
-use Rattle.jsonc_laws.specs.Changes.{ItemChanged, MemberChanged, Changed}
-use Rattle.jsonc_laws.specs.SoundTrees.{SoundTree}
-use Rattle.jsonc_laws.specs.TreeChanges.{IsElement}
-use Rattle.jsonc_laws.proofs.FirstNodes.{value_of_element, name_leaf_element}
+use Rattle.jsonc_layout.specs.nodes.Kinds.{is_element_at}
+use Rattle.jsonc_layout.proofs.lemmas.nodes.Held.{held_in, value_is_held}
+use Rattle.jsonc_sound.specs.Alone as alone
+use Rattle.jsonc_sound.specs.Alone.{PropertyAlone}
+use Rattle.jsonc_sound.specs.Changes as changes
+use Rattle.jsonc_sound.specs.Changes.{ItemChanged, MemberChanged, Changed}
+use Rattle.jsonc_sound.specs.SoundTrees.{SoundTree}
+use Rattle.jsonc_sound.specs.TreeChanges.{IsElement}
+use Rattle.jsonc_sound.proofs.FirstNodes.{value_of_element, name_leaf_element}
 use Rattle.jsonc_edit.specs.Changes.{row_below}
 use Rattle.jsonc_edit.specs.Paths as paths
 use Rattle.jsonc_edit.specs.Paths.{IsAt, IsElementOf, StepsTo}
@@ -25,8 +25,8 @@ use Rattle.jsonc_edit.proofs.ShapedProperties.{second_is_held}
 use Rattle.jsonc_edit.proofs.Standing.{at_further}
 use Rattle.jsonc_edit.proofs.Uniqueness.{element_there}
 use Rattle.jsonc_edit.proofs.Walk.{Shows-row_below, document_is}
-use Rattle.jsonc_named.specs.Places.{IsPropertyOf}
-use Rattle.jsonc_named.proofs.PropertyValues.{property_row}
+use Rattle.jsonc_insert.specs.named.Places.{IsPropertyOf}
+use Rattle.jsonc_insert.proofs.lemmas.named.PropertyValues.{property_row}
 use Rattle.jsonc_run.specs.Named.{StandsAt}
 
 module _ (ns : List Node) where

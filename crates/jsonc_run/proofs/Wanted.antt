@@ -6,9 +6,9 @@ use Rattle.std.proofs.lemmas.List.Elements.{Contains-append_right}
 use Rattle.jsonc_tree.specs.Tree.{Node, IsTree}
 use Rattle.jsonc_edit.specs.declared.modes.TrailingCommaMode.{TrailingCommaMode}
 use Rattle.jsonc_edit.specs.declared.modes.TrailingCommaMode.TheVariants.{IfMultiline}
-use Rattle.jsonc_commas.specs.Commas.{comma_wanted_behind, CommaIsSet, GainsIt, WantsComma}
-use Rattle.jsonc_commas.specs.InTurn.{holders, AreSetInPart, AreSetInTurn}
-use Rattle.jsonc_commas.proofs.Unmoved.{other_row, wanted_same}
+use Rattle.jsonc_edit.specs.commas.Commas.{comma_wanted_behind, CommaIsSet, GainsIt, WantsComma}
+use Rattle.jsonc_edit.specs.commas.InTurn.{holders, AreSetInPart, AreSetInTurn}
+use Rattle.jsonc_edit.proofs.lemmas.commas.Unmoved.{other_row, wanted_same}
 use Rattle.jsonc_run.specs.Refusals.{WantsSomeComma}
 
 module _ (old now : List Node) (c : ℕ) where

@@ -6,7 +6,7 @@ use Rattle.jsonc_text.specs.Numbers.{NumberLit}
 use Rattle.jsonc_text.specs.Options.{Options, AllowsMore, AgreeOnLexemes}
 use Rattle.jsonc_text.specs.Plain.{Plain, Items, no_items, item, Members, no_members, member}
 use Rattle.jsonc_text.proofs.SameOptions.{lexeme_same}
-use Rattle.jsonc_commas.proofs.WiderShapes.{as_allowed, with_trailing}
+use Rattle.jsonc_edit.proofs.lemmas.commas.WiderShapes.{as_allowed, with_trailing}
 use Rattle.jsonc_edit.specs.Writing.{IsOfNumbers, AreOfNumbers, AreNamedOfNumbers, IsWritable}
 use Rattle.jsonc_edit.specs.declared.modes.TrailingCommaMode.{TrailingCommaMode}
 use Rattle.jsonc_edit.specs.declared.modes.TrailingCommaMode.TheVariants.{Never, IfMultiline}

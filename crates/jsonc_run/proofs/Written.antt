@@ -7,63 +7,63 @@ use Rattle.jsonc_text.specs.Grammar.{IsDocument}
 use Rattle.jsonc_text.proofs.UniqueValues.{document_unique}
 use Rattle.jsonc_tree.specs.OrderedTree.{OrderedTree, ordered_tree}
 use Rattle.jsonc_tree.specs.Tree.{Node, content_at, children_at, IsTree}
-use Rattle.jsonc_build.specs.Shape.{printed_text}
-use Rattle.jsonc_laws.specs.SoundTrees.{SoundTree}
-use Rattle.jsonc_build.proofs.ShapeValues.{document_printed}
+use Rattle.jsonc_sound.specs.Shape.{printed_text}
+use Rattle.jsonc_sound.specs.SoundTrees.{SoundTree}
+use Rattle.jsonc_sound.proofs.ShapeValues.{document_printed}
 use Rattle.jsonc_edit.specs.Changes.{top_at}
 use Rattle.jsonc_edit.specs.Writing.{IsWritable}
-use Rattle.jsonc_from_input.specs.Texts.{IsCharacters}
-use Rattle.jsonc_nodes.specs.Properties.{value_at}
+use Rattle.jsonc_layout.specs.from_input.Texts.{IsCharacters}
+use Rattle.jsonc_layout.specs.nodes.Properties.{value_at}
 use Rattle.jsonc_edit.proofs.OneValue.{document_once}
 use Rattle.jsonc_edit.proofs.ReplacedValues.{replaced_written}
 use Rattle.jsonc_edit.proofs.TakingOut.{loses_comment, numbered, taken_sound, taken_value}
 use Rattle.jsonc_edit.specs.Paths.{IsAt, IsElementOf, LeadsTo, itself}
 use Rattle.jsonc_edit.specs.Reading.{IsReplaced}
-use Rattle.jsonc_lines.specs.Kinds.{holds_values}
-use Rattle.jsonc_remove.specs.Removed.{TakesElement}
-use Rattle.jsonc_multiline.proofs.Documents.{spread_at}
-use Rattle.jsonc_multiline.proofs.SameDocument.{keeps_document}
-use Rattle.jsonc_remove.proofs.Entries.{entry_taken}
-use Rattle.jsonc_remove.proofs.Lost.{removes_entry}
-use Rattle.jsonc_remove.proofs.LostValue.{removes_value}
-use Rattle.jsonc_remove.proofs.Roots.{value_taken}
-use Rattle.jsonc_set.specs.Booleans.{BooleanSet}
-use Rattle.jsonc_set.specs.Giving.{IsPropertyReplaced}
-use Rattle.jsonc_set.proofs.Gaining.{gives_first_value, leaves_bare}
-use Rattle.jsonc_set.proofs.WrittenBoolean.{writes_boolean}
-use Rattle.jsonc_set.proofs.WrittenProperty.{writes_property}
-use Rattle.jsonc_named.specs.Places.{IsPropertyAt, a_property}
+use Rattle.jsonc_layout.specs.lines.Kinds.{holds_values}
+use Rattle.jsonc_edit.specs.remove.Removed.{TakesElement}
+use Rattle.jsonc_edit.proofs.lemmas.multiline.Documents.{spread_at}
+use Rattle.jsonc_edit.proofs.lemmas.multiline.SameDocument.{keeps_document}
+use Rattle.jsonc_edit.proofs.lemmas.remove.Entries.{entry_taken}
+use Rattle.jsonc_edit.proofs.lemmas.remove.Lost.{removes_entry}
+use Rattle.jsonc_edit.proofs.lemmas.remove.LostValue.{removes_value}
+use Rattle.jsonc_edit.proofs.lemmas.remove.Roots.{value_taken}
+use Rattle.jsonc_edit.specs.set.Booleans.{BooleanSet}
+use Rattle.jsonc_edit.specs.set.Giving.{IsPropertyReplaced}
+use Rattle.jsonc_edit.proofs.lemmas.set.Gaining.{gives_first_value, leaves_bare}
+use Rattle.jsonc_edit.proofs.lemmas.set.WrittenBoolean.{writes_boolean}
+use Rattle.jsonc_edit.proofs.lemmas.set.WrittenProperty.{writes_property}
+use Rattle.jsonc_insert.specs.named.Places.{IsPropertyAt, a_property}
 use Rattle.jsonc_run.specs.Places.{IsEntryAt, the_value, an_entry, IsEntryOf, in_array, in_object, IsBooleanAt}
 use Rattle.jsonc_run.specs.Edits.{Operation, replace, remove, remove_comment, set_root, clear_root, replace_property, ensure_root, set_value, ensure_value, set_boolean, ensure_multiline, insert_element, append_element, insert_property, append_property, ensure_property, set_commas, set_some_commas, rearrange, AreMade, none_made, first_made, RootSet, IsMade}
 use Rattle.jsonc_run.specs.Written.{MayBeMade, IsChanged, by_value, by_entry, by_all, by_comment, by_root, by_clearing, by_property, by_ensuring, by_setting, by_ensuring_held, by_boolean, by_lines, by_inserting, by_appending, by_inserting_member, by_appending_member, by_ensuring_named, by_commas, by_some_commas, by_sorting}
-use Rattle.jsonc_named.specs.declared.shape.Over.{Over}
-use Rattle.jsonc_named.specs.declared.shape.Over.TheVariants as over
-use Rattle.jsonc_named.specs.declared.shape.Shape.{Shape}
-use Rattle.jsonc_named.specs.Shapes.{empty_of}
-use Rattle.jsonc_named.specs.Shapes.{comes_first, has_it, may_stay, must_give_way}
+use Rattle.jsonc_insert.specs.declared.named.shape.Over.{Over}
+use Rattle.jsonc_insert.specs.declared.named.shape.Over.TheVariants as over
+use Rattle.jsonc_insert.specs.declared.named.shape.Shape.{Shape}
+use Rattle.jsonc_insert.specs.named.Shapes.{empty_of}
+use Rattle.jsonc_insert.specs.named.Shapes.{comes_first, has_it, may_stay, must_give_way}
 use Rattle.jsonc_run.specs.Written.{EntryLeft, entry_left, value_left, options_after, options_behind}
-use Rattle.jsonc_named.proofs.Values.{empty_writable, same_shape}
+use Rattle.jsonc_insert.proofs.lemmas.named.Values.{empty_writable, same_shape}
 use Rattle.jsonc_run.proofs.Ensured.{held, Ensured, created, stayed, other_stayed, replaced, ensured, value_ensured}
-use Rattle.jsonc_named.proofs.Below.insert.Past.{past_the_end}
-use Rattle.jsonc_named.proofs.Below.insertion_laws.Comes.{elements_come_at}
-use Rattle.jsonc_named.proofs.Below.insertion_laws.Containers.{has_its_brackets}
-use Rattle.jsonc_nodes.specs.Siblings.{elements_at}
+use Rattle.jsonc_insert.proofs.Past.{past_the_end}
+use Rattle.jsonc_insert.proofs.lemmas.elements.Comes.{elements_come_at}
+use Rattle.jsonc_insert.proofs.lemmas.elements.Containers.{has_its_brackets}
+use Rattle.jsonc_layout.specs.nodes.Siblings.{elements_at}
 use Rattle.jsonc_run.proofs.Inserted.{came_in, came_last}
 use Rattle.jsonc_run.proofs.Properties as properties
-use Rattle.jsonc_named.proofs.Below.member_laws.Coming.{properties_come_at}
+use Rattle.jsonc_insert.proofs.lemmas.properties.Coming.{properties_come_at}
 use Rattle.jsonc_run.proofs.Booleans.{boolean_given, boolean_changed}
-use Rattle.jsonc_named.proofs.PathValues.{value_of_text}
+use Rattle.jsonc_insert.proofs.lemmas.named.PathValues.{value_of_text}
 use Rattle.jsonc_run.proofs.PropertyMade.{property_gives_way}
-use Rattle.jsonc_named.proofs.Values as property_values
-use Rattle.jsonc_named.proofs.Values.{shape_written}
-use Rattle.jsonc_named.proofs.Writing.{writes_named}
+use Rattle.jsonc_insert.proofs.lemmas.named.Values as property_values
+use Rattle.jsonc_insert.proofs.lemmas.named.Values.{shape_written}
+use Rattle.jsonc_insert.proofs.lemmas.named.Writing.{writes_named}
 use Rattle.jsonc_edit.proofs.SeamsOfComments.{comment_has_seam}
-use Rattle.jsonc_named.proofs.Values.{replaces_held, stays_ensured}
+use Rattle.jsonc_insert.proofs.lemmas.named.Values.{replaces_held, stays_ensured}
 use Rattle.jsonc_run.proofs.ValueMade.{set_replaced}
 use Rattle.jsonc_run.proofs.Sorts.{commas_say, commas_within, some_commas_say, some_commas_within, sorted_at, sorted_outside, sorted_says}
 use Rattle.jsonc_run.specs.Steps.{MadeIn}
 use Rattle.jsonc_run.proofs.Wider.{may_behind}
-use Rattle.jsonc_named.proofs.Values.{value_gives_way}
+use Rattle.jsonc_insert.proofs.lemmas.named.Values.{value_gives_way}
 use Rattle.jsonc_run.proofs.Roots.{value_stands, root_value_set, whole_changed, emptied, no_leaves}
 
 -- an entry is an element of an array or object

@@ -1,36 +1,36 @@
 -- What edits ask for, and that they are made in order.
 use Rattle.std.specs.Prelude.{◌≡◌, ℕ, Bool, true, false, List, [], ◌∷◌, length, Option, Some, None}
 use Rattle.jsonc_text.specs.Plain.{Plain}
-use Rattle.jsonc_input.specs.Views.{chars_of, plain}
+use Rattle.jsonc_layout.specs.input.Views.{chars_of, plain}
 use Rattle.jsonc_tree.specs.Changes.{Splices}
 use Rattle.jsonc_tree.specs.Tree.{Node, children_at, IsTree}
-use Rattle.jsonc_nodes.specs.Properties.{value_at}
-use Rattle.jsonc_nodes.specs.Siblings.{elements_at}
-use Rattle.jsonc_commas.specs.InTurn.{holders, AreSetInPart, AreSetInTurn}
+use Rattle.jsonc_layout.specs.nodes.Properties.{value_at}
+use Rattle.jsonc_layout.specs.nodes.Siblings.{elements_at}
+use Rattle.jsonc_edit.specs.commas.InTurn.{holders, AreSetInPart, AreSetInTurn}
 use Rattle.jsonc_edit.specs.Comments.{comment_at, CommentTaken}
 use Rattle.jsonc_edit.specs.Paths.{IsAt}
 use Rattle.jsonc_edit.specs.Reading.{IsReplaced}
 use Rattle.jsonc_edit.specs.declared.modes.TrailingCommaMode.{TrailingCommaMode}
-use Rattle.jsonc_named.specs.Below.insert.Inserted.{ElementPut}
-use Rattle.jsonc_named.specs.Below.members.Inserted.{PropertyPut}
-use Rattle.jsonc_multiline.specs.Multiline.{MadeMultiline}
-use Rattle.jsonc_remove.specs.Removed.{TakesElement}
-use Rattle.jsonc_set.specs.Booleans.{BooleanSet}
-use Rattle.jsonc_set.specs.Giving.{IsPropertyReplaced}
-use Rattle.jsonc_set.specs.Kinds.{FoundOrCreated, FoundOrSet}
-use Rattle.jsonc_set.specs.PropertyValues.{LastValue}
-use Rattle.jsonc_set.specs.RootSet.{FirstValue}
+use Rattle.jsonc_insert.specs.Inserted.{ElementPut}
+use Rattle.jsonc_insert.specs.members.Inserted.{PropertyPut}
+use Rattle.jsonc_edit.specs.multiline.Multiline.{MadeMultiline}
+use Rattle.jsonc_edit.specs.remove.Removed.{TakesElement}
+use Rattle.jsonc_edit.specs.set.Booleans.{BooleanSet}
+use Rattle.jsonc_edit.specs.set.Giving.{IsPropertyReplaced}
+use Rattle.jsonc_edit.specs.set.Kinds.{FoundOrCreated, FoundOrSet}
+use Rattle.jsonc_edit.specs.set.PropertyValues.{LastValue}
+use Rattle.jsonc_edit.specs.set.RootSet.{FirstValue}
 use Rattle.jsonc_sort.specs.Rearranged.{IsOrderIn, Rearranged}
 use Rattle.jsonc_sort.specs.Sorting.{Headers}
 use Rattle.jsonc_run.specs.declared.edit.Edit.{Edit}
 use Rattle.jsonc_run.specs.declared.edit.Edit.TheVariants.{Replace, Remove, RemoveComment, SetRoot, ClearRoot, ReplaceProperty, EnsureRoot, SetValue, EnsureValue, SetBoolean, EnsureMultiline, InsertElement, AppendElement, InsertProperty, AppendProperty, EnsureProperty, SetTrailingCommas, Sort}
-use Rattle.jsonc_named.specs.declared.shape.Over.{Over}
-use Rattle.jsonc_named.specs.declared.shape.Over.TheVariants as over
-use Rattle.jsonc_named.specs.declared.shape.Shape.{Shape}
-use Rattle.jsonc_named.specs.Named.{NamedEnsured, PropertyValueEnsured}
-use Rattle.jsonc_named.specs.Places.{IsPropertyAt}
+use Rattle.jsonc_insert.specs.declared.named.shape.Over.{Over}
+use Rattle.jsonc_insert.specs.declared.named.shape.Over.TheVariants as over
+use Rattle.jsonc_insert.specs.declared.named.shape.Shape.{Shape}
+use Rattle.jsonc_insert.specs.named.Named.{NamedEnsured, PropertyValueEnsured}
+use Rattle.jsonc_insert.specs.named.Places.{IsPropertyAt}
 use Rattle.jsonc_run.specs.Places.{IsArrayAt, IsBooleanAt, IsContainerAt, IsEntryAt, IsObjectAt}
-use Rattle.jsonc_named.specs.Shapes.{is_of, empty_of}
+use Rattle.jsonc_insert.specs.named.Shapes.{is_of, empty_of}
 
 -- What an edit asks for: that the value at the path gives way to this one, that the entry at the path leaves, or the comment of this number; that the
 -- document's value is this one, or that all leaves the document; that the property at the path gives way to one of this name and value; that the document has

@@ -4,6 +4,6 @@ pub mod Refusals
 pub mod Written
 pub mod Named
 pub mod Marked
-pub mod Below
 pub mod Steps
 pub mod Parents
+pub mod promise

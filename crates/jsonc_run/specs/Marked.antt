@@ -5,16 +5,16 @@ use Rattle.jsonc_text.specs.Options.{Options}
 use Rattle.jsonc_text.specs.Plain.{boolean}
 use Rattle.jsonc_tree.specs.Tree.{Node}
 use Rattle.jsonc_tree.specs.OrderedTree.{ordered_tree}
-use Rattle.jsonc_build.specs.Shape.{printed_text}
+use Rattle.jsonc_sound.specs.Shape.{printed_text}
 use Rattle.jsonc_tree.specs.OrderedTree.{Top}
-use Rattle.jsonc_laws.specs.SoundTrees.{SoundTree}
-use Rattle.jsonc_laws.specs.MarkChanges.{MarksDifferIn}
-use Rattle.jsonc_laws.specs.Marks as marks
-use Rattle.jsonc_laws.specs.Marks.{Mark, AreMarks, comments_of}
-use Rattle.jsonc_laws.specs.Written.{property_written, written}
-use Rattle.jsonc_laws.specs.EntryLaws.{LosesMarks}
-use Rattle.jsonc_named.specs.declared.shape.Over.TheVariants.{Keep, Replace}
-use Rattle.jsonc_named.specs.Laws.{ChangesMarks}
+use Rattle.jsonc_sound.specs.SoundTrees.{SoundTree}
+use Rattle.jsonc_sound.specs.MarkChanges.{MarksDifferIn}
+use Rattle.jsonc_sound.specs.Marks as marks
+use Rattle.jsonc_sound.specs.Marks.{Mark, AreMarks, comments_of}
+use Rattle.jsonc_sound.specs.Written.{property_written, written}
+use Rattle.jsonc_sound.specs.EntryLaws.{LosesMarks}
+use Rattle.jsonc_insert.specs.declared.named.shape.Over.TheVariants.{Keep, Replace}
+use Rattle.jsonc_insert.specs.named.Laws.{ChangesMarks}
 use Rattle.jsonc_run.specs.Edits.{Operation, replace, remove, remove_comment, set_root, clear_root, replace_property, ensure_root, set_value, ensure_value, set_boolean, ensure_multiline, insert_element, append_element, insert_property, append_property, ensure_property, set_commas, set_some_commas, rearrange}
 use Rattle.jsonc_run.specs.Written.{MayBeMade, options_after}
 

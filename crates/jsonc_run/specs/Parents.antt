@@ -9,15 +9,15 @@ use Rattle.jsonc_tree.specs.Tree.{Node, parent_at, place_at, IsTree}
 use Rattle.jsonc_edit.specs.Comments.{IsTakenOut}
 use Rattle.jsonc_edit.specs.Reading.{IsReplaced, IsReplacedRaw}
 use Rattle.jsonc_edit.specs.declared.modes.TrailingCommaMode.{TrailingCommaMode}
-use Rattle.jsonc_commas.specs.InTurn.{AreSetInTurn}
-use Rattle.jsonc_multiline.specs.Multiline.{MadeMultiline}
-use Rattle.jsonc_named.specs.Below.insert.Inserted.{ElementPut}
-use Rattle.jsonc_named.specs.Below.members.Inserted.{PropertyPut}
-use Rattle.jsonc_remove.specs.Removed.{IsTakenFrom}
-use Rattle.jsonc_set.specs.Booleans.{BooleanSet}
-use Rattle.jsonc_set.specs.Giving.{IsPropertyReplaced}
-use Rattle.jsonc_set.specs.PropertyValues.{LastValue}
-use Rattle.jsonc_set.specs.RootSet.{FirstValue}
+use Rattle.jsonc_edit.specs.commas.InTurn.{AreSetInTurn}
+use Rattle.jsonc_edit.specs.multiline.Multiline.{MadeMultiline}
+use Rattle.jsonc_insert.specs.Inserted.{ElementPut}
+use Rattle.jsonc_insert.specs.members.Inserted.{PropertyPut}
+use Rattle.jsonc_edit.specs.remove.Removed.{IsTakenFrom}
+use Rattle.jsonc_edit.specs.set.Booleans.{BooleanSet}
+use Rattle.jsonc_edit.specs.set.Giving.{IsPropertyReplaced}
+use Rattle.jsonc_edit.specs.set.PropertyValues.{LastValue}
+use Rattle.jsonc_edit.specs.set.RootSet.{FirstValue}
 use Rattle.jsonc_sort.specs.Rearranged.{Rearranged}
 use Rattle.jsonc_sort.specs.Sorting.{Headers}
 use Rattle.jsonc_run.specs.Edits.{Operation, IsMade}

@@ -3,9 +3,9 @@ use Rattle.std.specs.Prelude.{◌≡◌, ℕ, true, List, [], ◌∷◌, ◌++�
 use Rattle.jsonc_tree.specs.Content.{array, object}
 use Rattle.jsonc_tree.specs.Tree.{Node, content_at}
 use Rattle.jsonc_edit.specs.Paths.{IsAt, IsElementOf}
-use Rattle.jsonc_named.specs.Places.{IsPropertyOf}
-use Rattle.jsonc_lines.specs.Kinds.{holds_values}
-use Rattle.jsonc_set.specs.Booleans.{is_boolean}
+use Rattle.jsonc_insert.specs.named.Places.{IsPropertyOf}
+use Rattle.jsonc_layout.specs.lines.Kinds.{holds_values}
+use Rattle.jsonc_edit.specs.set.Booleans.{is_boolean}
 
 -- the truth value that a path leads to
 abbrev pub IsBooleanAt : List Node → List ℕ → ℕ → Type 0

@@ -4,26 +4,26 @@ use Rattle.std.specs.List.{Contains}
 use Rattle.jsonc_tree.specs.Building.{Keeps}
 use Rattle.jsonc_tree.specs.OrderedTree.{ordered_tree}
 use Rattle.jsonc_tree.specs.Tree.{Node}
-use Rattle.jsonc_nodes.specs.Properties.{lacks_name_at, value_at}
+use Rattle.jsonc_layout.specs.nodes.Properties.{lacks_name_at, value_at}
 use Rattle.jsonc_edit.specs.declared.error.EditError.{EditError}
 use Rattle.jsonc_edit.specs.declared.error.EditError.TheVariants.{OutOfMemory, MissingBrackets, MissingName, NoSuchPlace}
-use Rattle.jsonc_commas.specs.Commas.{WantsComma}
-use Rattle.jsonc_commas.specs.InTurn.{holders, AreSetInPart}
+use Rattle.jsonc_edit.specs.commas.Commas.{WantsComma}
+use Rattle.jsonc_edit.specs.commas.InTurn.{holders, AreSetInPart}
 use Rattle.jsonc_edit.specs.Comments.{comment_at, WantsSpace}
 use Rattle.jsonc_edit.specs.declared.modes.TrailingCommaMode.{TrailingCommaMode}
 use Rattle.jsonc_edit.specs.declared.modes.TrailingCommaMode.TheVariants.{IfMultiline}
 use Rattle.jsonc_edit.specs.Paths.{IsAt}
-use Rattle.jsonc_named.specs.Below.insert.Inserted.{refusal}
-use Rattle.jsonc_multiline.specs.Multiline.{IsUnspread}
-use Rattle.jsonc_remove.specs.Removed.{IsKeptFor}
-use Rattle.jsonc_set.specs.Booleans.{WantsSpaceFor}
-use Rattle.jsonc_set.specs.Kinds.{LacksKind}
-use Rattle.jsonc_named.specs.declared.shape.Over.{Over}
-use Rattle.jsonc_named.specs.declared.shape.Over.TheVariants as over
-use Rattle.jsonc_named.specs.declared.shape.Shape.{Shape}
-use Rattle.jsonc_named.specs.Named.{IsUnensured}
-use Rattle.jsonc_named.specs.Shapes.{is_of}
-use Rattle.jsonc_named.specs.Places.{IsPropertyAt}
+use Rattle.jsonc_insert.specs.Inserted.{refusal}
+use Rattle.jsonc_edit.specs.multiline.Multiline.{IsUnspread}
+use Rattle.jsonc_edit.specs.remove.Removed.{IsKeptFor}
+use Rattle.jsonc_edit.specs.set.Booleans.{WantsSpaceFor}
+use Rattle.jsonc_edit.specs.set.Kinds.{LacksKind}
+use Rattle.jsonc_insert.specs.declared.named.shape.Over.{Over}
+use Rattle.jsonc_insert.specs.declared.named.shape.Over.TheVariants as over
+use Rattle.jsonc_insert.specs.declared.named.shape.Shape.{Shape}
+use Rattle.jsonc_insert.specs.named.Named.{IsUnensured}
+use Rattle.jsonc_insert.specs.named.Shapes.{is_of}
+use Rattle.jsonc_insert.specs.named.Places.{IsPropertyAt}
 use Rattle.jsonc_run.specs.Places.{IsArrayAt, IsBooleanAt, IsContainerAt, IsEntryAt, IsObjectAt}
 use Rattle.jsonc_run.specs.Edits.{Operation, replace, remove, remove_comment, set_root, clear_root, replace_property, ensure_root, set_value, ensure_value, set_boolean, ensure_multiline, insert_element, append_element, insert_property, append_property, ensure_property, set_commas, set_some_commas, rearrange}
 

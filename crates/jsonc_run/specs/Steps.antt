@@ -7,22 +7,22 @@ use Rattle.jsonc_text.specs.Grammar.{IsDocument}
 use Rattle.jsonc_tree.specs.Tree.{Node}
 use Rattle.jsonc_tree.specs.OrderedTree.{OrderedTree, Top, none, ordered_tree}
 use Rattle.jsonc_tree.specs.Values.{DocumentValueOf}
-use Rattle.jsonc_build.specs.Shape.{printed_text}
-use Rattle.jsonc_laws.specs.Booleans.{boolean_leaf}
-use Rattle.jsonc_laws.specs.EntryLaws.{root_with}
-use Rattle.jsonc_laws.specs.Marks.{AreMarks, marks}
-use Rattle.jsonc_laws.specs.SoundTrees.{SoundTree}
-use Rattle.jsonc_laws.specs.TreeChanges.{DocumentChanged}
-use Rattle.jsonc_commas.specs.Laws.{OnlyCommas}
+use Rattle.jsonc_sound.specs.Shape.{printed_text}
+use Rattle.jsonc_sound.specs.Booleans.{boolean_leaf}
+use Rattle.jsonc_sound.specs.EntryLaws.{root_with}
+use Rattle.jsonc_sound.specs.Marks.{AreMarks, marks}
+use Rattle.jsonc_sound.specs.SoundTrees.{SoundTree}
+use Rattle.jsonc_sound.specs.TreeChanges.{DocumentChanged}
+use Rattle.jsonc_edit.specs.commas.Laws.{OnlyCommas}
 use Rattle.jsonc_edit.specs.Comments.{comments_ahead, LosesComment}
 use Rattle.jsonc_edit.specs.SeamLaws.{comments_before, LosesWithSeam}
 use Rattle.jsonc_edit.specs.Writing.{IsOfNumbers}
-use Rattle.jsonc_from_input.specs.Texts.{IsCharacters, IsOfTexts}
-use Rattle.jsonc_multiline.specs.Laws.{SpreadAt}
-use Rattle.jsonc_named.specs.Below.insertion_laws.Laws.{ElementComesAt}
-use Rattle.jsonc_named.specs.Below.insertion_laws.Members.{PropertyComesAt}
-use Rattle.jsonc_named.specs.Laws as named
-use Rattle.jsonc_named.specs.Values.{ValueEnsured, ValueGivesWay}
+use Rattle.jsonc_layout.specs.from_input.Texts.{IsCharacters, IsOfTexts}
+use Rattle.jsonc_edit.specs.multiline.Laws.{SpreadAt}
+use Rattle.jsonc_insert.specs.elements.Laws.{ElementComesAt}
+use Rattle.jsonc_insert.specs.elements.Members.{PropertyComesAt}
+use Rattle.jsonc_insert.specs.named.Laws as named
+use Rattle.jsonc_insert.specs.named.Values.{ValueEnsured, ValueGivesWay}
 use Rattle.jsonc_sort.specs.Paths.{KeepsOutside, SortedAt}
 use Rattle.jsonc_run.specs.declared.edit.Edit.{Edit}
 use Rattle.jsonc_run.specs.Edits.{operation_of, unsorted, Operation, replace, remove, remove_comment, set_root, clear_root, replace_property, ensure_root, set_value, ensure_value, set_boolean, ensure_multiline, insert_element, append_element, insert_property, append_property, ensure_property, set_commas, set_some_commas, rearrange, AreMade}

@@ -6,43 +6,43 @@ use Rattle.jsonc_text.specs.Plain.{Plain, boolean}
 use Rattle.jsonc_text.specs.Grammar.{IsDocument}
 use Rattle.jsonc_tree.specs.Tree.{Node}
 use Rattle.jsonc_tree.specs.OrderedTree.{OrderedTree, none, leaves, ordered_tree, Top}
-use Rattle.jsonc_build.specs.Shape.{printed_text}
-use Rattle.jsonc_laws.specs.Booleans.{boolean_leaf}
-use Rattle.jsonc_laws.specs.Changes.{Changed}
-use Rattle.jsonc_laws.specs.ChangeLaws.{DiffersIn}
-use Rattle.jsonc_laws.specs.TreeChanges.{leaves_of, property_of}
-use Rattle.jsonc_from_input.specs.Layout.{Layout}
-use Rattle.jsonc_laws.specs.SoundTrees.{SoundTree}
-use Rattle.jsonc_commas.specs.Laws.{allowing, OnlyCommas}
+use Rattle.jsonc_sound.specs.Shape.{printed_text}
+use Rattle.jsonc_sound.specs.Booleans.{boolean_leaf}
+use Rattle.jsonc_sound.specs.Changes.{Changed}
+use Rattle.jsonc_sound.specs.ChangeLaws.{DiffersIn}
+use Rattle.jsonc_sound.specs.TreeChanges.{leaves_of, property_of}
+use Rattle.jsonc_layout.specs.from_input.Layout.{Layout}
+use Rattle.jsonc_sound.specs.SoundTrees.{SoundTree}
+use Rattle.jsonc_edit.specs.commas.Laws.{allowing, OnlyCommas}
 use Rattle.jsonc_edit.specs.Comments.{comments_ahead, LosesComment}
 use Rattle.jsonc_edit.specs.SeamEntries.{PropertyGivesWayWithSeam}
 use Rattle.jsonc_edit.specs.SeamLaws.{LosesWithSeam}
-use Rattle.jsonc_from_input.specs.Laid.{laid, laid_property}
-use Rattle.jsonc_from_input.specs.Texts.{IsCharacters}
+use Rattle.jsonc_layout.specs.from_input.Laid.{laid, laid_property}
+use Rattle.jsonc_layout.specs.from_input.Texts.{IsCharacters}
 use Rattle.jsonc_edit.specs.Spaced.{SpacesPut}
 use Rattle.jsonc_edit.specs.Writing.{IsWritable}
-use Rattle.jsonc_laws.specs.Coming.{ValueComes}
-use Rattle.jsonc_laws.specs.EntryLaws.{LosesEntry, root_with}
-use Rattle.jsonc_laws.specs.Properties.{PropertyChanged, ReplacesMember}
-use Rattle.jsonc_multiline.specs.Laws.{SpreadAt}
-use Rattle.jsonc_named.specs.Below.insertion_laws.Laws.{item_count, ElementComesAt, GainsItem}
-use Rattle.jsonc_named.specs.Below.insertion_laws.Members.{member_count, GainsMember, PropertyComesAt}
-use Rattle.jsonc_named.specs.Laws as named
-use Rattle.jsonc_named.specs.Members.{EnsuresMember}
-use Rattle.jsonc_named.specs.Shapes.{EnsuredValue}
-use Rattle.jsonc_named.specs.Values.{ReplacesHeld, ValueEnsured, ValueGivesWay}
-use Rattle.jsonc_remove.specs.Laws.{EntryTaken, ValueTaken}
-use Rattle.jsonc_set.specs.Giving.{is_bare_value}
-use Rattle.jsonc_named.specs.declared.shape.Over.{Over}
-use Rattle.jsonc_named.specs.declared.shape.Over.TheVariants as over
-use Rattle.jsonc_named.specs.declared.shape.Shape.{Shape}
+use Rattle.jsonc_sound.specs.Coming.{ValueComes}
+use Rattle.jsonc_sound.specs.EntryLaws.{LosesEntry, root_with}
+use Rattle.jsonc_sound.specs.Properties.{PropertyChanged, ReplacesMember}
+use Rattle.jsonc_edit.specs.multiline.Laws.{SpreadAt}
+use Rattle.jsonc_insert.specs.elements.Laws.{item_count, ElementComesAt, GainsItem}
+use Rattle.jsonc_insert.specs.elements.Members.{member_count, GainsMember, PropertyComesAt}
+use Rattle.jsonc_insert.specs.named.Laws as named
+use Rattle.jsonc_insert.specs.named.Members.{EnsuresMember}
+use Rattle.jsonc_insert.specs.named.Shapes.{EnsuredValue}
+use Rattle.jsonc_insert.specs.named.Values.{ReplacesHeld, ValueEnsured, ValueGivesWay}
+use Rattle.jsonc_edit.specs.remove.Laws.{EntryTaken, ValueTaken}
+use Rattle.jsonc_edit.specs.set.Giving.{is_bare_value}
+use Rattle.jsonc_insert.specs.declared.named.shape.Over.{Over}
+use Rattle.jsonc_insert.specs.declared.named.shape.Over.TheVariants as over
+use Rattle.jsonc_insert.specs.declared.named.shape.Shape.{Shape}
 use Rattle.jsonc_edit.specs.declared.error.EditError.{EditError}
 use Rattle.jsonc_edit.specs.declared.modes.TrailingCommaMode.{TrailingCommaMode}
 use Rattle.jsonc_sort.specs.Laws.{SortsEntries}
 use Rattle.jsonc_sort.specs.Paths.{KeepsOutside, SortedAt}
 use Rattle.jsonc_sort.specs.Sorting.{Headers}
 use Rattle.jsonc_run.specs.Refusals.{WantsMemoryOrPlace}
-use Rattle.jsonc_named.specs.Shapes.{is_of, empty_of}
+use Rattle.jsonc_insert.specs.named.Shapes.{is_of, empty_of}
 use Rattle.jsonc_run.specs.Edits.{Operation, replace, remove, remove_comment, set_root, clear_root, replace_property, ensure_root, set_value, ensure_value, set_boolean, ensure_multiline, insert_element, append_element, insert_property, append_property, ensure_property, set_commas, set_some_commas, rearrange}
 
 -- documents of these options can hold what the edit writes: its value, and the name of its property

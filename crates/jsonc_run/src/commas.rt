@@ -6,7 +6,7 @@ ghost use Rattle.jsonc_run.specs.Edits.{set_commas as asked_commas, IsMade};
 ghost use Rattle.jsonc_run.specs.Refusals.{IsLeft, IsToldBy};
 
 use crate::lines::find_container;
-use jsonc_commas::set_trailing_commas;
+use jsonc_edit::commas::set_trailing_commas;
 use jsonc_edit::{EditError, TrailingCommaMode};
 use jsonc_tree::Tree;
 use std::alloc::Allocator;

@@ -3,7 +3,7 @@
 ghost use Rattle.std.specs.Prelude.{◌≡◌, ◌<◌, IfSome, IsTrue, length};
 ghost use Rattle.jsonc_tree.specs.Stored.{content_of};
 ghost use Rattle.jsonc_tree.specs.Tree.{IsOver};
-ghost use Rattle.jsonc_nodes.specs.Kinds.{is_comment, is_comment_at};
+ghost use Rattle.jsonc_layout.specs.nodes.Kinds.{is_comment, is_comment_at};
 ghost use Rattle.jsonc_edit.specs.Comments.{comment_at};
 
 use jsonc_tree::{Kind, Tree};

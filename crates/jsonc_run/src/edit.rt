@@ -1,8 +1,8 @@
 //! What an edit asks for.
 
 use jsonc_edit::TrailingCommaMode;
-use jsonc_input::CstInputValue;
-use jsonc_named::{Over, Shape};
+use jsonc_insert::named::{Over, Shape};
+use jsonc_layout::input::CstInputValue;
 use std::alloc::Allocator;
 
 /// An edit of a document.

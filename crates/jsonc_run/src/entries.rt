@@ -3,13 +3,13 @@
 ghost use Rattle.std.specs.Prelude.{◌≡◌, ◌<◌, Some, length};
 ghost use Rattle.jsonc_tree.specs.Content.{property};
 ghost use Rattle.jsonc_tree.specs.Tree.{content_at};
-ghost use Rattle.jsonc_nodes.specs.Siblings.{IsThere};
+ghost use Rattle.jsonc_layout.specs.nodes.Siblings.{IsThere};
 ghost use Rattle.jsonc_edit.specs.Paths.{FindsExactly};
-ghost use Rattle.jsonc_named.specs.Places.{IsPropertyAt, IsPropertyOf};
+ghost use Rattle.jsonc_insert.specs.named.Places.{IsPropertyAt, IsPropertyOf};
 ghost use Rattle.jsonc_run.specs.Places.{IsEntryAt, IsEntryOf};
 
 use jsonc_edit::find;
-use jsonc_nodes::element_at;
+use jsonc_layout::nodes::element_at;
 use jsonc_tree::{Kind, Tree};
 use std::alloc::Allocator;
 

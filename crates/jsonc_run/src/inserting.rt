@@ -1,20 +1,20 @@
 //! Values that come into arrays at paths.
 
 ghost use Rattle.std.specs.Prelude.{◌≡◌, IfErr, OnErr, OnOk, Some, length};
-ghost use Rattle.jsonc_input.specs.Views.{plain};
+ghost use Rattle.jsonc_layout.specs.input.Views.{plain};
 ghost use Rattle.jsonc_tree.specs.Building.{Keeps};
 ghost use Rattle.jsonc_tree.specs.Content.{Content};
 ghost use Rattle.jsonc_tree.specs.OrderedTree.{ordered_tree};
 ghost use Rattle.jsonc_tree.specs.Tree.{content_at, IsTree};
-ghost use Rattle.jsonc_nodes.specs.Siblings.{IsThere};
+ghost use Rattle.jsonc_layout.specs.nodes.Siblings.{IsThere};
 ghost use Rattle.jsonc_edit.specs.Paths.{FindsExactly};
 ghost use Rattle.jsonc_run.specs.Edits.{append_element as asked_behind, insert_element as asked_in, IsMade};
 ghost use Rattle.jsonc_run.specs.Places.{IsArrayAt};
 ghost use Rattle.jsonc_run.specs.Refusals.{IsToldBy};
 
 use jsonc_edit::{EditError, find};
-use jsonc_input::CstInputValue;
-use jsonc_named::insert::insert_element;
+use jsonc_insert::insert_element;
+use jsonc_layout::input::CstInputValue;
 use jsonc_tree::{Kind, Tree};
 use std::alloc::Allocator;
 

@@ -8,7 +8,7 @@ ghost use Rattle.jsonc_run.specs.Parents.{CallKeepsParents, CallsKeepParents, Ed
 ghost use Rattle.jsonc_run.specs.Parents.{StaysWithItsNodes};
 ghost use Rattle.jsonc_run.specs.Steps.{MakesSteps};
 
-pub use jsonc_named::laws::names_are_those_of_values;
+pub use jsonc_insert::named::laws::names_are_those_of_values;
 pub use jsonc_sort::laws::sorted_rows_keep_their_nodes;
 
 /// Where edits have their place: in a sound document the nodes have what an edit needs at its path exactly

@@ -13,6 +13,8 @@
 //! In a sound document the text that edits make, one after another, is a document again, whose value is
 //! what the same edits make of the old one's, and which is sound (`specs/Written.antt`). Where two literals
 //! without quotes would come to stand directly beside each other, an edit writes a space between them.
+//!
+//! [`promise`] leads from edits that were made in nodes to one chain of texts.
 #![tactic(auto)]
 
 mod commas;
@@ -24,11 +26,12 @@ pub mod laws;
 mod lines;
 mod making;
 mod members;
+pub mod promise;
 mod values;
 
 pub use comments::find_comment;
 pub use edit::Edit;
 pub use entries::{find_entry, find_property};
-pub use jsonc_named::{Over, Shape};
+pub use jsonc_insert::named::{Over, Shape};
 pub use lines::find_container;
 pub use making::make;

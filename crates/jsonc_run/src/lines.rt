@@ -5,15 +5,15 @@ ghost use Rattle.jsonc_tree.specs.Building.{Keeps};
 ghost use Rattle.jsonc_tree.specs.OrderedTree.{ordered_tree};
 ghost use Rattle.jsonc_tree.specs.Stored.{content_of};
 ghost use Rattle.jsonc_tree.specs.Tree.{content_at, IsTree};
-ghost use Rattle.jsonc_lines.specs.Kinds.{holds_values};
-ghost use Rattle.jsonc_nodes.specs.Siblings.{IsThere};
+ghost use Rattle.jsonc_layout.specs.lines.Kinds.{holds_values};
+ghost use Rattle.jsonc_layout.specs.nodes.Siblings.{IsThere};
 ghost use Rattle.jsonc_edit.specs.Paths.{FindsExactly};
 ghost use Rattle.jsonc_run.specs.Edits.{ensure_multiline as asked_lines, IsMade};
 ghost use Rattle.jsonc_run.specs.Places.{IsContainerAt};
 ghost use Rattle.jsonc_run.specs.Refusals.{IsToldBy};
 
+use jsonc_edit::multiline::ensure_multiline;
 use jsonc_edit::{EditError, find};
-use jsonc_multiline::ensure_multiline;
 use jsonc_tree::{Kind, Tree};
 use std::alloc::Allocator;
 

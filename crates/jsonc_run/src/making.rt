@@ -5,16 +5,16 @@ ghost use Rattle.jsonc_text.specs.Options.{Options};
 ghost use Rattle.jsonc_tree.specs.Building.{Keeps};
 ghost use Rattle.jsonc_tree.specs.OrderedTree.{ordered_tree};
 ghost use Rattle.jsonc_tree.specs.Tree.{IsTree};
-ghost use Rattle.jsonc_input.specs.Views.{plain};
-ghost use Rattle.jsonc_nodes.specs.Properties.{value_at};
-ghost use Rattle.jsonc_set.specs.Kinds.{FoundOrCreated, FoundOrSet, LacksKind};
+ghost use Rattle.jsonc_layout.specs.input.Views.{plain};
+ghost use Rattle.jsonc_layout.specs.nodes.Properties.{value_at};
+ghost use Rattle.jsonc_edit.specs.set.Kinds.{FoundOrCreated, FoundOrSet, LacksKind};
 ghost use Rattle.jsonc_run.specs.Edits.{is_sort, is_whole, operation_of, unsorted, IsMade};
 ghost use Rattle.jsonc_run.specs.Edits.{replace as asked, remove as asked_out, remove_comment as asked_without};
 ghost use Rattle.jsonc_run.specs.Edits.{set_root as asked_of_root, replace_property as asked_of_property, ensure_root as asked_for};
-ghost use Rattle.jsonc_laws.specs.SoundTrees.{SoundTree};
+ghost use Rattle.jsonc_sound.specs.SoundTrees.{SoundTree};
 ghost use Rattle.jsonc_run.specs.Named.{TellsUnnamed};
 ghost use Rattle.jsonc_run.specs.Refusals.{IsLeft, IsToldBy, WantsMemoryOrPlace};
-ghost use Rattle.jsonc_named.specs.Shapes.{empty_of, is_of};
+ghost use Rattle.jsonc_insert.specs.named.Shapes.{empty_of, is_of};
 ghost use Rattle.jsonc_run.specs.Steps.{MakesSteps};
 
 use crate::commas::set_commas_at;
@@ -25,14 +25,14 @@ use crate::inserting::{append_element_at, insert_element_at};
 use crate::lines::ensure_multiline_at;
 use crate::members::{append_property_at, ensure_property_at, insert_property_at};
 use crate::values::{ensure_value_at, set_boolean_at, set_value_at};
-use jsonc_edit::{EditError, find, remove_comment, replace};
-use jsonc_input::CstInputValue;
-use jsonc_named::{Over, Shape};
-use jsonc_remove::remove;
-use jsonc_set::{
+use jsonc_edit::remove::remove;
+use jsonc_edit::set::{
     array_value_or_create, array_value_or_set, clear_root, object_value_or_create,
     object_value_or_set, replace_property, set_root,
 };
+use jsonc_edit::{EditError, find, remove_comment, replace};
+use jsonc_insert::named::{Over, Shape};
+use jsonc_layout::input::CstInputValue;
 use jsonc_tree::Tree;
 use std::alloc::Allocator;
 

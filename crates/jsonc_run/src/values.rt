@@ -6,22 +6,24 @@ ghost use Rattle.jsonc_tree.specs.Content.{Content};
 ghost use Rattle.jsonc_tree.specs.OrderedTree.{ordered_tree};
 ghost use Rattle.jsonc_tree.specs.Stored.{content_of};
 ghost use Rattle.jsonc_tree.specs.Tree.{content_at, IsTree};
-ghost use Rattle.jsonc_input.specs.Views.{plain};
-ghost use Rattle.jsonc_nodes.specs.Properties.{lacks_name_at, value_at};
-ghost use Rattle.jsonc_nodes.specs.Siblings.{IsThere};
+ghost use Rattle.jsonc_layout.specs.input.Views.{plain};
+ghost use Rattle.jsonc_layout.specs.nodes.Properties.{lacks_name_at, value_at};
+ghost use Rattle.jsonc_layout.specs.nodes.Siblings.{IsThere};
 ghost use Rattle.jsonc_edit.specs.Paths.{FindsExactly};
-ghost use Rattle.jsonc_set.specs.Booleans.{is_boolean};
-ghost use Rattle.jsonc_set.specs.PropertyValues.{HeldOrSet, IsUnset};
+ghost use Rattle.jsonc_edit.specs.set.Booleans.{is_boolean};
+ghost use Rattle.jsonc_edit.specs.set.PropertyValues.{HeldOrSet, IsUnset};
 ghost use Rattle.jsonc_run.specs.Edits.{set_value as asked_value, ensure_value as asked_shape, set_boolean as asked_boolean, IsMade};
 ghost use Rattle.jsonc_run.specs.Places.{IsBooleanAt};
 ghost use Rattle.jsonc_run.specs.Refusals.{IsToldBy};
-ghost use Rattle.jsonc_named.specs.Shapes.{empty_of, is_of};
+ghost use Rattle.jsonc_insert.specs.named.Shapes.{empty_of, is_of};
 
 use crate::entries::find_property;
+use jsonc_edit::set::{
+    property_array_or_set, property_object_or_set, set_boolean, set_property_value,
+};
 use jsonc_edit::{EditError, find};
-use jsonc_input::CstInputValue;
-use jsonc_named::Shape;
-use jsonc_set::{property_array_or_set, property_object_or_set, set_boolean, set_property_value};
+use jsonc_insert::named::Shape;
+use jsonc_layout::input::CstInputValue;
 use jsonc_tree::{Kind, Tree};
 use std::alloc::Allocator;
 

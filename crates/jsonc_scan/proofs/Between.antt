@@ -4,7 +4,7 @@ use Rattle.std.specs.Int.{is_in_range}
 use Rattle.jsonc_text.specs.Options.{Options}
 use Rattle.jsonc_text.specs.Text.{rest, next, no, Many, AllOf, all_of, is_digit, is_hex_digit}
 use Rattle.jsonc_text.specs.Chars.{Steps}
-use Rattle.jsonc_string.specs.Between.{Between, Reaches, LacksAt}
+use Rattle.jsonc_text.specs.string.Between.{Between, Reaches, LacksAt}
 use Rattle.jsonc_scan.specs.Between.{HasAt, IsAlone}
 use Rattle.jsonc_text.specs.Numbers.{Sign, Whole, Fraction, Exponent, Unsigned, Number, is_x, is_e, is_sign, is_point}
 use Rattle.jsonc_text.proofs.Ascii.{OnlyAscii}

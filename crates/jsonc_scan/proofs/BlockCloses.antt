@@ -7,7 +7,7 @@ use Rattle.std.proofs.lemmas.List.Edits.{get_or-between, length-between}
 use Rattle.std.proofs.lemmas.Str.{encode_ascii, encodes-append, length-le-encodes, IsCharBoundary-before_ascii}
 use Rattle.jsonc_text.specs.Text.{rest, Spans}
 use Rattle.jsonc_text.specs.Chars.{Steps}
-use Rattle.jsonc_string.specs.Between.{NoneFrom}
+use Rattle.jsonc_text.specs.string.Between.{NoneFrom}
 use Rattle.jsonc_scan.specs.Between.{HoldsBlock}
 use Rattle.jsonc_text.specs.Gaps.{HasNoEndInside}
 use Rattle.jsonc_text.proofs.Steps.{steps_ascii}

@@ -10,16 +10,16 @@ use Rattle.jsonc_text.specs.Lexemes.{lexeme, line_comment, block_comment, Lexeme
 use Rattle.jsonc_text.specs.Numbers.{Sign, Whole, Unsigned, Number}
 use Rattle.jsonc_text.specs.Strings.{IsString}
 use Rattle.jsonc_text.specs.Words.{Keyword, IsKeyword, begins_word}
-use Rattle.jsonc_string.specs.Between.{LacksAt, NoneFrom}
+use Rattle.jsonc_text.specs.string.Between.{LacksAt, NoneFrom}
 use Rattle.jsonc_scan.specs.Between.{IsWhole}
 use Rattle.jsonc_scan.specs.Reads.{begins_number, NoNames, NoNameOrWord, NoWord, NothingAt}
-use Rattle.jsonc_string.specs.Quotes.{OpensNoString, OpensString}
+use Rattle.jsonc_text.specs.string.Quotes.{OpensNoString, OpensString}
 use Rattle.jsonc_text.proofs.Basics.{clash, or_cases, or_left, or_right, and_both, heads, no_both, no_starts, Apart}
 use Rattle.jsonc_text.proofs.Begins.{is_quote, begins_keyword, begins_plain_number, string_begins, number_begins, keyword_begins, word_begins, plain_number_word, quote_number, number_keyword, quote_keyword, quote_word}
 use Rattle.jsonc_text.proofs.Begins.{begins_number as begins_any_number}
 use Rattle.jsonc_text.proofs.UniqueGaps.{comment_begins}
-use Rattle.jsonc_string.specs.Escapes.{NoQuoted}
-use Rattle.jsonc_string.proofs.QuotedStrings.{no_string, quoted_of_string}
+use Rattle.jsonc_text.specs.string.Escapes.{NoQuoted}
+use Rattle.jsonc_text.proofs.lemmas.string.QuotedStrings.{no_string, quoted_of_string}
 
 never : IsTrue false → ⊥
 never h = cc

@@ -3,7 +3,7 @@ use Rattle.std.proofs.Common.{ℕ, ◌+◌, ◌≡◌, ◌∙◌, sym, ap, refl,
 use Rattle.jsonc_text.specs.Options.{Options}
 use Rattle.jsonc_text.specs.Text.{rest, next, no, starts, AllOf, is_digit, is_hex_digit}
 use Rattle.jsonc_text.specs.Chars.{Steps}
-use Rattle.jsonc_string.specs.Between.{Between, Reaches, LacksAt, NoneFrom}
+use Rattle.jsonc_text.specs.string.Between.{Between, Reaches, LacksAt, NoneFrom}
 use Rattle.jsonc_scan.specs.Between.{HasAt, IsAlone}
 use Rattle.jsonc_scan.specs.Reads.{NoNames, NoUnsigned}
 use Rattle.jsonc_text.specs.Numbers.{Sign, Whole, Fraction, Exponent, Unsigned, Number, is_x, is_sign}

@@ -5,8 +5,8 @@ use Rattle.jsonc_text.specs.declared.errors.ParseErrorKind.TheVariants as kind
 use Rattle.jsonc_text.specs.declared.errors.ParseStringErrorKind.{ParseStringErrorKind}
 use Rattle.jsonc_text.specs.Gaps.{UpToBlockEnd}
 use Rattle.jsonc_text.specs.Lexemes.{is_punctuation}
-use Rattle.jsonc_string.specs.Told as told
-use Rattle.jsonc_string.specs.Told.{Tells as TellsOfString}
+use Rattle.jsonc_text.specs.string.Told as told
+use Rattle.jsonc_text.specs.string.Told.{Tells as TellsOfString}
 use Rattle.jsonc_text.specs.Numbers.{Sign}
 use Rattle.jsonc_text.specs.Options.{Options}
 use Rattle.jsonc_text.specs.Strings.{IsQuote}
@@ -18,7 +18,7 @@ use Rattle.jsonc_scan.specs.Told.{IsNext, IsName, Tells, BarePoint, Mantissa, Br
 use Rattle.jsonc_text.proofs.Basics.{clash, heads, tails, no_both, starts_also, or_left, or_right, test_eq}
 use Rattle.jsonc_text.proofs.UniqueGaps.{many_unique}
 use Rattle.jsonc_text.proofs.Begins.{is_quote, begins_plain_number, quote_word, plain_number_word}
-use Rattle.jsonc_string.proofs.OneFault.{fault_unique}
+use Rattle.jsonc_text.proofs.lemmas.string.OneFault.{fault_unique}
 use Rattle.jsonc_scan.proofs.NoLexemes.{slash_word}
 use Rattle.jsonc_scan.proofs.OneNumberFault.{Same, NumberTells, after, never, false_of, number_tells_one, point_tells, exponent_tells, sign_tells, hex_digits_tells, hexadecimal_tells, name_tells}
 

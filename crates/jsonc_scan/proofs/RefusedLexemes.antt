@@ -9,8 +9,8 @@ use Rattle.jsonc_text.specs.Options.{Options}
 use Rattle.jsonc_text.specs.Strings.{IsString}
 use Rattle.jsonc_text.specs.Text.{next, starts, is_ascii_letter}
 use Rattle.jsonc_text.specs.Words.{Keyword, boolean, null, IsKeyword, WordLit, begins_word}
-use Rattle.jsonc_string.proofs.OneFault.{no_string_told}
-use Rattle.jsonc_string.proofs.QuotedStrings.{quoted_of_string}
+use Rattle.jsonc_text.proofs.lemmas.string.OneFault.{no_string_told}
+use Rattle.jsonc_text.proofs.lemmas.string.QuotedStrings.{quoted_of_string}
 use Rattle.jsonc_scan.specs.Reads.{begins_number}
 use Rattle.jsonc_scan.specs.Told.{Tells, begins_digits}
 use Rattle.jsonc_text.proofs.Basics.{heads, tails, or_cases}

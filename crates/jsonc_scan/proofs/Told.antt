@@ -9,7 +9,7 @@ use Rattle.jsonc_text.specs.Faults.{kind_of, range_of}
 use Rattle.jsonc_text.specs.Numbers.{Sign, Whole, Fraction, Exponent, is_x, is_e, is_sign}
 use Rattle.jsonc_text.specs.Options.{Options}
 use Rattle.jsonc_text.specs.Text.{rest, next, no, starts, AllOf, all_of, is_digit, is_hex_digit}
-use Rattle.jsonc_string.specs.Between.{Between, Reaches, LacksAt, NoneFrom}
+use Rattle.jsonc_text.specs.string.Between.{Between, Reaches, LacksAt, NoneFrom}
 use Rattle.jsonc_scan.specs.Between.{HasAt}
 use Rattle.jsonc_scan.specs.Reads.{NoNames}
 use Rattle.jsonc_scan.specs.Refusals.{IsTold, IsToldOfNext, IsExponentFault, LacksFraction, PassesSign, unsigned, signed}

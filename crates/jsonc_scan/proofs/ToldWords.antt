@@ -9,10 +9,10 @@ use Rattle.jsonc_text.specs.Options.{Options}
 use Rattle.jsonc_text.specs.Text.{rest, next, starts, Many, step, is_digit}
 use Rattle.jsonc_text.specs.Words.{begins_word, is_in_word, EndsWord}
 use Rattle.jsonc_text.specs.Strings.{IsQuote}
-use Rattle.jsonc_string.specs.declared.escape.StringFault.{StringFault}
-use Rattle.jsonc_string.specs.Told.{Tells as TellsOfString}
-use Rattle.jsonc_string.specs.Between.{LacksAt, NoneFrom}
-use Rattle.jsonc_string.specs.Quotes.{OpensNoString}
+use Rattle.jsonc_text.specs.declared.string.escape.StringFault.{StringFault}
+use Rattle.jsonc_text.specs.string.Told.{Tells as TellsOfString}
+use Rattle.jsonc_text.specs.string.Between.{LacksAt, NoneFrom}
+use Rattle.jsonc_text.specs.string.Quotes.{OpensNoString}
 use Rattle.jsonc_text.specs.Lexemes.{is_punctuation}
 use Rattle.jsonc_scan.specs.Reads.{begins_number, NoName}
 use Rattle.jsonc_scan.specs.Refusals.{IsTold, IsToldOfNext, IsToldOfString, BeginsNoOther}

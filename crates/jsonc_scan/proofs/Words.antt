@@ -6,7 +6,7 @@ use Rattle.std.proofs.lemmas.List.{take-append-drop, drop-drop, length-take, app
 use Rattle.std.proofs.lemmas.Str.{IsUtf8-drop, IsUtf8-from_ascii, IsCharBoundary-from_rest, IsCharBoundary-from_take, chars-append, chars-IsAscii, encodes-append, encodes-IsAscii}
 use Rattle.jsonc_text.specs.Text.{rest, next, no, starts, Many, stop, step, is_digit}
 use Rattle.jsonc_text.specs.Chars.{Steps}
-use Rattle.jsonc_string.specs.Between.{Between, LacksAt}
+use Rattle.jsonc_text.specs.string.Between.{Between, LacksAt}
 use Rattle.jsonc_scan.specs.Between.{IsAlone, PassesWord}
 use Rattle.jsonc_text.specs.Words.{goes_on, EndsWord, begins_word, is_in_word}
 use Rattle.jsonc_text.proofs.Cuts.{rest_encodes}

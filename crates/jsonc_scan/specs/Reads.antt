@@ -5,13 +5,13 @@ use Rattle.jsonc_scan.specs.declared.lexeme.Lexeme.TheVariants.{Word, Boolean, N
 use Rattle.jsonc_scan.specs.declared.lexeme.Read.{Read}
 use Rattle.jsonc_scan.specs.declared.lexeme.Mark.{Mark}
 use Rattle.jsonc_scan.specs.declared.plain.PlainNumber.{PlainNumber}
-use Rattle.jsonc_string.specs.Escapes.{IsLentUnescaped, StringHoldsBackslash}
-use Rattle.jsonc_string.specs.declared.decode.Decoded.{Decoded}
+use Rattle.jsonc_text.specs.string.Escapes.{IsLentUnescaped, StringHoldsBackslash}
+use Rattle.jsonc_text.specs.declared.string.decode.Decoded.{Decoded}
 use Rattle.std.specs.Cow.{cow_str_bytes, IsOwnedStr}
 use Rattle.jsonc_text.specs.Options.{Options}
 use Rattle.jsonc_text.specs.Lexemes.{Scanned, lexeme, line_comment, block_comment, punctuation, string, word, number, keyword, is_punctuation, Lexeme as IsLexeme, IsScanned}
 use Rattle.jsonc_text.specs.Words.{boolean, null}
-use Rattle.jsonc_string.specs.Between.{Between, Reaches, NoneFrom, LacksAt}
+use Rattle.jsonc_text.specs.string.Between.{Between, Reaches, NoneFrom, LacksAt}
 use Rattle.jsonc_scan.specs.Between.{HasAt, IsWhole, IsAlone}
 use Rattle.jsonc_text.specs.Chars.{Steps}
 use Rattle.jsonc_text.specs.Numbers.{Fraction, Unsigned, is_x, Number as IsNumber}

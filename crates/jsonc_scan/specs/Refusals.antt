@@ -3,7 +3,7 @@ use Rattle.std.specs.Prelude.{ℕ, ◌+◌, ◌≡◌, ◌≢◌, ◌<◌, true,
 use Rattle.jsonc_text.specs.declared.errors.ParseError.{ParseError}
 use Rattle.jsonc_text.specs.declared.errors.ParseErrorKind.{ParseErrorKind}
 use Rattle.jsonc_text.specs.declared.errors.ParseErrorKind.TheVariants.{OutOfMemory, BareDecimalPointNumbersNotAllowed, String}
-use Rattle.jsonc_string.specs.declared.escape.StringFault.{StringFault}
+use Rattle.jsonc_text.specs.declared.string.escape.StringFault.{StringFault}
 use Rattle.jsonc_text.specs.Chars.{Steps}
 use Rattle.jsonc_text.specs.Faults.{IsFault, kind_of, range_of}
 use Rattle.jsonc_text.specs.Gaps.{is_blank}
@@ -11,7 +11,7 @@ use Rattle.jsonc_text.specs.Numbers.{Sign}
 use Rattle.jsonc_text.specs.Options.{Options}
 use Rattle.jsonc_text.specs.Text.{rest, is_digit}
 use Rattle.jsonc_text.specs.Words.{Keyword, IsKeyword}
-use Rattle.jsonc_string.specs.Between.{LacksAt, NoneFrom}
+use Rattle.jsonc_text.specs.string.Between.{LacksAt, NoneFrom}
 use Rattle.jsonc_scan.specs.Reads.{NoName, NoNames, begins_number}
 use Rattle.jsonc_scan.specs.Told.{IsNext, BreaksExponent, IsTrueOf, begins_digits, begins_other}
 

@@ -13,7 +13,7 @@ use Rattle.jsonc_text.specs.Options.{Options}
 use Rattle.jsonc_text.specs.Strings.{IsQuote}
 use Rattle.jsonc_text.specs.Text.{rest, next, no, starts, Many, AllOf, is_digit, is_hex_digit}
 use Rattle.jsonc_text.specs.Words.{begins_word, is_in_word, EndsWord, Keyword, IsKeyword}
-use Rattle.jsonc_string.specs.Told.{Tells as TellsOfString}
+use Rattle.jsonc_text.specs.string.Told.{Tells as TellsOfString}
 use Rattle.jsonc_scan.specs.Between.{IsAlone}
 use Rattle.jsonc_scan.specs.Reads.{begins_number}
 

@@ -1,6 +1,6 @@
 //! Comments (JSON5, 7).
 ghost use Rattle.std.specs.Prelude.{◌+◌, IsCharBoundary, IfOk, IfErr};
-ghost use Rattle.jsonc_string.specs.Between.{NoneFrom};
+ghost use Rattle.jsonc_text.specs.string.Between.{NoneFrom};
 ghost use Rattle.jsonc_text.specs.Chars.{Steps};
 ghost use Rattle.jsonc_text.specs.Gaps.{IsComment};
 ghost use Rattle.jsonc_scan.specs.Reads.{IsReadAnyhow};
@@ -9,9 +9,9 @@ ghost use Rattle.jsonc_scan.specs.Refusals.{IsTextFault, IsFaultOfComment};
 use crate::faults::fault;
 use crate::lexeme::{Lexeme, Read};
 use crate::stops::block_close;
-use jsonc_string::stops::stop_place;
 use jsonc_text::chars::has_byte;
 use jsonc_text::errors::{ParseError, ParseErrorKind};
+use jsonc_text::string::stops::stop_place;
 
 /// The comment at a place, where a `/` stands.
 pub(crate) fn read_comment<'a>(text: &'a str, start: usize) -> Result<Read<'a>, ParseError>

@@ -1,7 +1,7 @@
 //! The scanner: reads the lexemes and comments of a text one after another.
 //!
 //! What they are is defined in `jsonc_text`, whose names the contracts of this crate use;
-//! `jsonc_string` decodes strings.
+//! `jsonc_text::string` decodes strings.
 #![tactic(auto)]
 
 mod comment;

@@ -2,7 +2,7 @@
 //!
 //! A number commits: what begins as one is that number or a fault, never a shorter number.
 ghost use Rattle.std.specs.Prelude.{◌≡◌, ◌+◌, ◌<◌, ◌||◌, ◌==◌, IsTrue, false, IfOk, IfErr, IfSome, IfNone, codes, IsCharBoundary, length};
-ghost use Rattle.jsonc_string.specs.Between.{Between, Reaches, LacksAt, NoneFrom};
+ghost use Rattle.jsonc_text.specs.string.Between.{Between, Reaches, LacksAt, NoneFrom};
 ghost use Rattle.jsonc_scan.specs.Between.{HasAt, IsWhole};
 ghost use Rattle.jsonc_text.specs.Numbers.{Whole, Fraction, Exponent, Number};
 ghost use Rattle.jsonc_text.specs.Chars.{Steps};

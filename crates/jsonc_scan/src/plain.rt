@@ -2,7 +2,7 @@
 //!
 //! What is none of these may still be a number, or begins one that is refused: `number_end` says which.
 ghost use Rattle.std.specs.Prelude.{◌≡◌, ◌+◌, IfSome, IsCharBoundary};
-ghost use Rattle.jsonc_string.specs.Between.{Between, Reaches};
+ghost use Rattle.jsonc_text.specs.string.Between.{Between, Reaches};
 ghost use Rattle.jsonc_scan.specs.Reads.{IsFractionAnyhow, IsNumberAnyhow, IsPlainNumber, IsUnsignedAnyhow};
 ghost use Rattle.jsonc_text.specs.Numbers.{Exponent};
 

@@ -1,10 +1,10 @@
 //! Reading the lexeme or comment at a place.
 ghost use Rattle.std.specs.Prelude.{IsCharBoundary, IfOk, IfErr, IfSome, IfNone};
-ghost use Rattle.jsonc_string.specs.Between.{LacksAt, NoneFrom};
+ghost use Rattle.jsonc_text.specs.string.Between.{LacksAt, NoneFrom};
 ghost use Rattle.jsonc_text.specs.Lexemes.{is_punctuation};
 ghost use Rattle.jsonc_text.specs.OptionsOf.{parse_options};
 ghost use Rattle.jsonc_scan.specs.Reads.{IsMarkAt, IsRead, IsReadAnyhow, NoNameOrWord, NothingAt};
-ghost use Rattle.jsonc_string.specs.Quotes.{OpensNoString, OpensString};
+ghost use Rattle.jsonc_text.specs.string.Quotes.{OpensNoString, OpensString};
 ghost use Rattle.jsonc_scan.specs.Refusals.{IsTextFault, IsFaultOfLexeme, IsFaultOfNameOrWord};
 ghost use Rattle.jsonc_text.specs.Words.{Keyword, IsKeyword};
 

@@ -93,7 +93,7 @@ impl<'a, A: Allocator + Copy> Scanner<'a, A> {
     ghost use Rattle.jsonc_text.specs.Faults.{IsFault, kind_of};
     ghost use Rattle.jsonc_scan.specs.Scanner.{text_of, start_of, end_of, options_of, token_of, last_token, KeepsLent, PassesBlanks, StandsAt, NothingStands, GoesOn, IsLent, HoldsEscape, IsTrueThere, ComesNext, IsMarkHere};
     ghost use Rattle.jsonc_scan.specs.Found.{token_found, LeavesOthers};
-    ghost use Rattle.jsonc_string.specs.Between.{LacksAt};
+    ghost use Rattle.jsonc_text.specs.string.Between.{LacksAt};
     ghost use Rattle.jsonc_text.specs.Lexemes.{is_punctuation};
     ghost use Rattle.jsonc_text.specs.Tokens.{IsOwned, scanned_of};
 

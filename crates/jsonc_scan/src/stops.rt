@@ -1,6 +1,6 @@
 //! The end of a block comment, a byte at a time: no byte of a wider character is one of ASCII.
 ghost use Rattle.std.specs.Prelude.{IsCharBoundary, IfSome, IfNone};
-ghost use Rattle.jsonc_string.specs.Between.{NoneFrom};
+ghost use Rattle.jsonc_text.specs.string.Between.{NoneFrom};
 ghost use Rattle.jsonc_scan.specs.Between.{HoldsBlock};
 ghost use Rattle.jsonc_text.specs.Gaps.{UpToBlockEnd};
 

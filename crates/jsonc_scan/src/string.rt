@@ -3,16 +3,16 @@ ghost use Rattle.std.specs.Prelude.{◌≡◌, ◌≢◌, ◌↔◌, IsCharBound
 ghost use Rattle.jsonc_text.specs.Faults.{IsFault, kind_of};
 ghost use Rattle.jsonc_text.specs.OptionsOf.{parse_options};
 ghost use Rattle.jsonc_text.specs.Text.{Spans};
-ghost use Rattle.jsonc_string.specs.Escapes.{StringHoldsBackslash};
+ghost use Rattle.jsonc_text.specs.string.Escapes.{StringHoldsBackslash};
 ghost use Rattle.jsonc_scan.specs.Reads.{IsStringRead, NothingAt};
 ghost use Rattle.jsonc_scan.specs.Refusals.{IsFaultOfString, IsToldOfString};
-ghost use Rattle.jsonc_string.specs.Quotes.{OpensString};
+ghost use Rattle.jsonc_text.specs.string.Quotes.{OpensString};
 
 use crate::faults::out_of_memory;
-use jsonc_string::decode::{Decoded, decode_string};
-use jsonc_string::escape::{Literal, StringFault};
 use jsonc_text::errors::{ParseError, ParseErrorKind, ParseStringErrorKind};
 use jsonc_text::options::ParseOptions;
+use jsonc_text::string::decode::{Decoded, decode_string};
+use jsonc_text::string::escape::{Literal, StringFault};
 use std::alloc::Allocator;
 
 /// The string at a place, where its quote stands.

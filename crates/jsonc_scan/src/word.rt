@@ -1,7 +1,7 @@
 //! Where keywords (RFC 8259, 3) and words (after JSON5, 3) end.
 ghost use Rattle.std.specs.Prelude.{◌≡◌, ◌↔◌, ◌+◌, ◌<◌, ◌≤◌, length, drop, take, IsTrue, false, IfOk, IfErr, IfSome, IfNone, IsCharBoundary};
 ghost use Rattle.std.specs.Str.{IsAscii};
-ghost use Rattle.jsonc_string.specs.Between.{Between, LacksAt, NoneFrom};
+ghost use Rattle.jsonc_text.specs.string.Between.{Between, LacksAt, NoneFrom};
 ghost use Rattle.jsonc_scan.specs.Between.{IsAlone, PassesOne, PassesWord, may_follow_word};
 ghost use Rattle.jsonc_text.specs.Letters.{is_wide_letter};
 ghost use Rattle.jsonc_text.specs.OptionsOf.{parse_options};

@@ -11,27 +11,27 @@ use Rattle.jsonc_tree.specs.OrderedTree.{OrderedTree, Top, none, more, ordered_t
 use Rattle.jsonc_tree.specs.Tree.{Node, content_at, children_at, IsTree, IsOver}
 use Rattle.jsonc_tree.specs.declared.node.CstNewlineKind.{CstNewlineKind}
 use Rattle.jsonc_tree.proofs.OrderedTrees.{Shows-unique}
-use Rattle.jsonc_lines.specs.Breadth.{newline_kind_at}
-use Rattle.jsonc_lines.specs.Kinds.{holds_values}
-use Rattle.jsonc_build.specs.Lines.{is_line_comment}
-use Rattle.jsonc_build.specs.Shape.{token_then}
-use Rattle.jsonc_laws.specs.Rows.{holder, opening, closing}
-use Rattle.jsonc_laws.specs.SoundTrees.{SoundTree}
-use Rattle.jsonc_laws.specs.TreeChanges.{DocumentChanged}
+use Rattle.jsonc_layout.specs.lines.Breadth.{newline_kind_at}
+use Rattle.jsonc_layout.specs.lines.Kinds.{holds_values}
+use Rattle.jsonc_sound.specs.Lines.{is_line_comment}
+use Rattle.jsonc_sound.specs.Shape.{token_then}
+use Rattle.jsonc_sound.specs.Rows.{holder, opening, closing}
+use Rattle.jsonc_sound.specs.SoundTrees.{SoundTree}
+use Rattle.jsonc_sound.specs.TreeChanges.{DocumentChanged}
 use Rattle.jsonc_edit.specs.Changes.{row_below, top_at, Respliced}
 use Rattle.jsonc_edit.specs.Paths.{IsAt}
 use Rattle.jsonc_edit.proofs.FittingNodes.{over_there}
 use Rattle.jsonc_edit.proofs.Kept.{at_kept, top_stays, tree_stays}
 use Rattle.jsonc_edit.proofs.Splices.{respliced_over, respliced_row}
 use Rattle.jsonc_edit.proofs.Walk.{ChangedIn, Shows-row_below, changed_over}
-use Rattle.jsonc_multiline.specs.Below.remove.Removed.{has_brackets}
-use Rattle.jsonc_multiline.proofs.Below.remove.Containers.{Held, held_at, Brackets, brackets}
-use Rattle.jsonc_multiline.specs.Lines.{between}
-use Rattle.jsonc_multiline.specs.Multiline.{TakesRow}
-use Rattle.jsonc_multiline.specs.Slots as multiline
-use Rattle.jsonc_multiline.proofs.Documents.{filled_shown, over_at}
-use Rattle.jsonc_multiline.proofs.LineEnds.{has_its_brackets}
-use Rattle.jsonc_multiline.proofs.OnLines.{AllFit, bare_below}
+use Rattle.jsonc_edit.specs.remove.Removed.{has_brackets}
+use Rattle.jsonc_edit.proofs.lemmas.remove.Containers.{Held, held_at, Brackets, brackets}
+use Rattle.jsonc_edit.specs.multiline.Lines.{between}
+use Rattle.jsonc_edit.specs.multiline.Multiline.{TakesRow}
+use Rattle.jsonc_edit.specs.multiline.Slots as multiline
+use Rattle.jsonc_edit.proofs.lemmas.multiline.Documents.{filled_shown, over_at}
+use Rattle.jsonc_edit.proofs.lemmas.multiline.LineEnds.{has_its_brackets}
+use Rattle.jsonc_edit.proofs.lemmas.multiline.OnLines.{AllFit, bare_below}
 use Rattle.jsonc_sort.specs.Slots.{Slot, stays, comes, all_stay, row_in, row_then}
 use Rattle.jsonc_sort.specs.Parts.{has_comma}
 use Rattle.jsonc_sort.specs.Sorting.{Entry, Headers, ends_with_comma, entries, entry_at, goes_on, is_unchanged, lines_ended, placed, placed_one, rearranged, row_end, slot_content, sorted, tail_with, travelling, without_comma}

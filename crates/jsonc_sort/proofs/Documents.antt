@@ -9,24 +9,24 @@ use Rattle.jsonc_tree.specs.Content.{Content, token}
 use Rattle.jsonc_tree.specs.OrderedTree.{OrderedTree, Top, none, more, leaves, followed_by}
 use Rattle.jsonc_tree.specs.Values as values
 use Rattle.jsonc_tree.specs.Values.{DocumentValueOf, ItemsOf, MembersOf, ValueOf}
-use Rattle.jsonc_build.specs.Lines.{LinesEndLoosely}
-use Rattle.jsonc_build.specs.Shape.{token_then}
-use Rattle.jsonc_laws.specs.Adjacent.{LeavesEnd}
-use Rattle.jsonc_laws.specs.Alone as alone
-use Rattle.jsonc_laws.specs.Alone.{RowAlone, StretchAlone, may_come}
-use Rattle.jsonc_laws.specs.Changes.{Changed}
-use Rattle.jsonc_laws.specs.Rows as rows
-use Rattle.jsonc_laws.specs.Rows.{Last, RowKind, closing, opening, container_of, may_end, last_behind}
-use Rattle.jsonc_laws.specs.Sound.{HasValue}
-use Rattle.jsonc_laws.specs.SoundTrees.{SoundTree}
-use Rattle.jsonc_laws.specs.Spaces.{first_printed, is_bare_leaf}
-use Rattle.jsonc_laws.specs.TreeChanges.{DocumentChanged}
-use Rattle.jsonc_laws.proofs.Apart.{value_alone, value_leaves}
-use Rattle.jsonc_laws.proofs.AtPath.{held_at_path}
-use Rattle.jsonc_laws.proofs.HeldValues.{document_held}
-use Rattle.jsonc_laws.proofs.LinesLeft.{row_lines}
-use Rattle.jsonc_laws.proofs.SeamRows.{container_leaves, row_of}
-use Rattle.jsonc_laws.proofs.SoundTrees.{kept_where_none_meet}
+use Rattle.jsonc_sound.specs.Lines.{LinesEndLoosely}
+use Rattle.jsonc_sound.specs.Shape.{token_then}
+use Rattle.jsonc_sound.specs.Adjacent.{LeavesEnd}
+use Rattle.jsonc_sound.specs.Alone as alone
+use Rattle.jsonc_sound.specs.Alone.{RowAlone, StretchAlone, may_come}
+use Rattle.jsonc_sound.specs.Changes.{Changed}
+use Rattle.jsonc_sound.specs.Rows as rows
+use Rattle.jsonc_sound.specs.Rows.{Last, RowKind, closing, opening, container_of, may_end, last_behind}
+use Rattle.jsonc_sound.specs.Sound.{HasValue}
+use Rattle.jsonc_sound.specs.SoundTrees.{SoundTree}
+use Rattle.jsonc_sound.specs.Spaces.{first_printed, is_bare_leaf}
+use Rattle.jsonc_sound.specs.TreeChanges.{DocumentChanged}
+use Rattle.jsonc_sound.proofs.Apart.{value_alone, value_leaves}
+use Rattle.jsonc_sound.proofs.AtPath.{held_at_path}
+use Rattle.jsonc_sound.proofs.HeldValues.{document_held}
+use Rattle.jsonc_sound.proofs.LinesLeft.{row_lines}
+use Rattle.jsonc_sound.proofs.SeamRows.{container_leaves, row_of}
+use Rattle.jsonc_sound.proofs.SoundTrees.{kept_where_none_meet}
 use Rattle.jsonc_sort.specs.Slots.{Slot, all_stay, row_in, row_then, top_in}
 use Rattle.jsonc_sort.specs.Sorting.{entries, is_unchanged, lines_ended, rearranged, row_end}
 use Rattle.jsonc_sort.specs.Laws as laws

@@ -5,7 +5,7 @@ use Rattle.std.proofs.lemmas.Bool.{cases_Bool, cases_lt, le-leb, lt-leb}
 use Rattle.std.proofs.lemmas.List.{drop-drop, get_or-drop, map-append, take-take}
 use Rattle.std.proofs.lemmas.List.Elements.{All-append, All-cons, All-nil}
 use Rattle.jsonc_tree.specs.Content.{Content}
-use Rattle.jsonc_nodes.specs.Kinds.{is_element}
+use Rattle.jsonc_layout.specs.nodes.Kinds.{is_element}
 use Rattle.jsonc_sort.specs.Leads.{LeadParts, lead_parts}
 use Rattle.jsonc_sort.specs.Above.{leads, leads_from}
 use Rattle.jsonc_sort.specs.Parts.{Part, Parts, is_none, part_with, parts, tail_length}

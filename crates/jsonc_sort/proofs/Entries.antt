@@ -6,9 +6,9 @@ use Rattle.jsonc_text.specs.Options.{Options}
 use Rattle.jsonc_tree.specs.Content.{Content, token, newline}
 use Rattle.jsonc_tree.specs.OrderedTree.{Top}
 use Rattle.jsonc_tree.specs.declared.node.CstNewlineKind.{CstNewlineKind}
-use Rattle.jsonc_build.specs.Lines.{is_line_comment}
-use Rattle.jsonc_laws.specs.Rows as rows
-use Rattle.jsonc_laws.specs.Rows.{Last, RowKind, may_end}
+use Rattle.jsonc_sound.specs.Lines.{is_line_comment}
+use Rattle.jsonc_sound.specs.Rows as rows
+use Rattle.jsonc_sound.specs.Rows.{Last, RowKind, may_end}
 use Rattle.jsonc_sort.specs.Slots.{Slot, comes, all_stay}
 use Rattle.jsonc_sort.specs.Parts.{Part, Parts, has_comma, is_comma_at, is_newline_at, is_none, is_whitespace_at, parts, up_to_spaces}
 use Rattle.jsonc_sort.specs.Leads.{LeadParts, begins_group, blank_lines, first_line, header_length, lead_parts, parts_of_line, parts_of_lines, spaces}

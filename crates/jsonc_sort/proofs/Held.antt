@@ -2,7 +2,7 @@
 use Rattle.std.proofs.Common.{◌≡◌, ℕ, Bool, true, false, List, [], ◌∷◌, take, drop, Option}
 use Rattle.std.specs.List.{list_any}
 use Rattle.jsonc_tree.specs.Content.{Content}
-use Rattle.jsonc_nodes.specs.Kinds.{is_element}
+use Rattle.jsonc_layout.specs.nodes.Kinds.{is_element}
 use Rattle.jsonc_sort.specs.Parts.{Part, Parts, is_newline_at, is_none, part_with, parts, tail_length, up_to_spaces}
 use Rattle.jsonc_sort.specs.Leads.{LeadParts, begins_group, first_line, header_length, lead_parts, parts_of_line, parts_of_lines, spaces}
 use Rattle.jsonc_sort.specs.Sorting.{Entry, Headers, end_of, entries, entries_from, first_pin, row_end}

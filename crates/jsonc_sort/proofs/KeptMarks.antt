@@ -7,16 +7,16 @@ use Rattle.jsonc_tree.specs.Content.{Content, newline}
 use Rattle.jsonc_tree.specs.OrderedTree.{OrderedTree, Top, none, more, leaves}
 use Rattle.jsonc_tree.proofs.OrderedTrees.{leaves-followed_by}
 use Rattle.jsonc_tree.specs.declared.node.CstNewlineKind.{CstNewlineKind}
-use Rattle.jsonc_build.specs.Lines.{is_line_comment}
-use Rattle.jsonc_build.specs.Shape.{token_then}
-use Rattle.jsonc_laws.specs.Marks.{Mark, marks, marks_of}
-use Rattle.jsonc_laws.specs.MarkChanges.{marks_under}
-use Rattle.jsonc_laws.specs.Rows as rows
-use Rattle.jsonc_laws.specs.Rows.{RowKind, closing, container_of}
-use Rattle.jsonc_laws.proofs.Apart.{value_alone}
-use Rattle.jsonc_laws.proofs.GivingWay.{marks_join, values_marks}
-use Rattle.jsonc_laws.proofs.HeldValues.{document_held}
-use Rattle.jsonc_laws.proofs.SeamRows.{container_leaves, row_of}
+use Rattle.jsonc_sound.specs.Lines.{is_line_comment}
+use Rattle.jsonc_sound.specs.Shape.{token_then}
+use Rattle.jsonc_sound.specs.Marks.{Mark, marks, marks_of}
+use Rattle.jsonc_sound.specs.MarkChanges.{marks_under}
+use Rattle.jsonc_sound.specs.Rows as rows
+use Rattle.jsonc_sound.specs.Rows.{RowKind, closing, container_of}
+use Rattle.jsonc_sound.proofs.Apart.{value_alone}
+use Rattle.jsonc_sound.proofs.GivingWay.{marks_join, values_marks}
+use Rattle.jsonc_sound.proofs.HeldValues.{document_held}
+use Rattle.jsonc_sound.proofs.SeamRows.{container_leaves, row_of}
 use Rattle.jsonc_sort.specs.Slots.{Slot, stays, comes, all_stay, row_in, top_in}
 use Rattle.jsonc_sort.specs.Sorting.{entries, goes_on, is_unchanged, lines_ended, rearranged, row_end, slot_content}
 use Rattle.jsonc_sort.specs.Laws.{IsOrderOf, KeepsAllMarks, KeepsMarks, KeepsNodes, Sort, closed, container_after, container_before, content_of, is_filling, row_after, row_before, slots_of}

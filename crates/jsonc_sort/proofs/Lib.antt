@@ -23,4 +23,4 @@ pub mod SortedDocuments
 pub mod LeadPlaces
 pub mod Lasts
 pub mod Telling
-pub mod Below
+pub mod lemmas

@@ -6,11 +6,11 @@ use Rattle.std.proofs.lemmas.Bool.{cases_Bool}
 use Rattle.jsonc_tree.specs.Content.{Content, token, newline}
 use Rattle.jsonc_tree.specs.OrderedTree.{OrderedTree, Top, none, more}
 use Rattle.jsonc_tree.specs.declared.node.CstNewlineKind.{CstNewlineKind}
-use Rattle.jsonc_nodes.specs.Kinds.{is_newline, is_whitespace}
-use Rattle.jsonc_build.specs.Lines.{ends_loosely, is_line_comment, is_loose, LinesEndLoosely}
-use Rattle.jsonc_build.specs.Shape.{token_then}
-use Rattle.jsonc_laws.specs.Rows as rows
-use Rattle.jsonc_laws.specs.Rows.{RowKind, closing}
+use Rattle.jsonc_layout.specs.nodes.Kinds.{is_newline, is_whitespace}
+use Rattle.jsonc_sound.specs.Lines.{ends_loosely, is_line_comment, is_loose, LinesEndLoosely}
+use Rattle.jsonc_sound.specs.Shape.{token_then}
+use Rattle.jsonc_sound.specs.Rows as rows
+use Rattle.jsonc_sound.specs.Rows.{RowKind, closing}
 use Rattle.jsonc_sort.specs.Slots.{Slot, stays, comes, all_stay, top_in}
 use Rattle.jsonc_sort.specs.Parts.{has_comma, is_comma_at, is_whitespace_at}
 use Rattle.jsonc_sort.specs.Leads.{blank_lines}

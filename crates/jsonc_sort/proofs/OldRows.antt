@@ -4,19 +4,19 @@ use Rattle.jsonc_text.specs.Options.{Options}
 use Rattle.jsonc_tree.specs.Content.{Content, token}
 use Rattle.jsonc_tree.specs.OrderedTree.{OrderedTree, Top, none, more, leaves}
 use Rattle.jsonc_tree.proofs.OrderedTrees.{leaves-followed_by}
-use Rattle.jsonc_nodes.specs.Kinds.{is_element}
-use Rattle.jsonc_lines.specs.Kinds.{is_comma}
-use Rattle.jsonc_laws.specs.TreeChanges.{IsElement}
-use Rattle.jsonc_build.specs.Shape.{IsTrivia}
-use Rattle.jsonc_laws.specs.Adjacent.{follower, last_printed, LeavesEnd}
-use Rattle.jsonc_laws.specs.Alone as alone
-use Rattle.jsonc_laws.specs.Alone.{may_stand, PartAlone, RowAlone, StretchAlone}
-use Rattle.jsonc_laws.specs.Rows as rows
-use Rattle.jsonc_laws.specs.Rows.{Last, RowKind, closing, may_end}
-use Rattle.jsonc_laws.proofs.Changed.{part_element}
-use Rattle.jsonc_laws.proofs.FirstNodes.{trivia_over}
-use Rattle.jsonc_laws.proofs.Leaves.{last_serves, parted_leaves}
-use Rattle.jsonc_laws.proofs.Spaces.{last_of, serves_unless, stretch_no_word}
+use Rattle.jsonc_layout.specs.nodes.Kinds.{is_element}
+use Rattle.jsonc_layout.specs.lines.Kinds.{is_comma}
+use Rattle.jsonc_sound.specs.TreeChanges.{IsElement}
+use Rattle.jsonc_sound.specs.Shape.{IsTrivia}
+use Rattle.jsonc_sound.specs.Adjacent.{follower, last_printed, LeavesEnd}
+use Rattle.jsonc_sound.specs.Alone as alone
+use Rattle.jsonc_sound.specs.Alone.{may_stand, PartAlone, RowAlone, StretchAlone}
+use Rattle.jsonc_sound.specs.Rows as rows
+use Rattle.jsonc_sound.specs.Rows.{Last, RowKind, closing, may_end}
+use Rattle.jsonc_sound.proofs.Changed.{part_element}
+use Rattle.jsonc_sound.proofs.FirstNodes.{trivia_over}
+use Rattle.jsonc_sound.proofs.Leaves.{last_serves, parted_leaves}
+use Rattle.jsonc_sound.proofs.Spaces.{last_of, serves_unless, stretch_no_word}
 use Rattle.jsonc_sort.specs.Slots.{all_stay}
 use Rattle.jsonc_sort.specs.Parts.{Parts, is_none, part_with, parts, tail_length, through_comma, with_node}
 use Rattle.jsonc_sort.specs.Laws.{closed, content_of, is_filling}

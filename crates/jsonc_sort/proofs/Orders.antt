@@ -6,8 +6,8 @@ use Rattle.std.proofs.lemmas.List.{ext_get_or}
 use Rattle.std.proofs.lemmas.List.FromFn.{get_or-range_with_len, length-range_with_len}
 use Rattle.std.proofs.lemmas.Slice.Eq.{bytes_eq-Decides}
 use Rattle.jsonc_tree.specs.Tree.{Node}
-use Rattle.jsonc_nodes.specs.Siblings.{elements_at}
-use Rattle.jsonc_multiline.specs.Below.remove.Removed.{has_brackets}
+use Rattle.jsonc_layout.specs.nodes.Siblings.{elements_at}
+use Rattle.jsonc_edit.specs.remove.Removed.{has_brackets}
 use Rattle.jsonc_sort.specs.Paths.{FewStay}
 use Rattle.jsonc_sort.specs.Sorting.{Headers, is_unchanged}
 use Rattle.jsonc_sort.proofs.Placing.{order_below, order_long}

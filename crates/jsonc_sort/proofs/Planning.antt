@@ -9,11 +9,11 @@ use Rattle.jsonc_tree.specs.Content.{Content, newline, token}
 use Rattle.jsonc_tree.specs.Tree.{Node, content_at, IsTree}
 use Rattle.jsonc_tree.specs.declared.node.CstNewlineKind.{CstNewlineKind}
 use Rattle.jsonc_tree.proofs.Builder.{Keeps-same, Keeps-then, Keeps-fewer, Keeps-adds}
-use Rattle.jsonc_nodes.specs.Kinds.{is_newline, is_whitespace}
-use Rattle.jsonc_build.specs.Lines.{is_line_comment}
+use Rattle.jsonc_layout.specs.nodes.Kinds.{is_newline, is_whitespace}
+use Rattle.jsonc_sound.specs.Lines.{is_line_comment}
 use Rattle.jsonc_edit.specs.Put.{Prepared}
-use Rattle.jsonc_multiline.specs.Slots.{no_more, stayed, came}
-use Rattle.jsonc_multiline.proofs.Planning.{filled_later}
+use Rattle.jsonc_edit.specs.multiline.Slots.{no_more, stayed, came}
+use Rattle.jsonc_edit.proofs.lemmas.multiline.Planning.{filled_later}
 use Rattle.jsonc_sort.specs.Slots.{Slot, stays, comes}
 use Rattle.jsonc_sort.specs.Sorting.{goes_on, lines_ended}
 use Rattle.jsonc_sort.specs.Plans.{GainsLeaf, GainsNode, Gains, IsReady, Planned, Stood, goes_before}

@@ -5,16 +5,16 @@ use Rattle.jsonc_text.specs.Options.{Options}
 use Rattle.jsonc_text.specs.Text.{starts}
 use Rattle.jsonc_tree.specs.Content.{Content, token}
 use Rattle.jsonc_tree.specs.OrderedTree.{OrderedTree, Top, none, more, leaves}
-use Rattle.jsonc_lines.specs.Kinds.{is_comma}
-use Rattle.jsonc_build.specs.Shape.{IsTrivia, token_then}
-use Rattle.jsonc_laws.specs.Adjacent.{first_char, last_printed, LeavesEnd}
-use Rattle.jsonc_laws.specs.Alone as alone
-use Rattle.jsonc_laws.specs.Alone.{may_stand, PartAlone, RowAlone, StretchAlone}
-use Rattle.jsonc_laws.specs.Rows as rows
-use Rattle.jsonc_laws.specs.Rows.{Last, RowKind, closing, may_end}
-use Rattle.jsonc_laws.specs.Spaces.{first_printed, is_bare, is_bare_leaf, meet}
-use Rattle.jsonc_laws.proofs.Commas.{stretches_join}
-use Rattle.jsonc_laws.proofs.Texts.{comma_first}
+use Rattle.jsonc_layout.specs.lines.Kinds.{is_comma}
+use Rattle.jsonc_sound.specs.Shape.{IsTrivia, token_then}
+use Rattle.jsonc_sound.specs.Adjacent.{first_char, last_printed, LeavesEnd}
+use Rattle.jsonc_sound.specs.Alone as alone
+use Rattle.jsonc_sound.specs.Alone.{may_stand, PartAlone, RowAlone, StretchAlone}
+use Rattle.jsonc_sound.specs.Rows as rows
+use Rattle.jsonc_sound.specs.Rows.{Last, RowKind, closing, may_end}
+use Rattle.jsonc_sound.specs.Spaces.{first_printed, is_bare, is_bare_leaf, meet}
+use Rattle.jsonc_sound.proofs.Commas.{stretches_join}
+use Rattle.jsonc_sound.proofs.Texts.{comma_first}
 use Rattle.jsonc_sort.specs.Slots.{Slot, all_stay, row_in, row_then, top_in}
 use Rattle.jsonc_sort.specs.Parts.{has_comma, is_comma_at, through_comma}
 use Rattle.jsonc_sort.specs.Laws.{content_of}

@@ -2,8 +2,8 @@
 use Rattle.std.proofs.Common.{◌≡◌, ℕ, List, ap}
 use Rattle.jsonc_tree.specs.Content.{root, array, object}
 use Rattle.jsonc_tree.specs.OrderedTree.{OrderedTree, Top, none, more}
-use Rattle.jsonc_laws.specs.TreeChanges as changes
-use Rattle.jsonc_laws.specs.TreeChanges.{ElementChanged, ValueChanged, DocumentChanged, property_of}
+use Rattle.jsonc_sound.specs.TreeChanges as changes
+use Rattle.jsonc_sound.specs.TreeChanges.{ElementChanged, ValueChanged, DocumentChanged, property_of}
 
 element_same : {was now : Top} {i : ℕ} {x y : OrderedTree} → was ≡ now → ElementChanged was now i x y → x ≡ y
 element_same e (changes.this_element {after = after} h k) = ap (λ (t : Top). more t.content t.below after) e

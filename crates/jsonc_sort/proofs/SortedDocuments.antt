@@ -6,12 +6,12 @@ use Rattle.jsonc_text.specs.Plain.{Plain}
 use Rattle.jsonc_tree.specs.OrderedTree.{OrderedTree, Top}
 use Rattle.jsonc_tree.specs.Values as values
 use Rattle.jsonc_tree.specs.Values.{HasNoValue, DocumentValueOf}
-use Rattle.jsonc_build.specs.Shape.{printed_text}
-use Rattle.jsonc_build.proofs.ShapeValues.{document_printed}
-use Rattle.jsonc_laws.specs.SoundTrees.{SoundTree}
-use Rattle.jsonc_laws.specs.TreeChanges.{ElementChanged, DocumentChanged, in_root}
-use Rattle.jsonc_laws.proofs.FirstNodes.{here, over, beyond, meets_first, none_changed, no_element}
-use Rattle.jsonc_laws.proofs.LeavesAround.{document_differs}
+use Rattle.jsonc_sound.specs.Shape.{printed_text}
+use Rattle.jsonc_sound.proofs.ShapeValues.{document_printed}
+use Rattle.jsonc_sound.specs.SoundTrees.{SoundTree}
+use Rattle.jsonc_sound.specs.TreeChanges.{ElementChanged, DocumentChanged, in_root}
+use Rattle.jsonc_sound.proofs.FirstNodes.{here, over, beyond, meets_first, none_changed, no_element}
+use Rattle.jsonc_sound.proofs.LeavesAround.{document_differs}
 use Rattle.jsonc_edit.proofs.OneValue.{document_once}
 use Rattle.jsonc_sort.specs.Laws.{SortsEntries}
 use Rattle.jsonc_sort.specs.Paths.{KeepsOutside, SaysSorted, SortedAt, SortsDocument}

@@ -5,8 +5,8 @@ use Rattle.std.specs.List.{list_any, range_with_len}
 use Rattle.std.proofs.lemmas.List.Sorted.{length_permutation}
 use Rattle.jsonc_tree.specs.Content.{Content, token, newline}
 use Rattle.jsonc_tree.specs.declared.node.CstNewlineKind.{CstNewlineKind}
-use Rattle.jsonc_nodes.specs.Kinds.{is_element}
-use Rattle.jsonc_build.specs.Lines.{is_line_comment}
+use Rattle.jsonc_layout.specs.nodes.Kinds.{is_element}
+use Rattle.jsonc_sound.specs.Lines.{is_line_comment}
 use Rattle.jsonc_sort.specs.Slots.{Slot, stays, comes, all_stay}
 use Rattle.jsonc_sort.specs.Parts.{Part, Parts, has_comma, is_comma_at, is_newline_at, is_none, is_whitespace_at, part_with, parts, tail_length, up_to_spaces}
 use Rattle.jsonc_sort.specs.Leads.{LeadParts, begins_group, blank_lines, first_line, header_length, lead_parts, parts_of_line, parts_of_lines, spaces}

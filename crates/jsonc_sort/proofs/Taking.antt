@@ -10,15 +10,15 @@ use Rattle.jsonc_tree.specs.Content.{Content, newline}
 use Rattle.jsonc_tree.specs.Siblings.{first}
 use Rattle.jsonc_tree.specs.Tree.{Node, content_at, parent_at, children_at, place_at, IsTree}
 use Rattle.jsonc_tree.specs.declared.node.CstNewlineKind.{CstNewlineKind}
-use Rattle.jsonc_nodes.specs.Kinds.{is_element, is_element_at}
-use Rattle.jsonc_nodes.specs.Siblings.{elements_at}
-use Rattle.jsonc_build.specs.Lines.{is_line_comment}
-use Rattle.jsonc_lines.specs.Breadth.{newline_kind_at}
-use Rattle.jsonc_multiline.specs.Below.remove.Removed.{has_brackets, has_two, is_token, is_token_at}
-use Rattle.jsonc_multiline.specs.Lines.{between}
-use Rattle.jsonc_multiline.specs.Plans.{IsFrom}
-use Rattle.jsonc_multiline.specs.Slots.{AreFilled, no_more, stayed, came}
-use Rattle.jsonc_multiline.proofs.Whole.{kept_through, takes_row, two_there}
+use Rattle.jsonc_layout.specs.nodes.Kinds.{is_element, is_element_at}
+use Rattle.jsonc_layout.specs.nodes.Siblings.{elements_at}
+use Rattle.jsonc_sound.specs.Lines.{is_line_comment}
+use Rattle.jsonc_layout.specs.lines.Breadth.{newline_kind_at}
+use Rattle.jsonc_edit.specs.remove.Removed.{has_brackets, has_two, is_token, is_token_at}
+use Rattle.jsonc_edit.specs.multiline.Lines.{between}
+use Rattle.jsonc_edit.specs.multiline.Plans.{IsFrom}
+use Rattle.jsonc_edit.specs.multiline.Slots.{AreFilled, no_more, stayed, came}
+use Rattle.jsonc_edit.proofs.lemmas.multiline.Whole.{kept_through, takes_row, two_there}
 use Rattle.jsonc_sort.specs.Slots.{Slot, comes, all_stay}
 use Rattle.jsonc_sort.specs.Sorting.{Headers, entries, goes_on, is_unchanged, lines_ended, rearranged, row_end, slot_content, sorted}
 use Rattle.jsonc_sort.specs.Places.{AreEntries, entry_of}

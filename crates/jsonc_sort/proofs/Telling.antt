@@ -5,8 +5,8 @@ use Rattle.std.specs.List.{flat_map, list_any}
 use Rattle.std.proofs.lemmas.List.{take_all}
 use Rattle.jsonc_tree.specs.Content.{Content}
 use Rattle.jsonc_tree.specs.Tree.{Node, children_at, content_at}
-use Rattle.jsonc_multiline.specs.Below.remove.Removed.{has_brackets}
-use Rattle.jsonc_multiline.specs.Lines.{between}
+use Rattle.jsonc_edit.specs.remove.Removed.{has_brackets}
+use Rattle.jsonc_edit.specs.multiline.Lines.{between}
 use Rattle.jsonc_sort.specs.Above.{above, above_from, all_comments_above, comments_above, lead_read, leads, leads_read}
 use Rattle.jsonc_sort.specs.Leads.{comments, first_line, is_comment_at}
 use Rattle.jsonc_sort.specs.Parts.{is_newline_at, up_to_spaces}

@@ -13,14 +13,14 @@ use Rattle.jsonc_tree.specs.OrderedTree.{OrderedTree, Top, more}
 use Rattle.jsonc_tree.specs.Values as values
 use Rattle.jsonc_tree.specs.Values.{ItemsOf, MembersOf, PropertyOf, ValueOf, is_passed_over}
 use Rattle.jsonc_tree.specs.declared.node.CstNewlineKind.{CstNewlineKind}
-use Rattle.jsonc_nodes.specs.Kinds.{is_element}
-use Rattle.jsonc_build.specs.Lines.{is_line_comment}
+use Rattle.jsonc_layout.specs.nodes.Kinds.{is_element}
+use Rattle.jsonc_sound.specs.Lines.{is_line_comment}
 use Rattle.jsonc_sort.specs.Slots.{Slot, stays, comes, all_stay, row_in, top_in}
 use Rattle.jsonc_sort.specs.Parts.{Part, has_comma, is_comma_at, is_whitespace_at, parts}
 use Rattle.jsonc_sort.specs.Leads.{blank_lines}
 use Rattle.jsonc_sort.specs.Sorting.{Entry, Headers, ends_with_comma, entries, entries_from, entry_at, goes_on, is_unchanged, lines_ended, no_entry, placed, placed_one, rearranged, row_end, slot_content, sorted, tail_with, travelling, without_comma}
 use Rattle.jsonc_sort.specs.Laws.{IsOrderOf, content_of, item_at, items_in, name_at, value_at, members_in}
-use Rattle.jsonc_laws.proofs.LostEntries.{item_taken, member_taken}
+use Rattle.jsonc_sound.proofs.LostEntries.{item_taken, member_taken}
 use Rattle.jsonc_sort.proofs.Held.{ByKind, HeldEntry, row_held}
 use Rattle.jsonc_sort.proofs.Weights.{entry_count}
 use Rattle.jsonc_sort.proofs.Choosing.{Each, all_members, all_moved, choose, choose_by, each_drop, each_moved}

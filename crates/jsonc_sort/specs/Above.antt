@@ -3,8 +3,8 @@ use Rattle.std.specs.Prelude.{ℕ, List, [], ◌∷◌, drop, filter, map, take,
 use Rattle.std.specs.List.{flat_map, list_any}
 use Rattle.jsonc_tree.specs.Content.{Content}
 use Rattle.jsonc_tree.specs.Tree.{Node, children_at, content_at}
-use Rattle.jsonc_multiline.specs.Below.remove.Removed.{has_brackets}
-use Rattle.jsonc_multiline.specs.Lines.{between}
+use Rattle.jsonc_edit.specs.remove.Removed.{has_brackets}
+use Rattle.jsonc_edit.specs.multiline.Lines.{between}
 use Rattle.jsonc_sort.specs.Parts.{Part, is_newline_at, parts, up_to_spaces}
 use Rattle.jsonc_sort.specs.Leads.{comments, first_line, has_blank_line, is_comment_at}
 use Rattle.jsonc_sort.specs.declared.above.LeadRead.{LeadRead}

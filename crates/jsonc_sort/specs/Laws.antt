@@ -7,17 +7,17 @@ use Rattle.jsonc_tree.specs.Content.{Content}
 use Rattle.jsonc_tree.specs.OrderedTree.{OrderedTree, Top, none, leaves}
 use Rattle.jsonc_tree.specs.Values.{DocumentValueOf, ItemsOf, MembersOf}
 use Rattle.jsonc_tree.specs.declared.node.CstNewlineKind.{CstNewlineKind}
-use Rattle.jsonc_nodes.specs.Kinds.{is_element, is_newline, is_whitespace}
-use Rattle.jsonc_lines.specs.Kinds.{is_comma}
-use Rattle.jsonc_build.specs.Lines.{LinesEndLoosely}
-use Rattle.jsonc_build.specs.Shape.{token_then}
-use Rattle.jsonc_laws.specs.Adjacent.{LeavesEnd}
-use Rattle.jsonc_laws.specs.Alone.{RowAlone}
-use Rattle.jsonc_laws.specs.Changes.{Changed}
-use Rattle.jsonc_laws.specs.Marks.{Mark, marks}
-use Rattle.jsonc_laws.specs.Rows.{RowKind, closing, container_of, nothing_yet}
-use Rattle.jsonc_laws.specs.SoundTrees.{SoundTree}
-use Rattle.jsonc_laws.specs.TreeChanges.{DocumentChanged}
+use Rattle.jsonc_layout.specs.nodes.Kinds.{is_element, is_newline, is_whitespace}
+use Rattle.jsonc_layout.specs.lines.Kinds.{is_comma}
+use Rattle.jsonc_sound.specs.Lines.{LinesEndLoosely}
+use Rattle.jsonc_sound.specs.Shape.{token_then}
+use Rattle.jsonc_sound.specs.Adjacent.{LeavesEnd}
+use Rattle.jsonc_sound.specs.Alone.{RowAlone}
+use Rattle.jsonc_sound.specs.Changes.{Changed}
+use Rattle.jsonc_sound.specs.Marks.{Mark, marks}
+use Rattle.jsonc_sound.specs.Rows.{RowKind, closing, container_of, nothing_yet}
+use Rattle.jsonc_sound.specs.SoundTrees.{SoundTree}
+use Rattle.jsonc_sound.specs.TreeChanges.{DocumentChanged}
 use Rattle.jsonc_sort.specs.Slots.{Slot, all_stay, row_in, row_then, top_in}
 use Rattle.jsonc_sort.specs.Sorting.{Headers, sorted}
 

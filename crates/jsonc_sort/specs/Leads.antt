@@ -2,7 +2,7 @@
 use Rattle.std.specs.Prelude.{ℕ, zero, suc, ◌-◌, ◌+◌, Bool, false, ◌&&◌, ◌||◌, List, [], ◌∷◌, ◌++◌, count_by, drop, length, max, nat_le, take, Option, Some, None, if◌then◌else◌}
 use Rattle.std.specs.List.{list_any, prefix_len, suffix_len, take_while, position_or_len}
 use Rattle.jsonc_tree.specs.Content.{Content}
-use Rattle.jsonc_nodes.specs.Kinds.{is_comment}
+use Rattle.jsonc_layout.specs.nodes.Kinds.{is_comment}
 use Rattle.jsonc_sort.specs.Parts.{is_newline_at, is_no_newline_at, is_whitespace_at, up_to_spaces}
 
 -- what stays in front, what travels, and the indent, which stays

@@ -9,4 +9,6 @@ pub mod Rearranged
 pub mod Worked
 pub mod Laws
 pub mod Paths
-pub mod Below
+pub mod ordering
+pub mod groups
+pub mod again

@@ -5,14 +5,14 @@ use Rattle.jsonc_text.specs.Plain.{Plain}
 use Rattle.jsonc_text.specs.Grammar.{IsDocument}
 use Rattle.jsonc_tree.specs.OrderedTree.{OrderedTree, Top, leaves, ordered_tree}
 use Rattle.jsonc_tree.specs.Tree.{Node, content_at, IsTree}
-use Rattle.jsonc_nodes.specs.Siblings.{elements_at}
-use Rattle.jsonc_lines.specs.Kinds.{holds_values}
-use Rattle.jsonc_build.specs.Shape.{printed_text}
-use Rattle.jsonc_laws.specs.ChangeLaws.{DiffersIn}
-use Rattle.jsonc_laws.specs.Marks.{Mark, marks}
-use Rattle.jsonc_laws.specs.Rows.{RowKind}
-use Rattle.jsonc_laws.specs.SoundTrees.{SoundTree}
-use Rattle.jsonc_laws.specs.TreeChanges.{leaves_of, DocumentChanged}
+use Rattle.jsonc_layout.specs.nodes.Siblings.{elements_at}
+use Rattle.jsonc_layout.specs.lines.Kinds.{holds_values}
+use Rattle.jsonc_sound.specs.Shape.{printed_text}
+use Rattle.jsonc_sound.specs.ChangeLaws.{DiffersIn}
+use Rattle.jsonc_sound.specs.Marks.{Mark, marks}
+use Rattle.jsonc_sound.specs.Rows.{RowKind}
+use Rattle.jsonc_sound.specs.SoundTrees.{SoundTree}
+use Rattle.jsonc_sound.specs.TreeChanges.{leaves_of, DocumentChanged}
 use Rattle.jsonc_edit.specs.Paths.{IsAt}
 use Rattle.jsonc_sort.specs.Sorting.{Headers}
 use Rattle.jsonc_sort.specs.Rearranged.{IsOrderIn, Rearranged}

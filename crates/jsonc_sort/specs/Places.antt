@@ -2,7 +2,7 @@
 use Rattle.std.specs.Prelude.{◌≡◌, ◌<◌, ◌≤◌, ℕ, zero, suc, ◌+◌, ◌-◌, Bool, List, [], ◌∷◌, ◌++◌, drop, length, map, nat_le, nat_lt, slice_index, slice_range, take, Option, if◌then◌else◌}
 use Rattle.std.specs.List.{position_or_len, All}
 use Rattle.jsonc_tree.specs.Content.{Content}
-use Rattle.jsonc_nodes.specs.Kinds.{is_element}
+use Rattle.jsonc_layout.specs.nodes.Kinds.{is_element}
 use Rattle.jsonc_sort.specs.Parts.{has_comma, is_comma_at, is_newline_at, is_whitespace_at, parts, tail_length}
 use Rattle.jsonc_sort.specs.Leads.{LeadParts, blank_lines, is_comment_at, lead_parts}
 use Rattle.jsonc_sort.specs.Above.{leads, leads_from}

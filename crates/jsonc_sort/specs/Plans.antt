@@ -5,8 +5,8 @@ use Rattle.jsonc_tree.specs.Changes.{Adds}
 use Rattle.jsonc_tree.specs.Content.{Content, token}
 use Rattle.jsonc_tree.specs.Tree.{Node, content_at, IsTree}
 use Rattle.jsonc_tree.specs.declared.node.CstNewlineKind.{CstNewlineKind}
-use Rattle.jsonc_nodes.specs.Kinds.{is_newline_at, is_whitespace_at}
-use Rattle.jsonc_multiline.specs.Slots.{AreFilled}
+use Rattle.jsonc_layout.specs.nodes.Kinds.{is_newline_at, is_whitespace_at}
+use Rattle.jsonc_edit.specs.multiline.Slots.{AreFilled}
 use Rattle.jsonc_sort.specs.Slots.{Slot, stays, comes, all_stay}
 use Rattle.jsonc_sort.specs.Sorting.{goes_on, lines_ended, rearranged}
 use Rattle.jsonc_sort.specs.Places.{bare_tail_of, end_after, entry_of, has_comma_of, tail_of}

@@ -2,12 +2,12 @@
 use Rattle.std.specs.Prelude.{◌≡◌, ℕ, Bool, false, not, ◌&&◌, List, length, IsPermutation, IsTrue, Option}
 use Rattle.std.specs.List.{range_with_len}
 use Rattle.jsonc_tree.specs.Tree.{Node, children_at, content_at}
-use Rattle.jsonc_nodes.specs.Siblings.{elements_at}
-use Rattle.jsonc_lines.specs.Breadth.{newline_kind_at}
-use Rattle.jsonc_multiline.specs.Below.remove.Removed.{has_brackets}
-use Rattle.jsonc_multiline.specs.Lines.{between}
-use Rattle.jsonc_multiline.specs.Multiline.{TakesRow}
-use Rattle.jsonc_multiline.specs.Plans.{PlannedRow}
+use Rattle.jsonc_layout.specs.nodes.Siblings.{elements_at}
+use Rattle.jsonc_layout.specs.lines.Breadth.{newline_kind_at}
+use Rattle.jsonc_edit.specs.remove.Removed.{has_brackets}
+use Rattle.jsonc_edit.specs.multiline.Lines.{between}
+use Rattle.jsonc_edit.specs.multiline.Multiline.{TakesRow}
+use Rattle.jsonc_edit.specs.multiline.Plans.{PlannedRow}
 use Rattle.jsonc_sort.specs.Slots.{Slot}
 use Rattle.jsonc_sort.specs.Sorting.{Headers, is_unchanged, sorted}
 

@@ -1,7 +1,7 @@
 -- The places of a new row: children that stay, by their numbers, and leaves that come.
 use Rattle.std.specs.Prelude.{ℕ, List, [], ◌∷◌, map}
 use Rattle.jsonc_tree.specs.OrderedTree.{OrderedTree, Top, none, more}
-pub use Rattle.jsonc_multiline.specs.Slots.{Slot, stays, comes}
+pub use Rattle.jsonc_edit.specs.multiline.Slots.{Slot, stays, comes}
 
 abbrev pub all_stay : List ℕ → List Slot
 all_stay row = map stays row

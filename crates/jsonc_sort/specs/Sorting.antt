@@ -3,8 +3,8 @@ use Rattle.std.specs.Prelude.{ℕ, Bool, true, false, not, ◌&&◌, List, [], �
 use Rattle.std.specs.List.{range_with_len}
 use Rattle.jsonc_tree.specs.Content.{Content, newline, token}
 use Rattle.jsonc_tree.specs.declared.node.CstNewlineKind.{CstNewlineKind}
-use Rattle.jsonc_build.specs.Lines.{is_line_comment}
-use Rattle.jsonc_nodes.specs.Kinds.{is_newline, is_whitespace}
+use Rattle.jsonc_sound.specs.Lines.{is_line_comment}
+use Rattle.jsonc_layout.specs.nodes.Kinds.{is_newline, is_whitespace}
 use Rattle.jsonc_sort.specs.Slots.{Slot, stays, comes, all_stay}
 use Rattle.jsonc_sort.specs.Parts.{Part, has_comma, is_comma_at, is_whitespace_at, parts}
 use Rattle.jsonc_sort.specs.Leads.{LeadParts, blank_lines, lead_parts}

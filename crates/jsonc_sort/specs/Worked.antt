@@ -7,7 +7,7 @@ use Rattle.jsonc_tree.specs.OrderedTree.{OrderedTree, Top, none, more, printed}
 use Rattle.jsonc_tree.specs.declared.node.CstNewlineKind.TheVariants.{LineFeed}
 use Rattle.jsonc_tree.specs.Tree.{Node}
 use Rattle.jsonc_edit.specs.Changes.{top_at}
-use Rattle.jsonc_multiline.specs.Worked.{commented_array, object_nodes, open_array}
+use Rattle.jsonc_edit.specs.multiline.Worked.{commented_array, object_nodes, open_array}
 use Rattle.jsonc_sort.specs.Rearranged.{moves, row_sorted}
 use Rattle.jsonc_sort.specs.Slots.{Slot, row_in}
 use Rattle.jsonc_sort.specs.Sorting.{Headers, sorted}

@@ -3,7 +3,7 @@
 ghost use Rattle.std.specs.Prelude.{◌≡◌, ◌<◌, ◌∷◌, ◌++◌, [], IfOk, IsTrue, OnOk, filter, length, map};
 ghost use Rattle.std.specs.List.{flat_map, list_any};
 ghost use Rattle.jsonc_tree.specs.Tree.{content_at};
-ghost use Rattle.jsonc_multiline.specs.Below.remove.Removed.{has_brackets};
+ghost use Rattle.jsonc_edit.specs.remove.Removed.{has_brackets};
 ghost use Rattle.jsonc_sort.specs.Above.{above, all_comments_above, comments_above, lead_read, leads, leads_read};
 ghost use Rattle.jsonc_sort.specs.Leads.{comments, is_comment_at};
 ghost use Rattle.jsonc_sort.specs.Parts.{is_newline_at};
@@ -12,8 +12,8 @@ use crate::kinds::is_comment;
 use crate::leads::{before_newline, comments, has_blank_line};
 use crate::parts::{has_newline, up_to_spaces};
 use crate::places::entries;
-use jsonc_multiline::has_brackets;
-use jsonc_nodes::children;
+use jsonc_edit::multiline::has_brackets;
+use jsonc_layout::nodes::children;
 use jsonc_tree::Tree;
 use std::alloc::{AllocError, Allocator};
 

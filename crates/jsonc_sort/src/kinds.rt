@@ -4,9 +4,9 @@ ghost use Rattle.std.specs.Prelude.{◌≡◌, ◌<◌, length};
 ghost use Rattle.jsonc_tree.specs.Content.{Content};
 ghost use Rattle.jsonc_tree.specs.Stored.{content_of};
 ghost use Rattle.jsonc_tree.specs.Tree.{content_at};
-ghost use Rattle.jsonc_build.specs.Lines.{is_line_comment};
-ghost use Rattle.jsonc_lines.specs.Kinds.{is_comma};
-ghost use Rattle.jsonc_nodes.specs.Kinds.{is_beside, is_comment};
+ghost use Rattle.jsonc_sound.specs.Lines.{is_line_comment};
+ghost use Rattle.jsonc_layout.specs.lines.Kinds.{is_comma};
+ghost use Rattle.jsonc_layout.specs.nodes.Kinds.{is_beside, is_comment};
 
 use jsonc_tree::{Kind, Tree};
 use std::alloc::Allocator;

@@ -11,7 +11,7 @@ ghost use Rattle.jsonc_sort.specs.Places.{ended_behind, lead_of, left_behind};
 
 use crate::kinds::is_comment;
 use crate::parts::{has_newline, up_to_spaces};
-use jsonc_nodes::{is_newline, is_whitespace};
+use jsonc_layout::nodes::{is_newline, is_whitespace};
 use jsonc_tree::Tree;
 use std::alloc::Allocator;
 

@@ -13,13 +13,19 @@
 //!
 //! [`read_leads`] and [`comments_above`] tell what stands before each element, for rules of headers and groups
 //! (`specs/Above.antt`).
+//!
+//! [`ordering`] puts the places of a row in order. What an order by groups and a second sort leave is said in [`groups`] and
+//! [`again`].
 #![tactic(auto)]
 
 mod above;
+pub mod again;
+pub mod groups;
 mod kinds;
 pub mod laws;
 mod leads;
 mod order;
+pub mod ordering;
 mod parts;
 mod places;
 mod plan;

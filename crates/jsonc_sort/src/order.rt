@@ -5,15 +5,15 @@ ghost use Rattle.jsonc_tree.specs.Building.{Keeps};
 ghost use Rattle.jsonc_tree.specs.OrderedTree.{ordered_tree};
 ghost use Rattle.jsonc_tree.specs.Tree.{content_at, IsTree};
 ghost use Rattle.jsonc_edit.specs.Put.{Prepared};
-ghost use Rattle.jsonc_lines.specs.Kinds.{holds_values};
+ghost use Rattle.jsonc_layout.specs.lines.Kinds.{holds_values};
 ghost use Rattle.jsonc_sort.specs.Rearranged.{headers_of, IsOrderIn, moves, PlansSort, Rearranged};
 ghost use Rattle.jsonc_sort.specs.Sorting.{is_unchanged};
 
 use crate::places::entries;
 use crate::plan::plan_row;
-use jsonc_lines::newline_kind_at;
-use jsonc_multiline::has_brackets;
-use jsonc_nodes::children;
+use jsonc_edit::multiline::has_brackets;
+use jsonc_layout::lines::newline_kind_at;
+use jsonc_layout::nodes::children;
 use jsonc_tree::Tree;
 use std::alloc::{AllocError, Allocator};
 

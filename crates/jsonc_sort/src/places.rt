@@ -8,7 +8,7 @@ ghost use Rattle.jsonc_sort.specs.Sorting.{first_pin};
 
 use crate::leads::{blank_lines, lead_parts};
 use crate::parts::{comma_in, tail_length};
-use jsonc_nodes::is_element;
+use jsonc_layout::nodes::is_element;
 use jsonc_tree::Tree;
 use std::alloc::{AllocError, Allocator};
 

@@ -8,9 +8,9 @@ ghost use Rattle.std.specs.List.{range_with_len, All};
 ghost use Rattle.jsonc_tree.specs.Content.{is_container, token};
 ghost use Rattle.jsonc_tree.specs.Stored.{content_of};
 ghost use Rattle.jsonc_tree.specs.Tree.{content_at};
-ghost use Rattle.jsonc_build.specs.Lines.{is_line_comment};
+ghost use Rattle.jsonc_sound.specs.Lines.{is_line_comment};
 ghost use Rattle.jsonc_edit.specs.Put.{Prepared};
-ghost use Rattle.jsonc_nodes.specs.Siblings.{AreThere};
+ghost use Rattle.jsonc_layout.specs.nodes.Siblings.{AreThere};
 ghost use Rattle.jsonc_sort.specs.Places.{IsRead, IsWithin, end_after, has_comma_of};
 ghost use Rattle.jsonc_sort.specs.Plans.{Gains, GainsLeaf, GainsNode, RowPlanned, entry_by, goes_before};
 ghost use Rattle.jsonc_sort.specs.Plans.{last_has_comma, tail_by, travels_from};
@@ -18,7 +18,7 @@ ghost use Rattle.jsonc_sort.specs.Slots.{all_stay, comes, stays};
 
 use crate::kinds::is_line_comment;
 use crate::places::Places;
-use jsonc_nodes::{is_newline, is_whitespace};
+use jsonc_layout::nodes::{is_newline, is_whitespace};
 use jsonc_tree::{CstNewlineKind, Kind, Tree};
 use std::alloc::{AllocError, Allocator};
 

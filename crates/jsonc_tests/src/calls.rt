@@ -16,7 +16,7 @@ use jsonc_parser::{
     CollectOptions, CommentCollectionStrategy, CommentMap, JsonObject, JsonValue, ParseOptions,
     ParseResult, Scanner, ScannerOptions, parse_to_ast, parse_to_value,
 };
-use jsonc_string::provider::parse_string;
+use jsonc_text::string::provider::parse_string;
 use refusing::awaited::Awaited;
 use refusing::outcome::Outcome;
 use std::alloc::Allocator;

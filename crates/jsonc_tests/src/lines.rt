@@ -2,7 +2,7 @@
 ghost use Rattle.std.specs.Prelude.{◌<◌, IfSome, length};
 
 use jsonc_build::build;
-use jsonc_lines::{
+use jsonc_layout::lines::{
     Indents, has_blank_line_before, indent_text, indents_at, newline_kind, single_indent_text,
     trailing_comma, uses_trailing_commas,
 };

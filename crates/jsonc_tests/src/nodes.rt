@@ -1,9 +1,9 @@
 //! Who stands where in a document that was parsed.
 ghost use Rattle.std.specs.Prelude.{◌<◌, length, IfSome};
-ghost use Rattle.jsonc_nodes.specs.Siblings.{IsThere};
+ghost use Rattle.jsonc_layout.specs.nodes.Siblings.{IsThere};
 
 use crate::lines::tree_of;
-use jsonc_nodes::{
+use jsonc_layout::nodes::{
     child_at_index, children, decoded_name, decoded_value, element_index, elements, get,
     leading_comments_same_line, name_of, next_element, next_sibling, previous_element,
     previous_sibling, root_node, trailing_comments_same_line, value_of,

@@ -1,8 +1,8 @@
 //! A provider of characters, and the string that is decoded from it.
 ghost use Rattle.std.specs.Prelude.{IsCharBoundary};
 
-use jsonc_string::provider::{CharProvider, parse_string_with_char_provider};
 use jsonc_text::chars::{char_at, char_end};
+use jsonc_text::string::provider::{CharProvider, parse_string_with_char_provider};
 use refusing::outcome::Outcome;
 use std::alloc::Allocator;
 
@@ -19,7 +19,7 @@ impl<'a> CharProvider<'a> for TextChars<'a> {
 
     ghost place = { λ p. p.at };
 
-    fn current_char(&self) -> Option<char> {
+    fn current_char(&mut self) -> Option<char> {
         char_at(self.text, self.at)
     }
 

@@ -28,3 +28,4 @@ pub mod UniqueWords
 pub mod WideBlanks
 pub mod WiderOptions
 pub mod Writing
+pub mod lemmas

@@ -21,3 +21,4 @@ pub mod Marks
 pub mod Paths
 pub mod Entries
 pub mod Edits
+pub mod string

@@ -2,6 +2,8 @@
 //!
 //! The definitions of `specs/` say what the lexemes of a text are, which texts are documents, and
 //! which values they have; every crate of this repository speaks of texts by them.
+//!
+//! [`string`] reads what stands between quotes.
 #![tactic(auto)]
 
 pub mod chars;
@@ -10,4 +12,5 @@ pub mod errors;
 pub mod laws;
 mod line;
 pub mod options;
+pub mod string;
 pub mod tokens;

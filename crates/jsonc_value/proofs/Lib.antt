@@ -6,3 +6,4 @@ pub mod Retained
 pub mod Contents
 pub mod Equality
 pub mod Copies
+pub mod lemmas

@@ -10,3 +10,4 @@ pub mod Lends
 pub mod Retained
 pub mod Copies
 pub mod Laws
+pub mod to_value

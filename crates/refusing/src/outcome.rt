@@ -1,8 +1,8 @@
 //! What came of a call that may want memory.
 
 use jsonc_edit::EditError;
-use jsonc_string::provider::ParseStringError;
 use jsonc_text::errors::{ParseError, ParseErrorKind, ParseStringErrorKind};
+use jsonc_text::string::provider::ParseStringError;
 use std::alloc::{AllocError, AllocFailed, Allocator};
 
 /// What came of a call.

@@ -2,7 +2,7 @@
 
 ghost use Rattle.std.specs.Prelude.{◌≡◌, ◌<◌, length, IfErr, IfOk, IfSome};
 ghost use Rattle.std.specs.List.{All, find};
-ghost use Rattle.jsonc_nodes.specs.Siblings.{siblings_after, siblings_before};
+ghost use Rattle.jsonc_layout.specs.nodes.Siblings.{siblings_after, siblings_before};
 ghost use Rattle.jsonc_cst.specs.Document.{Holds};
 ghost use Rattle.jsonc_cst.specs.Nodes.{array_node, object_node, object_prop_node, typed_at};
 ghost use Rattle.jsonc_cst.specs.Readings.{elements_of, element_index_of, properties_of};
@@ -14,7 +14,7 @@ use super::access::node_at;
 use super::navigation::{HasChildren, IsNode};
 use super::node::{CstArray, CstContainerNode, CstNode, CstNullKeyword, CstObject, CstObjectProp};
 use super::{CstRootNode, EditError};
-use jsonc_nodes::{children_from, next_siblings, previous_siblings};
+use jsonc_layout::nodes::{children_from, next_siblings, previous_siblings};
 use jsonc_tree::{Kind, Tree};
 use std::alloc::{AllocError, Allocator};
 
@@ -83,7 +83,7 @@ impl CstNode {
         }
         match self.parent(doc) {
             Some(CstContainerNode::Array(_)) => {
-                jsonc_nodes::element_index(&doc.tree, self.number())
+                jsonc_layout::nodes::element_index(&doc.tree, self.number())
             }
             _ => None,
         }

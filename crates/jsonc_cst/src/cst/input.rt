@@ -4,7 +4,7 @@ ghost use Rattle.std.specs.Prelude.{◌≡◌, IfErr, IfOk};
 ghost use Rattle.jsonc_cst.specs.Values.{IsDocumentTaken};
 
 use super::{CstRootNode, EditError};
-pub use jsonc_input::CstInputValue;
+pub use jsonc_layout::input::CstInputValue;
 use std::alloc::Allocator;
 
 impl<A: Allocator + Copy> CstRootNode<A> {
@@ -16,7 +16,7 @@ impl<A: Allocator + Copy> CstRootNode<A> {
     {
         // The nodes are a tree, says `len`, and so there is a first one.
         let _count = self.tree.len();
-        let Ok(value) = jsonc_to_input::to_value(self.alloc, &self.tree, 0) else {
+        let Ok(value) = jsonc_layout::to_input::to_value(self.alloc, &self.tree, 0) else {
             return Err(EditError::OutOfMemory);
         };
         Ok(value)

@@ -2,8 +2,8 @@
 
 ghost use Rattle.std.specs.Prelude.{◌≡◌, map, option_map, string_bytes, IfErr, IfOk, IfSome};
 ghost use Rattle.std.specs.List.{All};
-ghost use Rattle.jsonc_lines.specs.Breadth.{newline_kind_of};
-ghost use Rattle.jsonc_lines.specs.Lines.{blank_line_before};
+ghost use Rattle.jsonc_layout.specs.lines.Breadth.{newline_kind_of};
+ghost use Rattle.jsonc_layout.specs.lines.Lines.{blank_line_before};
 ghost use Rattle.jsonc_cst.specs.Document.{nodes_of, Holds};
 ghost use Rattle.jsonc_cst.specs.Layout.{indent_of, leading_comments_of, level_indent};
 ghost use Rattle.jsonc_cst.specs.Layout.{trailing_comma_of, trailing_comments_of, uses_trailing_commas_of};
@@ -19,7 +19,7 @@ use super::node::{
     CstWhitespace, CstWordLit, ObjectPropName,
 };
 use super::{CstRootNode, EditError};
-use jsonc_input::CstInputValue;
+use jsonc_layout::input::CstInputValue;
 use jsonc_tree::CstNewlineKind;
 use std::alloc::{AllocError, Allocator};
 
@@ -49,7 +49,11 @@ pub trait Readings: IsNode {
         ensures indent { IfOk result (λ o. option_map string_bytes o ≡ indent_of doc.now (Self.node_of self)) }
         ensures memory { IfErr result (λ e. e ≡ EditError.OutOfMemory) }
     {
-        let Ok(indent) = jsonc_lines::indent_text(doc.alloc, &doc.tree, self.node().number()) else {
+        let Ok(indent) = jsonc_layout::lines::indent_text(
+            doc.alloc,
+            &doc.tree,
+            self.node().number(),
+        ) else {
             return Err(EditError::OutOfMemory);
         };
         Ok(indent)
@@ -61,7 +65,7 @@ pub trait Readings: IsNode {
         requires { Holds doc.now (Self.node_of self) }
         ensures { result ≡ blank_line_before (nodes_of doc.now) (number_of (Self.node_of self)) }
     {
-        jsonc_lines::has_blank_line_before(&doc.tree, self.node().number())
+        jsonc_layout::lines::has_blank_line_before(&doc.tree, self.node().number())
     }
 
     /// The comma after it, with nothing but blanks, line ends and comments between them.
@@ -72,7 +76,8 @@ pub trait Readings: IsNode {
         ensures tree { NodesAreTree doc.now }
     {
         doc.nodes_are_tree();
-        let Some(number) = jsonc_lines::trailing_comma(&doc.tree, self.node().number()) else {
+        let Some(number) = jsonc_layout::lines::trailing_comma(&doc.tree, self.node().number())
+        else {
             return None;
         };
         Some(CstToken { number })
@@ -90,7 +95,8 @@ pub trait Readings: IsNode {
         ensures memory { IfErr result (λ e. e ≡ EditError.OutOfMemory) }
     {
         let number = self.node().number();
-        let Ok(uses) = jsonc_lines::uses_trailing_commas(doc.alloc, &doc.tree, number) else {
+        let Ok(uses) = jsonc_layout::lines::uses_trailing_commas(doc.alloc, &doc.tree, number)
+        else {
             return Err(EditError::OutOfMemory);
         };
         Ok(uses)
@@ -109,8 +115,9 @@ pub trait Readings: IsNode {
     {
         doc.nodes_are_tree();
         let number = self.node().number();
-        let Ok(numbers) = jsonc_nodes::leading_comments_same_line(doc.alloc, &doc.tree, number)
-        else {
+        let Ok(numbers) = jsonc_layout::nodes::leading_comments_same_line(
+            doc.alloc, &doc.tree, number,
+        ) else {
             return Err(EditError::OutOfMemory);
         };
         let Ok(comments) = comments_under(doc.alloc, &numbers) else {
@@ -133,8 +140,9 @@ pub trait Readings: IsNode {
     {
         doc.nodes_are_tree();
         let number = self.node().number();
-        let Ok(numbers) = jsonc_nodes::trailing_comments_same_line(doc.alloc, &doc.tree, number)
-        else {
+        let Ok(numbers) = jsonc_layout::nodes::trailing_comments_same_line(
+            doc.alloc, &doc.tree, number,
+        ) else {
             return Err(EditError::OutOfMemory);
         };
         let Ok(comments) = comments_under(doc.alloc, &numbers) else {
@@ -157,7 +165,7 @@ pub trait Readings: IsNode {
         ensures memory { IfErr result (λ e. e ≡ EditError.OutOfMemory) }
     {
         let number = self.node().number();
-        let Ok(value) = jsonc_to_input::to_value(doc.alloc, &doc.tree, number) else {
+        let Ok(value) = jsonc_layout::to_input::to_value(doc.alloc, &doc.tree, number) else {
             return Err(EditError::OutOfMemory);
         };
         Ok(value)
@@ -171,7 +179,7 @@ impl<A: Allocator + Copy> CstRootNode<A> {
         ensures indent { IfOk result (λ o. option_map string_bytes o ≡ level_indent self.now) }
         ensures memory { IfErr result (λ e. e ≡ EditError.OutOfMemory) }
     {
-        let Ok(indent) = jsonc_lines::single_indent_text(self.alloc, &self.tree) else {
+        let Ok(indent) = jsonc_layout::lines::single_indent_text(self.alloc, &self.tree) else {
             return Err(EditError::OutOfMemory);
         };
         Ok(indent)
@@ -182,7 +190,7 @@ impl<A: Allocator + Copy> CstRootNode<A> {
         ensures kind { IfOk result (λ kind. kind ≡ newline_kind_of (nodes_of self.now)) }
         ensures memory { IfErr result (λ e. e ≡ EditError.OutOfMemory) }
     {
-        let Ok(kind) = jsonc_lines::newline_kind(self.alloc, &self.tree) else {
+        let Ok(kind) = jsonc_layout::lines::newline_kind(self.alloc, &self.tree) else {
             return Err(EditError::OutOfMemory);
         };
         Ok(kind)

@@ -2,7 +2,7 @@
 
 ghost use Rattle.std.specs.Prelude.{◌≡◌};
 ghost use Rattle.jsonc_tree.specs.Content.{Content};
-ghost use Rattle.jsonc_build.specs.Lines.{is_line_comment};
+ghost use Rattle.jsonc_sound.specs.Lines.{is_line_comment};
 ghost use Rattle.jsonc_cst.specs.Document.{content_of, Holds};
 ghost use Rattle.jsonc_cst.specs.Nodes.{boolean_lit_node, string_lit_node, number_lit_node};
 ghost use Rattle.jsonc_cst.specs.Nodes.{word_lit_node, token_node, whitespace_node};

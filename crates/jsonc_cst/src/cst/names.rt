@@ -2,7 +2,7 @@
 
 ghost use Rattle.std.specs.Prelude.{◌≡◌, ◌≢◌, chars, string_bytes, IfErr, IfOk, IfSome};
 ghost use Rattle.jsonc_text.specs.declared.errors.ParseStringErrorKind.TheVariants.{OutOfMemory};
-ghost use Rattle.jsonc_nodes.specs.Names.{HasName, NameReads};
+ghost use Rattle.jsonc_layout.specs.nodes.Names.{HasName, NameReads};
 ghost use Rattle.jsonc_cst.specs.Document.{nodes_of, Holds};
 ghost use Rattle.jsonc_cst.specs.Nodes.{name_node, object_node, object_prop_node, string_lit_node};
 ghost use Rattle.jsonc_cst.specs.Readings.{IsFirstNamed, LeafIsNoString, LeafStandsFor, NameIsNoString, NameStandsFor};
@@ -25,7 +25,7 @@ impl CstStringLit {
         ensures found { IfOk result (λ s. LeafStandsFor doc.now self (chars (string_bytes s))) }
         ensures fault { IfErr result (λ k. k ≢ OutOfMemory → LeafIsNoString doc.now self k) }
     {
-        jsonc_nodes::decoded_value(doc.alloc, &doc.tree, self.number)
+        jsonc_layout::nodes::decoded_value(doc.alloc, &doc.tree, self.number)
     }
 }
 
@@ -61,7 +61,7 @@ impl CstObjectProp {
         ensures name { IfOk result (NameReads (HasName (nodes_of doc.now) self.number)) }
         ensures memory { IfErr result (λ k. k ≡ OutOfMemory) }
     {
-        let Ok(name) = jsonc_nodes::decoded_name(doc.alloc, &doc.tree, self.number) else {
+        let Ok(name) = jsonc_layout::nodes::decoded_name(doc.alloc, &doc.tree, self.number) else {
             return Err(ParseStringErrorKind::OutOfMemory);
         };
         Ok(name)
@@ -83,7 +83,7 @@ impl CstObject {
         ensures tree { NodesAreTree doc.now }
     {
         doc.nodes_are_tree();
-        match jsonc_nodes::get(doc.alloc, &doc.tree, self.number, name) {
+        match jsonc_layout::nodes::get(doc.alloc, &doc.tree, self.number, name) {
             Ok(Some(number)) => Ok(Some(CstObjectProp { number })),
             Ok(None) => Ok(None),
             Err(_) => Err(EditError::OutOfMemory),

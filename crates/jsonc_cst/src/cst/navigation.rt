@@ -71,7 +71,7 @@ pub trait IsNode: Copy {
         ensures tree { NodesAreTree doc.now }
     {
         doc.nodes_are_tree();
-        let Some(number) = jsonc_nodes::root_node(&doc.tree, self.node().number()) else {
+        let Some(number) = jsonc_layout::nodes::root_node(&doc.tree, self.node().number()) else {
             return None;
         };
         Some(CstRoot { number })
@@ -85,7 +85,8 @@ pub trait IsNode: Copy {
         ensures tree { NodesAreTree doc.now }
     {
         doc.nodes_are_tree();
-        let Some(number) = jsonc_nodes::previous_sibling(&doc.tree, self.node().number()) else {
+        let Some(number) = jsonc_layout::nodes::previous_sibling(&doc.tree, self.node().number())
+        else {
             return None;
         };
         Some(node_at(&doc.tree, number))
@@ -99,7 +100,7 @@ pub trait IsNode: Copy {
         ensures tree { NodesAreTree doc.now }
     {
         doc.nodes_are_tree();
-        let Some(number) = jsonc_nodes::next_sibling(&doc.tree, self.node().number()) else {
+        let Some(number) = jsonc_layout::nodes::next_sibling(&doc.tree, self.node().number()) else {
             return None;
         };
         Some(node_at(&doc.tree, number))
@@ -118,7 +119,7 @@ pub trait IsNode: Copy {
         doc.nodes_are_tree();
         PreviousSiblingIterator {
             tree: &doc.tree,
-            before: jsonc_nodes::previous_siblings(&doc.tree, self.node().number()),
+            before: jsonc_layout::nodes::previous_siblings(&doc.tree, self.node().number()),
         }
     }
 
@@ -132,7 +133,7 @@ pub trait IsNode: Copy {
         doc.nodes_are_tree();
         NextSiblingIterator {
             tree: &doc.tree,
-            after: jsonc_nodes::next_siblings(&doc.tree, self.node().number()),
+            after: jsonc_layout::nodes::next_siblings(&doc.tree, self.node().number()),
         }
     }
 
@@ -194,7 +195,7 @@ pub trait HasChildren: IsNode {
     {
         doc.nodes_are_tree();
         let number = self.node().number();
-        let Ok(numbers) = jsonc_nodes::elements(doc.alloc, &doc.tree, number) else {
+        let Ok(numbers) = jsonc_layout::nodes::elements(doc.alloc, &doc.tree, number) else {
             return Err(EditError::OutOfMemory);
         };
         let Ok(elements) = nodes_at(doc.alloc, &doc.tree, &numbers) else {

@@ -19,7 +19,7 @@ impl<A: Allocator> CstRootNode<A> {
         ensures tree { NodesAreTree self.now }
     {
         self.nodes_are_tree();
-        let Some(number) = jsonc_nodes::value_of(&self.tree, 0) else {
+        let Some(number) = jsonc_layout::nodes::value_of(&self.tree, 0) else {
             return None;
         };
         Some(node_at(&self.tree, number))

@@ -4,7 +4,7 @@ ghost use Rattle.std.specs.Iterator.{YieldsFirst, item_count};
 
 use super::access::node_at;
 use super::node::CstNode;
-use jsonc_nodes::{Children, PreviousSiblings};
+use jsonc_layout::nodes::{Children, PreviousSiblings};
 use jsonc_tree::Tree;
 use std::alloc::Allocator;
 use std::marker::Model;
@@ -18,7 +18,7 @@ pub struct PreviousSiblingIterator<'a, A: Allocator> {
 
 impl<'a, A: Allocator> Model for PreviousSiblingIterator<'a, A> {
     ghost use Rattle.std.specs.Prelude.{List};
-    ghost use Rattle.jsonc_nodes.specs.Siblings.{AreThere};
+    ghost use Rattle.jsonc_layout.specs.nodes.Siblings.{AreThere};
     ghost use Rattle.jsonc_cst.specs.declared.cst.node.CstNode.{CstNode};
     ghost use Rattle.jsonc_cst.specs.Readings.{typed_all};
 
@@ -53,7 +53,7 @@ pub struct NextSiblingIterator<'a, A: Allocator> {
 
 impl<'a, A: Allocator> Model for NextSiblingIterator<'a, A> {
     ghost use Rattle.std.specs.Prelude.{List};
-    ghost use Rattle.jsonc_nodes.specs.Siblings.{AreThere};
+    ghost use Rattle.jsonc_layout.specs.nodes.Siblings.{AreThere};
     ghost use Rattle.jsonc_cst.specs.declared.cst.node.CstNode.{CstNode};
     ghost use Rattle.jsonc_cst.specs.Readings.{typed_all};
 

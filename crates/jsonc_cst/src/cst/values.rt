@@ -23,7 +23,7 @@ impl CstObjectProp {
         ensures tree { NodesAreTree doc.now }
     {
         doc.nodes_are_tree();
-        let Some(number) = jsonc_nodes::name_of(&doc.tree, self.number) else {
+        let Some(number) = jsonc_layout::nodes::name_of(&doc.tree, self.number) else {
             return None;
         };
         match node_at(&doc.tree, number) {
@@ -41,7 +41,7 @@ impl CstObjectProp {
         ensures tree { NodesAreTree doc.now }
     {
         doc.nodes_are_tree();
-        let Some(number) = jsonc_nodes::value_of(&doc.tree, self.number) else {
+        let Some(number) = jsonc_layout::nodes::value_of(&doc.tree, self.number) else {
             return None;
         };
         Some(node_at(&doc.tree, number))

@@ -9,9 +9,9 @@ ghost use Rattle.jsonc_run.specs.Refusals.{IsLeft, IsToldBy};
 ghost use Rattle.jsonc_parser.specs.Lists.{HaveBeenMade, HaveStopped, IsMadeSo, IsSorting, MayBeAsked};
 
 use jsonc_cst::cst::{CstNode, CstRootNode, EditError, node_at};
-use jsonc_objects::typed::IsDocument;
+use jsonc_cst::sorting::sort_container;
+use jsonc_cst::typed::IsDocument;
 use jsonc_run::{Edit, find_container};
-use jsonc_sorting::sort_container;
 use std::alloc::Allocator;
 use std::cmp::Ordering;
 

@@ -2,7 +2,7 @@
 
 ghost use Rattle.std.specs.Prelude.{◌≡◌, IfErr, IfOk, Some, chars, string_bytes};
 ghost use Rattle.jsonc_text.specs.OptionsOf.{parse_options};
-ghost use Rattle.jsonc_laws.specs.Documents.{ShowsText};
+ghost use Rattle.jsonc_sound.specs.Documents.{ShowsText};
 ghost use Rattle.jsonc_cst.specs.declared.cst.CstRootNode.{CstRootNode};
 ghost use Rattle.jsonc_cst.specs.Document.{printed_of, tree_of};
 ghost use Rattle.jsonc_parser.specs.Lists.{HaveBeenMade, MayBeAsked};
@@ -11,7 +11,7 @@ ghost use Rattle.jsonc_parser.specs.Errors.{edit_text_error_text};
 
 use crate::cst::lists::run;
 use jsonc_cst::cst::{CstNode, CstRootNode, EditError};
-use jsonc_objects::typed::IsDocument;
+use jsonc_cst::typed::IsDocument;
 use jsonc_run::Edit;
 use jsonc_text::errors::ParseError;
 use jsonc_text::options::ParseOptions;

@@ -12,7 +12,7 @@ use Rattle.jsonc_ast.specs.declared.ast.ObjectProp.{size-ObjectProp}
 use denote.Param.Weighed.{most}
 use Rattle.jsonc_build.specs.Growth.{Grows}
 use Rattle.jsonc_build.specs.Laid.{CanLay, CanLayItems, CanLayMembers, CanLayProperty, string_leaf, number_leaf, boolean_leaf, null_leaf}
-use Rattle.jsonc_build.specs.Filling.{IsFillable}
+use Rattle.jsonc_sound.specs.Filling.{IsFillable}
 use Rattle.jsonc_build.proofs.Growing.{grows_append, grows_leaf, container_kept, pushes_same}
 use Rattle.jsonc_build.proofs.Building.{elements_start, elements_at, elements_more, elements_end, items_none_left, properties_start, properties_at, properties_more, properties_end, members_none_left, property_built, on_ok, pushed_there, pushed_container, still_there, bracketed_into, items_within, members_within, items_inside, members_inside, laid_as, can_lay_as}
 use Rattle.jsonc_build.proofs.Views.{view-Array, view-Object, view-StringLit, view-NumberLit, view-BooleanLit, view-NullKeyword, view-property, size-Array, size-Object, size-element, size-member, size-property}

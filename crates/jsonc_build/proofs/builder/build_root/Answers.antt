@@ -1,6 +1,6 @@
 use Rattle.std.proofs.Common.{sym, subst, length, arith}
 use Rattle.jsonc_tree.specs.OrderedTree.{OrderedTree}
-use Rattle.jsonc_build.specs.Filling.{IsFillable}
+use Rattle.jsonc_sound.specs.Filling.{IsFillable}
 use Rattle.jsonc_build.specs.Given.{located_in}
 use Rattle.jsonc_build.specs.Growth.{Grows}
 use Rattle.jsonc_build.specs.Laid.{CanLayDocument, RootLaid}

@@ -1,4 +1,4 @@
-use Rattle.jsonc_build.specs.Leaves.{is_inner_blank}
+use Rattle.jsonc_sound.specs.Leaves.{is_inner_blank}
 use Rattle.jsonc_build.proofs.Passing.{passes_start, passes_more}
 use Rattle.jsonc_build.proofs.fill.blanks_end.Goals as goal
 

@@ -3,7 +3,7 @@ use Rattle.jsonc_text.specs.Text.{rest}
 use Rattle.jsonc_text.proofs.Cuts.{end_place}
 use Rattle.jsonc_tree.specs.OrderedTree as ordered
 use Rattle.jsonc_tree.specs.Stored.{content_of}
-use Rattle.jsonc_build.specs.Leaves.{end, Fills}
+use Rattle.jsonc_sound.specs.Leaves.{end, Fills}
 use Rattle.jsonc_build.proofs.GapLeaves.{fills_snoc}
 use Rattle.jsonc_build.proofs.Stretches.{apart_places, begins_leaf, filling_order, past_leaf}
 use Rattle.jsonc_build.proofs.Growing.{grows_none, grows_append, grows_leaf, container_kept}

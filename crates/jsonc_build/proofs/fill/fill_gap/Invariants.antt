@@ -3,8 +3,8 @@ use Rattle.jsonc_text.specs.Text.{rest}
 use Rattle.jsonc_tree.specs.Tree.{Node}
 use Rattle.jsonc_tree.specs.OrderedTree.{OrderedTree}
 use Rattle.jsonc_build.specs.Growth.{Grows}
-use Rattle.jsonc_build.specs.Leaves.{Fills}
-use Rattle.jsonc_build.specs.Filling.{Filling}
+use Rattle.jsonc_sound.specs.Leaves.{Fills}
+use Rattle.jsonc_sound.specs.Filling.{Filling}
 use Rattle.jsonc_build.proofs.fill.fill_gap.Given as goal
 
 -- the leaves so far, and what is left

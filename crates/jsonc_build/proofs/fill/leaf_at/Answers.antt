@@ -1,7 +1,7 @@
 use Rattle.std.proofs.Common.{sym, ap, subst, ◌∙◌, ◌+◌}
 use Rattle.jsonc_tree.specs.Content.{newline}
 use Rattle.jsonc_tree.specs.Stored.{content_of}
-use Rattle.jsonc_build.specs.Leaves.{LeafAt}
+use Rattle.jsonc_sound.specs.Leaves.{LeafAt}
 use Rattle.jsonc_build.proofs.GapLeaves.{comment_at, comment_begins_at, mark_at, feed_at, return_at, blanks_at}
 use Rattle.jsonc_build.proofs.Parts.{part_of_same}
 use Rattle.jsonc_build.proofs.fill.leaf_at.Goals as goal

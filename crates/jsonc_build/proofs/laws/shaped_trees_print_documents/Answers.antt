@@ -1,5 +1,5 @@
-use Rattle.jsonc_build.proofs.LooseLines.{document_loosens}
-use Rattle.jsonc_build.proofs.ShapeValues.{document_printed}
+use Rattle.jsonc_sound.proofs.LooseLines.{document_loosens}
+use Rattle.jsonc_sound.proofs.ShapeValues.{document_printed}
 use Rattle.jsonc_build.proofs.laws.shaped_trees_print_documents.Goals as goal
 
 pub returns-clause-loosely : goal.returns-clause-loosely

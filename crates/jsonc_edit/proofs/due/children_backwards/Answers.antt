@@ -1,7 +1,7 @@
 use Rattle.std.proofs.Common.{◌<◌, length, subst, sym}
 use Rattle.jsonc_tree.specs.Tree.{children_at}
-use Rattle.jsonc_nodes.specs.Siblings.{AreThere}
-use Rattle.jsonc_nodes.proofs.There.{All-reverse, children_there}
+use Rattle.jsonc_layout.specs.nodes.Siblings.{AreThere}
+use Rattle.jsonc_layout.proofs.lemmas.nodes.There.{All-reverse, children_there}
 use Rattle.jsonc_edit.proofs.due.children_backwards.Goals as goal
 
 pub returns-clause-there : goal.returns-clause-there

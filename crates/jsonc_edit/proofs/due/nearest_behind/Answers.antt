@@ -1,6 +1,6 @@
 use Rattle.std.proofs.Common.{rules}
 use Rattle.jsonc_tree.specs.Siblings.{siblings_after}
-use Rattle.jsonc_nodes.proofs.Rows.{find_in}
+use Rattle.jsonc_layout.proofs.lemmas.nodes.Rows.{find_in}
 use Rattle.jsonc_edit.specs.Due.{prints_at}
 use Rattle.jsonc_edit.proofs.due.nearest_behind.Goals as goal
 

@@ -1,6 +1,6 @@
 use Rattle.std.proofs.Common.{reverse, rules}
 use Rattle.jsonc_tree.specs.Tree.{children_at}
-use Rattle.jsonc_nodes.proofs.Rows.{find_in}
+use Rattle.jsonc_layout.proofs.lemmas.nodes.Rows.{find_in}
 use Rattle.jsonc_edit.specs.Due.{prints_at}
 use Rattle.jsonc_edit.proofs.due.seen_last.Goals as goal
 

@@ -1,4 +1,4 @@
-use Rattle.jsonc_laws.proofs.Values.{document_change}
+use Rattle.jsonc_sound.proofs.Values.{document_change}
 use Rattle.jsonc_edit.proofs.laws.documents_have_changed_values.Goals as goal
 
 pub returns : goal.returns

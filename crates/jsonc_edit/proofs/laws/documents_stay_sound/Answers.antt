@@ -1,8 +1,8 @@
 use Rattle.std.proofs.Common.{[], false, IsTrue, sym, subst}
-use Rattle.jsonc_laws.specs.Below.build.Lines.{LinesEnd}
-use Rattle.jsonc_laws.specs.Sound.{IsValueBefore}
+use Rattle.jsonc_sound.specs.Lines.{LinesEnd}
+use Rattle.jsonc_sound.specs.Sound.{IsValueBefore}
 use Rattle.jsonc_tree.specs.OrderedTree.{Top}
-use Rattle.jsonc_laws.specs.Spaces.{is_bare}
+use Rattle.jsonc_sound.specs.Spaces.{is_bare}
 use Rattle.jsonc_edit.proofs.Apart.{stays_sound_apart}
 use Rattle.jsonc_edit.proofs.laws.documents_stay_sound.Goals as goal
 

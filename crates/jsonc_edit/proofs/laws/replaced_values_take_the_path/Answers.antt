@@ -1,4 +1,4 @@
-use Rattle.jsonc_from_input.specs.Laid.{laid}
+use Rattle.jsonc_layout.specs.from_input.Laid.{laid}
 use Rattle.jsonc_edit.proofs.GivingWay.{laid_element, in_place}
 use Rattle.jsonc_edit.proofs.NewPaths.{at_now}
 use Rattle.jsonc_edit.proofs.ReplacedValues.{spaced, spaced_at}

@@ -1,5 +1,5 @@
-use Rattle.jsonc_input.specs.Views.{plain}
-use Rattle.jsonc_from_input.proofs.Texts.{of_texts}
+use Rattle.jsonc_layout.specs.input.Views.{plain}
+use Rattle.jsonc_layout.proofs.lemmas.from_input.Texts.{of_texts}
 use Rattle.jsonc_edit.proofs.Writable.{always_of_numbers}
 use Rattle.jsonc_edit.proofs.laws.values_may_be_written.Goals as goal
 

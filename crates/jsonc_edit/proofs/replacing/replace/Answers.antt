@@ -1,7 +1,7 @@
 use Rattle.std.proofs.Common.{sym, ◌∙◌}
 use Rattle.jsonc_tree.proofs.Order.{parent_there}
-use Rattle.jsonc_input.specs.Views.{plain}
-use Rattle.jsonc_from_input.specs.Layout.{layout_of}
+use Rattle.jsonc_layout.specs.input.Views.{plain}
+use Rattle.jsonc_layout.specs.from_input.Layout.{layout_of}
 use Rattle.jsonc_edit.proofs.ReplacedValues.{answer_writes}
 use Rattle.jsonc_edit.proofs.replacing.replace.Goals as goal
 

@@ -1,7 +1,7 @@
 use Rattle.std.proofs.Common.{sym, subst, ◌∙◌}
 use Rattle.jsonc_tree.proofs.Order.{parent_there}
-use Rattle.jsonc_input.specs.Views.{plain}
-use Rattle.jsonc_from_input.specs.Laid.{laid}
+use Rattle.jsonc_layout.specs.input.Views.{plain}
+use Rattle.jsonc_layout.specs.from_input.Laid.{laid}
 use Rattle.jsonc_edit.specs.Replacing.{GivesWayRaw}
 use Rattle.jsonc_edit.proofs.replacing.replace_name.Goals as goal
 

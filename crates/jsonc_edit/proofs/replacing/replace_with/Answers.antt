@@ -1,6 +1,6 @@
 use Rattle.std.proofs.Common.{sym, ◌∙◌}
-use Rattle.jsonc_input.specs.Views.{plain}
-use Rattle.jsonc_from_input.specs.Layout.{layout_of}
+use Rattle.jsonc_layout.specs.input.Views.{plain}
+use Rattle.jsonc_layout.specs.from_input.Layout.{layout_of}
 use Rattle.jsonc_edit.proofs.GivingWay.{value_children, value_child, value_join, value_gives_way, where_refused}
 use Rattle.jsonc_edit.proofs.Kept.{tree_stays}
 use Rattle.jsonc_edit.proofs.Refusals.{tree_stays_twice}

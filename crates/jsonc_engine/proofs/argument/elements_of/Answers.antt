@@ -1,7 +1,7 @@
 use Rattle.std.proofs.Common.{◌∙◌, List, Some, ap, map, sym}
 use Rattle.jsonc_ast.specs.Views as ast
 use Rattle.jsonc_ast.specs.declared.ast.Value.{Value}
-use Rattle.jsonc_input.specs.Views.{items_of}
+use Rattle.jsonc_layout.specs.input.Views.{items_of}
 use Rattle.jsonc_engine.proofs.Names.{items_of_array}
 use Rattle.jsonc_engine.proofs.argument.elements_of.Goals as goal
 

@@ -1,7 +1,7 @@
 use Rattle.jsonc_engine.specs.Change.{for_put}
 use Rattle.jsonc_engine.proofs.Arguments.{json_refused, path_refused}
 use Rattle.jsonc_engine.proofs.argument.put_of.Goals as goal
-use Rattle.jsonc_parser.specs.Below.settings.Found.{names_of}
+use Rattle.jsonc_parser.specs.paths.Found.{names_of}
 
 pub returns-in-Err-clause-refused : goal.returns-in-Err-clause-refused
 returns-in-Err-clause-refused g c = path_refused c.args.path.now c.args.json.now c.in-Err.fault c.in-Err.ensures.refused

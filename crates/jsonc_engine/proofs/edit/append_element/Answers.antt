@@ -1,8 +1,8 @@
 use Rattle.std.proofs.Common.{Option}
-use Rattle.jsonc_input.specs.Views.{plain}
+use Rattle.jsonc_layout.specs.input.Views.{plain}
 use Rattle.jsonc_cst.specs.declared.cst.node.CstArray.{CstArray}
 use Rattle.jsonc_cst.specs.Document.{nodes_of}
-use Rattle.jsonc_parser.specs.Below.typed.Setting.{FindsOrCreatesArray}
+use Rattle.jsonc_cst.specs.typed.Setting.{FindsOrCreatesArray}
 use Rattle.jsonc_engine.proofs.Making.{appends_last, array_memory, array_stands, array_wanted, no_array, said_of}
 use Rattle.jsonc_engine.proofs.edit.append_element.Goals as goal
 

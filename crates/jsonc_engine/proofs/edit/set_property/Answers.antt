@@ -1,9 +1,9 @@
 use Rattle.std.proofs.Common.{Option, chars}
 use Rattle.std.proofs.lemmas.Str.{scalars-chars}
-use Rattle.jsonc_input.specs.Views.{plain}
+use Rattle.jsonc_layout.specs.input.Views.{plain}
 use Rattle.jsonc_cst.specs.declared.cst.node.CstObject.{CstObject}
 use Rattle.jsonc_cst.specs.Document.{nodes_of}
-use Rattle.jsonc_parser.specs.Below.typed.Setting.{FindsOrCreatesObject}
+use Rattle.jsonc_cst.specs.typed.Setting.{FindsOrCreatesObject}
 use Rattle.jsonc_engine.proofs.Making.{append_memory, appends_property, no_object, object_memory, object_stands, object_wanted, said_of, sets_property}
 use Rattle.jsonc_engine.proofs.Removing.{first_found, none_found}
 use Rattle.jsonc_engine.proofs.edit.set_property.Goals as goal

@@ -1,6 +1,6 @@
 use Rattle.std.proofs.Common.{ap}
 use Rattle.jsonc_cst.specs.Document.{nodes_of}
-use Rattle.jsonc_parser.specs.Below.settings.Found.{names_of}
+use Rattle.jsonc_parser.specs.paths.Found.{names_of}
 use Rattle.jsonc_engine.specs.declared.fault.Fault.TheVariants.{Edit}
 use Rattle.jsonc_engine.proofs.Standing.{drops_setting, for_memory}
 use Rattle.jsonc_engine.proofs.settings.drop_setting.Goals as goal

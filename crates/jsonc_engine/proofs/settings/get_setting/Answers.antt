@@ -3,7 +3,7 @@ use Rattle.jsonc_tree.specs.OrderedTree.{ordered_tree, printed}
 use Rattle.jsonc_tree.specs.Tree.{Node}
 use Rattle.jsonc_cst.specs.Document.{nodes_of, printed_of}
 use Rattle.jsonc_cst.specs.Nodes.{number_of}
-use Rattle.jsonc_parser.specs.Below.settings.Found.{FindsWhatShown, names_of}
+use Rattle.jsonc_parser.specs.paths.Found.{FindsWhatShown, names_of}
 use Rattle.jsonc_edit.specs.declared.error.EditError.TheVariants.{OutOfMemory}
 use Rattle.jsonc_engine.proofs.RootKinds.{beginning, nothing_begins, nothing_stands, reads_none, reads_one}
 use Rattle.jsonc_engine.proofs.Standing.{memory_getting, nothing_there, shown_there}

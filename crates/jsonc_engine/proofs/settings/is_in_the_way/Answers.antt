@@ -1,7 +1,7 @@
 use Rattle.jsonc_cst.specs.Document.{nodes_of}
 use Rattle.std.proofs.Common.{◌∙◌, ap, length, not, sym}
 use Rattle.std.proofs.lemmas.Bool.{eqb-false, eqb-true}
-use Rattle.jsonc_parser.specs.Below.settings.Found.{names_of}
+use Rattle.jsonc_parser.specs.paths.Found.{names_of}
 use Rattle.jsonc_engine.proofs.RootKinds.{begin_at, may_begin, names_none, names_some, none_begin, stands}
 use Rattle.jsonc_engine.proofs.settings.is_in_the_way.Goals as goal
 

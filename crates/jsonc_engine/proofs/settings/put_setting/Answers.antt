@@ -1,9 +1,9 @@
 use Rattle.std.proofs.Common.{Bool, subst}
-use Rattle.jsonc_input.specs.Views.{plain}
+use Rattle.jsonc_layout.specs.input.Views.{plain}
 use Rattle.jsonc_cst.specs.Document.{nodes_of, printed_of}
-use Rattle.jsonc_parser.specs.Below.named.declared.shape.Over.TheVariants.{Keep}
-use Rattle.jsonc_parser.specs.Below.settings.Calls.{PutsWhatShown}
-use Rattle.jsonc_parser.specs.Below.settings.Found.{names_of}
+use Rattle.jsonc_insert.specs.declared.named.shape.Over.TheVariants.{Keep}
+use Rattle.jsonc_parser.specs.paths.Calls.{PutsWhatShown}
+use Rattle.jsonc_parser.specs.paths.Found.{names_of}
 use Rattle.jsonc_engine.proofs.RootKinds.{way_begins}
 use Rattle.jsonc_engine.proofs.Standing.{in_the_way, memory_putting, puts_setting, stays_so}
 use Rattle.jsonc_engine.proofs.settings.put_setting.Goals as goal

@@ -1,8 +1,8 @@
 use Rattle.std.proofs.Common.{◌≡◌, ◌<◌, ℕ, List, All, length, sym, ap, subst, ◌∙◌}
 use Rattle.jsonc_tree.specs.Tree.{children_at}
-use Rattle.jsonc_input.specs.Views.{plain}
-use Rattle.jsonc_nodes.proofs.There.{children_there}
-use Rattle.jsonc_from_input.specs.Layout.{Layout}
+use Rattle.jsonc_layout.specs.input.Views.{plain}
+use Rattle.jsonc_layout.proofs.lemmas.nodes.There.{children_there}
+use Rattle.jsonc_layout.specs.from_input.Layout.{Layout}
 use Rattle.jsonc_insert.specs.Planned.{has_brackets, planned}
 use Rattle.jsonc_insert.specs.Settings.{layout_in, on_several_lines}
 use Rattle.jsonc_insert.specs.Trimmed.{trimmed}

@@ -2,8 +2,8 @@ use Rattle.std.proofs.Common.{◌≡◌, ◌<◌, ◌++◌, ◌+◌, ℕ, List, 
 use Rattle.std.proofs.lemmas.List.{append-nil, append_assoc, at_drop_all}
 use Rattle.std.proofs.lemmas.Result.{IfOk-from_err}
 use Rattle.jsonc_tree.specs.Tree.{Node}
-use Rattle.jsonc_lines.specs.Kinds.{blank_at}
-use Rattle.jsonc_lines.specs.Lines.{blanks}
+use Rattle.jsonc_layout.specs.lines.Kinds.{blank_at}
+use Rattle.jsonc_layout.specs.lines.Lines.{blanks}
 use Rattle.jsonc_insert.proofs.Indenting.{more_at, over_at}
 use Rattle.jsonc_insert.proofs.lines.joined_blanks.Goals as goal
 

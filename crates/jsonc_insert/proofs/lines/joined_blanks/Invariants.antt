@@ -1,5 +1,5 @@
 use Rattle.std.proofs.Common.{◌≡◌, ◌++◌, drop, string_bytes}
-use Rattle.jsonc_lines.specs.Lines.{blanks}
+use Rattle.jsonc_layout.specs.lines.Lines.{blanks}
 use Rattle.jsonc_insert.proofs.lines.joined_blanks.Given as goal
 
 abbrev pub invariant-loop-node : goal.invariant-loop-node

@@ -1,5 +1,5 @@
 use Rattle.std.proofs.Common.{sym, subst}
-use Rattle.jsonc_nodes.specs.Siblings.{IsThere}
+use Rattle.jsonc_layout.specs.nodes.Siblings.{IsThere}
 use Rattle.jsonc_insert.proofs.There.{last_there}
 use Rattle.jsonc_insert.proofs.settings.uses_commas_in.Goals as goal
 

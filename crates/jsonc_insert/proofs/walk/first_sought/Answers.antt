@@ -3,9 +3,9 @@ use Rattle.std.specs.List.{find, flat_map}
 use Rattle.std.proofs.lemmas.List.{nil_from_length}
 use Rattle.std.proofs.lemmas.Bool.{eqb-true}
 use Rattle.jsonc_tree.specs.Tree.{children_at}
-use Rattle.jsonc_lines.specs.Breadth.{levels}
+use Rattle.jsonc_layout.specs.lines.Breadth.{levels}
 use Rattle.jsonc_insert.specs.Settings.{is_sought}
-use Rattle.jsonc_lines.proofs.Levels.{all_below, found_here, found_below, found_nowhere, levels_none}
+use Rattle.jsonc_layout.proofs.lemmas.lines.Levels.{all_below, found_here, found_below, found_nowhere, levels_none}
 use Rattle.jsonc_insert.proofs.walk.first_sought.Goals as goal
 
 pub returns-then-is_empty-clause-first : goal.returns-then-is_empty-clause-first

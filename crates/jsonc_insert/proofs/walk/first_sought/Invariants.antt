@@ -1,6 +1,6 @@
 use Rattle.std.proofs.Common.{◌≡◌, ◌-◌, ◌<◌, All, length}
 use Rattle.std.specs.List.{find}
-use Rattle.jsonc_lines.specs.Breadth.{levels}
+use Rattle.jsonc_layout.specs.lines.Breadth.{levels}
 use Rattle.jsonc_insert.specs.Settings.{first_sought, is_sought}
 use Rattle.jsonc_insert.proofs.walk.first_sought.Given as goal
 

@@ -1,6 +1,6 @@
 use Rattle.std.proofs.Common.{sym, ap, ◌∙◌}
 use Rattle.jsonc_tree.specs.Tree.{itself}
-use Rattle.jsonc_nodes.specs.Kinds.{is_comment}
+use Rattle.jsonc_layout.specs.nodes.Kinds.{is_comment}
 use Rattle.jsonc_run.proofs.Numbered.{all_before, found_here}
 use Rattle.jsonc_run.proofs.comments.find_comment.Goals as goal
 

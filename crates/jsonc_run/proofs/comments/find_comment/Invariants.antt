@@ -2,7 +2,7 @@ use Rattle.std.proofs.Common.{◌≡◌, ◌<◌, length, filter, IfSome}
 use Rattle.std.specs.List.{slice_get}
 use Rattle.jsonc_tree.specs.Tree.{IsOver}
 use Rattle.jsonc_tree.specs.Order.{rest_at}
-use Rattle.jsonc_nodes.specs.Kinds.{is_comment_at}
+use Rattle.jsonc_layout.specs.nodes.Kinds.{is_comment_at}
 use Rattle.jsonc_edit.specs.Comments.{comment_at}
 use Rattle.jsonc_run.proofs.comments.find_comment.Given as goal
 

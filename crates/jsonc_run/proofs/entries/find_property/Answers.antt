@@ -1,6 +1,6 @@
 use Rattle.std.proofs.Common.{sym, subst}
 use Rattle.jsonc_edit.specs.Paths.{FindsExactly}
-use Rattle.jsonc_named.specs.Places.{IsPropertyAt}
+use Rattle.jsonc_insert.specs.named.Places.{IsPropertyAt}
 use Rattle.jsonc_run.proofs.EntryPaths.{no_property, property_found, no_property_found}
 use Rattle.jsonc_run.proofs.entries.find_property.Goals as goal
 

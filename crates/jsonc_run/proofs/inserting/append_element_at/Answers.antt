@@ -1,6 +1,6 @@
 use Rattle.std.proofs.Common.{ℕ, subst}
-use Rattle.jsonc_named.specs.Below.insert.Inserted.{ElementPut}
-use Rattle.jsonc_input.specs.Views.{plain}
+use Rattle.jsonc_insert.specs.Inserted.{ElementPut}
+use Rattle.jsonc_layout.specs.input.Views.{plain}
 use Rattle.jsonc_run.specs.Places.{IsArrayAt}
 use Rattle.jsonc_run.proofs.Inserted.{comes_last, told_behind}
 use Rattle.jsonc_run.proofs.Made.{no_place}

@@ -1,4 +1,4 @@
-use Rattle.jsonc_input.specs.Views.{plain}
+use Rattle.jsonc_layout.specs.input.Views.{plain}
 use Rattle.jsonc_run.specs.Places.{IsArrayAt}
 use Rattle.jsonc_run.proofs.Inserted.{told_in}
 use Rattle.jsonc_run.proofs.Made.{no_place}

@@ -1,5 +1,5 @@
 use Rattle.std.proofs.Common.{◌≡◌, List, ℕ, true, false, OnOk, chars, sym, subst}
-use Rattle.jsonc_input.specs.Views.{chars_of, plain}
+use Rattle.jsonc_layout.specs.input.Views.{chars_of, plain}
 use Rattle.jsonc_run.specs.Edits.{is_whole, operation_of, unsorted, append_property, ensure_property, insert_property, set_value, IsMade}
 use Rattle.jsonc_run.proofs.making.make_whole.Goals as goal
 

@@ -1,10 +1,10 @@
 use Rattle.std.proofs.Common.{rules, ◌≡◌, None, IfErr, chars}
-use Rattle.jsonc_input.specs.Views.{plain}
+use Rattle.jsonc_layout.specs.input.Views.{plain}
 use Rattle.jsonc_tree.specs.Tree.{parent_at}
 use Rattle.jsonc_edit.specs.declared.error.EditError.TheVariants.{OutOfMemory}
-use Rattle.jsonc_set.specs.Giving.{IsPropertyReplaced}
+use Rattle.jsonc_edit.specs.set.Giving.{IsPropertyReplaced}
 use Rattle.jsonc_run.specs.Edits.{replace_property}
-use Rattle.jsonc_named.specs.Places.{IsPropertyAt}
+use Rattle.jsonc_insert.specs.named.Places.{IsPropertyAt}
 use Rattle.jsonc_run.specs.Refusals.{IsToldBy}
 use Rattle.jsonc_run.proofs.Made.{no_place, property_not_alone, none_is, some_is, told_of_memory}
 use Rattle.jsonc_run.proofs.making.replace_property_at.Goals as goal

@@ -1,6 +1,6 @@
 use Rattle.std.proofs.Common.{rules, ◌≡◌, IfErr}
-use Rattle.jsonc_input.specs.Views.{plain}
-use Rattle.jsonc_nodes.specs.Properties.{value_at}
+use Rattle.jsonc_layout.specs.input.Views.{plain}
+use Rattle.jsonc_layout.specs.nodes.Properties.{value_at}
 use Rattle.jsonc_edit.specs.declared.error.EditError.TheVariants.{OutOfMemory}
 use Rattle.jsonc_run.specs.Edits.{set_root}
 use Rattle.jsonc_run.specs.Refusals.{IsToldBy}

@@ -1,6 +1,6 @@
 use Rattle.std.proofs.Common.{ℕ, chars, subst}
-use Rattle.jsonc_input.specs.Views.{plain}
-use Rattle.jsonc_named.specs.Below.members.Inserted.{PropertyPut}
+use Rattle.jsonc_layout.specs.input.Views.{plain}
+use Rattle.jsonc_insert.specs.members.Inserted.{PropertyPut}
 use Rattle.jsonc_run.specs.Places.{IsObjectAt}
 use Rattle.jsonc_run.proofs.Properties.{object_there, comes_last, told_behind}
 use Rattle.jsonc_run.proofs.Made.{no_place}

@@ -1,9 +1,9 @@
 use Rattle.std.proofs.Common.{rules, ◌≡◌, true, IfErr}
-use Rattle.jsonc_nodes.specs.Properties.{lacks_name_at}
+use Rattle.jsonc_layout.specs.nodes.Properties.{lacks_name_at}
 use Rattle.jsonc_edit.specs.declared.error.EditError.TheVariants.{MissingName}
-use Rattle.jsonc_set.specs.PropertyValues.{IsUnset}
-use Rattle.jsonc_named.specs.Places.{IsPropertyAt}
-use Rattle.jsonc_named.specs.Shapes.{is_of}
+use Rattle.jsonc_edit.specs.set.PropertyValues.{IsUnset}
+use Rattle.jsonc_insert.specs.named.Places.{IsPropertyAt}
+use Rattle.jsonc_insert.specs.named.Shapes.{is_of}
 use Rattle.jsonc_run.proofs.Made.{no_place}
 use Rattle.jsonc_run.proofs.ValueMade.{property_kind, unset_answer}
 use Rattle.jsonc_run.proofs.values.ensure_value_at.Goals as goal

@@ -1,9 +1,9 @@
 use Rattle.std.proofs.Common.{rules, ◌≡◌, IfErr}
-use Rattle.jsonc_input.specs.Views.{plain}
-use Rattle.jsonc_nodes.specs.Properties.{value_at}
+use Rattle.jsonc_layout.specs.input.Views.{plain}
+use Rattle.jsonc_layout.specs.nodes.Properties.{value_at}
 use Rattle.jsonc_edit.specs.declared.error.EditError.TheVariants.{OutOfMemory}
 use Rattle.jsonc_run.specs.Edits.{set_value}
-use Rattle.jsonc_named.specs.Places.{IsPropertyAt}
+use Rattle.jsonc_insert.specs.named.Places.{IsPropertyAt}
 use Rattle.jsonc_run.specs.Refusals.{IsToldBy}
 use Rattle.jsonc_run.proofs.Made.{no_place, told_of_memory}
 use Rattle.jsonc_run.proofs.ValueMade.{property_kind, property_value_set}

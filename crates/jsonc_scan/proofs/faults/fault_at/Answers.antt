@@ -1,4 +1,4 @@
-use Rattle.jsonc_string.proofs.Providers.{char_spans}
+use Rattle.jsonc_text.proofs.lemmas.string.Providers.{char_spans}
 use Rattle.jsonc_scan.proofs.Told.{next_told}
 use Rattle.jsonc_scan.proofs.faults.fault_at.Goals as goal
 

@@ -1,6 +1,6 @@
 use Rattle.std.proofs.Common.{refl}
 use Rattle.jsonc_scan.proofs.NoLexemes.{string_nothing}
-use Rattle.jsonc_string.proofs.QuotedStrings.{scanned_of_quoted}
+use Rattle.jsonc_text.proofs.lemmas.string.QuotedStrings.{scanned_of_quoted}
 use Rattle.jsonc_scan.proofs.ToldWords.{string_told}
 use Rattle.jsonc_scan.proofs.string.read_string.Goals as goal
 

@@ -1,7 +1,7 @@
 use Rattle.std.proofs.Common.{sym, ◌∙◌}
 use Rattle.jsonc_edit.proofs.GivingWay.{where_refused}
 use Rattle.jsonc_edit.proofs.Kept.{tree_stays}
-use Rattle.jsonc_multiline.proofs.Whole.{row_ready, kept_through}
+use Rattle.jsonc_edit.proofs.lemmas.multiline.Whole.{row_ready, kept_through}
 use Rattle.jsonc_sort.specs.Rearranged.{headers_of}
 use Rattle.jsonc_sort.proofs.Taking.{all_moves}
 use Rattle.jsonc_sort.proofs.order.rearrange.Goals as goal

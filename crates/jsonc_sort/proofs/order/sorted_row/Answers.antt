@@ -1,6 +1,6 @@
 use Rattle.std.proofs.Common.{◌≡◌, ◌-◌, ℕ, List, ap, length, take, drop, subst, sym, ◌∙◌}
 use Rattle.jsonc_tree.specs.Tree.{children_at, content_at}
-use Rattle.jsonc_multiline.specs.Lines.{between}
+use Rattle.jsonc_edit.specs.multiline.Lines.{between}
 use Rattle.jsonc_sort.specs.Places.{AreEntries}
 use Rattle.jsonc_sort.specs.Rearranged.{headers_of}
 use Rattle.jsonc_sort.proofs.Taking.{between_read, has_both, order_of, sort_is_planned}

@@ -5,9 +5,9 @@ use Rattle.jsonc_text.specs.Plain.{Plain}
 use Rattle.jsonc_text.proofs.FaultLemmas.{out_of_memory_is_fault}
 use Rattle.jsonc_text.proofs.UniqueValues.{document_unique}
 use Rattle.jsonc_ast.specs.Located.{IsLocatedDocument, value_at}
-use Rattle.jsonc_to_ast.proofs.Grammar.{located_document}
+use Rattle.jsonc_ast.proofs.lemmas.to_ast.Grammar.{located_document}
 use Rattle.jsonc_build.specs.Given.{located_in}
-use Rattle.jsonc_to_ast.specs.Refusals.{IsWithin}
+use Rattle.jsonc_ast.specs.to_ast.Refusals.{IsWithin}
 use Rattle.jsonc_cst.proofs.Lent.{located_there, within_there}
 use Rattle.jsonc_cst.proofs.Shown.{shows_parsed}
 use Rattle.jsonc_cst.proofs.cst.CstRootNode.parse.Goals as goal

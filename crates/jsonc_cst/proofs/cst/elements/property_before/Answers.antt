@@ -1,6 +1,6 @@
 use Rattle.std.proofs.Common.{rules}
-use Rattle.jsonc_nodes.specs.Siblings.{siblings_before}
-use Rattle.jsonc_nodes.proofs.Rows.{find_in}
+use Rattle.jsonc_layout.specs.nodes.Siblings.{siblings_before}
+use Rattle.jsonc_layout.proofs.lemmas.nodes.Rows.{find_in}
 use Rattle.jsonc_cst.specs.Readings.{is_property_at}
 use Rattle.jsonc_cst.proofs.cst.elements.property_before.Goals as goal
 

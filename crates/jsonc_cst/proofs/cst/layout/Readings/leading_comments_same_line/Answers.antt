@@ -1,7 +1,7 @@
 use Rattle.std.proofs.Common.{◌≡◌, map, sym, subst}
 use Rattle.std.specs.List.{All}
-use Rattle.jsonc_nodes.specs.Comments.{leading_comments}
-use Rattle.jsonc_nodes.specs.Siblings.{siblings_before}
+use Rattle.jsonc_layout.specs.nodes.Comments.{leading_comments}
+use Rattle.jsonc_layout.specs.nodes.Siblings.{siblings_before}
 use Rattle.jsonc_cst.specs.Nodes.{comment_node, IsNodeOf}
 use Rattle.jsonc_cst.specs.Readings.{comment_under}
 use Rattle.jsonc_cst.proofs.Readings.{comments_held}

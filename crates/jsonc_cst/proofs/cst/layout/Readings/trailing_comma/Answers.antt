@@ -1,4 +1,4 @@
-use Rattle.jsonc_lines.specs.Siblings.{after_trivia_at}
+use Rattle.jsonc_layout.specs.lines.Siblings.{after_trivia_at}
 use Rattle.jsonc_cst.proofs.Readings.{if_comma_held}
 use Rattle.jsonc_cst.proofs.cst.layout.Readings.trailing_comma.Goals as goal
 

@@ -1,4 +1,4 @@
-use Rattle.jsonc_nodes.specs.Siblings.{siblings_before}
+use Rattle.jsonc_layout.specs.nodes.Siblings.{siblings_before}
 use Rattle.jsonc_cst.proofs.Readings.{first_property_held}
 use Rattle.jsonc_cst.proofs.cst.node.CstObjectProp.previous_property.Goals as goal
 

@@ -1,0 +1,79 @@
+-- Values of one token, and documents.
+use Rattle.std.proofs.Common.{◌≡◌, ◌∙◌, sym, ap, subst, refl, arith, Option, Some, None, option_map, length}
+use Rattle.jsonc_text.specs.declared.common.Range.{Range}
+use Rattle.jsonc_text.specs.declared.tokens.Token.{Token}
+use Rattle.jsonc_text.specs.Gaps.{Gap}
+use Rattle.jsonc_text.specs.Grammar.{literal_value}
+use Rattle.jsonc_text.specs.Lexemes.{Scanned, lexeme, line_comment, block_comment, LexemeKind, IsScanned}
+use Rattle.jsonc_text.specs.Plain.{Plain}
+use Rattle.jsonc_scan.specs.Scanner.{StandsAt}
+use Rattle.jsonc_text.specs.Tokens.{scanned_of}
+use Rattle.jsonc_ast.specs.declared.ast.Value.{Value}
+use Rattle.jsonc_ast.specs.declared.to_ast.context.Context.{Context}
+use Rattle.jsonc_ast.specs.to_ast.Context.{text_in, options_in, token_start, token_end, token_range, Keeps, Finds, IsToken}
+use Rattle.jsonc_ast.specs.Located.{Located, leaf_at, range_at, Between, In, IsLeaf, IsLocated, IsLocatedDocument}
+use Rattle.jsonc_ast.specs.to_ast.Reads.{Reads}
+use Rattle.jsonc_ast.specs.to_ast.Scanned.{leaf_value}
+use Rattle.jsonc_ast.specs.Views.{located}
+use Rattle.jsonc_ast.proofs.lemmas.to_ast.Gaps.{change, stands}
+use Rattle.jsonc_ast.proofs.lemmas.to_ast.Scans.{moved, kept_on}
+
+-- the lexeme that a leaf is, and its value
+record IsLeafOf (w : Scanned) (x : Located) (r : Range) : Type 0 where
+  kind : LexemeKind
+  is : w ≡ lexeme kind
+  value : Plain
+  means : literal_value kind ≡ Some value
+  leaf : x ≡ leaf_at r value
+
+some_same : (x y : Located) → Some x ≡ Some y → x ≡ y
+some_same x y e = cc
+
+none_same : (x : Located) → Some x ≡ None → ⊥
+none_same x e = cc
+
+literal_leaf : (k : LexemeKind) (x : Located) (r : Range) (q : Option Plain) → literal_value k ≡ q → Some x ≡ option_map (leaf_at r) q → IsLeafOf (lexeme k) x r
+literal_leaf k x r None e h = absurd (none_same x h)
+literal_leaf k x r (Some v) e h = record { kind = k; is = refl; value = v; means = e; leaf = some_same x (leaf_at r v) h }
+
+leaf_of : (w : Scanned) (x : Located) (r : Range) → Some x ≡ option_map (leaf_at r) (leaf_value w) → IsLeafOf w x r
+leaf_of (lexeme k) x r h = literal_leaf k x r (literal_value k) refl h
+leaf_of (line_comment s) x r h = absurd (none_same x h)
+leaf_of (block_comment s) x r h = absurd (none_same x h)
+
+module _ {A : Type 0} where
+  leaf_stands : (c : Context A) (t : Token A) (x : Located) (r : Range) → IsToken c t → IsLeafOf (scanned_of t) x r → r ≡ token_range c → IsLocated (options_in c) (text_in c) x
+  leaf_stands c t x r at h e =
+      let token = subst (λ w. Between (text_in c) (IsScanned (options_in c) w) (token_start c) (token_end c)) h.is (stands (text_in c) (options_in c) c.scanner t refl refl at) in
+      let leaf : In (text_in c) (IsLeaf (options_in c) h.value) (token_range c) = change (IsLeaf (options_in c) h.value) (λ u v k. (h.kind, k, h.means)) token in
+      subst (λ y. IsLocated (options_in c) (text_in c) y) (sym h.leaf) (subst (λ q. In (text_in c) (IsLeaf (options_in c) h.value) q) (sym e) leaf)
+
+  pub leaf_reads : (c : Context A) (t : Token A) (v : Value A) (f : Option (Value A)) (r : Range) → IsToken c t → f ≡ Some v → option_map located f ≡ option_map (leaf_at r) (leaf_value (scanned_of t)) → r ≡ token_range c → Reads c c (located v)
+  leaf_reads c t v f r at is h e =
+      let leaf = leaf_of (scanned_of t) (located v) r (sym (ap (option_map located) is) ∙ h) in
+      record {
+        value = leaf_stands c t (located v) r at leaf e;
+        starts = ap (λ x. (range_at x).start) leaf.leaf ∙ ap (λ q. q.start) e;
+        ends = ap (λ x. (range_at x).end) leaf.leaf ∙ ap (λ q. q.end) e;
+        on = omega arith;
+      }
+
+  -- nothing but a gap
+  pub empty_document : (c d : Context A) (f : Option (Token A)) → token_end c ≡ 0 → Keeps c d → Finds (Gap (options_in c)) c d f → f ≡ None → IsLocatedDocument (options_in c) (text_in c) None
+  empty_document c d f zero kept found is =
+      let last : token_start d ≡ length (text_in c) = (subst (StandsAt d.scanner) is found.1).0 ∙ ap length kept.text in
+      subst (λ j. Between (text_in c) (Gap (options_in c)) 0 j) last (subst (λ i. Between (text_in c) (Gap (options_in c)) i (token_start d)) zero found.0)
+
+  -- a value between two gaps
+  pub value_document : (c d m e : Context A) (f h : Option (Token A)) (x : Located) → token_end c ≡ 0 → Keeps c d → Finds (Gap (options_in c)) c d f → Keeps d m → Reads d m x → Keeps m e → Finds (Gap (options_in m)) m e h → h ≡ None
+      → IsLocatedDocument (options_in c) (text_in c) (Some x)
+  value_document c d m e f h x zero kept found on read further after is =
+      let o = options_in c in
+      let b = text_in c in
+      let all = kept_on c d m kept on in
+      let last : token_start e ≡ length b = (subst (StandsAt e.scanner) is after.1).0 ∙ ap length (further.text ∙ all.text) in
+      let gap = moved (λ p t. Between t (Gap p) (token_end m) (token_start e)) all.options all.text after.0 in (
+        subst (λ i. Between b (Gap o) i (range_at x).start) zero (subst (λ j. Between b (Gap o) (token_end c) j) (sym read.starts) found.0),
+        moved (λ p t. IsLocated p t x) kept.options kept.text read.value,
+        subst (λ j. Between b (Gap o) (range_at x).end j) last (subst (λ i. Between b (Gap o) i (token_start e)) (sym read.ends) gap),
+      )

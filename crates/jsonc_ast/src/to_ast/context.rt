@@ -1,0 +1,564 @@
+//! What a parser has before it: the scanner, the options, and what is collected so far.
+ghost use Rattle.std.specs.Prelude.{◌≡◌, true};
+ghost use Rattle.std.specs.Str.{is_utf8};
+ghost use Rattle.jsonc_text.specs.OptionsOf.{parse_options};
+ghost use Rattle.jsonc_scan.specs.Scanner.{options_of};
+
+use crate::ast::{ObjectPropName, StringLit, WordLit};
+use crate::to_ast::collect::{CollectOptions, CommentCollectionStrategy, CommentMap};
+use crate::to_ast::comments::{GapComments, comment_of};
+use crate::to_ast::container::Container;
+use crate::to_ast::room::make_room;
+use jsonc_scan::found::{TokenContent, TokenKind};
+use jsonc_scan::scanner::Scanner;
+use jsonc_text::common::Range;
+use jsonc_text::errors::{ParseError, ParseErrorKind};
+use jsonc_text::options::ParseOptions;
+use jsonc_text::tokens::TokenAndRange;
+use std::alloc::Allocator;
+
+/// How many containers, or containers and properties, may be around a value.
+pub const MAXIMUM_NESTING: usize = 512;
+
+#[derive(Drop)]
+pub struct Context<'a, A: Allocator> {
+    pub scanner: Scanner<'a, A>,
+    /// What the last token holds.
+    pub content: TokenContent<'a, A>,
+    pub alloc: A,
+    pub options: ParseOptions,
+    pub tokens: Option<Vec<TokenAndRange<'a, A>, A>>,
+    pub comments_are_tokens: bool,
+    pub comments: Option<GapComments<'a, A>>,
+    pub ghost same: { parse_options options ≡ options_of scanner },
+    pub ghost utf8: { is_utf8 scanner.file_text.now ≡ true },
+}
+
+impl<'a, A: Allocator + Copy> Context<'a, A> {
+    ghost use Rattle.std.specs.Prelude.{◌≡◌, ◌≢◌, ◌≤◌, ◌<◌, ◌⊎◌, ◌||◌, [], true, false, is_some, IfOk, IfErr, IfSome, OnOk, IsTrue};
+    ghost use Rattle.jsonc_ast.specs.to_ast.Refusals.{IsFaultOf, IsOpen, Tells, WantsMemory, WhereSome, RefusesComment, NoTokenAfter, NothingFirst, NothingAfterComma, NothingNext, OnlyFirst, OnlyAfterComma, OnlyNext, NoColon, NoName};
+    ghost use Rattle.jsonc_text.specs.Faults.{IsFault, IsOutOfMemory, range_of, kind_of};
+    ghost use Rattle.jsonc_text.specs.Gaps.{Gap};
+    ghost use Rattle.jsonc_text.specs.Places.{is_comment as is_a_comment};
+    ghost use Rattle.jsonc_text.specs.Text.{Spans};
+    ghost use Rattle.jsonc_text.specs.Tokens.{scanned_of};
+    ghost use Rattle.jsonc_ast.specs.to_ast.Context.{text_in, options_in, token_end, token_range, tokens_asked, comments_asked, last, found_in, found_by, GivesAway, Keeps, Finds, LeadsToFirst, LeadsAfterComma, LeadsToNext, PassesColon, IsToken, IsNameHere, IsNoComment, AtEnd, ClosesNone, Comes};
+    ghost use Rattle.jsonc_scan.specs.Scanner.{ComesNext};
+    ghost use Rattle.jsonc_ast.specs.Views.{name_at};
+    ghost use Rattle.jsonc_ast.specs.to_ast.Containers.{misplaced_kind, begins};
+    ghost use Rattle.jsonc_ast.specs.to_ast.Told.{IsWrongName, StopsAnyhow, StopsAtColon, StopsInside};
+    ghost use Rattle.jsonc_ast.specs.to_ast.Reached.{Due};
+    ghost use Rattle.jsonc_ast.specs.to_ast.Context.{IsBracket};
+    ghost use Rattle.jsonc_ast.specs.to_ast.Refusals.{here, after};
+    ghost use Rattle.jsonc_ast.specs.to_ast.Written.{IsLentHere, IsWritten};
+    ghost use Rattle.jsonc_ast.specs.to_ast.Collected.{takes_comments, is_separate, collected, CollectsLast, CollectsComment, OmitsComment, StaysLent, HasNoted, NotesComment, NotesLexeme, ShowsNoted, Collects};
+
+    /// A parser at the start of a text.
+    pub fn new(
+        alloc: A,
+        text: &'a str,
+        collect: &CollectOptions,
+        options: &ParseOptions,
+    ) -> Context<'a, A>
+        ensures text { text_in result ≡ text.now }
+        ensures options { options_in result ≡ parse_options options.now }
+        ensures start { token_end result ≡ 0 }
+        ensures tokens { tokens_asked result ≡ collect.now.tokens }
+        ensures comments { result.comments_are_tokens ≡ takes_comments collect.now.comments }
+        ensures collected { collected result ≡ [] }
+        ensures apart { comments_asked result ≡ is_separate collect.now.comments }
+        ensures noted { HasNoted [] result }
+    {
+        let tokens = if collect.tokens {
+            Some(Vec::new(alloc))
+        } else {
+            None
+        };
+        let comments = match collect.comments {
+            CommentCollectionStrategy::Separate => Some(GapComments::new(alloc)),
+            _ => None,
+        };
+        Context {
+            scanner: Scanner::with_options(alloc, text, options.copied()),
+            content: TokenContent::new(),
+            alloc,
+            options: options.copied(),
+            tokens,
+            comments_are_tokens: collect.comments == CommentCollectionStrategy::AsTokens,
+            comments,
+        }
+    }
+
+    /// The range of the last token.
+    pub(crate) fn range(&self) -> Range
+        ensures { result ≡ token_range self.now }
+    {
+        Range::new(self.scanner.token_start(), self.scanner.token_end())
+    }
+
+    /// A fault told of these bytes.
+    #[cold]
+    pub(crate) fn fault(&self, range: Range, kind: ParseErrorKind) -> ParseError
+        requires range { Spans (text_in self.now) range.start range.end }
+        requires kind { kind ≢ ParseErrorKind.OutOfMemory }
+        ensures fault { IsFault (text_in self.now) result }
+        ensures range { range_of result ≡ range }
+        ensures kind { kind_of result ≡ kind }
+    {
+        ParseError::new(range, kind, self.scanner.file_text())
+    }
+
+    /// A fault told of the last token.
+    #[cold]
+    pub fn fault_here(&self, kind: ParseErrorKind) -> ParseError
+        requires { kind ≢ ParseErrorKind.OutOfMemory }
+        ensures fault { IsFault (text_in self.now) result }
+        ensures range { range_of result ≡ token_range self.now }
+        ensures kind { kind_of result ≡ kind }
+    {
+        self.fault(self.range(), kind)
+    }
+
+    /// A fault told of the bytes from a place through the last token.
+    #[cold]
+    pub(crate) fn fault_from(&self, start: usize, kind: ParseErrorKind) -> ParseError
+        requires start { Spans (text_in self.now) start (token_end self.now) }
+        requires kind { kind ≢ ParseErrorKind.OutOfMemory }
+        ensures fault { IsFault (text_in self.now) result }
+        ensures range { range_of result ≡ record { start = start; end = token_end self.now } }
+        ensures kind { kind_of result ≡ kind }
+    {
+        self.fault(Range::new(start, self.scanner.token_end()), kind)
+    }
+
+    /// A fault of a container that the text ends in, told of the bytes from where the container
+    /// began, or else of the end.
+    fn unterminated(&self, container: Container, start: Option<usize>) -> ParseError
+        requires { IfSome start (λ i. Spans (text_in self.now) i (token_end self.now)) }
+        ensures fault { IsFault (text_in self.now) result }
+        ensures told { AtEnd self.now → IsOpen container (text_in self.now) start result }
+    {
+        match start {
+            Some(start) => self.fault_from(start, container.unterminated()),
+            None => self.fault_here(container.unterminated()),
+        }
+    }
+
+    /// Want of memory.
+    pub fn out_of_memory(&self) -> ParseError
+        ensures fault { IsFault (text_in self.now) result }
+        ensures memory { IsOutOfMemory result }
+    {
+        ParseError::out_of_memory()
+    }
+
+    /// Whether a value would have too many containers and properties around it.
+    #[inline(always)]
+    pub(crate) fn nests_too_deep(&self, around: usize) -> bool
+        ensures deep { IsTrue result → 512 < around }
+        ensures within { result ≡ false → around ≤ 512 }
+    {
+        around > MAXIMUM_NESTING
+    }
+
+    /// The fault of a value that too many containers and properties are around. The innermost of
+    /// them begins at the place.
+    #[cold]
+    pub(crate) fn nesting_fault(&self, start: usize) -> ParseError
+        requires { Spans (text_in self.now) start (token_end self.now) }
+        ensures fault { IsFault (text_in self.now) result }
+        ensures kind { kind_of result ≡ ParseErrorKind.NestingDepthExceeded }
+        ensures range { range_of result ≡ record { start = start; end = token_end self.now } }
+    {
+        self.fault_from(start, ParseErrorKind::NestingDepthExceeded)
+    }
+
+    /// Refuses a value that too many containers and properties are around.
+    /// The innermost of them begins at the place.
+    #[inline(always)]
+    pub fn check_nesting(&self, start: usize, around: usize) -> Result<(), ParseError>
+        requires { Spans (text_in self.now) start (token_end self.now) }
+        ensures within { OnOk result (around ≤ 512) }
+        ensures refused { IfErr result (λ _. 512 < around) }
+        ensures fault { IfErr result (IsFault (text_in self.now)) }
+        ensures kind { IfErr result (λ e. kind_of e ≡ ParseErrorKind.NestingDepthExceeded) }
+        ensures range { IfErr result (λ e. range_of e ≡ record { start = start; end = token_end self.now }) }
+    {
+        if self.nests_too_deep(around) {
+            return Err(self.nesting_fault(start));
+        }
+        Ok(())
+    }
+
+    /// Whether anything is collected.
+    #[inline(always)]
+    fn collects(&self) -> bool
+        ensures value { result ≡ tokens_asked self.now || comments_asked self.now }
+        ensures tokens { result ≡ false → tokens_asked self.now ≡ false }
+        ensures comments { result ≡ false → comments_asked self.now ≡ false }
+    {
+        if self.tokens.is_some() {
+            return true;
+        }
+        self.comments.is_some()
+    }
+
+    /// Collects the last token, where tokens are asked for.
+    #[inline(always)]
+    fn collect(&mut self, token: TokenKind) -> Result<(), ParseError>
+        ensures scanner { self.new.scanner ≡ self.old.scanner }
+        ensures content { self.new.content ≡ self.old.content }
+        ensures tokens { tokens_asked self.new ≡ tokens_asked self.old }
+        ensures comments { self.new.comments_are_tokens ≡ self.old.comments_are_tokens }
+        ensures apart { self.new.comments ≡ self.old.comments }
+        ensures collected { OnOk result (CollectsLast self.old self.new (scanned_of (last self.old token))) }
+        ensures lent { OnOk result (IsLentHere self.old (Some (last self.old token)) → StaysLent self.old self.new) }
+        ensures memory { IfErr result (λ e. kind_of e ≡ ParseErrorKind.OutOfMemory) }
+        ensures fault { IfErr result (IsFault (text_in self.old)) }
+    {
+        let range = self.range();
+        let len = self.scanner.file_text().len();
+        let Some(tokens) = &mut self.tokens else {
+            return Ok(());
+        };
+        let Ok(token) = self.content.token(token) else {
+            return Err(self.out_of_memory());
+        };
+        let Ok(()) = make_room(tokens, range.start, len) else {
+            return Err(self.out_of_memory());
+        };
+        let Ok(()) = tokens.push(TokenAndRange { range, token }) else {
+            return Err(self.out_of_memory());
+        };
+        Ok(())
+    }
+
+    /// Notes a comment, the last token, where comments are asked for apart.
+    fn note(&mut self, comment: TokenKind) -> Result<(), ParseError>
+        ensures scanner { self.new.scanner ≡ self.old.scanner }
+        ensures content { self.new.content ≡ self.old.content }
+        ensures tokens { self.new.tokens ≡ self.old.tokens }
+        ensures comments { self.new.comments_are_tokens ≡ self.old.comments_are_tokens }
+        ensures apart { comments_asked self.new ≡ comments_asked self.old }
+        ensures noted { OnOk result (NotesComment self.old self.new (scanned_of (last self.old comment))) }
+        ensures memory { IfErr result (λ e. kind_of e ≡ ParseErrorKind.OutOfMemory) }
+        ensures fault { IfErr result (IsFault (text_in self.old)) }
+    {
+        let Some(comment) = comment_of(comment, &self.content, self.range()) else {
+            return Ok(());
+        };
+        let Some(comments) = &mut self.comments else {
+            return Ok(());
+        };
+        let Ok(()) = comments.pass_comment(comment) else {
+            return Err(self.out_of_memory());
+        };
+        Ok(())
+    }
+
+    /// Notes that the gap before a lexeme, the last token, has ended, where comments are asked for
+    /// apart.
+    #[inline(always)]
+    fn end_gap(&mut self) -> Result<(), ParseError>
+        ensures scanner { self.new.scanner ≡ self.old.scanner }
+        ensures content { self.new.content ≡ self.old.content }
+        ensures tokens { self.new.tokens ≡ self.old.tokens }
+        ensures comments { self.new.comments_are_tokens ≡ self.old.comments_are_tokens }
+        ensures apart { comments_asked self.new ≡ comments_asked self.old }
+        ensures noted { OnOk result (NotesLexeme self.old self.new) }
+        ensures memory { IfErr result (λ e. kind_of e ≡ ParseErrorKind.OutOfMemory) }
+        ensures fault { IfErr result (IsFault (text_in self.old)) }
+    {
+        let range = self.range();
+        let Some(comments) = &mut self.comments else {
+            return Ok(());
+        };
+        let Ok(()) = comments.pass_lexeme(range) else {
+            return Err(self.out_of_memory());
+        };
+        Ok(())
+    }
+
+    /// Takes the comments of the whole text, where they are asked for apart, at its end.
+    pub(crate) fn take_comments(&mut self) -> Result<Option<CommentMap<'a, A>>, ParseError>
+        ensures tokens { self.new.tokens ≡ self.old.tokens }
+        ensures apart { IfOk result (λ m. is_some m ≡ comments_asked self.old) }
+        ensures shown { IfOk result (ShowsNoted self.old) }
+        ensures memory { IfErr result (λ e. kind_of e ≡ ParseErrorKind.OutOfMemory) }
+        ensures fault { IfErr result (IsFault (text_in self.old)) }
+    {
+        let Some(comments) = self.comments.take() else {
+            return Ok(None);
+        };
+        let Ok(found) = comments.finish(self.scanner.token_end()) else {
+            return Err(self.out_of_memory());
+        };
+        Ok(Some(found))
+    }
+
+    /// Passes a comment, the last token, where comments are allowed.
+    #[cold]
+    fn pass_comment(&mut self, comment: TokenKind) -> Result<(), ParseError>
+        ensures scanner { self.new.scanner ≡ self.old.scanner }
+        ensures content { self.new.content ≡ self.old.content }
+        ensures tokens { tokens_asked self.new ≡ tokens_asked self.old }
+        ensures comments { self.new.comments_are_tokens ≡ self.old.comments_are_tokens }
+        ensures apart { comments_asked self.new ≡ comments_asked self.old }
+        ensures noted { OnOk result (NotesComment self.old self.new (scanned_of (last self.old comment))) }
+        ensures collected { OnOk result (CollectsComment self.old self.new (scanned_of (last self.old comment))) }
+        ensures omitted { OnOk result (OmitsComment self.old self.new) }
+        ensures lent { OnOk result (IsLentHere self.old (Some (last self.old comment)) → StaysLent self.old self.new) }
+        ensures allowed { OnOk result (IsTrue (options_in self.old).comments) }
+        ensures refused { IfErr result (RefusesComment self.old) }
+        ensures fault { IfErr result (IsFault (text_in self.old)) }
+    {
+        if !self.options.allow_comments {
+            return Err(self.fault_here(ParseErrorKind::CommentsNotAllowed));
+        }
+        self.note(comment)?;
+        if self.comments_are_tokens {
+            self.collect(comment)?;
+        }
+        Ok(())
+    }
+
+    /// Passes a gap, and answers the kind of the token after it, or none at the end of the text.
+    pub fn scan(&mut self) -> Result<Option<TokenKind>, ParseError>
+        ensures kept { Keeps self.old self.new }
+        ensures found { IfOk (found_by self.new result) (Finds (Gap (options_in self.old)) self.old self.new) }
+        ensures lexeme { IfOk (found_by self.new result) IsNoComment }
+        ensures lent { IfOk (found_by self.new result) (IsLentHere self.new) }
+        ensures collects { OnOk result (Collects self.old self.new) }
+        ensures refused { IfErr result (Tells (NoTokenAfter self.old)) }
+        ensures fault { IfErr result (IsFault (text_in self.old)) }
+        ensures told { IfErr result (StopsAnyhow self.old) }
+    {
+        loop {
+            let Some(token) = self.scanner.step(&mut self.content)? else {
+                return Ok(None);
+            };
+            if !self.is_comment(token) {
+                if !self.collects() {
+                    return Ok(Some(token));
+                }
+                self.collect(token)?;
+                self.end_gap()?;
+                return Ok(Some(token));
+            }
+            self.pass_comment(token)?;
+        }
+    }
+
+    /// Whether an ASCII character comes next, with no gap before it, and nothing is collected.
+    #[inline(always)]
+    fn has_next(&self, character: u8) -> bool
+        requires { character < 128 }
+        ensures next { IsTrue result → ComesNext self.now.scanner character }
+        ensures tokens { IsTrue result → tokens_asked self.now ≡ false }
+        ensures comments { IsTrue result → comments_asked self.now ≡ false }
+        ensures other { result ≡ false → ComesNext self.now.scanner character
+            → IsTrue (tokens_asked self.now || comments_asked self.now) }
+    {
+        if self.collects() {
+            return false;
+        }
+        self.scanner.has_next(character)
+    }
+
+    /// Passes the comma that comes next, where nothing is collected.
+    #[inline(always)]
+    fn pass_next_comma(&mut self)
+        requires next { ComesNext self.old.scanner 0x2C }
+        requires tokens { tokens_asked self.old ≡ false }
+        requires comments { comments_asked self.old ≡ false }
+        ensures kept { Keeps self.old self.new }
+        ensures found { Finds (Gap (options_in self.old)) self.old self.new (Some (last self.new TokenKind.Comma)) }
+        ensures collects { Collects self.old self.new }
+    {
+        self.scanner.pass_mark(b',');
+    }
+
+    /// Passes the colon that comes next, where nothing is collected.
+    #[inline(always)]
+    fn pass_next_colon(&mut self)
+        requires next { ComesNext self.old.scanner 0x3A }
+        requires tokens { tokens_asked self.old ≡ false }
+        requires comments { comments_asked self.old ≡ false }
+        ensures kept { Keeps self.old self.new }
+        ensures found { PassesColon self.old self.new }
+        ensures collects { Collects self.old self.new }
+    {
+        self.scanner.pass_mark(b':');
+    }
+
+    /// Passes what stands after an opening bracket: answers the kind of the token that the first element or
+    /// property begins with, or none past the closing bracket. Where the text ends in the
+    /// container, the fault is told from the place where that began, if one is given.
+    #[inline(always)]
+    pub fn first_item(
+        &mut self,
+        container: Container,
+        start: Option<usize>,
+    ) -> Result<Option<TokenKind>, ParseError>
+        requires { IfSome start (λ i. Spans (text_in self.old) i (token_end self.old)) }
+        ensures kept { Keeps self.old self.new }
+        ensures found { IfOk (found_by self.new result) (LeadsToFirst container self.old self.new) }
+        ensures only { IfOk (found_by self.new result) (WhereSome (OnlyFirst container self.old self.new)) }
+        ensures lent { IfOk (found_by self.new result) (IsLentHere self.new) }
+        ensures collects { OnOk result (Collects self.old self.new) }
+        ensures refused { IfErr result (Tells (NothingFirst container self.old)) }
+        ensures fault { IfErr result (IsFault (text_in self.old)) }
+        ensures told { IfErr result (StopsInside container start (Due.first container) self.old) }
+        ensures stands { IfOk (found_by self.new result) (λ f. IfSome f (ClosesNone container)) }
+    {
+        let Some(first) = self.scan()? else {
+            return Err(self.unterminated(container, start));
+        };
+        if self.closes(container, first) {
+            return Ok(None);
+        }
+        Ok(Some(first))
+    }
+
+    /// Passes what stands after a comma, the last token, as `first_item` does.
+    #[inline(always)]
+    fn item_after_comma(
+        &mut self,
+        container: Container,
+        start: Option<usize>,
+    ) -> Result<Option<TokenKind>, ParseError>
+        requires { IfSome start (λ i. Spans (text_in self.old) i (token_end self.old)) }
+        ensures kept { Keeps self.old self.new }
+        ensures found { IfOk (found_by self.new result) (LeadsAfterComma container self.old self.new) }
+        ensures only { IfOk (found_by self.new result) (WhereSome (OnlyAfterComma container self.old self.new)) }
+        ensures lent { IfOk (found_by self.new result) (IsLentHere self.new) }
+        ensures collects { OnOk result (Collects self.old self.new) }
+        ensures refused { IfErr result (Tells (NothingAfterComma container self.old)) }
+        ensures fault { IfErr result (IsFault (text_in self.old)) }
+        ensures told { IfErr result (λ e. IsBracket 0x2C self.old
+            → StopsInside container start (Due.further container (here self.old)) self.old e) }
+        ensures stands { IfOk (found_by self.new result) (λ f. IfSome f (ClosesNone container)) }
+    {
+        let comma = self.range();
+        let Some(token) = self.scan()? else {
+            return Err(self.unterminated(container, start));
+        };
+        if !self.closes(container, token) {
+            return Ok(Some(token));
+        }
+        if !self.options.allow_trailing_commas {
+            return Err(self.fault(comma, ParseErrorKind::TrailingCommasNotAllowed));
+        }
+        Ok(None)
+    }
+
+    /// What is wrong with the last token where a comma must stand, after what ended at a place.
+    #[cold]
+    fn missing_comma(&self, container: Container, token: TokenKind, end: usize) -> ParseError
+        requires { Spans (text_in self.now) end (token_end self.now) }
+        ensures fault { IsFault (text_in self.now) result }
+        ensures comma { IsTrue (begins container (scanned_of (last self.now token)))
+            → IsFaultOf ParseErrorKind.ExpectedComma (record { start = end; end = end }) result }
+        ensures misplaced { begins container (scanned_of (last self.now token)) ≡ false
+            → IsFaultOf (misplaced_kind container (scanned_of (last self.now token))) (token_range self.now) result }
+    {
+        if self.begins(container, token) {
+            return self.fault(Range::from_byte_index(end), ParseErrorKind::ExpectedComma);
+        }
+        self.fault_here(self.misplaced(container, token))
+    }
+
+    /// Passes what stands after an element or a property: answers the kind of the token that the
+    /// next one begins with, or none past the closing bracket.
+    #[inline(always)]
+    pub fn next_item(
+        &mut self,
+        container: Container,
+        start: Option<usize>,
+    ) -> Result<Option<TokenKind>, ParseError>
+        requires { IfSome start (λ i. Spans (text_in self.old) i (token_end self.old)) }
+        ensures kept { Keeps self.old self.new }
+        ensures found { IfOk (found_by self.new result) (LeadsToNext container self.old self.new) }
+        ensures only { IfOk (found_by self.new result) (WhereSome (OnlyNext container self.old self.new)) }
+        ensures lent { IfOk (found_by self.new result) (IsLentHere self.new) }
+        ensures collects { OnOk result (Collects self.old self.new) }
+        ensures refused { IfErr result (Tells (NothingNext container self.old)) }
+        ensures fault { IfErr result (IsFault (text_in self.old)) }
+        ensures told { IfErr result (StopsInside container start (Due.comma container (after self.old)) self.old) }
+        ensures stands { IfOk (found_by self.new result) (λ f. IfSome f (ClosesNone container)) }
+        ensures comes { IfOk (found_by self.new result) (λ f. IfSome f (Comes self.old self.new)) }
+    {
+        if self.has_next(b',') {
+            self.pass_next_comma();
+            return self.item_after_comma(container, start);
+        }
+        let end = self.scanner.token_end();
+        let Some(token) = self.scan()? else {
+            return Err(self.unterminated(container, start));
+        };
+        if self.closes(container, token) {
+            return Ok(None);
+        }
+        if self.is_comma(token) {
+            return self.item_after_comma(container, start);
+        }
+        if !self.options.allow_missing_commas {
+            return Err(self.missing_comma(container, token, end));
+        }
+        Ok(Some(token))
+    }
+
+    /// The name that the last token is, where the options allow it. A string is given away.
+    #[inline(always)]
+    pub fn name(&mut self, token: TokenKind) -> Result<ObjectPropName<'a, A>, ParseError>
+        requires { IsToken self.old (last self.old token) }
+        ensures gives { GivesAway self.old self.new }
+        ensures name { IfOk result (λ n. IsNameHere self.old (name_at n)) }
+        ensures range { IfOk result (λ n. (name_at n).range ≡ token_range self.old) }
+        ensures written { IfOk result (λ n. IsLentHere self.old (Some (last self.old token))
+            → IsWritten (options_in self.old) (text_in self.old) n) }
+        ensures refused { IfErr result (λ _. NoName self.old) }
+        ensures fault { IfErr result (IsFault (text_in self.old)) }
+        ensures told { IfErr result (IsWrongName self.old (last self.old token)) }
+    {
+        let range = self.range();
+        match token {
+            TokenKind::String => {
+                let value = self.content.take_string();
+                Ok(ObjectPropName::String(StringLit { range, value }))
+            }
+            token => {
+                let Some(value) = self.loose_name(token) else {
+                    return Err(self.fault_here(ParseErrorKind::UnexpectedTokenInObject));
+                };
+                if !self.options.allow_loose_object_property_names {
+                    return Err(self.fault_here(ParseErrorKind::ExpectedStringObjectProperty));
+                }
+                Ok(ObjectPropName::Word(WordLit { range, value }))
+            }
+        }
+    }
+
+    /// Passes a gap and the colon after it.
+    #[inline(always)]
+    pub fn pass_colon(&mut self) -> Result<(), ParseError>
+        ensures kept { Keeps self.old self.new }
+        ensures found { OnOk result (PassesColon self.old self.new) }
+        ensures collects { OnOk result (Collects self.old self.new) }
+        ensures refused { IfErr result (Tells (NoColon self.old)) }
+        ensures fault { IfErr result (IsFault (text_in self.old)) }
+        ensures told { IfErr result (StopsAtColon self.old) }
+    {
+        if self.has_next(b':') {
+            self.pass_next_colon();
+            return Ok(());
+        }
+        let Some(token) = self.scan()? else {
+            return Err(self.fault_here(ParseErrorKind::ExpectedColonAfterObjectKey));
+        };
+        if !self.is_colon(token) {
+            return Err(self.fault_here(ParseErrorKind::ExpectedColonAfterObjectKey));
+        }
+        Ok(())
+    }
+}

@@ -1,6 +1,0 @@
-use Rattle.std.proofs.Common.{sym, ◌∙◌}
-use Rattle.jsonc_commas.proofs.Children.{gone_child}
-use Rattle.jsonc_commas.proofs.rows.take_comma.Goals as goal
-
-pub take_out-requires : goal.take_out-requires
-take_out-requires g c = gone_child c.args.tree.now.nodes c.len.ensures.tree c.args.container c.in-Some.comma (sym c.comma_gone.ensures ∙ c.in-Some.is)

@@ -1,0 +1,3 @@
+pub mod sorting
+pub mod typed
+pub mod objects

@@ -1,0 +1,3 @@
+pub mod NamedIn
+pub mod ByName
+pub mod Steps

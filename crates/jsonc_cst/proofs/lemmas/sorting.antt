@@ -1,0 +1,8 @@
+pub mod Placed
+pub mod Keyed
+pub mod Pinned
+pub mod Commented
+pub mod Wired
+pub mod Again
+pub mod AgainByKey
+pub mod Ordered

@@ -1,0 +1,48 @@
+-- Elements that come in an order: what becomes of a document and its nodes.
+use Rattle.std.proofs.Common.{ℕ, List, IsTrue, inl, inr, ap}
+use Rattle.std.proofs.lemmas.Bool.{cases_Bool}
+use Rattle.jsonc_text.specs.Options.{Options}
+use Rattle.jsonc_tree.specs.OrderedTree.{ordered_tree}
+use Rattle.jsonc_tree.specs.Tree.{Node, content_at, IsTree}
+use Rattle.jsonc_layout.specs.lines.Kinds.{holds_values}
+use Rattle.jsonc_sort.specs.Rearranged.{moves, IsOrderIn, Rearranged}
+use Rattle.jsonc_sort.specs.Sorting.{Headers}
+use Rattle.jsonc_sort.proofs.AtPaths.{sorts_at}
+use Rattle.jsonc_sort.proofs.Orders.{few_stay}
+use Rattle.jsonc_sort.proofs.SortedDocuments.{keeps_outside, sorts_document}
+use Rattle.jsonc_edit.specs.Paths.{IsAt}
+use Rattle.jsonc_run.specs.promise.Steps.{IsStep}
+use Rattle.jsonc_run.specs.Edits.{rearrange}
+use Rattle.jsonc_cst.specs.typed.Edits.{StaysElsewhere}
+use Rattle.jsonc_edit.proofs.lemmas.commas.Holders.{holder_path}
+use Rattle.jsonc_run.proofs.lemmas.promise.Stepping.{made_step}
+use Rattle.jsonc_cst.proofs.lemmas.typed.Elsewhere.{row_elsewhere}
+use Rattle.jsonc_cst.proofs.lemmas.typed.Kept.{Stays, stay_both, stay_kept, stay_same, stay_spliced}
+use Rattle.jsonc_cst.specs.sorting.Sorted.{IsPlaced, SortsAtItsPath}
+
+module _ (old new : List Node) (c : ℕ) (h : Headers) (order : List ℕ) (before : IsTree old) (after : IsTree new) (holds : IsTrue (holds_values (content_at old c))) (all : IsOrderIn old c order) where
+  written : Rearranged old new c h order → (o : Options) → SortsAtItsPath o old new c order
+  written made o = λ sound path at.
+      let s = sorts_at o old new path c h order before after sound at holds all made in
+      record { sorted = s; outside = keeps_outside s; says = sorts_document o (ordered_tree old 0) (ordered_tree new 0) path order sound s }
+
+  elsewhere : Rearranged old new c h order → StaysElsewhere old new c
+  elsewhere made = λ out.
+      elim (cases_Bool (moves old c order)) [
+        | inl is ↦ let row = made.is is in row_elsewhere old before row.ready new c _ _ row.row after row.prepared.keeps row.put out
+        | inr other ↦ ap (λ (ns : List Node). ordered_tree ns 0) (made.was other)
+      ]
+
+  step : Rearranged old new c h order → IsStep IsAt (λ path. rearrange path h order) old new c
+  step made =
+      made_step old new before after IsAt (λ path. rearrange path h order) c (λ path. tt) (λ o sound over. holder_path o old before sound c over holds) (λ path over at. (c, (at, holds), all, made))
+
+  pub is_placed : Rearranged old new c h order → IsPlaced old new c h order
+  is_placed made = record { all = all; made = made; few = λ less. few_stay old new c h order less all made; elsewhere = elsewhere made; written = written made; step = step made }
+
+  pub rearranged_stays : Rearranged old new c h order → Stays old new
+  rearranged_stays made =
+      elim (cases_Bool (moves old c order)) [
+        | inl is ↦ let row = made.is is in stay_both old row.ready new (stay_kept old row.ready row.prepared.keeps) (stay_spliced row.ready new _ _ _ _ row.put)
+        | inr other ↦ stay_same old new (made.was other)
+      ]

@@ -1,0 +1,16 @@
+pub mod Around
+pub mod Elsewhere
+pub mod Found
+pub mod Held
+pub mod Kept
+pub mod Gone
+pub mod Leaves
+pub mod Marked
+pub mod Nobodys
+pub mod Roots
+pub mod Whole
+pub mod Places
+pub mod Steps
+pub mod Spread
+pub mod ComingIn
+pub mod Trailing

@@ -1,0 +1,155 @@
+-- The nodes that set a document's value, or a property: they are there, of their kind, and every other node stays.
+use Rattle.std.proofs.Common.{◌≡◌, ℕ, ◌<◌, ◌++◌, Bool, true, false, inl, inr, List, ◌∷◌, length, get_or, Option, Some, None, Result, Ok, Err, OnErr, IfOk, IfSome, IfNone, cond, refl, ap, ◌∙◌, arith, length-append}
+use Rattle.std.proofs.Math.Seq.{get_or-append_seam}
+use Rattle.std.proofs.lemmas.Bool.{cases_lt, false≢true}
+use Rattle.std.proofs.lemmas.List.{get_or_past}
+use Rattle.jsonc_text.specs.Options.{Options}
+use Rattle.jsonc_text.specs.Plain.{Plain}
+use Rattle.jsonc_tree.specs.Building.{Keeps}
+use Rattle.jsonc_tree.specs.Content.{Content}
+use Rattle.jsonc_tree.specs.OrderedTree.{Top}
+use Rattle.jsonc_tree.specs.Tree.{Node, nowhere, content_at, IsTree}
+use Rattle.jsonc_layout.specs.nodes.Properties.{value_at}
+use Rattle.jsonc_layout.specs.from_input.Layout.{Layout}
+use Rattle.jsonc_layout.specs.from_input.Laid.{laid}
+use Rattle.jsonc_edit.specs.Reading.{layout_for, IsReplaced}
+use Rattle.jsonc_edit.specs.Written.{Writes}
+use Rattle.jsonc_edit.specs.set.Giving.{IsPropertyReplaced}
+use Rattle.jsonc_edit.specs.set.Kinds.{is_array, is_object, FoundOrCreated, FoundOrSet, KeptOrReplaced}
+use Rattle.jsonc_edit.specs.set.RootSet.{FirstValue}
+use Rattle.jsonc_edit.proofs.lemmas.set.Gaining.{gives_first_value}
+use Rattle.jsonc_edit.proofs.lemmas.set.WrittenProperty.{writes_property}
+use Rattle.jsonc_cst.specs.declared.cst.node.CstNode.{CstNode}
+use Rattle.jsonc_cst.specs.Nodes.{array_node, number_of, object_node, typed, typed_at}
+use Rattle.jsonc_cst.specs.typed.Setting.{PropertyBecomes, PropertyIsWritten, ValueBecomes, ValueIsWritten}
+use Rattle.jsonc_cst.proofs.lemmas.typed.Kept.{Stays, stay_both, stay_kept, stay_replaced, stay_same, stay_spaced, stay_spliced, replaced_there}
+
+-- where a first value has come
+module _ (old new : List Node) (v : Plain) (m : ℕ) (f : FirstValue old new v m) where
+  pub stay_first : Stays old new
+  stay_first = stay_both old f.ready new (stay_kept old f.ready f.prepared.keeps) (stay_spliced f.ready new _ _ _ _ f.put)
+
+  pub first_there : m < length new
+  first_there =
+      let within : length f.before < length (f.before ++ m ∷ f.behind) = omega (arith, length-append f.before (m ∷ f.behind)) in
+      let there : get_or (f.before ++ m ∷ f.behind) (length f.before) 0 < length f.ready = f.join.there (length f.before) within in
+      omega (arith, there, get_or-append_seam f.before m f.behind 0, f.put.len)
+
+  pub first_content : content_at new m ≡ (laid (layout_for old 0 0) v).content
+  first_content = f.put.content m ∙ ap (λ (t : Top). t.content) f.is
+
+-- where a value has given way
+replaced_content : (old new : List Node) (n : ℕ) (v : Plain) (m : ℕ) (content : Content) → ((l : Layout) → (laid l v).content ≡ content)
+    → IsReplaced old new n v m → content_at new m ≡ content
+replaced_content old new n v m content made (c, said, g) =
+    g.place.replaces.spliced.content m ∙ ap (λ (t : Top). t.content) g.place.is ∙ made (layout_for old c n)
+
+-- where the root's value has been set
+pub set_there : (old new : List Node) (v : Plain) (o : Option ℕ) (m : ℕ) → ValueBecomes old new v o m → m < length new
+set_there old new v None m f = first_there old new v m f
+set_there old new v (Some n) m r = replaced_there old new n v m r
+
+pub stay_set : (old new : List Node) (v : Plain) (o : Option ℕ) (m : ℕ) → ValueBecomes old new v o m → Stays old new
+stay_set old new v None m f = stay_first old new v m f
+stay_set old new v (Some n) m r = stay_replaced old new n v m r
+
+-- by what the edit of numbers says
+pub becomes : (old new : List Node) (v : Plain) (o : Option ℕ) (m : ℕ) → IfSome o (λ n. IsReplaced old new n v m) → IfNone o (FirstValue old new v m)
+    → ValueBecomes old new v o m
+becomes old new v None m r f = f
+becomes old new v (Some n) m r f = r
+
+pub is_written : (p : Options) (old new : List Node) (v : Plain) (o : Option ℕ) (m : ℕ) → IsTree old → value_at old 0 ≡ o
+    → IfSome o (λ n. Writes p old new n m v) → IfNone o (FirstValue old new v m) → ValueIsWritten p old new v o m
+is_written p old new v None m tree e r f = λ sound writable. gives_first_value p old new v m tree sound e writable f
+is_written p old new v (Some n) m tree e r f = r
+
+-- an array or object that was found, or has been set
+module _ (kind : Content → Bool) (v : Plain) (old new : List Node) where
+  stay_created : (o answer : Option ℕ) → FoundOrCreated kind v old new o answer → Stays old new
+  stay_created None answer (m, said, f) = stay_first old new v m f
+  stay_created (Some n) answer (said, same) = stay_same old new same
+
+  pub kept_stays : (n m : ℕ) (b : Bool) → KeptOrReplaced b v old new n m → Stays old new
+  kept_stays n m true (here, same) = stay_same old new same
+  kept_stays n m false r = stay_replaced old new n v m r
+
+  stay_found : (o : Option ℕ) (m : ℕ) → FoundOrSet kind v old new o m → Stays old new
+  stay_found None m f = stay_first old new v m f
+  stay_found (Some n) m r = kept_stays n m (kind (content_at old n)) r
+
+  -- or want of memory was told
+  pub created_or_kept : {E : Type 0} (o : Option ℕ) (r : Result (Option ℕ) E) → IfOk r (FoundOrCreated kind v old new o)
+      → OnErr r (Keeps (length old) old new) → Stays old new
+  created_or_kept o (Ok answer) found kept = stay_created o answer found
+  created_or_kept o (Err e) found kept = stay_kept old new kept
+
+  pub set_or_kept : {E : Type 0} (o : Option ℕ) (r : Result ℕ E) → IfOk r (FoundOrSet kind v old new o)
+      → OnErr r (Keeps (length old) old new) → Stays old new
+  set_or_kept o (Ok m) found kept = stay_found o m found
+  set_or_kept o (Err e) found kept = stay_kept old new kept
+
+-- it is of its kind
+module _ (kind : Content → Bool) (v : Plain) (content : Content) (made : (l : Layout) → (laid l v).content ≡ content)
+    (is : (c : Content) → kind c ≡ true → c ≡ content) (old new : List Node) where
+  still_is : (n m : ℕ) → m ≡ n → new ≡ old → kind (content_at old n) ≡ true → content_at new m ≡ content
+  still_is n m here same e = ap (content_at new) here ∙ ap (λ ns. content_at ns n) same ∙ is (content_at old n) e
+
+  found_if : (n m : ℕ) → new ≡ old → (b : Bool) → kind (content_at old n) ≡ b → Some m ≡ cond b (Some n) None → content_at new m ≡ content
+  found_if n m same true e said = still_is n m (cc) same e
+  found_if n m same false e said = absurd (let wrong : Some m ≡ None = said in cc)
+
+  pub created_is : (o : Option ℕ) (m : ℕ) → FoundOrCreated kind v old new o (Some m) → content_at new m ≡ content
+  created_is None m (k, said, f) =
+      let here : m ≡ k = cc in
+      ap (content_at new) here ∙ first_content old new v k f ∙ made (layout_for old 0 0)
+  created_is (Some n) m (said, same) = found_if n m same (kind (content_at old n)) refl said
+
+  pub kept_is : (n m : ℕ) (b : Bool) → kind (content_at old n) ≡ b → KeptOrReplaced b v old new n m → content_at new m ≡ content
+  kept_is n m true e (here, same) = still_is n m here same e
+  kept_is n m false e r = replaced_content old new n v m content made r
+
+  pub set_is : (o : Option ℕ) (m : ℕ) → FoundOrSet kind v old new o m → content_at new m ≡ content
+  set_is None m f = first_content old new v m f ∙ made (layout_for old 0 0)
+  set_is (Some n) m r = kept_is n m (kind (content_at old n)) refl r
+
+pub object_is : (c : Content) → is_object c ≡ true → c ≡ Content.object
+object_is Content.object e = refl
+object_is c e = absurd (false≢true e)
+
+pub array_is : (c : Content) → is_array c ≡ true → c ≡ Content.array
+array_is Content.array e = refl
+array_is c e = absurd (false≢true e)
+
+-- what stands there is of its kind
+pub object_there : (ns : List Node) (n : ℕ) → content_at ns n ≡ Content.object → typed_at ns n ≡ object_node (record { number = n })
+object_there ns n e = ap (λ w. typed w n) e
+
+pub array_there : (ns : List Node) (n : ℕ) → content_at ns n ≡ Content.array → typed_at ns n ≡ array_node (record { number = n })
+array_there ns n e = ap (λ w. typed w n) e
+
+-- what is not `null` is there
+pub there_if : (ns : List Node) (n : ℕ) → (content_at ns n ≡ Content.null → ⊥) → n < length ns
+there_if ns n other =
+    elim (cases_lt n (length ns)) [
+      | inl l ↦ l
+      | inr g ↦ absurd (other (ap (λ (x : Node). x.content) (get_or_past ns n nowhere g)))
+    ]
+
+-- where a property has given way to another
+module _ (old new : List Node) (n : ℕ) (name : List ℕ) (v : Plain) (m : ℕ) where
+  pub property_there : IsPropertyReplaced old new n name v m → m < length new
+  property_there (c, said, g) =
+      let there : m < length g.spaced = g.place.replaces.join.there 0 (omega arith) in
+      omega (arith, there, g.place.replaces.spliced.len)
+
+  pub stay_property : IsPropertyReplaced old new n name v m → Stays old new
+  stay_property (c, said, g) =
+      stay_both old g.ready new (stay_kept old g.ready g.prepared.keeps)
+      (stay_both g.ready g.spaced new (stay_spaced _ g.ready g.spaced g.spaces) (stay_spliced g.spaced new _ _ _ _ g.place.replaces.spliced))
+
+-- and what that makes of a sound document
+pub property_is_written : (o : Options) (old new : List Node) (n : ℕ) (name : List ℕ) (v : Plain) (now : CstNode) → IsTree old
+    → PropertyBecomes old new n name v now → PropertyIsWritten old new o n name v now
+property_is_written o old new n name v now tree r = λ path c i sound at is element texts writable.
+    writes_property o old new path c i n (number_of now) name v tree sound at is element texts writable r

@@ -1,0 +1,198 @@
+-- What a call makes of the nodes is one step, of the edit that it is.
+use Rattle.std.proofs.Common.{◌≡◌, ◌⊎◌, inl, inr, ℕ, Bool, true, false, List, [], length, Option, Some, None, Result, Ok, Err, OnErr, OnOk, IfOk, IfSome, refl, sym, ap, subst, ◌∙◌, IsTrue}
+use Rattle.jsonc_text.specs.Options.{Options}
+use Rattle.jsonc_text.specs.Plain.{Plain}
+use Rattle.jsonc_tree.specs.Content as content
+use Rattle.jsonc_tree.specs.Content.{Content}
+use Rattle.jsonc_tree.specs.OrderedTree.{ordered_tree}
+use Rattle.jsonc_tree.specs.Tree.{Node, content_at, parent_at, IsTree, IsOver}
+use Rattle.jsonc_layout.specs.nodes.Kinds.{is_comment_at}
+use Rattle.jsonc_layout.specs.nodes.Properties.{lacks_name_at, value_at}
+use Rattle.jsonc_layout.specs.nodes.Siblings.{elements_at}
+use Rattle.jsonc_layout.specs.lines.Kinds.{holds_values}
+use Rattle.jsonc_sound.specs.SoundTrees.{SoundTree}
+use Rattle.jsonc_sound.specs.TreeChanges.{DocumentChanged}
+use Rattle.jsonc_layout.specs.from_input.Texts.{IsCharacters, IsOfTexts}
+use Rattle.jsonc_edit.specs.commas.Laws.{IsInSound}
+use Rattle.jsonc_edit.proofs.lemmas.commas.Within.{stays_outside, stays_outside_in_part}
+use Rattle.jsonc_edit.proofs.lemmas.commas.Documents.{keeps_document, keeps_in_part}
+use Rattle.jsonc_edit.proofs.lemmas.commas.Holders.{holder_path}
+use Rattle.jsonc_edit.specs.Changes.{top_at}
+use Rattle.jsonc_edit.specs.Comments.{CommentTaken, TakesOut}
+use Rattle.jsonc_edit.specs.Paths.{IsAt}
+use Rattle.jsonc_edit.specs.Reading.{IsReplaced}
+use Rattle.jsonc_edit.specs.declared.modes.TrailingCommaMode.{TrailingCommaMode}
+use Rattle.jsonc_insert.specs.Inserted.{ElementPut}
+use Rattle.jsonc_edit.specs.multiline.Multiline.{MadeMultiline}
+use Rattle.jsonc_edit.specs.remove.Removed.{TakesElement}
+use Rattle.jsonc_edit.specs.set.Booleans.{is_boolean, BooleanSet}
+use Rattle.jsonc_edit.specs.set.Giving.{IsPropertyReplaced}
+use Rattle.jsonc_edit.specs.set.Kinds.{FoundOrCreated, FoundOrSet}
+use Rattle.jsonc_edit.specs.set.PropertyValues.{HeldOrSet}
+use Rattle.jsonc_insert.specs.declared.named.shape.Over.{Over}
+use Rattle.jsonc_insert.specs.declared.named.shape.Over.TheVariants as over
+use Rattle.jsonc_insert.specs.declared.named.shape.Shape.{Shape}
+use Rattle.jsonc_insert.specs.named.Places.{IsPropertyAt}
+use Rattle.jsonc_insert.specs.named.Shapes.{is_of, empty_of}
+use Rattle.jsonc_run.specs.Edits.{replace, remove, remove_comment, set_root, clear_root, replace_property, ensure_root, set_value, ensure_value, set_boolean, ensure_multiline, insert_element, append_element, set_commas, set_some_commas, PropertyValueSet, RootSet}
+use Rattle.jsonc_run.specs.Places.{IsEntryAt}
+use Rattle.jsonc_run.specs.Steps.{IsChangedAt}
+use Rattle.jsonc_run.specs.promise.Steps.{IsCommentAt, IsStep, IsStepOf}
+use Rattle.jsonc_run.proofs.lemmas.promise.CommaSteps.{commas_lead, some_commas_lead}
+use Rattle.jsonc_run.proofs.lemmas.promise.Stepping.{made_leads, made_step}
+use Rattle.jsonc_cst.specs.declared.cst.node.CstNode.{CstNode}
+use Rattle.jsonc_cst.specs.declared.cst.node.CstObjectProp.{CstObjectProp}
+use Rattle.jsonc_cst.specs.Nodes.{number_of, object_prop_node, typed, typed_at, IsNodeOf}
+use Rattle.jsonc_cst.specs.typed.Edits.{is_name_in}
+use Rattle.jsonc_cst.specs.typed.Commas.{CommasSet, CommasSetInPart}
+use Rattle.jsonc_cst.specs.typed.Removing.{removal_of, IsCleared}
+use Rattle.jsonc_cst.specs.typed.Setting.{ValueBecomes}
+use Rattle.jsonc_cst.specs.typed.Steps.{IsHolder, IsReplacing, IsReplacingProperty, IsRemoving, IsSettingBoolean, IsSettingRoot, IsSettingValue, IsEnsuringRoot, IsEnsuringValue, IsSpreading, IsInserting, IsAppending, IsSettingCommas, IsSettingSomeCommas, IsClearing, IsValueIn, IsWholeOrAt}
+use Rattle.jsonc_cst.specs.typed.Values.{HeldBecomes}
+use Rattle.jsonc_cst.specs.declared.typed.removing.Removal.{Removal}
+use Rattle.jsonc_cst.specs.declared.typed.removing.Removal.TheVariants.{Clearing, OfComment, OfElement, OfLeaf}
+use Rattle.jsonc_cst.proofs.lemmas.typed.Places.{comment_kind, comment_number, entry_path, holder_at, holder_place, property_path, value_path, value_unnamed}
+
+-- a truth value is a value, and so is an array or object
+boolean_value : (ns : List Node) (n : ℕ) (c : Content) → content_at ns n ≡ c → is_boolean c ≡ true → IsValueIn ns (typed_at ns n)
+boolean_value ns n (content.boolean b) is e = subst (λ c. IsValueIn ns (typed c n)) (sym is) tt
+boolean_value ns n c is e = cc
+
+module _ (old new : List Node) (tree : IsTree old) (after : IsTree new) where
+  pub replaced_step : (n m : ℕ) (v : Plain) → IsOfTexts v → IsReplaced old new n v m → IsValueIn old (typed_at old n) → IsReplacing old new n v
+  replaced_step n m v texts r is =
+      made_step old new tree after IsAt (λ path. replace path v) n (λ path. texts) (λ o sound. value_path o old tree sound n is) (λ path over at. (n, m, at, r))
+
+  pub property_replaced_step : (n m : ℕ) (name : List ℕ) (v : Plain) → IsCharacters name → IsOfTexts v → IsPropertyReplaced old new n name v m → content_at old n ≡ content.property → IsReplacingProperty old new n name v
+  property_replaced_step n m name v named texts r is =
+      made_step old new tree after IsPropertyAt (λ path. replace_property path name v) n (λ path. (named, texts)) (λ o sound. property_path o old tree sound n is) (λ path over at. (n, m, at, r))
+
+  -- what is taken out
+  pub element_step : (n : ℕ) → TakesElement old new n → removal_of (typed_at old n) ≡ OfElement → IsRemoving old new OfElement n
+  element_step n taken is = λ alone.
+      made_step old new tree after IsEntryAt remove n (λ path. tt) (λ o sound. entry_path o old tree sound n is alone) (λ path over at. (n, at, taken))
+
+  comment_taken : (n : ℕ) → TakesOut old new n → IsOver old 0 n → IsTrue (is_comment_at old n) → CommentTaken old new n
+  comment_taken _ taken IsOver.itself is = absurd (let wrong : IsTrue (is_comment_at old 0) = is in let root : content_at old 0 ≡ content.root = tree.root_first in cc)
+  comment_taken n taken (IsOver.above {c = c} said rest) is =
+      record { tree = tree; after = after; below = IsOver.above said rest; comment = is; container = c; parent = said; taken = taken c said }
+
+  pub comment_step : (n : ℕ) → TakesOut old new n → removal_of (typed_at old n) ≡ OfComment → IsRemoving old new OfComment n
+  comment_step n taken is =
+      made_step old new tree after IsCommentAt remove_comment n (λ number. tt) (λ o sound. comment_number o old tree sound n is) (λ number over at. (n, at, comment_taken n taken over (comment_kind (content_at old n) n is)))
+
+  pub cleared_step : IsCleared old new → IsClearing old new
+  cleared_step cleared = made_leads old new tree after clear_root tt cleared
+
+  -- the document's value
+  root_becomes : (v : Plain) (o : Option ℕ) (m : ℕ) → ValueBecomes old new v o m → RootSet old new v o
+  root_becomes v None m r = (m, r)
+  root_becomes v (Some n) m r = (m, r)
+
+  pub root_step : (v : Plain) (m : ℕ) → IsOfTexts v → ValueBecomes old new v (value_at old 0) m → IsSettingRoot old new v
+  root_step v m texts r = made_leads old new tree after (set_root v) texts (root_becomes v (value_at old 0) m r)
+
+  pub created_step : (shape : Shape) (answer : Option ℕ) → FoundOrCreated (is_of shape) (empty_of shape) old new (value_at old 0) answer → IsEnsuringRoot old new shape over.Keep
+  created_step shape answer r = made_leads old new tree after (ensure_root shape over.Keep) tt (answer, r)
+
+  pub set_step : (shape : Shape) (m : ℕ) → FoundOrSet (is_of shape) (empty_of shape) old new (value_at old 0) m → IsEnsuringRoot old new shape over.Replace
+  set_step shape m r = made_leads old new tree after (ensure_root shape over.Replace) tt (m, r)
+
+  -- the value of a property
+  held_becomes : (p : ℕ) (v : Plain) (o : Option ℕ) (m : ℕ) → HeldBecomes old new p v o m → PropertyValueSet old new p v o
+  held_becomes p v None m r = (m, r)
+  held_becomes p v (Some n) m r = (m, r)
+
+  pub held_step : (p : ℕ) (v : Plain) (m : ℕ) → IsOfTexts v → HeldBecomes old new p v (value_at old p) m → content_at old p ≡ content.property → IsSettingValue old new p v
+  held_step p v m texts r is =
+      made_step old new tree after IsPropertyAt (λ path. set_value path v) p (λ path. texts) (λ o sound. property_path o old tree sound p is) (λ path over at. (p, at, held_becomes p v (value_at old p) m r))
+
+  pub held_shape_step : (p : ℕ) (shape : Shape) (m : ℕ) → lacks_name_at old p ≡ false → HeldOrSet (is_of shape) (empty_of shape) old new p (value_at old p) m → content_at old p ≡ content.property
+      → IsEnsuringValue old new p shape
+  held_shape_step p shape m named r is =
+      made_step old new tree after IsPropertyAt (λ path. ensure_value path shape) p (λ path. tt) (λ o sound. property_path o old tree sound p is) (λ path over at. (p, at, (named, m, r)))
+
+  pub boolean_step : (n : ℕ) (b : Bool) → BooleanSet old new n b → is_boolean (content_at old n) ≡ true → IsSettingBoolean old new n b
+  boolean_step n b set is =
+      made_step old new tree after IsAt (λ path. set_boolean path b) n (λ path. tt) (λ o sound. value_path o old tree sound n (boolean_value old n (content_at old n) refl is)) (λ path over at. (n, (at, is), set))
+
+  -- an array or object
+  pub spread_step : (n : ℕ) → MadeMultiline old new n → IsTrue (holds_values (content_at old n)) → IsSpreading old new n
+  spread_step n made holds =
+      made_step old new tree after IsAt ensure_multiline n (λ path. tt) (λ o sound over. holder_path o old tree sound n over holds) (λ path over at. (n, (at, holds), made))
+
+  pub inserted_step : (n i m : ℕ) (v : Plain) → IsOfTexts v → ElementPut old new n i v m → content_at old n ≡ content.array → IsInserting old new n i v
+  inserted_step n i m v texts put is =
+      made_step old new tree after IsAt (λ path. insert_element path i v) n (λ path. texts) (λ o sound over. holder_path o old tree sound n over (ap holds_values is)) (λ path over at. (n, m, (at, is), put))
+
+  pub appended_step : (n m : ℕ) (v : Plain) → IsOfTexts v → ElementPut old new n (length (elements_at old n)) v m → content_at old n ≡ content.array → IsAppending old new n v
+  appended_step n m v texts put is =
+      made_step old new tree after IsAt (λ path. append_element path v) n (λ path. texts) (λ o sound over. holder_path o old tree sound n over (ap holds_values is)) (λ path over at. (n, m, (at, is), put))
+
+-- trailing commas
+module _ (old new : List Node) (tree : IsTree old) where
+  commas_place : (o : Options) → SoundTree o (ordered_tree old 0) → (n : ℕ) → IsHolder (typed_at old n) → IsOver old 0 n → (path : List ℕ) → IsWholeOrAt old path n
+      → ((at : IsAt old path n) → IsTrue (holds_values (content_at old n)) → DocumentChanged (top_at old n) (top_at new n) path (ordered_tree old 0) (ordered_tree new 0))
+      → (path ≡ []) ⊎ IsChangedAt path (ordered_tree old 0) (ordered_tree new 0)
+  commas_place o sound n holder over path place changed =
+      elim place [ inl whole ↦ inl whole.1 | inr at ↦ inr (top_at old n, top_at new n, changed at (holder_at o old tree sound n holder path at)) ]
+
+  pub commas_step : (mode : TrailingCommaMode) (n : ℕ) → CommasSet old new mode n → IsHolder (typed_at old n) → IsSettingCommas old new mode n
+  commas_step mode n set holder = λ over d shown.
+      let place = holder_place d.options old tree shown.sound n holder over in
+      let within = commas_place d.options shown.sound n holder over place.0 place.1 (λ at holds. stays_outside mode old n place.0 new tree over holds at set) in
+      (place.0, place.1, commas_lead mode old new (λ o sound. keeps_document mode o old n (record { tree = tree; over = over; sound = sound }) new set) place.0 within d shown)
+
+  pub some_commas_step : (mode : TrailingCommaMode) (n : ℕ) → CommasSetInPart old new mode n → IsHolder (typed_at old n) → IsSettingSomeCommas old new mode n
+  some_commas_step mode n part holder = λ over d shown.
+      let place = holder_place d.options old tree shown.sound n holder over in
+      let within = commas_place d.options shown.sound n holder over place.0 place.1 (λ at holds. stays_outside_in_part mode old n place.0 new tree over holds at part) in
+      (place.0, place.1, some_commas_lead mode old new (λ o sound. keeps_in_part mode o old n (record { tree = tree; over = over; sound = sound }) new part) place.0 within d shown)
+
+-- what follows from what is answered is answered
+pub ok_then : {T E : Type 0} {P Q : Type 0} (r : Result T E) → (P → Q) → OnOk r P → OnOk r Q
+ok_then (Ok x) f h = f h
+ok_then (Err e) f h = tt
+
+pub ok_with : {T E : Type 0} {P : T → Type 0} {Q : Type 0} (r : Result T E) → ((x : T) → P x → Q) → IfOk r P → OnOk r Q
+ok_with (Ok x) f h = f x h
+ok_with (Err e) f h = tt
+
+pub err_then : {T E : Type 0} {P Q : Type 0} (r : Result T E) → (P → Q) → OnErr r P → OnErr r Q
+err_then (Ok x) f h = tt
+err_then (Err e) f h = f h
+
+some_then : {T : Type 0} {P Q : Type 0} (o : Option T) → (P → Q) → IfSome o (λ m. P) → IfSome o (λ m. Q)
+some_then (Some x) f h = f h
+some_then None f h = tt
+
+pub answer_then : {T E : Type 0} {P Q : Type 0} (r : Result (Option T) E) → (P → Q) → IfOk r (λ o. IfSome o (λ m. P)) → IfOk r (λ o. IfSome o (λ m. Q))
+answer_then (Ok o) f h = some_then o f h
+answer_then (Err e) f h = tt
+
+-- a property that is there is one
+property_of : (c : Content) (n : ℕ) (x : CstObjectProp) → typed c n ≡ object_prop_node x → c ≡ content.property
+property_of content.property n x e = refl
+property_of _ n x e = cc
+
+pub property_held : (ns : List Node) (x : CstObjectProp) → IsNodeOf ns (object_prop_node x) → content_at ns x.number ≡ content.property
+property_held ns x held = property_of (content_at ns x.number) x.number x held.1
+
+-- a node that is there is what it says
+module _ (old new : List Node) (node : CstNode) (held : IsNodeOf old node) where
+  pub replaced_on : {E : Type 0} (v : Plain) (r : Result (Option CstNode) E)
+      → IfOk r (λ o. IfSome o (λ m. is_name_in old (number_of node) ≡ false → IsValueIn old (typed_at old (number_of node)) → IsReplacing old new (number_of node) v))
+      → IfOk r (λ o. IfSome o (λ m. IsValueIn old node → IsReplacing old new (number_of node) v))
+  replaced_on v r h = answer_then r (λ step is. let typed : IsValueIn old (typed_at old (number_of node)) = subst (IsValueIn old) (sym held.1) is in step (value_unnamed old (number_of node) typed) typed) h
+
+  pub removed_on : {T E : Type 0} (r : Result T E)
+      → OnOk r (removal_of (typed_at old (number_of node)) ≡ removal_of node → IsRemoving old new (removal_of node) (number_of node)) → OnOk r (IsRemoving old new (removal_of node) (number_of node))
+  removed_on r h = ok_then r (λ step. step (ap removal_of held.1)) h
+
+  pub commas_on : {T E : Type 0} (mode : TrailingCommaMode) (r : Result T E) → OnOk r (IsHolder (typed_at old (number_of node)) → IsSettingCommas old new mode (number_of node))
+      → OnOk r (IsHolder node → IsSettingCommas old new mode (number_of node))
+  commas_on mode r h = ok_then r (λ step is. step (subst IsHolder (sym held.1) is)) h
+
+  pub some_commas_on : {T E : Type 0} (mode : TrailingCommaMode) (r : Result T E) → OnErr r (IsHolder (typed_at old (number_of node)) → IsSettingSomeCommas old new mode (number_of node))
+      → OnErr r (IsHolder node → IsSettingSomeCommas old new mode (number_of node))
+  some_commas_on mode r h = err_then r (λ step is. step (subst IsHolder (sym held.1) is)) h

@@ -1,0 +1,19 @@
+use Rattle.std.proofs.Common.{sym, ap, subst, ◌∙◌}
+use Rattle.jsonc_tree.specs.Tree.{content_at}
+use Rattle.jsonc_cst.specs.Nodes.{number_of, IsNodeOf}
+use Rattle.jsonc_cst.proofs.Family.{number_of-typed}
+use Rattle.jsonc_cst.proofs.lemmas.typed.Roots.{array_there}
+use Rattle.jsonc_cst.proofs.typed.setting.array_at.Goals as goal
+
+pub unreachable-requires : goal.unreachable-requires
+unreachable-requires g c =
+    c.in_default.not-Some (record { number = c.args.number })
+    ((c.as_array.ensures (record { number = c.args.number })).1 (c.node_at.ensures.node ∙ array_there c.args.tree.now.nodes c.args.number c.requires))
+
+pub returns-clause-number : goal.returns-clause-number
+returns-clause-number g c =
+    ap number_of (sym ((c.as_array.ensures c.in-Some.array).0 c.in-Some.is) ∙ c.node_at.ensures.node)
+    ∙ number_of-typed (content_at c.args.tree.now.nodes c.args.number) c.args.number
+
+pub returns-clause-held : goal.returns-clause-held
+returns-clause-held g c = subst (IsNodeOf c.args.tree.now.nodes) ((c.as_array.ensures c.in-Some.array).0 c.in-Some.is) c.node_at.ensures.held

@@ -1,0 +1,73 @@
+-- Values of properties by name: found, or set.
+use Rattle.std.specs.Prelude.{ℕ, List, Option, Some, None}
+use Rattle.jsonc_text.specs.Options.{Options}
+use Rattle.jsonc_tree.specs.OrderedTree.{ordered_tree}
+use Rattle.jsonc_tree.specs.Tree.{Node}
+use Rattle.jsonc_layout.specs.from_input.Texts.{IsCharacters}
+use Rattle.jsonc_sound.specs.SoundTrees.{SoundTree}
+use Rattle.jsonc_edit.specs.Paths.{IsAt}
+use Rattle.jsonc_edit.specs.declared.error.EditError.{EditError}
+use Rattle.jsonc_insert.specs.declared.named.shape.Over.{Over}
+use Rattle.jsonc_insert.specs.declared.named.shape.Over.TheVariants.{Replace}
+use Rattle.jsonc_insert.specs.declared.named.shape.Shape.{Shape}
+use Rattle.jsonc_insert.specs.declared.named.shape.Shape.TheVariants.{Object, Array}
+use Rattle.jsonc_insert.specs.named.Laws.{IsNamedWritten}
+use Rattle.jsonc_insert.specs.named.Named.{IsUnensured, NamedEnsured}
+use Rattle.jsonc_cst.specs.declared.cst.CstRootNode.{CstRootNode}
+use Rattle.jsonc_cst.specs.declared.cst.node.CstArray.{CstArray}
+use Rattle.jsonc_cst.specs.declared.cst.node.CstNode.{CstNode}
+use Rattle.jsonc_cst.specs.declared.cst.node.CstObject.{CstObject}
+use Rattle.jsonc_cst.specs.Document.{nodes_of}
+use Rattle.jsonc_run.specs.promise.Steps.{IsStep}
+use Rattle.jsonc_run.specs.Edits.{ensure_property}
+use Rattle.jsonc_cst.specs.Nodes.{number_of}
+
+abbrev pub object_number : Option CstObject → Option ℕ
+object_number None = None
+object_number (Some x) = Some x.number
+
+abbrev pub array_number : Option CstArray → Option ℕ
+array_number None = None
+array_number (Some x) = Some x.number
+
+module _ (old new : List Node) where
+  -- the first property of the name in c has an object as its value, or another that was to stay; the object is answered
+  abbrev pub ObjectEnsured : Over → ℕ → List ℕ → Option CstObject → Type 0
+  ObjectEnsured how c name answer = NamedEnsured Object how old new c name (object_number answer)
+
+  -- or an array
+  abbrev pub ArrayEnsured : Over → ℕ → List ℕ → Option CstArray → Type 0
+  ArrayEnsured how c name answer = NamedEnsured Array how old new c name (array_number answer)
+
+  -- If c stands at a path of a sound document, that may hold the name, the text is a document again, in which that property alone has changed, or has come
+  -- last; and the document is sound.
+  abbrev pub NamedIsWritten : Options → ℕ → List ℕ → Shape → Over → Type 0
+  NamedIsWritten o c name shape how =
+      SoundTree o (ordered_tree old 0) → IsCharacters name → (path : List ℕ) → IsAt old path c
+      → IsNamedWritten o path name shape how (ordered_tree old 0) (ordered_tree new 0)
+
+  -- which edit that is, if c is an object that stands in the document
+  abbrev pub IsEnsuringNamed : ℕ → List ℕ → Shape → Over → Type 0
+  IsEnsuringNamed c name shape how = IsStep IsAt (λ path. ensure_property path name shape how) old new c
+
+-- the same of a document
+module _ {A : Type 0} (old new : CstRootNode A) where
+  abbrev pub HasEnsuredObject : Over → CstNode → List ℕ → Option CstObject → Type 0
+  HasEnsuredObject how node name answer = ObjectEnsured (nodes_of old) (nodes_of new) how (number_of node) name answer
+
+  abbrev pub HasEnsuredArray : Over → CstNode → List ℕ → Option CstArray → Type 0
+  HasEnsuredArray how node name answer = ArrayEnsured (nodes_of old) (nodes_of new) how (number_of node) name answer
+
+  -- where another gives way there is always one
+  abbrev pub HasSetObject : CstNode → List ℕ → CstObject → Type 0
+  HasSetObject node name x = HasEnsuredObject Replace node name (Some x)
+
+  abbrev pub HasSetArray : CstNode → List ℕ → CstArray → Type 0
+  HasSetArray node name x = HasEnsuredArray Replace node name (Some x)
+
+  abbrev pub HasWrittenNamed : Options → CstNode → List ℕ → Shape → Over → Type 0
+  HasWrittenNamed o node name shape how = NamedIsWritten (nodes_of old) (nodes_of new) o (number_of node) name shape how
+
+-- why not
+abbrev pub IsUnensuredIn : {A : Type 0} → CstRootNode A → Shape → Over → CstNode → List ℕ → EditError → Type 0
+IsUnensuredIn d shape how node name e = IsUnensured shape how (nodes_of d) (number_of node) name e

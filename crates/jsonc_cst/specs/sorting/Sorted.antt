@@ -1,0 +1,73 @@
+-- What a sort makes of a document.
+use Rattle.std.specs.Prelude.{◌≡◌, ◌<◌, ℕ, Bool, List, length, Option}
+use Rattle.jsonc_text.specs.Options.{Options}
+use Rattle.jsonc_tree.specs.OrderedTree.{OrderedTree, ordered_tree}
+use Rattle.jsonc_tree.specs.Tree.{Node}
+use Rattle.jsonc_layout.specs.nodes.Siblings.{elements_at}
+use Rattle.jsonc_sound.specs.SoundTrees.{SoundTree}
+use Rattle.jsonc_edit.specs.Paths.{IsAt}
+use Rattle.jsonc_run.specs.promise.Steps.{IsStep}
+use Rattle.jsonc_run.specs.Edits.{rearrange}
+use Rattle.jsonc_cst.specs.typed.Edits.{StaysElsewhere}
+use Rattle.jsonc_sort.specs.Paths.{KeepsOutside, SaysSorted, SortedAt}
+use Rattle.jsonc_sort.specs.Rearranged.{IsOrderIn, Rearranged, headers_of}
+use Rattle.jsonc_sort.specs.Sorting.{Headers}
+use Rattle.jsonc_cst.specs.declared.cst.CstRootNode.{CstRootNode}
+use Rattle.jsonc_cst.specs.declared.cst.node.CstArray.{CstArray}
+use Rattle.jsonc_cst.specs.declared.cst.node.CstNode.{CstNode}
+use Rattle.jsonc_cst.specs.declared.cst.node.CstObject.{CstObject}
+use Rattle.jsonc_cst.specs.declared.cst.node.CstObjectProp.{CstObjectProp}
+use Rattle.jsonc_cst.specs.Document.{nodes_of}
+use Rattle.jsonc_cst.specs.Nodes.{array_node, number_of, object_node}
+use Rattle.jsonc_cst.specs.sorting.Pins.{pins_where}
+use Rattle.jsonc_cst.specs.sorting.Rows.{elements_asked, properties_asked, starts_of}
+
+-- the entries at the path have come in this order, no leaf outside of them has changed, and the text is a document again that says so
+pub record IsSortedAt (o : Options) (path order : List ℕ) (t u : OrderedTree) : Type 0 where
+  pub sorted : SortedAt path order t u
+  pub outside : KeepsOutside sorted
+  pub says : SaysSorted o path order t u
+
+-- so it is where c stands at a path of a sound document
+abbrev pub SortsAtItsPath : Options → List Node → List Node → ℕ → List ℕ → Type 0
+SortsAtItsPath o old new c order =
+    SoundTree o (ordered_tree old 0) → (path : List ℕ) → IsAt old path c → IsSortedAt o path order (ordered_tree old 0) (ordered_tree new 0)
+
+-- The elements of c have come in the order, with what belongs to them; where there are less than two, no node has changed, and where c does not stand in the
+-- document, nothing of this has. Where it does, that is one step.
+pub record IsPlaced (old new : List Node) (c : ℕ) (h : Headers) (order : List ℕ) : Type 0 where
+  pub all : IsOrderIn old c order
+  pub made : Rearranged old new c h order
+  pub few : length (elements_at old c) < 2 → new ≡ old
+  pub elsewhere : StaysElsewhere old new c
+  pub written : (o : Options) → SortsAtItsPath o old new c order
+  pub step : IsStep IsAt (λ path. rearrange path h order) old new c
+
+-- they have come in an order that is wanted
+pub record HasSorted {A : Type 0} (old new : CstRootNode A) (node : CstNode) (h : Headers) (IsWanted : List ℕ → Type 0) : Type 0 where
+  pub order : List ℕ
+  pub wanted : IsWanted order
+  pub placed : IsPlaced (nodes_of old) (nodes_of new) (number_of node) h order
+
+-- so many comments are pinned above each as a rule has said, and blank lines part the elements, or do not
+abbrev pub HasSortedBy : {A : Type 0} → CstRootNode A → CstRootNode A → CstNode → (List (Option ℕ) → Type 0) → Bool → (List ℕ → Type 0) → Type 0
+HasSortedBy old new node ArePinned groups IsWanted =
+    (pins : List (Option ℕ)) × ArePinned pins × HasSorted old new node (headers_of pins groups) IsWanted
+
+-- So the elements of an array, by what a rule pins of them and what is wanted of them and their groups; and the properties of an object.
+abbrev pub ElementsSorted : {A : Type 0} → CstRootNode A → CstRootNode A → CstArray → (CstNode → List (Option CstNode) → List (Option ℕ) → Type 0)
+    → Bool → (List (Option CstNode) → List ℕ → List ℕ → Type 0) → Type 0
+ElementsSorted old new array ArePinned groups IsWanted =
+    HasSortedBy old new (array_node array) (ArePinned (array_node array) (elements_asked old (array_node array))) groups
+    (IsWanted (elements_asked old (array_node array)) (starts_of old (array_node array) groups))
+
+abbrev pub PropertiesSorted : {A : Type 0} → CstRootNode A → CstRootNode A → CstObject → (CstNode → List (Option CstObjectProp) → List (Option ℕ) → Type 0)
+    → Bool → (List (Option CstObjectProp) → List ℕ → List ℕ → Type 0) → Type 0
+PropertiesSorted old new object ArePinned groups IsWanted =
+    HasSortedBy old new (object_node object) (ArePinned (object_node object) (properties_asked old (object_node object))) groups
+    (IsWanted (properties_asked old (object_node object)) (starts_of old (object_node object) groups))
+
+-- So an array or object, with comments pinned by blank lines or not, and blank lines that part its entries or do not, by what is wanted of these and their groups.
+abbrev pub ContainerSorted : {A : Type 0} → CstRootNode A → CstRootNode A → CstNode → Bool → Bool → (List (Option CstNode) → List ℕ → List ℕ → Type 0) → Type 0
+ContainerSorted old new node pin groups IsWanted =
+    HasSorted old new node (headers_of (pins_where old node pin) groups) (IsWanted (elements_asked old node) (starts_of old node groups))

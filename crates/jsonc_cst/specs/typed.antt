@@ -1,0 +1,11 @@
+pub mod Around
+pub mod Commas
+pub mod Edits
+pub mod Inserting
+pub mod Lines
+pub mod Marked
+pub mod Raw
+pub mod Removing
+pub mod Setting
+pub mod Steps
+pub mod Values

@@ -1,0 +1,60 @@
+-- Trailing commas that are set, or taken away.
+use Rattle.std.specs.Prelude.{◌≡◌, ℕ, List}
+use Rattle.std.specs.List.{All}
+use Rattle.jsonc_text.specs.Options.{Options}
+use Rattle.jsonc_tree.specs.OrderedTree.{ordered_tree}
+use Rattle.jsonc_tree.specs.Tree.{Node, IsOver}
+use Rattle.jsonc_sound.specs.SoundTrees.{SoundTree}
+use Rattle.jsonc_edit.specs.declared.modes.TrailingCommaMode.{TrailingCommaMode}
+use Rattle.jsonc_edit.specs.commas.InTurn.{holders, AreSetInPart, AreSetInTurn}
+use Rattle.jsonc_edit.specs.commas.Laws.{AreAsSaid, IsSet, SaysTheSame}
+use Rattle.jsonc_cst.specs.declared.cst.CstRootNode.{CstRootNode}
+use Rattle.jsonc_cst.specs.declared.cst.node.CstNode.{CstNode}
+use Rattle.jsonc_cst.specs.Document.{nodes_of}
+use Rattle.jsonc_cst.specs.Nodes.{number_of}
+
+module _ (old new : List Node) where
+  -- the trailing comma of n, and of each array and object below it, has been set, one after another
+  abbrev pub CommasSet : TrailingCommaMode → ℕ → Type 0
+  CommasSet mode n = AreSetInTurn mode old (holders old n) new
+
+  -- those of the first of them have, and the next wants a comma
+  abbrev pub CommasSetInPart : TrailingCommaMode → ℕ → Type 0
+  CommasSetInPart mode n = AreSetInPart mode old (holders old n) new
+
+  -- If n is a node of a sound document, the text is one of the same value, with what the mode sets allowed; its literals and comments are those that it had,
+  -- commas alone have left or come, and the document is sound.
+  abbrev pub CommasWritten : TrailingCommaMode → Options → ℕ → Type 0
+  CommasWritten mode o n = SoundTree o (ordered_tree old 0) → IsOver old 0 n → SaysTheSame mode o (ordered_tree old 0) (ordered_tree new 0)
+
+  -- each of them is as the mode says now, save where more than one comma stood behind the last element; n may be a node of a damaged document, or of none
+  abbrev pub CommasSaid : TrailingCommaMode → ℕ → Type 0
+  CommasSaid mode n = AreAsSaid mode old new n
+
+  -- and in a sound document each of them is as the mode says
+  abbrev pub CommasStand : TrailingCommaMode → Options → ℕ → Type 0
+  CommasStand mode o n = SoundTree o (ordered_tree old 0) → IsOver old 0 n → All (IsSet mode new) (holders new n)
+
+  -- so a further call by the same mode changes nothing
+  abbrev pub CommasStay : TrailingCommaMode → Options → ℕ → Type 0
+  CommasStay mode o n = SoundTree o (ordered_tree old 0) → IsOver old 0 n → (later : List Node) → AreSetInTurn mode new (holders new n) later → later ≡ new
+
+-- the same of a document
+module _ {A : Type 0} (old new : CstRootNode A) where
+  abbrev pub HasSetCommas : TrailingCommaMode → CstNode → Type 0
+  HasSetCommas mode node = CommasSet (nodes_of old) (nodes_of new) mode (number_of node)
+
+  abbrev pub HasSetCommasInPart : TrailingCommaMode → CstNode → Type 0
+  HasSetCommasInPart mode node = CommasSetInPart (nodes_of old) (nodes_of new) mode (number_of node)
+
+  abbrev pub HasCommasAsSaid : TrailingCommaMode → CstNode → Type 0
+  HasCommasAsSaid mode node = CommasSaid (nodes_of old) (nodes_of new) mode (number_of node)
+
+  abbrev pub HasWrittenCommas : TrailingCommaMode → Options → CstNode → Type 0
+  HasWrittenCommas mode o node = CommasWritten (nodes_of old) (nodes_of new) mode o (number_of node)
+
+  abbrev pub HasCommasAsSet : TrailingCommaMode → Options → CstNode → Type 0
+  HasCommasAsSet mode o node = CommasStand (nodes_of old) (nodes_of new) mode o (number_of node)
+
+  abbrev pub HasCommasThatStay : TrailingCommaMode → Options → CstNode → Type 0
+  HasCommasThatStay mode o node = CommasStay (nodes_of old) (nodes_of new) mode o (number_of node)

@@ -1,0 +1,156 @@
+-- What is taken out with a node, by its kind, and why it is not.
+use Rattle.std.specs.Prelude.{◌≡◌, ℕ, ◌+◌, List, [], ◌∷◌, length, Some, None, IsTrue}
+use Rattle.jsonc_text.specs.Options.{Options}
+use Rattle.jsonc_tree.specs.Changes.{Splices}
+use Rattle.jsonc_tree.specs.Content.{comment}
+use Rattle.jsonc_tree.specs.OrderedTree.{ordered_tree}
+use Rattle.jsonc_tree.specs.Tree.{Node, content_at, parent_at, children_at, place_at, IsOver}
+use Rattle.jsonc_layout.specs.lines.Kinds.{holds_values}
+use Rattle.jsonc_sound.specs.Marks.{marks}
+use Rattle.jsonc_sound.specs.SoundTrees.{SoundTree}
+use Rattle.jsonc_edit.specs.declared.error.EditError.{EditError}
+use Rattle.jsonc_edit.specs.declared.error.EditError.TheVariants.{OutOfMemory}
+use Rattle.jsonc_edit.specs.Changes.{top_at}
+use Rattle.jsonc_edit.specs.Comments.{CommentLeaves, CommentLeavesAlone, TakesOut, WantsSpace}
+use Rattle.jsonc_edit.specs.Paths.{IsAt, IsElementOf}
+use Rattle.jsonc_edit.specs.remove.Laws.{EntryTaken, IsEntryRemoved, IsValueRemoved, ValueTaken}
+use Rattle.jsonc_edit.specs.remove.Removed.{IsKeptFor, TakesElement}
+use Rattle.jsonc_edit.specs.set.Laws.{IsBareDocument}
+use Rattle.jsonc_cst.specs.declared.cst.CstRootNode.{CstRootNode}
+use Rattle.jsonc_cst.specs.declared.cst.node.CstNode.{CstNode}
+use Rattle.jsonc_cst.specs.declared.cst.node.CstContainerNode.TheVariants.{Root, Array, Object, ObjectProp}
+use Rattle.jsonc_cst.specs.declared.cst.node.CstLeafNode.TheVariants.{BooleanLit, NullKeyword, NumberLit, StringLit, WordLit, Token, Whitespace, Newline, Comment}
+use Rattle.jsonc_cst.specs.declared.cst.node.CstNode.TheVariants.{Container, Leaf}
+use Rattle.jsonc_cst.specs.Document.{nodes_of}
+use Rattle.jsonc_cst.specs.Nodes.{number_of}
+use Rattle.jsonc_cst.specs.typed.Edits.{IsNobodys, StaysElsewhere}
+use Rattle.jsonc_cst.specs.declared.typed.removing.Removal.{Removal}
+use Rattle.jsonc_cst.specs.declared.typed.removing.Removal.TheVariants.{Clearing, OfComment, OfElement, OfLeaf}
+
+-- how a node is taken out: of the root all that stands in it, a comment and an element with what leaves with it, and any other leaf alone
+abbrev pub removal_of : CstNode → Removal
+removal_of (Container (Root x)) = Clearing
+removal_of (Container (Array x)) = OfElement
+removal_of (Container (Object x)) = OfElement
+removal_of (Container (ObjectProp x)) = OfElement
+removal_of (Leaf (BooleanLit x)) = OfElement
+removal_of (Leaf (NullKeyword x)) = OfElement
+removal_of (Leaf (NumberLit x)) = OfElement
+removal_of (Leaf (StringLit x)) = OfElement
+removal_of (Leaf (WordLit x)) = OfElement
+removal_of (Leaf (Token x)) = OfLeaf
+removal_of (Leaf (Whitespace x)) = OfLeaf
+removal_of (Leaf (Newline x)) = OfLeaf
+removal_of (Leaf (Comment x)) = OfComment
+
+-- wherever the node has a parent it alone has left that
+abbrev pub LeavesAlone : List Node → List Node → ℕ → Type 0
+LeavesAlone old new n = (c : ℕ) → parent_at old n ≡ Some c → Splices old new c (place_at old n) (place_at old n + 1) []
+
+-- the root's children have all left it
+abbrev pub IsCleared : List Node → List Node → Type 0
+IsCleared old new = Splices old new 0 0 (length (children_at old 0)) []
+
+-- so the node n has been taken out
+abbrev pub IsTakenBy : Removal → List Node → List Node → ℕ → Type 0
+IsTakenBy Clearing old new n = IsCleared old new
+IsTakenBy OfComment old new n = TakesOut old new n
+IsTakenBy OfElement old new n = TakesElement old new n
+IsTakenBy OfLeaf old new n = LeavesAlone old new n
+
+-- so it stays as it is: it is nobody's child
+abbrev pub IsLooseFor : Removal → List Node → ℕ → Type 0
+IsLooseFor Clearing ns n = ⊥
+IsLooseFor OfComment ns n = parent_at ns n ≡ None
+IsLooseFor OfElement ns n = parent_at ns n ≡ None
+IsLooseFor OfLeaf ns n = parent_at ns n ≡ None
+
+-- why it has not been taken out: the memory of a space that is due was wanted, or the array or object of an element lacks brackets
+abbrev pub IsKeptBy : Removal → List Node → ℕ → EditError → Type 0
+IsKeptBy Clearing ns n e = ⊥
+IsKeptBy OfComment ns n e = (e ≡ OutOfMemory) × WantsSpace ns n
+IsKeptBy OfElement ns n e = IsKeptFor ns n e
+IsKeptBy OfLeaf ns n e = ⊥
+
+-- Where the node stood in an array or object at a path of a document, this is one without that entry, sound, and of its marks those of the entry have left, and
+-- comments beside it; where it was the document's value, the document has none.
+pub record IsElementGone (o : Options) (old new : List Node) (n : ℕ) : Type 0 where
+  pub entry : (path : List ℕ) (c i : ℕ) → IsAt old path c → IsTrue (holds_values (content_at old c)) → IsElementOf old c i n
+      → IsEntryRemoved o path i (top_at old n) (ordered_tree old 0) (ordered_tree new 0)
+  pub value : IsElementOf old 0 0 n → IsValueRemoved o (top_at old n) (ordered_tree old 0) (ordered_tree new 0)
+
+-- so it is if the old document is sound and the node leaves with what leaves with it; a cleared document has no value and no marks, and is sound
+abbrev pub IsWrittenBy : Removal → Options → List Node → List Node → ℕ → Type 0
+IsWrittenBy Clearing o old new n = IsBareDocument o (ordered_tree new 0)
+IsWrittenBy OfComment o old new n = CommentLeaves o old new n
+IsWrittenBy OfElement o old new n = SoundTree o (ordered_tree old 0) → IsElementGone o old new n
+IsWrittenBy OfLeaf o old new n = Unit {0}
+
+-- Where the node stood in an array or object at a path of a sound document, nothing outside that has changed but for the spaces that have come, and in its row
+-- the entry has left with what leaves with it; where it was the document's value, so in the root's row.
+pub record IsTakenAlone (old new : List Node) (n : ℕ) : Type 0 where
+  pub entry : (path : List ℕ) (c i : ℕ) → IsAt old path c → IsTrue (holds_values (content_at old c)) → IsElementOf old c i n
+      → EntryTaken path i (top_at old n) (ordered_tree old 0) (ordered_tree new 0)
+  pub value : IsElementOf old 0 0 n → ValueTaken (top_at old n) (ordered_tree old 0) (ordered_tree new 0)
+
+-- what stays around the node that was taken out: around a comment of the document all leaves but for the blanks before it that leave with it
+abbrev pub StaysAround : Removal → Options → List Node → List Node → ℕ → Type 0
+StaysAround Clearing o old new n = Unit {0}
+StaysAround OfComment o old new n = CommentLeavesAlone old new n
+StaysAround OfElement o old new n = SoundTree o (ordered_tree old 0) → IsTakenAlone old new n
+StaysAround OfLeaf o old new n = Unit {0}
+
+-- where the node does not stand in the document, this is what it was; the root always does
+abbrev pub StaysElsewhereBy : Removal → List Node → List Node → ℕ → Type 0
+StaysElsewhereBy Clearing old new n = Unit {0}
+StaysElsewhereBy OfComment old new n = StaysElsewhere old new n
+StaysElsewhereBy OfElement old new n = StaysElsewhere old new n
+StaysElsewhereBy OfLeaf old new n = StaysElsewhere old new n
+
+-- the node is nobody's child; the root never was one's
+abbrev pub IsNobodysBy : Removal → List Node → ℕ → Type 0
+IsNobodysBy Clearing ns n = Unit {0}
+IsNobodysBy OfComment ns n = IsNobodys ns n
+IsNobodysBy OfElement ns n = IsNobodys ns n
+IsNobodysBy OfLeaf ns n = IsNobodys ns n
+
+-- where the node is one of a sound document, only memory has been wanted: nothing that an edit needs is missing there
+abbrev pub WantsMemoryAlone : Options → List Node → ℕ → EditError → Type 0
+WantsMemoryAlone o ns n e = SoundTree o (ordered_tree ns 0) → IsOver ns 0 n → e ≡ OutOfMemory
+
+module _ {A : Type 0} where
+  -- so it is of the document
+  abbrev pub LeavesWritten : CstRootNode A → CstRootNode A → Options → CstNode → Type 0
+  LeavesWritten old new o node = IsWrittenBy (removal_of node) o (nodes_of old) (nodes_of new) (number_of node)
+
+  -- and so is what stays around it
+  abbrev pub LeavesAround : CstRootNode A → CstRootNode A → Options → CstNode → Type 0
+  LeavesAround old new o node = StaysAround (removal_of node) o (nodes_of old) (nodes_of new) (number_of node)
+
+  -- and elsewhere nothing changes
+  abbrev pub LeavesElsewhere : CstRootNode A → CstRootNode A → CstNode → Type 0
+  LeavesElsewhere old new node = StaysElsewhereBy (removal_of node) (nodes_of old) (nodes_of new) (number_of node)
+
+  -- the node is nobody's child
+  abbrev pub LeavesToNobody : CstRootNode A → CstNode → Type 0
+  LeavesToNobody d node = IsNobodysBy (removal_of node) (nodes_of d) (number_of node)
+
+  -- the node has been taken out of the document, with what leaves with it
+  abbrev pub HasLeft : CstRootNode A → CstRootNode A → CstNode → Type 0
+  HasLeft old new node = IsTakenBy (removal_of node) (nodes_of old) (nodes_of new) (number_of node)
+
+  -- the node alone has left its parent
+  abbrev pub HasLeftAlone : CstRootNode A → CstRootNode A → CstNode → Type 0
+  HasLeftAlone old new node = LeavesAlone (nodes_of old) (nodes_of new) (number_of node)
+
+  -- it is no root, and nobody's child
+  abbrev pub IsLoose : CstRootNode A → CstNode → Type 0
+  IsLoose d node = IsLooseFor (removal_of node) (nodes_of d) (number_of node)
+
+  -- why it has not been taken out
+  abbrev pub IsKeptIn : CstRootNode A → CstNode → EditError → Type 0
+  IsKeptIn d node e = IsKeptBy (removal_of node) (nodes_of d) (number_of node) e
+
+  -- if the node is one of the document, and this sound, only memory was wanted
+  abbrev pub IsKeptForMemory : CstRootNode A → Options → CstNode → EditError → Type 0
+  IsKeptForMemory d o node e = WantsMemoryAlone o (nodes_of d) (number_of node) e

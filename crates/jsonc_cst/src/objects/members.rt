@@ -1,0 +1,229 @@
+//! Properties that come into objects.
+
+ghost use Rattle.std.specs.Prelude.{◌≡◌, ◌<◌, IfErr, IfOk, OnErr, OnOk, chars, length, min, true};
+ghost use Rattle.jsonc_text.specs.Options.{Options};
+ghost use Rattle.jsonc_layout.specs.input.Views.{plain};
+ghost use Rattle.jsonc_tree.specs.Content.{Content};
+ghost use Rattle.jsonc_tree.specs.OrderedTree.{ordered_tree};
+ghost use Rattle.jsonc_tree.specs.Tree.{children_at, content_at, IsTree};
+ghost use Rattle.jsonc_layout.specs.nodes.Siblings.{elements_at};
+ghost use Rattle.jsonc_insert.specs.Inserted.{refusal};
+ghost use Rattle.jsonc_insert.specs.Planned.{has_brackets};
+ghost use Rattle.jsonc_insert.specs.Laws.{KeepsNodesBut};
+ghost use Rattle.jsonc_cst.specs.Document.{nodes_of, tree_of, Holds};
+ghost use Rattle.jsonc_cst.specs.Nodes.{number_of, object_node, object_prop_node, IsNodeOf};
+ghost use Rattle.jsonc_cst.specs.Tree.{NodesAreTree};
+ghost use Rattle.jsonc_cst.specs.typed.Edits.{KeepsElsewhere, StaysElsewhere, StillHolds, StillNodes};
+ghost use Rattle.jsonc_cst.specs.typed.Edits.{NodesStay, StaysAsItWas};
+ghost use Rattle.jsonc_cst.specs.typed.Inserting.{element_count, IsShutFor, KeepsOthers};
+ghost use Rattle.jsonc_cst.specs.typed.Removing.{IsKeptForMemory, WantsMemoryAlone};
+ghost use Rattle.jsonc_cst.specs.objects.Members.{HasNamedComeIn, IsAppendingNamed, IsInsertingNamed};
+ghost use Rattle.jsonc_cst.specs.objects.Members.{IsItsProperty, IsNamedAtItsPath};
+ghost use Rattle.jsonc_cst.specs.objects.Members.{NamedComesInAt, PropertyStandsAt, PutsNamedAtItsPath};
+
+use crate::cst::{
+    CstContainerNode, CstNode, CstObject, CstObjectProp, CstRootNode, EditError, IsNode, node_at,
+};
+use jsonc_insert::members::insert_property;
+use jsonc_layout::input::CstInputValue;
+use jsonc_tree::Tree;
+use std::alloc::Allocator;
+
+// The number of an object that the tree holds.
+pub(crate) fn object_number<A: Allocator>(tree: &Tree<A>, object: CstObject) -> usize
+    requires { IsNodeOf tree.now.nodes (object_node object) }
+    ensures number { result ≡ object.number }
+    ensures there { result < length tree.now.nodes }
+    ensures object { content_at tree.now.nodes result ≡ Content.object }
+{
+    object.node().number()
+}
+
+// The property of a number.
+fn property_at<A: Allocator>(tree: &Tree<A>, number: usize) -> CstObjectProp
+    requires there { number < length tree.now.nodes }
+    requires property { content_at tree.now.nodes number ≡ Content.property }
+    ensures number { result.number ≡ number }
+    ensures held { IsNodeOf tree.now.nodes (object_prop_node result) }
+{
+    match node_at(tree, number) {
+        CstNode::Container(CstContainerNode::ObjectProp(property)) => property,
+        _ => unreachable!(),
+    }
+}
+
+// Puts a property into an object, as its property of this number or the last, and answers it.
+fn insert_at<A: Allocator + Copy>(
+    alloc: A,
+    tree: &mut Tree<A>,
+    object: usize,
+    index: usize,
+    name: &str,
+    value: &CstInputValue<A>,
+) -> Result<CstObjectProp, EditError>
+    requires there { object < length tree.old.nodes }
+    requires object { content_at tree.old.nodes object ≡ Content.object }
+    ensures put { IfOk result
+        (NamedComesInAt tree.old.nodes tree.new.nodes object
+        (min index (length (elements_at tree.old.nodes object))) (chars name.now) (plain value.now)) }
+    ensures property { IfOk result (PropertyStandsAt tree.old.nodes tree.new.nodes object index) }
+    ensures written { (o : Options)
+        → OnOk result
+        (PutsNamedAtItsPath o tree.old.nodes tree.new.nodes object
+        (min index (length (elements_at tree.old.nodes object))) (chars name.now) (plain value.now)) }
+    ensures step { OnOk result
+        (IsInsertingNamed tree.old.nodes tree.new.nodes object index (chars name.now) (plain value.now)) }
+    ensures others { OnOk result (KeepsNodesBut tree.old.nodes tree.new.nodes object) }
+    ensures elsewhere { OnOk result (StaysElsewhere tree.old.nodes tree.new.nodes object) }
+    ensures brackets { OnOk result (has_brackets tree.old.nodes (children_at tree.old.nodes object) ≡ true) }
+    ensures told { IfErr result (λ e. e ≡ refusal tree.old.nodes object) }
+    ensures memory { (o : Options) → IfErr result (WantsMemoryAlone o tree.old.nodes object) }
+    ensures held { IfOk result (λ p. IsNodeOf tree.new.nodes (object_prop_node p)) }
+    ensures stays { StillNodes tree.old.nodes tree.new.nodes }
+    ensures kept { OnErr result (NodesStay tree.old.nodes tree.new.nodes) }
+    ensures document { OnErr result (ordered_tree tree.new.nodes 0 ≡ ordered_tree tree.old.nodes 0) }
+    ensures tree { IsTree tree.new.nodes }
+{
+    let _ = tree.len();
+    match insert_property(alloc, tree, object, index, name, value) {
+        Ok(property) => Ok(property_at(tree, property)),
+        Err(error) => Err(error),
+    }
+}
+
+// Puts a property behind the last one of an object, and answers it.
+fn append_to<A: Allocator + Copy>(
+    alloc: A,
+    tree: &mut Tree<A>,
+    object: usize,
+    name: &str,
+    value: &CstInputValue<A>,
+) -> Result<CstObjectProp, EditError>
+    requires there { object < length tree.old.nodes }
+    requires object { content_at tree.old.nodes object ≡ Content.object }
+    ensures put { IfOk result
+        (NamedComesInAt tree.old.nodes tree.new.nodes object (length (elements_at tree.old.nodes object))
+        (chars name.now) (plain value.now)) }
+    ensures property { IfOk result
+        (PropertyStandsAt tree.old.nodes tree.new.nodes object (length (elements_at tree.old.nodes object))) }
+    ensures written { (o : Options)
+        → OnOk result
+        (PutsNamedAtItsPath o tree.old.nodes tree.new.nodes object (length (elements_at tree.old.nodes object))
+        (chars name.now) (plain value.now)) }
+    ensures step { OnOk result (IsAppendingNamed tree.old.nodes tree.new.nodes object (chars name.now) (plain value.now)) }
+    ensures others { OnOk result (KeepsNodesBut tree.old.nodes tree.new.nodes object) }
+    ensures elsewhere { OnOk result (StaysElsewhere tree.old.nodes tree.new.nodes object) }
+    ensures told { IfErr result (λ e. e ≡ refusal tree.old.nodes object) }
+    ensures memory { (o : Options) → IfErr result (WantsMemoryAlone o tree.old.nodes object) }
+    ensures held { IfOk result (λ p. IsNodeOf tree.new.nodes (object_prop_node p)) }
+    ensures stays { StillNodes tree.old.nodes tree.new.nodes }
+    ensures kept { OnErr result (NodesStay tree.old.nodes tree.new.nodes) }
+    ensures document { OnErr result (ordered_tree tree.new.nodes 0 ≡ ordered_tree tree.old.nodes 0) }
+    ensures tree { IsTree tree.new.nodes }
+{
+    let _ = tree.len();
+    // There are no more properties than children.
+    let count = tree.child_count(object);
+    insert_at(alloc, tree, object, count, name, value)
+}
+
+/// An object, into which properties may come.
+pub trait InsertProperty: IsNode {
+    /// Puts a property of this name and value behind its last one, and answers it.
+    ///
+    /// It is what [`InsertProperty::insert`] does with the number of its properties, or a greater one.
+    /// Another property of the name, if there is one, stays: `jsonc_cst`'s `get` then answers that.
+    fn append<A: Allocator + Copy>(
+        self,
+        doc: &mut CstRootNode<A>,
+        name: &str,
+        value: CstInputValue<A>,
+    ) -> Result<CstObjectProp, EditError>
+        requires { Holds doc.old (Self.node_of self) }
+        ensures put { IfOk result
+            (HasNamedComeIn doc.old doc.new (Self.node_of self) (element_count doc.old (Self.node_of self))
+            (chars name.now) (plain value)) }
+        ensures property { IfOk result
+            (IsItsProperty doc.old doc.new (Self.node_of self) (element_count doc.old (Self.node_of self))) }
+        ensures written { (o : Options)
+            → OnOk result
+            (IsNamedAtItsPath doc.old doc.new o (Self.node_of self) (element_count doc.old (Self.node_of self))
+            (chars name.now) (plain value)) }
+        ensures step { OnOk result (IsAppendingNamed (nodes_of doc.old) (nodes_of doc.new) (number_of (Self.node_of self))
+            (chars name.now) (plain value)) }
+        ensures others { OnOk result (KeepsOthers doc.old doc.new (Self.node_of self)) }
+        ensures elsewhere { OnOk result (KeepsElsewhere doc.old doc.new (Self.node_of self)) }
+        ensures told { IfErr result (IsShutFor doc.old (Self.node_of self)) }
+        ensures memory { (o : Options) → IfErr result (IsKeptForMemory doc.old o (Self.node_of self)) }
+        ensures held { IfOk result (λ p. Holds doc.new (object_prop_node p)) }
+        ensures stays { StillHolds doc.old doc.new }
+        ensures kept { OnErr result (StaysAsItWas doc.old doc.new) }
+        ensures document { OnErr result (tree_of doc.new ≡ tree_of doc.old) }
+        ensures tree { NodesAreTree doc.new };
+
+    /// Puts a property of this name and value before its property of this number, counted from 0, or behind
+    /// the last where it has fewer, and answers it.
+    ///
+    /// An object in which no line ends is put on several lines first. The property comes on a line of its
+    /// own, one level deeper than the object's; a comma comes between it and its neighbours, and behind it
+    /// where the object's last property has one, or where the document's other containers on several lines
+    /// do; blank lines directly inside the brackets leave. Comments stay where they are. An object that
+    /// lacks a bracket, which is so only after edits of single leaves, is `MissingBrackets`, and none that
+    /// stands in a sound document. If the document is sound, it is sound again, and its value is the old one
+    /// with this property in the object: if the object stands in it, the call is one step, the edit that
+    /// inserts the property at the object's path. A refusal leaves the document as it was.
+    fn insert<A: Allocator + Copy>(
+        self,
+        doc: &mut CstRootNode<A>,
+        index: usize,
+        name: &str,
+        value: CstInputValue<A>,
+    ) -> Result<CstObjectProp, EditError>
+        requires { Holds doc.old (Self.node_of self) }
+        ensures put { IfOk result
+            (HasNamedComeIn doc.old doc.new (Self.node_of self) (min index (element_count doc.old (Self.node_of self)))
+            (chars name.now) (plain value)) }
+        ensures property { IfOk result (IsItsProperty doc.old doc.new (Self.node_of self) index) }
+        ensures written { (o : Options)
+            → OnOk result
+            (IsNamedAtItsPath doc.old doc.new o (Self.node_of self)
+            (min index (element_count doc.old (Self.node_of self))) (chars name.now) (plain value)) }
+        ensures step { OnOk result (IsInsertingNamed (nodes_of doc.old) (nodes_of doc.new) (number_of (Self.node_of self))
+            index (chars name.now) (plain value)) }
+        ensures others { OnOk result (KeepsOthers doc.old doc.new (Self.node_of self)) }
+        ensures elsewhere { OnOk result (KeepsElsewhere doc.old doc.new (Self.node_of self)) }
+        ensures told { IfErr result (IsShutFor doc.old (Self.node_of self)) }
+        ensures memory { (o : Options) → IfErr result (IsKeptForMemory doc.old o (Self.node_of self)) }
+        ensures held { IfOk result (λ p. Holds doc.new (object_prop_node p)) }
+        ensures stays { StillHolds doc.old doc.new }
+        ensures kept { OnErr result (StaysAsItWas doc.old doc.new) }
+        ensures document { OnErr result (tree_of doc.new ≡ tree_of doc.old) }
+        ensures tree { NodesAreTree doc.new };
+}
+
+impl InsertProperty for CstObject {
+    fn append<A: Allocator + Copy>(
+        self,
+        doc: &mut CstRootNode<A>,
+        name: &str,
+        value: CstInputValue<A>,
+    ) -> Result<CstObjectProp, EditError> {
+        let number = object_number(&doc.tree, self);
+        let put = append_to(doc.alloc, &mut doc.tree, number, name, &value);
+        doc.nodes_are_tree();
+        put
+    }
+
+    fn insert<A: Allocator + Copy>(
+        self,
+        doc: &mut CstRootNode<A>,
+        index: usize,
+        name: &str,
+        value: CstInputValue<A>,
+    ) -> Result<CstObjectProp, EditError> {
+        let number = object_number(&doc.tree, self);
+        let put = insert_at(doc.alloc, &mut doc.tree, number, index, name, &value);
+        doc.nodes_are_tree();
+        put
+    }
+}

@@ -1,0 +1,21 @@
+//! Sorts of arrays and objects, on typed nodes.
+//!
+//! [`SortElements::sort_elements`] of an array and [`SortProperties::sort_properties`] of an object answer
+//! a sort, a value that is told how to treat what stands between the elements, and then sorts by a
+//! comparison or by keys. These are closures that read the document: they are asked with the document
+//! as it stands before and with nodes of it, all before anything changes (`specs/sorting/Asking.antt`). Which
+//! places come in which order is `jsonc_sort::ordering`'s, what goes where with an element `jsonc_sort`'s
+//! (`specs/sorting/Sorted.antt`). [`sort_container`] sorts either by a comparison, for lists of edits.
+
+mod containers;
+mod elements;
+mod headers;
+mod placing;
+mod properties;
+mod rows;
+mod sorting;
+
+pub use containers::sort_container;
+pub use elements::{ElementSort, SortElements};
+pub use headers::{BlankLineHeaders, HeaderRule, HeadersBy, NoHeaders};
+pub use properties::{PropertySort, SortProperties};

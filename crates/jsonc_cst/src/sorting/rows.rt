@@ -1,0 +1,110 @@
+//! What a sort reads of an array or object.
+
+ghost use Rattle.std.specs.Prelude.{◌≡◌, ◌<◌, IfErr, IfOk, IfSome, length, map};
+ghost use Rattle.std.specs.List.{All};
+ghost use Rattle.jsonc_layout.specs.nodes.Siblings.{elements_at};
+ghost use Rattle.jsonc_sort.specs.Above.{leads_read};
+ghost use Rattle.jsonc_sort.specs.ordering.Groups.{group_starts};
+ghost use Rattle.jsonc_cst.specs.Document.{nodes_of, Holds};
+ghost use Rattle.jsonc_cst.specs.Nodes.{array_node, number_of, object_node, object_prop_node};
+ghost use Rattle.jsonc_cst.specs.sorting.Rows.{elements_asked, is_parted, properties_asked, property_if, starts_of};
+
+use crate::cst::{
+    CstArray, CstContainerNode, CstNode, CstObject, CstObjectProp, CstRootNode, EditError,
+    HasChildren, IsNode,
+};
+use jsonc_sort::ordering::group_starts;
+use jsonc_sort::{LeadRead, read_leads};
+use std::alloc::{AllocError, Allocator};
+
+// Before which elements a blank line stands.
+fn parted<A: Allocator + Copy>(alloc: A, leads: &[LeadRead]) -> Result<Vec<bool, A>, AllocError>
+    ensures { IfOk result (λ v. v.items ≡ map is_parted leads.now) }
+{
+    leads.iter().map(|lead| lead.blank_line).collect(alloc)
+}
+
+// Where groups begin, which blank lines part.
+fn parted_starts<A: Allocator + Copy>(
+    alloc: A,
+    leads: &[LeadRead],
+) -> Result<Vec<usize, A>, AllocError>
+    ensures { IfOk result (λ v. v.items ≡ group_starts (map is_parted leads.now)) }
+{
+    let parted = parted(alloc, leads)?;
+    group_starts(alloc, &parted)
+}
+
+// For each element of a container the place at which its group begins, where groups are kept.
+pub(crate) fn starts_of<A: Allocator + Copy>(
+    doc: &CstRootNode<A>,
+    container: CstNode,
+    groups: bool,
+) -> Result<Vec<usize, A>, EditError>
+    requires { Holds doc.now container }
+    ensures starts { IfOk result (λ v. v.items ≡ starts_of doc.now container groups) }
+    ensures memory { IfErr result (λ e. e ≡ EditError.OutOfMemory) }
+{
+    if !groups {
+        return Ok(Vec::new(doc.alloc));
+    }
+    let Ok(leads) = read_leads(doc.alloc, &doc.tree, container.number()) else {
+        return Err(EditError::OutOfMemory);
+    };
+    let Ok(starts) = parted_starts(doc.alloc, &leads) else {
+        return Err(EditError::OutOfMemory);
+    };
+    Ok(starts)
+}
+
+// The elements of an array, as its sort asks of them.
+pub(crate) fn elements_asked<A: Allocator + Copy>(
+    doc: &CstRootNode<A>,
+    array: CstArray,
+) -> Result<Vec<Option<CstNode>, A>, EditError>
+    requires { Holds doc.now (array_node array) }
+    ensures nodes { IfOk result (λ v. v.items ≡ elements_asked doc.now (array_node array)) }
+    ensures held { IfOk result (λ v. All (λ o. IfSome o (Holds doc.now)) v.items) }
+    ensures count { IfOk result
+        (λ v. length v.items ≡ length (elements_at (nodes_of doc.now) (number_of (array_node array)))) }
+    ensures memory { IfErr result (λ e. e ≡ EditError.OutOfMemory) }
+{
+    let elements = array.elements(doc)?;
+    let Ok(nodes) = elements.iter().map(|node| Some(*node)).collect(doc.alloc) else {
+        return Err(EditError::OutOfMemory);
+    };
+    Ok(nodes)
+}
+
+// The node, if it is a property.
+fn property_if(node: CstNode) -> Option<CstObjectProp>
+    ensures { result ≡ property_if node }
+{
+    match node {
+        CstNode::Container(CstContainerNode::ObjectProp(property)) => Some(property),
+        _ => None,
+    }
+}
+
+// The properties of an object, as its sort asks of them.
+pub(crate) fn properties_asked<A: Allocator + Copy>(
+    doc: &CstRootNode<A>,
+    object: CstObject,
+) -> Result<Vec<Option<CstObjectProp>, A>, EditError>
+    requires { Holds doc.now (object_node object) }
+    ensures nodes { IfOk result (λ v. v.items ≡ properties_asked doc.now (object_node object)) }
+    ensures held { IfOk result (λ v. All (λ o. IfSome o (λ p. Holds doc.now (object_prop_node p))) v.items) }
+    ensures count { IfOk result
+        (λ v. length v.items ≡ length (elements_at (nodes_of doc.now) (number_of (object_node object)))) }
+    ensures memory { IfErr result (λ e. e ≡ EditError.OutOfMemory) }
+{
+    let elements = object.children_exclude_trivia_and_tokens(doc)?;
+    let Ok(nodes) = elements
+        .iter()
+        .map(|node| property_if(*node))
+        .collect(doc.alloc)
+    else {
+        return Err(EditError::OutOfMemory);
+    };
+    Ok(nodes)
+}

@@ -1,0 +1,40 @@
+//! Edits of documents, on typed nodes.
+//!
+//! A call is a short body over an edit by the numbers of nodes, and says with the words of that edit
+//! what it makes of the document. Every node that the document held it holds after an edit too, also
+//! after a refusal (`specs/typed/Edits.antt`): a node that has given way or left is nobody's child. A refusal
+//! leaves each as it was, its parent and its children too, in the document and apart from it; of trailing
+//! commas some may have been set.
+//!
+//! Of a sound document each call is one step (`specs/typed/Steps.antt`): if its node stands in the document,
+//! whatever text this shows, the edit that the call names, at the node's path, leads from that text to the
+//! one that the document shows then. So a list of calls is a list of steps, without a path in a premise. If
+//! the node stands elsewhere, as it has given way or left, the document is what it was.
+//!
+//! [`ReplaceWith`] and [`ReplaceProperty`] let a node give way to another, [`Remove`] and [`RemoveLeaf`]
+//! take one out, and [`SetRoot`], [`SetProperty`] and [`SetBoolean`] have what sets the document's value,
+//! that of a property, and a truth value; [`EnsureMultiline`] puts an array or object on several lines,
+//! [`InsertElement`] a value into an array, and [`SetTrailingCommas`] sets trailing commas.
+//! [`SetRawValue`], [`SetToken`], [`SetWhitespace`] and [`SetNewline`] write one leaf anew as it stands,
+//! without memory, whatever the document makes of that (`specs/typed/Raw.antt`). A closure that reads the
+//! document is lent one by [`IsDocument`].
+
+mod commas;
+mod document;
+mod inserting;
+mod lines;
+mod raw;
+mod removing;
+mod replacing;
+mod setting;
+mod values;
+
+pub use commas::SetTrailingCommas;
+pub use document::IsDocument;
+pub use inserting::InsertElement;
+pub use lines::EnsureMultiline;
+pub use raw::{SetNewline, SetRawValue, SetToken, SetWhitespace};
+pub use removing::{Remove, RemoveLeaf};
+pub use replacing::ReplaceWith;
+pub use setting::{ReplaceProperty, SetRoot, array_at, object_at};
+pub use values::{SetBoolean, SetProperty};

@@ -1,0 +1,4 @@
+pub mod commas
+pub mod remove
+pub mod set
+pub mod multiline

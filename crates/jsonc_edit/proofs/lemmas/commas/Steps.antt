@@ -1,0 +1,136 @@
+-- The comma of one array or object of a sound document is set: what both kinds of steps rest on.
+use Rattle.std.proofs.Common.{◌≡◌, ◌∙◌, sym, ap, refl, ℕ, ◌<◌, true, false, List, [], ◌∷◌, ◌++◌, All, length, IsTrue}
+use Rattle.std.proofs.lemmas.Bool.{false≢true, eqb-true}
+use Rattle.std.proofs.lemmas.List.Elements.{All-cons, All-head, All-nil, All-tail}
+use Rattle.jsonc_text.specs.Options.{Options}
+use Rattle.jsonc_tree.specs.Content.{Content, is_container, token}
+use Rattle.jsonc_tree.specs.OrderedTree.{OrderedTree, Top, none, more, followed_by, leaves, ordered_tree}
+use Rattle.jsonc_tree.specs.Tree.{Node, content_at, children_at, IsTree, IsOver}
+use Rattle.jsonc_tree.proofs.OrderedTrees.{leaves-followed_by}
+use Rattle.jsonc_layout.specs.nodes.Kinds.{is_element, is_element_at}
+use Rattle.jsonc_layout.specs.lines.Kinds.{is_comma}
+use Rattle.jsonc_sound.specs.Shape.{IsTrivia, token_then}
+use Rattle.jsonc_sound.specs.Marks.{marks, marks_of}
+use Rattle.jsonc_sound.specs.MarkChanges.{marks_under}
+use Rattle.jsonc_sound.specs.Rows as rows
+use Rattle.jsonc_sound.specs.Rows.{RowKind, container_of, holder, opening}
+use Rattle.jsonc_sound.specs.SoundTrees.{SoundTree}
+use Rattle.jsonc_sound.specs.TreeChanges.{DocumentChanged}
+use Rattle.jsonc_sound.proofs.GivingWay.{marks_join, values_marks}
+use Rattle.jsonc_edit.specs.Changes.{row_below}
+use Rattle.jsonc_edit.specs.Paths.{IsAt}
+use Rattle.jsonc_edit.proofs.FittingNodes.{over_there}
+use Rattle.jsonc_edit.specs.commas.InTurn.{holds_at}
+use Rattle.jsonc_edit.specs.commas.Laws.{OnlyCommas}
+use Rattle.jsonc_edit.specs.declared.modes.TrailingCommaMode.{TrailingCommaMode}
+use Rattle.jsonc_edit.proofs.lemmas.commas.CommaRows.{comma_first, Closing, bracket, behind}
+use Rattle.jsonc_edit.proofs.lemmas.commas.Holders.{held, holder_path, row_stands, value_at_path, Held}
+use Rattle.jsonc_edit.proofs.lemmas.commas.Splits.{standing}
+
+-- a comma is this token, and a leaf
+pub the_comma : (w : Content) → is_comma w ≡ true → w ≡ token 0x2C
+the_comma (Content.token c) e = ap token (eqb-true c 0x2C e)
+the_comma w e = cc
+
+pub comma_leaf : (w : Content) → w ≡ token 0x2C → is_container w ≡ false
+comma_leaf w e = ap is_container e
+
+-- no comma comes first where the row closes
+pub closing_lacks : (o : Options) (kind : RowKind) {row : OrderedTree} → Closing o kind row → comma_first row ≡ false
+closing_lacks o kind bracket = by kind
+  where
+    by : (k : RowKind) → comma_first (token_then (rows.closing k) none) ≡ false
+    by rows.of_values = refl
+    by rows.of_properties = refl
+closing_lacks o kind (behind {content = content} {after = after} t c) = by content t (closing_lacks o kind c)
+  where
+    by : (w : Content) → IsTrivia o w → comma_first after ≡ false → comma_first (more w none after) ≡ false
+    by (Content.whitespace s) h e = e
+    by (Content.newline k) h e = e
+    by (Content.comment s) h e = e
+    by w h e = absurd h
+
+-- a comma has no mark
+pub marks_comma : (front back : OrderedTree) → marks (followed_by front (token_then 0x2C back)) ≡ marks (followed_by front back)
+marks_comma front back =
+    ap marks_of (leaves-followed_by front (token_then 0x2C back)) ∙ marks_join (leaves front) (token 0x2C ∷ leaves back)
+    ∙ sym (ap marks_of (leaves-followed_by front back) ∙ marks_join (leaves front) (leaves back))
+
+pub under_bracket : (kind : RowKind) (row : OrderedTree) → marks_under (container_of kind row) ≡ marks row
+under_bracket rows.of_values row = refl
+under_bracket rows.of_properties row = refl
+
+pub same_marks : {was now : Top} {path : List ℕ} (t u : OrderedTree) → DocumentChanged was now path t u → marks_under now ≡ marks_under was → marks u ≡ marks t
+same_marks {was} {now} {path} t u changed same =
+    let d = values_marks t was now path u changed in
+    d.after ∙ ap (λ ms. d.front ++ (ms ++ d.back)) same ∙ sym d.before
+
+-- what a step makes of the document
+pub record Step (mode : TrailingCommaMode) (o : Options) (t u : OrderedTree) : Type 0 where
+  pub sound : SoundTree o u
+  pub marks : marks u ≡ marks t
+  pub commas : OnlyCommas mode t u
+
+abbrev top_of : Content → OrderedTree → Top
+top_of content below = record { content = content; below = below }
+
+pub same_top : (a b : Content) (x y : OrderedTree) → a ≡ b → x ≡ y → top_of a x ≡ top_of b y
+same_top a b x y e f = ap (λ w. top_of w x) e ∙ ap (top_of b) f
+
+open_no_element : (kind : RowKind) (w : Content) → w ≡ token (opening kind) → is_element w ≡ true → ⊥
+open_no_element kind w e h = false≢true (sym (ap is_element e) ∙ h)
+
+-- the row of an array or object behind its first bracket
+pub record Inside (o : Options) (ns : List Node) (c : ℕ) : Type 0 where
+  pub kind : RowKind
+  pub open_with : ℕ
+  pub rest : List ℕ
+  pub is : content_at ns c ≡ holder kind
+  pub children : children_at ns c ≡ open_with ∷ rest
+  pub opens : content_at ns open_with ≡ token (opening kind)
+  pub bare : row_below ns open_with ≡ none
+
+module _ (o : Options) (ns : List Node) (tree : IsTree ns) (sound : SoundTree o (ordered_tree ns 0)) (c : ℕ) (over : IsOver ns 0 c) (holds : IsTrue (holds_at ns c)) where
+  pub path : (path : List ℕ) × IsAt ns path c
+  path = holder_path o ns tree sound c over holds
+
+  there : c < length ns
+  there = over_there ns tree c over
+
+  h : Held o (content_at ns c) (row_below ns c)
+  h = held o holds (value_at_path o ns tree sound path.0 c path.1)
+
+  pub inside : Inside o ns c
+  inside = by (children_at ns c) refl (sym (row_stands ns tree c there) ∙ h.under)
+    where
+      by : (kids : List ℕ) → children_at ns c ≡ kids → standing ns (children_at ns c) ≡ token_then (opening h.kind) h.row → Inside o ns c
+      by [] e same = absurd (let wrong : none ≡ token_then (opening h.kind) h.row = sym (ap (standing ns) e) ∙ same in cc)
+      by (x ∷ rest) e same =
+          let whole : more (content_at ns x) (row_below ns x) (standing ns rest) ≡ token_then (opening h.kind) h.row = sym (ap (standing ns) e) ∙ same in
+          record {
+            kind = h.kind;
+            open_with = x;
+            rest = rest;
+            is = h.is;
+            children = e;
+            opens = (let one : content_at ns x ≡ token (opening h.kind) = cc in one);
+            bare = (let two : row_below ns x ≡ none = cc in two);
+          }
+
+-- all of the front of a list, and of its rest
+pub all_front : (P : ℕ → Type 0) (xs ys : List ℕ) → All P (xs ++ ys) → All P xs
+all_front P [] ys all = All-nil P
+all_front P (x ∷ xs) ys all = All-cons P x xs (All-head P x (xs ++ ys) all) (all_front P xs ys (All-tail P x (xs ++ ys) all))
+
+pub all_rest : (P : ℕ → Type 0) (xs ys : List ℕ) → All P (xs ++ ys) → All P ys
+all_rest P [] ys all = all
+all_rest P (x ∷ xs) ys all = all_rest P xs ys (All-tail P x (xs ++ ys) all)
+
+pub first_same : (x y : ℕ) (xs ys : List ℕ) → x ∷ xs ≡ y ∷ ys → x ≡ y
+first_same x y xs ys e = cc
+
+-- the first bracket is not the last element
+pub opens_row : (o : Options) (ns : List Node) (c n : ℕ) (back : List ℕ) (i : Inside o ns c) → is_element_at ns n ≡ true → children_at ns c ≡ n ∷ back → ⊥
+opens_row o ns c n back i e are =
+    let same : i.open_with ≡ n = first_same i.open_with n i.rest back (sym i.children ∙ are) in
+    open_no_element i.kind (content_at ns n) (ap (content_at ns) (sym same) ∙ i.opens) e

@@ -1,0 +1,153 @@
+-- A row on several lines is the row, in which ends of lines have come and whitespace has left.
+use Rattle.std.proofs.Common.{◌≡◌, ◌∙◌, ℕ, zero, suc, ◌+◌, ◌-◌, ◌<◌, ◌≤◌, Bool, true, false, ◌||◌, List, [], ◌∷◌, ◌++◌, All, length, take, drop, reverse, slice_index, IsTrue, refl, sym, ap, subst, arith, length-drop, get_or-drop}
+use Rattle.std.specs.List.{flat_map, list_any, suffix_len}
+use Rattle.std.proofs.lemmas.List.{get_or-reverse, take-append-drop}
+use Rattle.std.proofs.lemmas.List.Elements.{All-from_get_or, All-head, All-tail, All-take}
+use Rattle.std.proofs.lemmas.List.Sums.{prefix_len_passes, suffix_len-le-length}
+use Rattle.jsonc_tree.specs.Content.{Content, is_container, newline}
+use Rattle.jsonc_tree.specs.OrderedTree.{OrderedTree, none, more, grown, plant}
+use Rattle.jsonc_tree.specs.Tree.{Node, content_at, children_at, IsTree}
+use Rattle.jsonc_tree.specs.declared.node.CstNewlineKind.{CstNewlineKind}
+use Rattle.jsonc_layout.specs.nodes.Kinds.{is_newline, is_newline_at, is_whitespace, is_whitespace_at}
+use Rattle.jsonc_edit.specs.Changes.{row_below}
+use Rattle.jsonc_edit.specs.Writing.{IsIndent}
+use Rattle.jsonc_edit.specs.multiline.Slots.{Slot, stays, comes, top_in, row_in}
+use Rattle.jsonc_edit.specs.multiline.Lines.{Lines, is_comma_at, last_line, indent_if_any, on_line, on_lines, parts, without_back, without_front}
+use Rattle.jsonc_edit.specs.multiline.Plans.{child_slots, begins_behind}
+use Rattle.jsonc_edit.specs.multiline.Reflows.{starts_line, has_newline, Reflows, ended, kept, gone, line, line_end}
+use Rattle.jsonc_edit.proofs.lemmas.multiline.Weaving.{woven, both_woven}
+
+-- the row of trees that these nodes stand for
+abbrev pub standing : List Node → List ℕ → OrderedTree
+standing ns [] = none
+standing ns (n ∷ rest) = more (content_at ns n) (row_below ns n) (standing ns rest)
+
+-- nothing is below a node without children
+pub bare_below : (ns : List Node) (n : ℕ) → children_at ns n ≡ [] → row_below ns n ≡ none
+bare_below ns n e = by (length ns)
+  where
+    by : (depth : ℕ) → grown depth ns n ≡ none
+    by zero = refl
+    by (suc depth) = ap (plant (content_at ns) (grown depth ns)) e
+
+-- the end of a line is in the row where it is among the nodes
+pub standing_newline : (ns : List Node) (xs : List ℕ) → has_newline (standing ns xs) ≡ list_any (is_newline_at ns) xs
+standing_newline ns [] = refl
+standing_newline ns (n ∷ xs) = ap (λ b. is_newline_at ns n || b) (standing_newline ns xs)
+
+pub or_right : (a b : Bool) → IsTrue b → IsTrue (a || b)
+or_right true b h = refl
+or_right false b h = h
+
+pub row_newline : (ns : List Node) (k : CstNewlineKind) (rest front : List Slot) → IsTrue (has_newline (row_in ns (front ++ comes (newline k) ∷ rest)))
+row_newline ns k rest [] = refl
+row_newline ns k rest (slot ∷ front) = or_right (is_newline (top_in ns slot).content) (has_newline (row_in ns (front ++ comes (newline k) ∷ rest))) (row_newline ns k rest front)
+
+-- whitespace is a leaf
+blank_leaf : (content : Content) → is_whitespace content ≡ true → is_container content ≡ false
+blank_leaf (Content.whitespace s) e = refl
+blank_leaf content e = cc
+
+blank_gone : (content : Content) (below x y : OrderedTree) → is_whitespace content ≡ true → below ≡ none → IsTrue (starts_line y) → Reflows x y → Reflows (more content below x) y
+blank_gone (Content.whitespace s) below x y e f h r = subst (λ b. Reflows (more (Content.whitespace s) b x) y) (sym f) (gone h r)
+blank_gone content below x y e f h r = cc
+
+-- behind what a row is without the whitespace at its end, each node is whitespace
+suffix_passes : (p : ℕ → Bool) (row : List ℕ) (i : ℕ) → length row - suffix_len p row ≤ i → i < length row → p (slice_index row i) ≡ true
+suffix_passes p row i low high =
+    let place : length row - 1 - (length row - 1 - i) ≡ i = omega (arith, high) in
+    let found = get_or-reverse row (length row - 1 - i) 0 (omega (arith, high)) ∙ ap (slice_index row) place in
+    ap p (sym found) ∙ prefix_len_passes p (reverse row) (length row - 1 - i) 0 (omega (arith, low, high, suffix_len-le-length p row))
+
+suffix_all : (p : ℕ → Bool) (row : List ℕ) → All (λ n. p n ≡ true) (drop (length row - suffix_len p row) row)
+suffix_all p row =
+    let k : ℕ = length row - suffix_len p row in
+    All-from_get_or (λ n. p n ≡ true) (drop k row) 0 (λ i h. ap p (get_or-drop k row i 0) ∙ suffix_passes p row (k + i) (omega arith) (omega (arith, h, length-drop k row)))
+
+module _ (old : List Node) (tree : IsTree old) (lines : Lines) (inner : IsIndent lines.inner) (outer : IsIndent lines.outer) where
+  -- the row of a part, or of several, and of the last line
+  abbrev Then : List Slot → OrderedTree
+  Then slots = row_in old (slots ++ last_line lines)
+
+  blank_reflow : (n : ℕ) (x y : OrderedTree) → is_whitespace_at old n ≡ true → IsTrue (starts_line y) → Reflows x y → Reflows (more (content_at old n) (row_below old n) x) y
+  blank_reflow n x y e h r = blank_gone (content_at old n) (row_below old n) x y e (bare_below old n (tree.leaf n (blank_leaf (content_at old n) e))) h r
+
+  end_reflows : Reflows none (Then [])
+  end_reflows = by lines.outer outer
+    where
+      by : (s : List ℕ) → IsIndent s → Reflows none (row_in old (comes (newline lines.newline) ∷ indent_if_any s))
+      by [] h = line_end ended
+      by (c ∷ s) h = line h ended
+
+  blanks_reflow : (blanks : List ℕ) → All (λ n. is_whitespace_at old n ≡ true) blanks → Reflows (standing old blanks) (Then [])
+  blanks_reflow [] all = end_reflows
+  blanks_reflow (n ∷ blanks) all =
+      blank_reflow n (standing old blanks) (Then []) (All-head (λ m. is_whitespace_at old m ≡ true) n blanks all) refl (blanks_reflow blanks (All-tail (λ m. is_whitespace_at old m ≡ true) n blanks all))
+
+  -- where a part begins, a line does
+  woven_starts : (row : List ℕ) → IsTrue (starts_line (Then (woven lines old true row)))
+  woven_starts [] = refl
+  woven_starts (n ∷ row) = by (is_whitespace_at old n) (is_comma_at old n) (woven_starts row)
+    where
+      by : (blank comma : Bool) → IsTrue (starts_line (Then (woven lines old true row))) → IsTrue (starts_line (Then (child_slots lines true blank n ++ woven lines old (begins_behind true blank comma) row)))
+      by true comma h = h
+      by false comma h = refl
+
+  abbrev Goes : Bool → List ℕ → List ℕ → Type 0
+  Goes begins row blanks = Reflows (standing old (row ++ blanks)) (Then (woven lines old begins row))
+
+  woven_reflows : (begins : Bool) (row blanks : List ℕ) → Reflows (standing old blanks) (Then []) → Goes begins row blanks
+  woven_reflows begins [] blanks h = h
+  woven_reflows begins (n ∷ row) blanks h = by begins (is_whitespace_at old n) (is_comma_at old n) refl (woven_reflows true row blanks h) (woven_reflows false row blanks h)
+    where
+      by : (begins blank comma : Bool) → is_whitespace_at old n ≡ blank → Goes true row blanks → Goes false row blanks → Reflows (more (content_at old n) (row_below old n) (standing old (row ++ blanks))) (Then (child_slots lines begins blank n ++ woven lines old (begins_behind begins blank comma) row))
+      by true true comma e t f = blank_reflow n (standing old (row ++ blanks)) (Then (woven lines old true row)) e (woven_starts row) t
+      by true false true e t f = line inner (kept t)
+      by true false false e t f = line inner (kept f)
+      by false blank true e t f = kept t
+      by false blank false e t f = kept f
+
+  pub row_reflows : (row : List ℕ) → Reflows (standing old row) (row_in old (on_lines lines old row))
+  row_reflows row =
+      let k : ℕ = length row - suffix_len (is_whitespace_at old) row in
+      let all : Reflows (standing old (take k row ++ drop k row)) (Then (woven lines old true (take k row))) = woven_reflows true (take k row) (drop k row) (blanks_reflow (drop k row) (suffix_all (is_whitespace_at old) row)) in
+      subst (λ (l : List ℕ). Reflows (standing old l) (row_in old (on_lines lines old row))) (take-append-drop k row)
+      (subst (λ (l : List Slot). Reflows (standing old (take k row ++ drop k row)) (Then l)) (sym (both_woven lines old (without_back old row)).0) all)
+
+-- what a row on several lines is made of: children that are there, and leaves
+abbrev pub Fits : List Node → Slot → Type 0
+Fits ns (stays n) = n < length ns
+Fits ns (comes content) = is_container content ≡ false
+
+abbrev pub AllFit : List Node → List Slot → Type 0
+AllFit ns [] = Unit {0}
+AllFit ns (slot ∷ rest) = Fits ns slot × AllFit ns rest
+
+module _ (lines : Lines) (ns : List Node) where
+  fit_then : (first second : List Slot) → AllFit ns first → AllFit ns second → AllFit ns (first ++ second)
+  fit_then [] second a b = b
+  fit_then (slot ∷ first) second a b = (a.0, fit_then first second a.1 b)
+
+  child_fits : (begins blank : Bool) (n : ℕ) → n < length ns → AllFit ns (child_slots lines begins blank n)
+  child_fits true true n h = tt
+  child_fits true false n h = (refl, (refl, (h, tt)))
+  child_fits false blank n h = (h, tt)
+
+  woven_fits : (begins : Bool) (row : List ℕ) → All (λ n. n < length ns) row → AllFit ns (woven lines ns begins row)
+  woven_fits begins [] all = tt
+  woven_fits begins (n ∷ row) all =
+      fit_then (child_slots lines begins (is_whitespace_at ns n) n) (woven lines ns (begins_behind begins (is_whitespace_at ns n) (is_comma_at ns n)) row) (child_fits begins (is_whitespace_at ns n) n (All-head (λ m. m < length ns) n row all))
+      (woven_fits (begins_behind begins (is_whitespace_at ns n) (is_comma_at ns n)) row (All-tail (λ m. m < length ns) n row all))
+
+  last_fits : AllFit ns (last_line lines)
+  last_fits = by lines.outer
+    where
+      by : (s : List ℕ) → AllFit ns (comes (newline lines.newline) ∷ indent_if_any s)
+      by [] = (refl, tt)
+      by (c ∷ s) = (refl, (refl, tt))
+
+  pub on_lines_fit : (row : List ℕ) → All (λ n. n < length ns) row → AllFit ns (on_lines lines ns row)
+  on_lines_fit row all =
+      let front : List ℕ = without_back ns row in
+      let fits : AllFit ns (woven lines ns true front) = woven_fits true front (All-take (λ n. n < length ns) (length row - suffix_len (is_whitespace_at ns) row) row all) in
+      fit_then (flat_map (λ part. on_line lines (without_front ns part)) (parts ns front)) (last_line lines) (subst (AllFit ns) (sym (both_woven lines ns front).0) fits) last_fits

@@ -1,0 +1,186 @@
+-- A sound document in which an array or object has been spread out says the same.
+use Rattle.std.proofs.Common.{◌≡◌, ◌∙◌, ℕ, Bool, true, false, ◌&&◌, ◌||◌, List, ◌∷◌, ◌++◌, Option, Some, None, IsTrue, refl, sym, ap, subst, if◌then◌else◌}
+use Rattle.jsonc_text.specs.Options.{Options}
+use Rattle.jsonc_text.specs.Grammar.{IsDocument}
+use Rattle.jsonc_text.specs.Plain.{Plain, Items, item, Members, member}
+use Rattle.jsonc_text.specs.Text.{next, starts}
+use Rattle.jsonc_tree.specs.Content.{Content, token}
+use Rattle.jsonc_tree.specs.OrderedTree.{OrderedTree, Top, none, more, followed_by, leaves}
+use Rattle.jsonc_tree.specs.Values as values
+use Rattle.jsonc_tree.specs.Values.{HasNoValue, DocumentValueOf}
+use Rattle.jsonc_tree.proofs.OrderedTrees.{leaves-followed_by}
+use Rattle.jsonc_layout.specs.nodes.Kinds.{is_newline, is_whitespace}
+use Rattle.jsonc_sound.specs.Lines.{LinesEndLoosely}
+use Rattle.jsonc_sound.specs.Shape.{printed_text, token_then}
+use Rattle.jsonc_sound.proofs.ShapeValues.{document_printed}
+use Rattle.jsonc_sound.specs.Adjacent.{first_char, follower, LeavesEnd, last_printed}
+use Rattle.jsonc_sound.specs.Alone.{RowAlone, StretchAlone}
+use Rattle.jsonc_sound.specs.Changes as changes
+use Rattle.jsonc_sound.specs.Changes.{ItemChanged, MemberChanged, Changed}
+use Rattle.jsonc_sound.specs.Marks.{marks}
+use Rattle.jsonc_sound.specs.MarkChanges.{marks_under}
+use Rattle.jsonc_sound.specs.Rows as rows
+use Rattle.jsonc_sound.specs.Rows.{RowKind, closing, Last, container_of}
+use Rattle.jsonc_sound.specs.Sound.{HasValue}
+use Rattle.jsonc_sound.specs.SoundTrees.{SoundTree}
+use Rattle.jsonc_sound.specs.Spaces.{is_bare_leaf, first_printed, meet}
+use Rattle.jsonc_sound.specs.TreeChanges.{leaves_of, ElementChanged, DocumentChanged, in_root}
+use Rattle.jsonc_sound.proofs.Apart.{value_alone, value_leaves}
+use Rattle.jsonc_sound.proofs.AtPath.{held_at_path}
+use Rattle.jsonc_sound.proofs.FirstNodes.{here, over, beyond, meets_first, none_changed, no_element}
+use Rattle.jsonc_sound.proofs.GivingWay.{values_marks}
+use Rattle.jsonc_sound.proofs.HeldValues.{document_held}
+use Rattle.jsonc_sound.proofs.Leaves.{parted_leaves, last_serves}
+use Rattle.jsonc_sound.proofs.LeavesAround.{document_differs}
+use Rattle.jsonc_sound.proofs.LinesLeft.{row_lines}
+use Rattle.jsonc_sound.proofs.LooseChanges.{joined_loosely, parted_loosely}
+use Rattle.jsonc_sound.proofs.RowParts.{row_comes}
+use Rattle.jsonc_sound.proofs.SeamRows.{container_leaves, row_of}
+use Rattle.jsonc_sound.proofs.SeamStretches.{parted_row}
+use Rattle.jsonc_sound.proofs.SoundTrees.{kept_where_none_meet}
+use Rattle.jsonc_sound.proofs.Spaces.{last_of, serves_unless, stretch_no_word}
+use Rattle.jsonc_edit.proofs.OneValue.{document_once}
+use Rattle.jsonc_edit.specs.multiline.Laws.{bracketed, solid_nodes, SpreadAt, SaysTheSame, KeepsDocument, KeepsLeavesOutside, KeepsNodesInside}
+use Rattle.jsonc_edit.specs.multiline.Reflows.{starts_line, Reflows, ended, kept, gone, line, line_end, SpreadsOut, stays, reflows}
+use Rattle.jsonc_edit.proofs.lemmas.multiline.Reflow.{items_reflow, members_reflow, marks_reflow, lines_reflow, stretch_reflow, leaves_reflow}
+
+-- what stands behind both rows
+starts_then : (y z : OrderedTree) → IsTrue (starts_line y) → IsTrue (starts_line (followed_by y z))
+starts_then (more (Content.newline k) below after) z h = refl
+starts_then (more content below after) z h = cc
+starts_then none z h = cc
+
+reflows_same : (z : OrderedTree) → Reflows z z
+reflows_same none = ended
+reflows_same (more content below after) = kept (reflows_same after)
+
+reflows_then : {x y : OrderedTree} (z : OrderedTree) → Reflows x y → Reflows (followed_by x z) (followed_by y z)
+reflows_then z ended = reflows_same z
+reflows_then z (kept r) = kept (reflows_then z r)
+reflows_then z (gone {y = y} h r) = gone (starts_then y z h) (reflows_then z r)
+reflows_then z (line t r) = line t (reflows_then z r)
+reflows_then z (line_end r) = line_end (reflows_then z r)
+
+-- a row that has been spread out has reflowed, or stayed
+all_reflows : {x y : OrderedTree} → SpreadsOut x y → Reflows x y
+all_reflows (stays {row = row} h) = reflows_same row
+all_reflows (reflows h k r) = r
+
+-- where a value gives way to itself, nothing changes
+item_same : {a : Plain} {i : ℕ} {vs ws : Items} → ItemChanged a a i vs ws → vs ≡ ws
+item_same changes.this_item = refl
+item_same (changes.later_item {v = v} k) = ap (item v) (item_same k)
+
+member_same : {a : Plain} {i : ℕ} {ms ns : Members} → MemberChanged a a i ms ns → ms ≡ ns
+member_same changes.this_member = refl
+member_same (changes.later_member {name = name} {v = v} k) = ap (member name v) (member_same k)
+
+value_same : {a x y : Plain} {path : List ℕ} → Changed a a path x y → x ≡ y
+value_same changes.itself = refl
+value_same (changes.in_array {i = i} {y = y} {vs = vs} {ws = ws} e k) = ap Plain.array (item_same (subst (λ z. ItemChanged z y i vs ws) (value_same k) e))
+value_same (changes.in_object {i = i} {y = y} {ms = ms} {ns = ns} e k) = ap Plain.object (member_same (subst (λ z. MemberChanged z y i ms ns) (value_same k) e))
+
+-- a document of which a value has changed has one
+no_value_there : {x y : Top} {row new : OrderedTree} {i : ℕ} → HasNoValue row → ElementChanged x y i row new → ⊥
+no_value_there values.end e = none_changed e
+no_value_there (values.pass {content = content} h g) e =
+    elim (meets_first e) [
+      | here a p b q f ↦ no_element content q h
+      | over q k f ↦ no_value_there g k
+      | beyond a q k f ↦ no_element content q h
+    ]
+
+some_value : (o : Options) {was now : Top} {path : List ℕ} {t u : OrderedTree} → DocumentChanged was now path t u → DocumentValueOf o t None → ⊥
+some_value o (in_root {row = row} e k) (below, same, h) = let first : below ≡ row = cc in no_value_there (subst HasNoValue first h) e
+
+-- no bracket is a literal
+no_bracket : (new : OrderedTree) (c : ℕ) → meet (leaves new) (leaves (token_then c none)) ≡ false
+no_bracket new c = both_false (is_bare_leaf (last_printed (leaves new))) (is_bare_leaf (first_printed (leaves (token_then c none)))) (by (starts (λ b. true) (first_char (token c))))
+  where
+    by : (b : Bool) → is_bare_leaf (if b then Some (token c) else None) ≡ false
+    by true = refl
+    by false = refl
+
+    both_false : (a b : Bool) → b ≡ false → a && b ≡ false
+    both_false true b e = e
+    both_false false b e = refl
+
+-- a stretch that ends before something ends before the end
+stretch_last : (o : Options) (kind : RowKind) {last to : Last} {s : OrderedTree} (n : Option ℕ) → StretchAlone o kind last s to → LeavesEnd o (leaves s) n → LeavesEnd o (leaves s) None
+stretch_last o kind {s = s} n g h = last_serves o (leaves s) n None h (serves_unless o (last_printed (leaves s)) n None (stretch_no_word o g) (λ b. refl) (last_of o (leaves s) n h))
+
+bracket_marks : (kind : RowKind) (row : OrderedTree) → marks_under (container_of kind row) ≡ marks row
+bracket_marks rows.of_values row = refl
+bracket_marks rows.of_properties row = refl
+
+module _ (o : Options) (kind : RowKind) (row new : OrderedTree) (r : Reflows row new) where
+  abbrev bracket : OrderedTree
+  bracket = token_then (closing kind) none
+
+  value_reflows : (v : Plain) → HasValue o (bracketed kind row) v → HasValue o (bracketed kind new) v
+  value_reflows v h = by kind v h
+    where
+      by : (k : RowKind) (w : Plain) → HasValue o (bracketed k row) w → HasValue o (bracketed k new) w
+      by rows.of_values _ (values.array g) = values.array (items_reflow o (kept (reflows_then (token_then (closing rows.of_values) none) r)) g)
+      by rows.of_properties _ (values.object g) = values.object (members_reflow o (kept (reflows_then (token_then (closing rows.of_properties) none) r)) g)
+
+  module _ (t u : OrderedTree) (path : List ℕ) (changed : DocumentChanged (bracketed kind row) (bracketed kind new) path t u) where
+    same_value : (x : Plain) → DocumentValueOf o t (Some x) → DocumentValueOf o u (Some x)
+    same_value x h =
+        let held = held_at_path o x h changed in
+        let now = held.has held.old (value_reflows held.old held.had) in
+        subst (λ y. DocumentValueOf o u (Some y)) (sym (value_same now.2)) now.1
+
+    any_value : (w : Option Plain) → DocumentValueOf o t w → DocumentValueOf o u w
+    any_value (Some x) h = same_value x h
+    any_value None h = absurd (some_value o changed h)
+
+    same_marks : marks u ≡ marks t
+    same_marks =
+        let d = values_marks t (bracketed kind row) (bracketed kind new) path u changed in
+        let same : marks_under (bracketed kind new) ≡ marks_under (bracketed kind row) = bracket_marks kind (followed_by new bracket) ∙ marks_reflow o (reflows_then bracket r) ∙ sym (bracket_marks kind (followed_by row bracket)) in
+        d.after ∙ ap (λ ms. d.front ++ (ms ++ d.back)) same ∙ sym d.before
+
+    sound_still : SoundTree o t → SoundTree o u
+    sound_still s =
+        let full : OrderedTree = followed_by row bracket in
+        let v = document_held o changed s.shaped in
+        let alone : RowAlone o kind rows.nothing_yet full = row_of o kind full (value_alone o v.1) in
+        let parts = parted_row o kind row alone in
+        let ends : LeavesEnd o (leaves full) (next v.0) = (subst (λ a. LeavesEnd o a (next v.0)) (container_leaves kind full) (value_leaves o v.1)).1 in
+        let first = (parted_leaves o (leaves row) (leaves bracket) (next v.0) (subst (λ ls. LeavesEnd o ls (next v.0)) (leaves-followed_by row bracket) ends)).0 in
+        let stretch = stretch_reflow o r rows.nothing_yet parts.0 parts.1 in
+        let last = stretch_last o kind (follower (leaves bracket) (next v.0)) stretch (leaves_reflow o r rows.nothing_yet parts.0 parts.1 (follower (leaves bracket) (next v.0)) first) in
+        let loose = parted_loosely true false row bracket (row_lines kind full changed s.lines) in
+        let whole : LinesEndLoosely true false (followed_by new bracket) = joined_loosely true false new bracket (lines_reflow o false r loose.0) loose.1 in
+        kept_where_none_meet o t s kind none row new bracket path u changed parts.0 stretch (row_comes o kind parts.2) whole last refl (no_bracket new (closing kind))
+
+    says_the_same : SoundTree o t → SaysTheSame o t u
+    says_the_same s =
+        let still : SoundTree o u = sound_still s in
+        let was = document_printed o t s.shaped s.lines in
+        let is = document_printed o u still.shaped still.lines in
+        record {
+          value = was.0;
+          old_text = was.1;
+          new_text = subst (λ w. IsDocument o (printed_text u) w) (document_once o u is.0 was.0 is.2 (any_value was.0 was.2)) is.1;
+          marks = same_marks;
+          sound = still;
+        }
+
+pub keeps_document : (o : Options) (t u : OrderedTree) (path : List ℕ) → KeepsDocument o t u path
+keeps_document o t u path s at = says_the_same o at.kind at.row at.new (all_reflows at.spreads) t u path at.changed s
+
+pub keeps_outside : {path : List ℕ} {t u : OrderedTree} (s : SpreadAt path t u) → KeepsLeavesOutside s
+keeps_outside s = document_differs s.changed
+
+-- the nodes inside but for whitespace and ends of lines
+solid_reflow : {x y : OrderedTree} → Reflows x y → solid_nodes y ≡ solid_nodes x
+solid_reflow ended = refl
+solid_reflow (kept {content = content} {below = below} r) = ap (λ (l : List Top). if is_whitespace content || is_newline content then l else (record { content = content; below = below }) ∷ l) (solid_reflow r)
+solid_reflow (gone h r) = solid_reflow r
+solid_reflow (line t r) = solid_reflow r
+solid_reflow (line_end r) = solid_reflow r
+
+pub keeps_inside : {path : List ℕ} {t u : OrderedTree} (s : SpreadAt path t u) → KeepsNodesInside s
+keeps_inside s = solid_reflow (all_reflows s.spreads)

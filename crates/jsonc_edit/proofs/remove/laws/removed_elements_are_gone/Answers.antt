@@ -1,0 +1,9 @@
+use Rattle.jsonc_edit.proofs.lemmas.remove.Lost.{removes_entry}
+use Rattle.jsonc_edit.proofs.lemmas.remove.LostValue.{removes_value}
+use Rattle.jsonc_edit.proofs.remove.laws.removed_elements_are_gone.Goals as goal
+
+pub returns-clause-entry : goal.returns-clause-entry
+returns-clause-entry c = removes_entry
+
+pub returns-clause-value : goal.returns-clause-value
+returns-clause-value c = removes_value

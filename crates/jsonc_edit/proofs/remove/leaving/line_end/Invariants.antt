@@ -1,0 +1,13 @@
+use Rattle.std.proofs.Common.{◌≡◌, ◌<◌, length}
+use Rattle.jsonc_tree.specs.Siblings.{siblings_after}
+use Rattle.jsonc_edit.specs.remove.Leaving.{line_end}
+use Rattle.jsonc_edit.proofs.remove.leaving.line_end.Given as goal
+
+abbrev pub invariant-loop-next : goal.invariant-loop-next
+invariant-loop-next g l = record {
+  same : line_end l.tree.nodes l.node (siblings_after l.tree.nodes l.node) ≡ line_end l.tree.nodes l.last (siblings_after l.tree.nodes l.last);
+  there : l.last < length l.tree.nodes;
+}
+
+abbrev pub decreases-loop-next : goal.decreases-loop-next
+decreases-loop-next g l = length (siblings_after l.tree.nodes l.last)

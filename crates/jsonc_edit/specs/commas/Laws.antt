@@ -1,0 +1,124 @@
+-- Laws of trailing commas that are set: what becomes of the document.
+use Rattle.std.specs.Prelude.{◌≡◌, ◌<◌, ◌⊎◌, ℕ, true, List, length, Option, None, Some, IsTrue}
+use Rattle.std.specs.List.{All}
+use Rattle.jsonc_text.specs.Options.{Options}
+use Rattle.jsonc_text.specs.Plain.{Plain}
+use Rattle.jsonc_text.specs.Grammar.{IsDocument}
+use Rattle.jsonc_tree.specs.Content.{Content, token}
+use Rattle.jsonc_tree.specs.OrderedTree.{OrderedTree, none, more, ordered_tree}
+use Rattle.jsonc_tree.specs.Tree.{Node, IsTree, IsOver}
+use Rattle.jsonc_layout.specs.lines.Siblings.{trailing_comma_at}
+use Rattle.jsonc_sound.specs.Shape.{printed_text}
+use Rattle.jsonc_sound.specs.Marks.{marks}
+use Rattle.jsonc_sound.specs.SoundTrees.{SoundTree}
+use Rattle.jsonc_sound.specs.TreeChanges.{DocumentChanged}
+use Rattle.jsonc_edit.specs.Changes.{top_at}
+use Rattle.jsonc_edit.specs.Paths.{IsAt}
+use Rattle.jsonc_edit.specs.declared.modes.TrailingCommaMode.{TrailingCommaMode}
+use Rattle.jsonc_edit.specs.declared.modes.TrailingCommaMode.TheVariants.{Never, IfMultiline}
+use Rattle.jsonc_edit.specs.commas.Commas.{comma_gone, comma_wanted_behind}
+use Rattle.jsonc_edit.specs.commas.InTurn.{holders, holds_at, AreSetInPart, AreSetInTurn}
+
+-- the trailing comma of c is as the mode says: there is none, or none is wanted
+abbrev pub IsSet : TrailingCommaMode → List Node → ℕ → Type 0
+IsSet Never ns c = comma_gone ns c ≡ None
+IsSet IfMultiline ns c = comma_wanted_behind ns c ≡ None
+
+-- the second row is the first, but that commas have left it, or rows below it
+pub data LosesCommas : OrderedTree → OrderedTree → Type 0 where
+  ended : LosesCommas none none
+  stayed : {content : Content} {below under after rest : OrderedTree} → LosesCommas below under → LosesCommas after rest
+      → LosesCommas (more content below after) (more content under rest)
+  left : {below after rest : OrderedTree} → LosesCommas below none → LosesCommas after rest → LosesCommas (more (token 0x2C) below after) rest
+
+-- commas have left, or come, and nothing else has
+abbrev pub OnlyCommas : TrailingCommaMode → OrderedTree → OrderedTree → Type 0
+OnlyCommas Never t u = LosesCommas t u
+OnlyCommas IfMultiline t u = LosesCommas u t
+
+-- o, but that what the mode sets is allowed
+abbrev pub allowing : TrailingCommaMode → Options → Options
+allowing Never o = o
+allowing IfMultiline o = record o { trailing_commas = true }
+
+-- The text was a document, and is one of the same value, with what the mode sets allowed; its literals and comments are those that it had, in order; commas
+-- alone have left or come; and the document is sound.
+pub record SaysTheSame (mode : TrailingCommaMode) (o : Options) (t u : OrderedTree) : Type 0 where
+  pub value : Option Plain
+  pub old_text : IsDocument o (printed_text t) value
+  pub new_text : IsDocument (allowing mode o) (printed_text u) value
+  pub marks : marks u ≡ marks t
+  pub commas : OnlyCommas mode t u
+  pub sound : SoundTree (allowing mode o) u
+
+-- c is a node of a sound document
+pub record IsInSound (o : Options) (ns : List Node) (c : ℕ) : Type 0 where
+  pub tree : IsTree ns
+  pub over : IsOver ns 0 c
+  pub sound : SoundTree o (ordered_tree ns 0)
+
+-- where the commas of c and of all that are reached from it are set, the document says the same
+abbrev pub KeepsDocument : TrailingCommaMode → Options → List Node → ℕ → List Node → Type 0
+KeepsDocument mode o old c new =
+    IsInSound o old c → AreSetInTurn mode old (holders old c) new → SaysTheSame mode o (ordered_tree old 0) (ordered_tree new 0)
+
+-- and where that was refused in part
+abbrev pub KeepsDocumentInPart : TrailingCommaMode → Options → List Node → ℕ → List Node → Type 0
+KeepsDocumentInPart mode o old c new =
+    IsInSound o old c → AreSetInPart mode old (holders old c) new → SaysTheSame mode o (ordered_tree old 0) (ordered_tree new 0)
+
+-- then each is as the mode says
+abbrev pub SetsAll : TrailingCommaMode → Options → List Node → ℕ → List Node → Type 0
+SetsAll mode o old c new = IsInSound o old c → AreSetInTurn mode old (holders old c) new → All (IsSet mode new) (holders new c)
+
+-- and those that were set before a refusal are
+abbrev pub SetsThoseDone : TrailingCommaMode → Options → List Node → ℕ → List Node → Type 0
+SetsThoseDone mode o old c new = IsInSound o old c → (p : AreSetInPart mode old (holders old c) new) → All (IsSet mode new) p.done
+
+-- behind the trailing comma of c another comma comes, which stands in no sound document: one alone leaves
+abbrev pub HasSeveral : TrailingCommaMode → List Node → ℕ → Type 0
+HasSeveral Never ns c = (k m : ℕ) × (comma_gone ns c ≡ Some k) × (trailing_comma_at ns k ≡ Some m)
+HasSeveral IfMultiline ns c = ⊥
+
+-- each array or object that is reached from c is as the mode says now, save where several commas stood
+abbrev pub AreAsSaid : TrailingCommaMode → List Node → List Node → ℕ → Type 0
+AreAsSaid mode old new c = All (λ n. IsSet mode new n ⊎ HasSeveral mode old n) (holders new c)
+
+-- so it is in any document, sound or not, and in what has been taken out of one
+abbrev pub SetsAllButSeveral : TrailingCommaMode → List Node → ℕ → List Node → Type 0
+SetsAllButSeveral mode old c new = IsTree old → c < length old → AreSetInTurn mode old (holders old c) new → AreAsSaid mode old new c
+
+-- where each is as the mode says already, nothing changes; so of a sound document nothing does a second time
+abbrev pub LeavesWhatIsSet : TrailingCommaMode → List Node → ℕ → List Node → Type 0
+LeavesWhatIsSet mode old c new = All (IsSet mode old) (holders old c) → AreSetInTurn mode old (holders old c) new → new ≡ old
+
+abbrev pub SetsOnce : TrailingCommaMode → Options → List Node → List Node → ℕ → List Node → Type 0
+SetsOnce mode o old now c new =
+    IsInSound o old c → AreSetInTurn mode old (holders old c) now → AreSetInTurn mode now (holders now c) new → new ≡ now
+
+-- the same arrays and objects are there, in the same order
+abbrev pub KeepsHolders : TrailingCommaMode → List Node → ℕ → List Node → Type 0
+KeepsHolders mode old c new = IsTree old → c < length old → AreSetInTurn mode old (holders old c) new → holders new c ≡ holders old c
+
+-- where c is no node of the document, this stays as it is
+abbrev pub StaysApart : List Node → ℕ → List Node → Type 0
+StaysApart old c new = (IsOver old 0 c → ⊥) → ordered_tree new 0 ≡ ordered_tree old 0
+
+abbrev pub LeavesOthers : TrailingCommaMode → List Node → ℕ → List Node → Type 0
+LeavesOthers mode old c new = IsTree old → c < length old → AreSetInTurn mode old (holders old c) new → StaysApart old c new
+
+-- and where that was refused in part
+abbrev pub LeavesOthersInPart : TrailingCommaMode → List Node → ℕ → List Node → Type 0
+LeavesOthersInPart mode old c new = IsTree old → c < length old → AreSetInPart mode old (holders old c) new → StaysApart old c new
+
+-- where the commas of the array or object at a path are set, and of those in it, nothing changes outside of it
+abbrev pub StaysOutside : TrailingCommaMode → List Node → ℕ → List ℕ → List Node → Type 0
+StaysOutside mode old c path new =
+    IsTree old → IsOver old 0 c → IsTrue (holds_at old c) → IsAt old path c → AreSetInTurn mode old (holders old c) new
+    → DocumentChanged (top_at old c) (top_at new c) path (ordered_tree old 0) (ordered_tree new 0)
+
+-- and where that was refused in part
+abbrev pub StaysOutsideInPart : TrailingCommaMode → List Node → ℕ → List ℕ → List Node → Type 0
+StaysOutsideInPart mode old c path new =
+    IsTree old → IsOver old 0 c → IsTrue (holds_at old c) → IsAt old path c → AreSetInPart mode old (holders old c) new
+    → DocumentChanged (top_at old c) (top_at new c) path (ordered_tree old 0) (ordered_tree new 0)

@@ -1,0 +1,82 @@
+-- Laws of elements that are taken out: what becomes of the document.
+use Rattle.std.specs.Prelude.{◌≡◌, ℕ, List, Some, None, IsTrue}
+use Rattle.jsonc_text.specs.Options.{Options}
+use Rattle.jsonc_text.specs.Plain.{Plain}
+use Rattle.jsonc_text.specs.Grammar.{IsDocument}
+use Rattle.jsonc_tree.specs.OrderedTree.{OrderedTree, ordered_tree}
+use Rattle.jsonc_tree.specs.Tree.{Node, content_at, IsTree}
+use Rattle.jsonc_layout.specs.lines.Kinds.{holds_values}
+use Rattle.jsonc_sound.specs.Shape.{printed_text}
+use Rattle.jsonc_sound.specs.Rows.{RowKind, container_of}
+use Rattle.jsonc_tree.specs.OrderedTree.{Top}
+use Rattle.jsonc_sound.specs.TreeChanges.{IsElement, DocumentChanged}
+use Rattle.jsonc_sound.specs.SoundTrees.{SoundTree}
+use Rattle.jsonc_sound.specs.Marks.{marks}
+use Rattle.jsonc_sound.specs.Leaving.{ElementLeaves, ClosesUp, ValueLeaves, Empties}
+use Rattle.jsonc_sound.specs.EntryLaws.{LosesEntry, LosesMarks, root_with}
+use Rattle.jsonc_edit.specs.Changes.{top_at}
+use Rattle.jsonc_edit.specs.Paths.{IsAt, IsElementOf}
+use Rattle.jsonc_edit.specs.Spaced.{SpacesPut}
+use Rattle.jsonc_edit.specs.SeamRemovals.{EntryLeavesWithSeams}
+use Rattle.jsonc_edit.specs.remove.Removed.{TakesElement}
+
+-- spaces have come into the document, and then the element of this number has left the container at the path, which has closed up if it may; they stand at
+-- the seams: one or none where a comma before it stood, and one or none where it stood
+pub record EntryTaken (path : List ℕ) (i : ℕ) (top : Top) (t u : OrderedTree) : Type 0 where
+  pub spaced : OrderedTree
+  pub kind : RowKind
+  pub row : OrderedTree
+  pub left : OrderedTree
+  pub new : OrderedTree
+  pub element : IsElement top.content
+  pub spaces : SpacesPut t spaced
+  pub changed : DocumentChanged (container_of kind row) (container_of kind new) path spaced u
+  pub leaves : ElementLeaves top i row left
+  pub closes : ClosesUp left new
+  pub seams : EntryLeavesWithSeams path i top t u
+
+-- so it is where element number i of an array or object at a path of a sound document is taken out
+abbrev pub TakesEntry : Options → List Node → List Node → List ℕ → ℕ → ℕ → ℕ → Type 0
+TakesEntry o old new path c i n =
+    IsTree old → IsTree new → SoundTree o (ordered_tree old 0) → IsAt old path c
+    → IsTrue (holds_values (content_at old c)) → IsElementOf old c i n → TakesElement old new n
+    → EntryTaken path i (top_at old n) (ordered_tree old 0) (ordered_tree new 0)
+
+-- the root's value has left, and blanks that were left alone
+pub record ValueTaken (top : Top) (t u : OrderedTree) : Type 0 where
+  pub row : OrderedTree
+  pub left : OrderedTree
+  pub new : OrderedTree
+  pub element : IsElement top.content
+  pub was : t ≡ root_with row
+  pub now : u ≡ root_with new
+  pub leaves : ValueLeaves top row left
+  pub empties : Empties left new
+
+abbrev pub TakesValue : Options → List Node → List Node → ℕ → Type 0
+TakesValue o old new n = IsTree old → IsTree new → SoundTree o (ordered_tree old 0) → IsElementOf old 0 0 n
+    → TakesElement old new n → ValueTaken (top_at old n) (ordered_tree old 0) (ordered_tree new 0)
+
+-- The text was a document, and is one again, without that entry; of its marks those of the entry have left, and comments beside it; and the document is sound.
+pub record IsEntryRemoved (o : Options) (path : List ℕ) (i : ℕ) (top : Top) (t u : OrderedTree) : Type 0 where
+  pub before : Plain
+  pub after : Plain
+  pub old_text : IsDocument o (printed_text t) (Some before)
+  pub new_text : IsDocument o (printed_text u) (Some after)
+  pub loses : LosesEntry path i before after
+  pub marks : LosesMarks top (marks t) (marks u)
+  pub sound : SoundTree o u
+
+abbrev pub RemovesEntry : Options → OrderedTree → OrderedTree → List ℕ → ℕ → Top → Type 0
+RemovesEntry o t u path i top = SoundTree o t → EntryTaken path i top t u → IsEntryRemoved o path i top t u
+
+-- the text was a document with a value, and is one without
+pub record IsValueRemoved (o : Options) (top : Top) (t u : OrderedTree) : Type 0 where
+  pub before : Plain
+  pub old_text : IsDocument o (printed_text t) (Some before)
+  pub new_text : IsDocument o (printed_text u) None
+  pub marks : LosesMarks top (marks t) (marks u)
+  pub sound : SoundTree o u
+
+abbrev pub RemovesValue : Options → OrderedTree → OrderedTree → Top → Type 0
+RemovesValue o t u top = SoundTree o t → ValueTaken top t u → IsValueRemoved o top t u

@@ -1,0 +1,39 @@
+-- The value of a property, where it is set: another gives way to it, or it comes at the property's end.
+use Rattle.std.specs.Prelude.{◌≡◌, ◌≤◌, ℕ, Bool, true, List, length, Option, Some, None}
+use Rattle.jsonc_text.specs.Plain.{Plain}
+use Rattle.jsonc_tree.specs.Changes.{Appends, CanAppend}
+use Rattle.jsonc_tree.specs.Content.{Content}
+use Rattle.jsonc_tree.specs.Tree.{Node, content_at, IsTree}
+use Rattle.jsonc_layout.specs.from_input.Laid.{laid}
+use Rattle.jsonc_layout.specs.nodes.Properties.{lacks_name_at, value_at}
+use Rattle.jsonc_edit.specs.Reading.{layout_for}
+use Rattle.jsonc_edit.specs.Changes.{top_at}
+use Rattle.jsonc_edit.specs.Due.{due_around}
+use Rattle.jsonc_edit.specs.Put.{AreSpaced, Prepared}
+use Rattle.jsonc_edit.specs.declared.error.EditError.{EditError}
+use Rattle.jsonc_edit.specs.declared.error.EditError.TheVariants.{OutOfMemory, MissingName}
+use Rattle.jsonc_edit.specs.set.Kinds.{KeptOrReplaced, LacksKind}
+
+-- A value has come as the last child of the property p, as the node m: it was made ready, laid out as the old nodes tell, with the spaces that it needs; it
+-- came behind all that p holds; and then the spaces came that are due around it.
+pub record LastValue (old new : List Node) (p : ℕ) (v : Plain) (m : ℕ) : Type 0 where
+  pub ready : List Node
+  pub held : List Node
+  pub fresh : length old ≤ m
+  pub prepared : Prepared old ready
+  pub is : top_at ready m ≡ laid (layout_for old p p) v
+  pub can : CanAppend ready p m
+  pub put : Appends ready held p m
+  pub tree : IsTree held
+  pub spaces : AreSpaced held (due_around held m (laid (layout_for old p p) v).content) new
+
+-- where the value is of the kind it is answered; where another stood, or none, one has been set, and is answered
+abbrev pub HeldOrSet : (Content → Bool) → Plain → List Node → List Node → ℕ → Option ℕ → ℕ → Type 0
+HeldOrSet kind v old new p None m = LastValue old new p v m
+HeldOrSet kind v old new p (Some n) m = KeptOrReplaced (kind (content_at old n)) v old new n m
+
+-- why none was set: memory was wanted for it, or the property has no name, or no colon behind it
+abbrev pub IsUnset : (Content → Bool) → List Node → ℕ → EditError → Type 0
+IsUnset kind ns p OutOfMemory = LacksKind kind ns (value_at ns p)
+IsUnset kind ns p MissingName = lacks_name_at ns p ≡ true
+IsUnset kind ns p e = ⊥

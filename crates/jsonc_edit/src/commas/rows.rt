@@ -1,0 +1,149 @@
+//! The trailing comma of one array or object.
+
+ghost use Rattle.std.specs.Prelude.{◌≡◌, ◌<◌, IfSome, IsTrue, OnErr, OnOk, Some, length};
+ghost use Rattle.jsonc_tree.specs.Stored.{content_of};
+ghost use Rattle.jsonc_tree.specs.Tree.{content_at, is_container_at, parent_at, IsTree};
+ghost use Rattle.jsonc_layout.specs.lines.Kinds.{holds_values};
+ghost use Rattle.jsonc_layout.specs.nodes.Siblings.{IsThere};
+ghost use Rattle.jsonc_edit.specs.commas.Commas.{comma_gone, comma_wanted_behind, has_newline};
+ghost use Rattle.jsonc_edit.specs.commas.Commas.{if_without_comma, last_element};
+ghost use Rattle.jsonc_edit.specs.commas.Commas.{CommaComesBehind, CommaIsSet, GainsComma, LosesComma, WantsComma};
+ghost use Rattle.jsonc_tree.specs.Siblings.{TakesOut};
+
+use crate::TrailingCommaMode;
+use jsonc_layout::lines::trailing_comma;
+use jsonc_layout::nodes::{children_from, is_element, is_newline};
+use jsonc_tree::{Kind, Tree};
+use std::alloc::{AllocError, Allocator};
+
+// Whether a node is an array or an object.
+pub(crate) fn holds_values<A: Allocator>(kind: &Kind<A>) -> bool
+    ensures { result ≡ holds_values (content_of kind.now) }
+{
+    matches!(kind, Kind::Array(_) | Kind::Object(_))
+}
+
+// The last element of a container.
+fn last_element<A: Allocator>(tree: &Tree<A>, container: usize) -> Option<usize>
+    requires { container < length tree.now.nodes }
+    ensures last { result ≡ last_element tree.now.nodes container }
+    ensures child { IfSome result (λ n. parent_at tree.now.nodes n ≡ Some container) }
+    ensures there { IsThere tree.now.nodes result }
+{
+    let _ = tree.len();
+    tree.children_reversed(container)
+        .find(|child| is_element(tree, *child))
+}
+
+// Whether a line ends between a container's children.
+fn has_newline<A: Allocator>(tree: &Tree<A>, container: usize) -> bool
+    requires { container < length tree.now.nodes }
+    ensures { result ≡ has_newline tree.now.nodes container }
+{
+    children_from(tree, container, 0).any(|child| is_newline(tree, child))
+}
+
+// The trailing comma of a container: that of its last element.
+fn comma_gone<A: Allocator>(tree: &Tree<A>, container: usize) -> Option<usize>
+    requires { container < length tree.now.nodes }
+    ensures { result ≡ comma_gone tree.now.nodes container }
+{
+    trailing_comma(tree, last_element(tree, container)?)
+}
+
+// The node behind which a comma is to come: the last element of a container on several lines, if it
+// has none.
+fn comma_wanted_behind<A: Allocator>(tree: &Tree<A>, container: usize) -> Option<usize>
+    requires { container < length tree.now.nodes }
+    ensures { result ≡ comma_wanted_behind tree.now.nodes container }
+{
+    if !has_newline(tree, container) {
+        return None;
+    }
+    let node = last_element(tree, container)?;
+    match trailing_comma(tree, node) {
+        Some(_) => None,
+        None => Some(node),
+    }
+}
+
+// Takes a child out.
+fn take_out<A: Allocator>(tree: &mut Tree<A>, container: usize, child: usize)
+    requires { parent_at tree.old.nodes child ≡ Some container }
+    ensures taken { TakesOut tree.old.nodes tree.new.nodes container child }
+    ensures tree { IsTree tree.new.nodes }
+{
+    let _ = tree.len();
+    // A place is below the count of the children, so one more than it is a number too.
+    let _ = tree.child_count(container);
+    let place = tree.child_index(child);
+    tree.splice(container, place, place + 1, &[]);
+}
+
+// Takes a container's trailing comma away.
+fn take_comma<A: Allocator>(tree: &mut Tree<A>, container: usize)
+    requires { container < length tree.old.nodes }
+    ensures taken { LosesComma tree.old.nodes tree.new.nodes container }
+    ensures tree { IsTree tree.new.nodes }
+{
+    let _ = tree.len();
+    if let Some(comma) = comma_gone(tree, container) {
+        take_out(tree, container, comma);
+    }
+}
+
+// Puts a comma directly behind a child.
+fn put_comma<A: Allocator>(
+    tree: &mut Tree<A>,
+    container: usize,
+    node: usize,
+) -> Result<(), AllocError>
+    requires { parent_at tree.old.nodes node ≡ Some container }
+    ensures put { OnOk result (CommaComesBehind tree.old.nodes tree.new.nodes container node) }
+    ensures kept { OnErr result (tree.new.nodes ≡ tree.old.nodes) }
+    ensures tree { IsTree tree.new.nodes }
+{
+    let _ = tree.len();
+    let comma = tree.add(Kind::token(','))?;
+    let behind = tree.next_sibling(node);
+    tree.insert_between(container, Some(node), behind, comma);
+    Ok(())
+}
+
+// Puts a comma behind a container's last element, if one is wanted there.
+fn give_comma<A: Allocator>(tree: &mut Tree<A>, container: usize) -> Result<(), AllocError>
+    requires { container < length tree.old.nodes }
+    ensures given { OnOk result (GainsComma tree.old.nodes tree.new.nodes container) }
+    ensures kept { OnErr result (tree.new.nodes ≡ tree.old.nodes) }
+    ensures wanted { OnErr result (WantsComma tree.old.nodes container) }
+    ensures tree { IsTree tree.new.nodes }
+{
+    let _ = tree.len();
+    if let Some(node) = comma_wanted_behind(tree, container) {
+        put_comma(tree, container, node)?;
+    }
+    Ok(())
+}
+
+// Sets the trailing comma of an array or object.
+pub(crate) fn set_comma<A: Allocator>(
+    tree: &mut Tree<A>,
+    container: usize,
+    mode: TrailingCommaMode,
+) -> Result<(), AllocError>
+    requires { container < length tree.old.nodes }
+    ensures set { OnOk result (CommaIsSet mode tree.old.nodes tree.new.nodes container) }
+    ensures kept { OnErr result (tree.new.nodes ≡ tree.old.nodes) }
+    ensures wanted { OnErr result (mode ≡ TrailingCommaMode.IfMultiline) }
+    ensures missing { OnErr result (WantsComma tree.old.nodes container) }
+    ensures tree { IsTree tree.new.nodes }
+{
+    let _ = tree.len();
+    match mode {
+        TrailingCommaMode::Never => {
+            take_comma(tree, container);
+            Ok(())
+        }
+        TrailingCommaMode::IfMultiline => give_comma(tree, container),
+    }
+}

@@ -1,0 +1,58 @@
+//! Arrays and objects that are put on several lines.
+
+ghost use Rattle.std.specs.Prelude.{◌≡◌, ◌<◌, IfErr, IsTrue, OnErr, OnOk, length};
+ghost use Rattle.jsonc_tree.specs.Building.{Keeps};
+ghost use Rattle.jsonc_tree.specs.OrderedTree.{ordered_tree};
+ghost use Rattle.jsonc_tree.specs.Tree.{content_at, IsTree};
+ghost use Rattle.jsonc_layout.specs.lines.Kinds.{holds_values};
+ghost use Rattle.jsonc_edit.specs.multiline.Multiline.{has_line_end, IsUnspread, MadeMultiline};
+
+use crate::EditError;
+use crate::multiline::lines::lines_for;
+use crate::multiline::plan::plan_lines;
+use crate::remove::has_brackets;
+use jsonc_layout::nodes::{children_from, is_newline};
+use jsonc_tree::Tree;
+use std::alloc::Allocator;
+
+// Whether a line ends among the children of a container.
+fn has_line_end<A: Allocator>(tree: &Tree<A>, container: usize) -> bool
+    requires { container < length tree.now.nodes }
+    ensures { result ≡ has_line_end tree.now.nodes container }
+{
+    children_from(tree, container, 0).any(|child| is_newline(tree, child))
+}
+
+/// Puts an array or object on several lines, where no line ends among its children yet.
+///
+/// Each part of what stands between the brackets, through its comma, comes on a line of its own, one
+/// level deeper, without the whitespace around it, and the last bracket on one too. All memory is asked
+/// for before the row changes, and a refusal leaves the document, and every node that was there, as it
+/// was.
+pub fn ensure_multiline<A: Allocator + Copy>(
+    alloc: A,
+    tree: &mut Tree<A>,
+    container: usize,
+) -> Result<(), EditError>
+    requires there { container < length tree.old.nodes }
+    requires holds { IsTrue (holds_values (content_at tree.old.nodes container)) }
+    ensures made { OnOk result (MadeMultiline tree.old.nodes tree.new.nodes container) }
+    ensures told { IfErr result (IsUnspread tree.old.nodes container) }
+    ensures kept { OnErr result (Keeps (length tree.old.nodes) tree.old.nodes tree.new.nodes) }
+    ensures document { OnErr result (ordered_tree tree.new.nodes 0 ≡ ordered_tree tree.old.nodes 0) }
+    ensures tree { IsTree tree.new.nodes }
+{
+    let _ = tree.len();
+    if !has_brackets(tree, container) {
+        return Err(EditError::MissingBrackets);
+    }
+    if has_line_end(tree, container) {
+        return Ok(());
+    }
+    let lines = lines_for(alloc, tree, container)?;
+    let row = plan_lines(alloc, tree, container, &lines)?;
+    tree.reserve(container, row.len())?;
+    let count = tree.child_count(container);
+    tree.splice(container, 1, count - 1, &row);
+    Ok(())
+}

@@ -1,0 +1,148 @@
+//! A container's row, planned before it changes.
+
+ghost use Rattle.std.specs.Prelude.{◌≡◌, ◌==◌, ◌<◌, ◌≤◌, ◌∷◌, [], IfOk, IsTrue, OnOk, false, length};
+ghost use Rattle.jsonc_tree.specs.Content.{is_container};
+ghost use Rattle.jsonc_tree.specs.Stored.{content_of};
+ghost use Rattle.jsonc_edit.specs.Put.{Prepared};
+ghost use Rattle.jsonc_layout.specs.lines.Kinds.{is_comma};
+ghost use Rattle.jsonc_edit.specs.remove.Removed.{has_brackets};
+ghost use Rattle.jsonc_edit.specs.multiline.Lines.{last_line, new_line, without_back};
+ghost use Rattle.jsonc_edit.specs.multiline.LineViews.{lines_of};
+ghost use Rattle.jsonc_edit.specs.multiline.Plans.{begins_after, Gains, PlansLines, PutsChild};
+ghost use Rattle.jsonc_edit.specs.multiline.Slots.{comes};
+
+use crate::multiline::lines::Lines;
+use jsonc_layout::lines::is_comma;
+use jsonc_layout::nodes::{children, is_whitespace};
+use jsonc_tree::{Kind, Tree};
+use std::alloc::{AllocError, Allocator};
+
+// Whether a text is empty.
+fn is_empty(text: &str) -> bool
+    ensures { result ≡ (length text.now == 0) }
+{
+    text.len() == 0
+}
+
+// Makes a leaf and puts it behind a row that is being planned.
+fn push_leaf<A: Allocator + Copy>(
+    tree: &mut Tree<A>,
+    row: &mut Vec<usize, A>,
+    kind: Kind<A>,
+) -> Result<(), AllocError>
+    requires { is_container (content_of kind) ≡ false }
+    ensures gains { OnOk result
+        (Gains tree.old.nodes row.old.items tree.new.nodes row.new.items (comes (content_of kind) ∷ [])) }
+    ensures prepared { Prepared tree.old.nodes tree.new.nodes }
+{
+    let _ = tree.len();
+    let leaf = tree.add(kind)?;
+    row.push(leaf)?;
+    Ok(())
+}
+
+// Ends a line of a row that is being planned, and begins the next one with its indent.
+fn push_line<A: Allocator + Copy>(
+    alloc: A,
+    tree: &mut Tree<A>,
+    row: &mut Vec<usize, A>,
+    lines: &Lines<A>,
+) -> Result<(), AllocError>
+    ensures gains { OnOk result
+        (Gains tree.old.nodes row.old.items tree.new.nodes row.new.items (new_line (lines_of lines.now))) }
+    ensures prepared { Prepared tree.old.nodes tree.new.nodes }
+{
+    push_leaf(tree, row, Kind::Newline(lines.newline))?;
+    let indent = String::from_str(alloc, lines.inner.as_str())?;
+    push_leaf(tree, row, Kind::Whitespace(indent))
+}
+
+// Ends the last line between the brackets, and indents the bracket.
+fn push_last_line<A: Allocator + Copy>(
+    alloc: A,
+    tree: &mut Tree<A>,
+    row: &mut Vec<usize, A>,
+    lines: &Lines<A>,
+) -> Result<(), AllocError>
+    ensures gains { OnOk result
+        (Gains tree.old.nodes row.old.items tree.new.nodes row.new.items (last_line (lines_of lines.now))) }
+    ensures prepared { Prepared tree.old.nodes tree.new.nodes }
+{
+    push_leaf(tree, row, Kind::Newline(lines.newline))?;
+    if is_empty(lines.outer.as_str()) {
+        return Ok(());
+    }
+    let indent = String::from_str(alloc, lines.outer.as_str())?;
+    push_leaf(tree, row, Kind::Whitespace(indent))
+}
+
+// Puts a child behind a row that is being planned, on a new line where a part begins with it, and
+// answers whether one begins behind it.
+fn push_child<A: Allocator + Copy>(
+    alloc: A,
+    tree: &mut Tree<A>,
+    row: &mut Vec<usize, A>,
+    lines: &Lines<A>,
+    begins: bool,
+    child: usize,
+) -> Result<bool, AllocError>
+    requires { child < length tree.old.nodes }
+    ensures gains { OnOk result
+        (PutsChild tree.old.nodes row.old.items tree.new.nodes row.new.items (lines_of lines.now) begins child) }
+    ensures begins { IfOk result (λ b. b ≡ begins_after tree.old.nodes begins child) }
+    ensures prepared { Prepared tree.old.nodes tree.new.nodes }
+{
+    let _ = tree.len();
+    let blank = is_whitespace(tree, child);
+    let comma = is_comma(tree.kind(child));
+    if begins {
+        if blank {
+            return Ok(true);
+        }
+        push_line(alloc, tree, row, lines)?;
+    }
+    row.push(child)?;
+    Ok(comma)
+}
+
+// How many nodes it is up to the whitespace that a row ends with.
+fn blanks_from<A: Allocator>(tree: &Tree<A>, row: &[usize]) -> usize
+    ensures from { result ≡ length (without_back tree.now.nodes row.now) }
+    ensures within { result ≤ length row.now }
+{
+    let mut end = row.len();
+    while end > 0 {
+        if !is_whitespace(tree, row[end - 1]) {
+            return end;
+        }
+        end -= 1;
+    }
+    0
+}
+
+/// The row of an array or object on several lines: what stands between its brackets, by the numbers of
+/// the nodes. The leaves that come are made, and are nobody's children yet.
+pub fn plan_lines<A: Allocator + Copy>(
+    alloc: A,
+    tree: &mut Tree<A>,
+    container: usize,
+    lines: &Lines<A>,
+) -> Result<Vec<usize, A>, AllocError>
+    requires there { container < length tree.old.nodes }
+    requires brackets { IsTrue (has_brackets tree.old.nodes container) }
+    ensures planned { IfOk result
+        (λ row. PlansLines tree.old.nodes tree.new.nodes container (lines_of lines.now) row.items) }
+    ensures prepared { Prepared tree.old.nodes tree.new.nodes }
+{
+    let _ = tree.len();
+    let children = children(alloc, tree, container)?;
+    let inside = &children[1..children.len() - 1];
+    let end = blanks_from(tree, inside);
+    let mut row = Vec::new(alloc);
+    let mut begins = true;
+    for child in &inside[..end] {
+        begins = push_child(alloc, tree, &mut row, lines, begins, *child)?;
+    }
+    push_last_line(alloc, tree, &mut row, lines)?;
+    Ok(row)
+}

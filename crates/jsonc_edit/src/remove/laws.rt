@@ -1,0 +1,23 @@
+//! Laws of elements that are taken out: each is the contract of a function that does nothing.
+ghost use Rattle.std.specs.Prelude.{List, ℕ};
+ghost use Rattle.jsonc_text.specs.Options.{Options};
+ghost use Rattle.jsonc_tree.specs.OrderedTree.{OrderedTree};
+ghost use Rattle.jsonc_tree.specs.Tree.{Node};
+ghost use Rattle.jsonc_tree.specs.OrderedTree.{Top};
+ghost use Rattle.jsonc_edit.specs.remove.Laws.{RemovesEntry, RemovesValue, TakesEntry, TakesValue};
+
+/// Where an element of a container at a path of a sound document is taken out, spaces come where two
+/// literals without quotes would meet, and then it leaves the container's row, with what goes with it;
+/// and so does the document's value.
+pub fn elements_are_taken_out()
+    ensures entry { (o : Options) (old new : List Node) (path : List ℕ) (c i n : ℕ) → TakesEntry o old new path c i n }
+    ensures value { (o : Options) (old new : List Node) (n : ℕ) → TakesValue o old new n }
+{}
+
+/// The text is a document again, without that entry, and of its literals and comments those of the entry
+/// have left, and comments beside it; and the document is sound. It is so under all options.
+pub fn removed_elements_are_gone()
+    ensures entry { (o : Options) (t u : OrderedTree) (path : List ℕ) (i : ℕ) (top : Top)
+        → RemovesEntry o t u path i top }
+    ensures value { (o : Options) (t u : OrderedTree) (top : Top) → RemovesValue o t u top }
+{}

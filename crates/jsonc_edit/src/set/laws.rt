@@ -1,0 +1,47 @@
+//! Laws of values that are set: each is the contract of a function that does nothing.
+
+ghost use Rattle.std.specs.Prelude.{Bool, List, ℕ};
+ghost use Rattle.jsonc_text.specs.Options.{Options};
+ghost use Rattle.jsonc_text.specs.Plain.{Plain};
+ghost use Rattle.jsonc_tree.specs.Tree.{Node};
+ghost use Rattle.jsonc_edit.specs.set.Booleans.{StaysAtPath, WritesBoolean};
+ghost use Rattle.jsonc_edit.specs.set.Laws.{ComesAmongRows, GivesFirstValue, LeavesBareDocument};
+ghost use Rattle.jsonc_edit.specs.set.Properties.{TakesPropertysPlace, WritesProperty};
+
+/// Where a first value has come into a sound document that had none, and each number in it is a number,
+/// the text is a document again, of that value; of its literals and comments those of the value have
+/// come; and the document is sound. It is so under all options.
+pub fn documents_have_their_first_value()
+    ensures rows { (o : Options) (old new : List Node) (v : Plain) (m : ℕ) → ComesAmongRows o old new v m }
+    ensures document { (o : Options) (old new : List Node) (v : Plain) (m : ℕ) → GivesFirstValue o old new v m }
+{}
+
+/// A root whose children have all been taken out is a sound document, without a value and without
+/// literals and comments.
+pub fn cleared_documents_are_bare()
+    ensures { (o : Options) (new : List Node) → LeavesBareDocument o new }
+{}
+
+/// Where a property of an object at a path of a sound document has given way to one of a name and a
+/// value, and each number in the value is a number, the text is a document again, and its value is the
+/// old one but for that entry. A space has come where two literals without quotes would have met, and all
+/// other leaves stay, in order; of the literals and comments those of the old property have given way to
+/// the literals of the new one; and the document is sound. It is so under all options. The object stands
+/// where it stood, and the new property is the element that the old one was.
+pub fn replaced_properties_are_written()
+    ensures written { (o : Options) (old new : List Node) (path : List ℕ) (c i n m : ℕ) (name : List ℕ) (v : Plain)
+        → WritesProperty o old new path c i n m name v }
+    ensures place { (old new : List Node) (path : List ℕ) (c i n m : ℕ) (name : List ℕ) (v : Plain)
+        → TakesPropertysPlace old new path c i n m name v }
+{}
+
+/// Where a truth value at a path of a sound document was set, the text is a document again, and at the
+/// path of its value this truth value stands. A space has come where `false` would have run on into a
+/// hexadecimal number, and all other leaves stay, in order; of the literals and comments that of the old
+/// truth value has given way; and the document is sound. It is so under all options. The leaf stands
+/// where it stood.
+pub fn set_booleans_are_written()
+    ensures written { (o : Options) (old new : List Node) (path : List ℕ) (n : ℕ) (b : Bool)
+        → WritesBoolean o old new path n b }
+    ensures place { (old new : List Node) (path : List ℕ) (n : ℕ) (b : Bool) → StaysAtPath old new path n b }
+{}

@@ -1,8 +1,0 @@
-use Rattle.jsonc_from_input.proofs.Meanings.{laid_value, laid_pair}
-use Rattle.jsonc_from_input.proofs.laws.laid_values_mean_themselves.Goals as goal
-
-pub returns-clause-value : goal.returns-clause-value
-returns-clause-value c = laid_value
-
-pub returns-clause-property : goal.returns-clause-property
-returns-clause-property c = laid_pair

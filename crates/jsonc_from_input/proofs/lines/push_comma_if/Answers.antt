@@ -1,5 +1,0 @@
-use Rattle.jsonc_from_input.proofs.Rows.{no_comma}
-use Rattle.jsonc_from_input.proofs.lines.push_comma_if.Goals as goal
-
-pub returns-then-not-wanted-clause-added : goal.returns-then-not-wanted-clause-added
-returns-then-not-wanted-clause-added g c = no_comma c.args.wanted c.if-not-wanted.true c.requires

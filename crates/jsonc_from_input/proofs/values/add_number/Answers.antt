@@ -1,7 +1,0 @@
-use Rattle.std.proofs.Common.{◌∙◌, sym, chars}
-use Rattle.std.proofs.lemmas.Str.{encodes-chars}
-use Rattle.jsonc_from_input.proofs.Leaves.{number_built}
-use Rattle.jsonc_from_input.proofs.values.add_number.Goals as goal
-
-pub returns-clause-built : goal.returns-clause-built
-returns-clause-built g c = number_built _ _ _ (chars c.args.text.now) c.add.result (c.in_ok-literal.ensures.ok ∙ sym (encodes-chars c.args.text.now c.utf8.text)) c.add.ensures.tree c.add.ensures.number c.add.ensures.added

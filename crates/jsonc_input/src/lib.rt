@@ -1,8 +1,0 @@
-//! Values handed to edits, and how their strings are spelled.
-#![tactic(auto)]
-
-pub mod laws;
-pub mod spelling;
-mod value;
-
-pub use value::CstInputValue;

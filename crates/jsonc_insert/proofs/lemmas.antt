@@ -1,0 +1,4 @@
+pub mod elements
+pub mod properties
+pub mod named
+pub mod members

@@ -1,0 +1,12 @@
+pub mod Opening
+pub mod Making
+pub mod Joining
+pub mod Elements
+pub mod Numbering
+pub mod Past
+pub mod Leaving
+pub mod Spreading
+pub mod Changing
+pub mod Commas
+pub mod Fits
+pub mod SamePlans

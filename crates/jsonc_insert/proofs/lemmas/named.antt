@@ -1,0 +1,7 @@
+pub mod PathValues
+pub mod PropertyValues
+pub mod Values
+pub mod Names
+pub mod Creating
+pub mod Writing
+pub mod Unensured

@@ -1,0 +1,139 @@
+-- A property with an empty value that has come into an object: which node that value is.
+use Rattle.std.proofs.Common.{◌≡◌, ℕ, ◌<◌, ◌≤◌, Bool, true, false, not, cond, List, [], ◌∷◌, length, Option, Some, None, Result, Ok, Err, IfOk, refl, sym, ap, subst, ◌∙◌, arith}
+use Rattle.std.proofs.lemmas.List.Filters.{length-filter_both}
+use Rattle.std.specs.List.{find}
+use Rattle.jsonc_text.specs.Options.{all_on}
+use Rattle.jsonc_tree.specs.Content as content
+use Rattle.jsonc_tree.specs.Content.{Content, property, token, whitespace}
+use Rattle.jsonc_tree.specs.OrderedTree.{OrderedTree, none, more, Shows, Top}
+use Rattle.jsonc_tree.specs.Tree.{Node, content_at, children_at, IsTree}
+use Rattle.jsonc_tree.proofs.Order.{parent_there}
+use Rattle.jsonc_layout.specs.nodes.Kinds.{is_colon, is_colon_at, is_element, is_element_at}
+use Rattle.jsonc_layout.specs.nodes.Properties.{behind_first, is_name, is_name_at, value_at}
+use Rattle.jsonc_layout.specs.nodes.Siblings.{elements_at}
+use Rattle.jsonc_layout.proofs.lemmas.nodes.Held.{held_in, value_is_held}
+use Rattle.jsonc_layout.specs.from_input.Laid.{laid, laid_property}
+use Rattle.jsonc_layout.specs.from_input.Layout.{Layout}
+use Rattle.jsonc_edit.specs.Changes.{row_below, top_at}
+use Rattle.jsonc_edit.specs.Put.{AreSpaced}
+use Rattle.jsonc_edit.proofs.FittingFinds.{passes, fails}
+use Rattle.jsonc_edit.proofs.Uniqueness.{element_parent}
+use Rattle.jsonc_edit.proofs.Walk.{Shows-row_below}
+use Rattle.jsonc_insert.specs.Planned.{has_brackets}
+use Rattle.jsonc_insert.specs.members.Inserted.{PropertyPut}
+use Rattle.jsonc_insert.specs.members.Told.{layout_inside}
+use Rattle.jsonc_insert.proofs.lemmas.members.Changing.{is_property}
+use Rattle.jsonc_insert.proofs.lemmas.members.Numbering.{takes_number}
+use Rattle.jsonc_insert.proofs.lemmas.members.Past.{past_the_end}
+use Rattle.jsonc_edit.specs.set.Kinds.{KeptOrReplaced}
+use Rattle.jsonc_edit.specs.set.PropertyValues.{HeldOrSet}
+use Rattle.jsonc_insert.specs.declared.named.shape.Shape.{Shape}
+use Rattle.jsonc_insert.specs.declared.named.shape.Shape.TheVariants.{Object, Array}
+use Rattle.jsonc_insert.specs.named.Shapes.{is_of, empty_of}
+use Rattle.jsonc_insert.proofs.lemmas.named.PropertyValues.{first_shown}
+
+-- the node of an empty value is of the shape
+empty_laid : (layout : Layout) (shape : Shape) → (is_element (laid layout (empty_of shape)).content ≡ true) × (is_of shape (laid layout (empty_of shape)).content ≡ true)
+empty_laid layout Object = (refl, refl)
+empty_laid layout Array = (refl, refl)
+
+module _ (ns : List Node) where
+  begins : (test : ℕ → Bool) (n : ℕ) (rest : List ℕ) → test n ≡ true → behind_first test (n ∷ rest) ≡ rest
+  begins test n rest h = ap (λ b. cond b rest (behind_first test rest)) h
+
+  -- what a row holds that is a name, a colon, a space and a value
+  record HoldsLast (xs : List ℕ) (value : Content) : Type 0 where
+    node : ℕ
+    held : held_in ns xs ≡ Some node
+    kind : content_at ns node ≡ value
+
+  -- step by step, from the value back
+  last_value : (xs : List ℕ) (value : Content) (below : OrderedTree) → is_element value ≡ true → Shows ns xs (more value below none) → (n : ℕ) × (find (is_element_at ns) xs ≡ Some n) × (content_at ns n ≡ value)
+  last_value xs value below is p =
+      let d = first_shown all_on ns xs (more value below none) p value below none refl in
+      (d.node, ap (find (is_element_at ns)) d.is ∙ passes (is_element_at ns) d.node d.rest (ap is_element d.kind ∙ is), d.kind)
+
+  behind_space : (xs : List ℕ) (space : List ℕ) (value : Content) (below : OrderedTree) → is_element value ≡ true → Shows ns xs (more (whitespace space) none (more value below none)) → (n : ℕ) × (find (is_element_at ns) xs ≡ Some n) × (content_at ns n ≡ value)
+  behind_space xs space value below is p =
+      let c = first_shown all_on ns xs (more (whitespace space) none (more value below none)) p (whitespace space) none (more value below none) refl in
+      let d = last_value c.rest value below is c.shown in
+      (d.0, ap (find (is_element_at ns)) c.is ∙ fails (is_element_at ns) c.node c.rest (ap is_element c.kind) ∙ d.1, d.2)
+
+  behind_colon_too : (xs : List ℕ) (space : List ℕ) (value : Content) (below : OrderedTree) → is_element value ≡ true → Shows ns xs (more (token 0x3A) none (more (whitespace space) none (more value below none)))
+      → (n : ℕ) × (find (is_element_at ns) (behind_first (is_colon_at ns) xs) ≡ Some n) × (content_at ns n ≡ value)
+  behind_colon_too xs space value below is p =
+      let rest : OrderedTree = more (whitespace space) none (more value below none) in
+      let b = first_shown all_on ns xs (more (token 0x3A) none rest) p (token 0x3A) none rest refl in
+      let d = behind_space b.rest space value below is b.shown in
+      let past : behind_first (is_colon_at ns) xs ≡ b.rest = ap (behind_first (is_colon_at ns)) b.is ∙ begins (is_colon_at ns) b.node b.rest (ap is_colon b.kind) in
+      (d.0, ap (find (is_element_at ns)) past ∙ d.1, d.2)
+
+  holds_last : (xs : List ℕ) (name : List ℕ) (space : List ℕ) (value : Content) (below : OrderedTree) → is_element value ≡ true
+      → Shows ns xs (more (content.string name) none (more (token 0x3A) none (more (whitespace space) none (more value below none)))) → HoldsLast xs value
+  holds_last xs name space value below is p =
+      let rest : OrderedTree = more (token 0x3A) none (more (whitespace space) none (more value below none)) in
+      let a = first_shown all_on ns xs (more (content.string name) none rest) p (content.string name) none rest refl in
+      let d = behind_colon_too a.rest space value below is a.shown in
+      let past : behind_first (is_name_at ns) xs ≡ a.rest = ap (behind_first (is_name_at ns)) a.is ∙ begins (is_name_at ns) a.node a.rest (ap is_name a.kind) in
+      record { node = d.0; held = ap (λ l. find (is_element_at ns) (behind_first (is_colon_at ns) l)) past ∙ d.1; kind = d.2 }
+
+pub some_same : (n m : ℕ) → Some n ≡ Some m → n ≡ m
+some_same n m e = cc
+
+-- a container has no more elements than children
+fewer : (ns : List Node) (c : ℕ) → length (elements_at ns c) ≤ length (children_at ns c)
+fewer ns c = omega (arith, length-filter_both (is_element_at ns) (λ n. not (is_element_at ns n)) (λ n. refl) (children_at ns c))
+
+-- the property that has come at the number of the children holds its value
+pub record HoldsEmpty (new : List Node) (p : ℕ) (shape : Shape) : Type 0 where
+  pub value : ℕ
+  pub holds : value_at new p ≡ Some value
+  pub shaped : is_of shape (content_at new value) ≡ true
+
+module _ (old new : List Node) (c i : ℕ) (name : List ℕ) (shape : Shape) (p : ℕ) (tree : IsTree old) (there : c < length old) (brackets : has_brackets old (children_at old c) ≡ true) (e : PropertyPut old new c i name (empty_of shape) p) where
+  pub property_there : p < length new
+  property_there = (parent_there new e.tree p c (element_parent new e.tree c _ p (takes_number old new c i name (empty_of shape) p tree there brackets e))).0
+
+  abbrev layout : Layout
+  layout = layout_inside e.lined c e.was
+
+  is : top_at new p ≡ laid_property layout name (empty_of shape)
+  is = is_property old new c i name (empty_of shape) p tree there e
+
+  pub holds_empty : HoldsEmpty new p shape
+  holds_empty =
+      let value : Top = laid layout (empty_of shape) in
+      let empty = empty_laid layout shape in
+      let kind : content_at new p ≡ property = ap (λ (t : Top). t.content) is in
+      let below : row_below new p ≡ (laid_property layout name (empty_of shape)).below = ap (λ (t : Top). t.below) is in
+      let shown = subst (λ t. Shows new (children_at new p) t) below (Shows-row_below new e.tree p property_there) in
+      let last = holds_last new (children_at new p) _ _ value.content value.below empty.0 shown in
+      record {
+        value = last.node;
+        holds = value_is_held new p kind ∙ last.held;
+        shaped = ap (is_of shape) last.kind ∙ empty.1;
+      }
+
+  pub put_last : i ≡ length (children_at old c) → PropertyPut old new c (length (elements_at old c)) name (empty_of shape) p
+  put_last at =
+      past_the_end old new c i (length (elements_at old c)) name (empty_of shape) p tree there brackets
+      (subst (λ k. length (elements_at old c) ≤ k) (sym at) (fewer old c)) (omega arith) e
+
+-- each node stays what it is where spaces come
+contents_spaced : (xs : List ℕ) (old new : List Node) → AreSpaced old xs new → (k : ℕ) → content_at new k ≡ content_at old k
+contents_spaced [] old new e k = ap (λ ns. content_at ns k) e
+contents_spaced (x ∷ xs) old new (now, leaf, r, rest) k = contents_spaced xs now new rest k ∙ r.put.content k
+
+-- a value that was found, or has been set, is of the shape
+module _ (shape : Shape) (old new : List Node) (p : ℕ) where
+  kept_shaped : (n m : ℕ) (b : Bool) → is_of shape (content_at old n) ≡ b → KeptOrReplaced b (empty_of shape) old new n m → is_of shape (content_at new m) ≡ true
+  kept_shaped n m true is (here, same) = ap (λ k. is_of shape (content_at new k)) here ∙ ap (λ ns. is_of shape (content_at ns n)) same ∙ is
+  kept_shaped n m false is r = ap (is_of shape) (r.2.place.replaces.spliced.content m ∙ ap (λ (t : Top). t.content) r.2.place.is) ∙ (empty_laid _ shape).1
+
+  pub held_shaped : (o : Option ℕ) (m : ℕ) → HeldOrSet (is_of shape) (empty_of shape) old new p o m → is_of shape (content_at new m) ≡ true
+  held_shaped None m l = ap (is_of shape) (contents_spaced _ l.held new l.spaces m ∙ l.put.content m ∙ ap (λ (t : Top). t.content) l.is) ∙ (empty_laid _ shape).1
+  held_shaped (Some n) m r = kept_shaped n m (is_of shape (content_at old n)) refl r
+
+  pub result_shaped : {E : Type 0} (o : Option ℕ) (r : Result ℕ E) → IfOk r (HeldOrSet (is_of shape) (empty_of shape) old new p o) → IfOk r (λ m. is_of shape (content_at new m) ≡ true)
+  result_shaped o (Ok m) h = held_shaped o m h
+  result_shaped o (Err e) h = tt

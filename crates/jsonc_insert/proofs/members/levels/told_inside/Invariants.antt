@@ -1,0 +1,10 @@
+use Rattle.std.proofs.Common.{◌≡◌, drop, map, option_map, string_bytes}
+use Rattle.jsonc_layout.specs.lines.Indents.{told_by}
+use Rattle.jsonc_layout.specs.lines.Lines.{indent_at}
+use Rattle.jsonc_insert.specs.members.Told.{told_inside}
+use Rattle.jsonc_insert.proofs.members.levels.told_inside.Given as goal
+
+abbrev pub invariant-loop-place : goal.invariant-loop-place
+invariant-loop-place g l =
+    let ns = l.tree.nodes in
+    told_inside ns l.object l.row l.node ≡ told_by l.place (option_map string_bytes l.held) (map (indent_at ns) (drop l.place l.levels.items))

@@ -1,0 +1,4 @@
+pub mod Coming
+pub mod Laws
+pub mod Members
+pub mod Worked

@@ -1,0 +1,6 @@
+pub mod Shapes
+pub mod Places
+pub mod Named
+pub mod Values
+pub mod Members
+pub mod Laws

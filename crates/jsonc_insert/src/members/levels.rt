@@ -1,0 +1,161 @@
+//! The indents of what stands in an object that is to have a row.
+
+ghost use Rattle.std.specs.Prelude.{◌≡◌, ◌≤◌, ◌<◌, All, IfOk, Some, length};
+ghost use Rattle.std.specs.Prelude.{option_map, string_bytes};
+ghost use Rattle.jsonc_layout.specs.lines.Indents.{held_after, levels_in, more_of};
+ghost use Rattle.jsonc_layout.specs.lines.IndentViews.{text_in, texts_of};
+ghost use Rattle.jsonc_insert.specs.members.Told.{document_indent, indent_in, indents_beside, last_line, levels_inside};
+ghost use Rattle.jsonc_insert.specs.members.Told.{single_inside, told_inside};
+
+use crate::{first_indent, indent_of_line, place_in};
+use jsonc_layout::lines::{
+    Indents, held_after, held_text, indent_text, is_in_document, levels_in, more_of,
+    stands_in_property,
+};
+use jsonc_layout::nodes::{children, first_element_from, is_newline};
+use jsonc_tree::Tree;
+use std::alloc::{AllocError, Allocator};
+
+// How many nodes stand on the line that a row ends with.
+fn last_line<A: Allocator>(tree: &Tree<A>, row: &[usize]) -> usize
+    ensures count { result ≡ last_line tree.now.nodes row.now }
+    ensures within { result ≤ length row.now }
+{
+    row.iter()
+        .rev()
+        .take_while(|node| !is_newline(tree, **node))
+        .count()
+}
+
+// The indent of a node that stands in a row.
+fn indent_in<A: Allocator + Copy>(
+    alloc: A,
+    tree: &Tree<A>,
+    row: &[usize],
+    node: usize,
+) -> Result<Option<String<A>>, AllocError>
+    ensures indent { IfOk result (λ o. text_in o ≡ indent_in tree.now.nodes row.now node) }
+{
+    let place = place_in(row, node);
+    let count = last_line(tree, &row[0..place]);
+    indent_of_line(alloc, tree, &row[place - count..place])
+}
+
+// The levels of indent above what stands in an object, nearest first.
+fn levels_inside<A: Allocator>(
+    alloc: A,
+    tree: &Tree<A>,
+    object: usize,
+) -> Result<Vec<usize, A>, AllocError>
+    requires { object < length tree.now.nodes }
+    ensures levels { IfOk result (λ v. v.items ≡ levels_inside tree.now.nodes object) }
+    ensures there { IfOk result (λ v. All (λ m. m < length tree.now.nodes) v.items) }
+{
+    let mut levels = Vec::new(alloc);
+    let _ = tree.len();
+    let mut next = Some(object);
+    while let Some(at) = next {
+        if at == 0 {
+            return Ok(levels);
+        }
+        next = tree.parent(at);
+        if stands_in_property(tree, at) {
+            continue;
+        }
+        levels.push(at)?;
+    }
+    Ok(levels)
+}
+
+// The indents that two lines next to one another tell, of a node of the row and the levels above it.
+fn told_inside<A: Allocator + Copy>(
+    alloc: A,
+    tree: &Tree<A>,
+    object: usize,
+    row: &[usize],
+    node: usize,
+) -> Result<Option<Indents<A>>, AllocError>
+    requires { object < length tree.now.nodes }
+    ensures { IfOk result (λ o. option_map texts_of o ≡ told_inside tree.now.nodes object row.now node) }
+{
+    let levels = levels_inside(alloc, tree, object)?;
+    let mut held = indent_in(alloc, tree, row, node)?;
+    for place in 0..levels.len() {
+        let outer = indent_text(alloc, tree, levels[place])?;
+        if let Some(single) = more_of(&held, &outer) {
+            let told = levels_in(alloc, held_text(&held), place, single)?;
+            return Ok(Some(told));
+        }
+        held = held_after(held, outer);
+    }
+    Ok(None)
+}
+
+// The first indent in the document's value, where an object that is to have a row stands in the document.
+fn document_indent<A: Allocator + Copy>(
+    alloc: A,
+    tree: &Tree<A>,
+    object: usize,
+    row: &[usize],
+) -> Result<Option<String<A>>, AllocError>
+    requires { object < length tree.now.nodes }
+    ensures { IfOk result (λ o. text_in o ≡ document_indent tree.now.nodes object row.now) }
+{
+    let _ = tree.len();
+    if !is_in_document(tree, object) {
+        return Ok(None);
+    }
+    let Some(value) = first_element_from(tree, 0, 0) else {
+        return Ok(None);
+    };
+    if value == object {
+        return first_indent(alloc, tree, row);
+    }
+    let others = children(alloc, tree, value)?;
+    first_indent(alloc, tree, &others)
+}
+
+// What one level adds, where no two lines tell: the indent of a node of the row where one level is above
+// it, the document's, or two spaces.
+fn single_inside<A: Allocator + Copy>(
+    alloc: A,
+    tree: &Tree<A>,
+    object: usize,
+    row: &[usize],
+    node: usize,
+    count: usize,
+) -> Result<String<A>, AllocError>
+    requires there { object < length tree.now.nodes }
+    requires count { count ≡ length (levels_inside tree.now.nodes object) }
+    ensures { IfOk result (λ s. string_bytes s ≡ single_inside tree.now.nodes object row.now node) }
+{
+    if count == 1 {
+        if let Some(own) = indent_in(alloc, tree, row, node)? {
+            return Ok(own);
+        }
+    }
+    if let Some(first) = document_indent(alloc, tree, object, row)? {
+        return Ok(first);
+    }
+    String::from_str(alloc, "  ")
+}
+
+/// The indents at a node of a row that an object is to have: as at a node by its number, but that its line
+/// is read in the row.
+pub(crate) fn indents_beside<A: Allocator + Copy>(
+    alloc: A,
+    tree: &Tree<A>,
+    object: usize,
+    row: &[usize],
+    node: usize,
+) -> Result<Indents<A>, AllocError>
+    requires there { object < length tree.now.nodes }
+    ensures indents { IfOk result (λ i. texts_of i ≡ indents_beside tree.now.nodes object row.now node) }
+{
+    if let Some(told) = told_inside(alloc, tree, object, row, node)? {
+        return Ok(told);
+    }
+    let levels = levels_inside(alloc, tree, object)?;
+    let single = single_inside(alloc, tree, object, row, node, levels.len())?;
+    levels_in(alloc, "", levels.len(), single.as_str())
+}

@@ -1,0 +1,157 @@
+//! Properties that come into objects.
+
+ghost use Rattle.std.specs.Prelude.{◌≡◌, ◌<◌, All, IfErr, IfOk, OnErr, OnOk, chars, length, string_bytes, true};
+ghost use Rattle.jsonc_tree.specs.Building.{Keeps};
+ghost use Rattle.jsonc_tree.specs.Content.{Content};
+ghost use Rattle.jsonc_tree.specs.OrderedTree.{ordered_tree};
+ghost use Rattle.jsonc_tree.specs.Tree.{children_at, content_at, IsTree};
+ghost use Rattle.jsonc_layout.specs.input.Views.{plain};
+ghost use Rattle.jsonc_layout.specs.from_input.Layout.{layout_of};
+ghost use Rattle.jsonc_edit.specs.Put.{Prepared};
+ghost use Rattle.jsonc_insert.specs.Inserted.{refusal};
+ghost use Rattle.jsonc_insert.specs.Planned.{has_brackets};
+ghost use Rattle.jsonc_insert.specs.Settings.{indents_of};
+ghost use Rattle.jsonc_insert.specs.members.Inserted.{plan_inside, PropertyPut, RowMade};
+ghost use Rattle.jsonc_insert.specs.members.Opened.{IsBefore};
+ghost use Rattle.jsonc_insert.specs.members.Told.{layout_inside};
+
+use crate::members::made::make;
+use crate::members::opened::opened;
+use crate::members::settings::layout_inside;
+use crate::{Plan, has_brackets, outer_indent, planned, trimmed, with_made};
+use jsonc_edit::EditError;
+use jsonc_layout::from_input::Layout;
+use jsonc_layout::input::CstInputValue;
+use jsonc_tree::Tree;
+use std::alloc::{AllocError, Allocator};
+
+// What the document tells of a property that comes in.
+#[derive(Drop)]
+struct Reading<A: Allocator> {
+    // How the property is laid out.
+    layout: Layout<A>,
+    // The indent of the object's own line.
+    outer: String<A>,
+    // Where the property comes.
+    plan: Plan,
+}
+
+// A row that an object is to have.
+#[derive(Drop)]
+struct NewRow<A: Allocator> {
+    row: Vec<usize, A>,
+    // The new property, which stands in it.
+    property: usize,
+}
+
+// Reads what the document tells of a property that comes into an object as its number, where the object
+// is to have this row before.
+fn read<A: Allocator + Copy>(
+    alloc: A,
+    tree: &Tree<A>,
+    object: usize,
+    row: &[usize],
+    index: usize,
+) -> Result<Reading<A>, AllocError>
+    requires object { object < length tree.now.nodes }
+    requires there { All (λ m. m < length tree.now.nodes) row.now }
+    requires brackets { has_brackets tree.now.nodes row.now ≡ true }
+    ensures layout { IfOk result (λ r. layout_of r.layout ≡ layout_inside tree.now.nodes object row.now) }
+    ensures outer { IfOk result (λ r. string_bytes r.outer ≡ (indents_of tree.now.nodes object row.now).current) }
+    ensures plan { IfOk result (λ r. r.plan ≡ plan_inside tree.now.nodes object row.now index) }
+{
+    let layout = layout_inside(alloc, tree, object, row)?;
+    let outer = outer_indent(alloc, tree, object, row)?;
+    let plan = planned(tree, true, layout.trailing_commas, row, index);
+    Ok(Reading {
+        layout,
+        outer,
+        plan,
+    })
+}
+
+// The row that an object is to have with a property as its number, where it is to have another row
+// before; what comes is made.
+fn make_row<A: Allocator + Copy>(
+    alloc: A,
+    tree: &mut Tree<A>,
+    object: usize,
+    row: &[usize],
+    index: usize,
+    name: &str,
+    value: &CstInputValue<A>,
+) -> Result<NewRow<A>, AllocError>
+    requires object { object < length tree.old.nodes }
+    requires there { All (λ m. m < length tree.old.nodes) row.now }
+    requires brackets { has_brackets tree.old.nodes row.now ≡ true }
+    ensures made { IfOk result (λ r. RowMade tree.old.nodes tree.new.nodes object row.now index
+        (chars name.now) (plain value.now) r.property r.row.items) }
+    ensures prepared { Prepared tree.old.nodes tree.new.nodes }
+{
+    let _ = tree.len();
+    let told = read(alloc, tree, object, row, index)?;
+    let outer = told.outer.as_str();
+    let made = make(alloc, tree, name, value, &told.layout, outer, told.plan)?;
+    let row = with_made(alloc, told.plan, &made, row)?;
+    Ok(NewRow {
+        row,
+        property: made.element,
+    })
+}
+
+// The row of an object on several lines, without blank lines inside its brackets; the leaves that come
+// are made.
+fn row_before<A: Allocator + Copy>(
+    alloc: A,
+    tree: &mut Tree<A>,
+    object: usize,
+) -> Result<Vec<usize, A>, AllocError>
+    requires there { object < length tree.old.nodes }
+    requires brackets { has_brackets tree.old.nodes (children_at tree.old.nodes object) ≡ true }
+    ensures is { IfOk result (λ v. IsBefore tree.old.nodes tree.new.nodes object v.items) }
+    ensures prepared { Prepared tree.old.nodes tree.new.nodes }
+{
+    let opened = opened(alloc, tree, object)?;
+    trimmed(alloc, tree, &opened)
+}
+
+/// Lets a property of this name and value come into an object as its property of this number, or behind
+/// the last one where there are fewer, and answers the number of its node.
+///
+/// An object without the end of a line between its brackets is put on several lines. Blank lines directly
+/// inside the brackets leave: behind the first bracket all but the first line's end, before the last all
+/// but the last. The property comes on a line of its own behind the one before it, its comma and the
+/// comments on that line; a comma comes where one is wanted. The document tells its indent, how lines end
+/// and whether the last property has a comma.
+///
+/// An object that lacks a bracket answers `MissingBrackets`. A refusal leaves the document, and every node
+/// that was there, as it was.
+pub fn insert_property<A: Allocator + Copy>(
+    alloc: A,
+    tree: &mut Tree<A>,
+    object: usize,
+    index: usize,
+    name: &str,
+    value: &CstInputValue<A>,
+) -> Result<usize, EditError>
+    requires there { object < length tree.old.nodes }
+    requires object { content_at tree.old.nodes object ≡ Content.object }
+    ensures put { IfOk result (PropertyPut tree.old.nodes tree.new.nodes object index (chars name.now)
+        (plain value.now)) }
+    ensures brackets { OnOk result (has_brackets tree.old.nodes (children_at tree.old.nodes object) ≡ true) }
+    ensures told { IfErr result (λ e. e ≡ refusal tree.old.nodes object) }
+    ensures kept { OnErr result (Keeps (length tree.old.nodes) tree.old.nodes tree.new.nodes) }
+    ensures document { OnErr result (ordered_tree tree.new.nodes 0 ≡ ordered_tree tree.old.nodes 0) }
+    ensures tree { IsTree tree.new.nodes }
+{
+    let _ = tree.len();
+    if !has_brackets(tree, object) {
+        return Err(EditError::MissingBrackets);
+    }
+    let count = tree.child_count(object);
+    let before = row_before(alloc, tree, object)?;
+    let made = make_row(alloc, tree, object, &before, index, name, value)?;
+    tree.reserve(object, made.row.len())?;
+    tree.splice(object, 0, count, &made.row);
+    Ok(made.property)
+}

@@ -1,0 +1,171 @@
+//! The first property of a name in an object, whose value is to be an array or object.
+
+ghost use Rattle.std.specs.Prelude.{◌≡◌, ◌<◌, IfErr, IfOk, IfSome, OnErr, OnOk, Some, chars, false, length, true};
+ghost use Rattle.jsonc_layout.specs.input.Views.{plain};
+ghost use Rattle.jsonc_tree.specs.Building.{Keeps};
+ghost use Rattle.jsonc_tree.specs.Content.{Content};
+ghost use Rattle.jsonc_tree.specs.OrderedTree.{ordered_tree};
+ghost use Rattle.jsonc_tree.specs.Stored.{content_of};
+ghost use Rattle.jsonc_tree.specs.Tree.{content_at, IsTree};
+ghost use Rattle.jsonc_layout.specs.nodes.Properties.{lacks_name_at, value_at};
+ghost use Rattle.jsonc_layout.specs.nodes.Siblings.{IsThere};
+ghost use Rattle.jsonc_insert.specs.Inserted.{refusal};
+ghost use Rattle.jsonc_edit.specs.set.PropertyValues.{HeldOrSet, IsUnset};
+ghost use Rattle.jsonc_insert.specs.named.Named.{if_shaped, ComesNamed, IsUnensured, NamedEnsured};
+ghost use Rattle.jsonc_insert.specs.named.Shapes.{empty_of, is_of};
+
+use crate::members::insert_property;
+use crate::named::shape::{Over, Shape};
+use jsonc_edit::EditError;
+use jsonc_edit::set::{property_array_or_set, property_object_or_set};
+use jsonc_layout::input::CstInputValue;
+use jsonc_layout::nodes::{get, value_of};
+use jsonc_tree::{Kind, Tree};
+use std::alloc::Allocator;
+
+// The empty value of a shape.
+fn empty_value<A: Allocator>(alloc: A, shape: Shape) -> CstInputValue<A>
+    ensures { plain result ≡ empty_of shape }
+{
+    match shape {
+        Shape::Object => {
+            let properties: Vec<(String<A>, CstInputValue<A>), A> = Vec::new(alloc);
+            CstInputValue::from(properties)
+        }
+        Shape::Array => {
+            let elements: Vec<CstInputValue<A>, A> = Vec::new(alloc);
+            CstInputValue::from(elements)
+        }
+    }
+}
+
+// Whether a node has a shape.
+fn has_shape<A: Allocator>(kind: &Kind<A>, shape: Shape) -> bool
+    ensures { result ≡ is_of shape (content_of kind.now) }
+{
+    match (shape, kind) {
+        (Shape::Object, Kind::Object(_)) => true,
+        (Shape::Array, Kind::Array(_)) => true,
+        _ => false,
+    }
+}
+
+// The value of a property, if it has a shape.
+fn shaped_value<A: Allocator>(tree: &Tree<A>, property: usize, shape: Shape) -> Option<usize>
+    requires { property < length tree.now.nodes }
+    ensures value { result ≡ if_shaped shape tree.now.nodes (value_at tree.now.nodes property) }
+    ensures shape { IfSome result (λ m. is_of shape (content_at tree.now.nodes m) ≡ true) }
+    ensures there { IsThere tree.now.nodes result }
+{
+    let value = value_of(tree, property)?;
+    if has_shape(tree.kind(value), shape) {
+        Some(value)
+    } else {
+        None
+    }
+}
+
+// The value of a property, if it has a shape; another gives way to an empty one.
+fn value_or_set<A: Allocator + Copy>(
+    alloc: A,
+    tree: &mut Tree<A>,
+    property: usize,
+    shape: Shape,
+) -> Result<usize, EditError>
+    requires there { property < length tree.old.nodes }
+    requires property { content_at tree.old.nodes property ≡ Content.property }
+    ensures value { IfOk result
+        (HeldOrSet (is_of shape) (empty_of shape) tree.old.nodes tree.new.nodes property
+        (value_at tree.old.nodes property)) }
+    ensures shape { IfOk result (λ m. is_of shape (content_at tree.new.nodes m) ≡ true) }
+    ensures named { OnOk result (lacks_name_at tree.old.nodes property ≡ false) }
+    ensures told { IfErr result (IsUnset (is_of shape) tree.old.nodes property) }
+    ensures missing { IfErr result (λ e. lacks_name_at tree.old.nodes property ≡ true → e ≡ EditError.MissingName) }
+    ensures kept { OnErr result (Keeps (length tree.old.nodes) tree.old.nodes tree.new.nodes) }
+    ensures document { OnErr result (ordered_tree tree.new.nodes 0 ≡ ordered_tree tree.old.nodes 0) }
+    ensures tree { IsTree tree.new.nodes }
+{
+    match shape {
+        Shape::Object => property_object_or_set(alloc, tree, property),
+        Shape::Array => property_array_or_set(alloc, tree, property),
+    }
+}
+
+// Puts a property with an empty value behind the last one of an object, and answers that value.
+fn append_empty<A: Allocator + Copy>(
+    alloc: A,
+    tree: &mut Tree<A>,
+    object: usize,
+    name: &str,
+    shape: Shape,
+) -> Result<usize, EditError>
+    requires there { object < length tree.old.nodes }
+    requires object { content_at tree.old.nodes object ≡ Content.object }
+    ensures comes { IfOk result
+        (ComesNamed tree.old.nodes tree.new.nodes object (chars name.now) (empty_of shape)) }
+    ensures shape { IfOk result (λ m. is_of shape (content_at tree.new.nodes m) ≡ true) }
+    ensures there { IfOk result (λ m. m < length tree.new.nodes) }
+    ensures told { IfErr result (λ e. e ≡ refusal tree.old.nodes object) }
+    ensures kept { OnErr result (Keeps (length tree.old.nodes) tree.old.nodes tree.new.nodes) }
+    ensures document { OnErr result (ordered_tree tree.new.nodes 0 ≡ ordered_tree tree.old.nodes 0) }
+    ensures tree { IsTree tree.new.nodes }
+{
+    let _ = tree.len();
+    // There are no more properties than children.
+    let count = tree.child_count(object);
+    let empty = empty_value(alloc, shape);
+    let property = match insert_property(alloc, tree, object, count, name, &empty) {
+        Ok(property) => property,
+        Err(error) => return Err(error),
+    };
+    let Some(value) = value_of(tree, property) else {
+        // A property that has come holds its value.
+        unreachable!()
+    };
+    Ok(value)
+}
+
+/// Sees that the first property of a name in an object has an array or an object as its value, and answers
+/// it.
+///
+/// Where no property has the name, one with an empty value comes behind the last one, as by
+/// `insert_property` of `jsonc_insert::members`. A value of another kind gives way to an empty one, and one that is
+/// missing is set so, as by `property_object_or_set` of `jsonc_edit::set`; or it stays as it is, and the answer is
+/// None. A property whose value is to be set, and that lacks its colon, answers `MissingName`; an object
+/// into which a property is to come, and that lacks a bracket, `MissingBrackets`. Want of memory is told
+/// where neither is so, or of a name with a backslash, which takes memory to read. A refusal leaves the
+/// document, and every node that was there, as it was.
+pub fn ensure_property<A: Allocator + Copy>(
+    alloc: A,
+    tree: &mut Tree<A>,
+    object: usize,
+    name: &str,
+    shape: Shape,
+    over: Over,
+) -> Result<Option<usize>, EditError>
+    requires there { object < length tree.old.nodes }
+    requires object { content_at tree.old.nodes object ≡ Content.object }
+    ensures ensured { IfOk result
+        (NamedEnsured shape over tree.old.nodes tree.new.nodes object (chars name.now)) }
+    ensures shape { IfOk result (λ a. IfSome a (λ m. is_of shape (content_at tree.new.nodes m) ≡ true)) }
+    ensures told { IfErr result (IsUnensured shape over tree.old.nodes object (chars name.now)) }
+    ensures kept { OnErr result (Keeps (length tree.old.nodes) tree.old.nodes tree.new.nodes) }
+    ensures document { OnErr result (ordered_tree tree.new.nodes 0 ≡ ordered_tree tree.old.nodes 0) }
+    ensures tree { IsTree tree.new.nodes }
+{
+    let _ = tree.len();
+    let found = get(alloc, tree, object, name)?;
+    let Some(property) = found else {
+        return match append_empty(alloc, tree, object, name, shape) {
+            Ok(value) => Ok(Some(value)),
+            Err(error) => Err(error),
+        };
+    };
+    match over {
+        Over::Keep => Ok(shaped_value(tree, property, shape)),
+        Over::Replace => match value_or_set(alloc, tree, property, shape) {
+            Ok(value) => Ok(Some(value)),
+            Err(error) => Err(error),
+        },
+    }
+}

@@ -1,3 +1,0 @@
--- The crates below, for those above that name their proofs too.
-pub use Rattle.jsonc_insert.proofs as insert
-pub use Rattle.jsonc_multiline.proofs as multiline

@@ -1,5 +1,0 @@
-pub mod Coming
-pub mod Laws
-pub mod Members
-pub mod Worked
-pub mod Below

@@ -1,5 +1,0 @@
-use Rattle.jsonc_laws.proofs.Printed.{prints_its_marks}
-use Rattle.jsonc_laws.proofs.marks.sound_trees_print_their_marks.Goals as goal
-
-pub returns : goal.returns
-returns c = prints_its_marks

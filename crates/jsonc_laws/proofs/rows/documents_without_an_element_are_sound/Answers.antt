@@ -1,5 +1,0 @@
-use Rattle.jsonc_laws.proofs.SoundLeft.{sound_without_element}
-use Rattle.jsonc_laws.proofs.rows.documents_without_an_element_are_sound.Goals as goal
-
-pub returns : goal.returns
-returns c = λ o t. sound_without_element o t

@@ -1,5 +1,0 @@
-use Rattle.jsonc_laws.proofs.LostMarks.{document_loses_marks}
-use Rattle.jsonc_laws.proofs.rows.marks_without_an_element.Goals as goal
-
-pub returns : goal.returns
-returns c = document_loses_marks

@@ -1,5 +1,0 @@
-use Rattle.jsonc_laws.proofs.Booleans.{sound_with_boolean}
-use Rattle.jsonc_laws.proofs.sound.booleans_give_way.Goals as goal
-
-pub returns : goal.returns
-returns c = λ o t. sound_with_boolean o t

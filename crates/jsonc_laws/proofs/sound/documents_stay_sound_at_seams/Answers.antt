@@ -1,5 +1,0 @@
-use Rattle.jsonc_laws.proofs.Changed.{sound_at_seams}
-use Rattle.jsonc_laws.proofs.sound.documents_stay_sound_at_seams.Goals as goal
-
-pub returns : goal.returns
-returns c = sound_at_seams

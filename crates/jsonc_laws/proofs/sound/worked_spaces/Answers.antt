@@ -1,5 +1,0 @@
-use Rattle.jsonc_laws.proofs.WorkedSpaces.{left_out, given_way, quoted}
-use Rattle.jsonc_laws.proofs.sound.worked_spaces.Goals as goal
-
-pub returns : goal.returns
-returns c = (left_out, given_way, quoted)

@@ -1,0 +1,5 @@
+use Rattle.jsonc_layout.proofs.lemmas.input.Views.{plain-Object}
+use Rattle.jsonc_layout.proofs.input.value.CstInputValueFromVecTuple2StringCstInputValue.from.Goals as goal
+
+pub returns : goal.returns
+returns g c = plain-Object c.args.properties

@@ -1,0 +1,26 @@
+use Rattle.std.proofs.Common.{rules, subst}
+use Rattle.std.proofs.lemmas.Iterator.{items_from_collect}
+use Rattle.std.proofs.lemmas.Iterator.Consumers.{YieldsList-from_filter, YieldsList-at}
+use Rattle.std.proofs.lemmas.Iterator.Search.{YieldsList-from_take_while}
+use Rattle.jsonc_layout.specs.nodes.Kinds.{is_beside_at, is_comment_at}
+use Rattle.jsonc_layout.specs.nodes.Siblings.{AreThere, siblings_after}
+use Rattle.jsonc_layout.specs.nodes.Comments.{comments_beside}
+use Rattle.jsonc_layout.proofs.lemmas.nodes.Rows.{row_yields}
+use Rattle.jsonc_layout.proofs.lemmas.nodes.There.{beside_there, items_there}
+use Rattle.jsonc_layout.proofs.nodes.comments.comments_after.Goals as goal
+
+pub returns-clause-comments : goal.returns-clause-comments
+returns-clause-comments g c =
+    let ns = c.args.tree.now.nodes in
+    let row = siblings_after ns c.args.node in
+    items_from_collect _ c.collect.ensures.ran
+    (YieldsList-at (search rules)
+    (YieldsList-from_filter _ (is_comment_at ns)
+    (YieldsList-from_take_while _ (is_beside_at ns) (row_yields row c.next_siblings.ensures.siblings) c.take_while.ensures.closure c.take_while.ensures.done (λ x b q k. search rules))
+    c.filter.ensures.closure (λ x b q k. search rules)))
+
+pub returns-clause-there : goal.returns-clause-there
+returns-clause-there g c =
+    let ns = c.args.tree.now.nodes in
+    let row = siblings_after ns c.args.node in
+    items_there ns _ (comments_beside ns row) (returns-clause-comments g c) (beside_there ns row (subst (AreThere ns) c.next_siblings.ensures.siblings c.next_siblings.ensures.there))

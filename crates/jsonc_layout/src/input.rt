@@ -1,0 +1,7 @@
+//! Values handed to edits, and how their strings are spelled.
+
+pub mod laws;
+pub mod spelling;
+mod value;
+
+pub use value::CstInputValue;

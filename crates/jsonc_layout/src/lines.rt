@@ -1,0 +1,22 @@
+//! How a document is laid out: what the lines of a [`Tree`](jsonc_tree::Tree) begin and end with.
+//!
+//! Each call asks for a node by its number and changes nothing. What trivia and elements are, and
+//! who stands beside a node, [`jsonc_layout::nodes`] says. What the readers here are made of is given out for
+//! who reads a row that is not built.
+
+mod breadth;
+mod indent;
+mod indents;
+mod kinds;
+mod siblings;
+
+pub use breadth::{
+    is_in_document, is_spaced, last_child_element, level_below, newline_kind, newline_kind_at,
+    uses_trailing_commas,
+};
+pub use indent::{indent_text, single_indent_text};
+pub use indents::{
+    Indents, held_after, held_text, indents_at, levels_in, more_of, stands_in_property,
+};
+pub use kinds::{blank_at, holds_values, is_comma};
+pub use siblings::{has_blank_line_before, trailing_comma};

@@ -1,0 +1,255 @@
+//! The indents for what is put in beside a node.
+ghost use Rattle.std.specs.Prelude.{◌≡◌, ◌<◌, ◌++◌, [], All, IfOk, IfSome, length};
+ghost use Rattle.std.specs.Prelude.{option_map, string_bytes, unwrap_or};
+ghost use Rattle.jsonc_tree.specs.Order.{upward};
+ghost use Rattle.jsonc_tree.specs.Tree.{parent_at};
+ghost use Rattle.jsonc_layout.specs.lines.Indents.{above_properties, document_indent, first_indent_in};
+ghost use Rattle.jsonc_layout.specs.lines.Indents.{held_after, indents_at};
+ghost use Rattle.jsonc_layout.specs.lines.Indents.{is_some_property, levels_above, levels_in, more_of};
+ghost use Rattle.jsonc_layout.specs.lines.Indents.{repeated, single_at, told_at, without_front};
+ghost use Rattle.jsonc_layout.specs.lines.IndentViews.{text_in, texts_of};
+
+use crate::lines::indent::indent_text;
+use crate::nodes::{children_from, first_element_from, is_property_kind, root_node};
+use jsonc_tree::Tree;
+use std::alloc::{AllocError, Allocator};
+
+/// The indent of a line, and what one level adds.
+#[derive(Drop)]
+pub struct Indents<A: Allocator> {
+    pub current: String<A>,
+    pub single: String<A>,
+}
+
+/// Whether a node is the child of an object property.
+pub fn stands_in_property<A: Allocator>(tree: &Tree<A>, node: usize) -> bool
+    requires { node < length tree.now.nodes }
+    ensures { result ≡ is_some_property tree.now.nodes (parent_at tree.now.nodes node) }
+{
+    let _ = tree.len();
+    match tree.parent(node) {
+        Some(parent) => is_property_kind(tree.kind(parent)),
+        None => false,
+    }
+}
+
+// The nearest node above a node that is no object property.
+fn beyond_properties<A: Allocator>(tree: &Tree<A>, node: usize) -> Option<usize>
+    requires { node < length tree.now.nodes }
+    ensures above { above_properties tree.now.nodes node ≡ upward tree.now.nodes result }
+    ensures there { IfSome result (λ m. m < length tree.now.nodes) }
+{
+    let _ = tree.len();
+    let mut next = tree.parent(node);
+    while let Some(at) = next {
+        if !is_property_kind(tree.kind(at)) {
+            return Some(at);
+        }
+        next = tree.parent(at);
+    }
+    None
+}
+
+// The nodes above a node that are levels of indent, nearest first.
+fn levels_above<A: Allocator>(
+    alloc: A,
+    tree: &Tree<A>,
+    node: usize,
+) -> Result<Vec<usize, A>, AllocError>
+    requires { node < length tree.now.nodes }
+    ensures levels { IfOk result (λ v. v.items ≡ levels_above tree.now.nodes node) }
+    ensures there { IfOk result (λ v. All (λ m. m < length tree.now.nodes) v.items) }
+{
+    let mut levels = Vec::new(alloc);
+    let _ = tree.len();
+    let mut next = beyond_properties(tree, node);
+    while let Some(at) = next {
+        if at == 0 {
+            return Ok(levels);
+        }
+        next = tree.parent(at);
+        if stands_in_property(tree, at) {
+            continue;
+        }
+        levels.push(at)?;
+    }
+    Ok(levels)
+}
+
+// The text without another at its front, if it begins with that.
+fn without_front<'a>(outer: &str, inner: &'a str) -> Option<&'a str>
+    ensures { option_map (λ s. s.now) result ≡ without_front outer.now inner.now }
+{
+    inner.strip_prefix(outer)
+}
+
+/// What the inner indent has more than the outer one, if both are there and it begins with that.
+pub fn more_of<'a, A: Allocator>(
+    inner: &'a Option<String<A>>,
+    outer: &Option<String<A>>,
+) -> Option<&'a str>
+    ensures { option_map (λ s. s.now) result ≡ more_of (text_in inner.now) (text_in outer.now) }
+{
+    match (inner, outer) {
+        (Some(inner), Some(outer)) => without_front(outer.as_str(), inner.as_str()),
+        _ => None,
+    }
+}
+
+/// What the next indent outward is held against: this one, where none was held.
+pub fn held_after<A: Allocator>(
+    held: Option<String<A>>,
+    outer: Option<String<A>>,
+) -> Option<String<A>>
+    ensures { text_in result ≡ held_after (text_in held) (text_in outer) }
+{
+    match held {
+        None => outer,
+        Some(_) => None,
+    }
+}
+
+/// The text that is held, or none.
+pub fn held_text<A: Allocator>(held: &Option<String<A>>) -> &str
+    ensures { result.now ≡ unwrap_or (text_in held.now) [] }
+{
+    match held {
+        Some(held) => held.as_str(),
+        None => "",
+    }
+}
+
+// A text, and then another so many times.
+fn followed_by<A: Allocator>(
+    alloc: A,
+    outer: &str,
+    count: usize,
+    single: &str,
+) -> Result<String<A>, AllocError>
+    ensures { IfOk result (λ s. string_bytes s ≡ outer.now ++ repeated count single.now) }
+{
+    let mut text = String::from_str(alloc, outer)?;
+    for _time in 0..count {
+        text.push_str(single)?;
+    }
+    Ok(text)
+}
+
+/// The indents so many levels further in than a line with this indent.
+pub fn levels_in<A: Allocator + Copy>(
+    alloc: A,
+    outer: &str,
+    count: usize,
+    single: &str,
+) -> Result<Indents<A>, AllocError>
+    ensures { IfOk result (λ i. texts_of i ≡ levels_in outer.now count single.now) }
+{
+    let current = followed_by(alloc, outer, count, single)?;
+    let single = String::from_str(alloc, single)?;
+    Ok(Indents { current, single })
+}
+
+// The indents that two lines next to one another tell, of the node and the levels above it.
+fn told_by<A: Allocator + Copy>(
+    alloc: A,
+    tree: &Tree<A>,
+    node: usize,
+    levels: &[usize],
+) -> Result<Option<Indents<A>>, AllocError>
+    requires node { node < length tree.now.nodes }
+    requires there { All (λ m. m < length tree.now.nodes) levels.now }
+    ensures { IfOk result (λ o. option_map texts_of o ≡ told_at tree.now.nodes node levels.now) }
+{
+    let mut held = indent_text(alloc, tree, node)?;
+    for place in 0..levels.len() {
+        let outer = indent_text(alloc, tree, levels[place])?;
+        if let Some(single) = more_of(&held, &outer) {
+            let told = levels_in(alloc, held_text(&held), place, single)?;
+            return Ok(Some(told));
+        }
+        held = held_after(held, outer);
+    }
+    Ok(None)
+}
+
+// The first indent among the children of a node.
+fn first_indent<A: Allocator + Copy>(
+    alloc: A,
+    tree: &Tree<A>,
+    node: usize,
+) -> Result<Option<String<A>>, AllocError>
+    requires { node < length tree.now.nodes }
+    ensures { IfOk result (λ o. text_in o ≡ first_indent_in tree.now.nodes node) }
+{
+    for child in children_from(tree, node, 0) {
+        let text = indent_text(alloc, tree, child)?;
+        if text.is_some() {
+            return Ok(text);
+        }
+    }
+    Ok(None)
+}
+
+// The first indent among the children of the document's value, where the node stands below the root.
+fn document_indent<A: Allocator + Copy>(
+    alloc: A,
+    tree: &Tree<A>,
+    node: usize,
+) -> Result<Option<String<A>>, AllocError>
+    requires { node < length tree.now.nodes }
+    ensures { IfOk result (λ o. text_in o ≡ document_indent tree.now.nodes node) }
+{
+    if root_node(tree, node).is_none() {
+        return Ok(None);
+    }
+    let _ = tree.len();
+    let Some(value) = first_element_from(tree, 0, 0) else {
+        return Ok(None);
+    };
+    first_indent(alloc, tree, value)
+}
+
+// What one level adds, where no two lines tell: the node's own indent where one level is above it,
+// the document's, or two spaces.
+fn single_at<A: Allocator + Copy>(
+    alloc: A,
+    tree: &Tree<A>,
+    node: usize,
+    count: usize,
+) -> Result<String<A>, AllocError>
+    requires there { node < length tree.now.nodes }
+    requires count { count ≡ length (levels_above tree.now.nodes node) }
+    ensures { IfOk result (λ s. string_bytes s ≡ single_at tree.now.nodes node) }
+{
+    if count == 1 {
+        if let Some(own) = indent_text(alloc, tree, node)? {
+            return Ok(own);
+        }
+    }
+    if let Some(first) = document_indent(alloc, tree, node)? {
+        return Ok(first);
+    }
+    String::from_str(alloc, "  ")
+}
+
+/// The indents for what is put in beside a node: that of its line, and what one level adds.
+///
+/// The lines above the node tell, nearest first: two next to one another of which the inner one's
+/// indent begins with the outer one's. Where none do, one level adds the node's own indent if one
+/// level is above it, else the first indent in the document's value if the node stands below the root,
+/// else two spaces.
+pub fn indents_at<A: Allocator + Copy>(
+    alloc: A,
+    tree: &Tree<A>,
+    node: usize,
+) -> Result<Indents<A>, AllocError>
+    requires there { node < length tree.now.nodes }
+    ensures indents { IfOk result (λ i. texts_of i ≡ indents_at tree.now.nodes node) }
+{
+    let levels = levels_above(alloc, tree, node)?;
+    if let Some(told) = told_by(alloc, tree, node, &levels)? {
+        return Ok(told);
+    }
+    let single = single_at(alloc, tree, node, levels.len())?;
+    levels_in(alloc, "", levels.len(), single.as_str())
+}

@@ -1,6 +1,0 @@
-use Rattle.std.proofs.Common.{sym}
-use Rattle.jsonc_tree.proofs.Order.{parent_there}
-use Rattle.jsonc_lines.proofs.indents.stands_in_property.Goals as goal
-
-pub kind-requires : goal.kind-requires
-kind-requires g c = (parent_there c.args.tree.now.nodes c.len.ensures.tree c.args.node c.in-Some.parent (sym c.in-Some.ensures)).1

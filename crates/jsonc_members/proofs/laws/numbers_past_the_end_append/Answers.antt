@@ -1,5 +1,0 @@
-use Rattle.jsonc_members.proofs.Past.{past_the_end}
-use Rattle.jsonc_members.proofs.laws.numbers_past_the_end_append.Goals as goal
-
-pub returns : goal.returns
-returns c = past_the_end

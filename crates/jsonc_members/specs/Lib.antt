@@ -1,6 +1,0 @@
-pub mod Opened
-pub mod Told
-pub mod Inserted
-pub mod Laws
-pub mod Worked
-pub mod Below

@@ -1,5 +1,0 @@
-use Rattle.jsonc_multiline.proofs.Documents.{spread_at}
-use Rattle.jsonc_multiline.proofs.laws.containers_are_spread_out.Goals as goal
-
-pub returns : goal.returns
-returns c = λ o old new path n tree after sound at holds made. spread_at o old new path n tree after sound at holds made

@@ -1,6 +1,0 @@
-use Rattle.jsonc_multiline.specs.LineViews.{lines_of}
-use Rattle.jsonc_multiline.proofs.Whole.{SoFar}
-use Rattle.jsonc_multiline.proofs.plan.plan_lines.Given as goal
-
-abbrev pub invariant-loop-child : goal.invariant-loop-child
-invariant-loop-child g l = SoFar l.fn.tree.nodes l.tree.nodes l.container (lines_of l.lines) l.child-items l.child-index l.begins l.row.items

@@ -1,8 +1,0 @@
--- What lines in memory are.
-use Rattle.std.specs.Prelude.{string_bytes}
-use Rattle.jsonc_multiline.specs.Lines as lines
-use Rattle.jsonc_multiline.specs.declared.lines.Lines.{Lines}
-
-module _ {A : Type 0} where
-  abbrev pub lines_of : Lines A → lines.Lines
-  lines_of l = record { newline = l.newline; inner = string_bytes l.inner; outer = string_bytes l.outer }

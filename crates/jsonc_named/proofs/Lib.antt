@@ -1,8 +1,0 @@
-pub mod PathValues
-pub mod PropertyValues
-pub mod Values
-pub mod Names
-pub mod Creating
-pub mod Writing
-pub mod Unensured
-pub mod Below

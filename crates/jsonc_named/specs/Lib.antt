@@ -1,7 +1,0 @@
-pub mod Shapes
-pub mod Places
-pub mod Named
-pub mod Values
-pub mod Members
-pub mod Laws
-pub mod Below

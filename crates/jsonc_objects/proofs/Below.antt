@@ -1,2 +1,0 @@
--- The crates below, for those above that name their proofs too.
-pub use Rattle.jsonc_typed.proofs as typed

@@ -1,4 +1,0 @@
-pub mod NamedIn
-pub mod ByName
-pub mod Below
-mod Steps

@@ -1,6 +1,0 @@
-use Rattle.std.proofs.Common.{◌≡◌, length}
-use Rattle.jsonc_order.proofs.Told.{AreKeysBelow}
-use Rattle.jsonc_order.proofs.keys.keys_of.Given as goal
-
-abbrev pub invariant-loop-place : goal.invariant-loop-place
-invariant-loop-place g l = (length l.keys.items ≡ l.place) × AreKeysBelow g.F.Fn l.fn.key l.fn.doc l.fn.nodes l.place l.keys.items

@@ -1,0 +1,88 @@
+-- How far names lead, and that one operation always puts a value, where none must stay.
+use Rattle.std.proofs.Common.{ℕ, suc, ◌≡◌, ◌⊎◌, sym, subst, refl, List, [], ◌∷◌, ◌++◌, Option, Some, None, inl, inr}
+use Rattle.jsonc_text.specs.Plain.{Plain, Members, no_members, member}
+use Rattle.jsonc_text.specs.Plain as plain
+use Rattle.jsonc_insert.specs.declared.named.shape.Over.{Over}
+use Rattle.jsonc_insert.specs.declared.named.shape.Over.TheVariants.{Keep, Replace}
+use Rattle.jsonc_parser.specs.paths.Operations.{Operation, LacksMember, no_more, other_name, append_property, replace, set_root, set_value}
+use Rattle.jsonc_parser.specs.paths.Settings.{FirstIs, this_one, later_one, nest, IsNoObject, StandsInTheWay, this_stands, inner_stands}
+use Rattle.jsonc_parser.specs.paths.Positions.{FirstAt, this_at, later_at, Leads, leads_nowhere, leads_on, sets_root, sets_first, sets_value, appends, replaces, IsPutBy, IsPutByOne, Reaches, to_value, to_missing, to_another}
+use Rattle.jsonc_parser.proofs.lemmas.paths.Leading.{at_first}
+use Rattle.jsonc_parser.proofs.lemmas.paths.Members.{first_once, same_or_not}
+use Rattle.jsonc_parser.proofs.lemmas.paths.Paths.{blocked, blocked_end, blocked_none, keep_no_replace, object_or_not}
+
+first_or_lacks : (name : List ℕ) (ms : Members) → ((v : Plain) × (i : ℕ) × FirstAt name v i ms) ⊎ LacksMember name ms
+first_or_lacks name no_members = inr no_more
+first_or_lacks name (member n w ms) =
+    elim (same_or_not n name) [
+      | inl is ↦ inl (w, 0, subst (λ k. FirstAt name w 0 (member k w ms)) (sym is) this_at)
+      | inr other ↦
+          elim (first_or_lacks name ms) [
+            | inl first ↦ inl (first.0, suc first.1, later_at other first.2)
+            | inr lacks ↦ inr (other_name other lacks)
+          ]
+    ]
+
+behind_one : {name : List ℕ} {names : List (List ℕ)} {i : ℕ} {ms : Members} {y : Plain} → FirstAt name y i ms → Reaches y names → Reaches (plain.object ms) (name ∷ names)
+behind_one f (to_value l) = to_value (leads_on f l)
+behind_one {name} f (to_missing front n rest l lacks) = to_missing (name ∷ front) n rest (leads_on f l) lacks
+behind_one {name} f (to_another front n rest l non) = to_another (name ∷ front) n rest (leads_on f l) non
+
+pub reaches : (x : Plain) (names : List (List ℕ)) → Reaches x names
+reaches x [] = to_value leads_nowhere
+reaches x (name ∷ names) =
+    elim (object_or_not x) [
+      | inl object ↦
+          subst (λ k. Reaches k (name ∷ names)) (sym object.1) (elim (first_or_lacks name object.0) [
+            | inl first ↦ behind_one first.2 (reaches first.0 names)
+            | inr lacks ↦ to_missing [] name names leads_nowhere lacks
+          ])
+      | inr non ↦ to_another [] name names leads_nowhere non
+    ]
+
+-- a value of another kind that names lead to, before the last, stands in the way
+pub in_the_way : {front : List (List ℕ)} {path : List ℕ} {x other : Plain} (name : List ℕ) (rest : List (List ℕ)) → Leads front path x other → IsNoObject other
+    → StandsInTheWay (Some x) (front ++ name ∷ rest)
+in_the_way name rest leads_nowhere non = this_stands non
+in_the_way name rest (leads_on f l) non = inner_stands (at_first f) (in_the_way name rest l non)
+
+by_reach : (v : Plain) (over : Over) {x : Plain} {names : List (List ℕ)} → Reaches x names → IsPutByOne v over (Some x) names
+by_reach v over (to_value leads_nowhere) = inl (set_root v, sets_root)
+by_reach v over (to_value (leads_on {i = i} {path = path} f l)) = inl (set_value (i ∷ path) v, sets_value (leads_on f l))
+by_reach v over (to_missing front name rest {path = path} l lacks) = inl (append_property path name (nest rest v), appends front rest l lacks)
+by_reach v over {x} (to_another front name rest {path = path} l non) = go over refl
+  where
+    go : (how : Over) → over ≡ how → IsPutByOne v over (Some x) (front ++ name ∷ rest)
+    go Keep e = inr (e, in_the_way name rest l non)
+    go Replace e = inl (replace path (nest (name ∷ rest) v), replaces front rest l non e)
+
+pub put_by_one : (v : Plain) (over : Over) (w : Option Plain) (names : List (List ℕ)) → IsPutByOne v over w names
+put_by_one v over None [] = inl (set_root v, sets_root)
+put_by_one v over None (name ∷ names) = inl (set_root (nest (name ∷ names) v), sets_first)
+put_by_one v over (Some x) names = by_reach v over (reaches x names)
+
+-- nothing stands in the way where an operation puts a value, or it may give way
+pub lacking : {name : List ℕ} {v : Plain} {ms : Members} → LacksMember name ms → FirstIs name v ms → ⊥
+lacking no_more f = elim f [ ]
+lacking (other_name ne l) this_one = ne refl
+lacking (other_name ne l) (later_one other f) = lacking l f
+
+led_all : {names : List (List ℕ)} {path : List ℕ} {x v : Plain} → Leads names path x v → StandsInTheWay (Some x) names → ⊥
+led_all leads_nowhere s = blocked_end s refl
+led_all (leads_on {name = name} {names = names} {ms = ms} f l) s =
+    let b = blocked s name names ms refl refl in
+    led_all l (subst (λ (k : Plain). StandsInTheWay (Some k) names) (first_once b.first (at_first f)) b.rest)
+
+led_there : {front : List (List ℕ)} {path : List ℕ} {x v : Plain} (rest : List (List ℕ)) → Leads front path x v → StandsInTheWay (Some x) (front ++ rest) → StandsInTheWay (Some v) rest
+led_there rest leads_nowhere s = s
+led_there rest (leads_on {name = name} {names = names} {ms = ms} f l) s =
+    let b = blocked s name (names ++ rest) ms refl refl in
+    led_there rest l (subst (λ (k : Plain). StandsInTheWay (Some k) (names ++ rest)) (first_once b.first (at_first f)) b.rest)
+
+pub put_is_free : {v : Plain} {over : Over} {w : Option Plain} {names : List (List ℕ)} {e : Operation} → IsPutBy v over w names e → over ≡ Keep → StandsInTheWay w names → ⊥
+put_is_free sets_root keep s = blocked_end s refl
+put_is_free sets_first keep s = blocked_none s refl
+put_is_free (sets_value l) keep s = led_all l s
+put_is_free (appends front rest {name = name} {ms = ms} l lacks) keep s =
+    let b = blocked (led_there (name ∷ rest) l s) name rest ms refl refl in lacking lacks b.first
+put_is_free {over = over} (replaces front rest l non how) keep s = keep_no_replace over keep how

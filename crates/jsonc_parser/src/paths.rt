@@ -1,0 +1,14 @@
+//! Settings: values at paths of names, which lead from an object to the value of its first property of a name.
+//!
+//! What is put there, and what leaves with a path, is said of plain values (`specs/paths/Settings.antt`); [`find_at`]
+//! and [`read_at`] say what stands there in a document, and [`reach`] how far names lead. [`set_at`] and
+//! [`remove_at`] put a value there, or drop it, by one edit of `jsonc_run` each (`specs/paths/Calls.antt`).
+
+mod find;
+pub mod laws;
+mod put;
+mod reached;
+
+pub use find::{find_at, read_at};
+pub use put::{remove_at, set_at};
+pub use reached::{Reached, reach};

@@ -1,0 +1,72 @@
+//! What stands at names.
+
+ghost use Rattle.std.specs.Prelude.{◌≡◌, chars, IfErr, IfOk, IfSome};
+ghost use Rattle.jsonc_cst.specs.Document.{Holds};
+ghost use Rattle.jsonc_parser.specs.paths.Found.{names_of, FindsInsideWhatShown, FindsWhatShown, ReadsWhatShown};
+
+use jsonc_cst::cst::{CstInputValue, CstNode, CstRootNode, EditError, Readings};
+use std::alloc::Allocator;
+
+// The value of the first property of a name, in an object.
+fn find_inside<A: Allocator + Copy>(
+    doc: &CstRootNode<A>,
+    node: CstNode,
+    name: &str,
+) -> Result<Option<CstNode>, EditError>
+    requires { Holds doc.now node }
+    ensures found { IfOk result (FindsInsideWhatShown doc.now node (chars name.now)) }
+    ensures held { IfOk result (λ o. IfSome o (Holds doc.now)) }
+    ensures memory { IfErr result (λ e. e ≡ EditError.OutOfMemory) }
+{
+    doc.nodes_are_tree();
+    let Some(object) = node.as_object() else {
+        return Ok(None);
+    };
+    match object.get(doc, name) {
+        Ok(Some(property)) => Ok(property.value(doc)),
+        Ok(None) => Ok(None),
+        Err(error) => Err(error),
+    }
+}
+
+/// The value at a path of names: from the document's value each name leads on, in an object to the value
+/// of its first property of that name. None where a step finds no object, or none of its name.
+pub fn find_at<A: Allocator + Copy>(
+    doc: &CstRootNode<A>,
+    names: &[String<A>],
+) -> Result<Option<CstNode>, EditError>
+    ensures found { IfOk result (FindsWhatShown doc.now (names_of names.now)) }
+    ensures held { IfOk result (λ o. IfSome o (Holds doc.now)) }
+    ensures memory { IfErr result (λ e. e ≡ EditError.OutOfMemory) }
+{
+    doc.nodes_are_tree();
+    let Some(value) = doc.value() else {
+        return Ok(None);
+    };
+    let mut node = value;
+    for name in names {
+        match find_inside(doc, node, name) {
+            Ok(Some(inner)) => node = inner,
+            Ok(None) => return Ok(None),
+            Err(error) => return Err(error),
+        }
+    }
+    Ok(Some(node))
+}
+
+/// What the value at a path of names stands for, as a value for edits, of equal names the last at the
+/// first place. None where [`find_at`] answers none.
+pub fn read_at<A: Allocator + Copy>(
+    doc: &CstRootNode<A>,
+    names: &[String<A>],
+) -> Result<Option<CstInputValue<A>>, EditError>
+    ensures read { IfOk result (ReadsWhatShown doc.now (names_of names.now)) }
+    ensures memory { IfErr result (λ e. e ≡ EditError.OutOfMemory) }
+{
+    doc.nodes_are_tree();
+    match find_at(doc, names) {
+        Ok(Some(node)) => node.to_value(doc),
+        Ok(None) => Ok(None),
+        Err(error) => Err(error),
+    }
+}

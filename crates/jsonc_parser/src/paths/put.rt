@@ -1,0 +1,204 @@
+//! Values put at paths of names, and dropped.
+
+ghost use Rattle.std.specs.Prelude.{◌≡◌, ◌<◌, ◌∷◌, [], length, true, IfErr, IfOk, OnErr, OnOk};
+ghost use Rattle.jsonc_layout.specs.input.Views.{chars_of, plain};
+ghost use Rattle.jsonc_tree.specs.Tree.{IsTree};
+ghost use Rattle.jsonc_run.specs.Edits.{is_whole, operation_of, unsorted, IsMade};
+ghost use Rattle.jsonc_run.specs.Refusals.{IsToldBy};
+ghost use Rattle.jsonc_cst.specs.Document.{nodes_of, tree_of};
+ghost use Rattle.jsonc_cst.specs.Tree.{NodesAreTree};
+ghost use Rattle.jsonc_parser.specs.paths.Calls.{DropsWhatShown, PutsWhatShown, WantsMemory};
+ghost use Rattle.jsonc_parser.specs.paths.Choices.{Chooses, IsAppending};
+ghost use Rattle.jsonc_parser.specs.paths.Found.{names_of};
+ghost use Rattle.jsonc_parser.specs.paths.Settings.{nest};
+
+use crate::paths::reached::{Reached, reach};
+use jsonc_cst::cst::{CstInputValue, CstRootNode, EditError};
+use jsonc_run::{Edit, Over, make};
+use std::alloc::Allocator;
+
+// A name, as text of its own.
+fn copy_of<A: Allocator + Copy>(alloc: A, name: &String<A>) -> Result<String<A>, EditError>
+    ensures copy { IfOk result (λ s. chars_of s ≡ chars_of name.now) }
+    ensures memory { IfErr result (λ e. e ≡ EditError.OutOfMemory) }
+{
+    match String::from_str(alloc, name) {
+        Ok(copy) => Ok(copy),
+        Err(_) => Err(EditError::OutOfMemory),
+    }
+}
+
+// A value in an object of one property.
+fn nested_once<A: Allocator + Copy>(
+    alloc: A,
+    name: &String<A>,
+    value: CstInputValue<A>,
+) -> Result<CstInputValue<A>, EditError>
+    ensures nested { IfOk result (λ v. plain v ≡ nest (chars_of name.now ∷ []) (plain value)) }
+    ensures memory { IfErr result (λ e. e ≡ EditError.OutOfMemory) }
+{
+    let copy = match copy_of(alloc, name) {
+        Ok(copy) => copy,
+        Err(error) => return Err(error),
+    };
+    let mut properties = Vec::new(alloc);
+    match properties.push((copy, value)) {
+        Ok(()) => Ok(CstInputValue::Object(properties)),
+        Err(_) => Err(EditError::OutOfMemory),
+    }
+}
+
+// A value in objects of one property each, for each name one.
+fn nested<A: Allocator + Copy>(
+    alloc: A,
+    names: &[String<A>],
+    value: CstInputValue<A>,
+) -> Result<CstInputValue<A>, EditError>
+    ensures nested { IfOk result (λ v. plain v ≡ nest (names_of names.now) (plain value)) }
+    ensures memory { IfErr result (λ e. e ≡ EditError.OutOfMemory) }
+{
+    let mut nested = value;
+    let mut count = names.len();
+    while count > 0 {
+        count -= 1;
+        nested = match nested_once(alloc, &names[count], nested) {
+            Ok(nested) => nested,
+            Err(error) => return Err(error),
+        };
+    }
+    Ok(nested)
+}
+
+// The edit that appends a property of the first of these names, with the rest nested.
+fn appending<A: Allocator + Copy>(
+    alloc: A,
+    path: Vec<usize, A>,
+    names: &[String<A>],
+    count: usize,
+    value: CstInputValue<A>,
+) -> Result<Option<Edit<A>>, EditError>
+    requires { count < length names.now }
+    ensures appends { IfOk result (IsAppending path.items (names_of names.now) count (plain value)) }
+    ensures memory { IfErr result (λ e. e ≡ EditError.OutOfMemory) }
+{
+    let name = match copy_of(alloc, &names[count]) {
+        Ok(name) => name,
+        Err(error) => return Err(error),
+    };
+    match nested(alloc, &names[count + 1..], value) {
+        Ok(value) => Ok(Some(Edit::AppendProperty(path, name, value))),
+        Err(error) => Err(error),
+    }
+}
+
+// The edit that puts a value at names, or none where a value on the way is to stay.
+fn choose<A: Allocator + Copy>(
+    doc: &CstRootNode<A>,
+    names: &[String<A>],
+    value: CstInputValue<A>,
+    over: Over,
+) -> Result<Option<Edit<A>>, EditError>
+    ensures chosen { IfOk result (Chooses doc.now (plain value) over (names_of names.now)) }
+    ensures memory { IfErr result (λ e. e ≡ EditError.OutOfMemory) }
+{
+    let alloc = doc.alloc;
+    match reach(doc, names) {
+        Ok(Reached::Nothing) => match nested(alloc, names, value) {
+            Ok(value) => Ok(Some(Edit::SetRoot(value))),
+            Err(error) => Err(error),
+        },
+        Ok(Reached::Value(path)) => {
+            if names.is_empty() {
+                Ok(Some(Edit::SetRoot(value)))
+            } else {
+                Ok(Some(Edit::SetValue(path, value)))
+            }
+        }
+        Ok(Reached::Missing(path, count)) => appending(alloc, path, names, count, value),
+        Ok(Reached::Another(path, count)) => match over {
+            Over::Keep => Ok(None),
+            Over::Replace => match nested(alloc, &names[count..], value) {
+                Ok(value) => Ok(Some(Edit::Replace(path, value))),
+                Err(error) => Err(error),
+            },
+        },
+        Err(error) => Err(error),
+    }
+}
+
+// Makes one edit, whole or not at all.
+fn make_one<A: Allocator + Copy>(doc: &mut CstRootNode<A>, edit: Edit<A>) -> Result<(), EditError>
+    requires { is_whole edit ≡ true }
+    ensures made { OnOk result (IsMade (nodes_of doc.old) (operation_of unsorted edit) (nodes_of doc.new)) }
+    ensures told { IfErr result (IsToldBy (nodes_of doc.old) (operation_of unsorted edit)) }
+    ensures document { OnErr result (tree_of doc.new ≡ tree_of doc.old) }
+    ensures tree { IsTree (nodes_of doc.new) }
+{
+    doc.nodes_are_tree();
+    make(doc.alloc, &mut doc.tree, &edit)
+}
+
+/// Puts a value at a path of names, by one edit or none. With no names it becomes the document's value.
+/// Where all names lead on, the value of the last one's property gives way to it; where a name is missing, a
+/// property of it comes last in the object that those before it lead to, with the rest nested in new
+/// objects; in a document without a value all nested is its first. A value of another kind than an object
+/// on the way stays, where it is to be kept, and the answer is false; or the rest nested takes its place.
+///
+/// Memory is the one refusal of a document that was read, and changed by no edit of single leaves. A refusal
+/// leaves the document as it was.
+pub fn set_at<A: Allocator + Copy>(
+    doc: &mut CstRootNode<A>,
+    names: &[String<A>],
+    value: CstInputValue<A>,
+    over: Over,
+) -> Result<bool, EditError>
+    ensures put { IfOk result
+        (PutsWhatShown (plain value) over (names_of names.now) (nodes_of doc.old) (nodes_of doc.new)) }
+    ensures told { IfErr result (WantsMemory (nodes_of doc.old)) }
+    ensures document { OnErr result (tree_of doc.new ≡ tree_of doc.old) }
+    ensures tree { NodesAreTree doc.new }
+{
+    doc.nodes_are_tree();
+    let edit = match choose(doc, names, value, over) {
+        Ok(Some(edit)) => edit,
+        Ok(None) => return Ok(false),
+        Err(error) => return Err(error),
+    };
+    let made = make_one(doc, edit);
+    doc.nodes_are_tree();
+    match made {
+        Ok(()) => Ok(true),
+        Err(error) => Err(error),
+    }
+}
+
+/// Drops what stands at a path of names: the first property of the last name, in the object that those
+/// before it lead to, or with no names the document's value. The answer is false where nothing stands there.
+///
+/// Memory is the one refusal of a document that was read, and changed by no edit of single leaves. A refusal
+/// leaves the document as it was.
+pub fn remove_at<A: Allocator + Copy>(
+    doc: &mut CstRootNode<A>,
+    names: &[String<A>],
+) -> Result<bool, EditError>
+    ensures dropped { IfOk result
+        (DropsWhatShown (names_of names.now) (nodes_of doc.old) (nodes_of doc.new)) }
+    ensures told { IfErr result (WantsMemory (nodes_of doc.old)) }
+    ensures document { OnErr result (tree_of doc.new ≡ tree_of doc.old) }
+    ensures tree { NodesAreTree doc.new }
+{
+    doc.nodes_are_tree();
+    let path = match reach(doc, names) {
+        Ok(Reached::Value(path)) => path,
+        Ok(Reached::Nothing) => return Ok(false),
+        Ok(Reached::Missing(_, _)) => return Ok(false),
+        Ok(Reached::Another(_, _)) => return Ok(false),
+        Err(error) => return Err(error),
+    };
+    let made = make_one(doc, Edit::Remove(path));
+    doc.nodes_are_tree();
+    match made {
+        Ok(()) => Ok(true),
+        Err(error) => Err(error),
+    }
+}

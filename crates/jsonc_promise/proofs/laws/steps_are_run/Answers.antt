@@ -1,5 +1,0 @@
-use Rattle.jsonc_promise.proofs.Chains.{steps_are_run}
-use Rattle.jsonc_promise.proofs.laws.steps_are_run.Goals as goal
-
-pub returns : goal.returns
-returns c = λ o t u. steps_are_run o t u

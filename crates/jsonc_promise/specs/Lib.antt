@@ -1,6 +1,0 @@
-pub mod PlaceLaws
-pub mod Words
-pub mod Chains
-pub mod Asked
-pub mod Steps
-pub mod Below

@@ -1,7 +1,0 @@
-use Rattle.std.proofs.Common.{sym, subst}
-use Rattle.jsonc_nodes.specs.Siblings.{IsThere}
-use Rattle.jsonc_remove.proofs.Walking.{trailing_there}
-use Rattle.jsonc_remove.proofs.leaving.comma_behind.Goals as goal
-
-pub returns-clause-there : goal.returns-clause-there
-returns-clause-there g c = subst (IsThere c.args.tree.now.nodes) (sym c.trailing_comma.ensures.comma) (trailing_there c.args.tree.now.nodes c.len.ensures.tree c.args.node)

@@ -1,4 +1,0 @@
-pub mod Leaving
-pub mod Removed
-pub mod Laws
-pub mod Below

@@ -1,0 +1,223 @@
+-- Where a property gives way to another in a sound tree, it gives way so in the text.
+use Rattle.std.proofs.Common.{ℕ, suc, ◌≡◌, ◌∙◌, sym, ap, subst, refl, inl, true, List, [], ◌∷◌, ◌++◌, length, Option}
+use Rattle.std.proofs.lemmas.List.{append_assoc}
+use Rattle.jsonc_text.specs.Options.{Options}
+use Rattle.jsonc_text.specs.Plain as plain
+use Rattle.jsonc_text.specs.Plain.{Plain, Members, member}
+use Rattle.jsonc_tree.specs.Content.{Content, object}
+use Rattle.jsonc_tree.specs.OrderedTree.{OrderedTree, own_leaf, leaves, Top}
+use Rattle.jsonc_sound.specs.Shape.{token_then, printed_text}
+use Rattle.jsonc_sound.specs.Rows.{of_properties, container_of}
+use Rattle.jsonc_sound.specs.SoundTrees.{SoundTree}
+use Rattle.jsonc_sound.specs.TreeChanges.{IsElement, leaves_of, property_of, ElementChanged, this_element, passed, later_element}
+use Rattle.jsonc_sound.specs.Values as replaced
+use Rattle.jsonc_sound.specs.Values.{MemberReplaced}
+use Rattle.jsonc_sound.proofs.Apart.{value_alone}
+use Rattle.jsonc_sound.proofs.HeldValues.{document_held}
+use Rattle.jsonc_sound.proofs.Texts.{AllUtf8}
+use Rattle.jsonc_run.specs.Edits.{replace_property}
+use Rattle.jsonc_run.specs.Written.{IsChanged, by_property, PropertyGivenWay, property_given}
+use Rattle.jsonc_edit.specs.SeamEntries.{PropertyHolds, PropertyGivesWayWithSeam}
+use Rattle.jsonc_edit.specs.SeamPlaces.{RowHolds, this_element, past_other, past_element, DocumentHolds}
+use Rattle.jsonc_edit.specs.Seams.{space_if}
+use Rattle.jsonc_edit.specs.set.Giving.{is_bare_value}
+use Rattle.jsonc_edit.proofs.lemmas.set.PropertyRows.{object_row}
+use Rattle.jsonc_text.specs.Marks.{Mark}
+use Rattle.jsonc_layout.specs.from_input.Laid.{laid_property, number_leaf, string_leaf}
+use Rattle.jsonc_layout.specs.from_input.Layout.{Layout}
+use Rattle.jsonc_layout.specs.from_input.Texts.{IsCharacters, IsOfTexts}
+use Rattle.jsonc_text.specs.Paths.{Entry, an_object}
+use Rattle.jsonc_text.specs.Entries.{Named, members, of, Changed, Becomes}
+use Rattle.jsonc_text.specs.Edits as texts
+use Rattle.jsonc_text.specs.Edits.{IsSeam, Makes, Puts, Text, written}
+use Rattle.jsonc_run.specs.promise.PlaceLaws.{text_of_leaves}
+use Rattle.jsonc_run.proofs.lemmas.promise.Leaves.{back_of, document_parts, document_utf8, text_joined, utf8_first, utf8_second}
+use Rattle.jsonc_run.proofs.lemmas.promise.Plains.{changed, entry_of, list_of_members, same_members}
+use Rattle.jsonc_run.proofs.lemmas.promise.Reaching.{Reached}
+use Rattle.jsonc_run.proofs.lemmas.promise.RemovedTexts.{entry_begins, entry_there}
+use Rattle.jsonc_sound.specs.Documents.{document_of}
+use Rattle.jsonc_run.proofs.lemmas.promise.Stretches.{Begins, laid_property_literals, marks_in, parted, parted_as, seam_unmarked}
+use Rattle.jsonc_run.proofs.lemmas.promise.Places.{document_itself, silent_then, seam_if, space_text}
+use Rattle.jsonc_run.proofs.lemmas.promise.Bare.{AllSpelled, BeginsBare, EndsBareWith, begins_so, ends_behind, ends_with, meets, seam_due, spelled, spelled_first, spelled_second}
+
+-- the leaves of a row with an element in it
+held_leaves : {top : Top} {i : ℕ} {row : OrderedTree} {f b : List Content} → RowHolds top i row f b → leaves row ≡ f ++ (leaves_of top ++ b)
+held_leaves {top} (this_element {after = after} p) = sym (append_assoc (own_leaf top.content) (leaves top.below) (leaves after))
+held_leaves {top} (past_other {content = content} {below = below} {f = f} {b = b} p h) =
+    let own : List Content = own_leaf content in
+    ap (λ l. own ++ (leaves below ++ l)) (held_leaves h) ∙ sym (append_assoc own (leaves below ++ f) (leaves_of top ++ b) ∙ ap (λ l. own ++ l) (append_assoc (leaves below) f (leaves_of top ++ b)))
+held_leaves {top} (past_element {content = content} {below = below} {f = f} {b = b} p h) =
+    let own : List Content = own_leaf content in
+    ap (λ l. own ++ (leaves below ++ l)) (held_leaves h) ∙ sym (append_assoc own (leaves below ++ f) (leaves_of top ++ b) ∙ ap (λ l. own ++ l) (append_assoc (leaves below) f (leaves_of top ++ b)))
+
+-- it may give way to any other there
+reached : {top : Top} {i : ℕ} {row : OrderedTree} {f b : List Content} → RowHolds top i row f b → (y : Top) → IsElement y.content → Reached top y i row b
+reached (this_element {after = after} p) y q = record { new = OrderedTree.more y.content y.below after; changed = ElementChanged.this_element p q; same = refl }
+reached (past_other {content = content} {below = below} p h) y q = let m = reached h y q in record { new = OrderedTree.more content below m.new; changed = passed p m.changed; same = m.same }
+reached (past_element {content = content} {below = below} p h) y q = let m = reached h y q in record { new = OrderedTree.more content below m.new; changed = later_element p m.changed; same = m.same }
+
+-- behind the first bracket
+behind_bracket : {held row : OrderedTree} {c i : ℕ} {f b : List Content} → RowHolds (property_of held) i (token_then c row) f b → (g : List Content) × RowHolds (property_of held) i row g b
+behind_bracket (past_other {f = f} p h) = (f, h)
+behind_bracket (past_element p h) = cc
+
+-- a property that is laid out, ahead of its value
+abbrev ahead_of_value : List ℕ → List Content
+ahead_of_value name = string_leaf name ∷ Content.token 0x3A ∷ Content.whitespace (0x20 ∷ []) ∷ []
+
+-- one whose value is a literal without quotes ends with it
+property_ends : (layout : Layout) (name : List ℕ) (v : Plain) → is_bare_value v ≡ true → EndsBareWith (leaves_of (laid_property layout name v))
+property_ends layout name plain.null e = record { front = ahead_of_value name; leaf = Content.null; is = refl; bare = refl }
+property_ends layout name (plain.boolean b) e = record { front = ahead_of_value name; leaf = Content.boolean b; is = refl; bare = refl }
+property_ends layout name (plain.number n) e = record { front = ahead_of_value name; leaf = number_leaf n; is = refl; bare = refl }
+property_ends layout name v e = cc
+
+module _ (o : Options) where
+  pub record PropertyPrinted (held : OrderedTree) (path : List ℕ) (i : ℕ) (t : OrderedTree) (f b : List Content) : Type 0 where
+    pub whole : leaves t ≡ f ++ (leaves_of (property_of held) ++ b)
+    pub begins : Begins (leaves_of (property_of held) ++ b)
+    pub utf8 : AllUtf8 (f ++ (leaves_of (property_of held) ++ b))
+    pub text : printed_text t ≡ text_of_leaves f ++ (text_of_leaves (leaves_of (property_of held)) ++ text_of_leaves b)
+    pub stands : Entry (path ++ i ∷ []) o (printed_text t) (text_of_leaves (leaves_of (property_of held)) ++ text_of_leaves b) (text_of_leaves b)
+
+  pub property_printed : {held : OrderedTree} {path : List ℕ} {i : ℕ} {t : OrderedTree} {f b : List Content} → SoundTree o t → PropertyHolds held path i t f b → PropertyPrinted held path i t f b
+  property_printed {held} {path} {i} {t} {f} {b} s h =
+      let own : List Content = leaves_of (property_of held) in
+      let d = document_itself h.holder in
+      let it = object_row o refl (value_alone o (document_held o d.changed s.shaped).1) in
+      let holder : DocumentHolds (container_of of_properties it.row) path t h.before h.behind = subst (λ (r : OrderedTree). DocumentHolds (record { content = object; below = r }) path t h.before h.behind) it.is h.holder in
+      let inner = behind_bracket (subst (λ (r : OrderedTree). RowHolds (property_of held) i r h.ahead h.beyond) it.is h.property) in
+      let m = document_itself holder in
+      let all : leaves t ≡ f ++ (own ++ b) =
+      document_parts d.changed ∙ ap (λ l. l ++ (leaves h.row ++ back_of d.changed)) d.first ∙ ap (λ l. h.before ++ (leaves h.row ++ l)) d.last
+      ∙ ap (λ l. h.before ++ (l ++ h.behind)) (held_leaves h.property)
+      ∙ ap (λ l. h.before ++ l) (append_assoc h.ahead (own ++ h.beyond) h.behind ∙ ap (λ l. h.ahead ++ l) (append_assoc own h.beyond h.behind))
+      ∙ sym (append_assoc h.before h.ahead (own ++ (h.beyond ++ h.behind)))
+      ∙ ap (λ l. l ++ (own ++ (h.beyond ++ h.behind))) (sym h.first) ∙ ap (λ l. f ++ (own ++ l)) (sym h.last) in
+      let utf8 : AllUtf8 (f ++ (own ++ b)) = subst AllUtf8 all (document_utf8 o s.shaped) in
+      let u1 : AllUtf8 (own ++ b) = utf8_second f (own ++ b) utf8 in
+      let u2 : AllUtf8 (h.beyond ++ h.behind) = subst AllUtf8 h.last (utf8_second own b u1) in
+      let behind : text_of_leaves h.beyond ++ text_of_leaves (back_of m.changed) ≡ text_of_leaves b =
+      ap (λ l. text_of_leaves h.beyond ++ text_of_leaves l) m.last ∙ sym (ap text_of_leaves h.last ∙ text_joined h.beyond h.behind (utf8_first h.beyond h.behind u2)) in
+      record {
+        whole = all;
+        begins = entry_begins o of_properties s m.changed (reached inner.1) b;
+        utf8 = utf8;
+        text = ap text_of_leaves all ∙ text_joined f (own ++ b) (utf8_first f (own ++ b) utf8) ∙ ap (λ l. text_of_leaves f ++ l) (text_joined own b (utf8_first own b u1));
+        stands = subst (λ l. Entry (path ++ i ∷ []) o (printed_text t) (text_of_leaves own ++ l) l) behind (entry_there o of_properties s m.changed (reached inner.1));
+      }
+
+  module _ {path : List ℕ} {i : ℕ} {was now t u : OrderedTree} (s : SoundTree o t) (r : SoundTree o u) (g : PropertyGivesWayWithSeam path i was now t u) where
+    abbrev old_own : List ℕ
+    old_own = text_of_leaves (leaves_of (property_of was))
+
+    abbrev new_own : List ℕ
+    new_own = text_of_leaves (leaves_of (property_of now))
+
+    first : PropertyPrinted was path i t g.front (g.quiet ++ g.rest)
+    first = property_printed s g.stood
+
+    second : PropertyPrinted now path i u g.front (g.quiet ++ (space_if g.behind ++ g.rest))
+    second = property_printed r g.stands
+
+    old_back : text_of_leaves (g.quiet ++ g.rest) ≡ text_of_leaves g.rest
+    old_back = silent_then g.quiet g.rest g.silent (utf8_second (leaves_of (property_of was)) (g.quiet ++ g.rest) (utf8_second g.front (leaves_of (property_of was) ++ (g.quiet ++ g.rest)) first.utf8))
+
+    back_utf8 : AllUtf8 (g.quiet ++ (space_if g.behind ++ g.rest))
+    back_utf8 = utf8_second (leaves_of (property_of now)) (g.quiet ++ (space_if g.behind ++ g.rest)) (utf8_second g.front (leaves_of (property_of now) ++ (g.quiet ++ (space_if g.behind ++ g.rest))) second.utf8)
+
+    new_back : text_of_leaves (g.quiet ++ (space_if g.behind ++ g.rest)) ≡ seam_if g.behind ++ text_of_leaves g.rest
+    new_back =
+        silent_then g.quiet (space_if g.behind ++ g.rest) g.silent back_utf8
+        ∙ text_joined (space_if g.behind) g.rest (utf8_first (space_if g.behind) g.rest (utf8_second g.quiet (space_if g.behind ++ g.rest) back_utf8))
+        ∙ ap (λ l. l ++ text_of_leaves g.rest) (space_text g.behind)
+
+    new_spelled : AllSpelled (leaves_of (property_of now))
+    new_spelled =
+        let behind_new : List Content = g.quiet ++ (space_if g.behind ++ g.rest) in
+        spelled_first (leaves_of (property_of now)) behind_new (spelled_second g.front (leaves_of (property_of now) ++ behind_new) (subst AllSpelled second.whole (spelled o r)))
+
+    new_utf8 : AllUtf8 (leaves_of (property_of now))
+    new_utf8 = let behind_new : List Content = g.quiet ++ (space_if g.behind ++ g.rest) in utf8_first (leaves_of (property_of now)) behind_new (utf8_second g.front (leaves_of (property_of now) ++ behind_new) second.utf8)
+
+    -- the space is due where the new property ends with a literal without quotes
+    behind_due : (g.behind ≡ true → EndsBareWith (leaves_of (property_of now))) → IsSeam (text_of_leaves g.front ++ ([] ++ new_own)) (text_of_leaves g.rest) (seam_if g.behind)
+    behind_due bare = seam_due g.behind (λ e.
+        let old : List Content = leaves_of (property_of was) in
+        let was_spelled : AllSpelled (g.front ++ (old ++ (g.quiet ++ g.rest))) = subst AllSpelled first.whole (spelled o s) in
+        let begins = begins_so (g.quiet ++ g.rest) (utf8_second old (g.quiet ++ g.rest) (utf8_second g.front (old ++ (g.quiet ++ g.rest)) first.utf8)) (spelled_second old (g.quiet ++ g.rest) (spelled_second g.front (old ++ (g.quiet ++ g.rest)) was_spelled)) (g.parts_behind o s e) in
+        meets (ends_behind (text_of_leaves g.front) (ends_with (bare e) new_utf8 new_spelled)) (subst BeginsBare old_back begins))
+
+    pub property_puts : (w x : Option Plain) (come : List Mark) → marks_in (leaves_of (property_of now)) ≡ come → (g.behind ≡ true → EndsBareWith (leaves_of (property_of now))) → Puts (Entry (path ++ i ∷ [])) come (document_of o t w) (document_of o u x)
+    property_puts w x come is bare =
+        let text : Text IsSeam (text_of_leaves g.front) old_own [] new_own (seam_if g.behind) (text_of_leaves g.rest) (document_of o t w) (document_of o u x) =
+        record {
+          before = first.text ∙ ap (λ l. text_of_leaves g.front ++ (old_own ++ l)) old_back;
+          after = second.text ∙ ap (λ l. text_of_leaves g.front ++ (new_own ++ l)) new_back;
+          sides = (inl refl, behind_due bare);
+        } in
+        let own : List Content = leaves_of (property_of was) in
+        let old_parted = parted o s w g.front own (g.quiet ++ g.rest) first.whole first.begins
+        (text_joined own (g.quiet ++ g.rest) (utf8_first own (g.quiet ++ g.rest) (utf8_second g.front (own ++ (g.quiet ++ g.rest)) first.utf8)) ∙ ap (λ l. old_own ++ l) old_back) old_back in
+        let new : List Content = leaves_of (property_of now) in
+        let behind_new : List Content = g.quiet ++ (space_if g.behind ++ g.rest) in
+        let new_parted = parted o r x g.front new behind_new second.whole second.begins
+        (text_joined new behind_new (utf8_first new behind_new (utf8_second g.front (new ++ behind_new) second.utf8)) ∙ ap (λ l. new_own ++ l) new_back) new_back in (
+          text_of_leaves g.front,
+          old_own,
+          [],
+          new_own,
+          seam_if g.behind,
+          text_of_leaves g.rest,
+          text,
+          subst (λ l. Entry (path ++ i ∷ []) o (printed_text t) (old_own ++ l) l) old_back first.stands,
+          subst (λ l. Entry (path ++ i ∷ []) o (printed_text u) (new_own ++ l) l) new_back second.stands,
+          marks_in g.front,
+          marks_in own,
+          marks_in (g.quiet ++ g.rest),
+          old_parted,
+          parted_as refl is (seam_unmarked g.quiet g.behind g.rest) new_parted,
+        )
+
+-- of the value the property has given way
+record MemberGiven (name : List ℕ) (v : Plain) (i : ℕ) (ms ns : Members) : Type 0 where
+  front : List Named
+  back : List Named
+  old : Named
+  place : i ≡ length front
+  before : ms ≡ members (front ++ old ∷ back)
+  after : ns ≡ members (front ++ entry_of name v ∷ back)
+
+member_given : {name : List ℕ} {v : Plain} {i : ℕ} {ms ns : Members} → MemberReplaced name v i ms ns → MemberGiven name v i ms ns
+member_given {name} {v} (replaced.this_member {n = n} {w = w} {ms = ms}) =
+    record { front = []; back = list_of_members ms; old = entry_of n w; place = refl; before = ap (member n w) (sym (same_members ms)); after = ap (member name v) (sym (same_members ms)) }
+member_given (replaced.later_member {n = n} {w = w} k) =
+    let m = member_given k in
+    record { front = entry_of n w ∷ m.front; back = m.back; old = m.old; place = ap suc m.place; before = ap (member n w) m.before; after = ap (member n w) m.after }
+
+-- the value of the object, where the path leads to one of its properties
+abbrev Gives : List ℕ → List ℕ → Plain → Option Plain → Option Plain → Type 0
+Gives path name v w x = (holder : List ℕ) × (front back : List Named) × (old : Named) × (path ≡ holder ++ length front ∷ [])
+    × Becomes (of an_object (front ++ old ∷ back)) (of an_object (front ++ entry_of name v ∷ back)) holder w x
+
+gives : {path name : List ℕ} {v : Plain} {w x : Option Plain} → IsChanged w (replace_property path name v) x → Gives path name v w x
+gives {name = name} {v = v} (by_property path i {x = x} {y = y} g) =
+    let m = member_given g.replaced in (
+      path,
+      m.front,
+      m.back,
+      m.old,
+      ap (λ j. path ++ j ∷ []) m.place,
+      subst (λ (l : Members). Changed (of an_object (m.front ++ m.old ∷ m.back)) (plain.object l) path x y) m.after (subst (λ (l : Members). Changed (plain.object l) (plain.object g.new) path x y) m.before (changed g.changed)),
+    )
+
+puts : (o : Options) (t u : OrderedTree) (w x : Option Plain) (path name : List ℕ) (v : Plain) → IsCharacters name × IsOfTexts v → SoundTree o t → SoundTree o u → PropertyGivenWay name v t u path
+    → Puts (Entry path) (written an_object (entry_of name v)) (document_of o t w) (document_of o u x)
+puts o t u w x _ name v f s r (property_given path i layout spaced front old back p c d seam bare) =
+    property_puts o s r seam w x (written an_object (entry_of name v)) (laid_property_literals layout name v f.0 f.1) (λ e. property_ends layout name v (bare e))
+
+pub property_replaced : (o : Options) (t u : OrderedTree) (w x : Option Plain) (path name : List ℕ) (v : Plain) → IsCharacters name × IsOfTexts v → SoundTree o t → SoundTree o u → IsChanged w (replace_property path name v) x
+    → PropertyGivenWay name v t u path → Makes (document_of o t w) (texts.replace_property path name v) (document_of o u x)
+property_replaced o t u w x path name v f s r c given =
+    let k = gives c in
+    (puts o t u w x path name v f s r given, k.0, k.1, k.2, k.3, k.4, k.5)

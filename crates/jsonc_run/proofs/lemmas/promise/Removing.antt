@@ -1,0 +1,517 @@
+-- Where an entry leaves a sound tree with spaces at the seams, it leaves the text so.
+use Rattle.std.proofs.Common.{ℕ, ◌+◌, ◌≡◌, ◌≢◌, ◌∙◌, sym, ap, subst, refl, inl, Bool, true, false, List, [], ◌∷◌, ◌++◌, Option, Some, None, arith}
+use Rattle.std.proofs.lemmas.List.{append_assoc, append-nil}
+use Rattle.std.proofs.lemmas.Str.{chars-nil}
+use Rattle.jsonc_text.specs.Options.{Options}
+use Rattle.jsonc_text.specs.Plain.{Plain}
+use Rattle.jsonc_text.specs.Text as many
+use Rattle.jsonc_tree.specs.Content.{Content, token}
+use Rattle.jsonc_tree.specs.OrderedTree.{OrderedTree, none, leaves, followed_by, Top}
+use Rattle.jsonc_tree.specs.Values.{DocumentValueOf}
+use Rattle.jsonc_tree.proofs.OrderedTrees.{leaves-followed_by}
+use Rattle.jsonc_sound.specs.Shape.{token_then, printed_text}
+use Rattle.jsonc_sound.specs.Leaving.{AreBeside, IsRestOfLine, among, element_count, ClosesUp, stays, closes_up}
+use Rattle.jsonc_sound.specs.MarkChanges.{AreBlanks}
+use Rattle.jsonc_sound.specs.Rows.{RowKind, opening, container_of}
+use Rattle.jsonc_sound.specs.SoundTrees.{SoundTree}
+use Rattle.jsonc_sound.specs.Adjacent.{last_printed, or_else}
+use Rattle.jsonc_sound.specs.Spaces.{first_printed, is_bare_leaf, space_then}
+use Rattle.jsonc_sound.specs.TreeChanges.{IsElement, leaves_of}
+use Rattle.jsonc_sound.specs.TriviaChanges.{leaves_then}
+use Rattle.jsonc_sound.proofs.Apart.{document_alone}
+use Rattle.jsonc_sound.proofs.Pieces.{Pieces, document_pieces}
+use Rattle.jsonc_sound.proofs.RowParts.{parted_at, at_comma, past_leaves, beside_trivia, rest_trivia, between_trivia, line_trivia}
+use Rattle.jsonc_sound.proofs.SeamStretches.{parted_row}
+use Rattle.jsonc_sound.proofs.Spaces.{first_append, last_append}
+use Rattle.jsonc_sound.proofs.Texts.{AllUtf8}
+use Rattle.jsonc_sound.proofs.TriviaLeaves.{front_leaves}
+use Rattle.jsonc_edit.specs.Put.{a_space}
+use Rattle.jsonc_edit.proofs.Spacing.{spaces_value}
+use Rattle.jsonc_edit.specs.remove.Laws.{EntryTaken}
+use Rattle.jsonc_edit.specs.SeamRemovals.{SpaceFirst, none_first, space_first, LeavesWithSeams, comma_behind, comma_before, no_comma}
+use Rattle.jsonc_edit.specs.SeamPlaces.{DocumentHolds}
+use Rattle.jsonc_edit.specs.Seams.{PrintNothing, space_if}
+use Rattle.jsonc_text.specs.Paths.{Entry}
+use Rattle.jsonc_text.specs.Edits as texts
+use Rattle.jsonc_text.specs.Edits.{Document, InLine, IsSeam, Trail, Comma, Leaves, Loses}
+use Rattle.jsonc_run.specs.promise.PlaceLaws.{text_of_leaves}
+use Rattle.jsonc_run.proofs.lemmas.promise.CommentTexts.{blanks_text}
+use Rattle.jsonc_run.proofs.lemmas.promise.Leaves.{back_of, document_parts, document_utf8, text_joined, utf8_first, utf8_second}
+use Rattle.jsonc_run.proofs.lemmas.promise.Losing.{loses_value}
+use Rattle.jsonc_run.proofs.lemmas.promise.Reaching.{renumber, rest_as, Reached, at_first, past_comma, past_row}
+use Rattle.jsonc_run.proofs.lemmas.promise.Reaching as reaching
+use Rattle.jsonc_run.proofs.lemmas.promise.RemovedTexts.{Commas, behind_it, ahead_of_it, nowhere, among_leaves, container_leaves, none_more, text_cons, trail_text, comma_unmarked, entry_begins, entry_there, gone_parted, rest_pieces, pieces_first, pieces_second}
+use Rattle.jsonc_run.proofs.lemmas.promise.Stretches.{blanks_behind_unmarked, marks_in, marks_in_both, seam_unmarked}
+use Rattle.jsonc_sound.specs.Documents.{document_of}
+use Rattle.jsonc_run.proofs.lemmas.promise.Trivia.{beside_text}
+use Rattle.jsonc_run.proofs.lemmas.promise.Closing.{blanks_first, blanks_second, split, row_some, container_row, no_elements, count_followed, blanks_count, left_blanks}
+use Rattle.jsonc_run.proofs.lemmas.promise.Values.{at_the_place}
+use Rattle.jsonc_sound.specs.Rows.{an_element, nothing_yet}
+use Rattle.jsonc_run.proofs.lemmas.promise.Places.{DocumentItself, document_itself, silent_then, seam_if, space_text}
+use Rattle.jsonc_run.proofs.lemmas.promise.Bare.{AllSpelled, BeginsBare, EndsBare, begins_before, begins_so, ends_so, meets, seam_due, spelled, spelled_first, spelled_second}
+
+-- the second leaves are the first with a space directly before what is printed first, or none: one where that is a literal without quotes, and so is what is printed
+-- last ahead of them
+record SeamIn (ahead xs ys : List Content) (b : Bool) : Type 0 where
+  quiet : List Content
+  rest : List Content
+  was : xs ≡ quiet ++ rest
+  is : ys ≡ quiet ++ (space_if b ++ rest)
+  silent : PrintNothing quiet
+  due : b ≡ true → (is_bare_leaf (last_printed ahead) ≡ true) × (is_bare_leaf (first_printed rest) ≡ true)
+
+never : {A : Type 0} → false ≡ true → A
+never e = cc
+
+bare_first : (x y : Option Content) → is_bare_leaf x ≡ true → is_bare_leaf (or_else x y) ≡ true
+bare_first None y e = never e
+bare_first (Some c) y e = e
+
+-- with more before them, and behind
+last_behind : (before row : List Content) → is_bare_leaf (last_printed row) ≡ true → is_bare_leaf (last_printed (before ++ row)) ≡ true
+last_behind before row e = ap is_bare_leaf (last_append before row) ∙ bare_first (last_printed row) (last_printed before) e
+
+first_before : (row behind : List Content) → is_bare_leaf (first_printed row) ≡ true → is_bare_leaf (first_printed (row ++ behind)) ≡ true
+first_before row behind e = ap is_bare_leaf (first_append row behind) ∙ bare_first (first_printed row) (first_printed behind) e
+
+seam_behind : {a c xs ys : List Content} {b : Bool} → (is_bare_leaf (last_printed a) ≡ true → is_bare_leaf (last_printed c) ≡ true) → SeamIn a xs ys b → SeamIn c xs ys b
+seam_behind f s = record { quiet = s.quiet; rest = s.rest; was = s.was; is = s.is; silent = s.silent; due = λ e. let d = s.due e in (f d.0, d.1) }
+
+-- what the first leaves print is what those print before which the space stands
+seam_rest : {ahead xs ys : List Content} {b : Bool} (s : SeamIn ahead xs ys b) → AllUtf8 xs → text_of_leaves s.rest ≡ text_of_leaves xs
+seam_rest s u = sym (ap text_of_leaves s.was ∙ silent_then s.quiet s.rest s.silent (subst AllUtf8 s.was u))
+
+seam_text : {ahead xs ys : List Content} {b : Bool} → SeamIn ahead xs ys b → AllUtf8 xs → AllUtf8 ys → text_of_leaves ys ≡ seam_if b ++ text_of_leaves xs
+seam_text {ahead} {xs} {ys} {b} s u v =
+    let first : AllUtf8 (s.quiet ++ s.rest) = subst AllUtf8 s.was u in
+    let second : AllUtf8 (s.quiet ++ (space_if b ++ s.rest)) = subst AllUtf8 s.is v in
+    ap text_of_leaves s.is ∙ silent_then s.quiet (space_if b ++ s.rest) s.silent second
+    ∙ text_joined (space_if b) s.rest (utf8_first (space_if b) s.rest (utf8_second s.quiet (space_if b ++ s.rest) second))
+    ∙ ap (λ l. l ++ text_of_leaves s.rest) (space_text b)
+    ∙ ap (λ l. seam_if b ++ l) (sym (ap text_of_leaves s.was ∙ silent_then s.quiet s.rest s.silent first))
+
+-- and begins with a literal without quotes, if that is printed first
+rest_begins : {ahead xs ys : List Content} {b : Bool} (s : SeamIn ahead xs ys b) → AllUtf8 xs → AllSpelled xs → is_bare_leaf (first_printed s.rest) ≡ true → BeginsBare (text_of_leaves xs)
+rest_begins s u h e =
+    subst BeginsBare (seam_rest s u) (begins_so s.rest (utf8_second s.quiet s.rest (subst AllUtf8 s.was u)) (spelled_second s.quiet s.rest (subst AllSpelled s.was h)) e)
+
+seam_marks : {ahead xs ys : List Content} {b : Bool} → SeamIn ahead xs ys b → marks_in ys ≡ marks_in xs
+seam_marks {b = b} s = ap marks_in s.is ∙ seam_unmarked s.quiet b s.rest ∙ sym (ap marks_in s.was)
+
+-- one of a row, with leaves behind it
+row_seam : {ahead : List Content} {x y : OrderedTree} (around : List Content) → SpaceFirst ahead x y → (b : Bool) × SeamIn ahead (leaves x ++ around) (leaves y ++ around) b
+row_seam {x = x} around none_first = (false, record { quiet = []; rest = leaves x ++ around; was = refl; is = refl; silent = tt; due = never })
+row_seam around (space_first quiet rest silent last first) = (
+  true,
+  record {
+    quiet = leaves quiet;
+    rest = leaves rest ++ around;
+    was = ap (λ l. l ++ around) (leaves-followed_by quiet rest) ∙ append_assoc (leaves quiet) (leaves rest) around;
+    is = ap (λ l. l ++ around) (leaves-followed_by quiet (space_then rest)) ∙ append_assoc (leaves quiet) (a_space ∷ leaves rest) around;
+    silent = silent;
+    due = λ e. (last, first_before (leaves rest) around first);
+  },
+)
+
+alone_seam : {ahead : List Content} {x y : OrderedTree} → SpaceFirst ahead x y → (b : Bool) × SeamIn ahead (leaves x) (leaves y) b
+alone_seam {ahead} {x} {y} s =
+    let m = row_seam [] s in
+    (m.0, subst (λ l. SeamIn ahead l (leaves y) m.0) (append-nil (leaves x)) (subst (λ l. SeamIn ahead (leaves x ++ []) l m.0) (append-nil (leaves y)) m.1))
+
+no_seam : (ahead : List Content) → SeamIn ahead [] [] false
+no_seam ahead = record { quiet = []; rest = []; was = refl; is = refl; silent = tt; due = never }
+
+-- the leaves of two trees, in stretches
+record Stretches (t u : OrderedTree) (own : List Content) : Type 0 where
+  front : List Content
+  comma : List Content
+  mid : List Content
+  lead : List Content
+  trail : List Content
+  back : List Content
+  mid_now : List Content
+  back_now : List Content
+  left : Bool
+  right : Bool
+  before : leaves t ≡ front ++ (comma ++ (mid ++ (lead ++ (own ++ (trail ++ back)))))
+  after : leaves u ≡ front ++ (mid_now ++ back_now)
+  at_comma : SeamIn front mid mid_now left
+  at_entry : SeamIn (front ++ mid_now) back back_now right
+
+-- a container of two trees with one document around it
+record Around (kind : RowKind) (path : List ℕ) (t u row new : OrderedTree) (front back : List Content) : Type 0 where
+  itself : DocumentItself (container_of kind row) path t front back
+  old : leaves t ≡ front ++ ((token (opening kind) ∷ leaves row) ++ back)
+  now : leaves u ≡ front ++ ((token (opening kind) ∷ leaves new) ++ back)
+
+held_leaves : (kind : RowKind) {path : List ℕ} {t row : OrderedTree} {front back : List Content} → DocumentHolds (container_of kind row) path t front back → leaves t ≡ front ++ ((token (opening kind) ∷ leaves row) ++ back)
+held_leaves kind {row = row} {front = front} {back = back} h =
+    let m = document_itself h in
+    document_parts m.changed ∙ ap (λ l. l ++ (leaves_of (container_of kind row) ++ back_of m.changed)) m.first ∙ ap (λ l. front ++ (leaves_of (container_of kind row) ++ l)) m.last ∙ ap (λ l. front ++ (l ++ back)) (container_leaves kind row)
+
+around_of : (kind : RowKind) {path : List ℕ} {t u row new : OrderedTree} {front back : List Content} → DocumentHolds (container_of kind row) path t front back → DocumentHolds (container_of kind new) path u front back → Around kind path t u row new front back
+around_of kind h k = record { itself = document_itself h; old = held_leaves kind h; now = held_leaves kind k }
+
+-- what leaves of the row of a container, and that the entry is there
+record Gone (kind : RowKind) (top : Top) (i : ℕ) (row : OrderedTree) (t u : OrderedTree) (around : List Content) : Type 0 where
+  stretches : Stretches t u (leaves_of top)
+  rest : List Content
+  back : stretches.back ≡ rest ++ around
+  reached : (y : Top) → IsElement y.content → Reached top y i row (stretches.trail ++ rest)
+  lead : AreBeside stretches.lead
+  with_comma : Bool
+  commas : Commas with_comma stretches.comma stretches.mid stretches.trail
+
+module _ {kind : RowKind} {top : Top} {path : List ℕ} {t u : OrderedTree} {f b : List Content} (element : IsElement top.content) where
+  -- with no comma, or with the one behind it
+  gone_ahead : (front back given : OrderedTree) (before behind : List Content) (row : OrderedTree) (c : Bool) → Commas c [] [] behind → AreBeside before → Around kind path t u row (followed_by front given) f b → SpaceFirst (leaves front) back given
+      → leaves row ≡ leaves front ++ (before ++ (leaves_of top ++ (behind ++ leaves back))) → ((y : Top) → IsElement y.content → Reached top y (element_count front) row (behind ++ leaves back)) → Gone kind top (element_count front) row t u b
+  gone_ahead front back given before behind row c cm h d space e reach =
+      let o : Content = token (opening kind) in
+      let seam = row_seam b space in
+      record {
+        stretches = record {
+          front = f ++ (o ∷ leaves front);
+          comma = [];
+          mid = [];
+          lead = before;
+          trail = behind;
+          back = leaves back ++ b;
+          mid_now = [];
+          back_now = leaves given ++ b;
+          left = false;
+          right = seam.0;
+          before = d.old ∙ ap (λ l. f ++ ((o ∷ l) ++ b)) e ∙ regroup_old f (leaves front) before (leaves_of top) behind (leaves back) b o;
+          after = d.now ∙ ap (λ l. f ++ ((o ∷ l) ++ b)) (leaves-followed_by front given) ∙ regroup_new f (leaves front) (leaves given) b o;
+          at_comma = no_seam (f ++ (o ∷ leaves front));
+          at_entry = seam_behind (λ h. ap (λ l. is_bare_leaf (last_printed l)) (append-nil (f ++ (o ∷ leaves front))) ∙ last_behind f (o ∷ leaves front) (last_behind (o ∷ []) (leaves front) h)) seam.1;
+        };
+        rest = leaves back;
+        back = refl;
+        reached = reach;
+        lead = h;
+        with_comma = c;
+        commas = cm;
+      }
+    where
+      regroup_old : (f fr bf ow bt bk b : List Content) (c : Content) → f ++ ((c ∷ (fr ++ (bf ++ (ow ++ (bt ++ bk))))) ++ b) ≡ (f ++ (c ∷ fr)) ++ (bf ++ (ow ++ (bt ++ (bk ++ b))))
+      regroup_old f fr bf ow bt bk b c = simp (append_assoc) refl
+
+      regroup_new : (f fr bk b : List Content) (c : Content) → f ++ ((c ∷ (fr ++ bk)) ++ b) ≡ (f ++ (c ∷ fr)) ++ (bk ++ b)
+      regroup_new f fr bk b c = simp (append_assoc) refl
+
+  -- with the one before it
+  gone_behind : (front mid back given_mid given : OrderedTree) (before line : List Content) (row : OrderedTree) → IsRestOfLine line → AreBeside before → Around kind path t u row (followed_by front (followed_by given_mid given)) f b
+      → SpaceFirst (leaves front) mid given_mid → SpaceFirst (leaves front ++ leaves given_mid) back given
+      → leaves row ≡ leaves front ++ (token 0x2C ∷ (leaves mid ++ (before ++ (leaves_of top ++ (line ++ leaves back))))) → ((y : Top) → IsElement y.content → Reached top y (element_count front + element_count mid) row (line ++ leaves back)) → Gone kind top (element_count front + element_count mid) row t u b
+  gone_behind front mid back given_mid given before line row rl h d space_mid space e reach =
+      let o : Content = token (opening kind) in
+      let seam_mid = alone_seam space_mid in
+      let seam = row_seam b space in
+      record {
+        stretches = record {
+          front = f ++ (o ∷ leaves front);
+          comma = token 0x2C ∷ [];
+          mid = leaves mid;
+          lead = before;
+          trail = line;
+          back = leaves back ++ b;
+          mid_now = leaves given_mid;
+          back_now = leaves given ++ b;
+          left = seam_mid.0;
+          right = seam.0;
+          before = d.old ∙ ap (λ l. f ++ ((o ∷ l) ++ b)) e ∙ regroup_old f (leaves front) (leaves mid) before (leaves_of top) line (leaves back) b o (token 0x2C);
+          after = d.now ∙ ap (λ l. f ++ ((o ∷ l) ++ b)) (leaves-followed_by front (followed_by given_mid given) ∙ ap (λ l. leaves front ++ l) (leaves-followed_by given_mid given)) ∙ regroup_new f (leaves front) (leaves given_mid) (leaves given) b o;
+          at_comma = seam_behind (λ h. last_behind f (o ∷ leaves front) (last_behind (o ∷ []) (leaves front) h)) seam_mid.1;
+          at_entry = seam_behind (λ h. ap (λ l. is_bare_leaf (last_printed l)) (append_assoc f (o ∷ leaves front) (leaves given_mid))
+              ∙ last_behind f (o ∷ (leaves front ++ leaves given_mid)) (last_behind (o ∷ []) (leaves front ++ leaves given_mid) h)) seam.1;
+        };
+        rest = leaves back;
+        back = refl;
+        reached = reach;
+        lead = h;
+        with_comma = false;
+        commas = ahead_of_it (leaves mid) rl;
+      }
+    where
+      regroup_old : (f fr md bf ow bt bk b : List Content) (c m : Content) → f ++ ((c ∷ (fr ++ (m ∷ (md ++ (bf ++ (ow ++ (bt ++ bk))))))) ++ b) ≡ (f ++ (c ∷ fr)) ++ ((m ∷ []) ++ (md ++ (bf ++ (ow ++ (bt ++ (bk ++ b))))))
+      regroup_old f fr md bf ow bt bk b c m = simp (append_assoc) refl
+
+      regroup_new : (f fr md bk b : List Content) (c : Content) → f ++ ((c ∷ (fr ++ (md ++ bk))) ++ b) ≡ (f ++ (c ∷ fr)) ++ (md ++ (bk ++ b))
+      regroup_new f fr md bk b c = simp (append_assoc) refl
+
+  gone_of : {i : ℕ} {row left : OrderedTree} → LeavesWithSeams top i row left → Around kind path t u row left f b → Gone kind top i row t u b
+  gone_of (comma_behind front back given before between line be lb space) d =
+      let comma : Content = token 0x2C in
+      let trivia = beside_trivia before be in
+      let tail : OrderedTree = token_then 0x2C (leaves_then line back) in
+      let behind : leaves (leaves_then between tail) ≡ (between ++ (comma ∷ line)) ++ leaves back =
+      front_leaves between tail (between_trivia lb) ∙ ap (λ l. between ++ (comma ∷ l)) (front_leaves line back (line_trivia lb)) ∙ sym (append_assoc between (comma ∷ line) (leaves back)) in
+      gone_ahead front back given before (between ++ (comma ∷ line)) _ true (behind_it lb) be d space
+      (leaves-followed_by front (among before top between tail) ∙ ap (λ l. leaves front ++ l) (among_leaves before top between tail trivia (between_trivia lb) ∙ ap (λ l. before ++ (leaves_of top ++ l)) (sym (front_leaves between tail (between_trivia lb)) ∙ behind)))
+      (λ y q. renumber (none_more (element_count front)) (past_row front (reaching.past_leaves before trivia (rest_as behind (at_first (leaves_then between tail) element q)))))
+  gone_of (comma_before front mid back given_mid given before line be rl space_mid space) d =
+      let trivia = beside_trivia before be in
+      let inner : OrderedTree = among before top line back in
+      gone_behind front mid back given_mid given before line _ rl be d space_mid space
+      (leaves-followed_by front (token_then 0x2C (followed_by mid inner)) ∙ ap (λ l. leaves front ++ (token 0x2C ∷ l)) (leaves-followed_by mid inner ∙ ap (λ l. leaves mid ++ l) (among_leaves before top line back trivia (rest_trivia line rl))))
+      (λ y q. renumber (ap (λ n. element_count front + n) (none_more (element_count mid))) (past_row front (past_comma 0x2C (past_row mid (reaching.past_leaves before trivia (rest_as (front_leaves line back (rest_trivia line rl)) (at_first (leaves_then line back) element q)))))))
+  gone_of (no_comma front back given before line be rl space) d =
+      let trivia = beside_trivia before be in
+      let inner : OrderedTree = among before top line back in
+      gone_ahead front back given before line _ false (nowhere rl) be d space
+      (leaves-followed_by front inner ∙ ap (λ l. leaves front ++ l) (among_leaves before top line back trivia (rest_trivia line rl)))
+      (λ y q. renumber (none_more (element_count front)) (past_row front (reaching.past_leaves before trivia (rest_as (front_leaves line back (rest_trivia line rl)) (at_first (leaves_then line back) element q)))))
+
+module _ (o : Options) {t u : OrderedTree} (s : SoundTree o t) (r : SoundTree o u) where
+  -- the entry stands at its place
+  entry_in : (kind : RowKind) {top : Top} {i : ℕ} {row : OrderedTree} {path : List ℕ} {f b rest : List Content} → DocumentItself (container_of kind row) path t f b → ((y : Top) → IsElement y.content → Reached top y i row rest)
+      → Entry (path ++ i ∷ []) o (printed_text t) (text_of_leaves (leaves_of top) ++ (text_of_leaves rest ++ text_of_leaves b)) (text_of_leaves rest ++ text_of_leaves b)
+  entry_in kind {top} {i} {row} {path} {f} {b} {rest} d reach =
+      subst (λ l. Entry (path ++ i ∷ []) o (printed_text t) (text_of_leaves (leaves_of top) ++ (text_of_leaves rest ++ text_of_leaves l)) (text_of_leaves rest ++ text_of_leaves l)) d.last (entry_there o kind s d.changed reach)
+
+  -- so it leaves the text
+  leaves_so : (kind : RowKind) {top : Top} {i : ℕ} {row left : OrderedTree} {path : List ℕ} {f b : List Content} → IsElement top.content → LeavesWithSeams top i row left → Around kind path t u row left f b
+      → (w x : Option Plain) → Leaves (path ++ i ∷ []) (document_of o t w) (document_of o u x)
+  leaves_so kind {top} {i} {path = path} {b = b} element leaving d w x =
+      let g = gone_of element leaving d in
+      let k = g.stretches in
+      let own : List Content = leaves_of top in
+      let behind_own : List Content = k.trail ++ k.back in
+      let behind_lead : List Content = own ++ behind_own in
+      let behind_mid : List Content = k.lead ++ behind_lead in
+      let behind_comma : List Content = k.mid ++ behind_mid in
+      let behind_front : List Content = k.comma ++ behind_comma in
+      let pieces = subst (Pieces o) k.before (document_pieces o (document_alone o s.shaped)) in
+      let utf8 = subst AllUtf8 k.before (document_utf8 o s.shaped) in
+      let u1 = utf8_second k.front behind_front utf8 in
+      let u2 = utf8_second k.comma behind_comma u1 in
+      let u3 = utf8_second k.mid behind_mid u2 in
+      let u4 = utf8_second k.lead behind_lead u3 in
+      let u5 = utf8_second own behind_own u4 in
+      let p3 = pieces_second o k.mid behind_mid (pieces_second o k.comma behind_comma (pieces_second o k.front behind_front pieces)) in
+      let p5 = pieces_second o own behind_own (pieces_second o k.lead behind_lead p3) in
+      let trail = trail_text o g.commas (pieces_first o k.trail k.back p5) (utf8_first k.trail k.back u5) in
+      let behind = rest_pieces o k.trail g.rest b k.back g.back u5 in
+      let entry = subst (λ z. Entry (path ++ i ∷ []) o (printed_text t) (text_of_leaves own ++ z) z) behind (entry_in kind d.itself g.reached) in
+      let old : printed_text t ≡ text_of_leaves k.front ++ (text_of_leaves k.comma ++ (text_of_leaves k.mid ++ (text_of_leaves k.lead ++ (text_of_leaves own ++ (text_of_leaves k.trail ++ text_of_leaves k.back))))) =
+      ap text_of_leaves k.before ∙ text_cons k.front behind_front utf8 (text_cons k.comma behind_comma u1 (text_cons k.mid behind_mid u2 (text_cons k.lead behind_lead u3 (text_cons own behind_own u4 (text_cons k.trail k.back u5 refl))))) in
+      let utf8_new = subst AllUtf8 k.after (document_utf8 o r.shaped) in
+      let v1 = utf8_second k.front (k.mid_now ++ k.back_now) utf8_new in
+      let mid_now : text_of_leaves k.mid_now ≡ seam_if k.left ++ text_of_leaves k.mid = seam_text k.at_comma (utf8_first k.mid behind_mid u2) (utf8_first k.mid_now k.back_now v1) in
+      let back_now : text_of_leaves k.back_now ≡ seam_if k.right ++ text_of_leaves k.back = seam_text k.at_entry (utf8_second k.trail k.back u5) (utf8_second k.mid_now k.back_now v1) in
+      let new : printed_text u ≡ text_of_leaves k.front ++ (seam_if k.left ++ (text_of_leaves k.mid ++ (seam_if k.right ++ text_of_leaves k.back))) =
+      ap text_of_leaves k.after ∙ text_cons k.front (k.mid_now ++ k.back_now) utf8_new (text_cons k.mid_now k.back_now v1 back_now)
+      ∙ ap (λ l. text_of_leaves k.front ++ (l ++ (seam_if k.right ++ text_of_leaves k.back))) mid_now
+      ∙ ap (λ l. text_of_leaves k.front ++ l) (append_assoc (seam_if k.left) (text_of_leaves k.mid) (seam_if k.right ++ text_of_leaves k.back)) in
+      let was_spelled : AllSpelled (k.front ++ behind_front) = subst AllSpelled k.before (spelled o s) in
+      let mid_spelled : AllSpelled behind_comma = spelled_second k.comma behind_comma (spelled_second k.front behind_front was_spelled) in
+      let back_spelled : AllSpelled k.back = spelled_second k.trail k.back (spelled_second own behind_own (spelled_second k.lead behind_lead (spelled_second k.mid behind_mid mid_spelled))) in
+      let u_mid : AllUtf8 k.mid = utf8_first k.mid behind_mid u2 in
+      let u_back : AllUtf8 k.back = utf8_second k.trail k.back u5 in
+      let left_due : IsSeam (text_of_leaves k.front) (text_of_leaves k.mid ++ (seam_if k.right ++ text_of_leaves k.back)) (seam_if k.left) =
+      seam_due k.left (λ e.
+      let due = k.at_comma.due e in
+      let ends = ends_so k.front (utf8_first k.front behind_front utf8) (spelled_first k.front behind_front was_spelled) due.0 in
+      let begins = rest_begins k.at_comma u_mid (spelled_first k.mid behind_mid mid_spelled) due.1 in
+      meets ends (begins_before (seam_if k.right ++ text_of_leaves k.back) begins)) in
+      let front_now : List Content = k.front ++ k.mid_now in
+      let now_is : leaves u ≡ front_now ++ k.back_now = k.after ∙ sym (append_assoc k.front k.mid_now k.back_now) in
+      let now_spelled : AllSpelled front_now = spelled_first front_now k.back_now (subst AllSpelled now_is (spelled o r)) in
+      let now_utf8 : AllUtf8 front_now = utf8_first front_now k.back_now (subst AllUtf8 now_is (document_utf8 o r.shaped)) in
+      let now_text : text_of_leaves front_now ≡ text_of_leaves k.front ++ (seam_if k.left ++ text_of_leaves k.mid) = text_cons k.front k.mid_now now_utf8 mid_now in
+      let right_due : IsSeam (text_of_leaves k.front ++ (seam_if k.left ++ text_of_leaves k.mid)) (text_of_leaves k.back) (seam_if k.right) =
+      seam_due k.right (λ e.
+      let due = k.at_entry.due e in
+      meets (subst EndsBare now_text (ends_so front_now now_utf8 now_spelled due.0)) (rest_begins k.at_entry u_back back_spelled due.1)) in
+      let ahead : List Content = k.front ++ (k.comma ++ k.mid) in
+      let parts : leaves t ≡ ahead ++ behind_mid = k.before ∙ ap (λ l. k.front ++ l) (sym (append_assoc k.comma k.mid behind_mid)) ∙ sym (append_assoc k.front (k.comma ++ k.mid) behind_mid) in
+      let parted = gone_parted o s w ahead k.lead own k.trail [] k.back [] parts g.lead (entry_begins o kind s d.itself.changed g.reached behind_own) chars-nil in
+      let mid_marks : marks_in (k.comma ++ k.mid) ≡ marks_in k.mid = marks_in_both k.comma k.mid ∙ ap (λ l. l ++ marks_in k.mid) (comma_unmarked g.commas) in
+      let marks : marks_in (leaves u) ≡ marks_in ahead ++ marks_in k.back =
+      ap marks_in k.after ∙ marks_in_both k.front (k.mid_now ++ k.back_now) ∙ ap (λ l. marks_in k.front ++ l) (marks_in_both k.mid_now k.back_now ∙ ap (λ l. l ++ marks_in k.back_now) (seam_marks k.at_comma) ∙ ap (λ l. marks_in k.mid ++ l) (seam_marks k.at_entry))
+      ∙ sym (append_assoc (marks_in k.front) (marks_in k.mid) (marks_in k.back)) ∙ ap (λ l. l ++ marks_in k.back) (sym (marks_in_both k.front (k.comma ++ k.mid) ∙ ap (λ l. marks_in k.front ++ l) mid_marks)) in (
+        text_of_leaves k.front,
+        [],
+        text_of_leaves k.comma,
+        text_of_leaves k.mid,
+        text_of_leaves k.lead,
+        text_of_leaves own,
+        text_of_leaves k.trail,
+        [],
+        text_of_leaves k.back,
+        seam_if k.left,
+        seam_if k.right,
+        g.with_comma,
+        old,
+        new,
+        entry,
+        beside_text o k.lead g.lead (pieces_first o k.lead behind_lead p3),
+        trail.0,
+        trail.1,
+        many.Many.stop,
+        many.Many.stop,
+        left_due,
+        right_due,
+        marks_in ahead,
+        marks_in (k.lead ++ (own ++ (k.trail ++ []))),
+        marks_in k.back,
+        parted,
+        marks,
+      )
+
+-- what is left of blanks and a bracket without a space is blanks and that bracket
+record Unspaced (xs : List Content) (c : Content) : Type 0 where
+  blanks : List Content
+  are : AreBlanks blanks
+  is : xs ≡ blanks ++ c ∷ []
+
+no_space_token : (c : ℕ) → a_space ≡ token c → ⊥
+no_space_token c e = cc
+
+nothing_behind : (xs ys : List Content) (x : Content) → xs ++ x ∷ ys ≡ [] → ⊥
+nothing_behind [] ys x e = cc
+nothing_behind (y ∷ xs) ys x e = cc
+
+without_space : (xs ys blanks : List Content) (c : ℕ) → AreBlanks blanks → xs ++ a_space ∷ ys ≡ blanks ++ token c ∷ [] → Unspaced (xs ++ ys) (token c)
+without_space [] ys [] c h e = let first : a_space ≡ token c = cc in absurd (no_space_token c first)
+without_space [] ys (b ∷ bs) c h e = let rest : ys ≡ bs ++ token c ∷ [] = cc in record { blanks = bs; are = h.1; is = rest }
+without_space (x ∷ xs) ys [] c h e = let rest : xs ++ a_space ∷ ys ≡ [] = cc in absurd (nothing_behind xs ys a_space rest)
+without_space (x ∷ xs) ys (b ∷ bs) c h e =
+    let first : x ≡ b = cc in
+    let rest : xs ++ a_space ∷ ys ≡ bs ++ token c ∷ [] = cc in
+    let m = without_space xs ys bs c h.1 rest in
+    record { blanks = b ∷ m.blanks; are = (h.0, m.are); is = ap (λ l. x ∷ l) m.is ∙ ap (λ y. y ∷ (m.blanks ++ token c ∷ [])) first }
+
+left_unspaced : {ahead : List Content} (front back given : OrderedTree) (blanks : List Content) (c : ℕ) → AreBlanks blanks → SpaceFirst ahead back given → followed_by front given ≡ leaves_then blanks (token_then c none) → Unspaced (leaves front ++ leaves back) (token c)
+left_unspaced front _ _ blanks c h (none_first {row = row}) e = record { blanks = blanks; are = h; is = left_blanks front row blanks c h e }
+left_unspaced front _ _ blanks c h (space_first quiet rest silent last first) e =
+    let all = left_blanks front (followed_by quiet (space_then rest)) blanks c h e in
+    let parts : (leaves front ++ leaves quiet) ++ a_space ∷ leaves rest ≡ blanks ++ token c ∷ [] = append_assoc (leaves front) (leaves quiet) (a_space ∷ leaves rest) ∙ ap (λ l. leaves front ++ l) (sym (leaves-followed_by quiet (space_then rest))) ∙ all in
+    let m = without_space (leaves front ++ leaves quiet) (leaves rest) blanks c h parts in
+    record { blanks = m.blanks; are = m.are; is = ap (λ l. leaves front ++ l) (leaves-followed_by quiet rest) ∙ sym (append_assoc (leaves front) (leaves quiet) (leaves rest)) ∙ m.is }
+
+module _ (o : Options) (kind : RowKind) {top : Top} {path : List ℕ} {t u : OrderedTree} {f ar : List Content} (s : SoundTree o t) (r : SoundTree o u) (w x : Option Plain) where
+  -- the entry leaves, and with it all blanks that are left
+  close_up : {i : ℕ} {row : OrderedTree} (c : ℕ) (d : Around kind path t u row (token_then c none) f ar)
+      → (fr lead trail bk : List Content) (b : Bool) → Commas b [] [] trail → AreBeside lead → Unspaced (fr ++ bk) (token c) → bk ≢ []
+      → leaves row ≡ fr ++ (lead ++ (leaves_of top ++ (trail ++ bk))) → ((y : Top) → IsElement y.content → Reached top y i row (trail ++ bk))
+      → Leaves (path ++ i ∷ []) (document_of o t w) (document_of o u x)
+  close_up {i} {row} c d fr lead trail bk b commas beside un some e reach =
+      let k = split fr bk un.blanks (token c) some un.is in
+      let open_leaf : Content = token (opening kind) in
+      let own : List Content = leaves_of top in
+      let front : List Content = f ++ open_leaf ∷ [] in
+      let back : List Content = token c ∷ ar in
+      let behind_trail : List Content = k.rest ++ back in
+      let behind_own : List Content = trail ++ behind_trail in
+      let behind_lead : List Content = own ++ behind_own in
+      let behind_fr : List Content = lead ++ behind_lead in
+      let old : leaves t ≡ front ++ (fr ++ behind_fr) =
+      d.old ∙ ap (λ l. f ++ ((open_leaf ∷ l) ++ ar)) (e ∙ ap (λ l. fr ++ (lead ++ (own ++ (trail ++ l)))) k.behind) ∙ regroup_old f fr lead own trail k.rest ar open_leaf (token c) in
+      let new : leaves u ≡ front ++ back = d.now ∙ regroup_new f ar open_leaf (token c) in
+      let p0 = subst (Pieces o) old (document_pieces o (document_alone o s.shaped)) in
+      let u0 = subst AllUtf8 old (document_utf8 o s.shaped) in
+      let p1 = pieces_second o front (fr ++ behind_fr) p0 in
+      let u1 = utf8_second front (fr ++ behind_fr) u0 in
+      let p2 = pieces_second o fr behind_fr p1 in
+      let u2 = utf8_second fr behind_fr u1 in
+      let p3 = pieces_second o lead behind_lead p2 in
+      let u3 = utf8_second lead behind_lead u2 in
+      let p4 = pieces_second o own behind_own p3 in
+      let u4 = utf8_second own behind_own u3 in
+      let p5 = pieces_second o trail behind_trail p4 in
+      let u5 = utf8_second trail behind_trail u4 in
+      let text : printed_text t ≡ text_of_leaves front ++ (text_of_leaves fr ++ (text_of_leaves lead ++ (text_of_leaves own ++ (text_of_leaves trail ++ (text_of_leaves k.rest ++ text_of_leaves back))))) =
+      ap text_of_leaves old ∙ text_cons front (fr ++ behind_fr) u0 (text_cons fr behind_fr u1 (text_cons lead behind_lead u2 (text_cons own behind_own u3 (text_cons trail behind_trail u4 (text_cons k.rest back u5 refl))))) in
+      let edited : printed_text u ≡ text_of_leaves front ++ text_of_leaves back = ap text_of_leaves new ∙ text_cons front back (subst AllUtf8 new (document_utf8 o r.shaped)) refl in
+      let tail : behind_trail ≡ bk ++ ar = sym (append_assoc k.rest (token c ∷ []) ar) ∙ ap (λ l. l ++ ar) (sym k.behind) in
+      let behind : text_of_leaves (trail ++ bk) ++ text_of_leaves ar ≡ text_of_leaves trail ++ (text_of_leaves k.rest ++ text_of_leaves back) =
+      rest_pieces o trail bk ar behind_trail tail u4 ∙ ap (λ l. text_of_leaves trail ++ l) (text_cons k.rest back u5 refl) in
+      let entry = subst (λ z. Entry (path ++ i ∷ []) o (printed_text t) (text_of_leaves own ++ z) z) behind (entry_in o s r kind d.itself reach) in
+      let blank = subst AreBlanks k.before un.are in
+      let parted = gone_parted o s w (front ++ fr) lead own trail k.rest back (text_of_leaves k.rest) (old ∙ sym (append_assoc front fr behind_fr)) beside (entry_begins o kind s d.itself.changed reach behind_own) refl in
+      let marks : marks_in (leaves u) ≡ marks_in (front ++ fr) ++ marks_in back =
+      ap marks_in new ∙ marks_in_both front back ∙ ap (λ l. l ++ marks_in back) (sym (blanks_behind_unmarked front fr (blanks_first fr k.rest blank))) in (
+        text_of_leaves front,
+        text_of_leaves fr,
+        [],
+        [],
+        text_of_leaves lead,
+        text_of_leaves own,
+        text_of_leaves trail,
+        text_of_leaves k.rest,
+        text_of_leaves back,
+        [],
+        [],
+        b,
+        text,
+        edited,
+        entry,
+        beside_text o lead beside (pieces_first o lead behind_lead p2),
+        (trail_text o commas (pieces_first o trail behind_trail p4) (utf8_first trail behind_trail u4)).0,
+        texts.none,
+        blanks_text o fr (blanks_first fr k.rest blank) (pieces_first o fr behind_fr p1),
+        blanks_text o k.rest (blanks_second fr k.rest blank) (pieces_first o k.rest back p5),
+        inl refl,
+        inl refl,
+        marks_in (front ++ fr),
+        marks_in (lead ++ (own ++ (trail ++ k.rest))),
+        marks_in back,
+        parted,
+        marks,
+      )
+    where
+      regroup_old : (f fr ld ow tr rs ar : List Content) (a z : Content) → f ++ ((a ∷ (fr ++ (ld ++ (ow ++ (tr ++ (rs ++ z ∷ [])))))) ++ ar) ≡ (f ++ a ∷ []) ++ (fr ++ (ld ++ (ow ++ (tr ++ (rs ++ (z ∷ ar))))))
+      regroup_old f fr ld ow tr rs ar a z = simp (append_assoc) refl
+
+      regroup_new : (f ar : List Content) (a z : Content) → f ++ ((a ∷ z ∷ []) ++ ar) ≡ (f ++ a ∷ []) ++ (z ∷ ar)
+      regroup_new f ar a z = simp (append_assoc) refl
+
+  closes_so : {i : ℕ} {row left : OrderedTree} (element : IsElement top.content) → LeavesWithSeams top i row left → (blanks : List Content) (c : ℕ) → AreBlanks blanks → left ≡ leaves_then blanks (token_then c none)
+      → (d : Around kind path t u row (token_then c none) f ar) → Leaves (path ++ i ∷ []) (document_of o t w) (document_of o u x)
+  closes_so element (comma_behind front back given before between line be lb space) blanks c h e d =
+      let comma : Content = token 0x2C in
+      let trivia = beside_trivia before be in
+      let tail : OrderedTree = token_then 0x2C (leaves_then line back) in
+      let behind : leaves (leaves_then between tail) ≡ (between ++ (comma ∷ line)) ++ leaves back =
+      front_leaves between tail (between_trivia lb) ∙ ap (λ l. between ++ (comma ∷ l)) (front_leaves line back (line_trivia lb)) ∙ sym (append_assoc between (comma ∷ line) (leaves back)) in
+      let alone_row = container_row o kind (at_the_place o s d.itself.changed).2.shaped in
+      let parts = parted_at o kind front before top between tail trivia (between_trivia lb) element alone_row in
+      let some = row_some o (past_leaves o kind line (line_trivia lb) (at_comma o kind parts.behind).1) in
+      close_up c d (leaves front) before (between ++ (comma ∷ line)) (leaves back) true (behind_it lb) be (left_unspaced front back given blanks c h space e) some
+      (leaves-followed_by front (among before top between tail) ∙ ap (λ l. leaves front ++ l) (among_leaves before top between tail trivia (between_trivia lb) ∙ ap (λ l. before ++ (leaves_of top ++ l)) (sym (front_leaves between tail (between_trivia lb)) ∙ behind)))
+      (λ y q. renumber (none_more (element_count front)) (past_row front (reaching.past_leaves before trivia (rest_as behind (at_first (leaves_then between tail) element q)))))
+  closes_so element (comma_before front mid back given_mid given before line be rl space_mid space) blanks c h e d =
+      let alone_row = container_row o kind (at_the_place o s d.itself.changed).2.shaped in
+      let parts = parted_row o kind front alone_row in
+      let stood = (at_comma o kind parts.2).0 in
+      let count : element_count front + element_count (followed_by given_mid given) ≡ 0 = sym (count_followed front (followed_by given_mid given)) ∙ ap element_count e ∙ blanks_count blanks c h in
+      let none_stood = no_elements o parts.1 (omega (arith, count)) in
+      let wrong : an_element ≡ nothing_yet = sym stood ∙ none_stood in
+      cc
+  closes_so element (no_comma front back given before line be rl space) blanks c h e d =
+      let trivia = beside_trivia before be in
+      let inner : OrderedTree = among before top line back in
+      let alone_row = container_row o kind (at_the_place o s d.itself.changed).2.shaped in
+      let parts = parted_at o kind front before top line back trivia (rest_trivia line rl) element alone_row in
+      close_up c d (leaves front) before line (leaves back) false (nowhere rl) be (left_unspaced front back given blanks c h space e) (row_some o parts.behind)
+      (leaves-followed_by front inner ∙ ap (λ l. leaves front ++ l) (among_leaves before top line back trivia (rest_trivia line rl)))
+      (λ y q. renumber (none_more (element_count front)) (past_row front (reaching.past_leaves before trivia (rest_as (front_leaves line back (rest_trivia line rl)) (at_first (leaves_then line back) element q)))))
+
+  -- whether it closes up or not
+  entry_leaves_so : {i : ℕ} {row left new : OrderedTree} → IsElement top.content → LeavesWithSeams top i row left → ClosesUp left new → Around kind path t u row new f ar
+      → Leaves (path ++ i ∷ []) (document_of o t w) (document_of o u x)
+  entry_leaves_so {i} {row} {left} element leaving closing d = by refl closing d
+    where
+      by : {l n : OrderedTree} → l ≡ left → ClosesUp l n → Around kind path t u row n f ar → Leaves (path ++ i ∷ []) (document_of o t w) (document_of o u x)
+      by e stays d = leaves_so o s r kind element (subst (LeavesWithSeams top i row) (sym e) leaving) d w x
+      by e (closes_up blanks {c = c} h) d = closes_so element leaving blanks c h (sym e) d
+
+pub entry_removed : (o : Options) {t u : OrderedTree} → SoundTree o t → SoundTree o u → (w x : Option Plain) → DocumentValueOf o t w → DocumentValueOf o u x → (path : List ℕ) (i : ℕ) (top : Top) → EntryTaken path i top t u
+    → Leaves (path ++ i ∷ []) (document_of o t w) (document_of o u x) × Loses w x (path ++ i ∷ [])
+entry_removed o {t} {u} s r w x h k path i top taken =
+    let g = taken.seams in (
+      entry_leaves_so o g.kind s r w x g.element g.leaving g.closes (around_of g.kind g.held g.holds),
+      loses_value o taken.kind top i taken.row taken.left taken.new path taken.spaced u taken.element taken.leaves taken.closes taken.changed w x (spaces_value o w taken.spaces h) k,
+    )

@@ -1,0 +1,142 @@
+-- Where the value of a document leaves it.
+use Rattle.std.proofs.Common.{ℕ, ◌≡◌, ◌∙◌, sym, ap, subst, refl, inl, false, List, [], ◌++◌, Option}
+use Rattle.std.proofs.lemmas.List.{append_assoc, append-nil}
+use Rattle.jsonc_text.specs.Options.{Options}
+use Rattle.jsonc_text.specs.Plain.{Plain}
+use Rattle.jsonc_tree.specs.Content.{Content}
+use Rattle.jsonc_tree.specs.OrderedTree.{OrderedTree, none, more, leaves, followed_by, Top}
+use Rattle.jsonc_tree.proofs.OrderedTrees.{leaves-followed_by}
+use Rattle.jsonc_sound.specs.Shape as shape
+use Rattle.jsonc_sound.specs.Shape.{Trivia, DocumentShaped, printed_text}
+use Rattle.jsonc_sound.specs.EntryLaws.{root_with}
+use Rattle.jsonc_sound.specs.Leaving.{AreBeside, IsRestOfLine, among, ValueLeaves, value_leaves, Empties, stays, empties}
+use Rattle.jsonc_sound.specs.MarkChanges.{AreBlanks}
+use Rattle.jsonc_sound.specs.SoundTrees.{SoundTree}
+use Rattle.jsonc_sound.specs.TriviaChanges.{AreTrivia, leaves_then}
+use Rattle.jsonc_sound.specs.TreeChanges.{IsElement, leaves_of, ElementChanged, this_element, passed, later_element, itself, DocumentChanged, in_root}
+use Rattle.jsonc_sound.proofs.Apart.{document_alone}
+use Rattle.jsonc_sound.proofs.Entries.{blanks_trivia}
+use Rattle.jsonc_sound.proofs.FirstNodes.{none_changed, no_element, value_element}
+use Rattle.jsonc_sound.proofs.Pieces.{Pieces, document_pieces}
+use Rattle.jsonc_sound.proofs.RowParts.{beside_trivia, rest_trivia}
+use Rattle.jsonc_sound.proofs.Texts.{AllUtf8}
+use Rattle.jsonc_sound.proofs.TriviaLeaves.{front_leaves}
+use Rattle.jsonc_text.specs.Paths as places
+use Rattle.jsonc_text.specs.Paths.{Entry}
+use Rattle.jsonc_text.specs.Edits as texts
+use Rattle.jsonc_text.specs.Edits.{Leaves}
+use Rattle.jsonc_run.specs.promise.PlaceLaws.{text_of_leaves}
+use Rattle.jsonc_run.proofs.lemmas.promise.CommentTexts.{blanks_text}
+use Rattle.jsonc_run.proofs.lemmas.promise.Closing.{blanks_first, blanks_second}
+use Rattle.jsonc_run.proofs.lemmas.promise.Leaves.{utf8_second, utf8_first, document_utf8}
+use Rattle.jsonc_run.proofs.lemmas.promise.Reaching.{Reached, rest_as, at_first, past_leaves, past_row}
+use Rattle.jsonc_run.proofs.lemmas.promise.RemovedTexts as removing
+use Rattle.jsonc_run.proofs.lemmas.promise.RemovedTexts.{among_leaves, text_cons, trail_text, gone_parted, pieces_first, pieces_second}
+use Rattle.jsonc_run.proofs.lemmas.promise.Stretches.{blanks_behind_unmarked, marks_in, marks_in_both, value_begins}
+use Rattle.jsonc_sound.specs.Documents.{document_of}
+use Rattle.jsonc_run.proofs.lemmas.promise.Trivia.{beside_text}
+use Rattle.jsonc_run.proofs.lemmas.promise.Values.{past_trivia, at_the_place}
+
+module _ (o : Options) where
+  -- a document has one value
+  only_value : {x y : Top} {row new : OrderedTree} {n : ℕ} → DocumentShaped o (root_with row) → ElementChanged x y n row new → n ≡ 0
+  only_value (shape.no_value g) e = absurd (none_changed (past_trivia o g e).changed)
+  only_value (shape.a_value {content = content} {below = below} {after = after} g v h) e = by (past_trivia o g e).changed
+    where
+      by : {x y : Top} {n : ℕ} {new : OrderedTree} → ElementChanged x y n (more content below after) new → n ≡ 0
+      by (this_element p q) = refl
+      by (passed k f) = absurd (no_element content (value_element v) k)
+      by (later_element k f) = absurd (none_changed (past_trivia o h f).changed)
+
+  -- it leaves, and with it what is said of both ends
+  value_gone : {top : Top} {row new : OrderedTree} (s : SoundTree o (root_with row)) (r : SoundTree o (root_with new)) (w x : Option Plain) → (pre mid : List Content) (lead line more_of_it back : List Content)
+      → leaves row ≡ pre ++ (mid ++ (lead ++ (leaves_of top ++ (line ++ (more_of_it ++ back))))) → leaves new ≡ pre ++ back → AreBlanks mid → AreBlanks more_of_it → AreBeside lead → IsRestOfLine line
+      → Reached top (record { content = Content.null; below = none }) 0 row (line ++ (more_of_it ++ back))
+      → Leaves [] (document_of o (root_with row) w) (document_of o (root_with new) x)
+  value_gone {top} {row} {new} s r w x pre mid lead line tail back e f are are_too beside rest reach =
+      let t : OrderedTree = root_with row in
+      let u : OrderedTree = root_with new in
+      let own : List Content = leaves_of top in
+      let old : leaves t ≡ pre ++ (mid ++ (lead ++ (own ++ (line ++ (tail ++ back))))) = append-nil (leaves row) ∙ e in
+      let edited : leaves u ≡ pre ++ back = append-nil (leaves new) ∙ f in
+      let d : DocumentChanged top (record { content = Content.null; below = none }) [] t (root_with reach.new) = in_root reach.changed itself in
+      let p0 = subst (Pieces o) old (document_pieces o (document_alone o s.shaped)) in
+      let u0 = subst AllUtf8 old (document_utf8 o s.shaped) in
+      let p1 = pieces_second o pre (mid ++ (lead ++ (own ++ (line ++ (tail ++ back))))) p0 in
+      let u1 = utf8_second pre (mid ++ (lead ++ (own ++ (line ++ (tail ++ back))))) u0 in
+      let p2 = pieces_second o mid (lead ++ (own ++ (line ++ (tail ++ back)))) p1 in
+      let u2 = utf8_second mid (lead ++ (own ++ (line ++ (tail ++ back)))) u1 in
+      let p3 = pieces_second o lead (own ++ (line ++ (tail ++ back))) p2 in
+      let u3 = utf8_second lead (own ++ (line ++ (tail ++ back))) u2 in
+      let p4 = pieces_second o own (line ++ (tail ++ back)) p3 in
+      let u4 = utf8_second own (line ++ (tail ++ back)) u3 in
+      let p5 = pieces_second o line (tail ++ back) p4 in
+      let u5 = utf8_second line (tail ++ back) u4 in
+      let text : printed_text t ≡ text_of_leaves pre ++ (text_of_leaves mid ++ (text_of_leaves lead ++ (text_of_leaves own ++ (text_of_leaves line ++ (text_of_leaves tail ++ text_of_leaves back))))) =
+      ap text_of_leaves old
+      ∙ text_cons pre (mid ++ (lead ++ (own ++ (line ++ (tail ++ back))))) u0
+      (text_cons mid (lead ++ (own ++ (line ++ (tail ++ back)))) u1
+      (text_cons lead (own ++ (line ++ (tail ++ back))) u2
+      (text_cons own (line ++ (tail ++ back)) u3
+      (text_cons line (tail ++ back) u4
+      (text_cons tail back u5 refl))))) in
+      let after : printed_text u ≡ text_of_leaves pre ++ text_of_leaves back = ap text_of_leaves edited ∙ text_cons pre back (subst AllUtf8 edited (document_utf8 o r.shaped)) refl in
+      let behind : text_of_leaves (line ++ (tail ++ back)) ≡ text_of_leaves line ++ (text_of_leaves tail ++ text_of_leaves back) = text_cons line (tail ++ back) u4 (text_cons tail back u5 refl) in
+      let stood = subst (λ l. Entry [] o (printed_text t) (text_of_leaves own ++ text_of_leaves l) (text_of_leaves l)) reach.same (places.the_value (at_the_place o s d).1) in
+      let entry = subst (λ z. Entry [] o (printed_text t) (text_of_leaves own ++ z) z) behind stood in
+      let begins = value_begins o (line ++ (tail ++ back)) (at_the_place o s d).2.shaped in
+      let parted = gone_parted o s w (pre ++ mid) lead own line tail back (text_of_leaves tail) (old ∙ sym (append_assoc pre mid (lead ++ (own ++ (line ++ (tail ++ back)))))) beside begins refl in
+      let marks : marks_in (leaves u) ≡ marks_in (pre ++ mid) ++ marks_in back = ap marks_in edited ∙ marks_in_both pre back ∙ ap (λ l. l ++ marks_in back) (sym (blanks_behind_unmarked pre mid are)) in (
+        text_of_leaves pre,
+        text_of_leaves mid,
+        [],
+        [],
+        text_of_leaves lead,
+        text_of_leaves own,
+        text_of_leaves line,
+        text_of_leaves tail,
+        text_of_leaves back,
+        [],
+        [],
+        false,
+        text,
+        after,
+        entry,
+        beside_text o lead beside (pieces_first o lead (own ++ (line ++ (tail ++ back))) p2),
+        (trail_text o (removing.nowhere rest) (pieces_first o line (tail ++ back) p4) (utf8_first line (tail ++ back) u4)).0,
+        texts.none,
+        blanks_text o mid are (pieces_first o mid (lead ++ (own ++ (line ++ (tail ++ back)))) p1),
+        blanks_text o tail are_too (pieces_first o tail back p5),
+        inl refl,
+        inl refl,
+        marks_in (pre ++ mid),
+        marks_in (lead ++ (own ++ (line ++ tail))),
+        marks_in back,
+        parted,
+        marks,
+      )
+
+  pub root_gone : {top : Top} {row left new : OrderedTree} (s : SoundTree o (root_with row)) (r : SoundTree o (root_with new)) (w x : Option Plain) → IsElement top.content → ValueLeaves top row left → Empties left new
+      → Leaves [] (document_of o (root_with row) w) (document_of o (root_with new) x)
+  root_gone {top} {row} {left} {new} s r w x element (value_leaves front back before line a b rl) em = by refl em r
+    where
+      trivia : AreTrivia before
+      trivia = beside_trivia before b
+
+      parts : leaves row ≡ leaves front ++ (before ++ (leaves_of top ++ (line ++ leaves back)))
+      parts = leaves-followed_by front (among before top line back) ∙ ap (λ l. leaves front ++ l) (among_leaves before top line back trivia (rest_trivia line rl))
+
+      reached : Reached top (record { content = Content.null; below = none }) 0 row (line ++ leaves back)
+      reached =
+          let far = past_row front (past_leaves before trivia (rest_as (front_leaves line back (rest_trivia line rl)) (at_first (leaves_then line back) element refl))) in
+          let first = only_value s.shaped far.changed in
+          subst (λ n. Reached top (record { content = Content.null; below = none }) n row (line ++ leaves back)) first far
+
+      by : {l n : OrderedTree} → l ≡ followed_by front back → Empties l n → (r : SoundTree o (root_with n)) → Leaves [] (document_of o (root_with row) w) (document_of o (root_with n) x)
+      by e stays r = value_gone s r w x (leaves front) [] before line [] (leaves back) parts (ap leaves e ∙ leaves-followed_by front back) tt tt b rl reached
+      by e (empties blanks are) r =
+          let all : leaves front ++ leaves back ≡ blanks = sym (leaves-followed_by front back) ∙ sym (ap leaves e) ∙ front_leaves blanks none (blanks_trivia blanks are) ∙ append-nil blanks in
+          let both = subst AreBlanks (sym all) are in
+          value_gone s r w x [] (leaves front) before line (leaves back) []
+          (parts ∙ ap (λ l. leaves front ++ (before ++ (leaves_of top ++ (line ++ l)))) (sym (append-nil (leaves back)))) refl (blanks_first (leaves front) (leaves back) both) (blanks_second (leaves front) (leaves back) both) b rl
+          (rest_as (ap (λ l. line ++ l) (sym (append-nil (leaves back)))) reached)

@@ -1,0 +1,157 @@
+-- Where a value comes into a document that had none, in a text; and where all leaves it.
+use Rattle.std.proofs.Common.{ℕ, ◌≡◌, ◌∙◌, sym, ap, subst, refl, inl, inr, List, [], ◌∷◌, ◌++◌, Option, Some, None}
+use Rattle.std.proofs.lemmas.List.{append_assoc, append-nil}
+use Rattle.std.proofs.lemmas.Str.{chars-nil}
+use Rattle.jsonc_text.specs.Options.{Options}
+use Rattle.jsonc_text.specs.Plain.{Plain}
+use Rattle.jsonc_text.specs.Text.{Many, stop, step, is_line_end}
+use Rattle.jsonc_tree.specs.Content.{Content}
+use Rattle.jsonc_tree.specs.OrderedTree.{OrderedTree, none, more, leaves, Top}
+use Rattle.jsonc_tree.specs.Values.{DocumentValueOf}
+use Rattle.jsonc_sound.specs.Shape.{printed_text}
+use Rattle.jsonc_layout.specs.from_input.Laid.{laid}
+use Rattle.jsonc_layout.specs.from_input.Layout.{Layout}
+use Rattle.jsonc_layout.specs.from_input.Texts.{IsOfTexts}
+use Rattle.jsonc_layout.proofs.lemmas.from_input.Meanings.{laid_value}
+use Rattle.jsonc_sound.specs.Coming as coming
+use Rattle.jsonc_sound.specs.Coming.{ValueComes}
+use Rattle.jsonc_sound.specs.EntryLaws.{root_with}
+use Rattle.jsonc_sound.specs.MarkChanges.{AreBlanks}
+use Rattle.jsonc_sound.proofs.GivingWay.{blanks_unmarked}
+use Rattle.jsonc_text.specs.Marks.{literals_of}
+use Rattle.jsonc_sound.specs.SoundTrees.{SoundTree}
+use Rattle.jsonc_sound.specs.TreeChanges.{IsElement, leaves_of}
+use Rattle.jsonc_sound.specs.TriviaChanges.{AreTrivia, leaves_then}
+use Rattle.jsonc_sound.proofs.FirstNodes.{value_of_element}
+use Rattle.jsonc_sound.proofs.FirstValue.{has_first}
+use Rattle.jsonc_sound.proofs.Texts.{AllUtf8}
+use Rattle.jsonc_sound.proofs.TriviaLeaves.{front_leaves}
+use Rattle.jsonc_edit.proofs.OneValue.{document_once}
+use Rattle.jsonc_insert.specs.declared.named.shape.Over.{Over}
+use Rattle.jsonc_insert.specs.declared.named.shape.Over.TheVariants as over
+use Rattle.jsonc_insert.specs.declared.named.shape.Shape.{Shape}
+use Rattle.jsonc_insert.specs.named.Shapes.{empty_of, EnsuredValue, comes_first, has_it, may_stay, must_give_way}
+use Rattle.jsonc_run.specs.Edits.{clear_root, ensure_root}
+use Rattle.jsonc_run.specs.Written.{IsChanged, by_clearing, by_ensuring, RootValueSet, given_way, has_come, RootValueEnsured, all_kept, empty_come, empty_given}
+use Rattle.jsonc_edit.specs.SeamPlaces.{RowHolds, this_element, past_other, itself, DocumentHolds, in_root}
+use Rattle.jsonc_text.specs.Paths.{Value}
+use Rattle.jsonc_text.specs.Entries as values
+use Rattle.jsonc_text.specs.Entries.{of}
+use Rattle.jsonc_text.specs.Edits as texts
+use Rattle.jsonc_text.specs.Edits.{AreLineEnds, AreLines, ComesFirst, Makes, Text}
+use Rattle.jsonc_run.specs.promise.PlaceLaws.{text_of_leaves}
+use Rattle.jsonc_run.proofs.lemmas.promise.Leaves.{text_joined, utf8_first, utf8_second}
+use Rattle.jsonc_sound.specs.Documents.{all_marks}
+use Rattle.jsonc_sound.specs.Documents.{document_of}
+use Rattle.jsonc_run.proofs.lemmas.promise.Stretches.{blanks_behind_unmarked, laid_literals, marks_in, marks_in_both, parted, parted_as}
+use Rattle.jsonc_run.proofs.lemmas.promise.Trivia.{end_text}
+use Rattle.jsonc_run.specs.promise.Words.{kind_of, yields}
+use Rattle.jsonc_run.proofs.lemmas.promise.Ensured.{empty_same, empty_texts, given_so, stays_so}
+use Rattle.jsonc_run.proofs.lemmas.promise.Replacing.{Printed, printed, value_put}
+
+-- past leaves of trivia
+past_trivia : {top : Top} {row : OrderedTree} {f b : List Content} (ls : List Content) → AreTrivia ls → RowHolds top 0 row f b → RowHolds top 0 (leaves_then ls row) (ls ++ f) b
+past_trivia [] t h = h
+past_trivia (Content.whitespace s ∷ ls) t h = past_other refl (past_trivia ls t.1 h)
+past_trivia (Content.newline k ∷ ls) t h = past_other refl (past_trivia ls t.1 h)
+past_trivia (Content.comment s ∷ ls) t h = past_other refl (past_trivia ls t.1 h)
+past_trivia (c ∷ ls) t h = cc
+
+ends_trivia : (ls : List Content) → coming.AreLineEnds ls → AreTrivia ls
+ends_trivia [] h = tt
+ends_trivia (Content.newline k ∷ ls) h = (refl, ends_trivia ls h.1)
+ends_trivia (c ∷ ls) h = cc
+
+ends_blanks : (ls : List Content) → coming.AreLineEnds ls → AreBlanks ls
+ends_blanks [] h = tt
+ends_blanks (Content.newline k ∷ ls) h = (refl, ends_blanks ls h.1)
+ends_blanks (c ∷ ls) h = cc
+
+trivia_joined : (a b : List Content) → AreTrivia a → AreTrivia b → AreTrivia (a ++ b)
+trivia_joined [] b h k = k
+trivia_joined (c ∷ a) b h k = (h.0, trivia_joined a b h.1 k)
+
+many_joined : {a b r : List ℕ} → Many is_line_end a r → r ≡ [] → AreLineEnds b → AreLineEnds (a ++ b)
+many_joined {b = b} stop e h = subst (λ x. Many is_line_end (x ++ b) []) (sym e) h
+many_joined (step p m) e h = step p (many_joined m e h)
+
+ends_text : (o : Options) (ls : List Content) → coming.AreLineEnds ls → AllUtf8 ls → AreLineEnds (text_of_leaves ls)
+ends_text o [] h u = subst AreLineEnds (sym chars-nil) stop
+ends_text o (c ∷ ls) h u = subst AreLineEnds (sym (text_joined (c ∷ []) ls (u.0, tt))) (many_joined (end_text o c h.0) refl (ends_text o ls h.1 u.1))
+
+module _ (o : Options) (top : Top) (v : Plain) where
+  -- a value has come into the row of a root that had none
+  first_come : {row next : OrderedTree} → ValueComes top row next → IsElement top.content → SoundTree o (root_with row) → SoundTree o (root_with next) → (w x : Option Plain) → w ≡ None → x ≡ Some v
+      → marks_in (leaves_of top) ≡ literals_of v → ComesFirst v (document_of o (root_with row) w) (document_of o (root_with next) x)
+  first_come (coming.value_comes front back before behind ft bt bl el quiet begins) element s r w x old new is =
+      let row : OrderedTree = leaves_then (front ++ back) none in
+      let next : OrderedTree = leaves_then (front ++ before) (more top.content top.below (leaves_then (behind ++ back) none)) in
+      let own : List Content = leaves_of top in
+      let all_behind : AreTrivia (behind ++ back) = trivia_joined behind back (ends_trivia behind el) bt in
+      let rest : leaves (leaves_then (behind ++ back) none) ≡ behind ++ back = front_leaves (behind ++ back) none all_behind ∙ append-nil (behind ++ back) in
+      let held : DocumentHolds top [] (root_with next) (((front ++ before) ++ []) ++ []) ([] ++ leaves (leaves_then (behind ++ back) none)) =
+      in_root (past_trivia (front ++ before) (trivia_joined front before ft (ends_trivia before bl)) (this_element element)) itself in
+      let ahead : ((front ++ before) ++ []) ++ [] ≡ front ++ before = append-nil ((front ++ before) ++ []) ∙ append-nil (front ++ before) in
+      let holds : DocumentHolds top [] (root_with next) (front ++ before) (behind ++ back) = subst (λ l. DocumentHolds top [] (root_with next) l (behind ++ back)) ahead (subst (λ l. DocumentHolds top [] (root_with next) (((front ++ before) ++ []) ++ []) l) rest held) in
+      let p : Printed o top [] (root_with next) (front ++ before) (behind ++ back) = printed o r holds in
+      let u_front : AllUtf8 (front ++ before) = utf8_first (front ++ before) (own ++ (behind ++ back)) p.utf8 in
+      let u_back : AllUtf8 (behind ++ back) = utf8_second own (behind ++ back) (utf8_second (front ++ before) (own ++ (behind ++ back)) p.utf8) in
+      let t_front : text_of_leaves (front ++ before) ≡ text_of_leaves front ++ text_of_leaves before = text_joined front before (utf8_first front before u_front) in
+      let t_back : text_of_leaves (behind ++ back) ≡ text_of_leaves behind ++ text_of_leaves back = text_joined behind back (utf8_first behind back u_back) in
+      let both : leaves (root_with row) ≡ front ++ back = append-nil (leaves row) ∙ front_leaves (front ++ back) none (trivia_joined front back ft bt) ∙ append-nil (front ++ back) in
+      let first : printed_text (root_with row) ≡ text_of_leaves front ++ text_of_leaves back = ap text_of_leaves both ∙ text_joined front back (utf8_first front before u_front) in
+      let second : printed_text (root_with next) ≡ text_of_leaves front ++ (text_of_leaves before ++ (text_of_leaves own ++ (text_of_leaves behind ++ text_of_leaves back))) =
+      p.text ∙ ap (λ l. l ++ (text_of_leaves own ++ text_of_leaves (behind ++ back))) t_front ∙ ap (λ l. (text_of_leaves front ++ text_of_leaves before) ++ (text_of_leaves own ++ l)) t_back
+      ∙ append_assoc (text_of_leaves front) (text_of_leaves before) (text_of_leaves own ++ (text_of_leaves behind ++ text_of_leaves back)) in
+      let text : Text AreLines (text_of_leaves front) [] (text_of_leaves before) (text_of_leaves own) (text_of_leaves behind) (text_of_leaves back) (document_of o (root_with row) w) (document_of o (root_with next) x) =
+      record { before = first; after = second; sides = (ends_text o before bl (utf8_second front before u_front), ends_text o behind el (utf8_first behind back u_back)) } in
+      let new_parted = parted o r x (front ++ before) own (behind ++ back) p.whole p.begins
+      (text_joined own (behind ++ back) (utf8_first own (behind ++ back) (utf8_second (front ++ before) (own ++ (behind ++ back)) p.utf8)) ∙ ap (λ l. text_of_leaves own ++ l) t_back) t_back in
+      let behind_unmarked : marks_in (behind ++ back) ≡ marks_in back = marks_in_both behind back ∙ ap (λ l. all_marks l ++ marks_in back) (blanks_unmarked behind (ends_blanks behind el)) in
+      let marks : marks_in (leaves (root_with row)) ≡ marks_in front ++ marks_in back = ap marks_in both ∙ marks_in_both front back in (
+        text_of_leaves front,
+        text_of_leaves before,
+        text_of_leaves own,
+        text_of_leaves behind,
+        text_of_leaves back,
+        text,
+        subst (λ l. Value [] o (printed_text (root_with next)) (text_of_leaves own ++ l) l) t_back p.stands,
+        old,
+        new,
+        (marks_in front, marks_in back, parted_as (blanks_behind_unmarked front before (ends_blanks before bl)) is behind_unmarked new_parted, marks),
+      )
+
+-- so a laid value has
+module _ (o : Options) {t u : OrderedTree} (s : SoundTree o t) (r : SoundTree o u) (w x : Option Plain) (h : DocumentValueOf o t w) (k : DocumentValueOf o u x) where
+  pub laid_come : (layout : Layout) (v : Plain) → IsOfTexts v → (row next : OrderedTree) → t ≡ root_with row → u ≡ root_with next → ValueComes (laid layout v) row next → ComesFirst v (document_of o t w) (document_of o u x)
+  laid_come layout v texts row next was is comes =
+      let top : Top = laid layout v in
+      let value = laid_value o layout v texts in
+      let element : IsElement top.content = value_of_element value in
+      let both = has_first o top v row next value element comes in
+      let old : w ≡ None = document_once o t w None h (subst (λ z. DocumentValueOf o z None) (sym was) both.0) in
+      let new : x ≡ Some v = document_once o u x (Some v) k (subst (λ z. DocumentValueOf o z (Some v)) (sym is) both.1) in
+      let come = first_come o top v comes element (subst (SoundTree o) was s) (subst (SoundTree o) is r) w x old new (laid_literals layout v texts) in
+      subst (λ (z : OrderedTree). ComesFirst v (document_of o z w) (document_of o u x)) (sym was) (subst (λ (z : OrderedTree). ComesFirst v (document_of o (root_with row) w) (document_of o z x)) (sym is) come)
+
+pub root_set : (o : Options) (t u : OrderedTree) (w x : Option Plain) (v : Plain) → IsOfTexts v → SoundTree o t → SoundTree o u → DocumentValueOf o t w → DocumentValueOf o u x → RootValueSet v t u
+    → Makes (document_of o t w) (texts.set_root v) (document_of o u x)
+root_set o t u w x v texts s r h k (given_way g) = inr (value_put o s r w x h k [] v texts g)
+root_set o t u w x v texts s r h k (has_come layout row next was is comes) = inl (laid_come o s r w x h k layout v texts row next was is comes)
+
+pub root_cleared : (o : Options) (t u : OrderedTree) (w x : Option Plain) → IsChanged w clear_root x → u ≡ root_with none → Makes (document_of o t w) texts.clear_root (document_of o u x)
+root_cleared o t u w _ by_clearing same = (ap printed_text same ∙ chars-nil, refl)
+
+root_kept : (o : Options) (t u : OrderedTree) (shape : Shape) {how : Over} → u ≡ t → {w x : Option Plain} → EnsuredValue shape how w x → DocumentValueOf o t w → DocumentValueOf o u x
+    → Makes (document_of o t w) (texts.ensure_root (kind_of shape) (yields how)) (document_of o u x)
+root_kept o t u shape same comes_first h k = let wrong : Some (empty_of shape) ≡ None = document_once o t (Some (empty_of shape)) None (subst (λ z. DocumentValueOf o z (Some (empty_of shape))) same k) h in cc
+root_kept o t u shape {how} same (has_it e) h k = inr (stays_so o [] shape {how = how} h k same (has_it e) values.itself)
+root_kept o t u shape same (may_stay e) h k = inr (stays_so o [] shape {how = over.Keep} h k same (may_stay e) values.itself)
+root_kept o t u shape same (must_give_way e) h k = inr (stays_so o [] shape {how = over.Replace} h k same (must_give_way e) values.itself)
+
+pub root_ensured : (o : Options) (t u : OrderedTree) (w x : Option Plain) (shape : Shape) (how : Over) → SoundTree o t → SoundTree o u → DocumentValueOf o t w → DocumentValueOf o u x → IsChanged w (ensure_root shape how) x → RootValueEnsured shape t u how
+    → Makes (document_of o t w) (texts.ensure_root (kind_of shape) (yields how)) (document_of o u x)
+root_ensured o t u w x shape how s r h k c (empty_come layout row next was is comes) =
+    inl (subst (λ v. ComesFirst v (document_of o t w) (document_of o u x)) (sym (empty_same shape)) (laid_come o s r w x h k layout (empty_of shape) (empty_texts shape) row next was is comes))
+root_ensured o t u w x shape _ s r h k c (empty_given given other) = inr (given_so o [] shape s r w x h k given other)
+root_ensured o t u _ _ shape how s r h k (by_ensuring e) (all_kept same) = root_kept o t u shape same e h k

@@ -1,0 +1,153 @@
+-- The elements of a sorted row, in their order: a copy of lemmas that jsonc_sort holds private (its proofs/Values).
+use Rattle.std.proofs.Common.{◌≡◌, ℕ, Bool, true, false, cond, ◌&&◌, List, [], ◌∷◌, ◌++◌, length, map, drop, filter, Option, refl, sym, ap, ◌∙◌, arith, inl, inr, append-nil}
+use Rattle.std.specs.Prelude.{if◌then◌else◌, zip, IsPermutation}
+use Rattle.std.specs.List.{range_with_len}
+use Rattle.std.proofs.lemmas.Bool.{cases_Bool}
+use Rattle.std.proofs.lemmas.List.FromFn.{length-range_with_len}
+use Rattle.std.proofs.lemmas.List.Sorted.{length_permutation}
+use Rattle.std.proofs.lemmas.Slice.Eq.{bytes_eq-Decides}
+use Rattle.jsonc_tree.specs.Content.{Content, token, newline}
+use Rattle.jsonc_tree.specs.declared.node.CstNewlineKind.{CstNewlineKind}
+use Rattle.jsonc_layout.specs.nodes.Kinds.{is_element}
+use Rattle.jsonc_sound.specs.Lines.{is_line_comment}
+use Rattle.jsonc_sort.specs.Slots.{Slot, stays, comes, all_stay}
+use Rattle.jsonc_sort.specs.Parts.{Part, has_comma, is_comma_at, is_whitespace_at, parts}
+use Rattle.jsonc_sort.specs.Leads.{blank_lines}
+use Rattle.jsonc_sort.specs.Sorting.{Entry, Headers, ends_with_comma, entries, entries_from, entry_at, goes_on, is_unchanged, lines_ended, no_entry, placed, placed_one, rearranged, row_end, slot_content, sorted, tail_with, travelling, without_comma}
+use Rattle.jsonc_sort.proofs.Held.{ByKind, HeldEntry, row_held}
+use Rattle.jsonc_sort.proofs.Choosing.{Each, all_members, all_moved, choose, choose_by, each_drop, each_moved}
+
+-- the elements among places
+module _ (at : ℕ → Content) where
+  abbrev pub is_element_slot : Slot → Bool
+  is_element_slot s = is_element (slot_content at s)
+
+  abbrev pub elements : List Slot → List Slot
+  elements slots = filter is_element_slot slots
+
+  abbrev Idle : ℕ → Type 0
+  Idle n = is_element (at n) ≡ false
+
+  abbrev IsOne : ℕ → Type 0
+  IsOne n = is_element (at n) ≡ true
+
+  abbrev IsEntry : Entry → Type 0
+  IsEntry e = HeldEntry at Idle IsOne e
+
+  elements_joined : (xs ys : List Slot) → elements (xs ++ ys) ≡ elements xs ++ elements ys
+  elements_joined [] ys = refl
+  elements_joined (x ∷ xs) ys = elim (cases_Bool (is_element_slot x)) [ inl e ↦ rw e (ap (λ l. x ∷ l) (elements_joined xs ys)) | inr e ↦ rw e (elements_joined xs ys) ]
+
+  idle_none : (row : List ℕ) → Each Idle row → elements (all_stay row) ≡ []
+  idle_none [] h = refl
+  idle_none (n ∷ row) h = rw h.0 (idle_none row h.1)
+
+  -- and before others
+  idle_before : (row : List ℕ) (xs : List Slot) → Each Idle row → elements (all_stay row ++ xs) ≡ elements xs
+  idle_before row xs h = elements_joined (all_stay row) xs ∙ ap (λ l. l ++ elements xs) (idle_none row h)
+
+  without_idle : (tail : List ℕ) → Each Idle tail → Each Idle (without_comma at tail)
+  without_idle [] h = tt
+  without_idle (n ∷ []) h = choose (Each Idle) (is_comma_at at n) [] (n ∷ []) tt h
+  without_idle (n ∷ m ∷ rest) h =
+      choose (Each Idle) (is_comma_at at n) (m ∷ rest) (if is_whitespace_at at n && is_comma_at at m then rest else n ∷ without_comma at (m ∷ rest)) h.1
+      (choose (Each Idle) (is_whitespace_at at n && is_comma_at at m) rest (n ∷ without_comma at (m ∷ rest)) h.1.1 (h.0, without_idle (m ∷ rest) h.1))
+
+  tail_none : (comma : Bool) (tail : List ℕ) → Each Idle tail → elements (tail_with at comma tail) ≡ []
+  tail_none true tail h = choose (λ l. elements l ≡ []) (has_comma at tail) (all_stay tail) (comes (token 0x2C) ∷ all_stay tail) (idle_none tail h) (idle_none tail h)
+  tail_none false tail h = choose (λ l. elements l ≡ []) (has_comma at tail) (all_stay (without_comma at tail)) (all_stay tail) (idle_none (without_comma at tail) (without_idle tail h)) (idle_none tail h)
+
+  travelling_idle : (first : Bool) (row : List ℕ) → Each Idle row → Each Idle (travelling at first row)
+  travelling_idle true row h = each_drop Idle (blank_lines at row) row h
+  travelling_idle false row h = h
+
+  one_element : (first comma : Bool) (p : Entry × Entry) → IsEntry p.0 → IsEntry p.1 → elements (placed_one at first comma p) ≡ stays p.1.element ∷ []
+  one_element first comma p a b =
+      let front : List Slot = all_stay p.0.lead.front in
+      let travels : List Slot = all_stay (travelling at first p.1.lead.travels) in
+      let indent : List Slot = all_stay p.0.lead.indent in
+      let last : List Slot = stays p.1.element ∷ tail_with at comma p.1.tail in
+      let behind : elements last ≡ stays p.1.element ∷ [] = rw b.element (ap (λ l. stays p.1.element ∷ l) (tail_none comma p.1.tail b.tail)) in
+      elements_joined (front ++ travels ++ indent) last
+      ∙ ap (λ l. l ++ elements last) (elements_joined (front ++ travels) indent ∙ ap (λ l. l ++ elements indent) (elements_joined front travels))
+      ∙ ap (λ l. ((l ++ elements travels) ++ elements indent) ++ elements last) (idle_none p.0.lead.front a.lead.front)
+      ∙ ap (λ l. (l ++ elements indent) ++ elements last) (idle_none (travelling at first p.1.lead.travels) (travelling_idle first p.1.lead.travels b.lead.travels))
+      ∙ ap (λ l. l ++ elements last) (idle_none p.0.lead.indent a.lead.indent)
+      ∙ behind
+
+  abbrev second : Entry × Entry → Slot
+  second p = stays p.1.element
+
+  placed_elements : (first commas : Bool) (ps : List (Entry × Entry)) → Each (λ p. IsEntry p.0 × IsEntry p.1) ps → elements (placed at first commas ps) ≡ map second ps
+  placed_elements first commas [] h = refl
+  placed_elements first commas (p ∷ []) h = one_element first commas p h.0.0 h.0.1
+  placed_elements first commas (p ∷ q ∷ rest) h =
+      elements_joined (placed_one at first true p) (placed at false commas (q ∷ rest))
+      ∙ ap (λ l. l ++ elements (placed at false commas (q ∷ rest))) (one_element first true p h.0.0 h.0.1)
+      ∙ ap (λ l. second p ∷ l) (placed_elements false commas (q ∷ rest) h.1)
+
+  zipped_entries : (es xs : List Entry) → Each IsEntry es → Each IsEntry xs → Each (λ p. IsEntry p.0 × IsEntry p.1) (zip es xs)
+  zipped_entries [] xs h k = tt
+  zipped_entries (e ∷ es) [] h k = tt
+  zipped_entries (e ∷ es) (x ∷ xs) h k = ((h.0, k.0), zipped_entries es xs h.1 k.1)
+
+  seconds : (es xs : List Entry) → length xs ≡ length es → map second (zip es xs) ≡ map (λ e. stays e.element) xs
+  seconds [] [] e = refl
+  seconds [] (x ∷ xs) e = absurd (omega arith)
+  seconds (y ∷ es) [] e = absurd (omega arith)
+  seconds (y ∷ es) (x ∷ xs) e = ap (λ l. stays x.element ∷ l) (seconds es xs (omega arith))
+
+  lines_elements : (k : CstNewlineKind) (xs : List Slot) → elements (lines_ended at k xs) ≡ elements xs
+  lines_elements k [] = refl
+  lines_elements k (s ∷ xs) =
+      let same : elements (s ∷ lines_ended at k xs) ≡ elements (s ∷ xs) = onto s (lines_ended at k xs) xs (lines_elements k xs) in
+      choose (λ l. elements l ≡ elements (s ∷ xs)) (is_line_comment (slot_content at s) && goes_on at xs) (s ∷ comes (newline k) ∷ lines_ended at k xs) (s ∷ lines_ended at k xs) same same
+    where
+      onto : (s : Slot) (a b : List Slot) → elements a ≡ elements b → elements (s ∷ a) ≡ elements (s ∷ b)
+      onto s a b e = ap (λ l. cond (is_element_slot s) (s ∷ l) l) e
+
+  by_kind : (row : List ℕ) → Each (ByKind at Idle IsOne) row
+  by_kind [] = tt
+  by_kind (n ∷ row) = (record { element = λ e. e; other = λ e. e }, by_kind row)
+
+  -- of a row they are those of its entries
+  abbrev pub of_entry : Entry → Slot
+  of_entry e = stays e.element
+
+  part_elements : (row : List ℕ) → elements (all_stay row) ≡ map (λ part. stays part.element) (parts at row).rest
+  part_elements [] = refl
+  part_elements (n ∷ row) = elim (cases_Bool (is_element (at n))) [ inl e ↦ rw e (ap (λ l. stays n ∷ l) (part_elements row)) | inr e ↦ rw e (part_elements row) ]
+
+  entry_elements : (groups : Bool) (pins : List (Option ℕ)) (lead : List ℕ) (rest : List Part) → map of_entry (entries_from at groups pins lead rest) ≡ map (λ part. stays part.element) rest
+  entry_elements groups pins lead [] = refl
+  entry_elements groups pins lead (part ∷ rest) = ap (λ l. stays part.element ∷ l) (entry_elements groups (drop 1 pins) part.behind rest)
+
+  pub row_elements : (h : Headers) (row : List ℕ) → elements (all_stay row) ≡ map of_entry (entries at h row)
+  row_elements h row = part_elements row ∙ sym (entry_elements h.groups h.pinned (parts at row).lead (parts at row).rest)
+
+  mapped : (es : List Entry) (order : List ℕ) → map of_entry (map (entry_at es) order) ≡ map (λ i. stays (entry_at es i).element) order
+  mapped es [] = refl
+  mapped es (i ∷ order) = ap (λ l. stays (entry_at es i).element ∷ l) (mapped es order)
+
+  -- the sorted row has them in its order
+  pub sorted_elements : (k : CstNewlineKind) (h : Headers) (row order : List ℕ) → IsPermutation (range_with_len 0 (length (entries at h row))) order
+      → elements (sorted at k h row order) ≡ map (λ i. stays (entry_at (entries at h row) i).element) order
+  sorted_elements k h row order p =
+      choose_by (λ l. elements l ≡ map (λ i. stays (entry_at (entries at h row) i).element) order) (is_unchanged order) (all_stay row) (lines_ended at k (rearranged at (entries at h row) order ++ all_stay (row_end at row))) old new
+    where
+      moves : IsPermutation (entries at h row) (map (entry_at (entries at h row)) order)
+      moves = all_moved no_entry (entries at h row) order p
+
+      old : is_unchanged order ≡ true → elements (all_stay row) ≡ map (λ i. stays (entry_at (entries at h row) i).element) order
+      old e =
+          let same : order ≡ range_with_len 0 (length order) = (bytes_eq-Decides order (range_with_len 0 (length order))).0 e in
+          let long : length order ≡ length (entries at h row) = length_permutation (range_with_len 0 (length (entries at h row))) order p ∙ length-range_with_len 0 (length (entries at h row)) in
+          row_elements h row ∙ ap (map of_entry) (sym (all_members no_entry (entries at h row))) ∙ mapped (entries at h row) (range_with_len 0 (length (entries at h row))) ∙ ap (λ n. map (λ i. stays (entry_at (entries at h row) i).element) (range_with_len 0 n)) (sym long) ∙ ap (map (λ i. stays (entry_at (entries at h row) i).element)) (sym same)
+
+      new : is_unchanged order ≡ false → elements (lines_ended at k (rearranged at (entries at h row) order ++ all_stay (row_end at row))) ≡ map (λ i. stays (entry_at (entries at h row) i).element) order
+      new e =
+          let are = row_held at Idle IsOne h row (by_kind row) in
+          let held : Each IsEntry (map (entry_at (entries at h row)) order) = each_moved IsEntry (entries at h row) (map (entry_at (entries at h row)) order) moves are.0 in
+          lines_elements k (rearranged at (entries at h row) order ++ all_stay (row_end at row)) ∙ elements_joined (rearranged at (entries at h row) order) (all_stay (row_end at row))
+          ∙ ap (λ l. l ++ elements (all_stay (row_end at row))) (placed_elements true (ends_with_comma at (entries at h row)) (zip (entries at h row) (map (entry_at (entries at h row)) order)) (zipped_entries (entries at h row) (map (entry_at (entries at h row)) order) are.0 held) ∙ seconds (entries at h row) (map (entry_at (entries at h row)) order) (length_permutation (entries at h row) (map (entry_at (entries at h row)) order) moves) ∙ mapped (entries at h row) order)
+          ∙ ap (λ l. map (λ i. stays (entry_at (entries at h row) i).element) order ++ l) (idle_none (row_end at row) are.1) ∙ append-nil (map (λ i. stays (entry_at (entries at h row) i).element) order)

@@ -1,0 +1,36 @@
+-- From edits that were made in nodes to one chain of texts.
+use Rattle.std.specs.Prelude.{List, ◌++◌, Option}
+use Rattle.std.specs.List.{All}
+use Rattle.jsonc_text.specs.Edits as texts
+use Rattle.jsonc_text.specs.Edits.{Document, IsOne, Run}
+use Rattle.jsonc_text.specs.Options.{Options}
+use Rattle.jsonc_text.specs.Plain.{Plain}
+use Rattle.jsonc_tree.specs.OrderedTree.{OrderedTree, ordered_tree}
+use Rattle.jsonc_tree.specs.Tree.{Node, IsTree}
+use Rattle.jsonc_sound.specs.Documents.{document_of, Shows}
+use Rattle.jsonc_run.specs.Edits.{Operation, AreMade}
+use Rattle.jsonc_run.specs.Steps.{IsOfCharacters, NumbersFit, Steps}
+use Rattle.jsonc_run.specs.Written.{options_after}
+use Rattle.jsonc_run.specs.promise.Words.{all_in_texts}
+
+-- one chain of sound trees is one chain of the documents that they print
+abbrev pub StepsAreRun : Options → OrderedTree → OrderedTree → Type 0
+StepsAreRun o t u = (w x : Option Plain) (es : List Operation) → Steps o t w es u x → All IsOfCharacters es
+    → Run (document_of o t w) (all_in_texts es) (document_of (options_after o es) u x)
+
+-- Whatever document the old nodes show: if each number that the edits write is, whole, one of its options, then the new nodes show one to which the edits lead.
+abbrev pub Leads : List Node → List Operation → List Node → Type 0
+Leads old es new = (d : Document) → Shows d (ordered_tree old 0) → All (NumbersFit d.options) es
+    → (e : Document) × Shows e (ordered_tree new 0) × Run d (all_in_texts es) e
+
+-- edits that were made in order lead from each document to the next
+abbrev pub EditsLead : List Node → List Node → Type 0
+EditsLead old new = (es : List Operation) → IsTree old → AreMade old es new → All IsOfCharacters es → Leads old es new
+
+-- what a tree shows is a document of the grammar, with its value and its marks
+abbrev pub ShownAreDocuments : OrderedTree → Type 0
+ShownAreDocuments t = (d : Document) → Shows d t → IsOne d
+
+-- where one list of edits leads to a document and another from there, both together lead all the way
+abbrev pub RunsJoin : Document → Document → Document → Type 0
+RunsJoin d e f = (first second : List texts.Operation) → Run d first e → Run e second f → Run d (first ++ second) f

@@ -1,9 +1,0 @@
-use Rattle.std.proofs.Common.{subst}
-use Rattle.jsonc_settings.specs.Found.{names_of, FindsWhatShown}
-use Rattle.jsonc_settings.proofs.Taken.{read_result}
-use Rattle.jsonc_settings.proofs.find.read_at.Goals as goal
-
-pub returns-in-Ok-Some-clause-read : goal.returns-in-Ok-Some-clause-read
-returns-in-Ok-Some-clause-read g c =
-    read_result c.args.doc.now c.in-Ok-Some.node (names_of c.args.names.now) c.to_value.result c.nodes_are_tree.ensures.stored c.to_value.ensures.value
-    (subst (FindsWhatShown c.args.doc.now (names_of c.args.names.now)) c.in-Ok-Some.field-0-is c.in-Ok-Some.ensures.found)

@@ -1,5 +1,0 @@
-use Rattle.jsonc_settings.proofs.Taken.{nodes_have_values}
-use Rattle.jsonc_settings.proofs.laws.nodes_have_their_values.Goals as goal
-
-pub returns : goal.returns
-returns g c = λ d ns path n. nodes_have_values d ns path n

@@ -1,5 +1,0 @@
-use Rattle.jsonc_settings.proofs.Paths.{at_once}
-use Rattle.jsonc_settings.proofs.laws.one_value_at_names.Goals as goal
-
-pub returns : goal.returns
-returns c = λ w names u v a b. at_once a b

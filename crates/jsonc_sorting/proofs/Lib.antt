@@ -1,9 +1,0 @@
-pub mod Placed
-pub mod Keyed
-pub mod Pinned
-pub mod Commented
-pub mod Wired
-pub mod Again
-pub mod AgainByKey
-pub mod Ordered
-pub mod Below

@@ -1,6 +1,0 @@
-pub mod Asking
-pub mod Pins
-pub mod Rows
-pub mod Sorted
-pub mod Again
-pub mod Below

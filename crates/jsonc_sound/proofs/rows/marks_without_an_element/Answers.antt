@@ -1,0 +1,5 @@
+use Rattle.jsonc_sound.proofs.LostMarks.{document_loses_marks}
+use Rattle.jsonc_sound.proofs.rows.marks_without_an_element.Goals as goal
+
+pub returns : goal.returns
+returns c = document_loses_marks

@@ -1,0 +1,31 @@
+-- A root's row that had no value gets one.
+use Rattle.std.specs.Prelude.{Bool, false, not, List, [], ◌∷◌, ◌++◌, IsTrue}
+use Rattle.jsonc_tree.specs.Content.{Content}
+use Rattle.jsonc_tree.specs.OrderedTree.{OrderedTree, none}
+use Rattle.jsonc_layout.specs.nodes.Kinds.{is_comment, is_newline}
+use Rattle.jsonc_tree.specs.OrderedTree.{Top}
+use Rattle.jsonc_sound.specs.TriviaChanges.{AreTrivia, leaves_then}
+use Rattle.jsonc_sound.specs.Leaving.{among}
+
+-- each of these leaves is a line's end
+abbrev pub AreLineEnds : List Content → Type 0
+AreLineEnds [] = Unit {0}
+AreLineEnds (content ∷ rest) = IsTrue (is_newline content) × AreLineEnds rest
+
+-- the last of these leaves is a comment
+abbrev pub ends_in_comment : List Content → Bool
+ends_in_comment [] = false
+ends_in_comment (content ∷ []) = is_comment content
+ends_in_comment (content ∷ next ∷ rest) = ends_in_comment (next ∷ rest)
+
+-- the first of them is a line's end
+abbrev pub begins_in_line_end : List Content → Bool
+begins_in_line_end [] = false
+begins_in_line_end (content ∷ rest) = is_newline content
+
+-- the second row is the first, of trivia alone, but that somewhere in it the value has come, with ends of lines before
+-- and behind it: it stands behind no comment, and a line ends behind it
+pub data ValueComes (top : Top) : OrderedTree → OrderedTree → Type 0 where
+  value_comes : (front back before behind : List Content) → AreTrivia front → AreTrivia back → AreLineEnds before → AreLineEnds behind
+      → IsTrue (not (ends_in_comment (front ++ before))) → IsTrue (begins_in_line_end (behind ++ back))
+      → ValueComes top (leaves_then (front ++ back) none) (leaves_then (front ++ before) (among [] top [] (leaves_then (behind ++ back) none)))

@@ -1,0 +1,65 @@
+use Rattle.std.proofs.Common.{arith, sym, ap}
+use Rattle.std.proofs.lemmas.Result.{IfErr-weaker}
+use Rattle.jsonc_text.specs.declared.string.escape.Meaning.{Meaning}
+use Rattle.jsonc_text.specs.string.Escapes.{is_plain, meaning_of}
+use Rattle.jsonc_text.proofs.lemmas.string.Escapes.{given_found, other_found, line_found, no_refused, no_taken, counted, taken_extended}
+use Rattle.jsonc_text.proofs.lemmas.string.Faults.{ends_within, end_taken, told_after, told_decimal, told_end, told_not_taken, told_taken}
+use Rattle.jsonc_text.proofs.string.escape.read_escape.Goals as goal
+
+pub returns-in-Gives-clause-found : goal.returns-in-Gives-clause-found
+returns-in-Gives-clause-found c =
+    given_found _ _ _ _ _ _ _ c.requires.backslash (counted _ _ _ _ c.in-Some.ensures.some c.len_utf8.ensures.value) (omega (arith, c.len_utf8.ensures.lower_bound)) c.in-Gives.ensures.meaning
+
+pub returns-in-Extended-clause-found : goal.returns-in-Extended-clause-found
+returns-in-Extended-clause-found c =
+    other_found _ _ _ _ _ _ _ (taken_extended _ _ (sym c.if-not-is_taken.ensures) (ap (λ (m : Meaning). is_plain (meaning_of m)) c.in-Extended.is)) c.requires.backslash (counted _ _ _ _ c.in-Some.ensures.some c.len_utf8.ensures.value) (omega (arith, c.len_utf8.ensures.lower_bound)) c.in-Extended.ensures.meaning
+
+pub returns-in-LineEnd-clause-found : goal.returns-in-LineEnd-clause-found
+returns-in-LineEnd-clause-found c =
+    line_found _ _ _ _ _ _ (taken_extended _ _ (sym c.if-not-is_taken.ensures) (ap (λ (m : Meaning). is_plain (meaning_of m)) c.in-LineEnd.is)) c.requires.backslash (counted _ _ _ _ c.in-Some.ensures.some c.len_utf8.ensures.value) (omega (arith, c.len_utf8.ensures.lower_bound)) c.in-LineEnd.ensures.meaning
+
+pub returns-in-Refused-clause-none : goal.returns-in-Refused-clause-none
+returns-in-Refused-clause-none c = no_refused _ _ _ _ _ _ c.requires.backslash c.in-Some.ensures.some c.in-Refused.ensures.meaning
+
+pub returns-then-not-is_taken-clause-none : goal.returns-then-not-is_taken-clause-none
+returns-then-not-is_taken-clause-none c =
+    no_taken _ _ _ _ _ _ _ (sym c.if-not-is_taken.ensures) c.escape_meaning-meaning.ensures.meaning c.requires.backslash c.in-Some.ensures.some
+
+pub returns-in_default-clause-told : goal.returns-in_default-clause-told
+returns-in_default-clause-told c =
+    let read = c.unterminated.ensures in
+    told_end _ _ _ _ _ _ read.start read.end read.kind (ends_within _ _ _ c.requires.backslash c.in_default.ensures.none)
+
+pub returns-then-not-is_taken-clause-told : goal.returns-then-not-is_taken-clause-told
+returns-then-not-is_taken-clause-told c =
+    let read = c.string_fault.ensures in
+    let why = c.refusal.ensures in
+    told_not_taken _ _ _ _ _ _ _ _ _ _ read.start read.end read.kind (sym c.if-not-is_taken.ensures) c.escape_meaning-meaning.ensures.meaning (why.double, why.single, why.other) c.requires.backslash c.in-Some.ensures.some
+
+pub returns-in-CodeUnit-clause-told : goal.returns-in-CodeUnit-clause-told
+returns-in-CodeUnit-clause-told c =
+    let literal = c.args.literal in
+    IfErr-weaker c.read_code_unit.result _ _ (λ f told. told_after _ _ _ _ _ _ (told literal.extended literal.quote)) c.read_code_unit.ensures.told
+
+pub returns-in-CodeByte-clause-told : goal.returns-in-CodeByte-clause-told
+returns-in-CodeByte-clause-told c =
+    let taken = taken_extended _ _ (sym c.if-not-is_taken.ensures) (ap (λ (m : Meaning). is_plain (meaning_of m)) c.in-CodeByte.is) in
+    IfErr-weaker c.read_code_byte.result _ _ (λ f told. told_taken _ _ _ _ _ _ taken (told c.args.literal.quote)) c.read_code_byte.ensures.told
+
+pub returns-in-Nul-clause-told : goal.returns-in-Nul-clause-told
+returns-in-Nul-clause-told c =
+    let taken = taken_extended _ _ (sym c.if-not-is_taken.ensures) (ap (λ (m : Meaning). is_plain (meaning_of m)) c.in-Nul.is) in
+    let literal = c.args.literal in
+    IfErr-weaker c.read_nul.result _ _ (λ f told. end_taken literal.extended literal.quote c.args.text.now literal.start c.args.place f taken (told literal.quote)) c.read_nul.ensures.told
+
+pub returns-in-CarriageReturn-clause-told : goal.returns-in-CarriageReturn-clause-told
+returns-in-CarriageReturn-clause-told c =
+    let taken = taken_extended _ _ (sym c.if-not-is_taken.ensures) (ap (λ (m : Meaning). is_plain (meaning_of m)) c.in-CarriageReturn.is) in
+    let literal = c.args.literal in
+    IfErr-weaker c.read_line_end.result _ _ (λ f told. end_taken literal.extended literal.quote c.args.text.now literal.start c.args.place f taken (told literal.quote)) c.read_line_end.ensures.told
+
+pub returns-in-Refused-clause-told : goal.returns-in-Refused-clause-told
+returns-in-Refused-clause-told c =
+    let read = c.string_fault-in-Refused.ensures in
+    let taken = taken_extended _ _ (sym c.if-not-is_taken.ensures) (ap (λ (m : Meaning). is_plain (meaning_of m)) c.in-Refused.is) in
+    told_after _ _ _ _ _ _ (told_decimal _ _ _ _ _ _ _ read.start read.end read.kind taken c.in-Refused.ensures.meaning c.requires.backslash c.in-Some.ensures.some)

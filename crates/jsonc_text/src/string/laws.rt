@@ -1,0 +1,11 @@
+//! Laws of what is told of strings: each is the contract of a function that does nothing.
+ghost use Rattle.std.specs.Prelude.{List, ℕ, Bool};
+ghost use Rattle.jsonc_text.specs.Options.{all_on};
+ghost use Rattle.jsonc_text.specs.Strings.{IsQuote};
+ghost use Rattle.jsonc_text.specs.string.Told.{HasOneFault, HasNoStringToo};
+
+/// Of a string at most one fault is told, of one range; and where one is, no string stands.
+pub fn one_fault()
+    ensures one { (taken : Bool) (q : ℕ) (s : List ℕ) → IsQuote all_on q → HasOneFault taken q s }
+    ensures none { (taken : Bool) (q : ℕ) (s : List ℕ) → IsQuote all_on q → HasNoStringToo taken q s }
+{}

@@ -1,5 +1,0 @@
-use Rattle.jsonc_to_ast.proofs.Noting.{shows_all}
-use Rattle.jsonc_to_ast.proofs.comments.GapComments.finish.Goals as goal
-
-pub returns : goal.returns
-returns g c = shows_all c.args.self c.end_gap.new.self c.args.end c.in_ok-end_gap.ensures

@@ -1,5 +1,0 @@
-use Rattle.jsonc_to_ast.proofs.ReadLexemes.{ends_lexemes}
-use Rattle.jsonc_to_ast.proofs.laws.reading_ends_lexemes.Goals as goal
-
-pub returns : goal.returns
-returns c = λ o whole s q d t h. ends_lexemes h

@@ -1,5 +1,0 @@
-use Rattle.jsonc_to_input.proofs.Nodes.{tree_taken}
-use Rattle.jsonc_to_input.proofs.taken.to_value.Goals as goal
-
-pub returns : goal.returns
-returns g c = tree_taken c.args.tree.now.nodes c.args.node c.take.result c.len.ensures.tree c.requires c.take.ensures

@@ -1,7 +1,0 @@
-//! The plain value of a node, taken as a value for edits.
-#![tactic(auto)]
-
-pub mod laws;
-mod taken;
-
-pub use taken::to_value;

@@ -1,8 +1,0 @@
-use Rattle.std.proofs.Common.{◌∙◌, ap}
-use Rattle.jsonc_text.specs.Plain.{array}
-use Rattle.jsonc_to_value.specs.Views.{items_plain}
-use Rattle.jsonc_to_value.proofs.Plains.{array_plain}
-use Rattle.jsonc_to_value.proofs.values.array_of.Goals as goal
-
-pub returns : goal.returns
-returns g c = array_plain c.new.result ∙ ap (λ vs. array (items_plain vs)) c.new.ensures

@@ -1,8 +1,0 @@
-use Rattle.std.proofs.Common.{◌∙◌, ap}
-use Rattle.jsonc_text.specs.Plain.{object}
-use Rattle.jsonc_to_value.specs.Views.{members_plain}
-use Rattle.jsonc_to_value.proofs.Plains.{object_plain}
-use Rattle.jsonc_to_value.proofs.values.object_of.Goals as goal
-
-pub returns : goal.returns
-returns g c = object_plain c.new.result ∙ ap (λ ps. object (members_plain ps)) c.new.ensures

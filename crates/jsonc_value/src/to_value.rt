@@ -1,0 +1,5 @@
+//! Values of JSON read from their text.
+
+mod values;
+
+pub use values::parse_to_value;
