@@ -9,7 +9,7 @@ ghost use Rattle.jsonc_run.specs.Parents.{CallStaysApart, CallsStayApart, StaysW
 ghost use Rattle.jsonc_run.specs.Steps.{MakesSteps};
 
 pub use jsonc_insert::named::laws::names_are_those_of_values;
-pub use jsonc_sort::laws::sorted_rows_keep_their_nodes;
+pub use jsonc_sort::laws::{sorted_containers_keep_their_children, sorted_rows_keep_their_nodes};
 
 /// Where edits have their place: in a sound document the nodes have what an edit needs at its path exactly
 /// where the document's value has it there, whatever that is, a value, a truth value, an array, an object

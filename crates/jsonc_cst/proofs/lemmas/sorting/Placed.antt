@@ -1,5 +1,5 @@
 -- Elements that come in an order: what becomes of a document and its nodes.
-use Rattle.std.proofs.Common.{ℕ, List, IsTrue, inl, inr, ap}
+use Rattle.std.proofs.Common.{ℕ, List, IsTrue, inl, inr}
 use Rattle.std.proofs.lemmas.Bool.{cases_Bool}
 use Rattle.jsonc_text.specs.Options.{Options}
 use Rattle.jsonc_tree.specs.OrderedTree.{ordered_tree}
@@ -13,7 +13,6 @@ use Rattle.jsonc_sort.proofs.SortedDocuments.{keeps_outside, sorts_document}
 use Rattle.jsonc_edit.specs.Paths.{IsAt}
 use Rattle.jsonc_run.specs.promise.Steps.{IsStep}
 use Rattle.jsonc_run.specs.Edits.{rearrange}
-use Rattle.jsonc_cst.specs.typed.Edits.{StaysElsewhere}
 use Rattle.jsonc_edit.proofs.lemmas.commas.Holders.{holder_path}
 use Rattle.jsonc_run.proofs.lemmas.promise.Stepping.{made_step}
 use Rattle.jsonc_run.proofs.Elsewhere.{order_elsewhere}
