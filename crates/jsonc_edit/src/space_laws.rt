@@ -7,6 +7,7 @@ ghost use Rattle.jsonc_tree.specs.Content.{Content};
 ghost use Rattle.jsonc_tree.specs.Tree.{Node};
 ghost use Rattle.jsonc_edit.specs.SpaceLaws.{KeepsElements, NoneDueAround, PutsSpace};
 ghost use Rattle.jsonc_edit.specs.Meeting.{NearestTell, NoneDueWithCommas};
+ghost use Rattle.jsonc_edit.specs.remove.Laws.{ElementWantsNone};
 
 /// A space that is put before an element, behind another child, has come into the document there, and
 /// nothing else has.
@@ -29,4 +30,10 @@ pub fn no_further_space_is_due()
 pub fn nearest_tell()
     ensures meet { (o : Options) (ns : List Node) → NearestTell o ns }
     ensures none { (o : Options) (ns : List Node) → o.missing_commas ≡ false → NoneDueWithCommas o ns }
+{}
+
+/// So in a sound document in which commas may not be missing no space is due where an element, a property or
+/// a name leaves: what `remove` wants memory for is never so, and it is not refused for it.
+pub fn removals_want_no_memory()
+    ensures element { (o : Options) (ns : List Node) (n : ℕ) → ElementWantsNone o ns n }
 {}

@@ -161,7 +161,7 @@ module _ (o : Options) (ns : List Node) (tree : IsTree ns) (sound : SoundTree o 
           the_property o (first_part o h.kind (content_at ns r) (row_below ns r) back element refl parts.2) is
 
   -- the first element of a property is its name
-  name_is : (r n : ℕ) → IsOver ns 0 r → content_at ns r ≡ property → IsElementOf ns r 0 n → IsNameBefore o (content_at ns n) []
+  pub name_is : (r n : ℕ) → IsOver ns 0 r → content_at ns r ≡ property → IsElementOf ns r 0 n → IsNameBefore o (content_at ns n) []
   name_is _ n IsOver.itself is element = absurd (let wrong : property ≡ Content.root = sym is ∙ tree.root_first in cc)
   name_is r n (IsOver.above {c = q} up rest) is element =
       elim (all_stand o ns tree sound.shaped r (IsOver.above up rest)) [
