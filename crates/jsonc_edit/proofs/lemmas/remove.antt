@@ -11,6 +11,7 @@ pub mod Going
 pub mod Within
 pub mod Parted
 pub mod NoSpace
+pub mod Commented
 pub mod Spaces
 pub mod Settled
 pub mod Trees

@@ -5,7 +5,7 @@ use Rattle.jsonc_text.specs.Plain.{Plain}
 use Rattle.jsonc_text.specs.Grammar.{IsDocument}
 use Rattle.jsonc_tree.specs.OrderedTree.{OrderedTree, ordered_tree}
 use Rattle.jsonc_tree.specs.Tree.{Node, content_at, IsOver, IsTree}
-use Rattle.jsonc_layout.specs.nodes.Kinds.{is_element_at}
+use Rattle.jsonc_layout.specs.nodes.Kinds.{is_comment_at, is_element_at}
 use Rattle.jsonc_layout.specs.lines.Kinds.{holds_values}
 use Rattle.jsonc_sound.specs.Shape.{printed_text}
 use Rattle.jsonc_sound.specs.Rows.{RowKind, container_of}
@@ -16,6 +16,7 @@ use Rattle.jsonc_sound.specs.Marks.{marks}
 use Rattle.jsonc_sound.specs.Leaving.{ElementLeaves, ClosesUp, ValueLeaves, Empties}
 use Rattle.jsonc_sound.specs.EntryLaws.{LosesEntry, LosesMarks, root_with}
 use Rattle.jsonc_edit.specs.Changes.{top_at}
+use Rattle.jsonc_edit.specs.Comments.{WantsSpace}
 use Rattle.jsonc_edit.specs.Paths.{IsAt, IsElementOf}
 use Rattle.jsonc_edit.specs.Spaced.{SpacesPut}
 use Rattle.jsonc_edit.specs.SeamRemovals.{EntryLeavesWithSeams}
@@ -87,3 +88,8 @@ RemovesValue o t u top = SoundTree o t → ValueTaken top t u → IsValueRemoved
 abbrev pub ElementWantsNone : Options → List Node → ℕ → Type 0
 ElementWantsNone o ns n =
     IsTree ns → SoundTree o (ordered_tree ns 0) → o.missing_commas ≡ false → IsOver ns 0 n → IsTrue (is_element_at ns n) → IsKeptFor ns n OutOfMemory → ⊥
+
+-- nor where a comment does
+abbrev pub CommentWantsNone : Options → List Node → ℕ → Type 0
+CommentWantsNone o ns n =
+    IsTree ns → SoundTree o (ordered_tree ns 0) → o.missing_commas ≡ false → IsOver ns 0 n → IsTrue (is_comment_at ns n) → WantsSpace ns n → ⊥

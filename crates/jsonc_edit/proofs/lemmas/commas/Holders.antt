@@ -141,7 +141,7 @@ no_holder_root content e h = false≢true (sym (ap holds_values e) ∙ h)
 
 module _ (o : Options) (ns : List Node) (tree : IsTree ns) (sound : SoundTree o (ordered_tree ns 0)) where
   -- a child of an array or object at a path that is a property is one alone
-  property_alone : (path : List ℕ) (p r : ℕ) → IsAt ns path p → IsTrue (holds_at ns p) → parent_at ns r ≡ Some p → content_at ns r ≡ property → PropertyAlone o (row_below ns r)
+  pub property_alone : (path : List ℕ) (p r : ℕ) → IsAt ns path p → IsTrue (holds_at ns p) → parent_at ns r ≡ Some p → content_at ns r ≡ property → PropertyAlone o (row_below ns r)
   property_alone path p r at holds said is =
       let there : p < length ns = (parent_there ns tree r p said).1 in
       let h : Held o (content_at ns p) (row_below ns p) = held o holds (value_at_path o ns tree sound path p at) in

@@ -16,7 +16,7 @@ use Rattle.jsonc_tree.specs.Values.{is_passed_over}
 use Rattle.jsonc_tree.proofs.Order.{over_step, parent_there}
 use Rattle.jsonc_layout.specs.nodes.Kinds.{is_element, is_element_at, is_property}
 use Rattle.jsonc_layout.specs.lines.Kinds.{holds_values, is_comma}
-use Rattle.jsonc_sound.specs.Alone.{RootAlone}
+use Rattle.jsonc_sound.specs.Alone.{PropertyAlone, RootAlone}
 use Rattle.jsonc_sound.specs.Leaving.{AreBeside, IsRestOfLine}
 use Rattle.jsonc_sound.specs.Rows.{RowKind, of_values, of_properties, closing, opening}
 use Rattle.jsonc_sound.specs.Shape.{DocumentShaped, IsNameBefore}
@@ -35,7 +35,7 @@ use Rattle.jsonc_edit.proofs.Printing.{unkept_prints}
 use Rattle.jsonc_edit.proofs.Standing.{all_stand}
 use Rattle.jsonc_edit.proofs.Uniqueness.{element_parent}
 use Rattle.jsonc_edit.proofs.Walk.{Shows-row_below, document_is}
-use Rattle.jsonc_edit.proofs.lemmas.commas.Holders.{name_is, value_at_path}
+use Rattle.jsonc_edit.proofs.lemmas.commas.Holders.{name_is, property_alone, value_at_path}
 use Rattle.jsonc_edit.proofs.lemmas.remove.Containers.{Brackets, Held, brackets, held_at}
 use Rattle.jsonc_edit.proofs.lemmas.remove.Contents.{no_commas}
 use Rattle.jsonc_edit.proofs.lemmas.remove.Going.{Edges, Going, going, is_end, with_before, with_behind, with_none}
@@ -49,7 +49,7 @@ none_if_first w true b x e = cc
 none_if_first true false b x e = refl
 none_if_first false false b x e = refl
 
-none_if_second : (a b : Bool) (x : Option ℕ) → b ≡ false → cond (a && b) x None ≡ None
+pub none_if_second : (a b : Bool) (x : Option ℕ) → b ≡ false → cond (a && b) x None ≡ None
 none_if_second a true x e = cc
 none_if_second true false x e = refl
 none_if_second false false x e = refl
@@ -228,14 +228,14 @@ module _ (o : Options) (ns : List Node) (tree : IsTree ns) (sound : SoundTree o 
   pub data StandsIn (c : ℕ) : Type 0 where
     in_root : c ≡ 0 → StandsIn c
     in_value : (path : List ℕ) → IsAt ns path c → StandsIn c
-    in_property : content_at ns c ≡ property → StandsIn c
+    in_property : PropertyAlone o (row_below ns c) → content_at ns c ≡ property → StandsIn c
 
   pub stands_in : (n c : ℕ) → IsOver ns 0 n → parent_at ns n ≡ Some c → StandsIn c
   stands_in n c over said =
       elim (all_stand o ns tree sound.shaped c (over_parent n c over said)) [
         | as_root e ↦ in_root e
         | as_value {path = path} at ↦ in_value path at
-        | as_property i at outer element is ↦ in_property is
+        | as_property {path = path} {p = p} i at outer element is ↦ in_property (property_alone o ns tree sound path p c at (ap holds_values outer) (element_parent ns tree p i c element) is) is
         | as_name r is element ↦
             let up = over_parent c r (over_parent n c over said) (element_parent ns tree r 0 c element) in
             absurd (no_leaf n c said (no_container_name o (content_at ns c) (name_is o ns tree sound r c up is element)))
@@ -251,7 +251,7 @@ module _ (o : Options) (ns : List Node) (tree : IsTree ns) (sound : SoundTree o 
   element_in : (n c : ℕ) → parent_at ns n ≡ Some c → IsTrue (is_element_at ns n) → StandsIn c → AreDue (due_before_gap ns c n) (due_behind_gap ns c n) → ⊥
   element_in n c said element (in_root e) h =
       none_bare ns tree c n said element (subst (λ k. Apart 0x2C ns false (children_at ns k)) (sym e) root_apart) (ap holds_values (ap (content_at ns) e ∙ tree.root_first)) h
-  element_in n c said element (in_property is) h =
+  element_in n c said element (in_property alone is) h =
       let before : due_before_gap ns c n ≡ None = ap (λ w. due_at_comma ns (first_gone ns n) (if holds_values w then comma_gone ns n else None)) is in
       let behind : due_behind_gap ns c n ≡ None = ap (λ w. if is_property w then None else due_at_stretch ns (first_gone ns n) (last_gone ns n) (comma_in ns c n)) is in
       neither_due (due_before_gap ns c n) (due_behind_gap ns c n) before behind h

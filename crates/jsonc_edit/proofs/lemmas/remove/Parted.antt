@@ -69,7 +69,7 @@ module _ (o : Options) where
   literal_element Content.null h = refl
   literal_element c h = absurd h
 
-  value_element : {c : Content} {below : OrderedTree} → ValueAlone o c below → is_element c ≡ true
+  pub value_element : {c : Content} {below : OrderedTree} → ValueAlone o c below → is_element c ≡ true
   value_element (alone.literal {content = c} h) = literal_element c h
   value_element (alone.an_array g) = refl
   value_element (alone.an_object g) = refl
