@@ -13,8 +13,8 @@
 //! from one parent to another, and behind any list of calls the nodes are a tree; calls that are refused, or
 //! of nodes that do not stand in the document, leave it as it was ([`calls_keep_parents`]); and what each call
 //! of a typed node says is such a call ([`typed_calls_are_calls`]).
-//! Where commas may not be missing no space is due where children leave, so no memory is wanted for it
-//! ([`nearest_tell`]).
+//! Where commas may not be missing no space is due where children leave ([`nearest_tell`]), so a removal from
+//! a sound document wants no memory, of a value, a property or a comment ([`removals_want_no_memory`]).
 //!
 //! The groups of a sort keep their places ([`groups_keep_their_places`], [`blank_lines_part_groups`]); a
 //! sorted row has each comment and each element once ([`sorted_rows_keep_their_nodes`]), and so has the sorted
@@ -33,7 +33,7 @@ pub use jsonc_cst::sorted::laws::{
     blank_lines_part_groups, groups_keep_their_places, second_sorts_by_key_change_no_byte,
     second_sorts_change_no_byte,
 };
-pub use jsonc_edit::space_laws::nearest_tell;
+pub use jsonc_edit::space_laws::{nearest_tell, removals_want_no_memory};
 pub use jsonc_run::laws::{
     calls_keep_parents, edits_make_steps, names_are_those_of_values, places_are_named,
     sorted_containers_keep_their_children, sorted_rows_keep_their_nodes,

@@ -1,5 +1,5 @@
 -- In a sound document in which commas may not be missing no space is due where a comment leaves.
-use Rattle.std.proofs.Common.{◌≡◌, ◌∙◌, sym, ap, subst, refl, ℕ, suc, ◌+◌, ◌<◌, ◌≤◌, Bool, true, false, ◌&&◌, cond, List, [], ◌∷◌, ◌++◌, inl, inr, length, reverse, take, drop, slice_index, slice_range, Option, Some, None, IsTrue, arith}
+use Rattle.std.proofs.Common.{◌≡◌, ◌∙◌, sym, ap, subst, refl, ℕ, ◌+◌, ◌<◌, ◌≤◌, true, false, ◌&&◌, cond, List, [], ◌∷◌, ◌++◌, inl, inr, length, reverse, take, drop, slice_index, slice_range, Option, Some, None, IsTrue, arith}
 use Rattle.std.proofs.lemmas.Bool.{cases_Bool}
 use Rattle.std.proofs.lemmas.List.{drop_more, take-append-drop}
 use Rattle.std.proofs.lemmas.List.Edits.{split_between}
@@ -9,9 +9,9 @@ use Rattle.jsonc_tree.specs.Content as content
 use Rattle.jsonc_tree.specs.Content.{Content, property}
 use Rattle.jsonc_tree.specs.OrderedTree.{OrderedTree, none, more, ordered_tree, Shows, shows_none, shows_more}
 use Rattle.jsonc_tree.specs.Siblings.{siblings_after}
-use Rattle.jsonc_tree.specs.Tree.{Node, children_at, content_at, parent_at, place_at, IsOver, IsTree}
+use Rattle.jsonc_tree.specs.Tree.{Node, children_at, content_at, parent_at, place_at, IsTree}
 use Rattle.jsonc_tree.proofs.Order.{parent_there}
-use Rattle.jsonc_layout.specs.nodes.Kinds.{is_comment, is_comment_at, is_element, is_property, is_trivia, is_trivia_at}
+use Rattle.jsonc_layout.specs.nodes.Kinds.{is_comment, is_comment_at, is_property, is_trivia, is_trivia_at}
 use Rattle.jsonc_sound.specs.Adjacent.{or_else}
 use Rattle.jsonc_sound.specs.Alone as alone
 use Rattle.jsonc_sound.specs.Alone.{PropertyAlone, ValueAlone}
@@ -19,8 +19,8 @@ use Rattle.jsonc_sound.specs.Shape as trivia
 use Rattle.jsonc_sound.specs.Shape.{IsLiteralBefore, Trivia}
 use Rattle.jsonc_sound.specs.SoundTrees.{SoundTree}
 use Rattle.jsonc_edit.specs.Changes.{row_below}
-use Rattle.jsonc_edit.specs.Comments.{due_without, removed_from, WantsSpace}
-use Rattle.jsonc_edit.specs.Due.{begins_bare, behind_holder, behind_property, due_between, ends_bare, nearest, prints, prints_at, prints_within, seen_before, seen_behind}
+use Rattle.jsonc_edit.specs.Comments.{due_without, removed_from}
+use Rattle.jsonc_edit.specs.Due.{begins_bare, behind_holder, behind_property, ends_bare, nearest, prints, prints_at, prints_within, seen_before, seen_behind}
 use Rattle.jsonc_edit.specs.Put.{IfDue}
 use Rattle.jsonc_edit.specs.remove.Laws.{CommentWantsNone}
 use Rattle.jsonc_edit.proofs.Removal.{from_before, trivia_gone}

@@ -1,20 +1,18 @@
 -- In a sound document in which commas may not be missing no space is due where an element leaves.
-use Rattle.std.proofs.Common.{◌≡◌, ◌≢◌, ◌∙◌, sym, ap, subst, refl, ℕ, ◌+◌, ◌<◌, Bool, true, false, not, ◌&&◌, ◌⊎◌, cond, inl, inr, List, [], ◌∷◌, ◌++◌, length, reverse, take, drop, Option, Some, None, IsTrue, if◌then◌else◌, arith}
+use Rattle.std.proofs.Common.{◌≡◌, ◌∙◌, sym, ap, subst, refl, ℕ, ◌+◌, ◌<◌, Bool, true, false, ◌&&◌, cond, inl, inr, List, [], ◌∷◌, ◌++◌, length, reverse, take, drop, Option, Some, None, IsTrue, if◌then◌else◌, arith}
 use Rattle.std.proofs.lemmas.Bool.{cases_Bool}
 use Rattle.std.proofs.lemmas.List.{append_assoc, reverse-append, reverse-reverse}
 use Rattle.std.proofs.lemmas.List.Folds.{find-append}
 use Rattle.std.proofs.lemmas.Slice.Eq.{bytes_eq-Decides}
-use Rattle.std.specs.List.{find}
 use Rattle.std.specs.Option.{option_or}
 use Rattle.jsonc_text.specs.Options.{Options}
-use Rattle.jsonc_tree.specs.Content as content
 use Rattle.jsonc_tree.specs.Content.{Content, is_container, property, root, token}
 use Rattle.jsonc_tree.specs.OrderedTree.{OrderedTree, more, none, ordered_tree}
-use Rattle.jsonc_tree.specs.Siblings.{siblings_after, siblings_before}
+use Rattle.jsonc_tree.specs.Siblings.{siblings_before}
 use Rattle.jsonc_tree.specs.Tree.{Node, children_at, content_at, is_container_at, parent_at, place_at, IsOver, IsTree}
 use Rattle.jsonc_tree.specs.Values.{is_passed_over}
 use Rattle.jsonc_tree.proofs.Order.{over_step, parent_there}
-use Rattle.jsonc_layout.specs.nodes.Kinds.{is_element, is_element_at, is_property}
+use Rattle.jsonc_layout.specs.nodes.Kinds.{is_element_at, is_property}
 use Rattle.jsonc_layout.specs.lines.Kinds.{holds_values, is_comma}
 use Rattle.jsonc_sound.specs.Alone.{PropertyAlone, RootAlone}
 use Rattle.jsonc_sound.specs.Leaving.{AreBeside, IsRestOfLine}
@@ -27,10 +25,9 @@ use Rattle.jsonc_edit.specs.Changes.{row_below}
 use Rattle.jsonc_edit.specs.Due.{begins_bare, due_between, ends_bare, nearest, prints, prints_at, prints_within, seen_before, seen_behind}
 use Rattle.jsonc_edit.specs.Paths.{IsAt, as_root, as_value, as_property, as_name, between}
 use Rattle.jsonc_edit.specs.Put.{AreDue}
-use Rattle.jsonc_edit.specs.declared.error.EditError.TheVariants.{OutOfMemory}
-use Rattle.jsonc_edit.specs.remove.Leaving.{comma_gone, first_gone, is_comma_at, last_gone, outermost}
+use Rattle.jsonc_edit.specs.remove.Leaving.{comma_gone, first_gone, is_comma_at, last_gone}
 use Rattle.jsonc_edit.specs.remove.Laws.{ElementWantsNone}
-use Rattle.jsonc_edit.specs.remove.Removed.{comma_in, due_at_comma, due_at_stretch, due_before_gap, due_behind_gap, is_next, IsKeptFor}
+use Rattle.jsonc_edit.specs.remove.Removed.{comma_in, due_at_comma, due_at_stretch, due_before_gap, due_behind_gap, is_next}
 use Rattle.jsonc_edit.proofs.Printing.{unkept_prints}
 use Rattle.jsonc_edit.proofs.Standing.{all_stand}
 use Rattle.jsonc_edit.proofs.Uniqueness.{element_parent}
@@ -40,7 +37,7 @@ use Rattle.jsonc_edit.proofs.lemmas.remove.Containers.{Brackets, Held, brackets,
 use Rattle.jsonc_edit.proofs.lemmas.remove.Contents.{no_commas}
 use Rattle.jsonc_edit.proofs.lemmas.remove.Going.{Edges, Going, going, is_end, with_before, with_behind, with_none}
 use Rattle.jsonc_edit.proofs.lemmas.remove.Parted.{apart_behind, follows, no_bare_begin, no_bare_between, no_bare_end, none_reversed, root_parts, shown_apart, state, value_parts, Apart, Parts}
-use Rattle.jsonc_edit.proofs.lemmas.remove.Places.{after_in, before_in, row_split}
+use Rattle.jsonc_edit.proofs.lemmas.remove.Places.{before_in, row_split}
 use Rattle.jsonc_edit.proofs.lemmas.remove.Spaces.{due_parts}
 use Rattle.jsonc_edit.proofs.lemmas.remove.Stretches.{contents, near_of, Near}
 

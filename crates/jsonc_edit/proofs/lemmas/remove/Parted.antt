@@ -1,12 +1,11 @@
 -- Where commas may not be missing, no space is due where an element leaves, or a comment.
-use Rattle.std.proofs.Common.{◌≡◌, ◌∙◌, sym, ap, subst, refl, ℕ, ◌+◌, ◌==◌, Bool, true, false, not, ◌&&◌, ◌||◌, cond, inl, inr, List, [], ◌∷◌, ◌++◌, reverse, take, drop, Option, Some, None, IsTrue, if◌then◌else◌}
+use Rattle.std.proofs.Common.{◌≡◌, ◌∙◌, sym, ap, subst, refl, ℕ, ◌==◌, Bool, true, false, not, ◌&&◌, ◌||◌, cond, inl, inr, List, [], ◌∷◌, ◌++◌, reverse, Option, Some, None, IsTrue}
 use Rattle.std.proofs.lemmas.Bool.{cases_Bool}
-use Rattle.std.proofs.lemmas.List.{append_assoc, reverse-append, reverse-reverse}
+use Rattle.std.proofs.lemmas.List.{reverse-append, reverse-reverse}
 use Rattle.std.proofs.lemmas.List.Folds.{find-append}
 use Rattle.std.specs.List.{find}
 use Rattle.std.specs.Option.{option_or}
 use Rattle.jsonc_text.specs.Options.{Options}
-use Rattle.jsonc_tree.specs.Content as content
 use Rattle.jsonc_tree.specs.Content.{Content, property, token}
 use Rattle.jsonc_tree.specs.OrderedTree.{OrderedTree, none, more, Shows, shows_none, shows_more}
 use Rattle.jsonc_tree.specs.Tree.{Node, children_at, content_at}
@@ -14,7 +13,7 @@ use Rattle.jsonc_layout.specs.nodes.Kinds.{is_element, is_element_at, is_trivia}
 use Rattle.jsonc_layout.specs.lines.Kinds.{is_comma}
 use Rattle.jsonc_sound.specs.Alone as alone
 use Rattle.jsonc_sound.specs.Alone.{may_stand, PartAlone, PropertyAlone, RootAlone, RowAlone, ValueAlone}
-use Rattle.jsonc_sound.specs.Rows.{Last, RowKind, closing, nothing_yet, an_element, a_comma}
+use Rattle.jsonc_sound.specs.Rows.{Last, RowKind, nothing_yet, an_element, a_comma}
 use Rattle.jsonc_sound.specs.Shape as trivia
 use Rattle.jsonc_sound.specs.Shape.{IsLiteralBefore, IsNameBefore, IsTrivia, Trivia}
 use Rattle.jsonc_sound.specs.Spaces.{is_bare}
