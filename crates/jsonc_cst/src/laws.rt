@@ -1,8 +1,34 @@
 //! Laws of documents: each is the contract of a function that does nothing.
 
+ghost use Rattle.std.specs.Prelude.{ℕ, Bool, List, Option};
 ghost use Rattle.jsonc_text.specs.Options.{Options};
+ghost use Rattle.jsonc_text.specs.Plain.{Plain};
+ghost use Rattle.jsonc_tree.specs.Content.{Content};
 ghost use Rattle.jsonc_tree.specs.OrderedTree.{OrderedTree};
+ghost use Rattle.jsonc_edit.specs.declared.modes.TrailingCommaMode.{TrailingCommaMode};
+ghost use Rattle.jsonc_insert.specs.declared.named.shape.Over.{Over};
+ghost use Rattle.jsonc_sort.specs.Sorting.{Headers};
+ghost use Rattle.jsonc_cst.specs.declared.cst.CstRootNode.{CstRootNode};
+ghost use Rattle.jsonc_cst.specs.declared.cst.node.CstArray.{CstArray};
+ghost use Rattle.jsonc_cst.specs.declared.cst.node.CstNode.{CstNode};
+ghost use Rattle.jsonc_cst.specs.declared.cst.node.CstObject.{CstObject};
+ghost use Rattle.jsonc_cst.specs.declared.cst.node.CstObjectProp.{CstObjectProp};
+ghost use Rattle.jsonc_cst.specs.Document.{nodes_of};
+ghost use Rattle.jsonc_cst.specs.Nodes.{number_of, object_prop_node};
 ghost use Rattle.jsonc_cst.specs.Values.{GivesTheValue};
+ghost use Rattle.jsonc_cst.specs.objects.Members.{HasNamedComeIn};
+ghost use Rattle.jsonc_cst.specs.objects.Named.{HasEnsuredArray, HasEnsuredObject};
+ghost use Rattle.jsonc_cst.specs.sorting.Sorted.{IsPlaced};
+ghost use Rattle.jsonc_cst.specs.typed.Calls.{IsCallIf, IsRootCallIf, LoneRemovalIsCall, RemovalIsCall};
+ghost use Rattle.jsonc_cst.specs.typed.Commas.{HasSetCommas, HasSetCommasInPart};
+ghost use Rattle.jsonc_cst.specs.typed.Edits.{HasGivenWay, IsUntouched, StaysAsItWas};
+ghost use Rattle.jsonc_cst.specs.typed.Inserting.{HasComeIn};
+ghost use Rattle.jsonc_cst.specs.typed.Lines.{HasSpreadOut};
+ghost use Rattle.jsonc_cst.specs.typed.Raw.{HasBecome};
+ghost use Rattle.jsonc_cst.specs.typed.Removing.{IsCleared};
+ghost use Rattle.jsonc_cst.specs.typed.Setting.{FindsOrCreatesArray, FindsOrCreatesObject, FindsOrSetsArray};
+ghost use Rattle.jsonc_cst.specs.typed.Setting.{FindsOrSetsObject, HasBecomeProperty, RootBecomes};
+ghost use Rattle.jsonc_cst.specs.typed.Values.{HasSetBoolean, NowHolds, NowHoldsArray, NowHoldsObject};
 
 use std::alloc::Allocator;
 
@@ -10,4 +36,55 @@ use std::alloc::Allocator;
 /// the last at the first place: `parse` says that its tree has the shape of the grammar and this value.
 pub fn documents_give_their_value<A: Allocator>()
     ensures { (o : Options) (tree : OrderedTree) → GivesTheValue A o tree }
+{}
+
+/// What typed calls say is what lists of calls are made of: from the clause that each has of the nodes, word
+/// for word, to a call of its node, of which `jsonc_run`'s law of lists speaks. `kept` is what each refusal says,
+/// and `untouched` what is said where nothing changes. A document's nodes are a tree, as
+/// `CstRootNode::nodes_are_tree` tells.
+pub fn typed_calls_are_calls<A: Allocator>()
+    ensures kept { (old new : CstRootNode A) (node : CstNode) → IsCallIf old new node (StaysAsItWas old new) }
+    ensures untouched { (old new : CstRootNode A) (node : CstNode) → IsCallIf old new node (IsUntouched old new) }
+    ensures raw { (old new : CstRootNode A) (node : CstNode) (now : Content)
+        → IsCallIf old new node (HasBecome old new node now) }
+    ensures removed { (old new : CstRootNode A) (node : CstNode) → RemovalIsCall old new node }
+    ensures alone { (old new : CstRootNode A) (node : CstNode) → LoneRemovalIsCall old new node }
+    ensures replaced { (old new : CstRootNode A) (node : CstNode) (v : Plain) (now : CstNode)
+        → IsCallIf old new node (HasGivenWay old new node v now) }
+    ensures property { (old new : CstRootNode A) (node : CstNode) (name : List ℕ) (v : Plain) (now : CstNode)
+        → IsCallIf old new node (HasBecomeProperty old new node name v now) }
+    ensures cleared { (old new : CstRootNode A) → IsRootCallIf old new (IsCleared (nodes_of old) (nodes_of new)) }
+    ensures root { (old new : CstRootNode A) (v : Plain) (now : CstNode)
+        → IsRootCallIf old new (RootBecomes (nodes_of old) (nodes_of new) v now) }
+    ensures object_created { (old new : CstRootNode A) (x : Option CstObject)
+        → IsRootCallIf old new (FindsOrCreatesObject (nodes_of old) (nodes_of new) x) }
+    ensures object_set { (old new : CstRootNode A) (x : CstObject)
+        → IsRootCallIf old new (FindsOrSetsObject (nodes_of old) (nodes_of new) x) }
+    ensures array_created { (old new : CstRootNode A) (x : Option CstArray)
+        → IsRootCallIf old new (FindsOrCreatesArray (nodes_of old) (nodes_of new) x) }
+    ensures array_set { (old new : CstRootNode A) (x : CstArray)
+        → IsRootCallIf old new (FindsOrSetsArray (nodes_of old) (nodes_of new) x) }
+    ensures value { (old new : CstRootNode A) (p : CstObjectProp) (v : Plain) (now : CstNode)
+        → IsCallIf old new (object_prop_node p) (NowHolds old new (object_prop_node p) v now) }
+    ensures object_held { (old new : CstRootNode A) (p : CstObjectProp) (x : CstObject)
+        → IsCallIf old new (object_prop_node p) (NowHoldsObject old new (object_prop_node p) x) }
+    ensures array_held { (old new : CstRootNode A) (p : CstObjectProp) (x : CstArray)
+        → IsCallIf old new (object_prop_node p) (NowHoldsArray old new (object_prop_node p) x) }
+    ensures boolean { (old new : CstRootNode A) (node : CstNode) (b : Bool)
+        → IsCallIf old new node (HasSetBoolean old new node b) }
+    ensures lines { (old new : CstRootNode A) (node : CstNode) → IsCallIf old new node (HasSpreadOut old new node) }
+    ensures element { (old new : CstRootNode A) (node : CstNode) (i : ℕ) (v : Plain) (now : CstNode)
+        → IsCallIf old new node (HasComeIn old new node i v now) }
+    ensures named { (old new : CstRootNode A) (node : CstNode) (i : ℕ) (name : List ℕ) (v : Plain) (now : CstObjectProp)
+        → IsCallIf old new node (HasNamedComeIn old new node i name v now) }
+    ensures object_named { (old new : CstRootNode A) (node : CstNode) (how : Over) (name : List ℕ) (x : Option CstObject)
+        → IsCallIf old new node (HasEnsuredObject old new how node name x) }
+    ensures array_named { (old new : CstRootNode A) (node : CstNode) (how : Over) (name : List ℕ) (x : Option CstArray)
+        → IsCallIf old new node (HasEnsuredArray old new how node name x) }
+    ensures commas { (old new : CstRootNode A) (node : CstNode) (mode : TrailingCommaMode)
+        → IsCallIf old new node (HasSetCommas old new mode node) }
+    ensures some_commas { (old new : CstRootNode A) (node : CstNode) (mode : TrailingCommaMode)
+        → IsCallIf old new node (HasSetCommasInPart old new mode node) }
+    ensures sorted { (old new : CstRootNode A) (node : CstNode) (h : Headers) (order : List ℕ)
+        → IsCallIf old new node (IsPlaced (nodes_of old) (nodes_of new) (number_of node) h order) }
 {}

@@ -204,7 +204,7 @@ module _ (ns : List Node) (tree : IsTree ns) where
         let here_is : get_or first k 0 ≡ get_or cs (from + k) 0 = get_or-between cs from place k 0 (omega (arith, low)) in
         subst (λ m. IsTrue (is_gap_at ns m)) (sym here_is) (between_gap (from + k) (omega arith) low))
 
-    trivia_gone : IsTrue (is_comment_at ns n) → AreTrivia (map (content_at ns) gone)
+    pub trivia_gone : IsTrue (is_comment_at ns n) → AreTrivia (map (content_at ns) gone)
     trivia_gone h =
         are_trivia ns gone (λ k l.
         let le : from ≤ place = from_before in

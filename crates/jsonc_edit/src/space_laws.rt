@@ -7,6 +7,7 @@ ghost use Rattle.jsonc_tree.specs.Content.{Content};
 ghost use Rattle.jsonc_tree.specs.Tree.{Node};
 ghost use Rattle.jsonc_edit.specs.SpaceLaws.{KeepsElements, NoneDueAround, PutsSpace};
 ghost use Rattle.jsonc_edit.specs.Meeting.{NearestTell, NoneDueWithCommas};
+ghost use Rattle.jsonc_edit.specs.remove.Laws.{CommentWantsNone, ElementWantsNone};
 
 /// A space that is put before an element, behind another child, has come into the document there, and
 /// nothing else has.
@@ -29,4 +30,11 @@ pub fn no_further_space_is_due()
 pub fn nearest_tell()
     ensures meet { (o : Options) (ns : List Node) → NearestTell o ns }
     ensures none { (o : Options) (ns : List Node) → o.missing_commas ≡ false → NoneDueWithCommas o ns }
+{}
+
+/// So in a sound document in which commas may not be missing no space is due where a value, a property, a
+/// name or a comment leaves: what a removal wants memory for is never so, and it is not refused for it.
+pub fn removals_want_no_memory()
+    ensures element { (o : Options) (ns : List Node) (n : ℕ) → ElementWantsNone o ns n }
+    ensures comment { (o : Options) (ns : List Node) (n : ℕ) → CommentWantsNone o ns n }
 {}

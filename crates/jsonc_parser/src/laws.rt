@@ -10,13 +10,17 @@
 //!
 //! Edits that are made are named in the document before them, one after another ([`edits_make_steps`]), and
 //! have their place exactly where the document's value has it ([`places_are_named`]). No call moves a node
-//! from one parent to another, and behind any list of calls the nodes are a tree ([`calls_keep_parents`]).
-//! Where commas may not be missing no space is due where children leave, so no memory is wanted for it
-//! ([`nearest_tell`]).
+//! from one parent to another, and behind any list of calls the nodes are a tree; calls that are refused, or
+//! of nodes that do not stand in the document, leave it as it was ([`calls_keep_parents`]); and what each call
+//! of a typed node says is such a call ([`typed_calls_are_calls`]).
+//! Where commas may not be missing no space is due where children leave ([`nearest_tell`]), so a removal from
+//! a sound document wants no memory, of a value, a property or a comment ([`removals_want_no_memory`]).
 //!
 //! The groups of a sort keep their places ([`groups_keep_their_places`], [`blank_lines_part_groups`]); a
-//! sorted row has each comment and each element once ([`sorted_rows_keep_their_nodes`]); and a second sort
-//! changes no byte ([`second_sorts_change_no_byte`], [`second_sorts_by_key_change_no_byte`]).
+//! sorted row has each comment and each element once ([`sorted_rows_keep_their_nodes`]), and so has the sorted
+//! container, with its brackets, while comments deeper stand where they stood
+//! ([`sorted_containers_keep_their_children`]); and a second sort changes no byte
+//! ([`second_sorts_change_no_byte`], [`second_sorts_by_key_change_no_byte`]).
 
 pub use crate::paths::laws::{
     each_node_stands_at_its_place, names_lead_over_nodes, nodes_have_their_values,
@@ -24,15 +28,15 @@ pub use crate::paths::laws::{
     what_is_read_stands_at_paths, what_stands_can_leave, what_was_put_stands_there,
     worked_equal_names,
 };
-pub use jsonc_cst::laws::documents_give_their_value;
+pub use jsonc_cst::laws::{documents_give_their_value, typed_calls_are_calls};
 pub use jsonc_cst::sorted::laws::{
     blank_lines_part_groups, groups_keep_their_places, second_sorts_by_key_change_no_byte,
     second_sorts_change_no_byte,
 };
-pub use jsonc_edit::space_laws::nearest_tell;
+pub use jsonc_edit::space_laws::{nearest_tell, removals_want_no_memory};
 pub use jsonc_run::laws::{
     calls_keep_parents, edits_make_steps, names_are_those_of_values, places_are_named,
-    sorted_rows_keep_their_nodes,
+    sorted_containers_keep_their_children, sorted_rows_keep_their_nodes,
 };
 pub use jsonc_run::promise::laws::{runs_join, shown_are_documents};
 pub use jsonc_text::laws::{around_is_within_twice_depth, one_value};

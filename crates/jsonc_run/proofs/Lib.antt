@@ -21,4 +21,6 @@ pub mod Numbered
 pub mod Marking
 pub mod Steps
 pub mod Parents
+pub mod Elsewhere
+pub mod Calls
 pub mod lemmas

@@ -5,17 +5,11 @@ use Rattle.std.proofs.lemmas.List.Edits.{between_none}
 use Rattle.jsonc_text.specs.Plain.{Plain}
 use Rattle.jsonc_tree.specs.Building.{Keeps}
 use Rattle.jsonc_tree.specs.Changes.{Appends, CanJoin, IsFree, Splices}
-use Rattle.jsonc_tree.specs.Content.{Content}
 use Rattle.jsonc_tree.specs.OrderedTree.{Top}
-use Rattle.jsonc_tree.proofs.Builder.{Keeps-same}
-use Rattle.jsonc_tree.specs.Tree.{Node, children_at, content_at, parent_at, place_at, is_in, IsTree}
+use Rattle.jsonc_tree.specs.Tree.{Node, children_at, parent_at, place_at, is_in, IsTree}
 use Rattle.jsonc_tree.proofs.Order.{parent_there}
 use Rattle.jsonc_tree.proofs.Splicing.{in_where}
 use Rattle.jsonc_tree.proofs.Stretches.{take_in}
-use Rattle.jsonc_layout.specs.nodes.Properties.{value_at}
-use Rattle.jsonc_edit.specs.Paths as paths
-use Rattle.jsonc_edit.specs.Paths.{IsElementOf, LeadsTo}
-use Rattle.jsonc_edit.proofs.Uniqueness.{element_parent}
 use Rattle.jsonc_edit.specs.Put.{AreSpaced, Prepared}
 use Rattle.jsonc_edit.specs.Comments.{IsTakenOut}
 use Rattle.jsonc_edit.specs.Replacing.{GivesWay, GivesWayRaw, TakesPlace}
@@ -24,24 +18,15 @@ use Rattle.jsonc_edit.proofs.TakingOut.{parents_spaced}
 use Rattle.jsonc_edit.specs.declared.modes.TrailingCommaMode.{TrailingCommaMode}
 use Rattle.jsonc_edit.specs.declared.modes.TrailingCommaMode.TheVariants.{Never, IfMultiline}
 use Rattle.jsonc_edit.specs.commas.Commas.{comma_gone, comma_wanted_behind, GainsIt, LosesIt}
-use Rattle.jsonc_edit.specs.commas.InTurn.{AreSetInPart, AreSetInTurn}
+use Rattle.jsonc_edit.specs.commas.InTurn.{holders, AreSetInTurn}
 use Rattle.jsonc_edit.specs.multiline.Multiline.{has_line_end, MadeMultiline, TakesRow}
 use Rattle.jsonc_edit.specs.multiline.Slots.{Slot}
 use Rattle.jsonc_edit.specs.remove.Removed.{is_hollow, IsClosedUp, IsTakenFrom, LosesChild}
 use Rattle.jsonc_edit.specs.set.Booleans.{BooleanSet}
-use Rattle.jsonc_edit.specs.set.Kinds.{FoundOrCreated, FoundOrSet, KeptOrReplaced}
-use Rattle.jsonc_edit.specs.set.PropertyValues.{HeldOrSet, LastValue}
+use Rattle.jsonc_edit.specs.set.PropertyValues.{LastValue}
 use Rattle.jsonc_sort.specs.Rearranged.{moves, Rearranged}
 use Rattle.jsonc_sort.specs.Sorting.{Headers}
-use Rattle.jsonc_insert.specs.declared.named.shape.Over.{Over}
-use Rattle.jsonc_insert.specs.declared.named.shape.Over.TheVariants as over
-use Rattle.jsonc_insert.specs.declared.named.shape.Shape.{Shape}
-use Rattle.jsonc_insert.specs.named.Named.{EnsuredFor}
-use Rattle.jsonc_insert.specs.named.Shapes.{is_of, empty_of}
-use Rattle.jsonc_run.specs.Edits.{Operation, replace, remove, remove_comment, set_root, clear_root, replace_property, ensure_root, set_value, ensure_value, set_boolean, ensure_multiline, insert_element, append_element, insert_property, append_property, ensure_property, set_commas, set_some_commas, rearrange, PropertyValueSet, RootEnsured, RootSet}
-use Rattle.jsonc_run.specs.Places.{IsEntryAt, an_entry, in_array, in_object, the_value}
-use Rattle.jsonc_run.specs.Refusals.{as_it_was, set_in_part}
-use Rattle.jsonc_run.specs.Parents.{IsCall, all_stay, leaf_set, children_leave, gives_way, gives_way_raw, property_gives_way, comment_leaves, element_leaves, first_comes, last_comes, boolean_set, comes_on_lines, element_comes, property_comes, commas_set, sorted, no_call, next_call, CallKeepsParents, CallsKeepParents, EditIsCall, RefusalIsCall, StaysWithItsNodes}
+use Rattle.jsonc_run.specs.Parents.{IsCall, all_stay, leaf_set, leaf_leaves, children_leave, gives_way, gives_way_raw, property_gives_way, comment_leaves, element_leaves, first_comes, last_comes, boolean_set, comes_on_lines, element_comes, property_comes, commas_set, some_commas_set, sorted, no_call, next_call, CallKeepsParents, CallsKeepParents, StaysWithItsNodes}
 
 -- what had a parent has it still
 record Holds (old new : List Node) : Type 0 where
@@ -268,128 +253,56 @@ loses_commas Never all old new tree set = lets_loses old new (lets_commas all ol
 loses_commas IfMultiline all old new tree set = just_held old new (held_commas all old new tree set)
 
 -- each call by what it is
-loses_by : (old new : List Node) → IsTree old → IsCall old new → Loses old new
-loses_by old new tree (all_stay k) = just_held old new (held_kept old new tree k)
-loses_by old new tree (leaf_set leaf now b) = just_held old new (record { len = omega (arith, b.len); parent = λ n c said. b.parent n ∙ said })
-loses_by old new tree (children_leave c i j s) = lets_loses old new (lets_left old new c i j s)
-loses_by old new tree (gives_way n m v (c, said, g)) = loses_given old new tree n m _ g
-loses_by old new tree (gives_way_raw n m v (c, said, g)) = loses_raw old new tree n m _ g
-loses_by old new tree (property_gives_way n m name v (c, said, g)) = loses_place old g.ready g.spaced new tree g.prepared _ g.spaces n m _ g.place
-loses_by old new tree (comment_leaves n c said t) = loses_comment old new tree n c said t
-loses_by old new tree (element_leaves n c t) = loses_element old new tree n c t
-loses_by old new tree (first_comes v m f) = loses_row old f.ready new tree f.prepared _ _ _ _ f.join f.put
-loses_by old new tree (last_comes p m v l) = loses_last old new tree p m v l
-loses_by old new tree (boolean_set n b s) = loses_boolean old new tree n b s
-loses_by old new tree (comes_on_lines c made) = loses_lines old new tree c made
-loses_by old new tree (element_comes c i m v e) = loses_row old e.ready new tree e.prepared _ _ _ _ e.join e.put
-loses_by old new tree (property_comes c i m name v e) =
+loses_by : (old new : List Node) (n : ℕ) → IsTree old → IsCall old new n → Loses old new
+loses_by old new _ tree (all_stay n k) = just_held old new (held_kept old new tree k)
+loses_by old new _ tree (leaf_set leaf now b) = just_held old new (record { len = omega (arith, b.len); parent = λ n c said. b.parent n ∙ said })
+loses_by old new _ tree (leaf_leaves n c said s) = lets_loses old new (lets_left old new c _ _ s)
+loses_by old new _ tree (children_leave c i j s) = lets_loses old new (lets_left old new c i j s)
+loses_by old new _ tree (gives_way n m v (c, said, g)) = loses_given old new tree n m _ g
+loses_by old new _ tree (gives_way_raw n m v (c, said, g)) = loses_raw old new tree n m _ g
+loses_by old new _ tree (property_gives_way n m name v (c, said, g)) = loses_place old g.ready g.spaced new tree g.prepared _ g.spaces n m _ g.place
+loses_by old new _ tree (comment_leaves n c said t) = loses_comment old new tree n c said t
+loses_by old new _ tree (element_leaves n c said t) = loses_element old new tree n c t
+loses_by old new _ tree (first_comes v m f) = loses_row old f.ready new tree f.prepared _ _ _ _ f.join f.put
+loses_by old new _ tree (last_comes p m v l) = loses_last old new tree p m v l
+loses_by old new _ tree (boolean_set n b s) = loses_boolean old new tree n b s
+loses_by old new _ tree (comes_on_lines c made) = loses_lines old new tree c made
+loses_by old new _ tree (element_comes c i m v e) = loses_row old e.ready new tree e.prepared _ _ _ _ e.join e.put
+loses_by old new _ tree (property_comes c i m name v e) =
     held_loses old e.lined new (held_ready old e.lined tree e.before.opens.prepared)
     (loses_row e.lined e.ready new e.before.opens.prepared.tree e.prepared _ _ _ _ e.join e.put)
-loses_by old new tree (commas_set mode all set) = loses_commas mode all old new tree set
-loses_by old new tree (sorted c h order made) = loses_order old new tree c h order made
+loses_by old new _ tree (commas_set mode n set) = loses_commas mode (holders old n) old new tree set
+loses_by old new _ tree (some_commas_set mode n part) = loses_commas mode part.done old new tree part.set
+loses_by old new _ tree (sorted c h order made) = loses_order old new tree c h order made
 
-pub call_keeps_parents : (old new : List Node) → CallKeepsParents old new
-call_keeps_parents old new tree after call =
-    let l = loses_by old new tree call in
+pub call_keeps_parents : (old new : List Node) (n : ℕ) → CallKeepsParents old new n
+call_keeps_parents old new n tree after call =
+    let l = loses_by old new call.at tree call.is in
     record {
       len = l.len;
-      parent = λ n c said. elim (l.parent n c said) [
+      parent = λ k c said. elim (l.parent k c said) [
         | inl same ↦ inl same
-        | inr none ↦ inr (none, after.alone n none)
+        | inr none ↦ inr (none, after.alone k none)
       ];
     }
 
 -- and one after another
 pub calls_keep_parents : (old new : List Node) → CallsKeepParents old new
 calls_keep_parents old _ tree no_call = record { tree = tree; len = omega arith; parent = λ n c said. inl said }
-calls_keep_parents old new tree (next_call {now = now} call after rest) =
-    let one = call_keeps_parents old now tree after call in
+calls_keep_parents old new tree (next_call {now = now} k any call after rest) =
+    let one = call_keeps_parents old now k tree after call in
     let more = calls_keep_parents now new after rest in
     record {
       tree = more.tree;
       len = omega (arith, one.len, more.len);
       parent = λ n c said. elim (one.parent n c said) [
-        | inr loose ↦ inr (now, next_call call after no_call, loose, rest)
+        | inr loose ↦ inr (now, next_call k any call after no_call, loose, rest)
         | inl same ↦ elim (more.parent n c same) [
           | inl still ↦ inl still
-          | inr (mid, before, loose, later) ↦ inr (mid, next_call call after before, loose, later)
+          | inr (mid, before, loose, later) ↦ inr (mid, next_call k any call after before, loose, later)
         ]
       ];
     }
 
 pub stays_with_its_nodes : (old new : List Node) → StaysWithItsNodes old new
 stays_with_its_nodes old new tree after k = tree_stays old new tree k after
-
--- edits that are made are calls
-is_same : (old new : List Node) → new ≡ old → IsCall old new
-is_same old new e = all_stay (subst (Keeps (length old) old) (sym e) (Keeps-same (length old) old))
-
-kept_or_replaced : (old new : List Node) (v : Plain) (n m : ℕ) (b : Bool) → KeptOrReplaced b v old new n m → IsCall old new
-kept_or_replaced old new v n m true (same, untouched) = is_same old new untouched
-kept_or_replaced old new v n m false given = gives_way n m v given
-
-found_or_created : (kind : Content → Bool) (v : Plain) (old new : List Node) (o answer : Option ℕ) → FoundOrCreated kind v old new o answer → IsCall old new
-found_or_created kind v old new None answer (m, told, first) = first_comes v m first
-found_or_created kind v old new (Some n) answer (told, untouched) = is_same old new untouched
-
-found_or_set : (kind : Content → Bool) (v : Plain) (old new : List Node) (o : Option ℕ) (m : ℕ) → FoundOrSet kind v old new o m → IsCall old new
-found_or_set kind v old new None m first = first_comes v m first
-found_or_set kind v old new (Some n) m set = kept_or_replaced old new v n m (kind (content_at old n)) set
-
-held_or_set : (kind : Content → Bool) (v : Plain) (old new : List Node) (p : ℕ) (o : Option ℕ) (m : ℕ) → HeldOrSet kind v old new p o m → IsCall old new
-held_or_set kind v old new p None m last = last_comes p m v last
-held_or_set kind v old new p (Some n) m set = kept_or_replaced old new v n m (kind (content_at old n)) set
-
-root_set : (old new : List Node) (v : Plain) (o : Option ℕ) → RootSet old new v o → IsCall old new
-root_set old new v None (m, first) = first_comes v m first
-root_set old new v (Some n) (m, given) = gives_way n m v given
-
-value_set : (old new : List Node) (r : ℕ) (v : Plain) (o : Option ℕ) → PropertyValueSet old new r v o → IsCall old new
-value_set old new r v None (m, last) = last_comes r m v last
-value_set old new r v (Some n) (m, given) = gives_way n m v given
-
-root_ensured : (old new : List Node) (shape : Shape) (how : Over) → RootEnsured shape how old new → IsCall old new
-root_ensured old new shape over.Keep (answer, found) = found_or_created (is_of shape) (empty_of shape) old new (value_at old 0) answer found
-root_ensured old new shape over.Replace (m, found) = found_or_set (is_of shape) (empty_of shape) old new (value_at old 0) m found
-
-named_ensured : (old new : List Node) (c : ℕ) (name : List ℕ) (shape : Shape) (how : Over) (found answer : Option ℕ) → EnsuredFor shape how old new c name found answer → IsCall old new
-named_ensured old new c name shape how None answer (m, told, comes) = property_comes c _ comes.property name (empty_of shape) comes.put
-named_ensured old new c name shape over.Keep (Some r) answer (told, untouched) = is_same old new untouched
-named_ensured old new c name shape over.Replace (Some r) answer (m, told, set) = held_or_set (is_of shape) (empty_of shape) old new r (value_at old r) m set.1
-
-some_commas : (mode : TrailingCommaMode) (old new : List Node) (all : List ℕ) → AreSetInPart mode old all new → IsCall old new
-some_commas mode old new all part = commas_set mode part.done part.set
-
--- an entry of a path has a parent
-entry_parent : (ns : List Node) → IsTree ns → (path : List ℕ) (n : ℕ) → IsEntryAt ns path n → (c : ℕ) × (parent_at ns n ≡ Some c)
-entry_parent ns tree _ n (the_value at) = value_parent n at.0 at.1 at.2
-  where
-    value_parent : (n v : ℕ) → IsElementOf ns 0 0 v → LeadsTo ns n v [] → (c : ℕ) × (parent_at ns n ≡ Some c)
-    value_parent n _ e paths.itself = (0, element_parent ns tree 0 0 n e)
-entry_parent ns tree _ n (an_entry front c i at (in_array is e)) = (c, element_parent ns tree c i n e)
-entry_parent ns tree _ n (an_entry front c i at (in_object p)) = (c, element_parent ns tree c i n p.element)
-
-pub edit_is_call : (old : List Node) (e : Operation) (new : List Node) → EditIsCall old e new
-edit_is_call old (replace path v) new tree (n, m, at, given) = gives_way n m v given
-edit_is_call old (remove path) new tree (n, at, takes) = let (c, said) = entry_parent old tree path n at in element_leaves n c (takes c said).1
-edit_is_call old (remove_comment number) new tree (n, is, taken) = comment_leaves n taken.container taken.parent taken.taken
-edit_is_call old (set_root v) new tree set = root_set old new v (value_at old 0) set
-edit_is_call old clear_root new tree s = children_leave 0 0 _ s
-edit_is_call old (replace_property path name v) new tree (n, m, at, given) = property_gives_way n m name v given
-edit_is_call old (ensure_root shape how) new tree ensured = root_ensured old new shape how ensured
-edit_is_call old (set_value path v) new tree (r, at, set) = value_set old new r v (value_at old r) set
-edit_is_call old (ensure_value path shape) new tree (r, at, (named, m, set)) = held_or_set (is_of shape) (empty_of shape) old new r (value_at old r) m set
-edit_is_call old (set_boolean path b) new tree (n, at, set) = boolean_set n b set
-edit_is_call old (ensure_multiline path) new tree (n, at, made) = comes_on_lines n made
-edit_is_call old (insert_element path i v) new tree (n, m, at, put) = element_comes n i m v put
-edit_is_call old (append_element path v) new tree (n, m, at, put) = element_comes n _ m v put
-edit_is_call old (insert_property path i name v) new tree (n, m, at, put) = property_comes n i m name v put
-edit_is_call old (append_property path name v) new tree (n, m, at, put) = property_comes n _ m name v put
-edit_is_call old (ensure_property path name shape how) new tree (n, m, at, (found, first, by)) = named_ensured old new n name shape how found m by
-edit_is_call old (set_commas path mode) new tree (n, at, set) = commas_set mode _ set
-edit_is_call old (set_some_commas path mode) new tree (n, at, part) = some_commas mode old new _ part
-edit_is_call old (rearrange path headers order) new tree (n, at, is, made) = sorted n headers order made
-
-pub refusal_is_call : (old : List Node) (e : Operation) (new : List Node) → RefusalIsCall old e new
-refusal_is_call old e new tree (as_it_was keeps same) = all_stay keeps
-refusal_is_call old _ new tree (set_in_part {mode = mode} n at part) = some_commas mode old new _ part

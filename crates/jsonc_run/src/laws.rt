@@ -1,15 +1,15 @@
 //! Laws of lists of edits: each is the contract of a function that does nothing.
-ghost use Rattle.std.specs.Prelude.{◌≡◌, List};
+ghost use Rattle.std.specs.Prelude.{◌≡◌, ℕ, List};
 ghost use Rattle.jsonc_text.specs.Options.{Options};
 ghost use Rattle.jsonc_tree.specs.Tree.{IsTree, Node};
 ghost use Rattle.jsonc_run.specs.Edits.{AreMade, Operation};
 ghost use Rattle.jsonc_run.specs.Named.{PlacesAreNamed};
 ghost use Rattle.jsonc_run.specs.Parents.{CallKeepsParents, CallsKeepParents, EditIsCall, RefusalIsCall};
-ghost use Rattle.jsonc_run.specs.Parents.{StaysWithItsNodes};
+ghost use Rattle.jsonc_run.specs.Parents.{CallStaysApart, CallsStayApart, StaysWithItsNodes};
 ghost use Rattle.jsonc_run.specs.Steps.{MakesSteps};
 
 pub use jsonc_insert::named::laws::names_are_those_of_values;
-pub use jsonc_sort::laws::sorted_rows_keep_their_nodes;
+pub use jsonc_sort::laws::{sorted_containers_keep_their_children, sorted_rows_keep_their_nodes};
 
 /// Where edits have their place: in a sound document the nodes have what an edit needs at its path exactly
 /// where the document's value has it there, whatever that is, a value, a truth value, an array, an object
@@ -29,11 +29,15 @@ pub fn edits_make_steps()
 /// No call, raw or structured, by a path or by the number of a node, made or refused, moves a node from one
 /// parent to another: what had a parent has it still, or is nobody's child, at place 0. So behind any list of
 /// calls the nodes are a tree, and what has another parent than it had was nobody's child between two of them.
-/// A call that changes no node that was there leaves the document.
+/// A call that changes no node that was there leaves the document, as a refusal, and so does a call of a node
+/// that does not stand in the document, and any list of such calls, so it prints what it did. An edit, made or
+/// refused, is a call of the document; where trailing commas were refused those of the first may be set.
 pub fn calls_keep_parents()
-    ensures one { (old new : List Node) → CallKeepsParents old new }
+    ensures one { (old new : List Node) (n : ℕ) → CallKeepsParents old new n }
     ensures list { (old new : List Node) → CallsKeepParents old new }
     ensures document { (old new : List Node) → StaysWithItsNodes old new }
+    ensures apart { (old new : List Node) (n : ℕ) → CallStaysApart old new n }
+    ensures quiet { (old new : List Node) → CallsStayApart old new }
     ensures edit { (old : List Node) (e : Operation) (new : List Node) → EditIsCall old e new }
     ensures refused { (old : List Node) (e : Operation) (new : List Node) → RefusalIsCall old e new }
 {}

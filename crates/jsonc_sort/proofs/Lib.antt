@@ -18,6 +18,7 @@ pub mod Reading
 pub mod Entering
 pub mod Orders
 pub mod Taking
+pub mod KeptChildren
 pub mod AtPaths
 pub mod SortedDocuments
 pub mod LeadPlaces

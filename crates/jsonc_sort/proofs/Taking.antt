@@ -39,16 +39,16 @@ lines_held at P k (s ∷ slots) h =
     (h.0, (tt, lines_held at P k slots h.1)) (h.0, lines_held at P k slots h.1)
 
 -- how often a number stays
-abbrev is_it : ℕ → ℕ → ℕ
+abbrev pub is_it : ℕ → ℕ → ℕ
 is_it n m = cond (n == m) 1 0
 
-it_here : (n m : ℕ) → n ≡ m → is_it n m ≡ 1
+pub it_here : (n m : ℕ) → n ≡ m → is_it n m ≡ 1
 it_here n m e = rw (eq-eqb n m e) refl
 
-it_other : (n m : ℕ) → n ≢ m → is_it n m ≡ 0
+pub it_other : (n m : ℕ) → n ≢ m → is_it n m ≡ 0
 it_other n m e = rw (ne_eqb n m e) refl
 
-own_times : (at : ℕ → Content) (n : ℕ) (row : List ℕ) → own at (is_it n) row ≡ times n row
+pub own_times : (at : ℕ → Content) (n : ℕ) (row : List ℕ) → own at (is_it n) row ≡ times n row
 own_times at n [] = refl
 own_times at n (m ∷ row) =
     elim (cases_eq n m) [
@@ -56,7 +56,7 @@ own_times at n (m ∷ row) =
       | inr e ↦ omega (arith, own_times at n row, it_other n m e, times_other n m row e)
     ]
 
-filled_times : (old now : List Node) (at : ℕ → Content) (n : ℕ) → n < length old → (slots : List Slot) (row : List ℕ) → AreFilled old now slots row → times n row ≡ total at (is_it n) slots
+pub filled_times : (old now : List Node) (at : ℕ → Content) (n : ℕ) → n < length old → (slots : List Slot) (row : List ℕ) → AreFilled old now slots row → times n row ≡ total at (is_it n) slots
 filled_times old now at n h _ _ no_more = refl
 filled_times old now at n h _ _ (stayed {n = m} {slots = slots} {row = row} rest) =
     elim (cases_eq n m) [

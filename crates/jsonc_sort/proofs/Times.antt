@@ -17,7 +17,7 @@ times_more n m row =
       | inr e ↦ omega (arith, times_other n m row e)
     ]
 
-found : (row : List ℕ) (k : ℕ) → k < length row → 1 ≤ times (slice_index row k) row
+pub found : (row : List ℕ) (k : ℕ) → k < length row → 1 ≤ times (slice_index row k) row
 found [] k h = absurd (omega arith)
 found (x ∷ row) zero h = omega (arith, times_here x x row refl)
 found (x ∷ row) (suc k) h = omega (arith, found row k (omega arith), times_more (slice_index row k) x row)

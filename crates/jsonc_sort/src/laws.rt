@@ -9,6 +9,7 @@ ghost use Rattle.jsonc_sound.specs.Rows.{RowKind};
 ghost use Rattle.jsonc_sort.specs.Laws.{KeepsAllMarks, KeepsLines, KeepsMarks, KeepsNodes, KeepsRow};
 ghost use Rattle.jsonc_sort.specs.Laws.{Sort, SortsItems, SortsMembers, SortsValue, StaysSound};
 ghost use Rattle.jsonc_sort.specs.Paths.{FewStay, KeepsOutside, SortedAt, SortsAt, SortsDocument};
+ghost use Rattle.jsonc_sort.specs.Rearranged.{SortsChildren};
 ghost use Rattle.jsonc_sort.specs.Sorting.{Headers};
 ghost use Rattle.jsonc_sort.specs.Worked.{WorkedDocuments, WorkedHeaders, WorkedSorts};
 
@@ -35,6 +36,13 @@ pub fn worked_documents()
 pub fn sorted_rows_keep_their_nodes()
     ensures nodes { (top : ℕ → Top) (s : Sort) (test : Top → Bool) → KeepsNodes top s test }
     ensures marks { (top : ℕ → Top) (s : Sort) (test : Mark → Bool) → KeepsMarks top s test }
+{}
+
+/// So where the elements of an array or object have come in an order, each comment that stood in it, each
+/// element and each bracket is its child still, and once; and every other node has the children that it had,
+/// so comments deeper stand where they stood. Whitespace, ends of lines and commas alone come or leave.
+pub fn sorted_containers_keep_their_children()
+    ensures { (old new : List Node) (c : ℕ) (h : Headers) (order : List ℕ) → SortsChildren old new c h order }
 {}
 
 /// Its values, or its properties, are those of the row in the order of the sort.

@@ -14,3 +14,4 @@ pub mod Steps
 pub mod Spread
 pub mod ComingIn
 pub mod Trailing
+pub mod Calls

@@ -9,6 +9,9 @@ pub mod Weaving
 pub mod Containers
 pub mod Going
 pub mod Within
+pub mod Parted
+pub mod NoSpace
+pub mod Commented
 pub mod Spaces
 pub mod Settled
 pub mod Trees

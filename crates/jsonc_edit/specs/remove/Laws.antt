@@ -1,10 +1,11 @@
 -- Laws of elements that are taken out: what becomes of the document.
-use Rattle.std.specs.Prelude.{◌≡◌, ℕ, List, Some, None, IsTrue}
+use Rattle.std.specs.Prelude.{◌≡◌, ℕ, false, List, Some, None, IsTrue}
 use Rattle.jsonc_text.specs.Options.{Options}
 use Rattle.jsonc_text.specs.Plain.{Plain}
 use Rattle.jsonc_text.specs.Grammar.{IsDocument}
 use Rattle.jsonc_tree.specs.OrderedTree.{OrderedTree, ordered_tree}
-use Rattle.jsonc_tree.specs.Tree.{Node, content_at, IsTree}
+use Rattle.jsonc_tree.specs.Tree.{Node, content_at, IsOver, IsTree}
+use Rattle.jsonc_layout.specs.nodes.Kinds.{is_comment_at, is_element_at}
 use Rattle.jsonc_layout.specs.lines.Kinds.{holds_values}
 use Rattle.jsonc_sound.specs.Shape.{printed_text}
 use Rattle.jsonc_sound.specs.Rows.{RowKind, container_of}
@@ -15,10 +16,12 @@ use Rattle.jsonc_sound.specs.Marks.{marks}
 use Rattle.jsonc_sound.specs.Leaving.{ElementLeaves, ClosesUp, ValueLeaves, Empties}
 use Rattle.jsonc_sound.specs.EntryLaws.{LosesEntry, LosesMarks, root_with}
 use Rattle.jsonc_edit.specs.Changes.{top_at}
+use Rattle.jsonc_edit.specs.Comments.{WantsSpace}
 use Rattle.jsonc_edit.specs.Paths.{IsAt, IsElementOf}
 use Rattle.jsonc_edit.specs.Spaced.{SpacesPut}
 use Rattle.jsonc_edit.specs.SeamRemovals.{EntryLeavesWithSeams}
-use Rattle.jsonc_edit.specs.remove.Removed.{TakesElement}
+use Rattle.jsonc_edit.specs.declared.error.EditError.TheVariants.{OutOfMemory}
+use Rattle.jsonc_edit.specs.remove.Removed.{IsKeptFor, TakesElement}
 
 -- spaces have come into the document, and then the element of this number has left the container at the path, which has closed up if it may; they stand at
 -- the seams: one or none where a comma before it stood, and one or none where it stood
@@ -80,3 +83,13 @@ pub record IsValueRemoved (o : Options) (top : Top) (t u : OrderedTree) : Type 0
 
 abbrev pub RemovesValue : Options → OrderedTree → OrderedTree → Top → Type 0
 RemovesValue o t u top = SoundTree o t → ValueTaken top t u → IsValueRemoved o top t u
+
+-- In a sound document in which commas may not be missing no space is due where a value, a property or its name leaves: memory is wanted for none.
+abbrev pub ElementWantsNone : Options → List Node → ℕ → Type 0
+ElementWantsNone o ns n =
+    IsTree ns → SoundTree o (ordered_tree ns 0) → o.missing_commas ≡ false → IsOver ns 0 n → IsTrue (is_element_at ns n) → IsKeptFor ns n OutOfMemory → ⊥
+
+-- nor where a comment does
+abbrev pub CommentWantsNone : Options → List Node → ℕ → Type 0
+CommentWantsNone o ns n =
+    IsTree ns → SoundTree o (ordered_tree ns 0) → o.missing_commas ≡ false → IsOver ns 0 n → IsTrue (is_comment_at ns n) → WantsSpace ns n → ⊥

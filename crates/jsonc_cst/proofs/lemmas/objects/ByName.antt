@@ -1,16 +1,12 @@
 -- Values of properties by name: what is answered, what is written, and which nodes stay.
-use Rattle.std.proofs.Common.{◌≡◌, ℕ, ◌<◌, true, List, [], ◌∷◌, length, Option, Some, None, refl, sym, ap, subst, ◌∙◌}
-use Rattle.std.proofs.lemmas.List.{get_or_default}
-use Rattle.std.proofs.lemmas.List.Elements.{All-head, All-tail}
-use Rattle.std.specs.List.{All}
+use Rattle.std.proofs.Common.{◌≡◌, ℕ, ◌<◌, true, List, length, Option, Some, None, refl, sym, ap, ◌∙◌}
 use Rattle.jsonc_text.specs.Options.{Options}
 use Rattle.jsonc_tree.specs.Content as content
 use Rattle.jsonc_tree.specs.Content.{Content, property}
 use Rattle.jsonc_tree.specs.OrderedTree.{ordered_tree}
-use Rattle.jsonc_tree.specs.Tree.{Node, children_at, content_at, parent_at, IsTree}
+use Rattle.jsonc_tree.specs.Tree.{Node, content_at, IsTree}
 use Rattle.jsonc_tree.proofs.Order.{parent_there}
-use Rattle.jsonc_layout.specs.nodes.Names as names
-use Rattle.jsonc_layout.specs.nodes.Names.{FirstInObject, FirstNamed}
+use Rattle.jsonc_layout.specs.nodes.Names.{FirstInObject}
 use Rattle.jsonc_layout.specs.nodes.Properties.{value_at}
 use Rattle.jsonc_edit.specs.declared.error.EditError.{EditError}
 use Rattle.jsonc_insert.specs.declared.named.shape.Over.{Over}
@@ -19,16 +15,18 @@ use Rattle.jsonc_insert.specs.declared.named.shape.Shape.{Shape}
 use Rattle.jsonc_insert.specs.declared.named.shape.Shape.TheVariants.{Object, Array}
 use Rattle.jsonc_insert.specs.named.Named.{EnsuredFor, IsUnensured, NamedEnsured}
 use Rattle.jsonc_insert.specs.named.Shapes.{is_of, empty_of}
-use Rattle.jsonc_insert.proofs.lemmas.named.Writing.{first_named, wants_memory, writes_named}
+use Rattle.jsonc_insert.proofs.lemmas.named.Writing.{wants_memory, writes_named}
 use Rattle.jsonc_cst.specs.typed.Edits.{StaysElsewhere}
 use Rattle.jsonc_cst.specs.typed.Removing.{WantsMemoryAlone}
 use Rattle.jsonc_cst.specs.objects.Named.{NamedIsWritten}
 use Rattle.jsonc_layout.specs.lines.Kinds.{holds_values}
 use Rattle.jsonc_edit.proofs.lemmas.commas.Holders.{holder_path}
-use Rattle.jsonc_cst.proofs.lemmas.typed.Elsewhere.{found_elsewhere, out_down}
+use Rattle.jsonc_run.proofs.Calls.{found_there}
+use Rattle.jsonc_run.proofs.Elsewhere.{out_down, put_elsewhere}
+use Rattle.jsonc_cst.proofs.lemmas.typed.Elsewhere.{found_elsewhere}
 use Rattle.jsonc_cst.proofs.lemmas.typed.Held.{stay_found}
 use Rattle.jsonc_cst.proofs.lemmas.typed.Kept.{Stays, stay_same}
-use Rattle.jsonc_cst.proofs.lemmas.objects.NamedIn.{put_elsewhere, put_stays}
+use Rattle.jsonc_cst.proofs.lemmas.objects.NamedIn.{put_stays}
 
 -- a node of the shape is of the kind
 pub object_kind : (w : Content) → is_of Object w ≡ true → w ≡ content.object
@@ -48,33 +46,13 @@ module _ (old new : List Node) (c : ℕ) (name : List ℕ) (shape : Shape) (how 
   pub named_stays : (answer : Option ℕ) → NamedEnsured shape how old new c name answer → Stays old new
   named_stays answer (found, first, by) = stays_for how found answer by
 
--- the first property of a name is a child of the object
-Child : List Node → ℕ → Option ℕ → Type 0
-Child ns c None = Unit {0}
-Child ns c (Some r) = parent_at ns r ≡ Some c
-
-children_named : (ns : List Node) → IsTree ns → (c : ℕ) → All (λ m. parent_at ns m ≡ Some c) (children_at ns c)
-children_named ns tree c k d l = subst (λ j. parent_at ns j ≡ Some c) (get_or_default (children_at ns c) k 0 d l) (tree.named c k l)
-
-first_child : (ns : List Node) (c : ℕ) (name xs : List ℕ) (found : Option ℕ) → All (λ m. parent_at ns m ≡ Some c) xs → FirstNamed ns name xs found → Child ns c found
-unfolding Child
-first_child ns c name _ _ all names.none = tt
-first_child ns c name _ _ all (names.here {n = n} {rest = rest} is) = All-head (λ m. parent_at ns m ≡ Some c) n rest all
-first_child ns c name _ _ all (names.later {n = n} {rest = rest} {found = found} other f) =
-    first_child ns c name rest found (All-tail (λ m. parent_at ns m ≡ Some c) n rest all) f
-
 -- an object that does not stand in the document leaves the document as it was
 module _ (old new : List Node) (c : ℕ) (name : List ℕ) (shape : Shape) (tree : IsTree old) (after : IsTree new) (there : c < length old) where
-  found_there : (r : ℕ) → FirstInObject old c name (Some r) → (parent_at old r ≡ Some c) × (content_at old r ≡ property)
-  unfolding Child
-  found_there r first =
-      (first_child old c name (children_at old c) (Some r) (children_named old tree c) first, (first_named old name (children_at old c) (Some r) r refl first).0)
-
   elsewhere_for : (h : Over) (found answer : Option ℕ) → FirstInObject old c name found → EnsuredFor shape h old new c name found answer → StaysElsewhere old new c
-  elsewhere_for h None answer first (m, told, comes) = put_elsewhere old new c _ name (empty_of shape) comes.property tree there comes.put
+  elsewhere_for h None answer first (m, told, comes) = put_elsewhere old tree new c _ name (empty_of shape) comes.property there comes.put
   elsewhere_for over.Keep (Some r) answer first (told, same) = λ out. ap (λ (ns : List Node). ordered_tree ns 0) same
   elsewhere_for over.Replace (Some r) answer first (m, told, set) = λ out.
-      let at = found_there r first in
+      let at = found_there old tree c name r first in
       found_elsewhere old new tree after r (parent_there old tree r c at.0).0 at.1 (empty_of shape) (is_of shape) (value_at old r) m refl set.1 (out_down old tree r c at.0 out)
 
   pub named_elsewhere : (how : Over) (answer : Option ℕ) → NamedEnsured shape how old new c name answer → StaysElsewhere old new c

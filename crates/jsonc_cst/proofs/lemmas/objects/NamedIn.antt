@@ -27,11 +27,9 @@ use Rattle.jsonc_insert.proofs.lemmas.members.Spreading.{wants_memory_alone}
 use Rattle.jsonc_insert.proofs.lemmas.elements.Named.{inserts_member}
 use Rattle.jsonc_insert.proofs.lemmas.properties.Coming.{properties_come_at}
 use Rattle.jsonc_cst.specs.declared.cst.node.CstObjectProp.{CstObjectProp}
-use Rattle.jsonc_cst.specs.typed.Edits.{StaysElsewhere}
 use Rattle.jsonc_cst.specs.typed.Removing.{WantsMemoryAlone}
 use Rattle.jsonc_cst.specs.objects.Members.{PropertyStandsAt, PutsNamedAtItsPath}
 use Rattle.jsonc_edit.proofs.lemmas.commas.Holders.{holder_path}
-use Rattle.jsonc_cst.proofs.lemmas.typed.Elsewhere.{row_elsewhere}
 use Rattle.jsonc_cst.proofs.lemmas.typed.Kept.{Stays, stay_both, stay_kept, stay_spliced}
 
 module _ (old new : List Node) (c i : ℕ) (name : List ℕ) (v : Plain) (m : ℕ) (tree : IsTree old) (there : c < length old) (brackets : has_brackets old (children_at old c) ≡ true) (e : PropertyPut old new c i name v m) where
@@ -52,11 +50,6 @@ module _ (old new : List Node) (c i : ℕ) (name : List ℕ) (v : Plain) (m : �
   put_stays =
       let ready = prepared_all old e.lined e.ready tree c there e.was e.before e.prepared i name v m e.row e.made in
       stay_both old e.ready new (stay_kept old e.ready ready.keeps) (stay_spliced e.ready new _ _ _ _ e.put)
-
-  pub put_elsewhere : StaysElsewhere old new c
-  put_elsewhere =
-      let ready = prepared_all old e.lined e.ready tree c there e.was e.before e.prepared i name v m e.row e.made in
-      row_elsewhere old tree e.ready new c _ _ e.row e.tree ready.keeps e.put
 
 module _ (old new : List Node) (c : ℕ) (name : List ℕ) (v : Plain) (tree : IsTree old) (is : content_at old c ≡ content.object) where
   pub put_written : (o : Options) (i m : ℕ) → PropertyPut old new c i name v m → PutsNamedAtItsPath o old new c i name v

@@ -1,5 +1,5 @@
 -- Elements that come in an order: what becomes of a document and its nodes.
-use Rattle.std.proofs.Common.{ℕ, List, IsTrue, inl, inr, ap}
+use Rattle.std.proofs.Common.{ℕ, List, IsTrue, inl, inr}
 use Rattle.std.proofs.lemmas.Bool.{cases_Bool}
 use Rattle.jsonc_text.specs.Options.{Options}
 use Rattle.jsonc_tree.specs.OrderedTree.{ordered_tree}
@@ -13,10 +13,9 @@ use Rattle.jsonc_sort.proofs.SortedDocuments.{keeps_outside, sorts_document}
 use Rattle.jsonc_edit.specs.Paths.{IsAt}
 use Rattle.jsonc_run.specs.promise.Steps.{IsStep}
 use Rattle.jsonc_run.specs.Edits.{rearrange}
-use Rattle.jsonc_cst.specs.typed.Edits.{StaysElsewhere}
 use Rattle.jsonc_edit.proofs.lemmas.commas.Holders.{holder_path}
 use Rattle.jsonc_run.proofs.lemmas.promise.Stepping.{made_step}
-use Rattle.jsonc_cst.proofs.lemmas.typed.Elsewhere.{row_elsewhere}
+use Rattle.jsonc_run.proofs.Elsewhere.{order_elsewhere}
 use Rattle.jsonc_cst.proofs.lemmas.typed.Kept.{Stays, stay_both, stay_kept, stay_same, stay_spliced}
 use Rattle.jsonc_cst.specs.sorting.Sorted.{IsPlaced, SortsAtItsPath}
 
@@ -26,19 +25,12 @@ module _ (old new : List Node) (c : ℕ) (h : Headers) (order : List ℕ) (befor
       let s = sorts_at o old new path c h order before after sound at holds all made in
       record { sorted = s; outside = keeps_outside s; says = sorts_document o (ordered_tree old 0) (ordered_tree new 0) path order sound s }
 
-  elsewhere : Rearranged old new c h order → StaysElsewhere old new c
-  elsewhere made = λ out.
-      elim (cases_Bool (moves old c order)) [
-        | inl is ↦ let row = made.is is in row_elsewhere old before row.ready new c _ _ row.row after row.prepared.keeps row.put out
-        | inr other ↦ ap (λ (ns : List Node). ordered_tree ns 0) (made.was other)
-      ]
-
   step : Rearranged old new c h order → IsStep IsAt (λ path. rearrange path h order) old new c
   step made =
       made_step old new before after IsAt (λ path. rearrange path h order) c (λ path. tt) (λ o sound over. holder_path o old before sound c over holds) (λ path over at. (c, (at, holds), all, made))
 
   pub is_placed : Rearranged old new c h order → IsPlaced old new c h order
-  is_placed made = record { all = all; made = made; few = λ less. few_stay old new c h order less all made; elsewhere = elsewhere made; written = written made; step = step made }
+  is_placed made = record { all = all; made = made; few = λ less. few_stay old new c h order less all made; elsewhere = order_elsewhere old before new c h order after made; written = written made; step = step made }
 
   pub rearranged_stays : Rearranged old new c h order → Stays old new
   rearranged_stays made =

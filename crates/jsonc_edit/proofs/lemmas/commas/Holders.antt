@@ -141,7 +141,7 @@ no_holder_root content e h = false≢true (sym (ap holds_values e) ∙ h)
 
 module _ (o : Options) (ns : List Node) (tree : IsTree ns) (sound : SoundTree o (ordered_tree ns 0)) where
   -- a child of an array or object at a path that is a property is one alone
-  property_alone : (path : List ℕ) (p r : ℕ) → IsAt ns path p → IsTrue (holds_at ns p) → parent_at ns r ≡ Some p → content_at ns r ≡ property → PropertyAlone o (row_below ns r)
+  pub property_alone : (path : List ℕ) (p r : ℕ) → IsAt ns path p → IsTrue (holds_at ns p) → parent_at ns r ≡ Some p → content_at ns r ≡ property → PropertyAlone o (row_below ns r)
   property_alone path p r at holds said is =
       let there : p < length ns = (parent_there ns tree r p said).1 in
       let h : Held o (content_at ns p) (row_below ns p) = held o holds (value_at_path o ns tree sound path p at) in
@@ -161,7 +161,7 @@ module _ (o : Options) (ns : List Node) (tree : IsTree ns) (sound : SoundTree o 
           the_property o (first_part o h.kind (content_at ns r) (row_below ns r) back element refl parts.2) is
 
   -- the first element of a property is its name
-  name_is : (r n : ℕ) → IsOver ns 0 r → content_at ns r ≡ property → IsElementOf ns r 0 n → IsNameBefore o (content_at ns n) []
+  pub name_is : (r n : ℕ) → IsOver ns 0 r → content_at ns r ≡ property → IsElementOf ns r 0 n → IsNameBefore o (content_at ns n) []
   name_is _ n IsOver.itself is element = absurd (let wrong : property ≡ Content.root = sym is ∙ tree.root_first in cc)
   name_is r n (IsOver.above {c = q} up rest) is element =
       elim (all_stand o ns tree sound.shaped r (IsOver.above up rest)) [

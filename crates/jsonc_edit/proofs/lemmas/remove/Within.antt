@@ -102,7 +102,7 @@ text_prints content h = by (is_container content)
     by false = h
 
 module _ (o : Options) where
-  part_prints : {kind : RowKind} {content : Content} {below : OrderedTree} → PartAlone o kind content below → prints content ≡ true
+  pub part_prints : {kind : RowKind} {content : Content} {below : OrderedTree} → PartAlone o kind content below → prints content ≡ true
   part_prints (alone.a_value (alone.literal {content = content} h)) = text_prints content (literal_prints o content h)
   part_prints (alone.a_value (alone.an_array g)) = refl
   part_prints (alone.a_value (alone.an_object g)) = refl

@@ -3,7 +3,8 @@ use Rattle.jsonc_layout.specs.input.Views.{plain}
 use Rattle.jsonc_layout.specs.nodes.Siblings.{elements_at}
 use Rattle.jsonc_edit.specs.Paths.{IsElementOf}
 use Rattle.jsonc_insert.specs.members.Inserted.{PropertyPut}
-use Rattle.jsonc_cst.proofs.lemmas.objects.NamedIn.{put_at_place, put_element, put_elsewhere, put_for_memory, put_others, put_property, put_stays, put_there, put_written}
+use Rattle.jsonc_run.proofs.Elsewhere.{put_elsewhere}
+use Rattle.jsonc_cst.proofs.lemmas.objects.NamedIn.{put_at_place, put_element, put_for_memory, put_others, put_property, put_stays, put_there, put_written}
 use Rattle.jsonc_cst.proofs.lemmas.typed.Kept.{nodes_stay, stay_kept}
 use Rattle.jsonc_cst.proofs.lemmas.objects.Steps.{inserted_step}
 use Rattle.jsonc_layout.proofs.lemmas.from_input.Texts.{of_texts}
@@ -45,7 +46,7 @@ returns-in-Ok-clause-others g c =
 
 pub returns-in-Ok-clause-elsewhere : goal.returns-in-Ok-clause-elsewhere
 returns-in-Ok-clause-elsewhere g c =
-    put_elsewhere c.args.tree.now.nodes c.insert_property.new.tree.nodes c.args.object c.args.index (chars c.args.name.now) (plain c.args.value.now) c.in-Ok.property c.len.ensures.tree c.requires.there c.in-Ok.ensures.put
+    put_elsewhere c.args.tree.now.nodes c.len.ensures.tree c.insert_property.new.tree.nodes c.args.object c.args.index (chars c.args.name.now) (plain c.args.value.now) c.in-Ok.property c.requires.there c.in-Ok.ensures.put
 
 pub returns-in-Ok-clause-stays : goal.returns-in-Ok-clause-stays
 returns-in-Ok-clause-stays g c =

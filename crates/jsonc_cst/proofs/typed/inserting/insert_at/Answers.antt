@@ -4,7 +4,7 @@ use Rattle.jsonc_layout.specs.nodes.Siblings.{elements_at}
 use Rattle.jsonc_edit.specs.Paths.{IsElementOf}
 use Rattle.jsonc_insert.specs.Inserted.{ElementPut}
 use Rattle.jsonc_cst.proofs.lemmas.typed.ComingIn.{put_at_place, put_element, put_for_memory, put_others, put_stays, put_there, put_written}
-use Rattle.jsonc_cst.proofs.lemmas.typed.Elsewhere.{row_elsewhere}
+use Rattle.jsonc_run.proofs.Elsewhere.{row_elsewhere}
 use Rattle.jsonc_cst.proofs.lemmas.typed.Kept.{as_typed, nodes_stay, stay_kept}
 use Rattle.jsonc_cst.proofs.lemmas.typed.Steps.{inserted_step}
 use Rattle.jsonc_layout.proofs.lemmas.from_input.Texts.{of_texts}

@@ -3,7 +3,7 @@ use Rattle.jsonc_tree.specs.Changes.{LeafBecomes}
 use Rattle.jsonc_tree.specs.Stored.{content_of}
 use Rattle.jsonc_cst.specs.Nodes.{number_of}
 use Rattle.jsonc_cst.proofs.lemmas.typed.Leaves.{leaf_stays}
-use Rattle.jsonc_cst.proofs.lemmas.typed.Elsewhere.{leaf_elsewhere}
+use Rattle.jsonc_run.proofs.Elsewhere.{leaf_elsewhere}
 use Rattle.jsonc_cst.proofs.typed.raw.set_leaf.Goals as goal
 
 pub returns-clause-stays : goal.returns-clause-stays

@@ -1,6 +1,6 @@
 use Rattle.std.proofs.Common.{rules, arith, ◌≡◌, Some}
 use Rattle.jsonc_tree.specs.Tree.{parent_at, place_at}
-use Rattle.jsonc_cst.proofs.lemmas.typed.Elsewhere.{alone_elsewhere}
+use Rattle.jsonc_run.proofs.Elsewhere.{alone_elsewhere}
 use Rattle.jsonc_cst.proofs.lemmas.typed.Kept.{nodes_stay, stay_spliced}
 use Rattle.jsonc_cst.proofs.lemmas.typed.Nobodys.{left_nobodys}
 use Rattle.jsonc_cst.proofs.typed.removing.remove_alone.Goals as goal

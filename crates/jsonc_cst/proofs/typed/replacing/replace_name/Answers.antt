@@ -1,7 +1,7 @@
 use Rattle.jsonc_layout.specs.input.Views.{plain}
 use Rattle.jsonc_edit.specs.Reading.{IsReplacedRaw}
 use Rattle.jsonc_cst.proofs.lemmas.typed.Kept.{as_typed, nodes_stay, of_some, raw_there, stay_raw}
-use Rattle.jsonc_cst.proofs.lemmas.typed.Elsewhere.{raw_elsewhere}
+use Rattle.jsonc_run.proofs.Elsewhere.{raw_elsewhere}
 use Rattle.jsonc_cst.proofs.lemmas.typed.Nobodys.{raw_nobodys}
 use Rattle.jsonc_cst.proofs.typed.replacing.replace_name.Goals as goal
 

@@ -4,7 +4,7 @@ use Rattle.jsonc_edit.specs.Written.{Writes}
 use Rattle.jsonc_cst.proofs.lemmas.typed.Kept.{as_typed, nodes_stay, of_some, replaced_there, stay_replaced}
 use Rattle.jsonc_cst.proofs.lemmas.typed.Marked.{replaced_marked}
 use Rattle.jsonc_cst.proofs.lemmas.typed.Around.{replaced_around}
-use Rattle.jsonc_cst.proofs.lemmas.typed.Elsewhere.{replaced_elsewhere}
+use Rattle.jsonc_run.proofs.Elsewhere.{replaced_elsewhere}
 use Rattle.jsonc_cst.proofs.lemmas.typed.Nobodys.{replaced_nobodys}
 use Rattle.jsonc_cst.proofs.lemmas.typed.Steps.{replaced_step}
 use Rattle.jsonc_layout.proofs.lemmas.from_input.Texts.{of_texts}

@@ -5,7 +5,7 @@ use Rattle.jsonc_cst.proofs.lemmas.typed.Kept.{as_typed, nodes_stay, of_some}
 use Rattle.jsonc_cst.proofs.lemmas.typed.Roots.{property_is_written, property_there, stay_property}
 use Rattle.jsonc_cst.specs.typed.Around.{IsLaidProperty}
 use Rattle.jsonc_cst.proofs.lemmas.typed.Around.{property_laid}
-use Rattle.jsonc_cst.proofs.lemmas.typed.Elsewhere.{property_elsewhere}
+use Rattle.jsonc_run.proofs.Elsewhere.{property_elsewhere}
 use Rattle.jsonc_cst.proofs.lemmas.typed.Nobodys.{property_nobodys}
 use Rattle.jsonc_cst.proofs.lemmas.typed.Steps.{property_replaced_step}
 use Rattle.jsonc_layout.proofs.lemmas.from_input.Texts.{of_texts}

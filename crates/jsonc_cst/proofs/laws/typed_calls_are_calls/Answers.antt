@@ -1,0 +1,77 @@
+use Rattle.jsonc_cst.proofs.lemmas.typed.Calls as calls
+use Rattle.jsonc_cst.proofs.laws.typed_calls_are_calls.Goals as goal
+
+pub returns-clause-kept : goal.returns-clause-kept
+returns-clause-kept g c = calls.kept_is_call
+
+pub returns-clause-untouched : goal.returns-clause-untouched
+returns-clause-untouched g c = calls.untouched_is_call
+
+pub returns-clause-raw : goal.returns-clause-raw
+returns-clause-raw g c = calls.raw_is_call
+
+pub returns-clause-removed : goal.returns-clause-removed
+returns-clause-removed g c = calls.removal_is_call
+
+pub returns-clause-alone : goal.returns-clause-alone
+returns-clause-alone g c = calls.lone_removal_is_call
+
+pub returns-clause-replaced : goal.returns-clause-replaced
+returns-clause-replaced g c = calls.given_is_call
+
+pub returns-clause-property : goal.returns-clause-property
+returns-clause-property g c = calls.property_is_call
+
+pub returns-clause-cleared : goal.returns-clause-cleared
+returns-clause-cleared g c = calls.clearing_is_call
+
+pub returns-clause-root : goal.returns-clause-root
+returns-clause-root g c = calls.root_is_call
+
+pub returns-clause-object_created : goal.returns-clause-object_created
+returns-clause-object_created g c = calls.object_created
+
+pub returns-clause-object_set : goal.returns-clause-object_set
+returns-clause-object_set g c = calls.object_set
+
+pub returns-clause-array_created : goal.returns-clause-array_created
+returns-clause-array_created g c = calls.array_created
+
+pub returns-clause-array_set : goal.returns-clause-array_set
+returns-clause-array_set g c = calls.array_set
+
+pub returns-clause-value : goal.returns-clause-value
+returns-clause-value g c = calls.value_is_call
+
+pub returns-clause-object_held : goal.returns-clause-object_held
+returns-clause-object_held g c = calls.object_held
+
+pub returns-clause-array_held : goal.returns-clause-array_held
+returns-clause-array_held g c = calls.array_held
+
+pub returns-clause-boolean : goal.returns-clause-boolean
+returns-clause-boolean g c = calls.boolean_is_call
+
+pub returns-clause-lines : goal.returns-clause-lines
+returns-clause-lines g c = calls.lines_are_call
+
+pub returns-clause-element : goal.returns-clause-element
+returns-clause-element g c = calls.element_is_call
+
+pub returns-clause-named : goal.returns-clause-named
+returns-clause-named g c = calls.named_is_call
+
+pub returns-clause-object_named : goal.returns-clause-object_named
+returns-clause-object_named g c = calls.object_named
+
+pub returns-clause-array_named : goal.returns-clause-array_named
+returns-clause-array_named g c = calls.array_named
+
+pub returns-clause-commas : goal.returns-clause-commas
+returns-clause-commas g c = calls.commas_are_call
+
+pub returns-clause-some_commas : goal.returns-clause-some_commas
+returns-clause-some_commas g c = calls.some_commas_are_call
+
+pub returns-clause-sorted : goal.returns-clause-sorted
+returns-clause-sorted g c = calls.sort_is_call
