@@ -12,7 +12,6 @@ use Rattle.jsonc_tree.specs.Tree.{Node}
 use Rattle.jsonc_sound.specs.Lines.{DocumentLinesEnd}
 use Rattle.jsonc_sound.specs.Shape.{DocumentShaped}
 use Rattle.jsonc_sound.proofs.LooseLines.{document_loosens}
-use Rattle.jsonc_sound.proofs.ShapeValues.{document_printed}
 use Rattle.jsonc_sound.specs.SoundTrees.{SoundTree}
 use Rattle.jsonc_edit.specs.declared.error.EditError.TheVariants.{OutOfMemory}
 use Rattle.jsonc_parser.specs.paths.Found.{names_of}
@@ -24,7 +23,7 @@ use Rattle.jsonc_engine.specs.declared.fault.Fault.TheVariants.{Edit, NoSetting,
 use Rattle.jsonc_engine.specs.Appending.{AppendsIfSound}
 use Rattle.jsonc_engine.specs.Change.{GetsNothing, IsChangeFor, for_check, for_print, for_set, for_append, for_remove, for_sort, for_get, for_put, for_drop, MakesIfSound}
 use Rattle.jsonc_engine.specs.Command.{Request, check, print, set, append, remove, sort, get, put, drop}
-use Rattle.jsonc_engine.specs.Fault.{EndsAppending, EndsGetting, EndsOnObject, EndsPutting, EndsSetting, IsFaultOn}
+use Rattle.jsonc_engine.specs.Fault.{EndsAppending, EndsDropping, EndsGetting, EndsOnObject, EndsPutting, EndsSetting, IsFaultOn}
 use Rattle.jsonc_engine.specs.Output.{IsLeft, output_bytes}
 use Rattle.jsonc_engine.specs.Removal.{LosesIfSound}
 use Rattle.jsonc_engine.specs.Setting.{SetsIfSound}
@@ -176,16 +175,16 @@ module _ {A : Type 0} (o : Options) where
   sort_told request ns is (Ok x) ends = tt
   sort_told request ns is (Err fault) ends = sort_refused request ns is fault ends
 
-  drop_refused : (request : Request) (ns : List Node) (names : Vec (String A) A) → IsChangeFor request (Drop names) → SoundTree o (ordered_tree ns 0)
-      → IsFaultOn o request (printed (ordered_tree ns 0)) (Edit OutOfMemory)
-  drop_refused _ ns _ (for_drop path names is) sound =
-      let text = document_printed o (ordered_tree ns 0) sound.shaped sound.lines in
-      (text.0, text.1)
+  drop_refused : (request : Request) (ns : List Node) (names : Vec (String A) A) → IsChangeFor request (Drop names) → (fault : Fault)
+      → EndsDropping o (printed (ordered_tree ns 0)) (names_of names.items) fault → IsFaultOn o request (printed (ordered_tree ns 0)) fault
+  drop_refused _ ns _ (for_drop path names is) (Edit OutOfMemory) ends = (names_of names.items, is, ends)
+  drop_refused _ ns _ (for_drop path names is) _ ends = absurd ends
 
-  pub drop_told : (request : Request) (ns : List Node) (names : Vec (String A) A) → IsChangeFor request (Drop names) → SoundTree o (ordered_tree ns 0) → (r : Result (Unit {0}) Fault)
-      → IfErr r (λ fault. fault ≡ Edit OutOfMemory) → IfErr r (IsFaultOn o request (printed (ordered_tree ns 0)))
-  drop_told request ns names is sound (Ok x) ends = tt
-  drop_told request ns names is sound (Err fault) ends = subst (IsFaultOn o request (printed (ordered_tree ns 0))) (sym ends) (drop_refused request ns names is sound)
+  pub drop_told : (request : Request) (ns : List Node) (names : Vec (String A) A) → IsChangeFor request (Drop names) → (l : List (String A)) → l ≡ names.items → (r : Result (Unit {0}) Fault)
+      → IfErr r (EndsDropping o (printed (ordered_tree ns 0)) (names_of l)) → IfErr r (IsFaultOn o request (printed (ordered_tree ns 0)))
+  drop_told request ns names is l same (Ok x) ends = tt
+  drop_told request ns names is l same (Err fault) ends =
+      drop_refused request ns names is fault (subst (λ (k : List (String A)). EndsDropping o (printed (ordered_tree ns 0)) (names_of k) fault) same ends)
 
 -- so the document of the input is left, where the change is not to get a value
 module _ {A : Type 0} (o : Options) (change : Change A) (other : GetsNothing change) where

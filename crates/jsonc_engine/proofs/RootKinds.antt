@@ -2,7 +2,6 @@
 use Rattle.std.proofs.Common.{◌≡◌, ◌≢◌, ℕ, Bool, true, false, List, [], ◌∷◌, chars, length, Option, Some, None, IfSome, if◌then◌else◌, refl, sym, ap, subst, ◌∙◌}
 use Rattle.std.proofs.lemmas.Bool.{false≢true, true≢false}
 use Rattle.std.specs.Prelude.{is_some}
-use Rattle.std.specs.declared.string.String.{String}
 use Rattle.jsonc_text.specs.Options.{Options}
 use Rattle.jsonc_text.specs.Plain.{Plain}
 use Rattle.jsonc_text.specs.Grammar.{IsDocument}
@@ -25,11 +24,8 @@ use Rattle.jsonc_cst.specs.Readings.{array_if, object_if, typed_if}
 use Rattle.jsonc_insert.specs.named.Shapes.{empty_of, has_shape, is_object, is_of}
 use Rattle.jsonc_insert.specs.declared.named.shape.Shape.{Shape}
 use Rattle.jsonc_insert.specs.declared.named.shape.Shape.TheVariants.{Object}
-use Rattle.jsonc_parser.specs.paths.Found.{names_of}
-use Rattle.jsonc_parser.specs.paths.Settings.{At, in_object, itself, StandsInTheWay, this_stands}
 use Rattle.jsonc_run.proofs.Ensured.{held}
 use Rattle.jsonc_engine.specs.Input.{HasKind, MayHave}
-use Rattle.jsonc_engine.specs.Settings.{Begin, HasBeginning, HasInTheWay, HasNoBeginning, HasNothingAt, MayBegin}
 use Rattle.jsonc_engine.proofs.Removing.{no_value, object_read, text}
 
 -- a node that reads as an array is one
@@ -71,27 +67,6 @@ no_object_read _ n e = refl
 if_some : (b : Bool) (n m : ℕ) → Some m ≡ (if b then Some n else None) → b ≡ true
 if_some true n m e = refl
 if_some false n m e = none_is_some m (sym e)
-
--- names begin at an object, and no names at any value
-object_begins : (names : List (List ℕ)) (x : Plain) → is_object x ≡ true → Begin names x
-object_begins [] x is = tt
-object_begins (name ∷ names) x is = is
-
-no_beginning : (names : List (List ℕ)) (x : Plain) → names ≢ [] → is_object x ≡ false → ¬ (Begin names x)
-no_beginning [] x some other = λ begin. some refl
-no_beginning (name ∷ names) x some other = λ begin. false≢true (sym other ∙ begin)
-
-pub names_none : {A : Type 0} (names : List (String A)) → length names ≡ 0 → names_of names ≡ []
-names_none [] none = refl
-names_none (n ∷ names) none = cc
-
-pub names_some : {A : Type 0} (names : List (String A)) → ¬ (length names ≡ 0) → names_of names ≢ []
-names_some [] some = absurd (some refl)
-names_some (n ∷ names) some = λ none. cc
-
-all_begin : (names : List (List ℕ)) (w : Option Plain) → names ≡ [] → IfSome w (Begin names)
-all_begin names None none = tt
-all_begin names (Some x) none = subst (λ (l : List (List ℕ)). Begin l x) (sym none) tt
 
 module _ (o : Options) (ns : List Node) (tree : IsTree ns) (sound : SoundTree o (ordered_tree ns 0)) where
   abbrev bytes : List ℕ
@@ -147,62 +122,6 @@ module _ (o : Options) (ns : List Node) (tree : IsTree ns) (sound : SoundTree o 
 
   pub wanted : (shape : Shape) → value_at ns 0 ≡ None → MayHave (has_shape shape) o bytes
   wanted shape e = (None, valueless e, tt)
-
-  module _ (names : List (List ℕ)) where
-    -- where names begin
-    pub none_begin : names ≡ [] → MayBegin o bytes names
-    none_begin none =
-        let t = text o ns tree sound in
-        (t.0, t.1, all_begin names t.0 none)
-
-    pub may_begin : (w : Option CstNode) → w ≡ typed_if ns (value_at ns 0) → is_some w ≡ false → MayBegin o bytes names
-    may_begin w same none = (None, reads_none w same none, tt)
-
-    no_beginning_by : (w : Option ℕ) → value_at ns 0 ≡ w → is_some (typed_if ns w) ≡ true → object_if (typed_if ns w) ≡ None → names ≢ [] → HasNoBeginning o bytes names
-    no_beginning_by None e one read some = absurd (false≢true one)
-    no_beginning_by (Some n) e one read some =
-        let h = of_shape Object n false e (no_object_read (content_at ns n) n read) in
-        (h.0, h.1, no_beginning names h.0 some h.2)
-
-    module _ (v : Option CstNode) (value : v ≡ typed_if ns (value_at ns 0)) (one : is_some v ≡ true) (some : names ≢ []) where
-      pub stands : (w : Option CstObject) → w ≡ object_if (typed_if ns (value_at ns 0)) → is_some w ≡ false → HasNoBeginning o bytes names
-      stands None same none = no_beginning_by (value_at ns 0) refl (ap is_some (sym value) ∙ one) (sym same) some
-      stands (Some x) same none = absurd (true≢false none)
-
-    pub begin_at : (w : Option CstObject) → w ≡ object_if (typed_if ns (value_at ns 0)) → is_some w ≡ true → MayBegin o bytes names
-    begin_at None same one = absurd (false≢true one)
-    begin_at (Some x) same one =
-        let h = has_object x (sym same) in
-        (Some h.0, h.1, object_begins names h.0 h.2)
-
--- where names may begin and there is a value they begin
-beginning_by : (o : Options) (input : List ℕ) (names : List (List ℕ)) (w : Option Plain) → IsDocument o (chars input) w → IfSome w (Begin names) → (x : Plain) → IsDocument o (chars input) (Some x) → HasBeginning o input names
-beginning_by o input names None d begins x e = let wrong : None ≡ Some x = document_unique o (chars input) None (Some x) d e in cc
-beginning_by o input names (Some y) d begins x e = (y, d, begins)
-
-pub beginning : (o : Options) (input : List ℕ) (names : List (List ℕ)) → MayBegin o input names → (x : Plain) × IsDocument o (chars input) (Some x) → HasBeginning o input names
-beginning o input names (w, d, begins) (x, e) = beginning_by o input names w d begins x e
-
--- where they do not begin nothing stands at them, and the value is in their way
-nothing_by : (names : List (List ℕ)) (x : Plain) → ¬ (Begin names x) → (v : Plain) → At (Some x) names v → ⊥
-nothing_by _ x none v itself = none tt
-nothing_by _ _ none v (in_object first at) = none refl
-
-pub nothing_begins : (o : Options) (input : List ℕ) (names : List (List ℕ)) → HasNoBeginning o input names → HasNothingAt o input names
-nothing_begins o input names (x, d, none) = (Some x, d, nothing_by names x none)
-
-no_value_at : (names : List (List ℕ)) (v : Plain) → At None names v → ⊥
-no_value_at names v at = elim at [ ]
-
-pub nothing_stands : (o : Options) (input : List ℕ) (names : List (List ℕ)) → IsDocument o (chars input) None → HasNothingAt o input names
-nothing_stands o input names d = (None, d, no_value_at names)
-
-way_by : (names : List (List ℕ)) (x : Plain) → ¬ (Begin names x) → StandsInTheWay (Some x) names
-way_by [] x none = absurd (none tt)
-way_by (name ∷ names) x none = this_stands (λ ms is. none (ap is_object is))
-
-pub way_begins : (o : Options) (input : List ℕ) (names : List (List ℕ)) → HasNoBeginning o input names → HasInTheWay o input names
-way_begins o input names (x, d, none) = (Some x, d, way_by names x none)
 
 -- what is said of the text that a document prints, where it is another's
 pub said_of_text : (w : Option Plain) (o p : Options) (printed_bytes same_bytes : List ℕ) → o ≡ p → printed_bytes ≡ same_bytes → IsDocument o (chars printed_bytes) w → IsDocument p (chars same_bytes) w

@@ -1,5 +1,5 @@
 -- What stands at names in a document that nodes show, what was put there, and what was dropped.
-use Rattle.std.proofs.Common.{◌≡◌, ◌++◌, ◌∷◌, [], ℕ, Bool, true, false, List, Option, Some, None, refl, sym, ap, subst}
+use Rattle.std.proofs.Common.{◌≡◌, ◌⊎◌, ◌++◌, ◌∷◌, [], ℕ, Bool, true, false, List, Option, Some, None, inl, inr, refl, sym, ap, subst}
 use Rattle.jsonc_text.specs.Edits.{Document}
 use Rattle.jsonc_text.specs.Grammar.{IsDocument}
 use Rattle.jsonc_text.specs.Options.{Options}
@@ -20,8 +20,10 @@ use Rattle.jsonc_cst.specs.Nodes.{number_of}
 use Rattle.jsonc_insert.specs.declared.named.shape.Over.TheVariants.{Keep}
 use Rattle.jsonc_parser.specs.paths.Calls.{DropsWhatShown, PutsWhatShown, WantsMemory}
 use Rattle.jsonc_parser.specs.paths.Found.{FindsWhatShown}
-use Rattle.jsonc_engine.specs.Fault.{EndsGetting, EndsPutting}
-use Rattle.jsonc_engine.specs.Settings.{DropsSetting, HasBeginning, HasInTheWay, HasNothingAt, IsShownAt, MayBegin, PutsSetting, ShowsOne}
+use Rattle.jsonc_parser.specs.paths.Laws.{MustStay}
+use Rattle.jsonc_parser.specs.paths.Memory.{PassesEscaped, SomethingAt, WantsForSomething, WantsToLookUp, WantsToPut}
+use Rattle.jsonc_engine.specs.Fault.{EndsDropping, EndsGetting, EndsPutting}
+use Rattle.jsonc_engine.specs.Settings.{DropsSetting, HasInTheWay, HasNothingAt, IsForPutting, IsForSomething, IsShownAt, LooksUpEscaped, PutsSetting, ShowsOne}
 use Rattle.jsonc_engine.specs.declared.fault.Fault.TheVariants.{Edit}
 
 module _ (o : Options) (ns : List Node) (sound : SoundTree o (ordered_tree ns 0)) where
@@ -49,15 +51,26 @@ module _ (o : Options) (ns : List Node) (sound : SoundTree o (ordered_tree ns 0)
   pub drops_setting : (names : List (List ℕ)) (new : List Node) (done : Bool) → DropsWhatShown names ns new done → DropsSetting o names ns new
   drops_setting names new done drops = record { one = one; done = done; drops = drops d shown }
 
-  pub for_memory : (e : EditError) → WantsMemory ns e → e ≡ OutOfMemory
-  for_memory e wants = wants d shown
+  -- for what memory was wanted
+  looks_up : (names : List (List ℕ)) → PassesEscaped d ns names → LooksUpEscaped o (printed (ordered_tree ns 0)) names
+  looks_up names passes = record { nodes = ns; reads = refl; one = one; passes = passes }
 
-  pub memory_putting : (names : List (List ℕ)) (e : EditError) → WantsMemory ns e → MayBegin o (printed (ordered_tree ns 0)) names → EndsPutting o (printed (ordered_tree ns 0)) names (Edit e)
-  memory_putting names e wants begin = subst (λ (x : EditError). EndsPutting o (printed (ordered_tree ns 0)) names (Edit x)) (sym (wants d shown)) begin
+  for_something : (names : List (List ℕ)) → PassesEscaped d ns names ⊎ SomethingAt d.value names → IsForSomething o (printed (ordered_tree ns 0)) names
+  for_something names (inl passes) = inl (looks_up names passes)
+  for_something names (inr something) = inr (text.0, text.1, something)
 
--- want of memory for what is got
-pub memory_getting : (o : Options) (bytes : List ℕ) (names : List (List ℕ)) (e : EditError) → e ≡ OutOfMemory → HasBeginning o bytes names → EndsGetting o bytes names (Edit e)
-memory_getting o bytes names e is begin = subst (λ (x : EditError). EndsGetting o bytes names (Edit x)) (sym is) begin
+  for_putting : (names : List (List ℕ)) → PassesEscaped d ns names ⊎ ¬ (MustStay Keep d.value names) → IsForPutting o (printed (ordered_tree ns 0)) names
+  for_putting names (inl passes) = inl (looks_up names passes)
+  for_putting names (inr free) = inr (text.0, text.1, λ stands. free (refl, stands))
+
+  pub memory_putting : (names : List (List ℕ)) (e : EditError) → WantsMemory ns e → WantsToPut Keep ns names → EndsPutting o (printed (ordered_tree ns 0)) names (Edit e)
+  memory_putting names e told wants = subst (λ (x : EditError). EndsPutting o (printed (ordered_tree ns 0)) names (Edit x)) (sym (told d shown)) (for_putting names (wants d shown))
+
+  pub memory_dropping : (names : List (List ℕ)) (e : EditError) → WantsMemory ns e → WantsForSomething ns names → EndsDropping o (printed (ordered_tree ns 0)) names (Edit e)
+  memory_dropping names e told wants = subst (λ (x : EditError). EndsDropping o (printed (ordered_tree ns 0)) names (Edit x)) (sym (told d shown)) (for_something names (wants d shown))
+
+  pub memory_getting : (names : List (List ℕ)) (e : EditError) → e ≡ OutOfMemory → WantsToLookUp ns names → EndsGetting o (printed (ordered_tree ns 0)) names (Edit e)
+  memory_getting names e is wants = subst (λ (x : EditError). EndsGetting o (printed (ordered_tree ns 0)) names (Edit x)) (sym is) (inl (looks_up names (wants d shown)))
 
 module _ {A : Type 0} (o : Options) (doc : CstRootNode A) (sound : SoundTree o (tree_of doc)) (names : List (List ℕ)) where
   pub nothing_there : FindsWhatShown doc names None → HasNothingAt o (printed (tree_of doc)) names
@@ -72,3 +85,9 @@ module _ {A : Type 0} (o : Options) (doc : CstRootNode A) (sound : SoundTree o (
     there = finds (d o (nodes_of doc) sound) (shown o (nodes_of doc) sound);
     prints = prints;
   }
+
+  pub memory_showing : (node : CstNode) → FindsWhatShown doc names (Some node) → EndsGetting o (printed (tree_of doc)) names (Edit OutOfMemory)
+  memory_showing node finds =
+      let t = text o (nodes_of doc) sound in
+      let w = finds (d o (nodes_of doc) sound) (shown o (nodes_of doc) sound) in
+      inr (t.0, t.1, (w.v, w.stands))

@@ -3,11 +3,11 @@ use Rattle.std.specs.Prelude.{◌≡◌, ℕ, List, Option, IfSome, ◌++◌, �
 use Rattle.jsonc_insert.specs.named.Shapes.{is_array, is_object}
 use Rattle.jsonc_engine.specs.Argument.{IsFaultOfArgument, IsPath, IsReady}
 use Rattle.jsonc_engine.specs.Calls.{one_more}
-use Rattle.jsonc_engine.specs.Command.{Request, set, append, remove, sort, get, put}
+use Rattle.jsonc_engine.specs.Command.{Request, set, append, remove, sort, get, put, drop}
 use Rattle.jsonc_engine.specs.Input.{HasAnother, HasKind, IsRefusalOf, MayHave}
 use Rattle.jsonc_engine.specs.Output.{IsLeft}
 use Rattle.jsonc_engine.specs.Removal.{IsNoObject}
-use Rattle.jsonc_engine.specs.Settings.{HasBeginning, HasInTheWay, HasNothingAt, MayBegin}
+use Rattle.jsonc_engine.specs.Settings.{HasInTheWay, HasNothingAt, IsForPutting, IsForSomething}
 use Rattle.jsonc_engine.specs.Parser.{IsDocument, Options, OutOfMemory, Plain, all_on, edit_error_text, error_text}
 use Rattle.jsonc_engine.specs.declared.fault.Fault.{Fault}
 use Rattle.jsonc_engine.specs.declared.fault.Fault.TheVariants.{Argument, Edit, Input, NoSetting, NoValue, NotArray, NotNames, NotObject, NotUtf8, OnTheWay, Path, Read, Usage, Write}
@@ -51,15 +51,17 @@ abbrev pub FindsInTheWay : Options → Request → List ℕ → Type 0
 FindsInTheWay o (put path json) input = (names : List (List ℕ)) × IsPath path names × HasInTheWay o input names
 FindsInTheWay o request input = ⊥
 
--- No other fault is told of the input that is seen without memory: its text is a document, and its value, as far as that is seen so, what the command wants.
+-- No other fault is told of the input that is seen without memory: its text is a document, and its value, as far as that is seen so, what the command wants. `check` and
+-- `print` want none.
 abbrev pub IsForMemory : Options → Request → List ℕ → Type 0
 IsForMemory o (set name json) input = MayHave is_object o input
 IsForMemory o (append json) input = MayHave is_array o input
 IsForMemory o (remove name) input = HasKind is_object o input
 IsForMemory o sort input = HasKind is_object o input
-IsForMemory o (get path) input = (names : List (List ℕ)) × IsPath path names × HasBeginning o input names
-IsForMemory o (put path json) input = (names : List (List ℕ)) × IsPath path names × MayBegin o input names
-IsForMemory o request input = (w : Option Plain) × IsDocument o (chars input) w
+IsForMemory o (get path) input = (names : List (List ℕ)) × IsPath path names × IsForSomething o input names
+IsForMemory o (put path json) input = (names : List (List ℕ)) × IsPath path names × IsForPutting o input names
+IsForMemory o (drop path) input = (names : List (List ℕ)) × IsPath path names × IsForSomething o input names
+IsForMemory o request input = ⊥
 
 -- the fault is true of the input's bytes, and what a command makes of them under the options can end with it
 abbrev pub IsFaultOn : Options → Request → List ℕ → Fault → Type 0
@@ -158,11 +160,16 @@ EndsAppending o bytes other = ⊥
 -- getting what stands at names can end with it
 abbrev pub EndsGetting : Options → List ℕ → List (List ℕ) → Fault → Type 0
 EndsGetting o bytes names NoSetting = HasNothingAt o bytes names
-EndsGetting o bytes names (Edit OutOfMemory) = HasBeginning o bytes names
+EndsGetting o bytes names (Edit OutOfMemory) = IsForSomething o bytes names
 EndsGetting o bytes names other = ⊥
 
 -- and so can putting a value there
 abbrev pub EndsPutting : Options → List ℕ → List (List ℕ) → Fault → Type 0
 EndsPutting o bytes names OnTheWay = HasInTheWay o bytes names
-EndsPutting o bytes names (Edit OutOfMemory) = MayBegin o bytes names
+EndsPutting o bytes names (Edit OutOfMemory) = IsForPutting o bytes names
 EndsPutting o bytes names other = ⊥
+
+-- dropping what stands there can end with it
+abbrev pub EndsDropping : Options → List ℕ → List (List ℕ) → Fault → Type 0
+EndsDropping o bytes names (Edit OutOfMemory) = IsForSomething o bytes names
+EndsDropping o bytes names other = ⊥

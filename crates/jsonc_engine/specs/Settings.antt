@@ -1,5 +1,5 @@
 -- What `get`, `put` and `drop` find at a path of names in a document, and make of it.
-use Rattle.std.specs.Prelude.{◌≡◌, ◌++◌, ◌∷◌, [], ℕ, Bool, true, List, Option, Some, IfSome, chars}
+use Rattle.std.specs.Prelude.{◌≡◌, ◌⊎◌, ◌++◌, ◌∷◌, [], ℕ, Bool, true, List, Option, chars}
 use Rattle.jsonc_text.specs.Edits.{Document}
 use Rattle.jsonc_text.specs.Grammar.{IsDocument}
 use Rattle.jsonc_text.specs.Options.{Options}
@@ -8,9 +8,9 @@ use Rattle.jsonc_tree.specs.OrderedTree.{ordered_tree, printed}
 use Rattle.jsonc_tree.specs.Tree.{Node}
 use Rattle.jsonc_sound.specs.Documents.{Shows}
 use Rattle.jsonc_sound.specs.SoundTrees.{SoundTree}
-use Rattle.jsonc_insert.specs.named.Shapes.{is_object}
 use Rattle.jsonc_insert.specs.declared.named.shape.Over.TheVariants.{Keep}
 use Rattle.jsonc_parser.specs.paths.Calls.{DropsAt, PutsAt}
+use Rattle.jsonc_parser.specs.paths.Memory.{PassesEscaped, SomethingAt}
 use Rattle.jsonc_parser.specs.paths.Settings.{At, StandsInTheWay}
 use Rattle.jsonc_parser.specs.paths.Standing.{NamesNode}
 
@@ -46,22 +46,28 @@ HasNothingAt o bytes names = (w : Option Plain) × IsDocument o (chars bytes) w 
 abbrev pub HasInTheWay : Options → List ℕ → List (List ℕ) → Type 0
 HasInTheWay o bytes names = (w : Option Plain) × IsDocument o (chars bytes) w × StandsInTheWay w names
 
--- names begin at a value: none is to lead on, or it is an object
-abbrev pub Begin : List (List ℕ) → Plain → Type 0
-Begin [] x = Unit {0}
-Begin (name ∷ names) x = is_object x ≡ true
+-- it is one, and something stands at the names
+abbrev pub HasSomethingAt : Options → List ℕ → List (List ℕ) → Type 0
+HasSomethingAt o bytes names = (w : Option Plain) × IsDocument o (chars bytes) w × SomethingAt w names
 
--- the text of these bytes is a document, and the names begin at its value
-abbrev pub HasBeginning : Options → List ℕ → List (List ℕ) → Type 0
-HasBeginning o bytes names = (x : Plain) × IsDocument o (chars bytes) (Some x) × Begin names x
+-- it is one, and nothing stands in their way
+abbrev pub HasFreeWay : Options → List ℕ → List (List ℕ) → Type 0
+HasFreeWay o bytes names = (w : Option Plain) × IsDocument o (chars bytes) w × ¬ (StandsInTheWay w names)
 
--- they do not begin at it
-abbrev pub HasNoBeginning : Options → List ℕ → List (List ℕ) → Type 0
-HasNoBeginning o bytes names = (x : Plain) × IsDocument o (chars bytes) (Some x) × ¬ (Begin names x)
+-- The bytes are what the nodes of a document print, where the names before one of these lead to an object that has a name with a backslash.
+pub record LooksUpEscaped (o : Options) (bytes : List ℕ) (names : List (List ℕ)) : Type 0 where
+  pub nodes : List Node
+  pub reads : printed (ordered_tree nodes 0) ≡ bytes
+  pub one : ShowsOne o nodes
+  pub passes : PassesEscaped one.document nodes names
 
--- they begin at it, or it has no value
-abbrev pub MayBegin : Options → List ℕ → List (List ℕ) → Type 0
-MayBegin o bytes names = (w : Option Plain) × IsDocument o (chars bytes) w × IfSome w (Begin names)
+-- memory is wanted to look up a name, or for what stands at the names
+abbrev pub IsForSomething : Options → List ℕ → List (List ℕ) → Type 0
+IsForSomething o bytes names = LooksUpEscaped o bytes names ⊎ HasSomethingAt o bytes names
+
+-- to look up a name, or to put a value there, and nothing is in the way
+abbrev pub IsForPutting : Options → List ℕ → List (List ℕ) → Type 0
+IsForPutting o bytes names = LooksUpEscaped o bytes names ⊎ HasFreeWay o bytes names
 
 -- so it is if the document was sound
 abbrev pub ShownIfSound : Options → List (List ℕ) → List Node → List ℕ → Type 0

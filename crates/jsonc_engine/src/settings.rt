@@ -1,13 +1,13 @@
 //! Values at paths of names.
-ghost use Rattle.std.specs.Prelude.{◌≡◌, false, true, IfErr, IfOk, OnErr, OnOk};
+ghost use Rattle.std.specs.Prelude.{◌≡◌, IfErr, IfOk, OnErr, OnOk};
 ghost use Rattle.jsonc_text.specs.Options.{Options};
 ghost use Rattle.jsonc_layout.specs.input.Views.{plain};
 ghost use Rattle.jsonc_sound.specs.SoundTrees.{SoundTree};
 ghost use Rattle.jsonc_cst.specs.Document.{nodes_of, printed_of, tree_of};
 ghost use Rattle.jsonc_parser.specs.paths.Found.{names_of};
-ghost use Rattle.jsonc_engine.specs.Fault.{EndsGetting, EndsPutting};
+ghost use Rattle.jsonc_engine.specs.Fault.{EndsDropping, EndsGetting, EndsPutting};
 ghost use Rattle.jsonc_engine.specs.Output.{output_bytes};
-ghost use Rattle.jsonc_engine.specs.Settings.{DropsIfSound, HasNoBeginning, MayBegin, PutsIfSound, ShownIfSound};
+ghost use Rattle.jsonc_engine.specs.Settings.{DropsIfSound, PutsIfSound, ShownIfSound};
 
 use crate::fault::Fault;
 use crate::output::Output;
@@ -15,26 +15,10 @@ use jsonc_parser::cst::{CstInputValue, CstRootNode, EditError, IsNode, Over};
 use jsonc_parser::settings::{find_at, remove_at, set_at};
 use std::alloc::Allocator;
 
-/// Whether the document's value is of another kind than an object, and a name is to lead on from it.
-fn is_in_the_way<A: Allocator>(document: &CstRootNode<A>, names: &[String<A>]) -> bool
-    ensures stands { (o : Options) → SoundTree o (tree_of document.now)
-        → result ≡ true → HasNoBeginning o (printed_of document.now) (names_of names.now) }
-    ensures begins { (o : Options) → SoundTree o (tree_of document.now)
-        → result ≡ false → MayBegin o (printed_of document.now) (names_of names.now) }
-{
-    let _ = document.tree.len();
-    if names.is_empty() {
-        return false;
-    }
-    if document.value().is_none() {
-        return false;
-    }
-    document.object_value().is_none()
-}
-
 /// The value at names as it is written, and a line feed behind it.
 ///
-/// It is `Fault::NoSetting` where nothing stands there. Memory may be wanted, which is `Fault::Edit`.
+/// It is `Fault::NoSetting` where nothing stands there. Memory may be wanted, which is `Fault::Edit`: to look up
+/// a name in an object that has a name with a backslash, or for the text.
 pub(crate) fn get_setting<A: Allocator + Copy>(
     document: &CstRootNode<A>,
     names: &[String<A>],
@@ -44,14 +28,6 @@ pub(crate) fn get_setting<A: Allocator + Copy>(
     ensures told { (o : Options) → SoundTree o (tree_of document.now)
         → IfErr result (EndsGetting o (printed_of document.now) (names_of names.now)) }
 {
-    // What is seen without memory.
-    let _ = document.tree.len();
-    if document.value().is_none() {
-        return Err(Fault::NoSetting);
-    }
-    if is_in_the_way(document, names) {
-        return Err(Fault::NoSetting);
-    }
     let node = match find_at(document, names) {
         Ok(Some(node)) => node,
         Ok(None) => return Err(Fault::NoSetting),
@@ -66,7 +42,8 @@ pub(crate) fn get_setting<A: Allocator + Copy>(
 /// Puts a value at names.
 ///
 /// It is `Fault::OnTheWay` where a value of another kind than an object stands on the way. Memory may be wanted,
-/// which is `Fault::Edit`. A refusal leaves the document as it was.
+/// which is `Fault::Edit`: to look up a name as `get_setting` does, or where nothing is in the way. A refusal
+/// leaves the document as it was.
 pub(crate) fn put_setting<A: Allocator + Copy>(
     document: &mut CstRootNode<A>,
     names: &[String<A>],
@@ -79,9 +56,6 @@ pub(crate) fn put_setting<A: Allocator + Copy>(
     ensures document { (o : Options) → SoundTree o (tree_of document.old)
         → OnErr result (tree_of document.new ≡ tree_of document.old) }
 {
-    if is_in_the_way(document, names) {
-        return Err(Fault::OnTheWay);
-    }
     match set_at(document, names, value, Over::Keep) {
         Ok(true) => Ok(()),
         Ok(false) => Err(Fault::OnTheWay),
@@ -91,7 +65,8 @@ pub(crate) fn put_setting<A: Allocator + Copy>(
 
 /// Drops what stands at names. Where nothing stands there the document stays as it is.
 ///
-/// Memory may be wanted, which is `Fault::Edit`. A refusal leaves the document as it was.
+/// Memory may be wanted, which is `Fault::Edit`: to look up a name as `get_setting` does, or where something
+/// stands there. A refusal leaves the document as it was.
 pub(crate) fn drop_setting<A: Allocator + Copy>(
     document: &mut CstRootNode<A>,
     names: &[String<A>],
@@ -99,7 +74,7 @@ pub(crate) fn drop_setting<A: Allocator + Copy>(
     ensures dropped { (o : Options) → OnOk result
         (DropsIfSound o (names_of names.now) (nodes_of document.old) (nodes_of document.new)) }
     ensures told { (o : Options) → SoundTree o (tree_of document.old)
-        → IfErr result (λ fault. fault ≡ Fault.Edit EditError.OutOfMemory) }
+        → IfErr result (EndsDropping o (printed_of document.old) (names_of names.now)) }
     ensures document { OnErr result (tree_of document.new ≡ tree_of document.old) }
 {
     match remove_at(document, names) {

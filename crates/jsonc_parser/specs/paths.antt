@@ -9,3 +9,4 @@ pub mod Found
 pub mod Reach
 pub mod Choices
 pub mod AtPaths
+pub mod Memory

@@ -11,4 +11,4 @@ mod reached;
 
 pub use find::{find_at, read_at};
 pub use put::{remove_at, set_at};
-pub use reached::{Reached, reach};
+pub use reached::{Reached, is_in_the_way, reach};

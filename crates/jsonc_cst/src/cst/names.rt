@@ -1,8 +1,8 @@
 //! Decoded strings, and properties by their names.
 
-ghost use Rattle.std.specs.Prelude.{◌≡◌, ◌≢◌, chars, string_bytes, IfErr, IfOk, IfSome};
+ghost use Rattle.std.specs.Prelude.{◌≡◌, ◌≢◌, chars, string_bytes, IfErr, IfOk, IfSome, OnErr};
 ghost use Rattle.jsonc_text.specs.declared.errors.ParseStringErrorKind.TheVariants.{OutOfMemory};
-ghost use Rattle.jsonc_layout.specs.nodes.Names.{HasName, NameReads};
+ghost use Rattle.jsonc_layout.specs.nodes.Names.{HasName, HoldsEscapedName, NameReads};
 ghost use Rattle.jsonc_cst.specs.Document.{nodes_of, Holds};
 ghost use Rattle.jsonc_cst.specs.Nodes.{name_node, object_node, object_prop_node, string_lit_node};
 ghost use Rattle.jsonc_cst.specs.Readings.{IsFirstNamed, LeafIsNoString, LeafStandsFor, NameIsNoString, NameStandsFor};
@@ -70,7 +70,8 @@ impl CstObjectProp {
 
 impl CstObject {
     /// Its first property of a name. A name in quotes is decoded, and one that does not decode is
-    /// passed over; any other name is its text.
+    /// passed over; any other name is its text. Memory is wanted only where one of its names has a
+    /// backslash.
     pub fn get<A: Allocator + Copy>(
         self,
         doc: &CstRootNode<A>,
@@ -80,6 +81,7 @@ impl CstObject {
         ensures found { IfOk result (IsFirstNamed doc.now self (chars name.now)) }
         ensures held { IfOk result (λ o. IfSome o (λ p. Holds doc.now (object_prop_node p))) }
         ensures memory { IfErr result (λ e. e ≡ EditError.OutOfMemory) }
+        ensures escaped { OnErr result (HoldsEscapedName (nodes_of doc.now) self.number) }
         ensures tree { NodesAreTree doc.now }
     {
         doc.nodes_are_tree();

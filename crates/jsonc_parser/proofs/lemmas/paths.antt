@@ -13,3 +13,4 @@ pub mod Routes
 pub mod Standing
 pub mod Stepping
 pub mod Taken
+pub mod Wanting

@@ -1,8 +1,11 @@
 //! What stands at names.
 
-ghost use Rattle.std.specs.Prelude.{◌≡◌, chars, IfErr, IfOk, IfSome};
-ghost use Rattle.jsonc_cst.specs.Document.{Holds};
+ghost use Rattle.std.specs.Prelude.{◌≡◌, chars, IfErr, IfOk, IfSome, OnErr};
+ghost use Rattle.jsonc_layout.specs.nodes.Names.{HoldsEscapedName};
+ghost use Rattle.jsonc_cst.specs.Document.{nodes_of, Holds};
+ghost use Rattle.jsonc_cst.specs.Nodes.{number_of};
 ghost use Rattle.jsonc_parser.specs.paths.Found.{names_of, FindsInsideWhatShown, FindsWhatShown, ReadsWhatShown};
+ghost use Rattle.jsonc_parser.specs.paths.Memory.{WantsForSomething, WantsToLookUp};
 
 use jsonc_cst::cst::{CstInputValue, CstNode, CstRootNode, EditError, Readings};
 use std::alloc::Allocator;
@@ -17,6 +20,7 @@ fn find_inside<A: Allocator + Copy>(
     ensures found { IfOk result (FindsInsideWhatShown doc.now node (chars name.now)) }
     ensures held { IfOk result (λ o. IfSome o (Holds doc.now)) }
     ensures memory { IfErr result (λ e. e ≡ EditError.OutOfMemory) }
+    ensures escaped { OnErr result (HoldsEscapedName (nodes_of doc.now) (number_of node)) }
 {
     doc.nodes_are_tree();
     let Some(object) = node.as_object() else {
@@ -31,6 +35,8 @@ fn find_inside<A: Allocator + Copy>(
 
 /// The value at a path of names: from the document's value each name leads on, in an object to the value
 /// of its first property of that name. None where a step finds no object, or none of its name.
+///
+/// Memory is wanted only to look up a name in an object that has a name with a backslash.
 pub fn find_at<A: Allocator + Copy>(
     doc: &CstRootNode<A>,
     names: &[String<A>],
@@ -38,6 +44,7 @@ pub fn find_at<A: Allocator + Copy>(
     ensures found { IfOk result (FindsWhatShown doc.now (names_of names.now)) }
     ensures held { IfOk result (λ o. IfSome o (Holds doc.now)) }
     ensures memory { IfErr result (λ e. e ≡ EditError.OutOfMemory) }
+    ensures wanted { OnErr result (WantsToLookUp (nodes_of doc.now) (names_of names.now)) }
 {
     doc.nodes_are_tree();
     let Some(value) = doc.value() else {
@@ -56,12 +63,15 @@ pub fn find_at<A: Allocator + Copy>(
 
 /// What the value at a path of names stands for, as a value for edits, of equal names the last at the
 /// first place. None where [`find_at`] answers none.
+///
+/// Memory is wanted only as by [`find_at`], or for a value that stands there.
 pub fn read_at<A: Allocator + Copy>(
     doc: &CstRootNode<A>,
     names: &[String<A>],
 ) -> Result<Option<CstInputValue<A>>, EditError>
     ensures read { IfOk result (ReadsWhatShown doc.now (names_of names.now)) }
     ensures memory { IfErr result (λ e. e ≡ EditError.OutOfMemory) }
+    ensures wanted { OnErr result (WantsForSomething (nodes_of doc.now) (names_of names.now)) }
 {
     doc.nodes_are_tree();
     match find_at(doc, names) {

@@ -10,9 +10,11 @@ ghost use Rattle.jsonc_cst.specs.Tree.{NodesAreTree};
 ghost use Rattle.jsonc_parser.specs.paths.Calls.{DropsWhatShown, PutsWhatShown, WantsMemory};
 ghost use Rattle.jsonc_parser.specs.paths.Choices.{Chooses, IsAppending};
 ghost use Rattle.jsonc_parser.specs.paths.Found.{names_of};
+ghost use Rattle.jsonc_parser.specs.paths.Memory.{TellsWhatStays, WantsForSomething, WantsToLookUp, WantsToPut};
 ghost use Rattle.jsonc_parser.specs.paths.Settings.{nest};
 
-use crate::paths::reached::{Reached, reach};
+use crate::paths::find::find_at;
+use crate::paths::reached::{Reached, is_in_the_way, reach};
 use jsonc_cst::cst::{CstInputValue, CstRootNode, EditError};
 use jsonc_run::{Edit, Over, make};
 use std::alloc::Allocator;
@@ -126,6 +128,22 @@ fn choose<A: Allocator + Copy>(
     }
 }
 
+// Whether a value of another kind than an object stands in the way of names, and is to stay.
+fn must_stay<A: Allocator + Copy>(
+    doc: &CstRootNode<A>,
+    names: &[String<A>],
+    over: Over,
+) -> Result<bool, EditError>
+    ensures stays { IfOk result (TellsWhatStays over (nodes_of doc.now) (names_of names.now)) }
+    ensures memory { IfErr result (λ e. e ≡ EditError.OutOfMemory) }
+    ensures wanted { OnErr result (WantsToLookUp (nodes_of doc.now) (names_of names.now)) }
+{
+    match over {
+        Over::Keep => is_in_the_way(doc, names),
+        Over::Replace => Ok(false),
+    }
+}
+
 // Makes one edit, whole or not at all.
 fn make_one<A: Allocator + Copy>(doc: &mut CstRootNode<A>, edit: Edit<A>) -> Result<(), EditError>
     requires { is_whole edit ≡ true }
@@ -144,8 +162,9 @@ fn make_one<A: Allocator + Copy>(doc: &mut CstRootNode<A>, edit: Edit<A>) -> Res
 /// objects; in a document without a value all nested is its first. A value of another kind than an object
 /// on the way stays, where it is to be kept, and the answer is false; or the rest nested takes its place.
 ///
-/// Memory is the one refusal of a document that was read, and changed by no edit of single leaves. A refusal
-/// leaves the document as it was.
+/// Memory is the one refusal of a document that was read, and changed by no edit of single leaves. It is wanted
+/// only to look up a name in an object that has a name with a backslash, or where nothing is in the way that is
+/// to be kept. A refusal leaves the document as it was.
 pub fn set_at<A: Allocator + Copy>(
     doc: &mut CstRootNode<A>,
     names: &[String<A>],
@@ -155,10 +174,19 @@ pub fn set_at<A: Allocator + Copy>(
     ensures put { IfOk result
         (PutsWhatShown (plain value) over (names_of names.now) (nodes_of doc.old) (nodes_of doc.new)) }
     ensures told { IfErr result (WantsMemory (nodes_of doc.old)) }
+    ensures wanted { OnErr result (WantsToPut over (nodes_of doc.old) (names_of names.now)) }
     ensures document { OnErr result (tree_of doc.new ≡ tree_of doc.old) }
     ensures tree { NodesAreTree doc.new }
 {
     doc.nodes_are_tree();
+    // What is to stay is seen before memory is wanted for the edit.
+    let stays = match must_stay(doc, names, over) {
+        Ok(stays) => stays,
+        Err(error) => return Err(error),
+    };
+    if stays {
+        return Ok(false);
+    }
     let edit = match choose(doc, names, value, over) {
         Ok(Some(edit)) => edit,
         Ok(None) => return Ok(false),
@@ -175,8 +203,9 @@ pub fn set_at<A: Allocator + Copy>(
 /// Drops what stands at a path of names: the first property of the last name, in the object that those
 /// before it lead to, or with no names the document's value. The answer is false where nothing stands there.
 ///
-/// Memory is the one refusal of a document that was read, and changed by no edit of single leaves. A refusal
-/// leaves the document as it was.
+/// Memory is the one refusal of a document that was read, and changed by no edit of single leaves. It is wanted
+/// only to look up a name in an object that has a name with a backslash, or where something stands there. A
+/// refusal leaves the document as it was.
 pub fn remove_at<A: Allocator + Copy>(
     doc: &mut CstRootNode<A>,
     names: &[String<A>],
@@ -184,10 +213,17 @@ pub fn remove_at<A: Allocator + Copy>(
     ensures dropped { IfOk result
         (DropsWhatShown (names_of names.now) (nodes_of doc.old) (nodes_of doc.new)) }
     ensures told { IfErr result (WantsMemory (nodes_of doc.old)) }
+    ensures wanted { OnErr result (WantsForSomething (nodes_of doc.old) (names_of names.now)) }
     ensures document { OnErr result (tree_of doc.new ≡ tree_of doc.old) }
     ensures tree { NodesAreTree doc.new }
 {
     doc.nodes_are_tree();
+    // Whether something stands there is seen before memory is wanted for the edit.
+    match find_at(doc, names) {
+        Ok(Some(_)) => {}
+        Ok(None) => return Ok(false),
+        Err(error) => return Err(error),
+    }
     let path = match reach(doc, names) {
         Ok(Reached::Value(path)) => path,
         Ok(Reached::Nothing) => return Ok(false),

@@ -1,8 +1,11 @@
 //! How far names lead in a document.
 
-ghost use Rattle.std.specs.Prelude.{◌≡◌, chars, length, IfErr, IfOk, IfSome, true};
-ghost use Rattle.jsonc_cst.specs.Document.{Holds};
+ghost use Rattle.std.specs.Prelude.{◌≡◌, chars, length, IfErr, IfOk, IfSome, OnErr, true};
+ghost use Rattle.jsonc_layout.specs.nodes.Names.{HoldsEscapedName};
+ghost use Rattle.jsonc_cst.specs.Document.{nodes_of, Holds};
+ghost use Rattle.jsonc_cst.specs.Nodes.{number_of};
 ghost use Rattle.jsonc_parser.specs.paths.Found.{names_of};
+ghost use Rattle.jsonc_parser.specs.paths.Memory.{TellsTheWay, WantsToLookUp};
 ghost use Rattle.jsonc_parser.specs.paths.Reach.{CountsWithin, ReachesWhatShown, StepHolds, StepsWhatShown};
 
 use jsonc_cst::cst::{CstNode, CstRootNode, EditError};
@@ -42,6 +45,7 @@ fn step_from<A: Allocator + Copy>(
     ensures step { IfOk result (StepsWhatShown doc.now node (chars name.now)) }
     ensures held { IfOk result (StepHolds doc.now) }
     ensures memory { IfErr result (λ e. e ≡ EditError.OutOfMemory) }
+    ensures escaped { OnErr result (HoldsEscapedName (nodes_of doc.now) (number_of node)) }
 {
     doc.nodes_are_tree();
     let Some(object) = node.as_object() else {
@@ -88,4 +92,31 @@ pub fn reach<A: Allocator + Copy>(
         }
     }
     Ok(Reached::Value(path))
+}
+
+/// Whether a value of another kind than an object stands in the way of names.
+///
+/// Memory is wanted only to look up a name in an object that has a name with a backslash.
+pub fn is_in_the_way<A: Allocator + Copy>(
+    doc: &CstRootNode<A>,
+    names: &[String<A>],
+) -> Result<bool, EditError>
+    ensures stands { IfOk result (TellsTheWay (nodes_of doc.now) (names_of names.now)) }
+    ensures memory { IfErr result (λ e. e ≡ EditError.OutOfMemory) }
+    ensures wanted { OnErr result (WantsToLookUp (nodes_of doc.now) (names_of names.now)) }
+{
+    doc.nodes_are_tree();
+    let Some(value) = doc.value() else {
+        return Ok(false);
+    };
+    let mut node = value;
+    for name in names {
+        match step_from(doc, node, name) {
+            Ok(Step::On(_, inner)) => node = inner,
+            Ok(Step::Missing) => return Ok(false),
+            Ok(Step::Another) => return Ok(true),
+            Err(error) => return Err(error),
+        }
+    }
+    Ok(false)
 }

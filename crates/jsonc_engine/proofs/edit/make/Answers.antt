@@ -56,7 +56,7 @@ returns-clause-made g c = λ o request is.
 
 pub returns-clause-told : goal.returns-clause-told
 returns-clause-told g c = λ o request is sound.
-    drop_told o request (nodes_of c.args.document.now) c.in-Drop.names (subst (IsChangeFor request) c.in-Drop.is is) sound c.drop_setting.result (c.drop_setting.ensures.told o sound)
+    drop_told o request (nodes_of c.args.document.now) c.in-Drop.names (subst (IsChangeFor request) c.in-Drop.is is) c.deref-in-Drop.result.now c.deref-in-Drop.ensures.value c.drop_setting.result (c.drop_setting.ensures.told o sound)
 
 pub returns-in-Stay-clause-made : goal.returns-in-Stay-clause-made
 returns-in-Stay-clause-made g c = λ o request is. stay_makes o request (nodes_of c.args.document.now) (subst (IsChangeFor request) c.in-Stay.is is)

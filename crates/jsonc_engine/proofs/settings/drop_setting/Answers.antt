@@ -1,8 +1,6 @@
-use Rattle.std.proofs.Common.{ap}
 use Rattle.jsonc_cst.specs.Document.{nodes_of}
 use Rattle.jsonc_parser.specs.paths.Found.{names_of}
-use Rattle.jsonc_engine.specs.declared.fault.Fault.TheVariants.{Edit}
-use Rattle.jsonc_engine.proofs.Standing.{drops_setting, for_memory}
+use Rattle.jsonc_engine.proofs.Standing.{drops_setting, memory_dropping}
 use Rattle.jsonc_engine.proofs.settings.drop_setting.Goals as goal
 
 pub returns-in-Ok-clause-dropped : goal.returns-in-Ok-clause-dropped
@@ -11,4 +9,4 @@ returns-in-Ok-clause-dropped g c = λ o sound.
 
 pub returns-in-Err-clause-told : goal.returns-in-Err-clause-told
 returns-in-Err-clause-told g c = λ o sound.
-    ap Edit (for_memory o (nodes_of c.args.document.now) sound c.in-Err.error c.in-Err.ensures.told)
+    memory_dropping o (nodes_of c.args.document.now) sound (names_of c.args.names.now) c.in-Err.error c.in-Err.ensures.told c.in-Err.ensures.wanted

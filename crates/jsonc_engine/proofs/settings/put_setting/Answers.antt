@@ -1,10 +1,9 @@
 use Rattle.std.proofs.Common.{Bool, subst}
 use Rattle.jsonc_layout.specs.input.Views.{plain}
-use Rattle.jsonc_cst.specs.Document.{nodes_of, printed_of}
+use Rattle.jsonc_cst.specs.Document.{nodes_of}
 use Rattle.jsonc_insert.specs.declared.named.shape.Over.TheVariants.{Keep}
 use Rattle.jsonc_parser.specs.paths.Calls.{PutsWhatShown}
 use Rattle.jsonc_parser.specs.paths.Found.{names_of}
-use Rattle.jsonc_engine.proofs.RootKinds.{way_begins}
 use Rattle.jsonc_engine.proofs.Standing.{in_the_way, memory_putting, puts_setting, stays_so}
 use Rattle.jsonc_engine.proofs.settings.put_setting.Goals as goal
 
@@ -34,8 +33,4 @@ returns-in-Ok-false-clause-document g c = λ o sound.
 
 pub returns-in-Err-clause-told : goal.returns-in-Err-clause-told
 returns-in-Err-clause-told g c = λ o sound.
-    memory_putting o (nodes_of c.args.document.now) sound (names_of c.args.names.now) c.in-Err.error c.in-Err.ensures.told (c.is_in_the_way.ensures.begins o sound c.if-is_in_the_way.false)
-
-pub returns-then-is_in_the_way-clause-told : goal.returns-then-is_in_the_way-clause-told
-returns-then-is_in_the_way-clause-told g c = λ o sound.
-    way_begins o (printed_of c.args.document.now) (names_of c.args.names.now) (c.is_in_the_way.ensures.stands o sound c.if-is_in_the_way.true)
+    memory_putting o (nodes_of c.args.document.now) sound (names_of c.args.names.now) c.in-Err.error c.in-Err.ensures.told c.in-Err.ensures.wanted

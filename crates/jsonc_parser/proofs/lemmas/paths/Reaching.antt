@@ -67,7 +67,7 @@ lacking no_more f = elim f [ ]
 lacking (other_name ne l) this_one = ne refl
 lacking (other_name ne l) (later_one other f) = lacking l f
 
-led_all : {names : List (List ℕ)} {path : List ℕ} {x v : Plain} → Leads names path x v → StandsInTheWay (Some x) names → ⊥
+pub led_all : {names : List (List ℕ)} {path : List ℕ} {x v : Plain} → Leads names path x v → StandsInTheWay (Some x) names → ⊥
 led_all leads_nowhere s = blocked_end s refl
 led_all (leads_on {name = name} {names = names} {ms = ms} f l) s =
     let b = blocked s name names ms refl refl in

@@ -3,6 +3,7 @@ use Rattle.jsonc_layout.specs.input.Views.{chars_of}
 use Rattle.jsonc_cst.specs.Document.{Holds}
 use Rattle.jsonc_parser.specs.paths.Found.{names_of, FindsInsideWhatShown}
 use Rattle.jsonc_parser.proofs.lemmas.paths.Found.{all_along, no_value_found, none_along, one_along, one_more, split_at, value_found, NamesWhatShown}
+use Rattle.jsonc_parser.proofs.lemmas.paths.Wanting.{passes}
 use Rattle.jsonc_parser.proofs.paths.find.find_at.Goals as goal
 
 pub returns-in_default-clause-found : goal.returns-in_default-clause-found
@@ -40,3 +41,7 @@ returns-clause-found g c = all_along c.args.doc.now c.nodes_are_tree.ensures.sto
 
 pub returns-clause-held : goal.returns-clause-held
 returns-clause-held g c = c.loop-name.invariant.1
+
+pub returns-in-Err-clause-wanted : goal.returns-in-Err-clause-wanted
+returns-in-Err-clause-wanted g c =
+    passes c.args.doc.now c.args.names.now c.loop-name.name-index c.loop-name.node c.loop-name.invariant.0 c.name-item.result c.loop-name-test.true c.in-Err.ensures.escaped

@@ -2,6 +2,7 @@ use Rattle.std.proofs.Common.{chars, subst}
 use Rattle.jsonc_cst.specs.Document.{Holds}
 use Rattle.jsonc_cst.specs.Readings.{IsFirstNamed}
 use Rattle.jsonc_parser.proofs.lemmas.paths.Found.{no_object_found, none_found, one_found}
+use Rattle.jsonc_parser.proofs.lemmas.paths.Wanting.{escaped_here}
 use Rattle.jsonc_parser.proofs.paths.find.find_inside.Goals as goal
 
 pub returns-in_default-clause-found : goal.returns-in_default-clause-found
@@ -20,3 +21,6 @@ pub returns-in-Ok-None-clause-found : goal.returns-in-Ok-None-clause-found
 returns-in-Ok-None-clause-found g c =
     none_found c.args.doc.now c.nodes_are_tree.ensures.stored c.args.node c.in-Some.object (chars c.args.name.now) c.requires ((c.as_object.ensures c.in-Some.object).0 c.in-Some.is)
     (subst (IsFirstNamed c.args.doc.now c.in-Some.object (chars c.args.name.now)) c.in-Ok-None.field-0-is c.in-Ok-None.ensures.found)
+
+pub returns-in-Err-clause-escaped : goal.returns-in-Err-clause-escaped
+returns-in-Err-clause-escaped g c = escaped_here c.args.doc.now c.args.node c.in-Some.object ((c.as_object.ensures c.in-Some.object).0 c.in-Some.is) c.in-Err.ensures.escaped

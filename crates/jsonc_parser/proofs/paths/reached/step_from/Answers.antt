@@ -2,6 +2,7 @@ use Rattle.std.proofs.Common.{chars, subst, sym, ◌∙◌}
 use Rattle.jsonc_cst.specs.Document.{Holds}
 use Rattle.jsonc_cst.specs.Readings.{IsFirstNamed}
 use Rattle.jsonc_parser.proofs.lemmas.paths.Stepping.{steps_nowhere, steps_on, steps_to_another, steps_to_missing}
+use Rattle.jsonc_parser.proofs.lemmas.paths.Wanting.{escaped_here}
 use Rattle.jsonc_parser.proofs.paths.reached.step_from.Goals as goal
 
 pub returns-in_default-clause-step : goal.returns-in_default-clause-step
@@ -27,3 +28,6 @@ returns-in-None-clause-step g c =
     steps_nowhere c.args.doc.now c.nodes_are_tree.ensures.stored c.args.node c.in-Some.object (chars c.args.name.now) c.requires ((c.as_object.ensures c.in-Some.object).0 c.in-Some.is) c.in-Ok-Some.property
     (subst (IsFirstNamed c.args.doc.now c.in-Some.object (chars c.args.name.now)) c.in-Ok-Some.field-0-is c.in-Ok-Some.ensures.found)
     (sym c.in-None.is ∙ c.value.ensures.value)
+
+pub returns-in-Err-clause-escaped : goal.returns-in-Err-clause-escaped
+returns-in-Err-clause-escaped g c = escaped_here c.args.doc.now c.args.node c.in-Some.object ((c.as_object.ensures c.in-Some.object).0 c.in-Some.is) c.in-Err.ensures.escaped

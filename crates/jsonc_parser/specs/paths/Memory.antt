@@ -1,0 +1,44 @@
+-- What memory is wanted for at a path of names: to look up a name, or behind that for what is read, put or dropped there.
+use Rattle.std.specs.Prelude.{◌≡◌, ◌⊎◌, ◌++◌, ◌∷◌, ℕ, Bool, List, Option}
+use Rattle.std.specs.Bool.{Decides}
+use Rattle.jsonc_text.specs.Edits.{Document}
+use Rattle.jsonc_text.specs.Plain.{Plain}
+use Rattle.jsonc_tree.specs.OrderedTree.{ordered_tree}
+use Rattle.jsonc_tree.specs.Tree.{Node}
+use Rattle.jsonc_layout.specs.nodes.Names.{HoldsEscapedName}
+use Rattle.jsonc_sound.specs.Documents.{Shows}
+use Rattle.jsonc_insert.specs.declared.named.shape.Over.{Over}
+use Rattle.jsonc_parser.specs.paths.Laws.{MustStay}
+use Rattle.jsonc_parser.specs.paths.Settings.{At, StandsInTheWay}
+use Rattle.jsonc_parser.specs.paths.Standing.{NamesNode}
+
+-- The names before one of these lead to an object that has a name with a backslash: to look up the next one there may take memory.
+pub record PassesEscaped (d : Document) (ns : List Node) (names : List (List ℕ)) : Type 0 where
+  pub front : List (List ℕ)
+  pub name : List ℕ
+  pub rest : List (List ℕ)
+  pub split : names ≡ front ++ name ∷ rest
+  pub object : ℕ
+  pub leads : NamesNode d ns front object
+  pub escaped : HoldsEscapedName ns object
+
+-- something stands at the names
+abbrev pub SomethingAt : Option Plain → List (List ℕ) → Type 0
+SomethingAt w names = (v : Plain) × At w names v
+
+-- of whatever document the nodes show: memory was wanted to look up a name; or to look up one, or for what stands at them; or nothing stands in the way that is to stay
+abbrev pub WantsToLookUp : List Node → List (List ℕ) → Type 0
+WantsToLookUp ns names = (d : Document) → Shows d (ordered_tree ns 0) → PassesEscaped d ns names
+
+abbrev pub WantsForSomething : List Node → List (List ℕ) → Type 0
+WantsForSomething ns names = (d : Document) → Shows d (ordered_tree ns 0) → PassesEscaped d ns names ⊎ SomethingAt d.value names
+
+abbrev pub WantsToPut : Over → List Node → List (List ℕ) → Type 0
+WantsToPut over ns names = (d : Document) → Shows d (ordered_tree ns 0) → PassesEscaped d ns names ⊎ ¬ (MustStay over d.value names)
+
+-- so it is told whether a value of another kind stands in the way, and whether it is to stay
+abbrev pub TellsTheWay : List Node → List (List ℕ) → Bool → Type 0
+TellsTheWay ns names b = (d : Document) → Shows d (ordered_tree ns 0) → Decides b (StandsInTheWay d.value names)
+
+abbrev pub TellsWhatStays : Over → List Node → List (List ℕ) → Bool → Type 0
+TellsWhatStays over ns names b = (d : Document) → Shows d (ordered_tree ns 0) → Decides b (MustStay over d.value names)
