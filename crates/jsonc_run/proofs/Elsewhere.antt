@@ -306,6 +306,7 @@ module _ (old : List Node) (tree : IsTree old) where
   pub out_down : (n c : ℕ) → parent_at old n ≡ Some c → Out c → Out n
   out_down _ c said out IsOver.itself = let wrong : None ≡ Some c = sym tree.root_alone ∙ said in absurd (cc)
   out_down n c said out (IsOver.above {c = p} up rest) = out (subst (IsOver old 0) (Some_same p c (sym up ∙ said)) rest)
+
   pub out_below : (n k : ℕ) → IsOver old n k → Out n → Out k
   out_below n _ IsOver.itself out = out
   out_below n k (IsOver.above {c = p} said rest) out = out_down k p said (out_below n p rest out)
