@@ -7,7 +7,6 @@ pub mod Fault
 pub mod Input
 pub mod Output
 pub mod Parser
-pub mod Reading
 pub mod Removal
 pub mod Setting
 pub mod Settings
