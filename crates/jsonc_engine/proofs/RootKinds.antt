@@ -1,11 +1,10 @@
 -- The kind of a sound document's value, as its nodes tell.
-use Rattle.std.proofs.Common.{◌≡◌, ◌≢◌, ℕ, Bool, true, false, List, [], ◌∷◌, chars, length, Option, Some, None, IfSome, if◌then◌else◌, refl, sym, ap, subst, ◌∙◌}
+use Rattle.std.proofs.Common.{◌≡◌, ℕ, Bool, true, false, List, chars, Option, Some, None, if◌then◌else◌, refl, sym, ap, subst, ◌∙◌}
 use Rattle.std.proofs.lemmas.Bool.{false≢true, true≢false}
 use Rattle.std.specs.Prelude.{is_some}
 use Rattle.jsonc_text.specs.Options.{Options}
 use Rattle.jsonc_text.specs.Plain.{Plain}
 use Rattle.jsonc_text.specs.Grammar.{IsDocument}
-use Rattle.jsonc_text.proofs.UniqueValues.{document_unique}
 use Rattle.jsonc_tree.specs.Content as content
 use Rattle.jsonc_tree.specs.Content.{Content, array, object}
 use Rattle.jsonc_tree.specs.OrderedTree.{ordered_tree, printed}
@@ -54,15 +53,6 @@ no_array_read : (c : Content) (n : ℕ) → array_if (Some (typed c n)) ≡ None
 unfolding is_read
 no_array_read content.array n e = let wrong : true ≡ false = ap is_read e in cc
 no_array_read _ n e = refl
-
-is_object_read : Option CstObject → Bool
-is_object_read None = false
-is_object_read (Some x) = true
-
-no_object_read : (c : Content) (n : ℕ) → object_if (Some (typed c n)) ≡ None → kinds.is_object c ≡ false
-unfolding is_object_read
-no_object_read content.object n e = let wrong : true ≡ false = ap is_object_read e in cc
-no_object_read _ n e = refl
 
 if_some : (b : Bool) (n m : ℕ) → Some m ≡ (if b then Some n else None) → b ≡ true
 if_some true n m e = refl

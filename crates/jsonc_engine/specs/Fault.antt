@@ -1,5 +1,5 @@
 -- What a fault prints, and what it says of the input.
-use Rattle.std.specs.Prelude.{◌≡◌, ℕ, List, Option, IfSome, ◌++◌, ◌⊎◌, chars, codes, IsUtf8}
+use Rattle.std.specs.Prelude.{◌≡◌, ℕ, List, Option, IfSome, ◌++◌, ◌⊎◌, codes, IsUtf8}
 use Rattle.jsonc_insert.specs.named.Shapes.{is_array, is_object}
 use Rattle.jsonc_engine.specs.Argument.{IsFaultOfArgument, IsPath, IsReady}
 use Rattle.jsonc_engine.specs.Calls.{one_more}
@@ -8,7 +8,7 @@ use Rattle.jsonc_engine.specs.Input.{HasAnother, HasKind, IsRefusalOf, MayHave}
 use Rattle.jsonc_engine.specs.Output.{IsLeft}
 use Rattle.jsonc_engine.specs.Removal.{IsNoObject}
 use Rattle.jsonc_engine.specs.Settings.{HasInTheWay, HasNothingAt, IsForPutting, IsForSomething}
-use Rattle.jsonc_engine.specs.Parser.{IsDocument, Options, OutOfMemory, Plain, all_on, edit_error_text, error_text}
+use Rattle.jsonc_engine.specs.Parser.{Options, OutOfMemory, all_on, edit_error_text, error_text}
 use Rattle.jsonc_engine.specs.declared.fault.Fault.{Fault}
 use Rattle.jsonc_engine.specs.declared.fault.Fault.TheVariants.{Argument, Edit, Input, NoSetting, NoValue, NotArray, NotNames, NotObject, NotUtf8, OnTheWay, Path, Read, Usage, Write}
 

@@ -26,19 +26,22 @@ pub record PassesEscaped (d : Document) (ns : List Node) (names : List (List ℕ
 abbrev pub SomethingAt : Option Plain → List (List ℕ) → Type 0
 SomethingAt w names = (v : Plain) × At w names v
 
--- of whatever document the nodes show: memory was wanted to look up a name; or to look up one, or for what stands at them; or nothing stands in the way that is to stay
+-- memory was wanted to look up a name, in whatever document the nodes show
 abbrev pub WantsToLookUp : List Node → List (List ℕ) → Type 0
 WantsToLookUp ns names = (d : Document) → Shows d (ordered_tree ns 0) → PassesEscaped d ns names
 
+-- it was so, or something stands at the names, for which it was wanted
 abbrev pub WantsForSomething : List Node → List (List ℕ) → Type 0
 WantsForSomething ns names = (d : Document) → Shows d (ordered_tree ns 0) → PassesEscaped d ns names ⊎ SomethingAt d.value names
 
+-- it was so, or nothing is in the way that is to stay, and a value can be put there
 abbrev pub WantsToPut : Over → List Node → List (List ℕ) → Type 0
 WantsToPut over ns names = (d : Document) → Shows d (ordered_tree ns 0) → PassesEscaped d ns names ⊎ ¬ (MustStay over d.value names)
 
--- so it is told whether a value of another kind stands in the way, and whether it is to stay
+-- whether a value of another kind than an object stands in the way
 abbrev pub TellsTheWay : List Node → List (List ℕ) → Bool → Type 0
 TellsTheWay ns names b = (d : Document) → Shows d (ordered_tree ns 0) → Decides b (StandsInTheWay d.value names)
 
+-- and whether it is to stay
 abbrev pub TellsWhatStays : Over → List Node → List (List ℕ) → Bool → Type 0
 TellsWhatStays over ns names b = (d : Document) → Shows d (ordered_tree ns 0) → Decides b (MustStay over d.value names)

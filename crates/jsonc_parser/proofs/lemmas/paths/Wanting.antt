@@ -10,19 +10,17 @@ use Rattle.jsonc_text.specs.Plain as plain
 use Rattle.jsonc_layout.specs.input.Views.{chars_of}
 use Rattle.jsonc_layout.specs.nodes.Names.{HoldsEscapedName}
 use Rattle.jsonc_tree.specs.Tree.{Node, IsTree}
-use Rattle.jsonc_sound.specs.Documents.{Shows}
 use Rattle.jsonc_insert.specs.declared.named.shape.Over.{Over}
 use Rattle.jsonc_insert.specs.declared.named.shape.Over.TheVariants.{Keep, Replace}
 use Rattle.jsonc_insert.specs.named.Members.{LacksMember}
 use Rattle.jsonc_cst.specs.declared.cst.CstRootNode.{CstRootNode}
 use Rattle.jsonc_cst.specs.declared.cst.node.CstNode.{CstNode}
 use Rattle.jsonc_cst.specs.declared.cst.node.CstObject.{CstObject}
-use Rattle.jsonc_cst.specs.Document.{nodes_of, tree_of}
+use Rattle.jsonc_cst.specs.Document.{nodes_of}
 use Rattle.jsonc_cst.specs.Nodes.{number_of, object_node}
 use Rattle.jsonc_cst.specs.Readings.{value_under}
 use Rattle.jsonc_parser.specs.paths.Found.{names_of, FindsWhatShown}
-use Rattle.jsonc_parser.specs.paths.Laws.{MustStay}
-use Rattle.jsonc_parser.specs.paths.Memory.{PassesEscaped, SomethingAt, TellsTheWay, TellsWhatStays, WantsForSomething, WantsToLookUp, WantsToPut}
+use Rattle.jsonc_parser.specs.paths.Memory.{TellsTheWay, TellsWhatStays, WantsForSomething, WantsToLookUp, WantsToPut}
 use Rattle.jsonc_parser.specs.paths.Positions.{appends, Leads}
 use Rattle.jsonc_parser.specs.paths.Reach.{StepsWhatShown}
 use Rattle.jsonc_parser.specs.paths.Settings.{IsNoObject, StandsInTheWay}
