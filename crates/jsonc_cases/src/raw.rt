@@ -5,7 +5,8 @@ use crate::paths::{property_at, push_children};
 use crate::refusal::Refusal;
 use jsonc_parser::cst::{
     CstContainerNode, CstInputValue, CstLeafNode, CstNewlineKind, CstNode, CstRootNode, EditError,
-    IsNode, ObjectPropName,
+    IsNode, ObjectPropName, Remove, RemoveLeaf, ReplaceWith, SetNewline, SetRawValue, SetToken,
+    SetWhitespace,
 };
 use std::alloc::Global;
 

@@ -1,5 +1,4 @@
 pub mod Around
-pub mod AsCalls
 pub mod Calls
 pub mod Commas
 pub mod Edits

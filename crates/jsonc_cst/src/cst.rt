@@ -43,6 +43,7 @@ use jsonc_text::errors::ParseError;
 use jsonc_text::options::ParseOptions;
 use jsonc_tree::Tree;
 pub use jsonc_tree::{CstNewlineKind, Pieces, Shown};
+pub use layout::Readings;
 pub use navigation::{HasChildren, IsNode};
 pub use node::{
     CstArray, CstBooleanLit, CstComment, CstContainerNode, CstLeafNode, CstNewline, CstNode,
@@ -95,7 +96,9 @@ impl<A: Allocator + Copy> CstRootNode<A> {
         let Ok(tree) = build(alloc, text, parsed.value.as_ref()) else {
             return Err(ParseError::out_of_memory());
         };
-        Ok(CstRootNode { tree, alloc })
+        let document = CstRootNode { tree, alloc };
+        document.nodes_are_tree();
+        Ok(document)
     }
 
     /// The document's text.

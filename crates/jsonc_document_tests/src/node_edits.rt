@@ -4,7 +4,8 @@ ghost use Rattle.jsonc_cst.specs.Nodes.{object_prop_node};
 
 use jsonc_parser::cst::{
     CstContainerNode, CstInputValue, CstLeafNode, CstNewlineKind, CstNode, CstObjectProp,
-    CstRootNode, EditError, ObjectPropName,
+    CstRootNode, EditError, ObjectPropName, Remove, RemoveLeaf, ReplaceProperty, ReplaceWith,
+    SetBoolean, SetNewline, SetProperty, SetRawValue, SetToken, SetWhitespace,
 };
 use refusing::outcome::Outcome;
 use std::alloc::Allocator;

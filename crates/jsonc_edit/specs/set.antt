@@ -1,5 +1,4 @@
 pub mod RootSet
-pub mod Shapes
 pub mod Kinds
 pub mod Giving
 pub mod Properties

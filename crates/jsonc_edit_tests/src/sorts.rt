@@ -8,7 +8,8 @@ use crate::reading::read;
 use crate::rows::{Edits, is_made_in_turn};
 use jsonc_parser::cst::{
     CstArray, CstComment, CstContainerNode, CstLeafNode, CstNode, CstObject, CstObjectProp,
-    CstRootNode, EditError, HasChildren, IsNode, ObjectPropName, TrailingCommaMode,
+    CstRootNode, EditError, HasChildren, IsNode, ObjectPropName, RemoveLeaf, SetTrailingCommas,
+    SortElements, SortProperties, TrailingCommaMode,
 };
 use refusing::awaited::prints;
 use refusing::outcome::Outcome;

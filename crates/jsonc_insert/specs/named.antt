@@ -1,3 +1,4 @@
+pub mod Shapes
 pub mod Places
 pub mod Named
 pub mod Values

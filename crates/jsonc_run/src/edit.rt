@@ -1,6 +1,7 @@
 //! What an edit asks for.
 
-use jsonc_edit::{Over, Shape, TrailingCommaMode};
+use jsonc_edit::TrailingCommaMode;
+use jsonc_insert::named::{Over, Shape};
 use jsonc_layout::input::CstInputValue;
 use std::alloc::Allocator;
 

@@ -21,6 +21,7 @@
 mod above;
 pub mod again;
 pub mod groups;
+mod kinds;
 pub mod laws;
 mod leads;
 mod order;

@@ -8,7 +8,6 @@
 
 pub mod chars;
 pub mod common;
-pub mod edit;
 pub mod errors;
 pub mod laws;
 mod line;

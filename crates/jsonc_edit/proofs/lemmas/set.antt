@@ -13,4 +13,3 @@ pub mod WrittenBoolean
 pub mod PropertyValue
 pub mod ComingLast
 pub mod PropertyKinds
-pub mod Shaped

@@ -1,0 +1,14 @@
+use Rattle.std.proofs.Common.{ℕ, OnOk, subst, chars}
+use Rattle.jsonc_cst.specs.typed.Edits.{StaysElsewhere}
+use Rattle.jsonc_insert.specs.declared.named.shape.Over.TheVariants.{Replace}
+use Rattle.jsonc_insert.specs.declared.named.shape.Shape.TheVariants.{Object}
+use Rattle.jsonc_cst.specs.objects.Named.{IsEnsuringNamed}
+use Rattle.jsonc_cst.proofs.objects.named.CstObjectEnsureProperty.object_value_or_set.Goals as goal
+
+pub returns-clause-elsewhere : goal.returns-clause-elsewhere
+returns-clause-elsewhere g c =
+    subst (λ (n : ℕ). OnOk c.set_object-value.result (StaysElsewhere c.args.doc.now.tree.nodes c.set_object-value.new.tree.nodes n)) c.object_number-number.ensures.number c.set_object-value.ensures.elsewhere
+
+pub returns-clause-step : goal.returns-clause-step
+returns-clause-step g c =
+    subst (λ (n : ℕ). OnOk c.set_object-value.result (IsEnsuringNamed c.args.doc.now.tree.nodes c.set_object-value.new.tree.nodes n (chars c.args.name.now) Object Replace)) c.object_number-number.ensures.number c.set_object-value.ensures.step
