@@ -3,7 +3,7 @@
 #![tactic(auto)]
 
 use jsonc_parser::ParseOptions;
-use jsonc_parser::cst::{CstInputValue, CstRootNode, EditError, SetProperty};
+use jsonc_parser::cst::{CstInputValue, CstRootNode, EditError};
 use std::alloc::Allocator;
 use std::default::Default;
 use std::process::ExitCode;

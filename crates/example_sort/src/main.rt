@@ -4,7 +4,7 @@
 #![tactic(auto)]
 
 use jsonc_parser::ParseOptions;
-use jsonc_parser::cst::{CstObjectProp, CstRootNode, EditError, SortProperties};
+use jsonc_parser::cst::{CstObjectProp, CstRootNode, EditError};
 use std::alloc::Allocator;
 use std::default::Default;
 use std::io;

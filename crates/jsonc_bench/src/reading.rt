@@ -13,7 +13,7 @@ use jsonc_layout::lines::indents_at;
 use jsonc_parser::ParseOptions;
 use jsonc_parser::cst::{
     CstComment, CstContainerNode, CstLeafNode, CstNewlineKind, CstNode, CstObjectProp, CstRootNode,
-    CstStringLit, HasChildren, IsNode, Readings,
+    CstStringLit, HasChildren, IsNode,
 };
 use std::alloc::{AllocError, Global};
 
@@ -167,7 +167,7 @@ fn push_indents(
     if node.as_root_node().is_some() {
         return out.push_str(" in=, ");
     }
-    let indents = indents_at(alloc, &doc.tree, node.number())?;
+    let indents = indents_at(alloc, doc.tree(), node.number())?;
     let current = Escaped::word(indents.current.as_str());
     let single = Escaped::word(indents.single.as_str());
     write!(out, " in={current},{single} ")

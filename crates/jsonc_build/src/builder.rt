@@ -6,7 +6,7 @@ ghost use Rattle.jsonc_text.specs.Text.{Spans};
 ghost use Rattle.jsonc_tree.specs.Content.{Content};
 ghost use Rattle.jsonc_tree.specs.OrderedTree.{OrderedTree, more, none, ordered_tree, printed};
 ghost use Rattle.jsonc_tree.specs.Values.{DocumentValueOf};
-ghost use Rattle.jsonc_tree.specs.Tree.{is_container_at, IsTree};
+ghost use Rattle.jsonc_tree.specs.Tree.{is_container_at};
 ghost use Rattle.jsonc_ast.specs.Located.{IsLocatedDocument, value_at};
 ghost use Rattle.jsonc_ast.specs.Views.{items_located, located, members_located, member_of};
 ghost use Rattle.jsonc_build.specs.Given.{located_in};
@@ -255,11 +255,9 @@ pub fn build<A: Allocator + Copy>(
     ensures shaped { (o : Options) → IsLocatedDocument o text.now (located_in value.entry)
         → IfOk result (λ tree. DocumentShaped o (ordered_tree tree.nodes 0)) }
     ensures lines { IfOk result (λ tree. DocumentLinesEnd (ordered_tree tree.nodes 0)) }
-    ensures tree { IfOk result (λ tree. IsTree tree.nodes) }
 {
     let mut tree = Tree::new(alloc)?;
     let whole = RcStr::from_str(alloc, text)?;
     build_root(&mut tree, &whole, text, value)?;
-    let _ = tree.len();
     Ok(tree)
 }

@@ -5,8 +5,7 @@ use crate::paths::{property_at, push_children};
 use crate::refusal::Refusal;
 use jsonc_parser::cst::{
     CstContainerNode, CstInputValue, CstLeafNode, CstNewlineKind, CstNode, CstRootNode, EditError,
-    IsNode, ObjectPropName, Remove, RemoveLeaf, ReplaceWith, SetNewline, SetRawValue, SetToken,
-    SetWhitespace,
+    IsNode, ObjectPropName,
 };
 use std::alloc::Global;
 

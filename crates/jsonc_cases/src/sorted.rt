@@ -8,7 +8,7 @@ use crate::paths::value_at;
 use crate::refusal::Refusal;
 use jsonc_parser::cst::{
     CstArray, CstComment, CstContainerNode, CstNode, CstObject, CstObjectProp, CstRootNode,
-    EditError, IsNode, ObjectPropName, SortElements, SortProperties,
+    EditError, IsNode, ObjectPropName,
 };
 use std::alloc::Global;
 use std::cmp::{Ordering, Reverse};

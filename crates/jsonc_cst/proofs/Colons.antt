@@ -1,5 +1,5 @@
 -- In a document of the grammar's shape each property has its colon between name and value; so what is taken of it is its value.
-use Rattle.std.proofs.Common.{◌≡◌, Option, None, Some, option_map, List, ℕ, IsTrue, refl, ap, sym, subst, ◌∙◌}
+use Rattle.std.proofs.Common.{◌≡◌, Option, option_map, List, ℕ, IsTrue, refl, ap, sym, subst, ◌∙◌}
 use Rattle.jsonc_text.specs.Options.{Options}
 use Rattle.jsonc_text.specs.Plain.{Plain, collapse}
 use Rattle.jsonc_tree.specs.Content.{Content}

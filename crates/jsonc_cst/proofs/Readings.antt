@@ -7,10 +7,9 @@ use Rattle.std.proofs.lemmas.List.Elements.{filter_passes}
 use Rattle.jsonc_tree.specs.Content as content
 use Rattle.jsonc_tree.specs.Tree.{Node, nowhere, content_at, IsTree}
 use Rattle.jsonc_layout.specs.nodes.Comments.{comments_beside}
-use Rattle.jsonc_layout.specs.nodes.Kinds.{is_beside_at, is_comment, is_comment_at, is_property}
+use Rattle.jsonc_layout.specs.nodes.Kinds.{is_beside_at, is_comment, is_comment_at, is_property, is_comma}
 use Rattle.jsonc_layout.specs.nodes.Names.{FirstNamed, none, here, later}
 use Rattle.jsonc_layout.specs.nodes.Siblings.{AreThere}
-use Rattle.jsonc_layout.specs.lines.Kinds.{is_comma}
 use Rattle.jsonc_layout.specs.lines.Siblings.{if_comma}
 use Rattle.jsonc_cst.specs.declared.cst.node.CstNode.{CstNode}
 use Rattle.jsonc_cst.specs.Nodes.{typed, typed_at, IsNodeOf, root_node, object_prop_node, token_node, comment_node}

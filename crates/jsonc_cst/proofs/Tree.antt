@@ -1,7 +1,6 @@
 -- Nodes that are stored as a tree are one in the words of the calls.
 use Rattle.std.proofs.Common.{◌≡◌, ◌≢◌, ℕ, zero, suc, ◌<◌, Bool, true, false, List, [], ◌∷◌, length, map, get_or, Option, Some, None, option_map, refl, ap, sym, subst, ◌∙◌, arith}
 use Rattle.std.specs.List.{All, slice_get}
-use Rattle.std.proofs.lemmas.Bool.{false≢true}
 use Rattle.std.proofs.lemmas.List.{get_or-map, length-map}
 use Rattle.std.proofs.lemmas.Option.{slice_get-map, slice_get-get_or, slice_get_within}
 use Rattle.jsonc_tree.specs.Content as content
@@ -169,10 +168,11 @@ module _ (ns : List Node) (tree : IsTree ns) where
   root_has_none : parent_node ns 0 ≡ None
   root_has_none = ap (option_map (container_of ns)) tree.root_alone
 
--- the nodes of a document
-pub nodes_are_tree : {A : Type 0} (d : CstRootNode A) → IsTree (nodes_of d) → NodesAreTree d
-nodes_are_tree d tree =
+-- the nodes of any document
+pub nodes_are_tree : {A : Type 0} (d : CstRootNode A) → NodesAreTree d
+nodes_are_tree d =
     let ns : List Node = nodes_of d in
+    let tree : IsTree ns = d.tree.tree in
     record {
       root_alone = root_has_none ns tree;
       leaf = leaf_bare ns tree;

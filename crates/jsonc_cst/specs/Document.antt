@@ -7,9 +7,9 @@ use Rattle.jsonc_ast.specs.Located.{Located, IsLocatedDocument}
 use Rattle.jsonc_tree.specs.Content.{Content}
 use Rattle.jsonc_tree.specs.Tree.{Node, content_at}
 use Rattle.jsonc_tree.specs.OrderedTree.{OrderedTree, ordered_tree, printed}
-pub use Rattle.jsonc_edit.specs.Errors.{edit_error_text}
-pub use Rattle.jsonc_edit.specs.declared.error.EditError.{EditError}
-pub use Rattle.jsonc_edit.specs.declared.error.EditError.TheVariants.{OutOfMemory}
+pub use Rattle.jsonc_text.specs.EditErrors.{edit_error_text}
+pub use Rattle.jsonc_text.specs.declared.edit.EditError.{EditError}
+pub use Rattle.jsonc_text.specs.declared.edit.EditError.TheVariants.{OutOfMemory}
 pub use Rattle.jsonc_ast.specs.to_ast.Refusals.{RefusesText, IsWithin}
 pub use Rattle.jsonc_build.specs.Laid.{DocumentLaid}
 use Rattle.jsonc_cst.specs.declared.cst.CstRootNode.{CstRootNode}
@@ -30,6 +30,10 @@ module _ {A : Type 0} where
   -- its nodes
   abbrev pub nodes_of : CstRootNode A → List Node
   nodes_of d = d.tree.nodes
+
+  -- what gives its memory
+  abbrev pub allocator_of : CstRootNode A → A
+  allocator_of d = d.alloc
 
   -- the document has this node
   abbrev pub Holds : CstRootNode A → CstNode → Type 0

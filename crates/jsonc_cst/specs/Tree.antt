@@ -1,5 +1,5 @@
 -- The nodes of a document as a tree, in the words of the calls that go from node to node.
-use Rattle.std.specs.Prelude.{◌≡◌, ◌≢◌, ℕ, List, [], ◌∷◌, Some, None}
+use Rattle.std.specs.Prelude.{◌≡◌, ◌≢◌, ℕ, [], ◌∷◌, Some, None}
 use Rattle.std.specs.List.{All, slice_get}
 use Rattle.jsonc_tree.specs.Tree.{place_at}
 use Rattle.jsonc_cst.specs.declared.cst.CstRootNode.{CstRootNode}

@@ -1,4 +1,5 @@
 pub mod Around
+pub mod AsCalls
 pub mod Calls
 pub mod Commas
 pub mod Edits

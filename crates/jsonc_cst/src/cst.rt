@@ -43,7 +43,6 @@ use jsonc_text::errors::ParseError;
 use jsonc_text::options::ParseOptions;
 use jsonc_tree::Tree;
 pub use jsonc_tree::{CstNewlineKind, Pieces, Shown};
-pub use layout::Readings;
 pub use navigation::{HasChildren, IsNode};
 pub use node::{
     CstArray, CstBooleanLit, CstComment, CstContainerNode, CstLeafNode, CstNewline, CstNode,
@@ -57,11 +56,8 @@ use std::fmt;
 /// A document: a text that keeps its every byte, comments, blanks and commas too.
 #[derive(Drop)]
 pub struct CstRootNode<A: Allocator> {
-    // Both are open to the crate of edits; what users name asks for neither.
-    #[doc(hidden)]
-    pub tree: Tree<A>,
-    #[doc(hidden)]
-    pub alloc: A,
+    pub(crate) tree: Tree<A>,
+    pub(crate) alloc: A,
 }
 
 impl<A: Allocator + Copy> CstRootNode<A> {
@@ -96,9 +92,7 @@ impl<A: Allocator + Copy> CstRootNode<A> {
         let Ok(tree) = build(alloc, text, parsed.value.as_ref()) else {
             return Err(ParseError::out_of_memory());
         };
-        let document = CstRootNode { tree, alloc };
-        document.nodes_are_tree();
-        Ok(document)
+        Ok(CstRootNode { tree, alloc })
     }
 
     /// The document's text.

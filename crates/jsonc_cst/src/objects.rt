@@ -1,14 +1,11 @@
 //! Edits of objects, on typed nodes: properties that come in, and values of properties by name.
 //!
-//! [`InsertProperty`] puts a property into an object, by its number or behind the last
-//! (`specs/objects/Members.antt`); [`EnsureProperty`] sees that the first property of a name has an array or an
-//! object as its value (`specs/objects/Named.antt`). As in `jsonc_cst::typed`, a call is a short body over an edit by the
-//! numbers of nodes, and says with the words of that edit what it makes of the document; every node that the
-//! document held it holds after it too, also after a refusal. If the object stands in a sound document, the
+//! `insert` and `append` put a property into an object, by its number or behind the last
+//! (`specs/objects/Members.antt`); `object_value_or_set` and its kin see that the first property of a name has an
+//! array or an object as its value (`specs/objects/Named.antt`). As in `jsonc_cst::typed`, a call is a short body over
+//! an edit by the numbers of nodes, and says with the words of that edit what it makes of the document; every node
+//! that the document held it holds after it too, also after a refusal. If the object stands in a sound document, the
 //! call is one step from the text that this showed to the one that it shows.
 
 mod members;
 mod named;
-
-pub use members::InsertProperty;
-pub use named::EnsureProperty;

@@ -1,6 +1,6 @@
 //! Sorts of arrays and objects, on typed nodes.
 //!
-//! [`SortElements::sort_elements`] of an array and [`SortProperties::sort_properties`] of an object answer
+//! [`CstArray::sort_elements`](crate::cst::CstArray) and [`CstObject::sort_properties`](crate::cst::CstObject) answer
 //! a sort, a value that is told how to treat what stands between the elements, and then sorts by a
 //! comparison or by keys. These are closures that read the document: they are asked with the document
 //! as it stands before and with nodes of it, all before anything changes (`specs/sorting/Asking.antt`). Which
@@ -16,6 +16,6 @@ mod rows;
 mod sorting;
 
 pub use containers::sort_container;
-pub use elements::{ElementSort, SortElements};
+pub use elements::ElementSort;
 pub use headers::{BlankLineHeaders, HeaderRule, HeadersBy, NoHeaders};
-pub use properties::{PropertySort, SortProperties};
+pub use properties::PropertySort;

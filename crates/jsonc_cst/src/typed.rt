@@ -11,30 +11,21 @@
 //! one that the document shows then. So a list of calls is a list of steps, without a path in a premise. If
 //! the node stands elsewhere, as it has given way or left, the document is what it was.
 //!
-//! [`ReplaceWith`] and [`ReplaceProperty`] let a node give way to another, [`Remove`] and [`RemoveLeaf`]
-//! take one out, and [`SetRoot`], [`SetProperty`] and [`SetBoolean`] have what sets the document's value,
-//! that of a property, and a truth value; [`EnsureMultiline`] puts an array or object on several lines,
-//! [`InsertElement`] a value into an array, and [`SetTrailingCommas`] sets trailing commas.
-//! [`SetRawValue`], [`SetToken`], [`SetWhitespace`] and [`SetNewline`] write one leaf anew as it stands,
-//! without memory, whatever the document makes of that (`specs/typed/Raw.antt`). A closure that reads the
-//! document is lent one by [`IsDocument`].
+//! The edits are methods of the document and of its typed nodes, which take the document first. `set_raw_value`
+//! of strings, numbers, words and comments, `set_value` of tokens and whitespace, and `set_kind` of ends of lines
+//! write one leaf anew as it stands, without memory, whatever the document makes of that
+//! (`specs/typed/Raw.antt`). A closure that reads the document is lent one by [`IsDocument`].
 
 mod commas;
 mod document;
 mod inserting;
 mod lines;
+mod making;
 mod raw;
 mod removing;
 mod replacing;
 mod setting;
 mod values;
 
-pub use commas::SetTrailingCommas;
 pub use document::IsDocument;
-pub use inserting::InsertElement;
-pub use lines::EnsureMultiline;
-pub use raw::{SetNewline, SetRawValue, SetToken, SetWhitespace};
-pub use removing::{Remove, RemoveLeaf};
-pub use replacing::ReplaceWith;
-pub use setting::{ReplaceProperty, SetRoot, array_at, object_at};
-pub use values::{SetBoolean, SetProperty};
+pub use setting::{array_at, object_at};

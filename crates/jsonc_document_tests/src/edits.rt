@@ -30,10 +30,10 @@ fn taken<A: Allocator + Copy>(
     doc: &CstRootNode<A>,
     path: &[usize],
 ) -> Result<CstInputValue<A>, Outcome> {
-    let Some(node) = find(&doc.tree, path) else {
+    let Some(node) = find(doc.tree(), path) else {
         return Err(Outcome::Other);
     };
-    match to_value(alloc, &doc.tree, node) {
+    match to_value(alloc, doc.tree(), node) {
         Ok(Some(value)) => Ok(value),
         Ok(None) => Err(Outcome::Other),
         Err(error) => Err(Outcome::from(error)),
@@ -59,7 +59,7 @@ fn is_changed<A: Allocator + Copy>(doc: CstRootNode<A>, edits: Vec<Edit<A>, A>) 
     let compare = |_doc: &CstRootNode<_>, _one: CstNode, _other: CstNode| Ordering::Equal;
     match run(&mut doc, edits, &compare) {
         Ok(()) => Outcome::of_text(doc.text(), REPLACED).then(Outcome::of(
-            find(&doc.tree, &[0, 2]) == None,
+            find(doc.tree(), &[0, 2]) == None,
         )),
         Err((0, error)) => Outcome::from(error),
         Err(_) => Outcome::Other,

@@ -4,8 +4,7 @@ ghost use Rattle.jsonc_cst.specs.Nodes.{object_prop_node};
 
 use jsonc_parser::cst::{
     CstContainerNode, CstInputValue, CstLeafNode, CstNewlineKind, CstNode, CstObjectProp,
-    CstRootNode, EditError, ObjectPropName, Remove, RemoveLeaf, ReplaceProperty, ReplaceWith,
-    SetBoolean, SetNewline, SetProperty, SetRawValue, SetToken, SetWhitespace,
+    CstRootNode, EditError, ObjectPropName,
 };
 use refusing::outcome::Outcome;
 use std::alloc::Allocator;

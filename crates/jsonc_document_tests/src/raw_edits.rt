@@ -3,8 +3,7 @@
 use crate::reading::{child_at, prepared};
 use jsonc_parser::ParseStringErrorKind;
 use jsonc_parser::cst::{
-    CstContainerNode, CstInputValue, CstLeafNode, CstNode, CstRootNode, EditError, InsertElement,
-    IsNode, Remove, RemoveLeaf, ReplaceWith, SetRawValue,
+    CstContainerNode, CstInputValue, CstLeafNode, CstNode, CstRootNode, EditError, IsNode,
 };
 use refusing::awaited::prints;
 use refusing::outcome::Outcome;

@@ -1,6 +1,6 @@
 //! Edits of a document's value.
 
-use jsonc_parser::cst::{CstInputValue, CstNode, CstRootNode, Remove, SetRoot};
+use jsonc_parser::cst::{CstInputValue, CstNode, CstRootNode};
 use refusing::outcome::Outcome;
 use std::alloc::Allocator;
 

@@ -4,7 +4,7 @@ ghost use Rattle.jsonc_cst.specs.Document.{Holds};
 use crate::reading::{child_at, read};
 use crate::typed::SPREAD;
 use jsonc_parser::cst::{
-    CstComment, CstInputValue, CstNewlineKind, CstNode, CstRootNode, EditError, IsNode, Readings,
+    CstComment, CstInputValue, CstNewlineKind, CstNode, CstRootNode, EditError, IsNode,
 };
 use refusing::in_turn::answers_in_turn;
 use refusing::outcome::Outcome;

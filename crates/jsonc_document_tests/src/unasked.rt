@@ -7,7 +7,7 @@ use crate::reading::{asked_by, child_at, read};
 use crate::typed::{SPREAD, are_counted, are_properties, are_siblings};
 use jsonc_parser::cst::{
     CstContainerNode, CstLeafNode, CstNewlineKind, CstNode, CstObject, CstObjectProp, CstRootNode,
-    HasChildren, IsNode, Readings,
+    HasChildren, IsNode,
 };
 use refusing::Refusing;
 use refusing::awaited::prints;

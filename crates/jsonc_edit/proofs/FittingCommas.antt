@@ -9,10 +9,10 @@ use Rattle.jsonc_tree.specs.Order.{with_parent}
 use Rattle.jsonc_tree.specs.Tree.{Node, content_at, children_at, place_at, IsTree, IsOver}
 use Rattle.jsonc_tree.specs.OrderedTree.{OrderedTree, none, more, Shows, shows_none, shows_more, ordered_tree}
 use Rattle.jsonc_sound.specs.Shape.{IsTrivia, Trivia, nothing, trivia, Separated, comma, no_comma, Closed, plain, trailing_comma, token_then, printed_text, ValueShaped, ElementsShaped, PropertiesShaped, DocumentShaped}
-use Rattle.jsonc_layout.specs.nodes.Kinds.{is_element_at, is_trivia}
+use Rattle.jsonc_layout.specs.nodes.Kinds.{is_element_at, is_trivia, is_comma}
 use Rattle.jsonc_layout.specs.nodes.Siblings.{siblings_after}
 use Rattle.jsonc_sound.specs.TreeChanges.{IsElement}
-use Rattle.jsonc_layout.specs.lines.Kinds.{is_comma, holds_values}
+use Rattle.jsonc_layout.specs.lines.Kinds.{holds_values}
 use Rattle.jsonc_layout.specs.lines.Siblings.{is_no_trivia_at, after_trivia_at, if_comma, trailing_comma_at}
 use Rattle.jsonc_layout.specs.lines.Breadth.{levels, breadth_first, last_element, is_spaced, ends_with_comma, uses_trailing_commas_at}
 use Rattle.jsonc_edit.specs.Changes.{row_below}

@@ -130,7 +130,7 @@ own_is ns tree n s there is =
     ap (λ (t : OrderedTree). own_leaf (content_at ns n) ++ leaves t) bare ∙ ap (λ w. own_leaf w ++ []) is
 
 -- what nodes are stays where spaces come
-contents_spaced : (xs : List ℕ) (old new : List Node) → AreSpaced old xs new → (k : ℕ) → content_at new k ≡ content_at old k
+pub contents_spaced : (xs : List ℕ) (old new : List Node) → AreSpaced old xs new → (k : ℕ) → content_at new k ≡ content_at old k
 contents_spaced [] old new e k = ap (λ ns. content_at ns k) e
 contents_spaced (x ∷ xs) old new (now, leaf, r, rest) k = contents_spaced xs now new rest k ∙ r.put.content k
 

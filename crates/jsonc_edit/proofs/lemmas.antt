@@ -1,4 +1,4 @@
+pub mod multiline
 pub mod commas
 pub mod remove
 pub mod set
-pub mod multiline

@@ -9,7 +9,6 @@ pub mod Laws
 pub mod Worked
 pub mod WorkedValue
 pub mod Comments
-pub mod Errors
 pub mod Due
 pub mod Put
 pub mod Meeting
@@ -19,7 +18,7 @@ pub mod SeamPlaces
 pub mod SeamRemovals
 pub mod SeamEntries
 pub mod SeamLaws
+pub mod multiline
 pub mod commas
 pub mod remove
 pub mod set
-pub mod multiline

@@ -1,4 +1,5 @@
 pub mod RootSet
+pub mod Shapes
 pub mod Kinds
 pub mod Giving
 pub mod Properties

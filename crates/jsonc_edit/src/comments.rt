@@ -5,34 +5,36 @@ ghost use Rattle.jsonc_text.specs.Options.{Options};
 ghost use Rattle.jsonc_tree.specs.Building.{Keeps};
 ghost use Rattle.jsonc_tree.specs.Content.{Content};
 ghost use Rattle.jsonc_tree.specs.OrderedTree.{ordered_tree};
-ghost use Rattle.jsonc_tree.specs.Stored.{content_of};
-ghost use Rattle.jsonc_tree.specs.Tree.{children_at, content_at, parent_at, place_at, IsTree};
+ghost use Rattle.jsonc_tree.specs.Tree.{children_at, content_at, parent_at, place_at};
 ghost use Rattle.jsonc_sound.specs.Lines.{is_line_comment};
 ghost use Rattle.jsonc_edit.specs.Comments.{blanks_from, removed_from, newline_from, CommentLeaves, CommentLeavesAlone};
 ghost use Rattle.jsonc_edit.specs.Comments.{IsRemoved, TakesOut, WantsSpace};
 
+use crate::EditError;
 use crate::due::due_between;
-use crate::error::EditError;
 use crate::put::{make_spaces, put_spaces};
 use jsonc_layout::nodes::{is_newline, is_whitespace};
 use jsonc_tree::{Kind, Tree};
 use std::alloc::Allocator;
 
-// Whether a node is a comment that begins with `//`.
-fn is_line_comment<A: Allocator>(kind: &Kind<A>) -> bool
-    ensures { result ≡ is_line_comment (content_of kind.now) }
-{
-    match kind {
-        Kind::Comment(s) => begins_line(s.as_str()),
-        Kind::CommentPart(s) => begins_line(s.as_str()),
-        _ => false,
-    }
-}
-
 fn begins_line(text: &str) -> bool
     ensures { result ≡ is_line_comment (Content.comment text.now) }
 {
     matches!(text.as_bytes(), [b'/', b'/', ..])
+}
+
+/// Whether a node is a comment that begins with `//`. The number may be any.
+pub fn is_line_comment<A: Allocator>(tree: &Tree<A>, node: usize) -> bool
+    ensures { result ≡ is_line_comment (content_at tree.now.nodes node) }
+{
+    if node >= tree.len() {
+        return false;
+    }
+    match tree.kind(node) {
+        Kind::Comment(s) => begins_line(s.as_str()),
+        Kind::CommentPart(s) => begins_line(s.as_str()),
+        _ => false,
+    }
 }
 
 // Where the whitespace leaves directly before a place begin.
@@ -74,9 +76,8 @@ fn removed_from<A: Allocator>(tree: &Tree<A>, container: usize, comment: usize) 
     ensures from { result ≡ removed_from tree.now.nodes container comment }
     ensures before { result ≤ place_at tree.now.nodes comment }
 {
-    let _ = tree.len();
     let place = tree.child_index(comment);
-    if !is_line_comment(tree.kind(comment)) {
+    if !is_line_comment(tree, comment) {
         return place;
     }
     let blanks = blanks_from(tree, container, place);
@@ -90,7 +91,6 @@ fn first_removed<A: Allocator>(tree: &Tree<A>, container: usize, comment: usize)
         ≡ slice_index (children_at tree.now.nodes container) (removed_from tree.now.nodes container comment) }
     ensures there { result < length tree.now.nodes }
 {
-    let _ = tree.len();
     let from = removed_from(tree, container, comment);
     tree.child_at(container, from)
 }
@@ -99,9 +99,7 @@ fn first_removed<A: Allocator>(tree: &Tree<A>, container: usize, comment: usize)
 fn take_out<A: Allocator>(tree: &mut Tree<A>, container: usize, comment: usize)
     requires { parent_at tree.old.nodes comment ≡ Some container }
     ensures removed { IsRemoved tree.old.nodes tree.new.nodes comment }
-    ensures tree { IsTree tree.new.nodes }
 {
-    let _ = tree.len();
     // A place is below the count of the children, so one more than it is a number too.
     let _ = tree.child_count(container);
     let from = removed_from(tree, container, comment);
@@ -132,9 +130,7 @@ pub fn remove_comment<A: Allocator + Copy>(
     ensures wanted { OnErr result (WantsSpace tree.old.nodes comment) }
     ensures kept { OnErr result (Keeps (length tree.old.nodes) tree.old.nodes tree.new.nodes) }
     ensures document { OnErr result (ordered_tree tree.new.nodes 0 ≡ ordered_tree tree.old.nodes 0) }
-    ensures tree { IsTree tree.new.nodes }
 {
-    let _ = tree.len();
     let Some(container) = tree.parent(comment) else {
         return Ok(());
     };

@@ -61,7 +61,6 @@ fn beginning_of<A: Allocator>(tree: &Tree<A>, node: usize) -> Option<usize>
     ensures beginning { result ≡ beginning_of tree.now.nodes node }
     ensures there { IsThere tree.now.nodes result }
 {
-    let _ = tree.len();
     match tree.kind(node) {
         Kind::Property(_) => tree.first_child(node),
         _ => Some(node),
@@ -74,7 +73,6 @@ fn end_of<A: Allocator>(tree: &Tree<A>, node: usize) -> Option<usize>
     ensures end { result ≡ end_of tree.now.nodes node }
     ensures there { IsThere tree.now.nodes result }
 {
-    let _ = tree.len();
     match tree.kind(node) {
         Kind::Property(_) => tree.last_child(node),
         _ => Some(node),
@@ -138,7 +136,6 @@ fn behind_property<A: Allocator>(tree: &Tree<A>, node: usize) -> Option<usize>
     ensures seen { result ≡ behind_holder tree.now.nodes node }
     ensures there { IsThere tree.now.nodes result }
 {
-    let _ = tree.len();
     let container = tree.parent(node)?;
     match tree.kind(container) {
         Kind::Property(_) => nearest_behind(tree, container),
@@ -153,7 +150,6 @@ fn children_backwards<A: Allocator>(tree: &Tree<A>, container: usize) -> Previou
     ensures there { AreThere tree.now.nodes result }
     ensures countable { length result < 2 ^ 64 }
 {
-    let _ = tree.len();
     tree.children_reversed(container)
 }
 

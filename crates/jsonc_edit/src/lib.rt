@@ -31,9 +31,7 @@
 pub mod commas;
 mod comments;
 mod due;
-mod error;
 pub mod laws;
-mod modes;
 pub mod multiline;
 mod paths;
 mod put;
@@ -44,10 +42,9 @@ pub mod seam_laws;
 pub mod set;
 pub mod space_laws;
 
-pub use comments::{newline_from, remove_comment};
+pub use comments::{is_line_comment, newline_from, remove_comment};
 pub use due::{due_before, due_behind, due_between, due_last, due_past, is_bare, seen_before};
-pub use error::EditError;
-pub use modes::TrailingCommaMode;
+pub use jsonc_text::edit::{EditError, Over, Shape, TrailingCommaMode};
 pub use paths::find;
 pub use put::{Space, Spaces, make_spaces, put_spaces};
 pub use reading::layout_for;

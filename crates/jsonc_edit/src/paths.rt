@@ -50,7 +50,6 @@ pub fn find<A: Allocator>(tree: &Tree<A>, path: &[usize]) -> Option<usize>
     ensures found { FindsExactly result (IsAt tree.now.nodes path.now) }
     ensures there { IsThere tree.now.nodes result }
 {
-    let _ = tree.len();
     let mut value = element_at(tree, 0, 0)?;
     for place in path {
         value = step(tree, value, *place)?;

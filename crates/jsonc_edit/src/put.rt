@@ -2,7 +2,7 @@
 
 ghost use Rattle.std.specs.Prelude.{◌≡◌, ◌≤◌, ◌++◌, IfOk, IfSome, OnErr, OnOk, Some, length};
 ghost use Rattle.jsonc_tree.specs.Changes.{Adds};
-ghost use Rattle.jsonc_tree.specs.Tree.{parent_at, IsTree};
+ghost use Rattle.jsonc_tree.specs.Tree.{parent_at};
 ghost use Rattle.jsonc_edit.specs.Due.{listed};
 ghost use Rattle.jsonc_edit.specs.Put.{a_space, AreAtHand, AreChildren, AreDue, AreSpaced, IfDue};
 ghost use Rattle.jsonc_edit.specs.Put.{IsFree, IsFreeSpace, IsPut, Prepared, StandsBefore, node_of, nodes_of};
@@ -33,9 +33,7 @@ fn add_space<A: Allocator + Copy>(alloc: A, tree: &mut Tree<A>) -> Result<usize,
     ensures number { IfOk result (λ n. n ≡ length tree.old.nodes) }
     ensures added { OnOk result (Adds tree.old.nodes tree.new.nodes a_space) }
     ensures err { OnErr result (tree.new.nodes ≡ tree.old.nodes) }
-    ensures tree { IsTree tree.new.nodes }
 {
-    let _ = tree.len();
     let text = String::from_str(alloc, " ")?;
     tree.add(Kind::Whitespace(text))
 }
@@ -52,7 +50,6 @@ fn make_space<A: Allocator + Copy>(
     ensures prepared { Prepared tree.old.nodes tree.new.nodes }
     ensures wanted { OnErr result (IfDue due) }
 {
-    let _ = tree.len();
     let Some(node) = due else {
         return Ok(None);
     };
@@ -72,7 +69,6 @@ pub fn make_spaces<A: Allocator + Copy>(
     ensures prepared { Prepared tree.old.nodes tree.new.nodes }
     ensures wanted { OnErr result (AreDue before behind) }
 {
-    let _ = tree.len();
     let before = make_space(alloc, tree, before)?;
     let behind = make_space(alloc, tree, behind)?;
     Ok(Spaces { before, behind })
@@ -83,9 +79,7 @@ fn put_before<A: Allocator>(tree: &mut Tree<A>, space: Space, container: usize)
     requires child { parent_at tree.old.nodes space.node ≡ Some container }
     requires space { IsFreeSpace tree.old.nodes space.leaf }
     ensures put { StandsBefore tree.old.nodes tree.new.nodes space.node space.leaf }
-    ensures tree { IsTree tree.new.nodes }
 {
-    let _ = tree.len();
     let before = tree.previous_sibling(space.node);
     tree.insert_between(container, before, Some(space.node), space.leaf);
 }
@@ -95,9 +89,7 @@ fn put_space<A: Allocator>(tree: &mut Tree<A>, space: Option<Space>)
     requires free { IsFree tree.old.nodes space }
     requires child { AreChildren tree.old.nodes (node_of space) }
     ensures put { IsPut tree.old.nodes space tree.new.nodes }
-    ensures tree { IsTree tree.new.nodes }
 {
-    let _ = tree.len();
     let Some(space) = space else {
         return;
     };
@@ -113,9 +105,7 @@ pub fn put_spaces<A: Allocator>(tree: &mut Tree<A>, spaces: Spaces)
     requires hand { AreAtHand tree.old.nodes (nodes_of spaces) spaces }
     requires children { AreChildren tree.old.nodes (nodes_of spaces) }
     ensures put { AreSpaced tree.old.nodes (nodes_of spaces) tree.new.nodes }
-    ensures tree { IsTree tree.new.nodes }
 {
-    let _ = tree.len();
     put_space(tree, spaces.before);
     put_space(tree, spaces.behind);
 }

@@ -7,7 +7,6 @@
 //! anything changes (`specs/remove/Removed.antt`).
 
 mod brackets;
-mod kinds;
 pub mod laws;
 mod leaving;
 mod removing;

@@ -5,7 +5,7 @@ ghost use Rattle.jsonc_text.specs.Options.{Options};
 ghost use Rattle.jsonc_tree.specs.Building.{Keeps};
 ghost use Rattle.jsonc_tree.specs.Changes.{CanJoin, Splices};
 ghost use Rattle.jsonc_tree.specs.OrderedTree.{ordered_tree};
-ghost use Rattle.jsonc_tree.specs.Tree.{content_at, parent_at, place_at, IsTree};
+ghost use Rattle.jsonc_tree.specs.Tree.{content_at, parent_at, place_at};
 ghost use Rattle.jsonc_layout.specs.input.Views.{plain};
 ghost use Rattle.jsonc_layout.specs.from_input.Layout.{layout_of};
 ghost use Rattle.jsonc_sound.specs.Spaces.{is_bare};
@@ -16,8 +16,8 @@ ghost use Rattle.jsonc_layout.specs.from_input.Laid.{laid};
 ghost use Rattle.jsonc_edit.specs.Replacing.{GivesWay, GivesWayRaw};
 ghost use Rattle.jsonc_edit.specs.Written.{Writes};
 
+use crate::EditError;
 use crate::due::{due_before, due_behind, is_bare};
-use crate::error::EditError;
 use crate::put::{Spaces, make_spaces, put_spaces};
 use crate::reading::layout_for;
 use jsonc_layout::from_input::{Layout, lay_out};
@@ -32,9 +32,7 @@ pub fn put_in_place<A: Allocator>(tree: &mut Tree<A>, container: usize, node: us
         (place_at tree.old.nodes node + 1) (new ∷ []) }
     ensures put { Splices tree.old.nodes tree.new.nodes container (place_at tree.old.nodes node)
         (place_at tree.old.nodes node + 1) (new ∷ []) }
-    ensures tree { IsTree tree.new.nodes }
 {
-    let _ = tree.len();
     // A place is below the count of the children, so one more than it is a number too.
     let _ = tree.child_count(container);
     let place = tree.child_index(node);
@@ -57,7 +55,6 @@ pub fn spaces_for<A: Allocator + Copy>(
         ++ listed behind else []) s) }
     ensures prepared { Prepared tree.old.nodes tree.new.nodes }
 {
-    let _ = tree.len();
     if !is_bare(tree.kind(new)) {
         return make_spaces(alloc, tree, None, None);
     }
@@ -85,9 +82,7 @@ pub fn replace_with<A: Allocator + Copy>(
     ensures memory { IfErr result (λ e. e ≡ EditError.OutOfMemory) }
     ensures kept { OnErr result (Keeps (length tree.old.nodes) tree.old.nodes tree.new.nodes) }
     ensures document { OnErr result (ordered_tree tree.new.nodes 0 ≡ ordered_tree tree.old.nodes 0) }
-    ensures tree { IsTree tree.new.nodes }
 {
-    let _ = tree.len();
     let Some(container) = tree.parent(node) else {
         return Ok(None);
     };
@@ -125,9 +120,7 @@ pub fn replace<A: Allocator + Copy>(
     ensures memory { IfErr result (λ e. e ≡ EditError.OutOfMemory) }
     ensures kept { OnErr result (Keeps (length tree.old.nodes) tree.old.nodes tree.new.nodes) }
     ensures document { OnErr result (ordered_tree tree.new.nodes 0 ≡ ordered_tree tree.old.nodes 0) }
-    ensures tree { IsTree tree.new.nodes }
 {
-    let _ = tree.len();
     let Some(container) = tree.parent(node) else {
         return Ok(None);
     };
@@ -151,9 +144,7 @@ fn replace_raw<A: Allocator + Copy>(
     ensures memory { IfErr result (λ e. e ≡ EditError.OutOfMemory) }
     ensures kept { OnErr result (Keeps (length tree.old.nodes) tree.old.nodes tree.new.nodes) }
     ensures document { OnErr result (ordered_tree tree.new.nodes 0 ≡ ordered_tree tree.old.nodes 0) }
-    ensures tree { IsTree tree.new.nodes }
 {
-    let _ = tree.len();
     let new = lay_out(alloc, tree, value, layout)?;
     put_in_place(tree, container, node, new);
     Ok(new)
@@ -181,9 +172,7 @@ pub fn replace_name<A: Allocator + Copy>(
     ensures memory { IfErr result (λ e. e ≡ EditError.OutOfMemory) }
     ensures kept { OnErr result (Keeps (length tree.old.nodes) tree.old.nodes tree.new.nodes) }
     ensures document { OnErr result (ordered_tree tree.new.nodes 0 ≡ ordered_tree tree.old.nodes 0) }
-    ensures tree { IsTree tree.new.nodes }
 {
-    let _ = tree.len();
     let Some(container) = tree.parent(node) else {
         return Ok(None);
     };

@@ -2,7 +2,7 @@
 
 use crate::reading::read;
 use jsonc_parser::ParseOptions;
-use jsonc_parser::cst::{CstInputValue, CstRootNode, SetRoot};
+use jsonc_parser::cst::{CstInputValue, CstRootNode};
 use jsonc_parser::errors::ParseErrorKind;
 use refusing::outcome::Outcome;
 use std::alloc::{AllocError, Global};

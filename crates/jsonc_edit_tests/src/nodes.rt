@@ -7,8 +7,7 @@ use crate::changes::{Change, Way};
 use crate::reading::{read, value_of};
 use crate::rows::{Edits, Row, is_refused_in_turn, wants_memory, wants_none};
 use jsonc_parser::cst::{
-    CstArray, CstObject, CstRootNode, EditError, EnsureMultiline, EnsureProperty, InsertElement,
-    InsertProperty, Over, SetTrailingCommas, Shape, TrailingCommaMode,
+    CstArray, CstObject, CstRootNode, EditError, Over, Shape, TrailingCommaMode,
 };
 use refusing::awaited::prints;
 use std::alloc::{Allocator, Global};

@@ -3,7 +3,7 @@
 use crate::changes::{Change, Way};
 use crate::reading::read;
 use crate::rows::{Edits, make};
-use jsonc_parser::cst::{CstLeafNode, CstNode, CstRootNode, HasChildren, SetToken};
+use jsonc_parser::cst::{CstLeafNode, CstNode, CstRootNode, HasChildren};
 use std::alloc::Global;
 use std::test::Fail;
 

@@ -8,8 +8,7 @@ use crate::reading::read;
 use crate::rows::{Edits, is_made_in_turn};
 use jsonc_parser::cst::{
     CstArray, CstComment, CstContainerNode, CstLeafNode, CstNode, CstObject, CstObjectProp,
-    CstRootNode, EditError, HasChildren, IsNode, ObjectPropName, RemoveLeaf, SetTrailingCommas,
-    SortElements, SortProperties, TrailingCommaMode,
+    CstRootNode, EditError, HasChildren, IsNode, ObjectPropName, TrailingCommaMode,
 };
 use refusing::awaited::prints;
 use refusing::outcome::Outcome;

@@ -23,8 +23,8 @@ use Rattle.jsonc_layout.specs.declared.input.value.CstInputValue.{CstInputValue}
 use Rattle.jsonc_layout.proofs.lemmas.from_input.Texts.{of_texts}
 use Rattle.jsonc_layout.specs.to_input.Taken.{IsTaken}
 use Rattle.jsonc_edit.specs.Writing.{IsOfNumbers, AreOfNumbers, AreNamedOfNumbers}
-use Rattle.jsonc_edit.specs.declared.error.EditError.{EditError}
-use Rattle.jsonc_edit.specs.declared.error.EditError.TheVariants.{OutOfMemory}
+use Rattle.jsonc_text.specs.declared.edit.EditError.{EditError}
+use Rattle.jsonc_text.specs.declared.edit.EditError.TheVariants.{OutOfMemory}
 use Rattle.jsonc_cst.specs.declared.cst.CstRootNode.{CstRootNode}
 use Rattle.jsonc_cst.specs.declared.cst.node.CstNode.{CstNode}
 use Rattle.jsonc_cst.specs.Document.{nodes_of, printed_of, tree_of}

@@ -13,7 +13,7 @@ use Rattle.jsonc_sound.specs.Lines.{DocumentLinesEnd}
 use Rattle.jsonc_sound.specs.Shape.{DocumentShaped}
 use Rattle.jsonc_sound.proofs.LooseLines.{document_loosens}
 use Rattle.jsonc_sound.specs.SoundTrees.{SoundTree}
-use Rattle.jsonc_edit.specs.declared.error.EditError.TheVariants.{OutOfMemory}
+use Rattle.jsonc_text.specs.declared.edit.EditError.TheVariants.{OutOfMemory}
 use Rattle.jsonc_parser.specs.paths.Found.{names_of}
 use Rattle.jsonc_engine.specs.declared.argument.Change.{Change}
 use Rattle.jsonc_engine.specs.declared.argument.Change.TheVariants.{Append, Drop, Get, Put, Remove, Set, Sort, Stay}

@@ -3,7 +3,7 @@ use Rattle.std.proofs.Common.{◌≡◌, ℕ, ◌==◌, if◌then◌else◌, Lis
 use Rattle.std.specs.Io.KnownBytes.{Appends}
 use Rattle.jsonc_text.specs.Options.{Options, all_on}
 use Rattle.std.specs.Prelude.{IsErrOf}
-use Rattle.jsonc_edit.specs.declared.error.EditError.TheVariants.{OutOfMemory}
+use Rattle.jsonc_text.specs.declared.edit.EditError.TheVariants.{OutOfMemory}
 use Rattle.jsonc_engine.specs.declared.fault.Fault.{Fault}
 use Rattle.jsonc_engine.specs.declared.fault.Fault.TheVariants.{Edit, Write}
 use Rattle.jsonc_engine.specs.Command.{Request, check, print, set, append, remove, sort, get, put, drop, words_of, writes}

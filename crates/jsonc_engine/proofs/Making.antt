@@ -12,15 +12,15 @@ use Rattle.jsonc_layout.specs.nodes.Siblings.{elements_at}
 use Rattle.jsonc_layout.specs.from_input.Texts.{IsCharacters}
 use Rattle.jsonc_sound.specs.SoundTrees.{SoundTree}
 use Rattle.jsonc_edit.specs.Paths.{IsAt, IsElementOf}
-use Rattle.jsonc_edit.specs.declared.error.EditError.{EditError}
-use Rattle.jsonc_edit.specs.declared.error.EditError.TheVariants.{OutOfMemory}
+use Rattle.jsonc_text.specs.declared.edit.EditError.{EditError}
+use Rattle.jsonc_text.specs.declared.edit.EditError.TheVariants.{OutOfMemory}
 use Rattle.jsonc_edit.proofs.FittingFinds.{none_is_some}
 use Rattle.jsonc_edit.proofs.lemmas.set.PropertyRows.{over_at}
 use Rattle.jsonc_edit.specs.set.Kinds.{FoundOrCreated}
 use Rattle.jsonc_insert.specs.named.Places.{IsPropertyOf, a_property}
-use Rattle.jsonc_insert.specs.named.Shapes.{has_shape, is_array, is_object, is_of, empty_of}
-use Rattle.jsonc_insert.specs.declared.named.shape.Shape.{Shape}
-use Rattle.jsonc_insert.specs.declared.named.shape.Shape.TheVariants.{Object, Array}
+use Rattle.jsonc_edit.specs.set.Shapes.{has_shape, is_array, is_object, is_of, empty_of}
+use Rattle.jsonc_text.specs.declared.edit.Shape.{Shape}
+use Rattle.jsonc_text.specs.declared.edit.Shape.TheVariants.{Object, Array}
 use Rattle.jsonc_run.proofs.Ensured.{held}
 use Rattle.jsonc_insert.proofs.lemmas.named.PropertyValues.{value_held}
 use Rattle.jsonc_run.proofs.Roots.{value_stands}

@@ -26,14 +26,14 @@ use Rattle.jsonc_edit.specs.Changes.{row_below}
 use Rattle.jsonc_edit.specs.remove.Removed.{TakesElement}
 use Rattle.jsonc_edit.specs.Paths as paths
 use Rattle.jsonc_edit.specs.Paths.{IsAt, IsElementOf, LeadsTo}
-use Rattle.jsonc_edit.specs.declared.error.EditError.{EditError}
-use Rattle.jsonc_edit.specs.declared.error.EditError.TheVariants.{OutOfMemory}
+use Rattle.jsonc_text.specs.declared.edit.EditError.{EditError}
+use Rattle.jsonc_text.specs.declared.edit.EditError.TheVariants.{OutOfMemory}
 use Rattle.jsonc_edit.proofs.Elements.{taken, left}
 use Rattle.jsonc_edit.proofs.FittingFinds.{passes, fails, none_is_some}
 use Rattle.jsonc_edit.proofs.Uniqueness.{element_parent}
 use Rattle.jsonc_edit.proofs.Walk.{Shows-row_below}
-use Rattle.jsonc_insert.specs.named.Shapes.{is_of}
-use Rattle.jsonc_insert.specs.declared.named.shape.Shape.TheVariants.{Object}
+use Rattle.jsonc_edit.specs.set.Shapes.{is_of}
+use Rattle.jsonc_text.specs.declared.edit.Shape.TheVariants.{Object}
 use Rattle.jsonc_run.proofs.Ensured.{held}
 use Rattle.jsonc_run.proofs.Roots.{root_is, value_stands}
 use Rattle.jsonc_edit.specs.set.Kinds as kinds
@@ -127,7 +127,7 @@ module _ (o : Options) (ns : List Node) (tree : IsTree ns) (sound : SoundTree o 
       let h = held o ns tree sound n at in
       let same : Some h.value ≡ Some (plain.object ms) = document_unique o (printed_text (ordered_tree ns 0)) (Some h.value) (Some (plain.object ms)) h.text is in
       let value : h.value ≡ plain.object ms = cc in
-      no_object_read ns n read (object_is (content_at ns n) (h.told Object ∙ ap (Rattle.jsonc_insert.specs.named.Shapes.is_object) value))
+      no_object_read ns n read (object_is (content_at ns n) (h.told Object ∙ ap (Rattle.jsonc_edit.specs.set.Shapes.is_object) value))
 
   pub no_object : object_if (typed_if ns (value_at ns 0)) ≡ None → IsNoObject o (printed (ordered_tree ns 0))
   no_object read = from_value (value_at ns 0) refl read

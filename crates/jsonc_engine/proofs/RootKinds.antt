@@ -20,9 +20,9 @@ use Rattle.jsonc_cst.specs.declared.cst.node.CstNode.{CstNode}
 use Rattle.jsonc_cst.specs.declared.cst.node.CstObject.{CstObject}
 use Rattle.jsonc_cst.specs.Nodes.{typed}
 use Rattle.jsonc_cst.specs.Readings.{array_if, object_if, typed_if}
-use Rattle.jsonc_insert.specs.named.Shapes.{empty_of, has_shape, is_object, is_of}
-use Rattle.jsonc_insert.specs.declared.named.shape.Shape.{Shape}
-use Rattle.jsonc_insert.specs.declared.named.shape.Shape.TheVariants.{Object}
+use Rattle.jsonc_edit.specs.set.Shapes.{empty_of, has_shape, is_object, is_of}
+use Rattle.jsonc_text.specs.declared.edit.Shape.{Shape}
+use Rattle.jsonc_text.specs.declared.edit.Shape.TheVariants.{Object}
 use Rattle.jsonc_run.proofs.Ensured.{held}
 use Rattle.jsonc_engine.specs.Input.{HasKind, MayHave}
 use Rattle.jsonc_engine.proofs.Removing.{no_value, object_read, text}

@@ -11,13 +11,13 @@ use Rattle.jsonc_sound.specs.Shape.{printed_text}
 use Rattle.jsonc_sound.proofs.ShapeValues.{document_printed}
 use Rattle.jsonc_sound.specs.Documents.{Shows, document_of}
 use Rattle.jsonc_sound.specs.SoundTrees.{SoundTree}
-use Rattle.jsonc_edit.specs.declared.error.EditError.{EditError}
-use Rattle.jsonc_edit.specs.declared.error.EditError.TheVariants.{OutOfMemory}
+use Rattle.jsonc_text.specs.declared.edit.EditError.{EditError}
+use Rattle.jsonc_text.specs.declared.edit.EditError.TheVariants.{OutOfMemory}
 use Rattle.jsonc_cst.specs.declared.cst.CstRootNode.{CstRootNode}
 use Rattle.jsonc_cst.specs.declared.cst.node.CstNode.{CstNode}
 use Rattle.jsonc_cst.specs.Document.{nodes_of, tree_of}
 use Rattle.jsonc_cst.specs.Nodes.{number_of}
-use Rattle.jsonc_insert.specs.declared.named.shape.Over.TheVariants.{Keep}
+use Rattle.jsonc_text.specs.declared.edit.Over.TheVariants.{Keep}
 use Rattle.jsonc_parser.specs.paths.Calls.{DropsWhatShown, PutsWhatShown, WantsMemory}
 use Rattle.jsonc_parser.specs.paths.Found.{FindsWhatShown}
 use Rattle.jsonc_parser.specs.paths.Laws.{MustStay}

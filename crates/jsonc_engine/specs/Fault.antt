@@ -1,6 +1,6 @@
 -- What a fault prints, and what it says of the input.
 use Rattle.std.specs.Prelude.{◌≡◌, ℕ, List, Option, IfSome, ◌++◌, ◌⊎◌, codes, IsUtf8}
-use Rattle.jsonc_insert.specs.named.Shapes.{is_array, is_object}
+use Rattle.jsonc_edit.specs.set.Shapes.{is_array, is_object}
 use Rattle.jsonc_engine.specs.Argument.{IsFaultOfArgument, IsPath, IsReady}
 use Rattle.jsonc_engine.specs.Calls.{one_more}
 use Rattle.jsonc_engine.specs.Command.{Request, set, append, remove, sort, get, put, drop}

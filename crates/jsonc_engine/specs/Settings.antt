@@ -8,7 +8,7 @@ use Rattle.jsonc_tree.specs.OrderedTree.{ordered_tree, printed}
 use Rattle.jsonc_tree.specs.Tree.{Node}
 use Rattle.jsonc_sound.specs.Documents.{Shows}
 use Rattle.jsonc_sound.specs.SoundTrees.{SoundTree}
-use Rattle.jsonc_insert.specs.declared.named.shape.Over.TheVariants.{Keep}
+use Rattle.jsonc_text.specs.declared.edit.Over.TheVariants.{Keep}
 use Rattle.jsonc_parser.specs.paths.Calls.{DropsAt, PutsAt}
 use Rattle.jsonc_parser.specs.paths.Memory.{PassesEscaped, SomethingAt}
 use Rattle.jsonc_parser.specs.paths.Settings.{At, StandsInTheWay}

@@ -50,7 +50,6 @@ fn value_of<A: Allocator + Copy>(alloc: A, json: &str) -> Result<CstInputValue<A
         Err(error) => return Err(Fault::Argument(error)),
     };
     // That there is no value is seen without memory.
-    let _ = document.tree.len();
     if document.value().is_none() {
         return Err(Fault::NoValue);
     }

@@ -15,9 +15,7 @@ use crate::argument::Change;
 use crate::fault::Fault;
 use crate::settings::{drop_setting, put_setting};
 use crate::sort::sort_properties;
-use jsonc_parser::cst::{
-    CstInputValue, CstRootNode, InsertElement, InsertProperty, Remove, SetProperty, SetRoot,
-};
+use jsonc_parser::cst::{CstInputValue, CstRootNode};
 use std::alloc::Allocator;
 
 /// Takes the first property of a name out of the document's object, with what leaves with it. Where the
@@ -35,7 +33,6 @@ fn remove_property<A: Allocator + Copy>(
         → SoundTree o (tree_of document.old) → IfErr result (EndsOnObject o (printed_of document.old)) }
     ensures document { OnErr result (tree_of document.new ≡ tree_of document.old) }
 {
-    let _ = document.tree.len();
     let Some(object) = document.object_value() else {
         return Err(Fault::NotObject);
     };
@@ -62,13 +59,11 @@ fn append_element<A: Allocator + Copy>(
     ensures told { (o : Options)
         → SoundTree o (tree_of document.old) → IfErr result (EndsAppending o (printed_of document.old)) }
 {
-    let _ = document.tree.len();
     let array = match document.array_value_or_create() {
         Ok(Some(array)) => array,
         Ok(None) => return Err(Fault::NotArray),
         Err(error) => return Err(Fault::Edit(error)),
     };
-    let _ = document.tree.len();
     match array.append(document, value) {
         Ok(_) => Ok(()),
         Err(error) => Err(Fault::Edit(error)),
@@ -90,13 +85,11 @@ fn set_property<A: Allocator + Copy>(
     ensures told { (o : Options)
         → SoundTree o (tree_of document.old) → IfErr result (EndsSetting o (printed_of document.old)) }
 {
-    let _ = document.tree.len();
     let object = match document.object_value_or_create() {
         Ok(Some(object)) => object,
         Ok(None) => return Err(Fault::NotObject),
         Err(error) => return Err(Fault::Edit(error)),
     };
-    let _ = document.tree.len();
     let found = match object.get(document, name) {
         Ok(found) => found,
         Err(error) => return Err(Fault::Edit(error)),

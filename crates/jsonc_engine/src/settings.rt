@@ -33,7 +33,7 @@ pub(crate) fn get_setting<A: Allocator + Copy>(
         Ok(None) => return Err(Fault::NoSetting),
         Err(error) => return Err(Fault::Edit(error)),
     };
-    match format!(in document.alloc; "{}\n", node.shown(document)) {
+    match format!(in *document.allocator(); "{}\n", node.shown(document)) {
         Ok(text) => Ok(Output::Text(text)),
         Err(_) => Err(Fault::Edit(EditError::OutOfMemory)),
     }

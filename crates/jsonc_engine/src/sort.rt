@@ -10,7 +10,7 @@ ghost use Rattle.jsonc_engine.specs.Fault.{EndsOnObject};
 ghost use Rattle.jsonc_engine.specs.Sorting.{SortsIfSound, between_quotes, written_name};
 
 use crate::fault::Fault;
-use jsonc_parser::cst::{CstObjectProp, CstRootNode, ObjectPropName, SortProperties};
+use jsonc_parser::cst::{CstObjectProp, CstRootNode, ObjectPropName};
 use std::alloc::Allocator;
 use std::cmp::Ordering;
 
@@ -66,7 +66,6 @@ pub(crate) fn sort_properties<A: Allocator + Copy>(
         → SoundTree o (tree_of document.old) → IfErr result (EndsOnObject o (printed_of document.old)) }
     ensures document { OnErr result (tree_of document.new ≡ tree_of document.old) }
 {
-    let _ = document.tree.len();
     let Some(object) = document.object_value() else {
         return Err(Fault::NotObject);
     };

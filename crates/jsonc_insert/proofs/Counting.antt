@@ -13,11 +13,10 @@ use Rattle.jsonc_tree.specs.Content as content
 use Rattle.jsonc_tree.specs.Content.{Content}
 use Rattle.jsonc_tree.specs.Changes.{EachOnce}
 use Rattle.jsonc_tree.specs.Tree.{Node, content_at}
-use Rattle.jsonc_layout.specs.nodes.Kinds.{is_beside, is_beside_at, is_element, is_element_at, is_trivia, is_trivia_at}
+use Rattle.jsonc_layout.specs.nodes.Kinds.{is_beside, is_beside_at, is_element, is_element_at, is_trivia, is_trivia_at, is_comma_at, is_token, is_comma}
 use Rattle.jsonc_layout.specs.lines.Breadth.{last_element}
-use Rattle.jsonc_layout.specs.lines.Kinds.{is_comma}
 use Rattle.jsonc_layout.specs.nodes.Siblings.{is_no_newline_at}
-use Rattle.jsonc_insert.specs.Planned.{behind_comma, begins_with_comma, comma_wanted, elements, has_brackets, has_comma, is_comma_at, is_other, is_token, line, past_comments, place_in, plan_alone, plan_behind, plan_between, plan_by, plan_first, planned, trivia}
+use Rattle.jsonc_insert.specs.Planned.{behind_comma, begins_with_comma, comma_wanted, elements, has_brackets, has_comma, is_other, line, past_comments, place_in, plan_alone, plan_behind, plan_between, plan_by, plan_first, planned, trivia}
 use Rattle.jsonc_insert.specs.Trimmed.{last_spaces}
 use Rattle.jsonc_insert.proofs.Once.{once_right}
 use Rattle.jsonc_insert.proofs.Standing.{token_no_element}

@@ -9,9 +9,9 @@ use Rattle.std.proofs.lemmas.List.{get_or_default}
 use Rattle.jsonc_tree.specs.Content as content
 use Rattle.jsonc_tree.specs.Content.{Content}
 use Rattle.jsonc_tree.specs.Tree.{Node, content_at}
-use Rattle.jsonc_layout.specs.nodes.Kinds.{is_element, is_element_at}
+use Rattle.jsonc_layout.specs.nodes.Kinds.{is_element, is_element_at, is_token}
 use Rattle.jsonc_layout.proofs.lemmas.nodes.There.{All-reverse}
-use Rattle.jsonc_insert.specs.Planned.{element_before, elements, has_brackets, is_other, is_token, place_in}
+use Rattle.jsonc_insert.specs.Planned.{element_before, elements, has_brackets, is_other, place_in}
 
 not_other : (m : ℕ) → is_other m m ≡ false
 not_other m = search rules

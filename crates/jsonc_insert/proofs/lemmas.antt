@@ -1,4 +1,4 @@
-pub mod elements
 pub mod properties
 pub mod named
+pub mod elements
 pub mod members

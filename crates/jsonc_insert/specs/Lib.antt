@@ -5,7 +5,7 @@ pub mod Made
 pub mod Inserted
 pub mod Laws
 pub mod Worked
-pub mod elements
 pub mod properties
 pub mod named
+pub mod elements
 pub mod members

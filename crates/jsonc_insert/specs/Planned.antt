@@ -2,12 +2,10 @@
 use Rattle.std.specs.Prelude.{ℕ, zero, suc, ◌+◌, ◌-◌, ◌==◌, Bool, true, false, not, ◌&&◌, List, [], ◌∷◌, filter, length, drop, Option, Some, None, is_some, slice_get, slice_index, slice_range, nat_lt, if◌then◌else◌}
 use Rattle.std.specs.Option.{option_or}
 use Rattle.std.specs.List.{list_any, list_all, take_while}
-use Rattle.jsonc_tree.specs.Content.{Content, token}
 use Rattle.jsonc_tree.specs.Tree.{Node, content_at}
-use Rattle.jsonc_layout.specs.nodes.Kinds.{is_beside_at, is_element_at, is_newline_at, is_trivia_at}
+use Rattle.jsonc_layout.specs.nodes.Kinds.{is_beside_at, is_comma_at, is_element_at, is_newline_at, is_token, is_trivia_at}
 use Rattle.jsonc_layout.specs.nodes.Siblings.{is_no_newline_at}
 use Rattle.jsonc_layout.specs.lines.Breadth.{last_element}
-use Rattle.jsonc_layout.specs.lines.Kinds.{is_comma}
 use Rattle.jsonc_insert.specs.Trimmed.{last_blanks, last_spaces}
 use Rattle.jsonc_insert.specs.declared.plan.Gap.{Gap}
 use Rattle.jsonc_insert.specs.declared.plan.Gap.TheVariants.{Nothing, Space, Line}
@@ -53,9 +51,6 @@ abbrev pub comments_on_line : List Node → List ℕ → ℕ
 comments_on_line ns after = through_comments ns (line ns after)
 
 -- past trivia a comma comes
-abbrev pub is_comma_at : List Node → ℕ → Bool
-is_comma_at ns n = is_comma (content_at ns n)
-
 abbrev pub trivia : List Node → List ℕ → ℕ
 trivia ns after = length (take_while (is_trivia_at ns) after)
 
@@ -141,10 +136,6 @@ abbrev pub planned : List Node → Bool → Bool → List ℕ → ℕ → Plan
 planned ns several commas row i = plan_by ns several commas row i (element_before ns row i)
 
 -- the first and the last node of a row are tokens, and two
-abbrev pub is_token : Content → Bool
-is_token (token c) = true
-is_token content = false
-
 abbrev pub has_brackets : List Node → List ℕ → Bool
 has_brackets ns row =
     if nat_lt (length row) 2 then false else (is_token (content_at ns (slice_index row 0)) && is_token (content_at ns (slice_index row (length row - 1))))

@@ -1,4 +1,3 @@
-pub mod Shapes
 pub mod Places
 pub mod Named
 pub mod Values

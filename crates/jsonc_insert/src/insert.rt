@@ -4,7 +4,7 @@ ghost use Rattle.std.specs.Prelude.{◌≡◌, ◌<◌, ◌∷◌, ◌++◌, IfE
 ghost use Rattle.jsonc_tree.specs.Building.{Keeps};
 ghost use Rattle.jsonc_tree.specs.Content.{Content};
 ghost use Rattle.jsonc_tree.specs.OrderedTree.{ordered_tree};
-ghost use Rattle.jsonc_tree.specs.Tree.{children_at, content_at, IsTree};
+ghost use Rattle.jsonc_tree.specs.Tree.{children_at, content_at};
 ghost use Rattle.jsonc_layout.specs.input.Views.{plain};
 ghost use Rattle.jsonc_layout.specs.from_input.Layout.{layout_of};
 ghost use Rattle.jsonc_edit.specs.Put.{Prepared};
@@ -60,7 +60,6 @@ fn read<A: Allocator + Copy>(
     ensures outer { IfOk result (λ r. string_bytes r.outer ≡ outer_indent tree.now.nodes container) }
     ensures plan { IfOk result (λ r. r.plan ≡ plan_of tree.now.nodes container index (plain value.now)) }
 {
-    let _ = tree.len();
     let row = children(alloc, tree, container)?;
     let kept = trimmed(alloc, tree, &row)?;
     let layout = layout_in(alloc, tree, container, &kept)?;
@@ -149,7 +148,6 @@ fn make_row<A: Allocator + Copy>(
         (λ r. RowMade tree.old.nodes tree.new.nodes container index (plain value.now) r.element r.row.items) }
     ensures prepared { Prepared tree.old.nodes tree.new.nodes }
 {
-    let _ = tree.len();
     let told = read(alloc, tree, container, index, value)?;
     let made = make(
         alloc,
@@ -191,9 +189,7 @@ pub fn insert_element<A: Allocator + Copy>(
     ensures told { IfErr result (λ e. e ≡ refusal tree.old.nodes array) }
     ensures kept { OnErr result (Keeps (length tree.old.nodes) tree.old.nodes tree.new.nodes) }
     ensures document { OnErr result (ordered_tree tree.new.nodes 0 ≡ ordered_tree tree.old.nodes 0) }
-    ensures tree { IsTree tree.new.nodes }
 {
-    let _ = tree.len();
     if !has_brackets(tree, array) {
         return Err(EditError::MissingBrackets);
     }

@@ -38,7 +38,6 @@ fn push_leaf<A: Allocator + Copy>(
         (Gains tree.old.nodes leaves.old.items tree.new.nodes leaves.new.items (content_of kind ∷ [])) }
     ensures prepared { Prepared tree.old.nodes tree.new.nodes }
 {
-    let _ = tree.len();
     let leaf = tree.add(kind)?;
     leaves.push(leaf)?;
     Ok(())
@@ -55,7 +54,6 @@ fn push_blanks<A: Allocator + Copy>(
         (Gains tree.old.nodes leaves.old.items tree.new.nodes leaves.new.items (whitespace text.now ∷ [])) }
     ensures prepared { Prepared tree.old.nodes tree.new.nodes }
 {
-    let _ = tree.len();
     let blanks = String::from_str(alloc, text)?;
     push_leaf(tree, leaves, Kind::Whitespace(blanks))
 }
@@ -89,7 +87,6 @@ fn push_gap<A: Allocator + Copy>(
         (Gains tree.old.nodes leaves.old.items tree.new.nodes leaves.new.items (gap_leaves kind indent.now gap)) }
     ensures prepared { Prepared tree.old.nodes tree.new.nodes }
 {
-    let _ = tree.len();
     match gap {
         Gap::Nothing => Ok(()),
         Gap::Space => push_blanks(alloc, tree, leaves, " "),
@@ -107,7 +104,6 @@ fn push_comma_if<A: Allocator + Copy>(
         (Gains tree.old.nodes leaves.old.items tree.new.nodes leaves.new.items (comma_leaf wanted)) }
     ensures prepared { Prepared tree.old.nodes tree.new.nodes }
 {
-    let _ = tree.len();
     if !wanted {
         return Ok(());
     }
@@ -185,7 +181,6 @@ pub(crate) fn make<A: Allocator + Copy>(
         (plain value.now) m.element m.comma.items m.before.items m.behind.items) }
     ensures prepared { Prepared tree.old.nodes tree.new.nodes }
 {
-    let _ = tree.len();
     let comma = make_comma(alloc, tree, plan.comma.is_some())?;
     let before = make_before(alloc, tree, layout, plan)?;
     let element = lay_out(alloc, tree, value, layout)?;

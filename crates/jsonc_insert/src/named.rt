@@ -12,7 +12,5 @@
 
 pub mod laws;
 mod named;
-mod shape;
 
 pub use named::ensure_property;
-pub use shape::{Over, Shape};

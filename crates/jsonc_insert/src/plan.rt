@@ -2,19 +2,17 @@
 
 ghost use Rattle.std.specs.Prelude.{◌≡◌, ◌≤◌, ◌<◌, length, slice_get, true};
 ghost use Rattle.std.specs.List.{list_all};
-ghost use Rattle.jsonc_tree.specs.Stored.{content_of};
-ghost use Rattle.jsonc_tree.specs.Tree.{children_at, content_at};
-ghost use Rattle.jsonc_layout.specs.nodes.Kinds.{is_beside, is_beside_at};
+ghost use Rattle.jsonc_tree.specs.Tree.{children_at};
+ghost use Rattle.jsonc_layout.specs.nodes.Kinds.{is_beside_at};
 ghost use Rattle.jsonc_layout.specs.lines.Breadth.{last_element};
-ghost use Rattle.jsonc_layout.specs.lines.Kinds.{is_comma};
 ghost use Rattle.jsonc_insert.specs.Planned.{before_next, behind_comma, comma_comes, comma_wanted, element_before};
-ghost use Rattle.jsonc_insert.specs.Planned.{elements, has_brackets, has_comma, is_comma_at, is_token, line, line_ends};
+ghost use Rattle.jsonc_insert.specs.Planned.{elements, has_brackets, has_comma, line, line_ends};
 ghost use Rattle.jsonc_insert.specs.Planned.{line_if, line_unless, parting, past_comments, place_in, plan_alone, plan_behind};
 ghost use Rattle.jsonc_insert.specs.Planned.{plan_first, planned, through_comments, trivia};
 
 use crate::trim::{last_blanks, last_spaces};
-use jsonc_layout::nodes::{is_element, is_newline, is_trivia};
-use jsonc_tree::{Kind, Tree};
+use jsonc_layout::nodes::{is_beside, is_comma, is_element, is_newline, is_token, is_trivia};
+use jsonc_tree::Tree;
 use std::alloc::Allocator;
 
 /// What stands between two nodes: nothing, a space, or the end of a line and the next one's indent.
@@ -38,44 +36,6 @@ pub struct Plan {
     pub comma_behind: bool,
     /// What comes behind that.
     pub behind: Gap,
-}
-
-fn is_comma_kind<A: Allocator>(kind: &Kind<A>) -> bool
-    ensures { result ≡ is_comma (content_of kind.now) }
-{
-    match kind {
-        Kind::Token(c) => c.get() == ',',
-        _ => false,
-    }
-}
-
-// Whether a node is a comma.
-fn is_comma<A: Allocator>(tree: &Tree<A>, node: usize) -> bool
-    ensures { result ≡ is_comma_at tree.now.nodes node }
-{
-    if node >= tree.len() {
-        return false;
-    }
-    is_comma_kind(tree.kind(node))
-}
-
-fn is_beside_kind<A: Allocator>(kind: &Kind<A>) -> bool
-    ensures { result ≡ is_beside (content_of kind.now) }
-{
-    matches!(
-        kind,
-        Kind::Whitespace(_) | Kind::WhitespacePart(_) | Kind::Comment(_) | Kind::CommentPart(_)
-    )
-}
-
-// Whether a node is whitespace or a comment.
-fn is_beside<A: Allocator>(tree: &Tree<A>, node: usize) -> bool
-    ensures { result ≡ is_beside_at tree.now.nodes node }
-{
-    if node >= tree.len() {
-        return false;
-    }
-    is_beside_kind(tree.kind(node))
 }
 
 fn line_if(several: bool) -> Gap
@@ -341,16 +301,6 @@ pub fn planned<A: Allocator>(
     let more = nth_element(tree, row, index).is_some();
     let ended = place_in(row, node) + 1;
     plan_behind(tree, several, commas, row, more, ended)
-}
-
-// Whether a node is a token.
-fn is_token<A: Allocator>(tree: &Tree<A>, node: usize) -> bool
-    ensures { result ≡ is_token (content_at tree.now.nodes node) }
-{
-    if node >= tree.len() {
-        return false;
-    }
-    matches!(tree.kind(node), Kind::Token(_))
 }
 
 /// Whether the first and the last child of a container are tokens, and two.

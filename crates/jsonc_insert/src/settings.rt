@@ -109,7 +109,6 @@ pub fn uses_commas_in<A: Allocator + Copy>(
 fn is_document_value<A: Allocator>(tree: &Tree<A>, node: usize) -> bool
     ensures { result ≡ is_document_value tree.now.nodes node }
 {
-    let _ = tree.len();
     match first_element_from(tree, 0, 0) {
         Some(value) => value == node,
         None => false,

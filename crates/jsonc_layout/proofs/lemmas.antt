@@ -1,5 +1,5 @@
+pub mod to_input
 pub mod nodes
 pub mod from_input
 pub mod lines
-pub mod to_input
 pub mod input

@@ -18,5 +18,5 @@ pub use indent::{indent_text, single_indent_text};
 pub use indents::{
     Indents, held_after, held_text, indents_at, levels_in, more_of, stands_in_property,
 };
-pub use kinds::{blank_at, holds_values, is_comma};
+pub use kinds::{blank_at, holds_values};
 pub use siblings::{has_blank_line_before, trailing_comma};

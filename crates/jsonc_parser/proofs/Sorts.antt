@@ -7,8 +7,8 @@ use Rattle.jsonc_tree.specs.Building.{Keeps}
 use Rattle.jsonc_tree.specs.OrderedTree.{ordered_tree}
 use Rattle.jsonc_tree.specs.Tree.{Node, content_at}
 use Rattle.jsonc_layout.specs.lines.Kinds.{holds_values}
-use Rattle.jsonc_edit.specs.declared.error.EditError.{EditError}
-use Rattle.jsonc_edit.specs.declared.error.EditError.TheVariants.{OutOfMemory}
+use Rattle.jsonc_text.specs.declared.edit.EditError.{EditError}
+use Rattle.jsonc_text.specs.declared.edit.EditError.TheVariants.{OutOfMemory}
 use Rattle.jsonc_sort.specs.Rearranged.{headers_of, IsOrderIn, Rearranged}
 use Rattle.jsonc_run.specs.Edits.{Sorting, rearrange, IsMade}
 use Rattle.jsonc_run.specs.Places.{IsContainerAt}

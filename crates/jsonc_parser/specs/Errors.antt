@@ -2,7 +2,7 @@
 use Rattle.std.specs.Prelude.{◌++◌, ℕ, List, codes}
 use Rattle.std.specs.Fmt.{decimal}
 use Rattle.jsonc_text.specs.Messages.{error_text}
-use Rattle.jsonc_edit.specs.Errors.{edit_error_text}
+use Rattle.jsonc_text.specs.EditErrors.{edit_error_text}
 use Rattle.jsonc_parser.specs.declared.cst.texts.EditTextError.{EditTextError}
 use Rattle.jsonc_parser.specs.declared.cst.texts.EditTextError.TheVariants as error
 

@@ -5,7 +5,7 @@ use Rattle.std.specs.declared.cmp.Ordering.{Ordering}
 use denote.Ref.{Bor}
 use denote.Param.Members.{Shared}
 use Rattle.jsonc_tree.specs.Tree.{IsTree}
-use Rattle.jsonc_edit.specs.declared.error.EditError.{EditError}
+use Rattle.jsonc_text.specs.declared.edit.EditError.{EditError}
 use Rattle.jsonc_sort.specs.Rearranged.{headers_of}
 use Rattle.jsonc_run.specs.declared.edit.Edit.{Edit}
 use Rattle.jsonc_run.specs.declared.edit.Edit.TheVariants.{Sort}

@@ -6,8 +6,8 @@ use Rattle.jsonc_text.specs.Faults.{IsFault}
 use Rattle.jsonc_text.specs.Options.{Options}
 use Rattle.jsonc_ast.specs.to_ast.Refusals.{RefusesText}
 use Rattle.jsonc_ast.specs.to_ast.Told.{IsTold}
-use Rattle.jsonc_edit.specs.declared.error.EditError.{EditError}
-use Rattle.jsonc_edit.specs.declared.error.EditError.TheVariants.{OutOfMemory}
+use Rattle.jsonc_text.specs.declared.edit.EditError.{EditError}
+use Rattle.jsonc_text.specs.declared.edit.EditError.TheVariants.{OutOfMemory}
 use Rattle.jsonc_run.specs.declared.edit.Edit.{Edit}
 use Rattle.jsonc_run.specs.Steps.{Fits}
 use Rattle.jsonc_run.specs.promise.Asked.{EditsTo, IsStopped}

@@ -3,14 +3,14 @@
 //! A [`CstRootNode`] owns its nodes and names each by a number. A caller holds a [`CstNode`], or a
 //! node of one kind as [`CstObject`]: a number that says what it is the number of, and can be copied.
 //! It is asked together with its document, and [`CstRootNode::holds`] tells whether that has it; all
-//! nodes that a call answers are nodes of the document that was asked. [`ReplaceWith`],
-//! [`ReplaceProperty`], [`Remove`] and [`RemoveLeaf`] are the edits of nodes, [`SetRoot`] has those of
-//! the document's value, [`SetProperty`] those of a property's, and [`SetBoolean`] that of a truth value;
-//! by [`InsertElement`] a value comes into an array, and by [`InsertProperty`] a property into an object, in
-//! which [`EnsureProperty`] sees that one of a name has an array or object. [`EnsureMultiline`] puts an array
-//! or object on several lines, [`SetTrailingCommas`] sets trailing commas or takes them away, and
-//! [`SortElements`] and [`SortProperties`] sort.
-//! [`SetRawValue`], [`SetToken`], [`SetWhitespace`] and [`SetNewline`] write a leaf anew as it stands.
+//! nodes that a call answers are nodes of the document that was asked.
+//!
+//! Edits are methods of the document and of its nodes. `set_value`, `clear_children`, `object_value_or_set` and
+//! its kin of a document set its value; of a property they set the property's, and of an object that of the first
+//! property of a name. `append` and `insert` put a value into an array, and a property into an object;
+//! `replace_with` lets a node give way, and `remove` takes one out; `ensure_multiline` puts an array or object on
+//! several lines, `set_trailing_commas` sets trailing commas or takes them away, and `sort_elements` and
+//! `sort_properties` sort. `set_raw_value` and its kin write a leaf anew as it stands.
 //! [`run`] makes a list of edits, each at its path, and [`edit_text`] does so of a text.
 
 mod lists;
@@ -21,18 +21,12 @@ pub use jsonc_cst::cst::{
     CstLeafNode, CstNewline, CstNewlineKind, CstNode, CstNullKeyword, CstNumberLit, CstObject,
     CstObjectProp, CstRoot, CstRootNode, CstStringLit, CstToken, CstWhitespace, CstWordLit,
     EditError, HasChildren, IsNode, NextSiblingIterator, ObjectPropName, Pieces,
-    PreviousSiblingIterator, Readings, Shown, TrailingCommaMode, input,
+    PreviousSiblingIterator, Shown, TrailingCommaMode, input,
 };
-pub use jsonc_cst::objects::{EnsureProperty, InsertProperty};
 pub use jsonc_cst::sorting::{
-    BlankLineHeaders, ElementSort, HeaderRule, HeadersBy, NoHeaders, PropertySort, SortElements,
-    SortProperties,
+    BlankLineHeaders, ElementSort, HeaderRule, HeadersBy, NoHeaders, PropertySort,
 };
-pub use jsonc_cst::typed::{
-    EnsureMultiline, InsertElement, IsDocument, Remove, RemoveLeaf, ReplaceProperty, ReplaceWith,
-    SetBoolean, SetNewline, SetProperty, SetRawValue, SetRoot, SetToken, SetTrailingCommas,
-    SetWhitespace,
-};
+pub use jsonc_cst::typed::IsDocument;
 pub use jsonc_run::{Edit, Over, Shape};
 pub use lists::run;
 pub use texts::{EditTextError, edit_text};

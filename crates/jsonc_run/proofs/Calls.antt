@@ -24,12 +24,12 @@ use Rattle.jsonc_edit.proofs.Walk.{over_through}
 use Rattle.jsonc_edit.proofs.lemmas.multiline.Documents.{over_at}
 use Rattle.jsonc_edit.proofs.lemmas.set.Making.{root_child}
 use Rattle.jsonc_edit.proofs.lemmas.set.PropertyValue.{held_child}
-use Rattle.jsonc_insert.specs.declared.named.shape.Over.{Over}
-use Rattle.jsonc_insert.specs.declared.named.shape.Over.TheVariants as over
-use Rattle.jsonc_insert.specs.declared.named.shape.Shape.{Shape}
+use Rattle.jsonc_text.specs.declared.edit.Over.{Over}
+use Rattle.jsonc_text.specs.declared.edit.Over.TheVariants as over
+use Rattle.jsonc_text.specs.declared.edit.Shape.{Shape}
 use Rattle.jsonc_insert.specs.named.Named.{EnsuredFor}
 use Rattle.jsonc_insert.specs.named.Places.{IsPropertyAt, a_property}
-use Rattle.jsonc_insert.specs.named.Shapes.{is_of, empty_of}
+use Rattle.jsonc_edit.specs.set.Shapes.{is_of, empty_of}
 use Rattle.jsonc_insert.proofs.lemmas.named.Writing.{first_named}
 use Rattle.jsonc_run.specs.Edits.{Operation, replace, remove, remove_comment, set_root, clear_root, replace_property, ensure_root, set_value, ensure_value, set_boolean, ensure_multiline, insert_element, append_element, insert_property, append_property, ensure_property, set_commas, set_some_commas, rearrange, PropertyValueSet, RootEnsured, RootSet}
 use Rattle.jsonc_run.specs.Places.{IsEntryAt, an_entry, in_array, in_object, the_value}

@@ -24,10 +24,10 @@ use Rattle.jsonc_edit.proofs.Walk.{Shows-row_below}
 use Rattle.jsonc_edit.specs.set.Kinds.{FoundOrCreated, FoundOrSet, KeptOrReplaced}
 use Rattle.jsonc_edit.specs.set.RootSet.{FirstValue}
 use Rattle.jsonc_edit.proofs.lemmas.set.Coming.{comes_among_rows}
-use Rattle.jsonc_insert.specs.declared.named.shape.Over.{Over}
-use Rattle.jsonc_insert.specs.declared.named.shape.Over.TheVariants as over
-use Rattle.jsonc_insert.specs.declared.named.shape.Shape.{Shape}
-use Rattle.jsonc_insert.specs.named.Shapes.{has_shape, is_of, empty_of}
+use Rattle.jsonc_text.specs.declared.edit.Over.{Over}
+use Rattle.jsonc_text.specs.declared.edit.Over.TheVariants as over
+use Rattle.jsonc_text.specs.declared.edit.Shape.{Shape}
+use Rattle.jsonc_edit.specs.set.Shapes.{has_shape, is_of, empty_of}
 use Rattle.jsonc_insert.proofs.lemmas.named.Values.{same_shape, other_gives_way}
 use Rattle.jsonc_run.specs.Edits.{RootEnsured}
 use Rattle.jsonc_run.specs.Written.{RootValueEnsured, all_kept, empty_come, empty_given}

@@ -16,8 +16,8 @@ use Rattle.jsonc_sound.specs.Marks.{Mark, marks}
 use Rattle.jsonc_sound.specs.SoundTrees.{SoundTree}
 use Rattle.jsonc_edit.specs.Paths.{FindsExactly, IsAt}
 use Rattle.jsonc_edit.specs.Writing.{IsWritable}
-use Rattle.jsonc_edit.specs.declared.error.EditError.{EditError}
-use Rattle.jsonc_edit.specs.declared.error.EditError.TheVariants.{OutOfMemory, MissingBrackets, MissingName, NoSuchPlace}
+use Rattle.jsonc_text.specs.declared.edit.EditError.{EditError}
+use Rattle.jsonc_text.specs.declared.edit.EditError.TheVariants.{OutOfMemory, MissingBrackets, MissingName, NoSuchPlace}
 use Rattle.jsonc_insert.specs.Inserted.{refusal, ElementPut}
 use Rattle.jsonc_insert.specs.Planned.{has_brackets}
 use Rattle.jsonc_insert.proofs.Past.{past_the_end}

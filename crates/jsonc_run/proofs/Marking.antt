@@ -27,11 +27,11 @@ use Rattle.jsonc_edit.proofs.Spacing.{spaces_marks}
 use Rattle.jsonc_edit.proofs.lemmas.multiline.SameDocument.{keeps_document}
 use Rattle.jsonc_edit.proofs.lemmas.remove.Lost.{removes_entry}
 use Rattle.jsonc_edit.proofs.lemmas.remove.LostValue.{removes_value}
-use Rattle.jsonc_insert.specs.declared.named.shape.Over.{Over}
-use Rattle.jsonc_insert.specs.declared.named.shape.Over.TheVariants as over
-use Rattle.jsonc_insert.specs.declared.named.shape.Shape.{Shape}
-use Rattle.jsonc_insert.specs.declared.named.shape.Shape.TheVariants.{Object, Array}
-use Rattle.jsonc_insert.specs.named.Shapes.{empty_of}
+use Rattle.jsonc_text.specs.declared.edit.Over.{Over}
+use Rattle.jsonc_text.specs.declared.edit.Over.TheVariants as over
+use Rattle.jsonc_text.specs.declared.edit.Shape.{Shape}
+use Rattle.jsonc_text.specs.declared.edit.Shape.TheVariants.{Object, Array}
+use Rattle.jsonc_edit.specs.set.Shapes.{empty_of}
 use Rattle.jsonc_run.specs.Edits.{Operation, replace, remove, remove_comment, set_root, clear_root, replace_property, ensure_root, set_value, ensure_value, set_boolean, ensure_multiline, insert_element, append_element, insert_property, append_property, ensure_property, set_commas, set_some_commas, rearrange, AreMade, none_made, first_made, IsMade}
 use Rattle.jsonc_run.specs.Written.{MayBeMade, EntryLeft, entry_left, value_left, RootValueSet, given_way, has_come, RootValueEnsured, all_kept, empty_come, empty_given, PropertyGivenWay, property_given, options_after, options_behind}
 use Rattle.jsonc_run.specs.Marked.{IsMarked}

@@ -8,8 +8,8 @@ use Rattle.jsonc_tree.specs.Order.{in_order, following, rest_at}
 use Rattle.jsonc_tree.proofs.Order.{in_order_is, following_end}
 use Rattle.jsonc_layout.specs.nodes.Kinds.{is_comment, is_comment_at}
 use Rattle.jsonc_edit.specs.Comments.{comment_at, CommentTaken, TakesOut, WantsSpace}
-use Rattle.jsonc_edit.specs.declared.error.EditError.{EditError}
-use Rattle.jsonc_edit.specs.declared.error.EditError.TheVariants.{OutOfMemory}
+use Rattle.jsonc_text.specs.declared.edit.EditError.{EditError}
+use Rattle.jsonc_text.specs.declared.edit.EditError.TheVariants.{OutOfMemory}
 use Rattle.jsonc_run.specs.Edits.{remove_comment, IsMade}
 use Rattle.jsonc_run.specs.Refusals.{IsToldBy}
 

@@ -3,8 +3,8 @@ use Rattle.std.proofs.Common.{◌≡◌, ℕ, List, Option, Some, IfErr, OnOk, R
 use Rattle.jsonc_tree.specs.Tree.{Node, content_at}
 use Rattle.jsonc_layout.specs.lines.Kinds.{holds_values}
 use Rattle.jsonc_edit.specs.Paths.{FindsExactly, IsAt}
-use Rattle.jsonc_edit.specs.declared.error.EditError.{EditError}
-use Rattle.jsonc_edit.specs.declared.error.EditError.TheVariants.{OutOfMemory, MissingBrackets, MissingName, NoSuchPlace}
+use Rattle.jsonc_text.specs.declared.edit.EditError.{EditError}
+use Rattle.jsonc_text.specs.declared.edit.EditError.TheVariants.{OutOfMemory, MissingBrackets, MissingName, NoSuchPlace}
 use Rattle.jsonc_edit.specs.multiline.Multiline.{IsUnspread, MadeMultiline}
 use Rattle.jsonc_run.specs.Edits.{ensure_multiline, IsMade}
 use Rattle.jsonc_run.specs.Places.{IsContainerAt}

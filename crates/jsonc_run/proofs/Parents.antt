@@ -15,8 +15,8 @@ use Rattle.jsonc_edit.specs.Comments.{IsTakenOut}
 use Rattle.jsonc_edit.specs.Replacing.{GivesWay, GivesWayRaw, TakesPlace}
 use Rattle.jsonc_edit.proofs.Kept.{tree_stays}
 use Rattle.jsonc_edit.proofs.TakingOut.{parents_spaced}
-use Rattle.jsonc_edit.specs.declared.modes.TrailingCommaMode.{TrailingCommaMode}
-use Rattle.jsonc_edit.specs.declared.modes.TrailingCommaMode.TheVariants.{Never, IfMultiline}
+use Rattle.jsonc_text.specs.declared.edit.TrailingCommaMode.{TrailingCommaMode}
+use Rattle.jsonc_text.specs.declared.edit.TrailingCommaMode.TheVariants.{Never, IfMultiline}
 use Rattle.jsonc_edit.specs.commas.Commas.{comma_gone, comma_wanted_behind, GainsIt, LosesIt}
 use Rattle.jsonc_edit.specs.commas.InTurn.{holders, AreSetInTurn}
 use Rattle.jsonc_edit.specs.multiline.Multiline.{has_line_end, MadeMultiline, TakesRow}

@@ -13,8 +13,8 @@ use Rattle.jsonc_sound.specs.Changes.{Changed}
 use Rattle.jsonc_sound.specs.SoundTrees.{SoundTree}
 use Rattle.jsonc_edit.specs.Paths.{FindsExactly, IsAt}
 use Rattle.jsonc_edit.specs.Writing.{IsWritable}
-use Rattle.jsonc_edit.specs.declared.error.EditError.{EditError}
-use Rattle.jsonc_edit.specs.declared.error.EditError.TheVariants.{OutOfMemory, MissingBrackets, MissingName, NoSuchPlace}
+use Rattle.jsonc_text.specs.declared.edit.EditError.{EditError}
+use Rattle.jsonc_text.specs.declared.edit.EditError.TheVariants.{OutOfMemory, MissingBrackets, MissingName, NoSuchPlace}
 use Rattle.jsonc_edit.proofs.FittingNodes.{over_there}
 use Rattle.jsonc_insert.specs.Inserted.{refusal}
 use Rattle.jsonc_insert.specs.Planned.{has_brackets}
@@ -25,8 +25,8 @@ use Rattle.jsonc_insert.proofs.lemmas.members.Spreading.{wants_memory_alone}
 use Rattle.jsonc_insert.specs.elements.Members.{member_count, IsMemberInserted, PropertyComesAt}
 use Rattle.jsonc_insert.proofs.lemmas.elements.Named.{inserts_member}
 use Rattle.jsonc_insert.proofs.lemmas.properties.Coming.{properties_come_at}
-use Rattle.jsonc_insert.specs.declared.named.shape.Over.{Over}
-use Rattle.jsonc_insert.specs.declared.named.shape.Shape.{Shape}
+use Rattle.jsonc_text.specs.declared.edit.Over.{Over}
+use Rattle.jsonc_text.specs.declared.edit.Shape.{Shape}
 use Rattle.jsonc_insert.specs.named.Named.{IsUnensured}
 use Rattle.jsonc_run.specs.Edits.{append_property, ensure_property, insert_property}
 use Rattle.jsonc_run.specs.Places.{IsObjectAt}

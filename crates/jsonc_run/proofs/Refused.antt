@@ -7,8 +7,8 @@ use Rattle.jsonc_tree.specs.Tree.{Node, content_at, IsTree}
 use Rattle.jsonc_layout.specs.nodes.Properties.{lacks_name_at, value_by}
 use Rattle.jsonc_layout.specs.lines.Kinds.{holds_values}
 use Rattle.jsonc_sound.specs.SoundTrees.{SoundTree}
-use Rattle.jsonc_edit.specs.declared.error.EditError.{EditError}
-use Rattle.jsonc_edit.specs.declared.error.EditError.TheVariants.{OutOfMemory, MissingBrackets, MissingName, NoSuchPlace}
+use Rattle.jsonc_text.specs.declared.edit.EditError.{EditError}
+use Rattle.jsonc_text.specs.declared.edit.EditError.TheVariants.{OutOfMemory, MissingBrackets, MissingName, NoSuchPlace}
 use Rattle.jsonc_edit.specs.Paths as paths
 use Rattle.jsonc_edit.specs.Paths.{IsAt, IsElementOf, LeadsTo}
 use Rattle.jsonc_edit.proofs.Uniqueness.{element_parent}

@@ -9,7 +9,7 @@ use Rattle.jsonc_edit.specs.commas.Laws.{IsInSound, SaysTheSame}
 use Rattle.jsonc_edit.proofs.lemmas.commas.Documents.{keeps_document, keeps_in_part}
 use Rattle.jsonc_edit.proofs.lemmas.commas.Within.{stays_outside, stays_outside_in_part}
 use Rattle.jsonc_edit.specs.Changes.{top_at}
-use Rattle.jsonc_edit.specs.declared.modes.TrailingCommaMode.{TrailingCommaMode}
+use Rattle.jsonc_text.specs.declared.edit.TrailingCommaMode.{TrailingCommaMode}
 use Rattle.jsonc_edit.proofs.lemmas.multiline.Documents.{over_at}
 use Rattle.jsonc_run.specs.Places.{IsContainerAt}
 use Rattle.jsonc_run.specs.Steps.{IsChangedAt}

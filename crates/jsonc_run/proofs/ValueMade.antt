@@ -9,14 +9,14 @@ use Rattle.jsonc_layout.specs.nodes.Properties.{lacks_name_at, value_at}
 use Rattle.jsonc_sound.specs.SoundTrees.{SoundTree}
 use Rattle.jsonc_edit.specs.Paths.{IsAt}
 use Rattle.jsonc_edit.specs.Reading.{IsReplaced}
-use Rattle.jsonc_edit.specs.declared.error.EditError.{EditError}
-use Rattle.jsonc_edit.specs.declared.error.EditError.TheVariants.{OutOfMemory, MissingBrackets, MissingName, NoSuchPlace}
+use Rattle.jsonc_text.specs.declared.edit.EditError.{EditError}
+use Rattle.jsonc_text.specs.declared.edit.EditError.TheVariants.{OutOfMemory, MissingBrackets, MissingName, NoSuchPlace}
 use Rattle.jsonc_edit.specs.set.PropertyValues.{IsUnset, LastValue}
-use Rattle.jsonc_insert.specs.declared.named.shape.Shape.{Shape}
+use Rattle.jsonc_text.specs.declared.edit.Shape.{Shape}
 use Rattle.jsonc_run.specs.Edits.{ensure_value, PropertyValueSet}
 use Rattle.jsonc_insert.specs.named.Places.{IsPropertyAt, a_property}
 use Rattle.jsonc_run.specs.Refusals.{IsToldBy}
-use Rattle.jsonc_insert.specs.named.Shapes.{is_of}
+use Rattle.jsonc_edit.specs.set.Shapes.{is_of}
 use Rattle.jsonc_insert.proofs.lemmas.named.PropertyValues.{value_held}
 use Rattle.jsonc_insert.proofs.lemmas.named.Unensured.{named}
 

@@ -8,8 +8,8 @@ use Rattle.jsonc_text.specs.Plain.{Plain, Items, no_items, item, Members, no_mem
 use Rattle.jsonc_text.proofs.SameOptions.{lexeme_same}
 use Rattle.jsonc_edit.proofs.lemmas.commas.WiderShapes.{as_allowed, with_trailing}
 use Rattle.jsonc_edit.specs.Writing.{IsOfNumbers, AreOfNumbers, AreNamedOfNumbers, IsWritable}
-use Rattle.jsonc_edit.specs.declared.modes.TrailingCommaMode.{TrailingCommaMode}
-use Rattle.jsonc_edit.specs.declared.modes.TrailingCommaMode.TheVariants.{Never, IfMultiline}
+use Rattle.jsonc_text.specs.declared.edit.TrailingCommaMode.{TrailingCommaMode}
+use Rattle.jsonc_text.specs.declared.edit.TrailingCommaMode.TheVariants.{Never, IfMultiline}
 use Rattle.jsonc_run.specs.Edits.{Operation, replace, remove, remove_comment, set_root, clear_root, replace_property, ensure_root, set_value, ensure_value, set_boolean, ensure_multiline, insert_element, append_element, insert_property, append_property, ensure_property, set_commas, set_some_commas, rearrange}
 use Rattle.jsonc_run.specs.Written.{MayBeMade, commas_mode, options_behind, options_by}
 

@@ -10,7 +10,7 @@ use Rattle.jsonc_edit.specs.commas.InTurn.{holders, AreSetInPart, AreSetInTurn}
 use Rattle.jsonc_edit.specs.Comments.{comment_at, CommentTaken}
 use Rattle.jsonc_edit.specs.Paths.{IsAt}
 use Rattle.jsonc_edit.specs.Reading.{IsReplaced}
-use Rattle.jsonc_edit.specs.declared.modes.TrailingCommaMode.{TrailingCommaMode}
+use Rattle.jsonc_text.specs.declared.edit.TrailingCommaMode.{TrailingCommaMode}
 use Rattle.jsonc_insert.specs.Inserted.{ElementPut}
 use Rattle.jsonc_insert.specs.members.Inserted.{PropertyPut}
 use Rattle.jsonc_edit.specs.multiline.Multiline.{MadeMultiline}
@@ -24,13 +24,13 @@ use Rattle.jsonc_sort.specs.Rearranged.{IsOrderIn, Rearranged}
 use Rattle.jsonc_sort.specs.Sorting.{Headers}
 use Rattle.jsonc_run.specs.declared.edit.Edit.{Edit}
 use Rattle.jsonc_run.specs.declared.edit.Edit.TheVariants.{Replace, Remove, RemoveComment, SetRoot, ClearRoot, ReplaceProperty, EnsureRoot, SetValue, EnsureValue, SetBoolean, EnsureMultiline, InsertElement, AppendElement, InsertProperty, AppendProperty, EnsureProperty, SetTrailingCommas, Sort}
-use Rattle.jsonc_insert.specs.declared.named.shape.Over.{Over}
-use Rattle.jsonc_insert.specs.declared.named.shape.Over.TheVariants as over
-use Rattle.jsonc_insert.specs.declared.named.shape.Shape.{Shape}
+use Rattle.jsonc_text.specs.declared.edit.Over.{Over}
+use Rattle.jsonc_text.specs.declared.edit.Over.TheVariants as over
+use Rattle.jsonc_text.specs.declared.edit.Shape.{Shape}
 use Rattle.jsonc_insert.specs.named.Named.{NamedEnsured, PropertyValueEnsured}
 use Rattle.jsonc_insert.specs.named.Places.{IsPropertyAt}
 use Rattle.jsonc_run.specs.Places.{IsArrayAt, IsBooleanAt, IsContainerAt, IsEntryAt, IsObjectAt}
-use Rattle.jsonc_insert.specs.named.Shapes.{is_of, empty_of}
+use Rattle.jsonc_edit.specs.set.Shapes.{is_of, empty_of}
 
 -- What an edit asks for: that the value at the path gives way to this one, that the entry at the path leaves, or the comment of this number; that the
 -- document's value is this one, or that all leaves the document; that the property at the path gives way to one of this name and value; that the document has

@@ -13,7 +13,7 @@ use Rattle.jsonc_sound.specs.Marks as marks
 use Rattle.jsonc_sound.specs.Marks.{Mark, AreMarks, comments_of}
 use Rattle.jsonc_sound.specs.Written.{property_written, written}
 use Rattle.jsonc_sound.specs.EntryLaws.{LosesMarks}
-use Rattle.jsonc_insert.specs.declared.named.shape.Over.TheVariants.{Keep, Replace}
+use Rattle.jsonc_text.specs.declared.edit.Over.TheVariants.{Keep, Replace}
 use Rattle.jsonc_insert.specs.named.Laws.{ChangesMarks}
 use Rattle.jsonc_run.specs.Edits.{Operation, replace, remove, remove_comment, set_root, clear_root, replace_property, ensure_root, set_value, ensure_value, set_boolean, ensure_multiline, insert_element, append_element, insert_property, append_property, ensure_property, set_commas, set_some_commas, rearrange}
 use Rattle.jsonc_run.specs.Written.{MayBeMade, options_after}

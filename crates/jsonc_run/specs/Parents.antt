@@ -8,7 +8,7 @@ use Rattle.jsonc_tree.specs.OrderedTree.{ordered_tree}
 use Rattle.jsonc_tree.specs.Tree.{Node, parent_at, place_at, IsOver, IsTree}
 use Rattle.jsonc_edit.specs.Comments.{IsTakenOut}
 use Rattle.jsonc_edit.specs.Reading.{IsReplaced, IsReplacedRaw}
-use Rattle.jsonc_edit.specs.declared.modes.TrailingCommaMode.{TrailingCommaMode}
+use Rattle.jsonc_text.specs.declared.edit.TrailingCommaMode.{TrailingCommaMode}
 use Rattle.jsonc_edit.specs.commas.InTurn.{holders, AreSetInPart, AreSetInTurn}
 use Rattle.jsonc_edit.specs.commas.Laws.{StaysApart}
 use Rattle.jsonc_edit.specs.multiline.Multiline.{MadeMultiline}

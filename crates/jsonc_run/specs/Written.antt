@@ -29,20 +29,20 @@ use Rattle.jsonc_insert.specs.elements.Laws.{item_count, ElementComesAt, GainsIt
 use Rattle.jsonc_insert.specs.elements.Members.{member_count, GainsMember, PropertyComesAt}
 use Rattle.jsonc_insert.specs.named.Laws as named
 use Rattle.jsonc_insert.specs.named.Members.{EnsuresMember}
-use Rattle.jsonc_insert.specs.named.Shapes.{EnsuredValue}
+use Rattle.jsonc_edit.specs.set.Shapes.{EnsuredValue}
 use Rattle.jsonc_insert.specs.named.Values.{ReplacesHeld, ValueEnsured, ValueGivesWay}
 use Rattle.jsonc_edit.specs.remove.Laws.{EntryTaken, ValueTaken}
 use Rattle.jsonc_edit.specs.set.Giving.{is_bare_value}
-use Rattle.jsonc_insert.specs.declared.named.shape.Over.{Over}
-use Rattle.jsonc_insert.specs.declared.named.shape.Over.TheVariants as over
-use Rattle.jsonc_insert.specs.declared.named.shape.Shape.{Shape}
-use Rattle.jsonc_edit.specs.declared.error.EditError.{EditError}
-use Rattle.jsonc_edit.specs.declared.modes.TrailingCommaMode.{TrailingCommaMode}
+use Rattle.jsonc_text.specs.declared.edit.Over.{Over}
+use Rattle.jsonc_text.specs.declared.edit.Over.TheVariants as over
+use Rattle.jsonc_text.specs.declared.edit.Shape.{Shape}
+use Rattle.jsonc_text.specs.declared.edit.EditError.{EditError}
+use Rattle.jsonc_text.specs.declared.edit.TrailingCommaMode.{TrailingCommaMode}
 use Rattle.jsonc_sort.specs.Laws.{SortsEntries}
 use Rattle.jsonc_sort.specs.Paths.{KeepsOutside, SortedAt}
 use Rattle.jsonc_sort.specs.Sorting.{Headers}
 use Rattle.jsonc_run.specs.Refusals.{WantsMemoryOrPlace}
-use Rattle.jsonc_insert.specs.named.Shapes.{is_of, empty_of}
+use Rattle.jsonc_edit.specs.set.Shapes.{is_of, empty_of}
 use Rattle.jsonc_run.specs.Edits.{Operation, replace, remove, remove_comment, set_root, clear_root, replace_property, ensure_root, set_value, ensure_value, set_boolean, ensure_multiline, insert_element, append_element, insert_property, append_property, ensure_property, set_commas, set_some_commas, rearrange}
 
 -- documents of these options can hold what the edit writes: its value, and the name of its property

@@ -1,7 +1,6 @@
 //! Trailing commas of arrays and objects at paths.
 
 ghost use Rattle.std.specs.Prelude.{◌≡◌, IfErr, OnErr, OnOk};
-ghost use Rattle.jsonc_tree.specs.Tree.{IsTree};
 ghost use Rattle.jsonc_run.specs.Edits.{set_commas as asked_commas, IsMade};
 ghost use Rattle.jsonc_run.specs.Refusals.{IsLeft, IsToldBy};
 
@@ -20,9 +19,7 @@ pub(crate) fn set_commas_at<A: Allocator>(
     ensures made { OnOk result (IsMade tree.old.nodes (asked_commas path.now mode) tree.new.nodes) }
     ensures told { IfErr result (IsToldBy tree.old.nodes (asked_commas path.now mode)) }
     ensures left { OnErr result (IsLeft tree.old.nodes (asked_commas path.now mode) tree.new.nodes) }
-    ensures tree { IsTree tree.new.nodes }
 {
-    let _ = tree.len();
     let Some(container) = find_container(tree, path) else {
         return Err(EditError::NoSuchPlace);
     };

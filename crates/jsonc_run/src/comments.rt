@@ -1,19 +1,13 @@
 //! Comments by their numbers.
 
 ghost use Rattle.std.specs.Prelude.{◌≡◌, ◌<◌, IfSome, IsTrue, length};
-ghost use Rattle.jsonc_tree.specs.Stored.{content_of};
 ghost use Rattle.jsonc_tree.specs.Tree.{IsOver};
-ghost use Rattle.jsonc_layout.specs.nodes.Kinds.{is_comment, is_comment_at};
+ghost use Rattle.jsonc_layout.specs.nodes.Kinds.{is_comment_at};
 ghost use Rattle.jsonc_edit.specs.Comments.{comment_at};
 
-use jsonc_tree::{Kind, Tree};
+use jsonc_layout::nodes::is_comment;
+use jsonc_tree::Tree;
 use std::alloc::Allocator;
-
-fn is_comment<A: Allocator>(kind: &Kind<A>) -> bool
-    ensures { result ≡ is_comment (content_of kind.now) }
-{
-    matches!(kind, Kind::Comment(_) | Kind::CommentPart(_))
-}
 
 /// The comment of this number, counted from 0 in the order of the document.
 pub fn find_comment<A: Allocator>(tree: &Tree<A>, number: usize) -> Option<usize>
@@ -22,11 +16,10 @@ pub fn find_comment<A: Allocator>(tree: &Tree<A>, number: usize) -> Option<usize
     ensures there { IfSome result (λ n. n < length tree.now.nodes) }
     ensures below { IfSome result (λ n. IsOver tree.now.nodes 0 n) }
 {
-    let _ = tree.len();
     let mut left = number;
     let mut next = Some(0);
     while let Some(node) = next {
-        if is_comment(tree.kind(node)) {
+        if is_comment(tree, node) {
             if left == 0 {
                 return Some(node);
             }

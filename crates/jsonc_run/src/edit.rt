@@ -1,7 +1,6 @@
 //! What an edit asks for.
 
-use jsonc_edit::TrailingCommaMode;
-use jsonc_insert::named::{Over, Shape};
+use jsonc_edit::{Over, Shape, TrailingCommaMode};
 use jsonc_layout::input::CstInputValue;
 use std::alloc::Allocator;
 

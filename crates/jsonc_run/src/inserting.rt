@@ -5,7 +5,7 @@ ghost use Rattle.jsonc_layout.specs.input.Views.{plain};
 ghost use Rattle.jsonc_tree.specs.Building.{Keeps};
 ghost use Rattle.jsonc_tree.specs.Content.{Content};
 ghost use Rattle.jsonc_tree.specs.OrderedTree.{ordered_tree};
-ghost use Rattle.jsonc_tree.specs.Tree.{content_at, IsTree};
+ghost use Rattle.jsonc_tree.specs.Tree.{content_at};
 ghost use Rattle.jsonc_layout.specs.nodes.Siblings.{IsThere};
 ghost use Rattle.jsonc_edit.specs.Paths.{FindsExactly};
 ghost use Rattle.jsonc_run.specs.Edits.{append_element as asked_behind, insert_element as asked_in, IsMade};
@@ -51,9 +51,7 @@ pub(crate) fn insert_element_at<A: Allocator + Copy>(
     ensures told { IfErr result (IsToldBy tree.old.nodes (asked_in path.now index (plain value.now))) }
     ensures kept { OnErr result (Keeps (length tree.old.nodes) tree.old.nodes tree.new.nodes) }
     ensures document { OnErr result (ordered_tree tree.new.nodes 0 ≡ ordered_tree tree.old.nodes 0) }
-    ensures tree { IsTree tree.new.nodes }
 {
-    let _ = tree.len();
     let Some(array) = find_array(tree, path) else {
         return Err(EditError::NoSuchPlace);
     };
@@ -74,9 +72,7 @@ pub(crate) fn append_element_at<A: Allocator + Copy>(
     ensures told { IfErr result (IsToldBy tree.old.nodes (asked_behind path.now (plain value.now))) }
     ensures kept { OnErr result (Keeps (length tree.old.nodes) tree.old.nodes tree.new.nodes) }
     ensures document { OnErr result (ordered_tree tree.new.nodes 0 ≡ ordered_tree tree.old.nodes 0) }
-    ensures tree { IsTree tree.new.nodes }
 {
-    let _ = tree.len();
     let Some(array) = find_array(tree, path) else {
         return Err(EditError::NoSuchPlace);
     };

@@ -32,6 +32,6 @@ mod values;
 pub use comments::find_comment;
 pub use edit::Edit;
 pub use entries::{find_entry, find_property};
-pub use jsonc_insert::named::{Over, Shape};
+pub use jsonc_edit::{Over, Shape};
 pub use lines::find_container;
 pub use making::make;

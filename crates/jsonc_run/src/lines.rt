@@ -3,8 +3,7 @@
 ghost use Rattle.std.specs.Prelude.{◌≡◌, ◌<◌, IfErr, IsTrue, OnErr, OnOk, Some, length};
 ghost use Rattle.jsonc_tree.specs.Building.{Keeps};
 ghost use Rattle.jsonc_tree.specs.OrderedTree.{ordered_tree};
-ghost use Rattle.jsonc_tree.specs.Stored.{content_of};
-ghost use Rattle.jsonc_tree.specs.Tree.{content_at, IsTree};
+ghost use Rattle.jsonc_tree.specs.Tree.{content_at};
 ghost use Rattle.jsonc_layout.specs.lines.Kinds.{holds_values};
 ghost use Rattle.jsonc_layout.specs.nodes.Siblings.{IsThere};
 ghost use Rattle.jsonc_edit.specs.Paths.{FindsExactly};
@@ -14,15 +13,9 @@ ghost use Rattle.jsonc_run.specs.Refusals.{IsToldBy};
 
 use jsonc_edit::multiline::ensure_multiline;
 use jsonc_edit::{EditError, find};
-use jsonc_tree::{Kind, Tree};
+use jsonc_layout::lines::holds_values;
+use jsonc_tree::Tree;
 use std::alloc::Allocator;
-
-// Whether a node is an array or an object.
-fn holds_values<A: Allocator>(kind: &Kind<A>) -> bool
-    ensures { result ≡ holds_values (content_of kind.now) }
-{
-    matches!(kind, Kind::Array(_) | Kind::Object(_))
-}
 
 // The node, if there is one and it is an array or an object.
 fn if_container<A: Allocator>(tree: &Tree<A>, found: Option<usize>) -> Option<usize>
@@ -55,9 +48,7 @@ pub(crate) fn ensure_multiline_at<A: Allocator + Copy>(
     ensures told { IfErr result (IsToldBy tree.old.nodes (asked_lines path.now)) }
     ensures kept { OnErr result (Keeps (length tree.old.nodes) tree.old.nodes tree.new.nodes) }
     ensures document { OnErr result (ordered_tree tree.new.nodes 0 ≡ ordered_tree tree.old.nodes 0) }
-    ensures tree { IsTree tree.new.nodes }
 {
-    let _ = tree.len();
     let Some(container) = find_container(tree, path) else {
         return Err(EditError::NoSuchPlace);
     };

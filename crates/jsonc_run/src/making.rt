@@ -1,20 +1,16 @@
 //! Edits that are made.
 
-ghost use Rattle.std.specs.Prelude.{◌≡◌, ◌∷◌, [], false, true, IfErr, IfOk, None, OnErr, OnOk, chars, length};
+ghost use Rattle.std.specs.Prelude.{◌≡◌, ◌∷◌, [], false, true, IfErr, None, OnErr, OnOk, chars, length};
 ghost use Rattle.jsonc_text.specs.Options.{Options};
 ghost use Rattle.jsonc_tree.specs.Building.{Keeps};
 ghost use Rattle.jsonc_tree.specs.OrderedTree.{ordered_tree};
-ghost use Rattle.jsonc_tree.specs.Tree.{IsTree};
 ghost use Rattle.jsonc_layout.specs.input.Views.{plain};
-ghost use Rattle.jsonc_layout.specs.nodes.Properties.{value_at};
-ghost use Rattle.jsonc_edit.specs.set.Kinds.{FoundOrCreated, FoundOrSet, LacksKind};
 ghost use Rattle.jsonc_run.specs.Edits.{is_sort, is_whole, operation_of, unsorted, IsMade};
 ghost use Rattle.jsonc_run.specs.Edits.{replace as asked, remove as asked_out, remove_comment as asked_without};
 ghost use Rattle.jsonc_run.specs.Edits.{set_root as asked_of_root, replace_property as asked_of_property, ensure_root as asked_for};
 ghost use Rattle.jsonc_sound.specs.SoundTrees.{SoundTree};
 ghost use Rattle.jsonc_run.specs.Named.{TellsUnnamed};
 ghost use Rattle.jsonc_run.specs.Refusals.{IsLeft, IsToldBy, WantsMemoryOrPlace};
-ghost use Rattle.jsonc_insert.specs.named.Shapes.{empty_of, is_of};
 ghost use Rattle.jsonc_run.specs.Steps.{MakesSteps};
 
 use crate::commas::set_commas_at;
@@ -27,11 +23,9 @@ use crate::members::{append_property_at, ensure_property_at, insert_property_at}
 use crate::values::{ensure_value_at, set_boolean_at, set_value_at};
 use jsonc_edit::remove::remove;
 use jsonc_edit::set::{
-    array_value_or_create, array_value_or_set, clear_root, object_value_or_create,
-    object_value_or_set, replace_property, set_root,
+    clear_root, replace_property, root_value_or_create, root_value_or_set, set_root,
 };
-use jsonc_edit::{EditError, find, remove_comment, replace};
-use jsonc_insert::named::{Over, Shape};
+use jsonc_edit::{EditError, Over, Shape, find, remove_comment, replace};
 use jsonc_layout::input::CstInputValue;
 use jsonc_tree::Tree;
 use std::alloc::Allocator;
@@ -55,9 +49,7 @@ pub fn make<A: Allocator + Copy>(
     ensures steps { (o : Options)
         → OnOk result (MakesSteps o tree.old.nodes (operation_of unsorted edit.now ∷ []) tree.new.nodes) }
     ensures left { OnErr result (IsLeft tree.old.nodes (operation_of unsorted edit.now) tree.new.nodes) }
-    ensures tree { IsTree tree.new.nodes }
 {
-    let _ = tree.len();
     make_by_kind(alloc, tree, edit)
 }
 
@@ -71,9 +63,7 @@ fn make_by_kind<A: Allocator + Copy>(
     ensures made { OnOk result (IsMade tree.old.nodes (operation_of unsorted edit.now) tree.new.nodes) }
     ensures told { IfErr result (IsToldBy tree.old.nodes (operation_of unsorted edit.now)) }
     ensures left { OnErr result (IsLeft tree.old.nodes (operation_of unsorted edit.now) tree.new.nodes) }
-    ensures tree { IsTree tree.new.nodes }
 {
-    let _ = tree.len();
     match edit {
         Edit::SetTrailingCommas(path, mode) => set_commas_at(tree, path, *mode),
         _ => make_whole(alloc, tree, edit),
@@ -91,9 +81,7 @@ fn make_whole<A: Allocator + Copy>(
     ensures told { IfErr result (IsToldBy tree.old.nodes (operation_of unsorted edit.now)) }
     ensures kept { OnErr result (Keeps (length tree.old.nodes) tree.old.nodes tree.new.nodes) }
     ensures document { OnErr result (ordered_tree tree.new.nodes 0 ≡ ordered_tree tree.old.nodes 0) }
-    ensures tree { IsTree tree.new.nodes }
 {
-    let _ = tree.len();
     match edit {
         Edit::Replace(path, value) => replace_at(alloc, tree, path, value),
         Edit::Remove(path) => remove_entry(alloc, tree, path),
@@ -140,9 +128,7 @@ fn replace_at<A: Allocator + Copy>(
     ensures told { IfErr result (IsToldBy tree.old.nodes (asked path.now (plain value.now))) }
     ensures kept { OnErr result (Keeps (length tree.old.nodes) tree.old.nodes tree.new.nodes) }
     ensures document { OnErr result (ordered_tree tree.new.nodes 0 ≡ ordered_tree tree.old.nodes 0) }
-    ensures tree { IsTree tree.new.nodes }
 {
-    let _ = tree.len();
     let Some(node) = find(tree, path) else {
         return Err(EditError::NoSuchPlace);
     };
@@ -164,9 +150,7 @@ fn remove_entry<A: Allocator + Copy>(
     ensures told { IfErr result (IsToldBy tree.old.nodes (asked_out path.now)) }
     ensures kept { OnErr result (Keeps (length tree.old.nodes) tree.old.nodes tree.new.nodes) }
     ensures document { OnErr result (ordered_tree tree.new.nodes 0 ≡ ordered_tree tree.old.nodes 0) }
-    ensures tree { IsTree tree.new.nodes }
 {
-    let _ = tree.len();
     let Some(node) = find_entry(tree, path) else {
         return Err(EditError::NoSuchPlace);
     };
@@ -183,9 +167,7 @@ fn remove_at<A: Allocator + Copy>(
     ensures told { IfErr result (IsToldBy tree.old.nodes (asked_without number)) }
     ensures kept { OnErr result (Keeps (length tree.old.nodes) tree.old.nodes tree.new.nodes) }
     ensures document { OnErr result (ordered_tree tree.new.nodes 0 ≡ ordered_tree tree.old.nodes 0) }
-    ensures tree { IsTree tree.new.nodes }
 {
-    let _ = tree.len();
     let Some(comment) = find_comment(tree, number) else {
         return Err(EditError::NoSuchPlace);
     };
@@ -202,9 +184,7 @@ fn set_value<A: Allocator + Copy>(
     ensures told { IfErr result (IsToldBy tree.old.nodes (asked_of_root (plain value.now))) }
     ensures kept { OnErr result (Keeps (length tree.old.nodes) tree.old.nodes tree.new.nodes) }
     ensures document { OnErr result (ordered_tree tree.new.nodes 0 ≡ ordered_tree tree.old.nodes 0) }
-    ensures tree { IsTree tree.new.nodes }
 {
-    let _ = tree.len();
     set_root(alloc, tree, value)?;
     Ok(())
 }
@@ -224,9 +204,7 @@ fn replace_property_at<A: Allocator + Copy>(
         (IsToldBy tree.old.nodes (asked_of_property path.now (chars name.now) (plain value.now))) }
     ensures kept { OnErr result (Keeps (length tree.old.nodes) tree.old.nodes tree.new.nodes) }
     ensures document { OnErr result (ordered_tree tree.new.nodes 0 ≡ ordered_tree tree.old.nodes 0) }
-    ensures tree { IsTree tree.new.nodes }
 {
-    let _ = tree.len();
     let Some(property) = find_property(tree, path) else {
         return Err(EditError::NoSuchPlace);
     };
@@ -248,59 +226,15 @@ fn ensure_value<A: Allocator + Copy>(
     ensures told { IfErr result (IsToldBy tree.old.nodes (asked_for shape over)) }
     ensures kept { OnErr result (Keeps (length tree.old.nodes) tree.old.nodes tree.new.nodes) }
     ensures document { OnErr result (ordered_tree tree.new.nodes 0 ≡ ordered_tree tree.old.nodes 0) }
-    ensures tree { IsTree tree.new.nodes }
 {
-    let _ = tree.len();
     match over {
         Over::Keep => {
-            found_or_created(alloc, tree, shape)?;
+            root_value_or_create(alloc, tree, shape)?;
             Ok(())
         }
         Over::Replace => {
-            found_or_set(alloc, tree, shape)?;
+            root_value_or_set(alloc, tree, shape)?;
             Ok(())
         }
-    }
-}
-
-// The document's value, if it has a shape; where there is none, an empty one is set.
-fn found_or_created<A: Allocator + Copy>(
-    alloc: A,
-    tree: &mut Tree<A>,
-    shape: Shape,
-) -> Result<Option<usize>, EditError>
-    ensures value { IfOk result
-        (FoundOrCreated (is_of shape) (empty_of shape) tree.old.nodes tree.new.nodes
-        (value_at tree.old.nodes 0)) }
-    ensures memory { IfErr result (λ e. e ≡ EditError.OutOfMemory) }
-    ensures wanted { OnErr result (value_at tree.old.nodes 0 ≡ None) }
-    ensures kept { OnErr result (Keeps (length tree.old.nodes) tree.old.nodes tree.new.nodes) }
-    ensures document { OnErr result (ordered_tree tree.new.nodes 0 ≡ ordered_tree tree.old.nodes 0) }
-    ensures tree { IsTree tree.new.nodes }
-{
-    match shape {
-        Shape::Object => object_value_or_create(alloc, tree),
-        Shape::Array => array_value_or_create(alloc, tree),
-    }
-}
-
-// The document's value, if it has a shape; where it is another, or there is none, an empty one is set.
-fn found_or_set<A: Allocator + Copy>(
-    alloc: A,
-    tree: &mut Tree<A>,
-    shape: Shape,
-) -> Result<usize, EditError>
-    ensures value { IfOk result
-        (FoundOrSet (is_of shape) (empty_of shape) tree.old.nodes tree.new.nodes
-        (value_at tree.old.nodes 0)) }
-    ensures memory { IfErr result (λ e. e ≡ EditError.OutOfMemory) }
-    ensures wanted { OnErr result (LacksKind (is_of shape) tree.old.nodes (value_at tree.old.nodes 0)) }
-    ensures kept { OnErr result (Keeps (length tree.old.nodes) tree.old.nodes tree.new.nodes) }
-    ensures document { OnErr result (ordered_tree tree.new.nodes 0 ≡ ordered_tree tree.old.nodes 0) }
-    ensures tree { IsTree tree.new.nodes }
-{
-    match shape {
-        Shape::Object => object_value_or_set(alloc, tree),
-        Shape::Array => array_value_or_set(alloc, tree),
     }
 }

@@ -5,16 +5,16 @@ ghost use Rattle.jsonc_layout.specs.input.Views.{plain};
 ghost use Rattle.jsonc_tree.specs.Building.{Keeps};
 ghost use Rattle.jsonc_tree.specs.Content.{Content};
 ghost use Rattle.jsonc_tree.specs.OrderedTree.{ordered_tree};
-ghost use Rattle.jsonc_tree.specs.Tree.{content_at, IsTree};
+ghost use Rattle.jsonc_tree.specs.Tree.{content_at};
 ghost use Rattle.jsonc_layout.specs.nodes.Siblings.{IsThere};
 ghost use Rattle.jsonc_edit.specs.Paths.{FindsExactly};
 ghost use Rattle.jsonc_run.specs.Edits.{append_property as asked_behind, ensure_property as asked_for, insert_property as asked_in, IsMade};
 ghost use Rattle.jsonc_run.specs.Places.{IsObjectAt};
 ghost use Rattle.jsonc_run.specs.Refusals.{IsToldBy};
 
-use jsonc_edit::{EditError, find};
+use jsonc_edit::{EditError, Over, Shape, find};
 use jsonc_insert::members::insert_property;
-use jsonc_insert::named::{Over, Shape, ensure_property};
+use jsonc_insert::named::ensure_property;
 use jsonc_layout::input::CstInputValue;
 use jsonc_tree::{Kind, Tree};
 use std::alloc::Allocator;
@@ -55,9 +55,7 @@ pub(crate) fn insert_property_at<A: Allocator + Copy>(
     ensures told { IfErr result (IsToldBy tree.old.nodes (asked_in path.now index (chars name.now) (plain value.now))) }
     ensures kept { OnErr result (Keeps (length tree.old.nodes) tree.old.nodes tree.new.nodes) }
     ensures document { OnErr result (ordered_tree tree.new.nodes 0 ≡ ordered_tree tree.old.nodes 0) }
-    ensures tree { IsTree tree.new.nodes }
 {
-    let _ = tree.len();
     let Some(object) = find_object(tree, path) else {
         return Err(EditError::NoSuchPlace);
     };
@@ -81,9 +79,7 @@ pub(crate) fn append_property_at<A: Allocator + Copy>(
     ensures told { IfErr result (IsToldBy tree.old.nodes (asked_behind path.now (chars name.now) (plain value.now))) }
     ensures kept { OnErr result (Keeps (length tree.old.nodes) tree.old.nodes tree.new.nodes) }
     ensures document { OnErr result (ordered_tree tree.new.nodes 0 ≡ ordered_tree tree.old.nodes 0) }
-    ensures tree { IsTree tree.new.nodes }
 {
-    let _ = tree.len();
     let Some(object) = find_object(tree, path) else {
         return Err(EditError::NoSuchPlace);
     };
@@ -108,9 +104,7 @@ pub(crate) fn ensure_property_at<A: Allocator + Copy>(
     ensures told { IfErr result (IsToldBy tree.old.nodes (asked_for path.now (chars name.now) shape over)) }
     ensures kept { OnErr result (Keeps (length tree.old.nodes) tree.old.nodes tree.new.nodes) }
     ensures document { OnErr result (ordered_tree tree.new.nodes 0 ≡ ordered_tree tree.old.nodes 0) }
-    ensures tree { IsTree tree.new.nodes }
 {
-    let _ = tree.len();
     let Some(object) = find_object(tree, path) else {
         return Err(EditError::NoSuchPlace);
     };

@@ -1,28 +1,21 @@
 //! Values at paths that are set.
 
-ghost use Rattle.std.specs.Prelude.{◌≡◌, ◌<◌, IfErr, IfOk, OnErr, OnOk, Some, false, length, true};
+ghost use Rattle.std.specs.Prelude.{◌≡◌, ◌<◌, IfErr, OnErr, OnOk, Some, length, true};
 ghost use Rattle.jsonc_tree.specs.Building.{Keeps};
-ghost use Rattle.jsonc_tree.specs.Content.{Content};
 ghost use Rattle.jsonc_tree.specs.OrderedTree.{ordered_tree};
 ghost use Rattle.jsonc_tree.specs.Stored.{content_of};
-ghost use Rattle.jsonc_tree.specs.Tree.{content_at, IsTree};
+ghost use Rattle.jsonc_tree.specs.Tree.{content_at};
 ghost use Rattle.jsonc_layout.specs.input.Views.{plain};
-ghost use Rattle.jsonc_layout.specs.nodes.Properties.{lacks_name_at, value_at};
 ghost use Rattle.jsonc_layout.specs.nodes.Siblings.{IsThere};
 ghost use Rattle.jsonc_edit.specs.Paths.{FindsExactly};
 ghost use Rattle.jsonc_edit.specs.set.Booleans.{is_boolean};
-ghost use Rattle.jsonc_edit.specs.set.PropertyValues.{HeldOrSet, IsUnset};
 ghost use Rattle.jsonc_run.specs.Edits.{set_value as asked_value, ensure_value as asked_shape, set_boolean as asked_boolean, IsMade};
 ghost use Rattle.jsonc_run.specs.Places.{IsBooleanAt};
 ghost use Rattle.jsonc_run.specs.Refusals.{IsToldBy};
-ghost use Rattle.jsonc_insert.specs.named.Shapes.{empty_of, is_of};
 
 use crate::entries::find_property;
-use jsonc_edit::set::{
-    property_array_or_set, property_object_or_set, set_boolean, set_property_value,
-};
-use jsonc_edit::{EditError, find};
-use jsonc_insert::named::Shape;
+use jsonc_edit::set::{property_value_or_set, set_boolean, set_property_value};
+use jsonc_edit::{EditError, Shape, find};
 use jsonc_layout::input::CstInputValue;
 use jsonc_tree::{Kind, Tree};
 use std::alloc::Allocator;
@@ -38,9 +31,7 @@ pub(crate) fn set_value_at<A: Allocator + Copy>(
     ensures told { IfErr result (IsToldBy tree.old.nodes (asked_value path.now (plain value.now))) }
     ensures kept { OnErr result (Keeps (length tree.old.nodes) tree.old.nodes tree.new.nodes) }
     ensures document { OnErr result (ordered_tree tree.new.nodes 0 ≡ ordered_tree tree.old.nodes 0) }
-    ensures tree { IsTree tree.new.nodes }
 {
-    let _ = tree.len();
     let Some(property) = find_property(tree, path) else {
         return Err(EditError::NoSuchPlace);
     };
@@ -59,39 +50,12 @@ pub(crate) fn ensure_value_at<A: Allocator + Copy>(
     ensures told { IfErr result (IsToldBy tree.old.nodes (asked_shape path.now shape)) }
     ensures kept { OnErr result (Keeps (length tree.old.nodes) tree.old.nodes tree.new.nodes) }
     ensures document { OnErr result (ordered_tree tree.new.nodes 0 ≡ ordered_tree tree.old.nodes 0) }
-    ensures tree { IsTree tree.new.nodes }
 {
-    let _ = tree.len();
     let Some(property) = find_property(tree, path) else {
         return Err(EditError::NoSuchPlace);
     };
-    held_or_set(alloc, tree, property, shape)?;
+    property_value_or_set(alloc, tree, property, shape)?;
     Ok(())
-}
-
-// The value of a property, if it has a shape; where it is another, or there is none, an empty one is set.
-fn held_or_set<A: Allocator + Copy>(
-    alloc: A,
-    tree: &mut Tree<A>,
-    property: usize,
-    shape: Shape,
-) -> Result<usize, EditError>
-    requires there { property < length tree.old.nodes }
-    requires property { content_at tree.old.nodes property ≡ Content.property }
-    ensures value { IfOk result
-        (HeldOrSet (is_of shape) (empty_of shape) tree.old.nodes tree.new.nodes property
-        (value_at tree.old.nodes property)) }
-    ensures named { OnOk result (lacks_name_at tree.old.nodes property ≡ false) }
-    ensures told { IfErr result (IsUnset (is_of shape) tree.old.nodes property) }
-    ensures missing { IfErr result (λ e. lacks_name_at tree.old.nodes property ≡ true → e ≡ EditError.MissingName) }
-    ensures kept { OnErr result (Keeps (length tree.old.nodes) tree.old.nodes tree.new.nodes) }
-    ensures document { OnErr result (ordered_tree tree.new.nodes 0 ≡ ordered_tree tree.old.nodes 0) }
-    ensures tree { IsTree tree.new.nodes }
-{
-    match shape {
-        Shape::Object => property_object_or_set(alloc, tree, property),
-        Shape::Array => property_array_or_set(alloc, tree, property),
-    }
 }
 
 fn is_boolean<A: Allocator>(kind: &Kind<A>) -> bool
@@ -132,9 +96,7 @@ pub(crate) fn set_boolean_at<A: Allocator + Copy>(
     ensures told { IfErr result (IsToldBy tree.old.nodes (asked_boolean path.now value)) }
     ensures kept { OnErr result (Keeps (length tree.old.nodes) tree.old.nodes tree.new.nodes) }
     ensures document { OnErr result (ordered_tree tree.new.nodes 0 ≡ ordered_tree tree.old.nodes 0) }
-    ensures tree { IsTree tree.new.nodes }
 {
-    let _ = tree.len();
     let Some(leaf) = find_boolean(tree, path) else {
         return Err(EditError::NoSuchPlace);
     };

@@ -10,11 +10,11 @@ use Rattle.jsonc_tree.specs.Content.{Content, newline}
 use Rattle.jsonc_tree.specs.Siblings.{first}
 use Rattle.jsonc_tree.specs.Tree.{Node, content_at, parent_at, children_at, place_at, IsTree}
 use Rattle.jsonc_tree.specs.declared.node.CstNewlineKind.{CstNewlineKind}
-use Rattle.jsonc_layout.specs.nodes.Kinds.{is_element, is_element_at}
+use Rattle.jsonc_layout.specs.nodes.Kinds.{is_element, is_element_at, is_token}
 use Rattle.jsonc_layout.specs.nodes.Siblings.{elements_at}
 use Rattle.jsonc_sound.specs.Lines.{is_line_comment}
 use Rattle.jsonc_layout.specs.lines.Breadth.{newline_kind_at}
-use Rattle.jsonc_edit.specs.remove.Removed.{has_brackets, has_two, is_token, is_token_at}
+use Rattle.jsonc_edit.specs.remove.Removed.{has_brackets, has_two, is_token_at}
 use Rattle.jsonc_edit.specs.multiline.Lines.{between}
 use Rattle.jsonc_edit.specs.multiline.Plans.{IsFrom}
 use Rattle.jsonc_edit.specs.multiline.Slots.{AreFilled, no_more, stayed, came}

@@ -8,8 +8,7 @@ use Rattle.std.proofs.lemmas.List.Sorted.{length_permutation, sum_by-IsPermutati
 use Rattle.jsonc_tree.specs.Content.{Content, token, newline}
 use Rattle.jsonc_tree.specs.OrderedTree.{Top, none}
 use Rattle.jsonc_tree.specs.declared.node.CstNewlineKind.{CstNewlineKind}
-use Rattle.jsonc_layout.specs.nodes.Kinds.{is_element, is_newline, is_whitespace}
-use Rattle.jsonc_layout.specs.lines.Kinds.{is_comma}
+use Rattle.jsonc_layout.specs.nodes.Kinds.{is_element, is_newline, is_whitespace, is_comma}
 use Rattle.jsonc_sound.specs.Lines.{is_line_comment}
 use Rattle.jsonc_sort.specs.Slots.{Slot, stays, comes, all_stay, top_in}
 use Rattle.jsonc_sort.specs.Parts.{Part, Parts, has_comma, is_comma_at, is_newline_at, is_none, is_whitespace_at, part_with, parts, tail_length, up_to_spaces}

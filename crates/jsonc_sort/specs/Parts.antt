@@ -3,8 +3,7 @@
 use Rattle.std.specs.Prelude.{ℕ, suc, ◌+◌, ◌-◌, Bool, true, false, not, ◌&&◌, ◌||◌, List, [], ◌∷◌, length, take, drop, if◌then◌else◌}
 use Rattle.std.specs.List.{list_all, list_any, suffix_len, take_while}
 use Rattle.jsonc_tree.specs.Content.{Content}
-use Rattle.jsonc_layout.specs.lines.Kinds.{is_comma}
-use Rattle.jsonc_layout.specs.nodes.Kinds.{is_beside, is_element, is_newline, is_whitespace}
+use Rattle.jsonc_layout.specs.nodes.Kinds.{is_comma, is_beside, is_element, is_newline, is_whitespace}
 
 -- an element; what belongs to it behind it: through its comma, and the comments on its line;
 -- and what stands behind that, up to the next element or the last bracket

@@ -8,12 +8,11 @@ ghost use Rattle.jsonc_sort.specs.Above.{above, all_comments_above, comments_abo
 ghost use Rattle.jsonc_sort.specs.Leads.{comments, is_comment_at};
 ghost use Rattle.jsonc_sort.specs.Parts.{is_newline_at};
 
-use crate::kinds::is_comment;
 use crate::leads::{before_newline, comments, has_blank_line};
 use crate::parts::{has_newline, up_to_spaces};
 use crate::places::entries;
 use jsonc_edit::multiline::has_brackets;
-use jsonc_layout::nodes::children;
+use jsonc_layout::nodes::{children, is_comment};
 use jsonc_tree::Tree;
 use std::alloc::{AllocError, Allocator};
 
@@ -146,7 +145,6 @@ pub fn comments_above<A: Allocator + Copy>(
     requires { container < length tree.now.nodes }
     ensures comments { IfOk result (λ v. v.items ≡ all_comments_above tree.now.nodes container) }
 {
-    let _ = tree.len();
     if !has_brackets(tree, container) {
         return Ok(Vec::new(alloc));
     }
@@ -167,7 +165,6 @@ pub fn read_leads<A: Allocator + Copy>(
     requires { container < length tree.now.nodes }
     ensures leads { IfOk result (λ v. v.items ≡ leads_read tree.now.nodes container) }
 {
-    let _ = tree.len();
     if !has_brackets(tree, container) {
         return Ok(Vec::new(alloc));
     }

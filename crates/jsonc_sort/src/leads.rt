@@ -9,9 +9,8 @@ ghost use Rattle.jsonc_sort.specs.Leads.{parts_of_lines, spaces, through_last_li
 ghost use Rattle.jsonc_sort.specs.Parts.{is_newline_at, is_no_newline_at};
 ghost use Rattle.jsonc_sort.specs.Places.{ended_behind, lead_of, left_behind};
 
-use crate::kinds::is_comment;
 use crate::parts::{has_newline, up_to_spaces};
-use jsonc_layout::nodes::{is_newline, is_whitespace};
+use jsonc_layout::nodes::{is_comment, is_newline, is_whitespace};
 use jsonc_tree::Tree;
 use std::alloc::Allocator;
 

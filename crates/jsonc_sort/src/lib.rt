@@ -21,7 +21,6 @@
 mod above;
 pub mod again;
 pub mod groups;
-mod kinds;
 pub mod laws;
 mod leads;
 mod order;

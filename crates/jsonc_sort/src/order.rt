@@ -3,7 +3,7 @@
 ghost use Rattle.std.specs.Prelude.{◌≡◌, ◌<◌, IfOk, IsTrue, OnErr, OnOk, length};
 ghost use Rattle.jsonc_tree.specs.Building.{Keeps};
 ghost use Rattle.jsonc_tree.specs.OrderedTree.{ordered_tree};
-ghost use Rattle.jsonc_tree.specs.Tree.{content_at, IsTree};
+ghost use Rattle.jsonc_tree.specs.Tree.{content_at};
 ghost use Rattle.jsonc_edit.specs.Put.{Prepared};
 ghost use Rattle.jsonc_layout.specs.lines.Kinds.{holds_values};
 ghost use Rattle.jsonc_sort.specs.Rearranged.{headers_of, IsOrderIn, moves, PlansSort, Rearranged};
@@ -53,7 +53,6 @@ fn sorted_row<A: Allocator + Copy>(
         (λ v. PlansSort tree.old.nodes tree.new.nodes container (headers_of pinned.now groups) order.now v.items) }
     ensures prepared { Prepared tree.old.nodes tree.new.nodes }
 {
-    let _ = tree.len();
     let newline = newline_kind_at(alloc, tree, container)?;
     let children = children(alloc, tree, container)?;
     let row = &children[1..children.len() - 1];
@@ -86,9 +85,7 @@ pub fn rearrange<A: Allocator + Copy>(
     ensures told { OnErr result (IsTrue (moves tree.old.nodes container order.now)) }
     ensures kept { OnErr result (Keeps (length tree.old.nodes) tree.old.nodes tree.new.nodes) }
     ensures document { OnErr result (ordered_tree tree.new.nodes 0 ≡ ordered_tree tree.old.nodes 0) }
-    ensures tree { IsTree tree.new.nodes }
 {
-    let _ = tree.len();
     if !moves(tree, container, order) {
         return Ok(());
     }

@@ -7,8 +7,7 @@ ghost use Rattle.jsonc_sort.specs.Parts.{comments_on_line, has_comma, is_beside_
 ghost use Rattle.jsonc_sort.specs.Parts.{is_whitespace_at, line, tail_length, through_comma, up_to_spaces};
 ghost use Rattle.jsonc_sort.specs.Places.{before_blank, before_comma, IsComma};
 
-use crate::kinds::{is_beside, is_comma};
-use jsonc_layout::nodes::{is_newline, is_whitespace};
+use jsonc_layout::nodes::{is_beside, is_comma, is_newline, is_whitespace};
 use jsonc_tree::Tree;
 use std::alloc::Allocator;
 

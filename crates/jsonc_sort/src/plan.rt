@@ -16,8 +16,8 @@ ghost use Rattle.jsonc_sort.specs.Plans.{Gains, GainsLeaf, GainsNode, RowPlanned
 ghost use Rattle.jsonc_sort.specs.Plans.{last_has_comma, tail_by, travels_from};
 ghost use Rattle.jsonc_sort.specs.Slots.{all_stay, comes, stays};
 
-use crate::kinds::is_line_comment;
 use crate::places::Places;
+use jsonc_edit::is_line_comment;
 use jsonc_layout::nodes::{is_newline, is_whitespace};
 use jsonc_tree::{CstNewlineKind, Kind, Tree};
 use std::alloc::{AllocError, Allocator};
@@ -43,7 +43,6 @@ fn put_leaf<A: Allocator>(
     ensures gains { OnOk result (GainsLeaf tree.old.nodes plan.old tree.new.nodes plan.new (content_of kind)) }
     ensures prepared { Prepared tree.old.nodes tree.new.nodes }
 {
-    let _ = tree.len();
     let leaf = tree.add(kind)?;
     plan.nodes.push(leaf)?;
     Ok(())
@@ -98,7 +97,6 @@ fn put_node<A: Allocator>(
     ensures gains { OnOk result (Gains tree.old.nodes plan.old tree.new.nodes plan.new (stays node ∷ [])) }
     ensures prepared { Prepared tree.old.nodes tree.new.nodes }
 {
-    let _ = tree.len();
     if lacks_end(tree, plan, node) {
         put_leaf(tree, plan, Kind::Newline(plan.newline))?;
         put_child(tree, plan, node)?;
@@ -117,7 +115,6 @@ fn put_stretch<A: Allocator>(
     ensures gains { OnOk result (Gains tree.old.nodes plan.old tree.new.nodes plan.new (all_stay nodes.now)) }
     ensures prepared { Prepared tree.old.nodes tree.new.nodes }
 {
-    let _ = tree.len();
     let mut place = nodes.len();
     while place > 0 {
         place -= 1;
@@ -146,7 +143,6 @@ fn put_tail<A: Allocator>(
         (Gains tree.old.nodes plan.old tree.new.nodes plan.new (tail_by row.now comma entry.now)) }
     ensures prepared { Prepared tree.old.nodes tree.new.nodes }
 {
-    let _ = tree.len();
     if has_comma(entry) && !comma {
         put_stretch(tree, plan, &row[entry.behind..entry.end])?;
         put_stretch(tree, plan, &row[entry.element + 1..entry.comma])?;
@@ -183,7 +179,6 @@ fn put_entry<A: Allocator>(
         (Gains tree.old.nodes plan.old tree.new.nodes plan.new (entry_by row.now first comma place.now entry.now)) }
     ensures prepared { Prepared tree.old.nodes tree.new.nodes }
 {
-    let _ = tree.len();
     put_tail(tree, plan, row, comma, entry)?;
     put_node(tree, plan, row[entry.element])?;
     put_stretch(tree, plan, &row[place.indent..place.element])?;
@@ -248,7 +243,6 @@ pub(crate) fn plan_row<A: Allocator>(
         (λ v. RowPlanned tree.old.nodes tree.new.nodes newline row.now entries.now order.now v.items) }
     ensures prepared { Prepared tree.old.nodes tree.new.nodes }
 {
-    let _ = tree.len();
     let mut plan = Plan {
         newline,
         nodes: Vec::new(alloc),

@@ -8,7 +8,7 @@ use jsonc_engine::engine::run_on;
 use jsonc_engine::fault::Fault;
 use jsonc_parser::cst::{
     CstContainerNode, CstInputValue, CstLeafNode, CstNode, CstNumberLit, CstRootNode, EditError,
-    IsNode, ReplaceWith,
+    IsNode,
 };
 use jsonc_parser::{
     CollectOptions, CommentCollectionStrategy, ParseOptions, Scanner, ScannerOptions, parse_to_ast,

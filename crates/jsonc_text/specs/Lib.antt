@@ -20,5 +20,6 @@ pub mod Spelling
 pub mod Marks
 pub mod Paths
 pub mod Entries
+pub mod EditErrors
 pub mod Edits
 pub mod string

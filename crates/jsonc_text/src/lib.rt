@@ -8,6 +8,7 @@
 
 pub mod chars;
 pub mod common;
+pub mod edit;
 pub mod errors;
 pub mod laws;
 mod line;

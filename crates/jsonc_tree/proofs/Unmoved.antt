@@ -1,5 +1,6 @@
 -- Changes that leave every row as it is: a new node, a leaf that becomes another.
-use Rattle.std.proofs.Common.{◌≡◌, ◌^◌, ℕ, true, false, zero, suc, ◌<◌, ◌≤◌, List, [], ◌∷◌, ◌++◌, length, get_or, set, Option, None, Some, inl, inr, slice_get, refl, sym, ap, subst, ◌∙◌, arith, length-set}
+use Rattle.std.specs.Prelude.{if◌then◌else◌}
+use Rattle.std.proofs.Common.{◌≡◌, ◌^◌, ℕ, Bool, true, false, zero, suc, ◌<◌, ◌≤◌, List, [], ◌∷◌, ◌++◌, length, get_or, set, Option, None, Some, inl, inr, slice_get, refl, sym, ap, subst, ◌∙◌, arith, length-set}
 use Rattle.std.proofs.lemmas.Bool.{cases_lt, cases_eq, false≢true}
 use Rattle.std.proofs.lemmas.List.{get_or_append_left, get_or_past, get_or_push, length_push, get_or-set_same, get_or-set_other}
 use Rattle.std.proofs.lemmas.Option.{slice_get_past}
@@ -246,3 +247,8 @@ module _ (ls : List LinkedNode) (ok : IsStored ls) where
   -- there is room for more children than a number in memory can say
   pub room_wide : (c : ℕ) → c < length (nodes_of ls) → length ls ≤ 2 ^ 64 → 2 ^ 64 ≤ room_at (nodes_of ls) c
   room_wide c h size = omega (arith, (agrees ls ok).room c h, row_short (nodes_of ls) ok.tree c, length_shown ls)
+
+-- what holds of a list and of another holds of either
+pub either_stored : (b : Bool) (ls ms : List LinkedNode) → IsStored ls → IsStored ms → IsStored (if b then ls else ms)
+either_stored true ls ms s t = s
+either_stored false ls ms s t = t

@@ -3,11 +3,12 @@
 ghost use Rattle.std.specs.Prelude.{◌≡◌, ℕ, false, IsTrue, ◌+◌, ◌-◌, ◌^◌, ◌<◌, ◌≤◌, [], ◌∷◌};
 ghost use Rattle.std.specs.Prelude.{length, max, vec_capacity, vec_len, IfOk, OnErr, OnOk};
 ghost use Rattle.jsonc_tree.specs.Content.{is_container};
-ghost use Rattle.jsonc_tree.specs.Tree.{children_at, is_container_at, room_at, IsTree};
+ghost use Rattle.jsonc_tree.specs.Tree.{children_at, is_container_at, room_at};
 ghost use Rattle.jsonc_tree.specs.Changes.{Adds, Appends, CanAppend, CanJoin};
 ghost use Rattle.jsonc_tree.specs.Changes.{LeafBecomes, MakesRoom, Pushes, Splices};
 ghost use Rattle.jsonc_tree.specs.Siblings.{Fills, HasGap};
 ghost use Rattle.jsonc_tree.specs.Stored.{content_of, nodes_in, IsStored};
+ghost use Rattle.jsonc_tree.specs.StoredOnce.{IsStored-prop};
 
 use crate::links::first_of;
 use crate::node::{Ends, Kind, Node, bare_node};
@@ -21,22 +22,25 @@ use std::marker::Model;
 #[derive(Drop)]
 pub struct Tree<A: Allocator> {
     pub(crate) nodes: Vec<Node<A>, A>,
+    ghost stored: { IsStored nodes.items } by { IsStored-prop nodes.items },
 }
 
 impl<A: Allocator> Model for Tree<A> {
     ghost use Rattle.std.specs.Prelude.{vec_capacity, vec_len, ◌-◌};
     ghost use Rattle.jsonc_tree.specs.Tree.{Tree as Nodes};
+    ghost use Rattle.jsonc_tree.specs.Codes.{tree_code};
 
     ghost Value = { Nodes };
 
-    ghost use Rattle.jsonc_tree.specs.Stored.{nodes_of, IsStored};
+    ghost coded = { tree_code };
+
+    ghost use Rattle.jsonc_tree.specs.Stored.{nodes_of};
 
     ghost view = { λ t. record {
       nodes = nodes_of t.nodes.items;
       room = vec_capacity t.nodes - vec_len t.nodes;
+      tree = t.stored.tree;
     } };
-
-    ghost invariant = { λ t. IsStored t.nodes.items };
 }
 
 // Lets a leaf become another.
@@ -74,7 +78,6 @@ impl<A: Allocator> Tree<A> {
     /// How many nodes there are, those that were taken out included.
     pub fn len(&self) -> usize
         ensures len { result ≡ length self.now.nodes }
-        ensures tree { IsTree self.now.nodes }
     {
         self.nodes.len()
     }
@@ -94,7 +97,6 @@ impl<A: Allocator> Tree<A> {
         ensures room { OnOk result (additional ≤ self.new.room) }
         ensures exact { OnOk result (self.new.room ≡ max self.old.room additional) }
         ensures spare { self.old.room ≤ self.new.room }
-        ensures tree { IsTree self.new.nodes }
     {
         self.nodes.reserve_exact(additional)
     }
@@ -107,7 +109,6 @@ impl<A: Allocator> Tree<A> {
         ensures room { OnOk result (additional ≤ room_at self.new.nodes container) }
         ensures kept { MakesRoom self.old.nodes self.new.nodes }
         ensures spare { self.old.room ≤ self.new.room }
-        ensures tree { IsTree self.new.nodes }
     {
         has_room(&self.nodes, container);
         Ok(())
@@ -126,7 +127,6 @@ impl<A: Allocator> Tree<A> {
         requires join { CanJoin self.old.nodes container from to new.now }
         ensures splices { Splices self.old.nodes self.new.nodes container from to new.now }
         ensures spare { self.old.room ≤ self.new.room }
-        ensures tree { IsTree self.new.nodes }
     {
         splice_nodes(&mut self.nodes, container, from, to, new);
     }
@@ -144,7 +144,6 @@ impl<A: Allocator> Tree<A> {
         requires gap { HasGap self.old.nodes container before behind }
         ensures fills { Fills self.old.nodes self.new.nodes container before behind (node ∷ []) }
         ensures spare { self.old.room ≤ self.new.room }
-        ensures tree { IsTree self.new.nodes }
     {
         put_between(&mut self.nodes, container, before, behind, node);
     }
@@ -155,7 +154,6 @@ impl<A: Allocator> Tree<A> {
         requires room { 1 ≤ room_at self.old.nodes container }
         ensures appends { Appends self.old.nodes self.new.nodes container node }
         ensures spare { self.old.room ≤ self.new.room }
-        ensures tree { IsTree self.new.nodes }
     {
         append_node(&mut self.nodes, container, node);
     }
@@ -167,7 +165,6 @@ impl<A: Allocator> Tree<A> {
         requires { CanAppend self.old.nodes container node }
         ensures appends { OnOk result (Appends self.old.nodes self.new.nodes container node) }
         ensures err { OnErr result (MakesRoom self.old.nodes self.new.nodes) }
-        ensures tree { IsTree self.new.nodes }
     {
         self.reserve(container, 1)?;
         self.append(container, node);
@@ -181,7 +178,6 @@ impl<A: Allocator> Tree<A> {
         requires stays { is_container (content_of kind) ≡ false }
         ensures becomes { LeafBecomes self.old.nodes self.new.nodes leaf (content_of kind) }
         ensures spare { self.old.room ≤ self.new.room }
-        ensures tree { IsTree self.new.nodes }
     {
         set_leaf_at(&mut self.nodes, leaf, kind);
     }
@@ -192,7 +188,6 @@ impl<A: Allocator> Tree<A> {
     pub fn new(alloc: A) -> Result<Self, AllocError>
         ensures one { IfOk result (λ t. length t.nodes ≡ 1) }
         ensures bare { IfOk result (λ t. children_at t.nodes 0 ≡ []) }
-        ensures tree { IfOk result (λ t. IsTree t.nodes) }
     {
         let mut nodes = Vec::new(alloc);
         nodes.push(bare_node(Kind::Root(Ends::none())))?;
@@ -206,7 +201,6 @@ impl<A: Allocator> Tree<A> {
         ensures number { IfOk result (λ n. n ≡ length self.old.nodes) }
         ensures added { OnOk result (Adds self.old.nodes self.new.nodes (content_of kind)) }
         ensures err { OnErr result (self.new.nodes ≡ self.old.nodes) }
-        ensures tree { IsTree self.new.nodes }
     {
         let number = self.len();
         self.nodes.push(bare_node(kind))?;
@@ -222,7 +216,6 @@ impl<A: Allocator> Tree<A> {
         ensures number { IfOk result (λ n. n ≡ length self.old.nodes) }
         ensures pushes { OnOk result (Pushes self.old.nodes self.new.nodes container (content_of kind)) }
         ensures err { OnErr result (MakesRoom self.old.nodes self.new.nodes) }
-        ensures tree { IsTree self.new.nodes }
     {
         self.reserve(container, 1)?;
         let child = self.add(kind)?;

@@ -10,7 +10,7 @@ use denote.Param.Members.{Shared}
 use Rattle.jsonc_tree.specs.OrderedTree.{Top}
 use Rattle.jsonc_tree.specs.Tree.{IsTree}
 use Rattle.jsonc_edit.specs.Changes.{top_at}
-use Rattle.jsonc_edit.specs.declared.error.EditError.{EditError}
+use Rattle.jsonc_text.specs.declared.edit.EditError.{EditError}
 use Rattle.jsonc_sort.specs.ordering.Asking.{ComparesBy}
 use Rattle.jsonc_sort.specs.ordering.Keys.{Answers}
 use Rattle.jsonc_sort.specs.Sorting.{Headers}

@@ -8,8 +8,8 @@ use denote.Param.Members.{Shared}
 use Rattle.jsonc_sort.specs.ordering.Asking.{ComparesBy}
 use Rattle.jsonc_sort.specs.ordering.Keys.{AreKeys, IsFirstRefused, IsKeyOf}
 use Rattle.jsonc_sort.specs.ordering.Order.{comes_before, node_in, IsOrderedBy}
-use Rattle.jsonc_edit.specs.declared.error.EditError.{EditError}
-use Rattle.jsonc_edit.specs.declared.error.EditError.TheVariants.{OutOfMemory}
+use Rattle.jsonc_text.specs.declared.edit.EditError.{EditError}
+use Rattle.jsonc_text.specs.declared.edit.EditError.TheVariants.{OutOfMemory}
 
 -- a comparison
 module _ {F D N : Type 0} (g : Shared F (Bor D × (N × (N × Unit {0}))) Ordering) (compare : F) (doc : D) (Held : N → Type 0) where

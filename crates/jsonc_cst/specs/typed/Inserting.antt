@@ -8,7 +8,7 @@ use Rattle.jsonc_layout.specs.nodes.Siblings.{elements_at}
 use Rattle.jsonc_sound.specs.SoundTrees.{SoundTree}
 use Rattle.jsonc_edit.specs.Paths.{IsAt, IsElementOf}
 use Rattle.jsonc_edit.specs.Writing.{IsWritable}
-use Rattle.jsonc_edit.specs.declared.error.EditError.{EditError}
+use Rattle.jsonc_text.specs.declared.edit.EditError.{EditError}
 use Rattle.jsonc_insert.specs.Inserted.{refusal, ElementPut}
 use Rattle.jsonc_insert.specs.Laws.{KeepsNodesBut}
 use Rattle.jsonc_insert.specs.elements.Laws.{ElementComesAt, IsInserted}

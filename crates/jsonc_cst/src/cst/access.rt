@@ -5,8 +5,8 @@ ghost use Rattle.std.specs.Prelude.{IfOk, IfSome, IsTrue};
 ghost use Rattle.std.specs.Iterator.{YieldsFirst, item_count};
 ghost use Rattle.std.specs.List.{All};
 ghost use Rattle.jsonc_tree.specs.Content.{Content};
-ghost use Rattle.jsonc_tree.specs.Tree.{is_container_at, IsTree};
-ghost use Rattle.jsonc_cst.specs.Document.{content_of, nodes_of, Holds};
+ghost use Rattle.jsonc_tree.specs.Tree.{is_container_at};
+ghost use Rattle.jsonc_cst.specs.Document.{allocator_of, content_of, nodes_of, Holds};
 ghost use Rattle.jsonc_cst.specs.Nodes.{container_of, root_node, typed_at};
 ghost use Rattle.jsonc_cst.specs.Nodes.{parent_node, child_nodes, IsAs, IsNodeOf};
 ghost use Rattle.jsonc_cst.specs.Tree.{NodesAreTree};
@@ -66,8 +66,6 @@ pub(super) fn parent_of<A: Allocator>(tree: &Tree<A>, number: usize) -> Option<C
     ensures parent { result ≡ parent_node tree.now.nodes number }
     ensures held { IfSome result (λ c. IsNodeOf tree.now.nodes (CstNode.Container c)) }
 {
-    // The nodes are a tree, says `len`, and so who has children is a container.
-    let _count = tree.len();
     let Some(parent) = tree.parent(number) else {
         return None;
     };
@@ -96,8 +94,6 @@ pub(super) fn children_of<A: Allocator>(
     ensures children { IfOk result (λ v. v.items ≡ child_nodes tree.now.nodes number) }
     ensures held { IfOk result (λ v. All (IsNodeOf tree.now.nodes) v.items) }
 {
-    // The nodes are a tree, says `len`, and so the children are nodes.
-    let _count = tree.len();
     let mut children = Vec::new(alloc);
     for child in tree.children(number) {
         children.push(node_at(tree, child))?;
@@ -106,13 +102,19 @@ pub(super) fn children_of<A: Allocator>(
 }
 
 impl<A: Allocator> CstRootNode<A> {
-    // Its nodes are stored as a tree, and so they are one in the words of the calls.
+    // Its tree, for calls by the numbers of nodes.
     #[doc(hidden)]
-    pub fn nodes_are_tree(&self)
-        ensures stored { IsTree (nodes_of self.now) }
-        ensures tree { NodesAreTree self.now }
+    pub fn tree(&self) -> &Tree<A>
+        ensures { result.now.nodes ≡ nodes_of self.now }
     {
-        let _count = self.tree.len();
+        &self.tree
+    }
+
+    /// What gives the memory for all that is read of it and written into it.
+    pub fn allocator(&self) -> &A
+        ensures { result.now ≡ allocator_of self.now }
+    {
+        &self.alloc
     }
 
     /// The root as a node.
@@ -121,7 +123,6 @@ impl<A: Allocator> CstRootNode<A> {
         ensures held { Holds self.now (root_node result) }
         ensures tree { NodesAreTree self.now }
     {
-        self.nodes_are_tree();
         CstRoot { number: 0 }
     }
 

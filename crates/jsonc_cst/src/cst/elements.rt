@@ -8,7 +8,6 @@ ghost use Rattle.jsonc_cst.specs.Nodes.{array_node, object_node, object_prop_nod
 ghost use Rattle.jsonc_cst.specs.Readings.{elements_of, element_index_of, properties_of};
 ghost use Rattle.jsonc_cst.specs.Readings.{previous_property_of, next_property_of, property_index_of};
 ghost use Rattle.jsonc_cst.specs.Readings.{is_property_at, typed_all};
-ghost use Rattle.jsonc_cst.specs.Tree.{NodesAreTree};
 
 use super::access::node_at;
 use super::navigation::{HasChildren, IsNode};
@@ -100,7 +99,6 @@ impl CstArray {
         ensures elements { IfOk result (λ v. v.items ≡ elements_of doc.now (array_node self)) }
         ensures held { IfOk result (λ v. All (Holds doc.now) v.items) }
         ensures memory { IfErr result (λ e. e ≡ EditError.OutOfMemory) }
-        ensures tree { NodesAreTree doc.now }
     {
         self.children_exclude_trivia_and_tokens(doc)
     }
@@ -116,9 +114,7 @@ impl CstObject {
         ensures properties { IfOk result (λ v. v.items ≡ properties_of doc.now self) }
         ensures held { IfOk result (λ v. All (λ p. Holds doc.now (object_prop_node p)) v.items) }
         ensures memory { IfErr result (λ e. e ≡ EditError.OutOfMemory) }
-        ensures tree { NodesAreTree doc.now }
     {
-        doc.nodes_are_tree();
         let Ok(properties) = children_from(&doc.tree, self.number, 0)
             .filter(|child| is_property(&doc.tree, *child))
             .map(|number| CstObjectProp { number })
@@ -149,9 +145,7 @@ impl CstObjectProp {
         requires { Holds doc.now (object_prop_node self) }
         ensures property { result ≡ previous_property_of doc.now self }
         ensures held { IfSome result (λ p. Holds doc.now (object_prop_node p)) }
-        ensures tree { NodesAreTree doc.now }
     {
-        doc.nodes_are_tree();
         let Some(number) = property_before(&doc.tree, self.number) else {
             return None;
         };
@@ -163,9 +157,7 @@ impl CstObjectProp {
         requires { Holds doc.now (object_prop_node self) }
         ensures property { result ≡ next_property_of doc.now self }
         ensures held { IfSome result (λ p. Holds doc.now (object_prop_node p)) }
-        ensures tree { NodesAreTree doc.now }
     {
-        doc.nodes_are_tree();
         let Some(number) = property_after(&doc.tree, self.number) else {
             return None;
         };

@@ -14,8 +14,6 @@ impl<A: Allocator + Copy> CstRootNode<A> {
         ensures value { IfOk result (IsDocumentTaken self.now) }
         ensures memory { IfErr result (λ e. e ≡ EditError.OutOfMemory) }
     {
-        // The nodes are a tree, says `len`, and so there is a first one.
-        let _count = self.tree.len();
         let Ok(value) = jsonc_layout::to_input::to_value(self.alloc, &self.tree, 0) else {
             return Err(EditError::OutOfMemory);
         };

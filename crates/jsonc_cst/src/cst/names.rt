@@ -6,7 +6,6 @@ ghost use Rattle.jsonc_layout.specs.nodes.Names.{HasName, HoldsEscapedName, Name
 ghost use Rattle.jsonc_cst.specs.Document.{nodes_of, Holds};
 ghost use Rattle.jsonc_cst.specs.Nodes.{name_node, object_node, object_prop_node, string_lit_node};
 ghost use Rattle.jsonc_cst.specs.Readings.{IsFirstNamed, LeafIsNoString, LeafStandsFor, NameIsNoString, NameStandsFor};
-ghost use Rattle.jsonc_cst.specs.Tree.{NodesAreTree};
 
 use super::node::{CstObject, CstObjectProp, CstStringLit, ObjectPropName};
 use super::{CstRootNode, EditError};
@@ -82,9 +81,7 @@ impl CstObject {
         ensures held { IfOk result (λ o. IfSome o (λ p. Holds doc.now (object_prop_node p))) }
         ensures memory { IfErr result (λ e. e ≡ EditError.OutOfMemory) }
         ensures escaped { OnErr result (HoldsEscapedName (nodes_of doc.now) self.number) }
-        ensures tree { NodesAreTree doc.now }
     {
-        doc.nodes_are_tree();
         match jsonc_layout::nodes::get(doc.alloc, &doc.tree, self.number, name) {
             Ok(Some(number)) => Ok(Some(CstObjectProp { number })),
             Ok(None) => Ok(None),

@@ -1,20 +1,27 @@
-//! The calls that every kind of node has: who stands above, beside and below it, and what it prints.
+//! The calls that every kind of node has: who stands above, beside and below it, how it is laid out, and what it
+//! prints and gives.
 
-ghost use Rattle.std.specs.Prelude.{◌≡◌, IfErr, IfOk, IfSome};
+ghost use Rattle.std.specs.Prelude.{◌≡◌, option_map, string_bytes, IfErr, IfOk, IfSome};
 ghost use Rattle.std.specs.List.{All, slice_get};
+ghost use Rattle.jsonc_layout.specs.lines.Lines.{blank_line_before};
 ghost use Rattle.jsonc_tree.specs.Tree.{place_at};
 ghost use Rattle.jsonc_cst.specs.Document.{nodes_of, Holds};
 ghost use Rattle.jsonc_cst.specs.Document.{parent_of, ancestors_of, children_of};
-ghost use Rattle.jsonc_cst.specs.Nodes.{number_of, root_node};
+ghost use Rattle.jsonc_cst.specs.Layout.{indent_of, leading_comments_of, trailing_comma_of};
+ghost use Rattle.jsonc_cst.specs.Layout.{trailing_comments_of, uses_trailing_commas_of};
+ghost use Rattle.jsonc_cst.specs.Nodes.{comment_node, number_of, root_node, token_node};
 ghost use Rattle.jsonc_cst.specs.Readings.{elements_of};
 ghost use Rattle.jsonc_cst.specs.Readings.{next_siblings_of, previous_siblings_of, root_above_of};
 ghost use Rattle.jsonc_cst.specs.Tree.{NodesAreTree};
+ghost use Rattle.jsonc_cst.specs.Values.{IsValueTaken};
 
 use super::access::{AncestorIterator, child_of, children_of, node_at, parent_of};
 use super::elements::nodes_at;
-use super::node::{CstContainerNode, CstNode, CstRoot};
+use super::layout::comments_under;
+use super::node::{CstComment, CstContainerNode, CstNode, CstRoot, CstToken};
 use super::siblings::{NextSiblingIterator, PreviousSiblingIterator};
 use super::{CstRootNode, EditError};
+use jsonc_layout::input::CstInputValue;
 use jsonc_tree::Shown;
 use std::alloc::Allocator;
 
@@ -33,9 +40,7 @@ pub trait IsNode: Copy {
         requires { Holds doc.now (node_of self) }
         ensures parent { result ≡ parent_of doc.now (node_of self) }
         ensures held { IfSome result (λ c. Holds doc.now (CstNode.Container c)) }
-        ensures tree { NodesAreTree doc.now }
     {
-        doc.nodes_are_tree();
         parent_of(&doc.tree, self.node().number())
     }
 
@@ -44,9 +49,7 @@ pub trait IsNode: Copy {
         requires { Holds doc.now (node_of self) }
         ensures above { result ≡ ancestors_of doc.now (node_of self) }
         ensures held { All (λ c. Holds doc.now (CstNode.Container c)) result }
-        ensures tree { NodesAreTree doc.now }
     {
-        doc.nodes_are_tree();
         AncestorIterator {
             tree: &doc.tree,
             above: doc.tree.ancestors(self.node().number()),
@@ -57,9 +60,7 @@ pub trait IsNode: Copy {
     final fn child_index<A: Allocator>(self, doc: &CstRootNode<A>) -> usize
         requires { Holds doc.now (node_of self) }
         ensures place { result ≡ place_at (nodes_of doc.now) (number_of (node_of self)) }
-        ensures tree { NodesAreTree doc.now }
     {
-        doc.nodes_are_tree();
         doc.tree.child_index(self.node().number())
     }
 
@@ -68,9 +69,7 @@ pub trait IsNode: Copy {
         requires { Holds doc.now (node_of self) }
         ensures root { result ≡ root_above_of doc.now (node_of self) }
         ensures held { IfSome result (λ r. Holds doc.now (root_node r)) }
-        ensures tree { NodesAreTree doc.now }
     {
-        doc.nodes_are_tree();
         let Some(number) = jsonc_layout::nodes::root_node(&doc.tree, self.node().number()) else {
             return None;
         };
@@ -82,9 +81,7 @@ pub trait IsNode: Copy {
         requires { Holds doc.now (node_of self) }
         ensures sibling { result ≡ slice_get (previous_siblings_of doc.now (node_of self)) 0 }
         ensures held { IfSome result (Holds doc.now) }
-        ensures tree { NodesAreTree doc.now }
     {
-        doc.nodes_are_tree();
         let Some(number) = jsonc_layout::nodes::previous_sibling(&doc.tree, self.node().number())
         else {
             return None;
@@ -97,9 +94,7 @@ pub trait IsNode: Copy {
         requires { Holds doc.now (node_of self) }
         ensures sibling { result ≡ slice_get (next_siblings_of doc.now (node_of self)) 0 }
         ensures held { IfSome result (Holds doc.now) }
-        ensures tree { NodesAreTree doc.now }
     {
-        doc.nodes_are_tree();
         let Some(number) = jsonc_layout::nodes::next_sibling(&doc.tree, self.node().number()) else {
             return None;
         };
@@ -114,9 +109,7 @@ pub trait IsNode: Copy {
         requires { Holds doc.now (node_of self) }
         ensures before { result ≡ previous_siblings_of doc.now (node_of self) }
         ensures held { All (Holds doc.now) result }
-        ensures tree { NodesAreTree doc.now }
     {
-        doc.nodes_are_tree();
         PreviousSiblingIterator {
             tree: &doc.tree,
             before: jsonc_layout::nodes::previous_siblings(&doc.tree, self.node().number()),
@@ -128,9 +121,7 @@ pub trait IsNode: Copy {
         requires { Holds doc.now (node_of self) }
         ensures after { result ≡ next_siblings_of doc.now (node_of self) }
         ensures held { All (Holds doc.now) result }
-        ensures tree { NodesAreTree doc.now }
     {
-        doc.nodes_are_tree();
         NextSiblingIterator {
             tree: &doc.tree,
             after: jsonc_layout::nodes::next_siblings(&doc.tree, self.node().number()),
@@ -145,6 +136,132 @@ pub trait IsNode: Copy {
     {
         doc.tree.shown(self.node().number())
     }
+
+    /// The whitespace that its line begins with, if nothing but blanks and comments stands before it
+    /// there. None also where the line does not begin with whitespace.
+    final fn indent_text<A: Allocator + Copy>(
+        self,
+        doc: &CstRootNode<A>,
+    ) -> Result<Option<String<A>>, EditError>
+        requires { Holds doc.now (node_of self) }
+        ensures indent { IfOk result (λ o. option_map string_bytes o ≡ indent_of doc.now (node_of self)) }
+        ensures memory { IfErr result (λ e. e ≡ EditError.OutOfMemory) }
+    {
+        let Ok(indent) = jsonc_layout::lines::indent_text(
+            doc.alloc,
+            &doc.tree,
+            self.node().number(),
+        ) else {
+            return Err(EditError::OutOfMemory);
+        };
+        Ok(indent)
+    }
+
+    /// Whether a blank line stands in the trivia directly before it: two line ends with nothing but
+    /// whitespace between them.
+    final fn has_blank_line_before<A: Allocator>(self, doc: &CstRootNode<A>) -> bool
+        requires { Holds doc.now (node_of self) }
+        ensures { result ≡ blank_line_before (nodes_of doc.now) (number_of (node_of self)) }
+    {
+        jsonc_layout::lines::has_blank_line_before(&doc.tree, self.node().number())
+    }
+
+    /// The comma after it, with nothing but blanks, line ends and comments between them.
+    final fn trailing_comma<A: Allocator>(self, doc: &CstRootNode<A>) -> Option<CstToken>
+        requires { Holds doc.now (node_of self) }
+        ensures comma { result ≡ trailing_comma_of doc.now (node_of self) }
+        ensures held { IfSome result (λ t. Holds doc.now (token_node t)) }
+    {
+        let Some(number) = jsonc_layout::lines::trailing_comma(&doc.tree, self.node().number())
+        else {
+            return None;
+        };
+        Some(CstToken { number })
+    }
+
+    /// Whether commas stand after last elements: in the first array or object, level after level from
+    /// the node down, that has whitespace between its brackets and an element. False where there is
+    /// none.
+    final fn uses_trailing_commas<A: Allocator + Copy>(
+        self,
+        doc: &CstRootNode<A>,
+    ) -> Result<bool, EditError>
+        requires { Holds doc.now (node_of self) }
+        ensures uses { IfOk result (λ uses. uses ≡ uses_trailing_commas_of doc.now (node_of self)) }
+        ensures memory { IfErr result (λ e. e ≡ EditError.OutOfMemory) }
+    {
+        let number = self.node().number();
+        let Ok(uses) = jsonc_layout::lines::uses_trailing_commas(doc.alloc, &doc.tree, number)
+        else {
+            return Err(EditError::OutOfMemory);
+        };
+        Ok(uses)
+    }
+
+    /// The comments directly before it on its line, nearest first.
+    final fn leading_comments_same_line<A: Allocator + Copy>(
+        self,
+        doc: &CstRootNode<A>,
+    ) -> Result<Vec<CstComment, A>, EditError>
+        requires { Holds doc.now (node_of self) }
+        ensures comments { IfOk result (λ v. v.items ≡ leading_comments_of doc.now (node_of self)) }
+        ensures held { IfOk result (λ v. All (λ c. Holds doc.now (comment_node c)) v.items) }
+        ensures memory { IfErr result (λ e. e ≡ EditError.OutOfMemory) }
+    {
+        let number = self.node().number();
+        let Ok(numbers) = jsonc_layout::nodes::leading_comments_same_line(
+            doc.alloc, &doc.tree, number,
+        ) else {
+            return Err(EditError::OutOfMemory);
+        };
+        let Ok(comments) = comments_under(doc.alloc, &numbers) else {
+            return Err(EditError::OutOfMemory);
+        };
+        Ok(comments)
+    }
+
+    /// The comments after it on its line, if nothing but whitespace and comments stands there; else
+    /// none.
+    final fn trailing_comments_same_line<A: Allocator + Copy>(
+        self,
+        doc: &CstRootNode<A>,
+    ) -> Result<Vec<CstComment, A>, EditError>
+        requires { Holds doc.now (node_of self) }
+        ensures comments { IfOk result (λ v. v.items ≡ trailing_comments_of doc.now (node_of self)) }
+        ensures held { IfOk result (λ v. All (λ c. Holds doc.now (comment_node c)) v.items) }
+        ensures memory { IfErr result (λ e. e ≡ EditError.OutOfMemory) }
+    {
+        let number = self.node().number();
+        let Ok(numbers) = jsonc_layout::nodes::trailing_comments_same_line(
+            doc.alloc, &doc.tree, number,
+        ) else {
+            return Err(EditError::OutOfMemory);
+        };
+        let Ok(comments) = comments_under(doc.alloc, &numbers) else {
+            return Err(EditError::OutOfMemory);
+        };
+        Ok(comments)
+    }
+
+    /// What it stands for, as a value for edits: a property gives its value's, the root its value's.
+    ///
+    /// Numbers are as written, strings decoded; of equal names the last value stands at the first
+    /// place. A word, a token, trivia and a string that does not decode give None. What gives None
+    /// inside a container, or has no name that decodes, is passed over.
+    final fn to_value<A: Allocator + Copy>(
+        self,
+        doc: &CstRootNode<A>,
+    ) -> Result<Option<CstInputValue<A>>, EditError>
+        requires { Holds doc.now (node_of self) }
+        ensures value { IfOk result (IsValueTaken doc.now (node_of self)) }
+        ensures memory { IfErr result (λ e. e ≡ EditError.OutOfMemory) }
+    {
+        let number = self.node().number();
+        let Ok(value) = jsonc_layout::to_input::to_value(doc.alloc, &doc.tree, number) else {
+            return Err(EditError::OutOfMemory);
+        };
+        Ok(value)
+    }
 }
 
 /// What may have children: a container, and so a node of any kind.
@@ -158,9 +275,7 @@ pub trait HasChildren: IsNode {
         requires { Holds doc.now (Self.node_of self) }
         ensures child { result ≡ slice_get (children_of doc.now (Self.node_of self)) index }
         ensures held { IfSome result (Holds doc.now) }
-        ensures tree { NodesAreTree doc.now }
     {
-        doc.nodes_are_tree();
         child_of(&doc.tree, self.node().number(), index)
     }
 
@@ -173,9 +288,7 @@ pub trait HasChildren: IsNode {
         ensures children { IfOk result (λ v. v.items ≡ children_of doc.now (Self.node_of self)) }
         ensures held { IfOk result (λ v. All (Holds doc.now) v.items) }
         ensures memory { IfErr result (λ e. e ≡ EditError.OutOfMemory) }
-        ensures tree { NodesAreTree doc.now }
     {
-        doc.nodes_are_tree();
         let Ok(children) = children_of(doc.alloc, &doc.tree, self.node().number()) else {
             return Err(EditError::OutOfMemory);
         };
@@ -191,9 +304,7 @@ pub trait HasChildren: IsNode {
         ensures children { IfOk result (λ v. v.items ≡ elements_of doc.now (Self.node_of self)) }
         ensures held { IfOk result (λ v. All (Holds doc.now) v.items) }
         ensures memory { IfErr result (λ e. e ≡ EditError.OutOfMemory) }
-        ensures tree { NodesAreTree doc.now }
     {
-        doc.nodes_are_tree();
         let number = self.node().number();
         let Ok(numbers) = jsonc_layout::nodes::elements(doc.alloc, &doc.tree, number) else {
             return Err(EditError::OutOfMemory);

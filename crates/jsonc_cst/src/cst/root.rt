@@ -4,7 +4,6 @@ ghost use Rattle.std.specs.Prelude.{◌≡◌, IfSome};
 ghost use Rattle.jsonc_cst.specs.Document.{Holds};
 ghost use Rattle.jsonc_cst.specs.Nodes.{array_node, object_node};
 ghost use Rattle.jsonc_cst.specs.Readings.{array_if, object_if, value_under};
-ghost use Rattle.jsonc_cst.specs.Tree.{NodesAreTree};
 
 use super::CstRootNode;
 use super::access::node_at;
@@ -16,9 +15,7 @@ impl<A: Allocator> CstRootNode<A> {
     pub fn value(&self) -> Option<CstNode>
         ensures value { result ≡ value_under self.now 0 }
         ensures held { IfSome result (Holds self.now) }
-        ensures tree { NodesAreTree self.now }
     {
-        self.nodes_are_tree();
         let Some(number) = jsonc_layout::nodes::value_of(&self.tree, 0) else {
             return None;
         };
@@ -29,7 +26,6 @@ impl<A: Allocator> CstRootNode<A> {
     pub fn object_value(&self) -> Option<CstObject>
         ensures value { result ≡ object_if (value_under self.now 0) }
         ensures held { IfSome result (λ o. Holds self.now (object_node o)) }
-        ensures tree { NodesAreTree self.now }
     {
         match self.value() {
             Some(CstNode::Container(CstContainerNode::Object(object))) => Some(object),
@@ -41,7 +37,6 @@ impl<A: Allocator> CstRootNode<A> {
     pub fn array_value(&self) -> Option<CstArray>
         ensures value { result ≡ array_if (value_under self.now 0) }
         ensures held { IfSome result (λ a. Holds self.now (array_node a)) }
-        ensures tree { NodesAreTree self.now }
     {
         match self.value() {
             Some(CstNode::Container(CstContainerNode::Array(array))) => Some(array),

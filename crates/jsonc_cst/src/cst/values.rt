@@ -4,7 +4,6 @@ ghost use Rattle.std.specs.Prelude.{◌≡◌, chars, IfErr, IfOk, IfSome};
 ghost use Rattle.jsonc_cst.specs.Document.{Holds};
 ghost use Rattle.jsonc_cst.specs.Nodes.{array_node, name_node, object_node, object_prop_node};
 ghost use Rattle.jsonc_cst.specs.Readings.{name_of, value_under, array_if, object_if};
-ghost use Rattle.jsonc_cst.specs.Tree.{NodesAreTree};
 ghost use Rattle.jsonc_cst.specs.Values.{IsValueNamed};
 
 use super::access::node_at;
@@ -20,9 +19,7 @@ impl CstObjectProp {
         requires { Holds doc.now (object_prop_node self) }
         ensures name { result ≡ name_of doc.now self }
         ensures held { IfSome result (λ n. Holds doc.now (name_node n)) }
-        ensures tree { NodesAreTree doc.now }
     {
-        doc.nodes_are_tree();
         let Some(number) = jsonc_layout::nodes::name_of(&doc.tree, self.number) else {
             return None;
         };
@@ -38,9 +35,7 @@ impl CstObjectProp {
         requires { Holds doc.now (object_prop_node self) }
         ensures value { result ≡ value_under doc.now self.number }
         ensures held { IfSome result (Holds doc.now) }
-        ensures tree { NodesAreTree doc.now }
     {
-        doc.nodes_are_tree();
         let Some(number) = jsonc_layout::nodes::value_of(&doc.tree, self.number) else {
             return None;
         };
@@ -52,7 +47,6 @@ impl CstObjectProp {
         requires { Holds doc.now (object_prop_node self) }
         ensures value { result ≡ object_if (value_under doc.now self.number) }
         ensures held { IfSome result (λ o. Holds doc.now (object_node o)) }
-        ensures tree { NodesAreTree doc.now }
     {
         match self.value(doc) {
             Some(CstNode::Container(CstContainerNode::Object(object))) => Some(object),
@@ -65,7 +59,6 @@ impl CstObjectProp {
         requires { Holds doc.now (object_prop_node self) }
         ensures value { result ≡ array_if (value_under doc.now self.number) }
         ensures held { IfSome result (λ a. Holds doc.now (array_node a)) }
-        ensures tree { NodesAreTree doc.now }
     {
         match self.value(doc) {
             Some(CstNode::Container(CstContainerNode::Array(array))) => Some(array),
@@ -85,7 +78,6 @@ impl CstObject {
         ensures value { IfOk result (IsValueNamed object_if doc.now self (chars name.now)) }
         ensures held { IfOk result (λ o. IfSome o (λ x. Holds doc.now (object_node x))) }
         ensures memory { IfErr result (λ e. e ≡ EditError.OutOfMemory) }
-        ensures tree { NodesAreTree doc.now }
     {
         match self.get(doc, name) {
             Ok(Some(property)) => Ok(property.object_value(doc)),
@@ -104,7 +96,6 @@ impl CstObject {
         ensures value { IfOk result (IsValueNamed array_if doc.now self (chars name.now)) }
         ensures held { IfOk result (λ o. IfSome o (λ x. Holds doc.now (array_node x))) }
         ensures memory { IfErr result (λ e. e ≡ EditError.OutOfMemory) }
-        ensures tree { NodesAreTree doc.now }
     {
         match self.get(doc, name) {
             Ok(Some(property)) => Ok(property.array_value(doc)),

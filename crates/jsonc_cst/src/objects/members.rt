@@ -5,14 +5,13 @@ ghost use Rattle.jsonc_text.specs.Options.{Options};
 ghost use Rattle.jsonc_layout.specs.input.Views.{plain};
 ghost use Rattle.jsonc_tree.specs.Content.{Content};
 ghost use Rattle.jsonc_tree.specs.OrderedTree.{ordered_tree};
-ghost use Rattle.jsonc_tree.specs.Tree.{children_at, content_at, IsTree};
+ghost use Rattle.jsonc_tree.specs.Tree.{children_at, content_at};
 ghost use Rattle.jsonc_layout.specs.nodes.Siblings.{elements_at};
 ghost use Rattle.jsonc_insert.specs.Inserted.{refusal};
 ghost use Rattle.jsonc_insert.specs.Planned.{has_brackets};
 ghost use Rattle.jsonc_insert.specs.Laws.{KeepsNodesBut};
 ghost use Rattle.jsonc_cst.specs.Document.{nodes_of, tree_of, Holds};
 ghost use Rattle.jsonc_cst.specs.Nodes.{number_of, object_node, object_prop_node, IsNodeOf};
-ghost use Rattle.jsonc_cst.specs.Tree.{NodesAreTree};
 ghost use Rattle.jsonc_cst.specs.typed.Edits.{KeepsElsewhere, StaysElsewhere, StillHolds, StillNodes};
 ghost use Rattle.jsonc_cst.specs.typed.Edits.{NodesStay, StaysAsItWas};
 ghost use Rattle.jsonc_cst.specs.typed.Inserting.{element_count, IsShutFor, KeepsOthers};
@@ -82,9 +81,7 @@ fn insert_at<A: Allocator + Copy>(
     ensures stays { StillNodes tree.old.nodes tree.new.nodes }
     ensures kept { OnErr result (NodesStay tree.old.nodes tree.new.nodes) }
     ensures document { OnErr result (ordered_tree tree.new.nodes 0 ≡ ordered_tree tree.old.nodes 0) }
-    ensures tree { IsTree tree.new.nodes }
 {
-    let _ = tree.len();
     match insert_property(alloc, tree, object, index, name, value) {
         Ok(property) => Ok(property_at(tree, property)),
         Err(error) => Err(error),
@@ -119,47 +116,47 @@ fn append_to<A: Allocator + Copy>(
     ensures stays { StillNodes tree.old.nodes tree.new.nodes }
     ensures kept { OnErr result (NodesStay tree.old.nodes tree.new.nodes) }
     ensures document { OnErr result (ordered_tree tree.new.nodes 0 ≡ ordered_tree tree.old.nodes 0) }
-    ensures tree { IsTree tree.new.nodes }
 {
-    let _ = tree.len();
     // There are no more properties than children.
     let count = tree.child_count(object);
     insert_at(alloc, tree, object, count, name, value)
 }
 
-/// An object, into which properties may come.
-pub trait InsertProperty: IsNode {
+impl CstObject {
     /// Puts a property of this name and value behind its last one, and answers it.
     ///
-    /// It is what [`InsertProperty::insert`] does with the number of its properties, or a greater one.
+    /// It is what [`CstObject::insert`] does with the number of its properties, or a greater one.
     /// Another property of the name, if there is one, stays: `jsonc_cst`'s `get` then answers that.
-    fn append<A: Allocator + Copy>(
+    pub fn append<A: Allocator + Copy>(
         self,
         doc: &mut CstRootNode<A>,
         name: &str,
         value: CstInputValue<A>,
     ) -> Result<CstObjectProp, EditError>
-        requires { Holds doc.old (Self.node_of self) }
+        requires { Holds doc.old (object_node self) }
         ensures put { IfOk result
-            (HasNamedComeIn doc.old doc.new (Self.node_of self) (element_count doc.old (Self.node_of self))
+            (HasNamedComeIn doc.old doc.new (object_node self) (element_count doc.old (object_node self))
             (chars name.now) (plain value)) }
         ensures property { IfOk result
-            (IsItsProperty doc.old doc.new (Self.node_of self) (element_count doc.old (Self.node_of self))) }
+            (IsItsProperty doc.old doc.new (object_node self) (element_count doc.old (object_node self))) }
         ensures written { (o : Options)
             → OnOk result
-            (IsNamedAtItsPath doc.old doc.new o (Self.node_of self) (element_count doc.old (Self.node_of self))
+            (IsNamedAtItsPath doc.old doc.new o (object_node self) (element_count doc.old (object_node self))
             (chars name.now) (plain value)) }
-        ensures step { OnOk result (IsAppendingNamed (nodes_of doc.old) (nodes_of doc.new) (number_of (Self.node_of self))
+        ensures step { OnOk result (IsAppendingNamed (nodes_of doc.old) (nodes_of doc.new) (number_of (object_node self))
             (chars name.now) (plain value)) }
-        ensures others { OnOk result (KeepsOthers doc.old doc.new (Self.node_of self)) }
-        ensures elsewhere { OnOk result (KeepsElsewhere doc.old doc.new (Self.node_of self)) }
-        ensures told { IfErr result (IsShutFor doc.old (Self.node_of self)) }
-        ensures memory { (o : Options) → IfErr result (IsKeptForMemory doc.old o (Self.node_of self)) }
+        ensures others { OnOk result (KeepsOthers doc.old doc.new (object_node self)) }
+        ensures elsewhere { OnOk result (KeepsElsewhere doc.old doc.new (object_node self)) }
+        ensures told { IfErr result (IsShutFor doc.old (object_node self)) }
+        ensures memory { (o : Options) → IfErr result (IsKeptForMemory doc.old o (object_node self)) }
         ensures held { IfOk result (λ p. Holds doc.new (object_prop_node p)) }
         ensures stays { StillHolds doc.old doc.new }
         ensures kept { OnErr result (StaysAsItWas doc.old doc.new) }
         ensures document { OnErr result (tree_of doc.new ≡ tree_of doc.old) }
-        ensures tree { NodesAreTree doc.new };
+    {
+        let number = object_number(&doc.tree, self);
+        append_to(doc.alloc, &mut doc.tree, number, name, &value)
+    }
 
     /// Puts a property of this name and value before its property of this number, counted from 0, or behind
     /// the last where it has fewer, and answers it.
@@ -172,58 +169,34 @@ pub trait InsertProperty: IsNode {
     /// stands in a sound document. If the document is sound, it is sound again, and its value is the old one
     /// with this property in the object: if the object stands in it, the call is one step, the edit that
     /// inserts the property at the object's path. A refusal leaves the document as it was.
-    fn insert<A: Allocator + Copy>(
+    pub fn insert<A: Allocator + Copy>(
         self,
         doc: &mut CstRootNode<A>,
         index: usize,
         name: &str,
         value: CstInputValue<A>,
     ) -> Result<CstObjectProp, EditError>
-        requires { Holds doc.old (Self.node_of self) }
+        requires { Holds doc.old (object_node self) }
         ensures put { IfOk result
-            (HasNamedComeIn doc.old doc.new (Self.node_of self) (min index (element_count doc.old (Self.node_of self)))
+            (HasNamedComeIn doc.old doc.new (object_node self) (min index (element_count doc.old (object_node self)))
             (chars name.now) (plain value)) }
-        ensures property { IfOk result (IsItsProperty doc.old doc.new (Self.node_of self) index) }
+        ensures property { IfOk result (IsItsProperty doc.old doc.new (object_node self) index) }
         ensures written { (o : Options)
             → OnOk result
-            (IsNamedAtItsPath doc.old doc.new o (Self.node_of self)
-            (min index (element_count doc.old (Self.node_of self))) (chars name.now) (plain value)) }
-        ensures step { OnOk result (IsInsertingNamed (nodes_of doc.old) (nodes_of doc.new) (number_of (Self.node_of self))
+            (IsNamedAtItsPath doc.old doc.new o (object_node self)
+            (min index (element_count doc.old (object_node self))) (chars name.now) (plain value)) }
+        ensures step { OnOk result (IsInsertingNamed (nodes_of doc.old) (nodes_of doc.new) (number_of (object_node self))
             index (chars name.now) (plain value)) }
-        ensures others { OnOk result (KeepsOthers doc.old doc.new (Self.node_of self)) }
-        ensures elsewhere { OnOk result (KeepsElsewhere doc.old doc.new (Self.node_of self)) }
-        ensures told { IfErr result (IsShutFor doc.old (Self.node_of self)) }
-        ensures memory { (o : Options) → IfErr result (IsKeptForMemory doc.old o (Self.node_of self)) }
+        ensures others { OnOk result (KeepsOthers doc.old doc.new (object_node self)) }
+        ensures elsewhere { OnOk result (KeepsElsewhere doc.old doc.new (object_node self)) }
+        ensures told { IfErr result (IsShutFor doc.old (object_node self)) }
+        ensures memory { (o : Options) → IfErr result (IsKeptForMemory doc.old o (object_node self)) }
         ensures held { IfOk result (λ p. Holds doc.new (object_prop_node p)) }
         ensures stays { StillHolds doc.old doc.new }
         ensures kept { OnErr result (StaysAsItWas doc.old doc.new) }
         ensures document { OnErr result (tree_of doc.new ≡ tree_of doc.old) }
-        ensures tree { NodesAreTree doc.new };
-}
-
-impl InsertProperty for CstObject {
-    fn append<A: Allocator + Copy>(
-        self,
-        doc: &mut CstRootNode<A>,
-        name: &str,
-        value: CstInputValue<A>,
-    ) -> Result<CstObjectProp, EditError> {
+    {
         let number = object_number(&doc.tree, self);
-        let put = append_to(doc.alloc, &mut doc.tree, number, name, &value);
-        doc.nodes_are_tree();
-        put
-    }
-
-    fn insert<A: Allocator + Copy>(
-        self,
-        doc: &mut CstRootNode<A>,
-        index: usize,
-        name: &str,
-        value: CstInputValue<A>,
-    ) -> Result<CstObjectProp, EditError> {
-        let number = object_number(&doc.tree, self);
-        let put = insert_at(doc.alloc, &mut doc.tree, number, index, name, &value);
-        doc.nodes_are_tree();
-        put
+        insert_at(doc.alloc, &mut doc.tree, number, index, name, &value)
     }
 }

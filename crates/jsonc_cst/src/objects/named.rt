@@ -4,11 +4,10 @@ ghost use Rattle.std.specs.Prelude.{◌≡◌, ◌<◌, IfErr, IfOk, IfSome, OnE
 ghost use Rattle.jsonc_text.specs.Options.{Options};
 ghost use Rattle.jsonc_tree.specs.Content.{Content};
 ghost use Rattle.jsonc_tree.specs.OrderedTree.{ordered_tree};
-ghost use Rattle.jsonc_tree.specs.Tree.{content_at, IsTree};
+ghost use Rattle.jsonc_tree.specs.Tree.{content_at};
 ghost use Rattle.jsonc_insert.specs.named.Named.{IsUnensured};
 ghost use Rattle.jsonc_cst.specs.Document.{nodes_of, tree_of, Holds};
 ghost use Rattle.jsonc_cst.specs.Nodes.{array_node, number_of, object_node, IsNodeOf};
-ghost use Rattle.jsonc_cst.specs.Tree.{NodesAreTree};
 ghost use Rattle.jsonc_cst.specs.typed.Edits.{KeepsElsewhere, StaysElsewhere, StillHolds, StillNodes};
 ghost use Rattle.jsonc_cst.specs.typed.Edits.{NodesStay, StaysAsItWas};
 ghost use Rattle.jsonc_cst.specs.typed.Removing.{IsKeptForMemory, WantsMemoryAlone};
@@ -19,7 +18,8 @@ ghost use Rattle.jsonc_cst.specs.objects.Named.{HasWrittenNamed, IsEnsuringNamed
 use crate::cst::{CstArray, CstObject, CstRootNode, EditError, IsNode};
 use crate::objects::members::object_number;
 use crate::typed::{array_at, object_at};
-use jsonc_insert::named::{Over, Shape, ensure_property};
+use jsonc_edit::{Over, Shape};
+use jsonc_insert::named::ensure_property;
 use jsonc_tree::Tree;
 use std::alloc::Allocator;
 
@@ -45,9 +45,7 @@ fn ensure_object<A: Allocator + Copy>(
     ensures stays { StillNodes tree.old.nodes tree.new.nodes }
     ensures kept { OnErr result (NodesStay tree.old.nodes tree.new.nodes) }
     ensures document { OnErr result (ordered_tree tree.new.nodes 0 ≡ ordered_tree tree.old.nodes 0) }
-    ensures tree { IsTree tree.new.nodes }
 {
-    let _ = tree.len();
     match ensure_property(alloc, tree, object, name, Shape::Object, over) {
         Ok(Some(number)) => Ok(Some(object_at(tree, number))),
         Ok(None) => Ok(None),
@@ -78,7 +76,6 @@ fn set_object<A: Allocator + Copy>(
     ensures stays { StillNodes tree.old.nodes tree.new.nodes }
     ensures kept { OnErr result (NodesStay tree.old.nodes tree.new.nodes) }
     ensures document { OnErr result (ordered_tree tree.new.nodes 0 ≡ ordered_tree tree.old.nodes 0) }
-    ensures tree { IsTree tree.new.nodes }
 {
     match ensure_object(alloc, tree, object, name, Over::Replace) {
         Ok(Some(found)) => Ok(found),
@@ -109,9 +106,7 @@ fn ensure_array<A: Allocator + Copy>(
     ensures stays { StillNodes tree.old.nodes tree.new.nodes }
     ensures kept { OnErr result (NodesStay tree.old.nodes tree.new.nodes) }
     ensures document { OnErr result (ordered_tree tree.new.nodes 0 ≡ ordered_tree tree.old.nodes 0) }
-    ensures tree { IsTree tree.new.nodes }
 {
-    let _ = tree.len();
     match ensure_property(alloc, tree, object, name, Shape::Array, over) {
         Ok(Some(number)) => Ok(Some(array_at(tree, number))),
         Ok(None) => Ok(None),
@@ -142,7 +137,6 @@ fn set_array<A: Allocator + Copy>(
     ensures stays { StillNodes tree.old.nodes tree.new.nodes }
     ensures kept { OnErr result (NodesStay tree.old.nodes tree.new.nodes) }
     ensures document { OnErr result (ordered_tree tree.new.nodes 0 ≡ ordered_tree tree.old.nodes 0) }
-    ensures tree { IsTree tree.new.nodes }
 {
     match ensure_array(alloc, tree, object, name, Over::Replace) {
         Ok(Some(found)) => Ok(found),
@@ -151,166 +145,131 @@ fn set_array<A: Allocator + Copy>(
     }
 }
 
-/// An object, whose first property of a name may have to be an array or an object.
-pub trait EnsureProperty: IsNode {
+impl CstObject {
     /// The value of its first property of a name, if it is an object. Where no property has the name, one with
-    /// an empty object comes behind the last, as by [`crate::objects::InsertProperty::append`], and that value is
+    /// an empty object comes behind the last, as by [`CstObject::append`], and that value is
     /// answered; where the value is another, or missing, the answer is None, and nothing changes.
     ///
     /// Of an object that stands in a sound document the call is one step, and only memory is wanted. An
     /// object into which a property is to come, and that lacks a bracket, which is so only after edits of
     /// single leaves, is `MissingBrackets`. A refusal leaves the document as it was.
-    fn object_value_or_create<A: Allocator + Copy>(
+    pub fn object_value_or_create<A: Allocator + Copy>(
         self,
         doc: &mut CstRootNode<A>,
         name: &str,
     ) -> Result<Option<CstObject>, EditError>
-        requires { Holds doc.old (Self.node_of self) }
+        requires { Holds doc.old (object_node self) }
         ensures ensured { IfOk result
-            (HasEnsuredObject doc.old doc.new Over.Keep (Self.node_of self) (chars name.now)) }
+            (HasEnsuredObject doc.old doc.new Over.Keep (object_node self) (chars name.now)) }
         ensures written { (o : Options)
             → OnOk result
-            (HasWrittenNamed doc.old doc.new o (Self.node_of self) (chars name.now) Shape.Object Over.Keep) }
-        ensures step { OnOk result (IsEnsuringNamed (nodes_of doc.old) (nodes_of doc.new) (number_of (Self.node_of self))
+            (HasWrittenNamed doc.old doc.new o (object_node self) (chars name.now) Shape.Object Over.Keep) }
+        ensures step { OnOk result (IsEnsuringNamed (nodes_of doc.old) (nodes_of doc.new) (number_of (object_node self))
             (chars name.now) Shape.Object Over.Keep) }
-        ensures elsewhere { OnOk result (KeepsElsewhere doc.old doc.new (Self.node_of self)) }
-        ensures told { IfErr result (IsUnensuredIn doc.old Shape.Object Over.Keep (Self.node_of self) (chars name.now)) }
-        ensures memory { (o : Options) → IfErr result (IsKeptForMemory doc.old o (Self.node_of self)) }
+        ensures elsewhere { OnOk result (KeepsElsewhere doc.old doc.new (object_node self)) }
+        ensures told { IfErr result (IsUnensuredIn doc.old Shape.Object Over.Keep (object_node self) (chars name.now)) }
+        ensures memory { (o : Options) → IfErr result (IsKeptForMemory doc.old o (object_node self)) }
         ensures held { IfOk result (λ a. IfSome a (λ x. Holds doc.new (object_node x))) }
         ensures stays { StillHolds doc.old doc.new }
         ensures kept { OnErr result (StaysAsItWas doc.old doc.new) }
         ensures document { OnErr result (tree_of doc.new ≡ tree_of doc.old) }
-        ensures tree { NodesAreTree doc.new };
+    {
+        let number = object_number(&doc.tree, self);
+        ensure_object(doc.alloc, &mut doc.tree, number, name, Over::Keep)
+    }
 
     /// The value of its first property of a name, if it is an object. Where it is another, or missing, an empty
-    /// one is set, as by [`crate::typed::SetProperty`]; where no property has the name, one with an empty one comes
-    /// behind the last, as by [`crate::objects::InsertProperty::append`].
+    /// one is set, as by `set_value` of a property; where no property has the name, one with an empty one comes
+    /// behind the last, as by [`CstObject::append`].
     ///
     /// Of an object that stands in a sound document the call is one step, and only memory is wanted. A
     /// property whose value is to be set, and that lacks its colon, is `MissingName`, and an object into
     /// which one is to come, and that lacks a bracket, `MissingBrackets`; both are so only after edits of
     /// single leaves. A refusal leaves the document as it was.
-    fn object_value_or_set<A: Allocator + Copy>(
+    pub fn object_value_or_set<A: Allocator + Copy>(
         self,
         doc: &mut CstRootNode<A>,
         name: &str,
     ) -> Result<CstObject, EditError>
-        requires { Holds doc.old (Self.node_of self) }
-        ensures ensured { IfOk result (HasSetObject doc.old doc.new (Self.node_of self) (chars name.now)) }
+        requires { Holds doc.old (object_node self) }
+        ensures ensured { IfOk result (HasSetObject doc.old doc.new (object_node self) (chars name.now)) }
         ensures written { (o : Options)
             → OnOk result
-            (HasWrittenNamed doc.old doc.new o (Self.node_of self) (chars name.now) Shape.Object Over.Replace) }
-        ensures step { OnOk result (IsEnsuringNamed (nodes_of doc.old) (nodes_of doc.new) (number_of (Self.node_of self))
+            (HasWrittenNamed doc.old doc.new o (object_node self) (chars name.now) Shape.Object Over.Replace) }
+        ensures step { OnOk result (IsEnsuringNamed (nodes_of doc.old) (nodes_of doc.new) (number_of (object_node self))
             (chars name.now) Shape.Object Over.Replace) }
-        ensures elsewhere { OnOk result (KeepsElsewhere doc.old doc.new (Self.node_of self)) }
-        ensures told { IfErr result (IsUnensuredIn doc.old Shape.Object Over.Replace (Self.node_of self) (chars name.now)) }
-        ensures memory { (o : Options) → IfErr result (IsKeptForMemory doc.old o (Self.node_of self)) }
+        ensures elsewhere { OnOk result (KeepsElsewhere doc.old doc.new (object_node self)) }
+        ensures told { IfErr result (IsUnensuredIn doc.old Shape.Object Over.Replace (object_node self) (chars name.now)) }
+        ensures memory { (o : Options) → IfErr result (IsKeptForMemory doc.old o (object_node self)) }
         ensures held { IfOk result (λ x. Holds doc.new (object_node x)) }
         ensures stays { StillHolds doc.old doc.new }
         ensures kept { OnErr result (StaysAsItWas doc.old doc.new) }
         ensures document { OnErr result (tree_of doc.new ≡ tree_of doc.old) }
-        ensures tree { NodesAreTree doc.new };
+    {
+        let number = object_number(&doc.tree, self);
+        set_object(doc.alloc, &mut doc.tree, number, name)
+    }
 
     /// The value of its first property of a name, if it is an array. Where no property has the name, one with
-    /// an empty array comes behind the last, as by [`crate::objects::InsertProperty::append`], and that value is
+    /// an empty array comes behind the last, as by [`CstObject::append`], and that value is
     /// answered; where the value is another, or missing, the answer is None, and nothing changes.
     ///
     /// Of an object that stands in a sound document the call is one step, and only memory is wanted. An
     /// object into which a property is to come, and that lacks a bracket, which is so only after edits of
     /// single leaves, is `MissingBrackets`. A refusal leaves the document as it was.
-    fn array_value_or_create<A: Allocator + Copy>(
+    pub fn array_value_or_create<A: Allocator + Copy>(
         self,
         doc: &mut CstRootNode<A>,
         name: &str,
     ) -> Result<Option<CstArray>, EditError>
-        requires { Holds doc.old (Self.node_of self) }
-        ensures ensured { IfOk result (HasEnsuredArray doc.old doc.new Over.Keep (Self.node_of self) (chars name.now)) }
+        requires { Holds doc.old (object_node self) }
+        ensures ensured { IfOk result (HasEnsuredArray doc.old doc.new Over.Keep (object_node self) (chars name.now)) }
         ensures written { (o : Options)
             → OnOk result
-            (HasWrittenNamed doc.old doc.new o (Self.node_of self) (chars name.now) Shape.Array Over.Keep) }
-        ensures step { OnOk result (IsEnsuringNamed (nodes_of doc.old) (nodes_of doc.new) (number_of (Self.node_of self))
+            (HasWrittenNamed doc.old doc.new o (object_node self) (chars name.now) Shape.Array Over.Keep) }
+        ensures step { OnOk result (IsEnsuringNamed (nodes_of doc.old) (nodes_of doc.new) (number_of (object_node self))
             (chars name.now) Shape.Array Over.Keep) }
-        ensures elsewhere { OnOk result (KeepsElsewhere doc.old doc.new (Self.node_of self)) }
-        ensures told { IfErr result (IsUnensuredIn doc.old Shape.Array Over.Keep (Self.node_of self) (chars name.now)) }
-        ensures memory { (o : Options) → IfErr result (IsKeptForMemory doc.old o (Self.node_of self)) }
+        ensures elsewhere { OnOk result (KeepsElsewhere doc.old doc.new (object_node self)) }
+        ensures told { IfErr result (IsUnensuredIn doc.old Shape.Array Over.Keep (object_node self) (chars name.now)) }
+        ensures memory { (o : Options) → IfErr result (IsKeptForMemory doc.old o (object_node self)) }
         ensures held { IfOk result (λ a. IfSome a (λ x. Holds doc.new (array_node x))) }
         ensures stays { StillHolds doc.old doc.new }
         ensures kept { OnErr result (StaysAsItWas doc.old doc.new) }
         ensures document { OnErr result (tree_of doc.new ≡ tree_of doc.old) }
-        ensures tree { NodesAreTree doc.new };
+    {
+        let number = object_number(&doc.tree, self);
+        ensure_array(doc.alloc, &mut doc.tree, number, name, Over::Keep)
+    }
 
     /// The value of its first property of a name, if it is an array. Where it is another, or missing, an empty
-    /// one is set, as by [`crate::typed::SetProperty`]; where no property has the name, one with an empty one comes
-    /// behind the last, as by [`crate::objects::InsertProperty::append`].
+    /// one is set, as by `set_value` of a property; where no property has the name, one with an empty one comes
+    /// behind the last, as by [`CstObject::append`].
     ///
     /// Of an object that stands in a sound document the call is one step, and only memory is wanted. A
     /// property whose value is to be set, and that lacks its colon, is `MissingName`, and an object into
     /// which one is to come, and that lacks a bracket, `MissingBrackets`; both are so only after edits of
     /// single leaves. A refusal leaves the document as it was.
-    fn array_value_or_set<A: Allocator + Copy>(
+    pub fn array_value_or_set<A: Allocator + Copy>(
         self,
         doc: &mut CstRootNode<A>,
         name: &str,
     ) -> Result<CstArray, EditError>
-        requires { Holds doc.old (Self.node_of self) }
-        ensures ensured { IfOk result (HasSetArray doc.old doc.new (Self.node_of self) (chars name.now)) }
+        requires { Holds doc.old (object_node self) }
+        ensures ensured { IfOk result (HasSetArray doc.old doc.new (object_node self) (chars name.now)) }
         ensures written { (o : Options)
             → OnOk result
-            (HasWrittenNamed doc.old doc.new o (Self.node_of self) (chars name.now) Shape.Array Over.Replace) }
-        ensures step { OnOk result (IsEnsuringNamed (nodes_of doc.old) (nodes_of doc.new) (number_of (Self.node_of self))
+            (HasWrittenNamed doc.old doc.new o (object_node self) (chars name.now) Shape.Array Over.Replace) }
+        ensures step { OnOk result (IsEnsuringNamed (nodes_of doc.old) (nodes_of doc.new) (number_of (object_node self))
             (chars name.now) Shape.Array Over.Replace) }
-        ensures elsewhere { OnOk result (KeepsElsewhere doc.old doc.new (Self.node_of self)) }
-        ensures told { IfErr result (IsUnensuredIn doc.old Shape.Array Over.Replace (Self.node_of self) (chars name.now)) }
-        ensures memory { (o : Options) → IfErr result (IsKeptForMemory doc.old o (Self.node_of self)) }
+        ensures elsewhere { OnOk result (KeepsElsewhere doc.old doc.new (object_node self)) }
+        ensures told { IfErr result (IsUnensuredIn doc.old Shape.Array Over.Replace (object_node self) (chars name.now)) }
+        ensures memory { (o : Options) → IfErr result (IsKeptForMemory doc.old o (object_node self)) }
         ensures held { IfOk result (λ x. Holds doc.new (array_node x)) }
         ensures stays { StillHolds doc.old doc.new }
         ensures kept { OnErr result (StaysAsItWas doc.old doc.new) }
         ensures document { OnErr result (tree_of doc.new ≡ tree_of doc.old) }
-        ensures tree { NodesAreTree doc.new };
-}
-
-impl EnsureProperty for CstObject {
-    fn object_value_or_create<A: Allocator + Copy>(
-        self,
-        doc: &mut CstRootNode<A>,
-        name: &str,
-    ) -> Result<Option<CstObject>, EditError> {
+    {
         let number = object_number(&doc.tree, self);
-        let value = ensure_object(doc.alloc, &mut doc.tree, number, name, Over::Keep);
-        doc.nodes_are_tree();
-        value
-    }
-
-    fn object_value_or_set<A: Allocator + Copy>(
-        self,
-        doc: &mut CstRootNode<A>,
-        name: &str,
-    ) -> Result<CstObject, EditError> {
-        let number = object_number(&doc.tree, self);
-        let value = set_object(doc.alloc, &mut doc.tree, number, name);
-        doc.nodes_are_tree();
-        value
-    }
-
-    fn array_value_or_create<A: Allocator + Copy>(
-        self,
-        doc: &mut CstRootNode<A>,
-        name: &str,
-    ) -> Result<Option<CstArray>, EditError> {
-        let number = object_number(&doc.tree, self);
-        let value = ensure_array(doc.alloc, &mut doc.tree, number, name, Over::Keep);
-        doc.nodes_are_tree();
-        value
-    }
-
-    fn array_value_or_set<A: Allocator + Copy>(
-        self,
-        doc: &mut CstRootNode<A>,
-        name: &str,
-    ) -> Result<CstArray, EditError> {
-        let number = object_number(&doc.tree, self);
-        let value = set_array(doc.alloc, &mut doc.tree, number, name);
-        doc.nodes_are_tree();
-        value
+        set_array(doc.alloc, &mut doc.tree, number, name)
     }
 }

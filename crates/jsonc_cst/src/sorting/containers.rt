@@ -7,7 +7,6 @@ ghost use Rattle.jsonc_layout.specs.nodes.Siblings.{elements_at};
 ghost use Rattle.jsonc_layout.specs.lines.Kinds.{holds_values};
 ghost use Rattle.jsonc_cst.specs.Document.{content_of, nodes_of, tree_of, Holds};
 ghost use Rattle.jsonc_cst.specs.Nodes.{number_of};
-ghost use Rattle.jsonc_cst.specs.Tree.{NodesAreTree};
 ghost use Rattle.jsonc_cst.specs.typed.Edits.{StillHolds};
 ghost use Rattle.jsonc_cst.specs.sorting.Asking.{IsInItsOrder, MayBeCompared};
 ghost use Rattle.jsonc_cst.specs.sorting.Pins.{pins_where};
@@ -86,9 +85,7 @@ pub fn sort_container<
     ensures stays { StillHolds doc.old doc.new }
     ensures kept { OnErr result (Keeps (length (nodes_of doc.old)) (nodes_of doc.old) (nodes_of doc.new)) }
     ensures document { OnErr result (tree_of doc.new ≡ tree_of doc.old) }
-    ensures tree { NodesAreTree doc.new }
 {
-    doc.nodes_are_tree();
     let nodes = nodes_asked(doc, container)?;
     let pins = pins_where(doc, container, pin)?;
     sort_by(doc, container, &nodes, &pins, groups, compare)

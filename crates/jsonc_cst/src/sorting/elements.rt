@@ -3,7 +3,6 @@
 ghost use Rattle.std.specs.Prelude.{◌≡◌, IfErr, OnErr, OnOk, false, true};
 ghost use Rattle.jsonc_cst.specs.Document.{tree_of, Holds};
 ghost use Rattle.jsonc_cst.specs.Nodes.{array_node};
-ghost use Rattle.jsonc_cst.specs.Tree.{NodesAreTree};
 ghost use Rattle.jsonc_cst.specs.typed.Edits.{StaysAsItWas, StillHolds};
 ghost use Rattle.jsonc_cst.specs.sorting.Again.{ElementsStayInKeyOrder, ElementsStayInOrder};
 ghost use Rattle.jsonc_cst.specs.sorting.Asking.{IsInItsOrder, IsInKeyOrder, IsUnkeyed, MayBeCompared, MayBeKeyed};
@@ -30,14 +29,9 @@ pub struct ElementSort<H> {
     pub groups: bool,
 }
 
-/// An array, whose elements may be sorted.
-pub trait SortElements {
+impl CstArray {
     /// A sort of its elements: all comments above an element go with it, and blank lines part nothing.
-    fn sort_elements(self) -> ElementSort<NoHeaders>;
-}
-
-impl SortElements for CstArray {
-    fn sort_elements(self) -> ElementSort<NoHeaders>
+    pub fn sort_elements(self) -> ElementSort<NoHeaders>
         ensures array { result.array ≡ self }
         ensures groups { result.groups ≡ false }
     {
@@ -117,9 +111,7 @@ impl<H: Drop> ElementSort<H> {
         ensures stays { StillHolds doc.old doc.new }
         ensures kept { OnErr result (StaysAsItWas doc.old doc.new) }
         ensures document { OnErr result (tree_of doc.new ≡ tree_of doc.old) }
-        ensures tree { NodesAreTree doc.new }
     {
-        doc.nodes_are_tree();
         let nodes = elements_asked(doc, self.array)?;
         let pins = self.rule.pins(doc, self.array.node(), &nodes)?;
         sort_by(doc, self.array.node(), &nodes, &pins, self.groups, &compare)
@@ -151,13 +143,9 @@ impl<H: Drop> ElementSort<H> {
         ensures stays { StillHolds doc.old doc.new }
         ensures kept { OnErr result (StaysAsItWas doc.old doc.new) }
         ensures document { OnErr result (tree_of doc.new ≡ tree_of doc.old) }
-        ensures tree { NodesAreTree doc.new }
     {
-        doc.nodes_are_tree();
         let nodes = elements_asked(doc, self.array)?;
         let pins = self.rule.pins(doc, self.array.node(), &nodes)?;
-        let sorted = sort_by_key(doc, self.array.node(), &nodes, &pins, self.groups, &key);
-        doc.nodes_are_tree();
-        sorted
+        sort_by_key(doc, self.array.node(), &nodes, &pins, self.groups, &key)
     }
 }

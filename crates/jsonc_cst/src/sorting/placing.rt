@@ -3,7 +3,7 @@
 ghost use Rattle.std.specs.Prelude.{◌≡◌, ◌<◌, IfErr, IsTrue, OnErr, OnOk, length};
 ghost use Rattle.jsonc_tree.specs.Building.{Keeps};
 ghost use Rattle.jsonc_tree.specs.OrderedTree.{ordered_tree};
-ghost use Rattle.jsonc_tree.specs.Tree.{content_at, IsTree};
+ghost use Rattle.jsonc_tree.specs.Tree.{content_at};
 ghost use Rattle.jsonc_layout.specs.lines.Kinds.{holds_values};
 ghost use Rattle.jsonc_sort.specs.Rearranged.{headers_of, IsOrderIn};
 ghost use Rattle.jsonc_cst.specs.typed.Edits.{StillNodes};
@@ -32,9 +32,7 @@ pub(crate) fn put_in_order<A: Allocator + Copy>(
     ensures stays { StillNodes tree.old.nodes tree.new.nodes }
     ensures kept { OnErr result (Keeps (length tree.old.nodes) tree.old.nodes tree.new.nodes) }
     ensures document { OnErr result (ordered_tree tree.new.nodes 0 ≡ ordered_tree tree.old.nodes 0) }
-    ensures tree { IsTree tree.new.nodes }
 {
-    let _ = tree.len();
     let Ok(()) = rearrange(alloc, tree, container, pinned, groups, order) else {
         return Err(EditError::OutOfMemory);
     };

@@ -3,7 +3,6 @@
 ghost use Rattle.std.specs.Prelude.{◌≡◌, IfErr, OnErr, OnOk, false, true};
 ghost use Rattle.jsonc_cst.specs.Document.{tree_of, Holds};
 ghost use Rattle.jsonc_cst.specs.Nodes.{object_node, object_prop_node};
-ghost use Rattle.jsonc_cst.specs.Tree.{NodesAreTree};
 ghost use Rattle.jsonc_cst.specs.typed.Edits.{StaysAsItWas, StillHolds};
 ghost use Rattle.jsonc_cst.specs.sorting.Again.{PropertiesStayInKeyOrder, PropertiesStayInOrder};
 ghost use Rattle.jsonc_cst.specs.sorting.Asking.{IsInItsOrder, IsInKeyOrder, IsUnkeyed, MayBeCompared, MayBeKeyed};
@@ -30,14 +29,9 @@ pub struct PropertySort<H> {
     pub groups: bool,
 }
 
-/// An object, whose properties may be sorted.
-pub trait SortProperties {
+impl CstObject {
     /// A sort of its properties: all comments above a property go with it, and blank lines part nothing.
-    fn sort_properties(self) -> PropertySort<NoHeaders>;
-}
-
-impl SortProperties for CstObject {
-    fn sort_properties(self) -> PropertySort<NoHeaders>
+    pub fn sort_properties(self) -> PropertySort<NoHeaders>
         ensures object { result.object ≡ self }
         ensures groups { result.groups ≡ false }
     {
@@ -117,9 +111,7 @@ impl<H: Drop> PropertySort<H> {
         ensures stays { StillHolds doc.old doc.new }
         ensures kept { OnErr result (StaysAsItWas doc.old doc.new) }
         ensures document { OnErr result (tree_of doc.new ≡ tree_of doc.old) }
-        ensures tree { NodesAreTree doc.new }
     {
-        doc.nodes_are_tree();
         let nodes = properties_asked(doc, self.object)?;
         let pins = self.rule.pins(doc, self.object.node(), &nodes)?;
         sort_by(
@@ -158,13 +150,9 @@ impl<H: Drop> PropertySort<H> {
         ensures stays { StillHolds doc.old doc.new }
         ensures kept { OnErr result (StaysAsItWas doc.old doc.new) }
         ensures document { OnErr result (tree_of doc.new ≡ tree_of doc.old) }
-        ensures tree { NodesAreTree doc.new }
     {
-        doc.nodes_are_tree();
         let nodes = properties_asked(doc, self.object)?;
         let pins = self.rule.pins(doc, self.object.node(), &nodes)?;
-        let sorted = sort_by_key(doc, self.object.node(), &nodes, &pins, self.groups, &key);
-        doc.nodes_are_tree();
-        sorted
+        sort_by_key(doc, self.object.node(), &nodes, &pins, self.groups, &key)
     }
 }

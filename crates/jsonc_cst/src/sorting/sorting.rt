@@ -8,7 +8,6 @@ ghost use Rattle.jsonc_layout.specs.nodes.Siblings.{elements_at};
 ghost use Rattle.jsonc_layout.specs.lines.Kinds.{holds_values};
 ghost use Rattle.jsonc_cst.specs.Document.{content_of, nodes_of, tree_of, Holds};
 ghost use Rattle.jsonc_cst.specs.Nodes.{number_of};
-ghost use Rattle.jsonc_cst.specs.Tree.{NodesAreTree};
 ghost use Rattle.jsonc_cst.specs.typed.Edits.{StillHolds};
 ghost use Rattle.jsonc_sort.specs.ordering.Keys.{AreKeys};
 ghost use Rattle.jsonc_sort.specs.Rearranged.{headers_of};
@@ -71,15 +70,11 @@ pub(crate) fn sort_by<
     ensures stays { StillHolds doc.old doc.new }
     ensures kept { OnErr result (Keeps (length (nodes_of doc.old)) (nodes_of doc.old) (nodes_of doc.new)) }
     ensures document { OnErr result (tree_of doc.new ≡ tree_of doc.old) }
-    ensures tree { NodesAreTree doc.new }
 {
-    doc.nodes_are_tree();
     let starts = starts_of(doc, container, groups)?;
     let order = order_of(doc, nodes, &starts, compare)?;
     let number = container.number();
-    let placed = put_in_order(doc.alloc, &mut doc.tree, number, pinned, groups, &order);
-    doc.nodes_are_tree();
-    placed
+    put_in_order(doc.alloc, &mut doc.tree, number, pinned, groups, &order)
 }
 
 // The keys of nodes, or the first that is refused.
@@ -155,13 +150,9 @@ pub(crate) fn sort_by_key<
     ensures stays { StillHolds doc.old doc.new }
     ensures kept { OnErr result (Keeps (length (nodes_of doc.old)) (nodes_of doc.old) (nodes_of doc.new)) }
     ensures document { OnErr result (tree_of doc.new ≡ tree_of doc.old) }
-    ensures tree { NodesAreTree doc.new }
 {
-    doc.nodes_are_tree();
     let starts = starts_of(doc, container, groups)?;
     let order = order_of_keys(doc, nodes, &starts, key)?;
     let number = container.number();
-    let placed = put_in_order(doc.alloc, &mut doc.tree, number, pinned, groups, &order);
-    doc.nodes_are_tree();
-    placed
+    put_in_order(doc.alloc, &mut doc.tree, number, pinned, groups, &order)
 }

@@ -2,9 +2,8 @@
 
 ghost use Rattle.std.specs.Prelude.{◌≡◌, ◌<◌, IfErr, OnErr, OnOk, length};
 ghost use Rattle.jsonc_text.specs.Options.{Options};
-ghost use Rattle.jsonc_tree.specs.Tree.{IsTree};
 ghost use Rattle.jsonc_cst.specs.Document.{nodes_of, Holds};
-ghost use Rattle.jsonc_cst.specs.Nodes.{number_of, typed_at};
+ghost use Rattle.jsonc_cst.specs.Nodes.{array_node, number_of, object_node, root_node, typed_at};
 ghost use Rattle.jsonc_cst.specs.Tree.{NodesAreTree};
 ghost use Rattle.jsonc_edit.specs.commas.InTurn.{CommaIsDue};
 ghost use Rattle.jsonc_cst.specs.typed.Commas.{CommasSaid, CommasSet, CommasSetInPart, CommasStand, CommasStay, CommasWritten};
@@ -39,19 +38,63 @@ fn set_commas<A: Allocator>(
     ensures due { OnErr result (CommaIsDue tree.old.nodes number) }
     ensures memory { IfErr result (λ e. e ≡ EditError.OutOfMemory) }
     ensures stays { StillNodes tree.old.nodes tree.new.nodes }
-    ensures tree { IsTree tree.new.nodes }
 {
-    let _ = tree.len();
     match jsonc_edit::commas::set_trailing_commas(tree, number, mode) {
         Ok(()) => Ok(()),
         Err(error) => Err(error),
     }
 }
 
-/// The root, an array or an object, whose trailing commas may be set, with those of all arrays and objects
-/// below it.
-pub trait SetTrailingCommas: IsNode {
-    /// Sets them by a mode.
+// Sets the trailing commas of a node, and of all arrays and objects below it, by a mode.
+fn set_commas_of<A: Allocator, N: IsNode>(
+    doc: &mut CstRootNode<A>,
+    node: N,
+    mode: TrailingCommaMode,
+) -> Result<(), EditError>
+    requires { Holds doc.old (N.node_of node) }
+    ensures set { OnOk result (HasSetCommas doc.old doc.new mode (N.node_of node)) }
+    ensures said { OnOk result (HasCommasAsSaid doc.old doc.new mode (N.node_of node)) }
+    ensures part { OnErr result (HasSetCommasInPart doc.old doc.new mode (N.node_of node)) }
+    ensures written { (o : Options) → HasWrittenCommas doc.old doc.new mode o (N.node_of node) }
+    ensures stand { (o : Options) → OnOk result (HasCommasAsSet doc.old doc.new mode o (N.node_of node)) }
+    ensures once { (o : Options) → OnOk result (HasCommasThatStay doc.old doc.new mode o (N.node_of node)) }
+    ensures step { OnOk result (IsHolder (N.node_of node)
+        → IsSettingCommas (nodes_of doc.old) (nodes_of doc.new) mode (number_of (N.node_of node))) }
+    ensures begun { OnErr result (IsHolder (N.node_of node)
+        → IsSettingSomeCommas (nodes_of doc.old) (nodes_of doc.new) mode (number_of (N.node_of node))) }
+    ensures elsewhere { KeepsElsewhere doc.old doc.new (N.node_of node) }
+    ensures wanted { OnErr result (mode ≡ TrailingCommaMode.IfMultiline) }
+    ensures due { OnErr result (CommaIsDue (nodes_of doc.old) (number_of (N.node_of node))) }
+    ensures memory { IfErr result (λ e. e ≡ EditError.OutOfMemory) }
+    ensures stays { StillHolds doc.old doc.new }
+{
+    set_commas(&mut doc.tree, node.node().number(), mode)
+}
+
+impl<A: Allocator> CstRootNode<A> {
+    /// Sets the trailing commas of all its arrays and objects by a mode, as [`CstRoot::set_trailing_commas`] of its
+    /// root says.
+    pub fn set_trailing_commas(&mut self, mode: TrailingCommaMode) -> Result<(), EditError>
+        ensures set { OnOk result (CommasSet (nodes_of self.old) (nodes_of self.new) mode 0) }
+        ensures said { OnOk result (CommasSaid (nodes_of self.old) (nodes_of self.new) mode 0) }
+        ensures part { OnErr result (CommasSetInPart (nodes_of self.old) (nodes_of self.new) mode 0) }
+        ensures written { (o : Options) → CommasWritten (nodes_of self.old) (nodes_of self.new) mode o 0 }
+        ensures stand { (o : Options) → OnOk result (CommasStand (nodes_of self.old) (nodes_of self.new) mode o 0) }
+        ensures once { (o : Options) → OnOk result (CommasStay (nodes_of self.old) (nodes_of self.new) mode o 0) }
+        ensures step { OnOk result (IsSettingCommas (nodes_of self.old) (nodes_of self.new) mode 0) }
+        ensures begun { OnErr result (IsSettingSomeCommas (nodes_of self.old) (nodes_of self.new) mode 0) }
+        ensures wanted { OnErr result (mode ≡ TrailingCommaMode.IfMultiline) }
+        ensures due { OnErr result (CommaIsDue (nodes_of self.old) 0) }
+        ensures memory { IfErr result (λ e. e ≡ EditError.OutOfMemory) }
+        ensures stays { StillHolds self.old self.new }
+    {
+        let set = set_commas(&mut self.tree, 0, mode);
+        set
+    }
+}
+
+impl CstRoot {
+    /// Sets its trailing commas, and those of all arrays and objects below it, by a mode.
     ///
     /// With `Never` the comma behind the last element or property leaves. With `IfMultiline` one comes
     /// directly behind the last element or property of each array and object that has an end of a line
@@ -65,37 +108,86 @@ pub trait SetTrailingCommas: IsNode {
     /// Memory is wanted only where a comma is due. Where it is refused, the commas of arrays and objects
     /// before have been set, and nothing else has changed: that too is a step. A document that the node does
     /// not stand in prints what it did, refused or not.
-    final fn set_trailing_commas<A: Allocator>(
+    pub fn set_trailing_commas<A: Allocator>(
         self,
         doc: &mut CstRootNode<A>,
         mode: TrailingCommaMode,
     ) -> Result<(), EditError>
-        requires { Holds doc.old (Self.node_of self) }
-        ensures set { OnOk result (HasSetCommas doc.old doc.new mode (Self.node_of self)) }
-        ensures said { OnOk result (HasCommasAsSaid doc.old doc.new mode (Self.node_of self)) }
-        ensures part { OnErr result (HasSetCommasInPart doc.old doc.new mode (Self.node_of self)) }
-        ensures written { (o : Options) → HasWrittenCommas doc.old doc.new mode o (Self.node_of self) }
-        ensures stand { (o : Options) → OnOk result (HasCommasAsSet doc.old doc.new mode o (Self.node_of self)) }
-        ensures once { (o : Options) → OnOk result (HasCommasThatStay doc.old doc.new mode o (Self.node_of self)) }
-        ensures step { OnOk result (IsHolder (Self.node_of self)
-            → IsSettingCommas (nodes_of doc.old) (nodes_of doc.new) mode (number_of (Self.node_of self))) }
-        ensures begun { OnErr result (IsHolder (Self.node_of self)
-            → IsSettingSomeCommas (nodes_of doc.old) (nodes_of doc.new) mode (number_of (Self.node_of self))) }
-        ensures elsewhere { KeepsElsewhere doc.old doc.new (Self.node_of self) }
+        requires { Holds doc.old (root_node self) }
+        ensures set { OnOk result (HasSetCommas doc.old doc.new mode (root_node self)) }
+        ensures said { OnOk result (HasCommasAsSaid doc.old doc.new mode (root_node self)) }
+        ensures part { OnErr result (HasSetCommasInPart doc.old doc.new mode (root_node self)) }
+        ensures written { (o : Options) → HasWrittenCommas doc.old doc.new mode o (root_node self) }
+        ensures stand { (o : Options) → OnOk result (HasCommasAsSet doc.old doc.new mode o (root_node self)) }
+        ensures once { (o : Options) → OnOk result (HasCommasThatStay doc.old doc.new mode o (root_node self)) }
+        ensures step { OnOk result (IsHolder (root_node self)
+            → IsSettingCommas (nodes_of doc.old) (nodes_of doc.new) mode (number_of (root_node self))) }
+        ensures begun { OnErr result (IsHolder (root_node self)
+            → IsSettingSomeCommas (nodes_of doc.old) (nodes_of doc.new) mode (number_of (root_node self))) }
+        ensures elsewhere { KeepsElsewhere doc.old doc.new (root_node self) }
         ensures wanted { OnErr result (mode ≡ TrailingCommaMode.IfMultiline) }
-        ensures due { OnErr result (CommaIsDue (nodes_of doc.old) (number_of (Self.node_of self))) }
+        ensures due { OnErr result (CommaIsDue (nodes_of doc.old) (number_of (root_node self))) }
         ensures memory { IfErr result (λ e. e ≡ EditError.OutOfMemory) }
         ensures stays { StillHolds doc.old doc.new }
-        ensures tree { NodesAreTree doc.new }
     {
-        let set = set_commas(&mut doc.tree, self.node().number(), mode);
-        doc.nodes_are_tree();
-        set
+        set_commas_of(doc, self, mode)
     }
 }
 
-impl SetTrailingCommas for CstRoot {}
+impl CstArray {
+    /// Sets its trailing commas, and those of all arrays and objects below it, by a mode: as
+    /// [`CstRoot::set_trailing_commas`] says.
+    pub fn set_trailing_commas<A: Allocator>(
+        self,
+        doc: &mut CstRootNode<A>,
+        mode: TrailingCommaMode,
+    ) -> Result<(), EditError>
+        requires { Holds doc.old (array_node self) }
+        ensures set { OnOk result (HasSetCommas doc.old doc.new mode (array_node self)) }
+        ensures said { OnOk result (HasCommasAsSaid doc.old doc.new mode (array_node self)) }
+        ensures part { OnErr result (HasSetCommasInPart doc.old doc.new mode (array_node self)) }
+        ensures written { (o : Options) → HasWrittenCommas doc.old doc.new mode o (array_node self) }
+        ensures stand { (o : Options) → OnOk result (HasCommasAsSet doc.old doc.new mode o (array_node self)) }
+        ensures once { (o : Options) → OnOk result (HasCommasThatStay doc.old doc.new mode o (array_node self)) }
+        ensures step { OnOk result (IsHolder (array_node self)
+            → IsSettingCommas (nodes_of doc.old) (nodes_of doc.new) mode (number_of (array_node self))) }
+        ensures begun { OnErr result (IsHolder (array_node self)
+            → IsSettingSomeCommas (nodes_of doc.old) (nodes_of doc.new) mode (number_of (array_node self))) }
+        ensures elsewhere { KeepsElsewhere doc.old doc.new (array_node self) }
+        ensures wanted { OnErr result (mode ≡ TrailingCommaMode.IfMultiline) }
+        ensures due { OnErr result (CommaIsDue (nodes_of doc.old) (number_of (array_node self))) }
+        ensures memory { IfErr result (λ e. e ≡ EditError.OutOfMemory) }
+        ensures stays { StillHolds doc.old doc.new }
+    {
+        set_commas_of(doc, self, mode)
+    }
+}
 
-impl SetTrailingCommas for CstArray {}
-
-impl SetTrailingCommas for CstObject {}
+impl CstObject {
+    /// Sets its trailing commas, and those of all arrays and objects below it, by a mode: as
+    /// [`CstRoot::set_trailing_commas`] says.
+    pub fn set_trailing_commas<A: Allocator>(
+        self,
+        doc: &mut CstRootNode<A>,
+        mode: TrailingCommaMode,
+    ) -> Result<(), EditError>
+        requires { Holds doc.old (object_node self) }
+        ensures set { OnOk result (HasSetCommas doc.old doc.new mode (object_node self)) }
+        ensures said { OnOk result (HasCommasAsSaid doc.old doc.new mode (object_node self)) }
+        ensures part { OnErr result (HasSetCommasInPart doc.old doc.new mode (object_node self)) }
+        ensures written { (o : Options) → HasWrittenCommas doc.old doc.new mode o (object_node self) }
+        ensures stand { (o : Options) → OnOk result (HasCommasAsSet doc.old doc.new mode o (object_node self)) }
+        ensures once { (o : Options) → OnOk result (HasCommasThatStay doc.old doc.new mode o (object_node self)) }
+        ensures step { OnOk result (IsHolder (object_node self)
+            → IsSettingCommas (nodes_of doc.old) (nodes_of doc.new) mode (number_of (object_node self))) }
+        ensures begun { OnErr result (IsHolder (object_node self)
+            → IsSettingSomeCommas (nodes_of doc.old) (nodes_of doc.new) mode (number_of (object_node self))) }
+        ensures elsewhere { KeepsElsewhere doc.old doc.new (object_node self) }
+        ensures wanted { OnErr result (mode ≡ TrailingCommaMode.IfMultiline) }
+        ensures due { OnErr result (CommaIsDue (nodes_of doc.old) (number_of (object_node self))) }
+        ensures memory { IfErr result (λ e. e ≡ EditError.OutOfMemory) }
+        ensures stays { StillHolds doc.old doc.new }
+    {
+        set_commas_of(doc, self, mode)
+    }
+}

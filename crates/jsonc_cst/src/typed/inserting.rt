@@ -5,14 +5,13 @@ ghost use Rattle.jsonc_text.specs.Options.{Options};
 ghost use Rattle.jsonc_layout.specs.input.Views.{plain};
 ghost use Rattle.jsonc_tree.specs.Content.{Content};
 ghost use Rattle.jsonc_tree.specs.OrderedTree.{ordered_tree};
-ghost use Rattle.jsonc_tree.specs.Tree.{children_at, content_at, IsTree};
+ghost use Rattle.jsonc_tree.specs.Tree.{children_at, content_at};
 ghost use Rattle.jsonc_layout.specs.nodes.Siblings.{elements_at};
 ghost use Rattle.jsonc_insert.specs.Inserted.{refusal};
 ghost use Rattle.jsonc_insert.specs.Planned.{has_brackets};
 ghost use Rattle.jsonc_insert.specs.Laws.{KeepsNodesBut};
 ghost use Rattle.jsonc_cst.specs.Document.{nodes_of, tree_of, Holds};
 ghost use Rattle.jsonc_cst.specs.Nodes.{array_node, number_of, IsNodeOf};
-ghost use Rattle.jsonc_cst.specs.Tree.{NodesAreTree};
 ghost use Rattle.jsonc_cst.specs.typed.Edits.{KeepsElsewhere, StaysElsewhere, StillHolds, StillNodes};
 ghost use Rattle.jsonc_cst.specs.typed.Edits.{NodesStay, StaysAsItWas};
 ghost use Rattle.jsonc_cst.specs.typed.Inserting.{element_count, ComesInAt, HasComeIn, IsItsElement, IsShutFor};
@@ -64,9 +63,7 @@ fn insert_at<A: Allocator + Copy>(
     ensures stays { StillNodes tree.old.nodes tree.new.nodes }
     ensures kept { OnErr result (NodesStay tree.old.nodes tree.new.nodes) }
     ensures document { OnErr result (ordered_tree tree.new.nodes 0 ≡ ordered_tree tree.old.nodes 0) }
-    ensures tree { IsTree tree.new.nodes }
 {
-    let _ = tree.len();
     match insert_element(alloc, tree, array, index, value) {
         Ok(element) => Ok(node_at(tree, element)),
         Err(error) => Err(error),
@@ -99,44 +96,44 @@ fn append_to<A: Allocator + Copy>(
     ensures stays { StillNodes tree.old.nodes tree.new.nodes }
     ensures kept { OnErr result (NodesStay tree.old.nodes tree.new.nodes) }
     ensures document { OnErr result (ordered_tree tree.new.nodes 0 ≡ ordered_tree tree.old.nodes 0) }
-    ensures tree { IsTree tree.new.nodes }
 {
-    let _ = tree.len();
     // There are no more elements than children.
     let count = tree.child_count(array);
     insert_at(alloc, tree, array, count, value)
 }
 
-/// An array, into which elements may come.
-pub trait InsertElement: IsNode {
+impl CstArray {
     /// Puts a value behind its last element, and answers the value's node.
     ///
-    /// It is what [`InsertElement::insert`] does with the number of its elements, or a greater one.
-    fn append<A: Allocator + Copy>(
+    /// It is what [`CstArray::insert`] does with the number of its elements, or a greater one.
+    pub fn append<A: Allocator + Copy>(
         self,
         doc: &mut CstRootNode<A>,
         value: CstInputValue<A>,
     ) -> Result<CstNode, EditError>
-        requires { Holds doc.old (Self.node_of self) }
+        requires { Holds doc.old (array_node self) }
         ensures put { IfOk result
-            (HasComeIn doc.old doc.new (Self.node_of self) (element_count doc.old (Self.node_of self)) (plain value)) }
+            (HasComeIn doc.old doc.new (array_node self) (element_count doc.old (array_node self)) (plain value)) }
         ensures element { IfOk result
-            (IsItsElement doc.old doc.new (Self.node_of self) (element_count doc.old (Self.node_of self))) }
+            (IsItsElement doc.old doc.new (array_node self) (element_count doc.old (array_node self))) }
         ensures written { (o : Options)
             → OnOk result
-            (IsPutAtItsPath doc.old doc.new o (Self.node_of self)
-            (element_count doc.old (Self.node_of self)) (plain value)) }
-        ensures step { OnOk result (IsAppending (nodes_of doc.old) (nodes_of doc.new) (number_of (Self.node_of self))
+            (IsPutAtItsPath doc.old doc.new o (array_node self)
+            (element_count doc.old (array_node self)) (plain value)) }
+        ensures step { OnOk result (IsAppending (nodes_of doc.old) (nodes_of doc.new) (number_of (array_node self))
             (plain value)) }
-        ensures others { OnOk result (KeepsOthers doc.old doc.new (Self.node_of self)) }
-        ensures elsewhere { OnOk result (KeepsElsewhere doc.old doc.new (Self.node_of self)) }
-        ensures told { IfErr result (IsShutFor doc.old (Self.node_of self)) }
-        ensures memory { (o : Options) → IfErr result (IsKeptForMemory doc.old o (Self.node_of self)) }
+        ensures others { OnOk result (KeepsOthers doc.old doc.new (array_node self)) }
+        ensures elsewhere { OnOk result (KeepsElsewhere doc.old doc.new (array_node self)) }
+        ensures told { IfErr result (IsShutFor doc.old (array_node self)) }
+        ensures memory { (o : Options) → IfErr result (IsKeptForMemory doc.old o (array_node self)) }
         ensures held { IfOk result (Holds doc.new) }
         ensures stays { StillHolds doc.old doc.new }
         ensures kept { OnErr result (StaysAsItWas doc.old doc.new) }
         ensures document { OnErr result (tree_of doc.new ≡ tree_of doc.old) }
-        ensures tree { NodesAreTree doc.new };
+    {
+        let number = array_number(&doc.tree, self);
+        append_to(doc.alloc, &mut doc.tree, number, &value)
+    }
 
     /// Puts a value before its element of this number, counted from 0, or behind the last where it has
     /// fewer, and answers the value's node.
@@ -148,55 +145,33 @@ pub trait InsertElement: IsNode {
     /// a sound document. If the document is sound, it is sound again, and its value is the old one with this
     /// value in the array: if the array stands in it, the call is one step, the edit that inserts the value
     /// at the array's path. A refusal leaves the document as it was.
-    fn insert<A: Allocator + Copy>(
+    pub fn insert<A: Allocator + Copy>(
         self,
         doc: &mut CstRootNode<A>,
         index: usize,
         value: CstInputValue<A>,
     ) -> Result<CstNode, EditError>
-        requires { Holds doc.old (Self.node_of self) }
+        requires { Holds doc.old (array_node self) }
         ensures put { IfOk result
-            (HasComeIn doc.old doc.new (Self.node_of self) (min index (element_count doc.old (Self.node_of self)))
+            (HasComeIn doc.old doc.new (array_node self) (min index (element_count doc.old (array_node self)))
             (plain value)) }
-        ensures element { IfOk result (IsItsElement doc.old doc.new (Self.node_of self) index) }
+        ensures element { IfOk result (IsItsElement doc.old doc.new (array_node self) index) }
         ensures written { (o : Options)
             → OnOk result
-            (IsPutAtItsPath doc.old doc.new o (Self.node_of self)
-            (min index (element_count doc.old (Self.node_of self))) (plain value)) }
-        ensures step { OnOk result (IsInserting (nodes_of doc.old) (nodes_of doc.new) (number_of (Self.node_of self)) index
+            (IsPutAtItsPath doc.old doc.new o (array_node self)
+            (min index (element_count doc.old (array_node self))) (plain value)) }
+        ensures step { OnOk result (IsInserting (nodes_of doc.old) (nodes_of doc.new) (number_of (array_node self)) index
             (plain value)) }
-        ensures others { OnOk result (KeepsOthers doc.old doc.new (Self.node_of self)) }
-        ensures elsewhere { OnOk result (KeepsElsewhere doc.old doc.new (Self.node_of self)) }
-        ensures told { IfErr result (IsShutFor doc.old (Self.node_of self)) }
-        ensures memory { (o : Options) → IfErr result (IsKeptForMemory doc.old o (Self.node_of self)) }
+        ensures others { OnOk result (KeepsOthers doc.old doc.new (array_node self)) }
+        ensures elsewhere { OnOk result (KeepsElsewhere doc.old doc.new (array_node self)) }
+        ensures told { IfErr result (IsShutFor doc.old (array_node self)) }
+        ensures memory { (o : Options) → IfErr result (IsKeptForMemory doc.old o (array_node self)) }
         ensures held { IfOk result (Holds doc.new) }
         ensures stays { StillHolds doc.old doc.new }
         ensures kept { OnErr result (StaysAsItWas doc.old doc.new) }
         ensures document { OnErr result (tree_of doc.new ≡ tree_of doc.old) }
-        ensures tree { NodesAreTree doc.new };
-}
-
-impl InsertElement for CstArray {
-    fn append<A: Allocator + Copy>(
-        self,
-        doc: &mut CstRootNode<A>,
-        value: CstInputValue<A>,
-    ) -> Result<CstNode, EditError> {
+    {
         let number = array_number(&doc.tree, self);
-        let put = append_to(doc.alloc, &mut doc.tree, number, &value);
-        doc.nodes_are_tree();
-        put
-    }
-
-    fn insert<A: Allocator + Copy>(
-        self,
-        doc: &mut CstRootNode<A>,
-        index: usize,
-        value: CstInputValue<A>,
-    ) -> Result<CstNode, EditError> {
-        let number = array_number(&doc.tree, self);
-        let put = insert_at(doc.alloc, &mut doc.tree, number, index, &value);
-        doc.nodes_are_tree();
-        put
+        insert_at(doc.alloc, &mut doc.tree, number, index, &value)
     }
 }

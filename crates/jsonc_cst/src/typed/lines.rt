@@ -3,11 +3,11 @@
 ghost use Rattle.std.specs.Prelude.{◌≡◌, ◌<◌, IfErr, IsTrue, OnErr, OnOk, length};
 ghost use Rattle.jsonc_text.specs.Options.{Options};
 ghost use Rattle.jsonc_tree.specs.OrderedTree.{ordered_tree};
-ghost use Rattle.jsonc_tree.specs.Tree.{content_at, IsTree};
+ghost use Rattle.jsonc_tree.specs.Tree.{content_at};
 ghost use Rattle.jsonc_layout.specs.lines.Kinds.{holds_values};
 ghost use Rattle.jsonc_edit.specs.multiline.Multiline.{has_line_end, IsUnspread, MadeMultiline};
 ghost use Rattle.jsonc_cst.specs.Document.{nodes_of, tree_of, Holds};
-ghost use Rattle.jsonc_cst.specs.Nodes.{number_of};
+ghost use Rattle.jsonc_cst.specs.Nodes.{array_node, number_of, object_node};
 ghost use Rattle.jsonc_cst.specs.Tree.{NodesAreTree};
 ghost use Rattle.jsonc_cst.specs.typed.Edits.{KeepsElsewhere, StaysElsewhere, StillHolds, StillNodes};
 ghost use Rattle.jsonc_cst.specs.typed.Edits.{NodesStay, StaysAsItWas};
@@ -33,14 +33,11 @@ fn spread<A: Allocator + Copy>(alloc: A, tree: &mut Tree<A>, number: usize) -> R
     ensures stays { StillNodes tree.old.nodes tree.new.nodes }
     ensures kept { OnErr result (NodesStay tree.old.nodes tree.new.nodes) }
     ensures document { OnErr result (ordered_tree tree.new.nodes 0 ≡ ordered_tree tree.old.nodes 0) }
-    ensures tree { IsTree tree.new.nodes }
 {
-    let _ = tree.len();
     jsonc_edit::multiline::ensure_multiline(alloc, tree, number)
 }
 
-/// An array or object, which may be put on several lines.
-pub trait EnsureMultiline: IsNode {
+impl CstArray {
     /// Puts it on several lines, where no line ends among its children yet: each part of what stands between
     /// its brackets, through its comma, comes on a line of its own, one level deeper, without the
     /// whitespace around it, and the last bracket on one too.
@@ -49,44 +46,53 @@ pub trait EnsureMultiline: IsNode {
     /// and comments, and sound: if the node stands in it, the call is one step. An array or object that lacks
     /// a bracket is `MissingBrackets`, which none that stands in a sound document is told. A refusal leaves
     /// the document as it was.
-    fn ensure_multiline<A: Allocator + Copy>(
+    pub fn ensure_multiline<A: Allocator + Copy>(
         self,
         doc: &mut CstRootNode<A>,
     ) -> Result<(), EditError>
-        requires { Holds doc.old (Self.node_of self) }
-        ensures made { OnOk result (HasSpreadOut doc.old doc.new (Self.node_of self)) }
-        ensures written { (o : Options) → OnOk result (LinesWritten doc.old doc.new o (Self.node_of self)) }
-        ensures step { OnOk result (IsSpreading (nodes_of doc.old) (nodes_of doc.new) (number_of (Self.node_of self))) }
-        ensures lines { OnOk result (IsOnLines doc.new (Self.node_of self)) }
-        ensures elsewhere { OnOk result (KeepsElsewhere doc.old doc.new (Self.node_of self)) }
-        ensures told { IfErr result (StaysUnspread doc.old (Self.node_of self)) }
-        ensures memory { (o : Options) → IfErr result (IsKeptForMemory doc.old o (Self.node_of self)) }
+        requires { Holds doc.old (array_node self) }
+        ensures made { OnOk result (HasSpreadOut doc.old doc.new (array_node self)) }
+        ensures written { (o : Options) → OnOk result (LinesWritten doc.old doc.new o (array_node self)) }
+        ensures step { OnOk result (IsSpreading (nodes_of doc.old) (nodes_of doc.new) (number_of (array_node self))) }
+        ensures lines { OnOk result (IsOnLines doc.new (array_node self)) }
+        ensures elsewhere { OnOk result (KeepsElsewhere doc.old doc.new (array_node self)) }
+        ensures told { IfErr result (StaysUnspread doc.old (array_node self)) }
+        ensures memory { (o : Options) → IfErr result (IsKeptForMemory doc.old o (array_node self)) }
         ensures stays { StillHolds doc.old doc.new }
         ensures kept { OnErr result (StaysAsItWas doc.old doc.new) }
         ensures document { OnErr result (tree_of doc.new ≡ tree_of doc.old) }
-        ensures tree { NodesAreTree doc.new };
-}
-
-impl EnsureMultiline for CstArray {
-    fn ensure_multiline<A: Allocator + Copy>(
-        self,
-        doc: &mut CstRootNode<A>,
-    ) -> Result<(), EditError> {
+    {
         let number = self.node().number();
-        let made = spread(doc.alloc, &mut doc.tree, number);
-        doc.nodes_are_tree();
-        made
+        spread(doc.alloc, &mut doc.tree, number)
     }
 }
 
-impl EnsureMultiline for CstObject {
-    fn ensure_multiline<A: Allocator + Copy>(
+impl CstObject {
+    /// Puts it on several lines, where no line ends among its children yet: each part of what stands between
+    /// its brackets, through its comma, comes on a line of its own, one level deeper, without the
+    /// whitespace around it, and the last bracket on one too.
+    ///
+    /// If the document is sound, the text is a document again, of the same value and with the same literals
+    /// and comments, and sound: if the node stands in it, the call is one step. An array or object that lacks
+    /// a bracket is `MissingBrackets`, which none that stands in a sound document is told. A refusal leaves
+    /// the document as it was.
+    pub fn ensure_multiline<A: Allocator + Copy>(
         self,
         doc: &mut CstRootNode<A>,
-    ) -> Result<(), EditError> {
+    ) -> Result<(), EditError>
+        requires { Holds doc.old (object_node self) }
+        ensures made { OnOk result (HasSpreadOut doc.old doc.new (object_node self)) }
+        ensures written { (o : Options) → OnOk result (LinesWritten doc.old doc.new o (object_node self)) }
+        ensures step { OnOk result (IsSpreading (nodes_of doc.old) (nodes_of doc.new) (number_of (object_node self))) }
+        ensures lines { OnOk result (IsOnLines doc.new (object_node self)) }
+        ensures elsewhere { OnOk result (KeepsElsewhere doc.old doc.new (object_node self)) }
+        ensures told { IfErr result (StaysUnspread doc.old (object_node self)) }
+        ensures memory { (o : Options) → IfErr result (IsKeptForMemory doc.old o (object_node self)) }
+        ensures stays { StillHolds doc.old doc.new }
+        ensures kept { OnErr result (StaysAsItWas doc.old doc.new) }
+        ensures document { OnErr result (tree_of doc.new ≡ tree_of doc.old) }
+    {
         let number = self.node().number();
-        let made = spread(doc.alloc, &mut doc.tree, number);
-        doc.nodes_are_tree();
-        made
+        spread(doc.alloc, &mut doc.tree, number)
     }
 }

@@ -4,13 +4,16 @@ ghost use Rattle.std.specs.Prelude.{◌≡◌, ◌+◌, ◌<◌, [], IfErr, None
 ghost use Rattle.jsonc_text.specs.Options.{Options};
 ghost use Rattle.jsonc_tree.specs.Changes.{Splices};
 ghost use Rattle.jsonc_tree.specs.OrderedTree.{ordered_tree};
-ghost use Rattle.jsonc_tree.specs.Tree.{parent_at, place_at, IsTree};
+ghost use Rattle.jsonc_tree.specs.Tree.{parent_at, place_at};
 ghost use Rattle.jsonc_edit.specs.Comments.{TakesOut, WantsSpace};
 ghost use Rattle.jsonc_edit.specs.remove.Removed.{IsKeptFor, TakesElement};
 ghost use Rattle.jsonc_edit.specs.set.Laws.{IsBareDocument};
 ghost use Rattle.jsonc_cst.specs.Document.{nodes_of, parent_of, tree_of, Holds};
-ghost use Rattle.jsonc_cst.specs.Nodes.{number_of, typed_at};
+ghost use Rattle.jsonc_cst.specs.Nodes.{comment_node, newline_node, number_of, object_prop_node, token_node, typed_at, whitespace_node};
+ghost use Rattle.jsonc_cst.specs.Nodes.{array_node, boolean_lit_node, name_node, null_keyword_node, number_lit_node};
+ghost use Rattle.jsonc_cst.specs.Nodes.{object_node, string_lit_node, word_lit_node};
 ghost use Rattle.jsonc_cst.specs.Tree.{NodesAreTree};
+ghost use Rattle.jsonc_cst.specs.typed.Calls.{IsRemoval};
 ghost use Rattle.jsonc_cst.specs.typed.Edits.{HasGone, IsNobodys, IsUntouched, KeepsElsewhere, StaysElsewhere};
 ghost use Rattle.jsonc_cst.specs.typed.Edits.{NodesStay, StaysAsItWas, StillHolds, StillNodes};
 ghost use Rattle.jsonc_cst.specs.declared.typed.removing.Removal.{Removal};
@@ -72,9 +75,7 @@ fn remove_element<A: Allocator + Copy>(
     ensures memory { (o : Options) → IfErr result (WantsMemoryAlone o tree.old.nodes number) }
     ensures kept { OnErr result (NodesStay tree.old.nodes tree.new.nodes) }
     ensures document { OnErr result (ordered_tree tree.new.nodes 0 ≡ ordered_tree tree.old.nodes 0) }
-    ensures tree { IsTree tree.new.nodes }
 {
-    let _ = tree.len();
     jsonc_edit::remove::remove(alloc, tree, number)
 }
 
@@ -101,9 +102,7 @@ fn remove_comment<A: Allocator + Copy>(
     ensures wanted { OnErr result (WantsSpace tree.old.nodes number) }
     ensures kept { OnErr result (NodesStay tree.old.nodes tree.new.nodes) }
     ensures document { OnErr result (ordered_tree tree.new.nodes 0 ≡ ordered_tree tree.old.nodes 0) }
-    ensures tree { IsTree tree.new.nodes }
 {
-    let _ = tree.len();
     jsonc_edit::remove_comment(alloc, tree, number)
 }
 
@@ -112,9 +111,7 @@ fn take_alone<A: Allocator>(tree: &mut Tree<A>, container: usize, number: usize)
     requires { parent_at tree.old.nodes number ≡ Some container }
     ensures taken { Splices tree.old.nodes tree.new.nodes container (place_at tree.old.nodes number)
         (place_at tree.old.nodes number + 1) [] }
-    ensures tree { IsTree tree.new.nodes }
 {
-    let _ = tree.len();
     // A place is below the count of the children, so one more than it is a number too.
     let _ = tree.child_count(container);
     let place = tree.child_index(number);
@@ -129,9 +126,7 @@ fn remove_alone<A: Allocator>(tree: &mut Tree<A>, number: usize)
     ensures gone { IsNobodys tree.new.nodes number }
     ensures untouched { parent_at tree.old.nodes number ≡ None → tree.new.nodes ≡ tree.old.nodes }
     ensures stays { StillNodes tree.old.nodes tree.new.nodes }
-    ensures tree { IsTree tree.new.nodes }
 {
-    let _ = tree.len();
     let Some(container) = tree.parent(number) else {
         return;
     };
@@ -144,9 +139,7 @@ pub(crate) fn clear<A: Allocator>(tree: &mut Tree<A>)
     ensures written { (o : Options) → IsBareDocument o (ordered_tree tree.new.nodes 0) }
     ensures step { IsClearing tree.old.nodes tree.new.nodes }
     ensures stays { StillNodes tree.old.nodes tree.new.nodes }
-    ensures tree { IsTree tree.new.nodes }
 {
-    let _ = tree.len();
     jsonc_edit::set::clear_root(tree);
 }
 
@@ -171,7 +164,6 @@ fn remove_by<A: Allocator + Copy>(
     ensures memory { (o : Options) → IfErr result (WantsMemoryAlone o tree.old.nodes number) }
     ensures kept { OnErr result (NodesStay tree.old.nodes tree.new.nodes) }
     ensures document { OnErr result (ordered_tree tree.new.nodes 0 ≡ ordered_tree tree.old.nodes 0) }
-    ensures tree { IsTree tree.new.nodes }
 {
     match removal {
         Removal::Clearing => {
@@ -187,9 +179,42 @@ fn remove_by<A: Allocator + Copy>(
     }
 }
 
-/// What is taken out with what leaves with it: a value, a property or its name, a comment; and the node
-/// that a [`CstNode`], [`CstContainerNode`] or [`CstLeafNode`] is.
-pub trait Remove: IsNode {
+// Takes a node out of the document, with what leaves with it.
+fn take_out<A: Allocator + Copy, N: IsNode>(
+    doc: &mut CstRootNode<A>,
+    node: N,
+) -> Result<(), EditError>
+    requires { Holds doc.old (N.node_of node) }
+    ensures removed { OnOk result (HasLeft doc.old doc.new (N.node_of node)) }
+    ensures written { (o : Options) → OnOk result (LeavesWritten doc.old doc.new o (N.node_of node)) }
+    ensures around { (o : Options) → OnOk result (LeavesAround doc.old doc.new o (N.node_of node)) }
+    ensures step { OnOk result (IsRemoving (nodes_of doc.old) (nodes_of doc.new) (removal_of (N.node_of node))
+        (number_of (N.node_of node))) }
+    ensures elsewhere { OnOk result (LeavesElsewhere doc.old doc.new (N.node_of node)) }
+    ensures gone { OnOk result (LeavesToNobody doc.new (N.node_of node)) }
+    ensures untouched { IsLoose doc.old (N.node_of node) → IsUntouched doc.old doc.new }
+    ensures stays { StillHolds doc.old doc.new }
+    ensures told { IfErr result (IsKeptIn doc.old (N.node_of node)) }
+    ensures memory { (o : Options) → IfErr result (IsKeptForMemory doc.old o (N.node_of node)) }
+    ensures kept { OnErr result (StaysAsItWas doc.old doc.new) }
+    ensures document { OnErr result (tree_of doc.new ≡ tree_of doc.old) }
+{
+    let node = node.node();
+    remove_by(doc.alloc, &mut doc.tree, removal_of(node), node.number())
+}
+
+// The same, in one word for all kinds.
+fn remove_node<A: Allocator + Copy, N: IsNode>(
+    doc: &mut CstRootNode<A>,
+    node: N,
+) -> Result<(), EditError>
+    requires { Holds doc.old (N.node_of node) }
+    ensures { IsRemoval doc.old doc.new (N.node_of node) result }
+{
+    take_out(doc, node)
+}
+
+impl CstNode {
     /// Takes it out of the document.
     ///
     /// With an element of an array, a property of an object or the document's value leave whitespace
@@ -208,76 +233,175 @@ pub trait Remove: IsNode {
     /// and that has not its brackets, is `MissingBrackets`, which no node of a sound document is told. A
     /// refusal leaves the document as it was. Where
     /// the node is nobody's child, and not the root, no node changes.
-    final fn remove<A: Allocator + Copy>(self, doc: &mut CstRootNode<A>) -> Result<(), EditError>
-        requires { Holds doc.old (Self.node_of self) }
-        ensures removed { OnOk result (HasLeft doc.old doc.new (Self.node_of self)) }
-        ensures written { (o : Options) → OnOk result (LeavesWritten doc.old doc.new o (Self.node_of self)) }
-        ensures around { (o : Options) → OnOk result (LeavesAround doc.old doc.new o (Self.node_of self)) }
-        ensures step { OnOk result (IsRemoving (nodes_of doc.old) (nodes_of doc.new) (removal_of (Self.node_of self))
-            (number_of (Self.node_of self))) }
-        ensures elsewhere { OnOk result (LeavesElsewhere doc.old doc.new (Self.node_of self)) }
-        ensures gone { OnOk result (LeavesToNobody doc.new (Self.node_of self)) }
-        ensures untouched { IsLoose doc.old (Self.node_of self) → IsUntouched doc.old doc.new }
-        ensures stays { StillHolds doc.old doc.new }
-        ensures told { IfErr result (IsKeptIn doc.old (Self.node_of self)) }
-        ensures memory { (o : Options) → IfErr result (IsKeptForMemory doc.old o (Self.node_of self)) }
-        ensures kept { OnErr result (StaysAsItWas doc.old doc.new) }
-        ensures document { OnErr result (tree_of doc.new ≡ tree_of doc.old) }
-        ensures tree { NodesAreTree doc.new }
+    pub fn remove<A: Allocator + Copy>(self, doc: &mut CstRootNode<A>) -> Result<(), EditError>
+        requires { Holds doc.old self }
+        ensures { IsRemoval doc.old doc.new self result }
     {
-        let node = self.node();
-        let removed = remove_by(doc.alloc, &mut doc.tree, removal_of(node), node.number());
-        doc.nodes_are_tree();
-        removed
+        remove_node(doc, self)
     }
 }
 
-/// What leaves alone: a token, whitespace or a newline.
-pub trait RemoveLeaf: IsNode {
+impl CstContainerNode {
+    /// Takes it out of the document, as [`CstNode::remove`] says.
+    pub fn remove<A: Allocator + Copy>(self, doc: &mut CstRootNode<A>) -> Result<(), EditError>
+        requires { Holds doc.old (CstNode.Container self) }
+        ensures { IsRemoval doc.old doc.new (CstNode.Container self) result }
+    {
+        remove_node(doc, self)
+    }
+}
+
+impl CstLeafNode {
+    /// Takes it out of the document, as [`CstNode::remove`] says.
+    pub fn remove<A: Allocator + Copy>(self, doc: &mut CstRootNode<A>) -> Result<(), EditError>
+        requires { Holds doc.old (CstNode.Leaf self) }
+        ensures { IsRemoval doc.old doc.new (CstNode.Leaf self) result }
+    {
+        remove_node(doc, self)
+    }
+}
+
+impl CstArray {
+    /// Takes it out of the document, as [`CstNode::remove`] says.
+    pub fn remove<A: Allocator + Copy>(self, doc: &mut CstRootNode<A>) -> Result<(), EditError>
+        requires { Holds doc.old (array_node self) }
+        ensures { IsRemoval doc.old doc.new (array_node self) result }
+    {
+        remove_node(doc, self)
+    }
+}
+
+impl CstObject {
+    /// Takes it out of the document, as [`CstNode::remove`] says.
+    pub fn remove<A: Allocator + Copy>(self, doc: &mut CstRootNode<A>) -> Result<(), EditError>
+        requires { Holds doc.old (object_node self) }
+        ensures { IsRemoval doc.old doc.new (object_node self) result }
+    {
+        remove_node(doc, self)
+    }
+}
+
+impl CstObjectProp {
+    /// Takes it out of the document, as [`CstNode::remove`] says.
+    pub fn remove<A: Allocator + Copy>(self, doc: &mut CstRootNode<A>) -> Result<(), EditError>
+        requires { Holds doc.old (object_prop_node self) }
+        ensures { IsRemoval doc.old doc.new (object_prop_node self) result }
+    {
+        remove_node(doc, self)
+    }
+}
+
+impl CstBooleanLit {
+    /// Takes it out of the document, as [`CstNode::remove`] says.
+    pub fn remove<A: Allocator + Copy>(self, doc: &mut CstRootNode<A>) -> Result<(), EditError>
+        requires { Holds doc.old (boolean_lit_node self) }
+        ensures { IsRemoval doc.old doc.new (boolean_lit_node self) result }
+    {
+        remove_node(doc, self)
+    }
+}
+
+impl CstNullKeyword {
+    /// Takes it out of the document, as [`CstNode::remove`] says.
+    pub fn remove<A: Allocator + Copy>(self, doc: &mut CstRootNode<A>) -> Result<(), EditError>
+        requires { Holds doc.old (null_keyword_node self) }
+        ensures { IsRemoval doc.old doc.new (null_keyword_node self) result }
+    {
+        remove_node(doc, self)
+    }
+}
+
+impl CstNumberLit {
+    /// Takes it out of the document, as [`CstNode::remove`] says.
+    pub fn remove<A: Allocator + Copy>(self, doc: &mut CstRootNode<A>) -> Result<(), EditError>
+        requires { Holds doc.old (number_lit_node self) }
+        ensures { IsRemoval doc.old doc.new (number_lit_node self) result }
+    {
+        remove_node(doc, self)
+    }
+}
+
+impl CstStringLit {
+    /// Takes it out of the document, as [`CstNode::remove`] says.
+    pub fn remove<A: Allocator + Copy>(self, doc: &mut CstRootNode<A>) -> Result<(), EditError>
+        requires { Holds doc.old (string_lit_node self) }
+        ensures { IsRemoval doc.old doc.new (string_lit_node self) result }
+    {
+        remove_node(doc, self)
+    }
+}
+
+impl CstWordLit {
+    /// Takes it out of the document, as [`CstNode::remove`] says.
+    pub fn remove<A: Allocator + Copy>(self, doc: &mut CstRootNode<A>) -> Result<(), EditError>
+        requires { Holds doc.old (word_lit_node self) }
+        ensures { IsRemoval doc.old doc.new (word_lit_node self) result }
+    {
+        remove_node(doc, self)
+    }
+}
+
+impl CstComment {
+    /// Takes it out of the document, as [`CstNode::remove`] says.
+    pub fn remove<A: Allocator + Copy>(self, doc: &mut CstRootNode<A>) -> Result<(), EditError>
+        requires { Holds doc.old (comment_node self) }
+        ensures { IsRemoval doc.old doc.new (comment_node self) result }
+    {
+        remove_node(doc, self)
+    }
+}
+
+impl ObjectPropName {
+    /// Takes it out of the document, as [`CstNode::remove`] says.
+    pub fn remove<A: Allocator + Copy>(self, doc: &mut CstRootNode<A>) -> Result<(), EditError>
+        requires { Holds doc.old (name_node self) }
+        ensures { IsRemoval doc.old doc.new (name_node self) result }
+    {
+        remove_node(doc, self)
+    }
+}
+
+impl CstToken {
     /// Takes it, and nothing else, out of the document. No memory is wanted, and where it is nobody's
     /// child no node changes.
-    final fn remove<A: Allocator>(self, doc: &mut CstRootNode<A>)
-        requires { Holds doc.old (Self.node_of self) }
-        ensures removed { HasLeftAlone doc.old doc.new (Self.node_of self) }
-        ensures elsewhere { KeepsElsewhere doc.old doc.new (Self.node_of self) }
-        ensures gone { HasGone doc.old doc.new (Self.node_of self) }
-        ensures untouched { parent_of doc.old (Self.node_of self) ≡ None → IsUntouched doc.old doc.new }
+    pub fn remove<A: Allocator>(self, doc: &mut CstRootNode<A>)
+        requires { Holds doc.old (token_node self) }
+        ensures removed { HasLeftAlone doc.old doc.new (token_node self) }
+        ensures elsewhere { KeepsElsewhere doc.old doc.new (token_node self) }
+        ensures gone { HasGone doc.old doc.new (token_node self) }
+        ensures untouched { parent_of doc.old (token_node self) ≡ None → IsUntouched doc.old doc.new }
         ensures stays { StillHolds doc.old doc.new }
-        ensures tree { NodesAreTree doc.new }
     {
         remove_alone(&mut doc.tree, self.node().number());
-        doc.nodes_are_tree();
     }
 }
 
-impl Remove for CstNode {}
+impl CstWhitespace {
+    /// Takes it, and nothing else, out of the document. No memory is wanted, and where it is nobody's
+    /// child no node changes.
+    pub fn remove<A: Allocator>(self, doc: &mut CstRootNode<A>)
+        requires { Holds doc.old (whitespace_node self) }
+        ensures removed { HasLeftAlone doc.old doc.new (whitespace_node self) }
+        ensures elsewhere { KeepsElsewhere doc.old doc.new (whitespace_node self) }
+        ensures gone { HasGone doc.old doc.new (whitespace_node self) }
+        ensures untouched { parent_of doc.old (whitespace_node self) ≡ None → IsUntouched doc.old doc.new }
+        ensures stays { StillHolds doc.old doc.new }
+    {
+        remove_alone(&mut doc.tree, self.node().number());
+    }
+}
 
-impl Remove for CstContainerNode {}
-
-impl Remove for CstLeafNode {}
-
-impl Remove for CstArray {}
-
-impl Remove for CstObject {}
-
-impl Remove for CstObjectProp {}
-
-impl Remove for CstBooleanLit {}
-
-impl Remove for CstNullKeyword {}
-
-impl Remove for CstNumberLit {}
-
-impl Remove for CstStringLit {}
-
-impl Remove for CstWordLit {}
-
-impl Remove for CstComment {}
-
-impl Remove for ObjectPropName {}
-
-impl RemoveLeaf for CstToken {}
-
-impl RemoveLeaf for CstWhitespace {}
-
-impl RemoveLeaf for CstNewline {}
+impl CstNewline {
+    /// Takes it, and nothing else, out of the document. No memory is wanted, and where it is nobody's
+    /// child no node changes.
+    pub fn remove<A: Allocator>(self, doc: &mut CstRootNode<A>)
+        requires { Holds doc.old (newline_node self) }
+        ensures removed { HasLeftAlone doc.old doc.new (newline_node self) }
+        ensures elsewhere { KeepsElsewhere doc.old doc.new (newline_node self) }
+        ensures gone { HasGone doc.old doc.new (newline_node self) }
+        ensures untouched { parent_of doc.old (newline_node self) ≡ None → IsUntouched doc.old doc.new }
+        ensures stays { StillHolds doc.old doc.new }
+    {
+        remove_alone(&mut doc.tree, self.node().number());
+    }
+}

@@ -4,11 +4,12 @@ ghost use Rattle.std.specs.Prelude.{◌≡◌, ◌<◌, IfErr, IfNone, IfOk, IfS
 ghost use Rattle.jsonc_text.specs.Options.{Options};
 ghost use Rattle.jsonc_layout.specs.input.Views.{plain};
 ghost use Rattle.jsonc_tree.specs.OrderedTree.{ordered_tree};
-ghost use Rattle.jsonc_tree.specs.Tree.{parent_at, IsTree};
+ghost use Rattle.jsonc_tree.specs.Tree.{parent_at};
 ghost use Rattle.jsonc_layout.specs.nodes.Properties.{name_at};
 ghost use Rattle.jsonc_edit.specs.Reading.{IsReplaced, IsReplacedRaw};
 ghost use Rattle.jsonc_edit.specs.Written.{Writes};
 ghost use Rattle.jsonc_cst.specs.Document.{nodes_of, parent_of, tree_of, Holds};
+ghost use Rattle.jsonc_cst.specs.typed.Calls.{IsReplacement};
 ghost use Rattle.jsonc_cst.specs.typed.Edits.{is_found, is_name_in, IsReplacedAs};
 ghost use Rattle.jsonc_cst.specs.typed.Edits.{HasGivenWay, HasGone, HasMarked, HasStayedAround, HasWritten, IsUntouched};
 ghost use Rattle.jsonc_cst.specs.typed.Edits.{IsNobodys, KeepsElsewhere, NodesStay, StaysAsItWas, StaysElsewhere};
@@ -17,6 +18,8 @@ ghost use Rattle.jsonc_cst.specs.typed.Around.{StaysAroundValue};
 ghost use Rattle.jsonc_cst.specs.typed.Marked.{IsMarkedFor};
 ghost use Rattle.jsonc_cst.specs.typed.Steps.{IsReplacing, IsValueIn};
 ghost use Rattle.jsonc_cst.specs.Nodes.{number_of, typed_at, IsNodeOf};
+ghost use Rattle.jsonc_cst.specs.Nodes.{array_node, boolean_lit_node, name_node, null_keyword_node, number_lit_node};
+ghost use Rattle.jsonc_cst.specs.Nodes.{object_node, string_lit_node, word_lit_node};
 ghost use Rattle.jsonc_cst.specs.Tree.{NodesAreTree};
 
 use crate::cst::{
@@ -32,7 +35,6 @@ fn is_name_in<A: Allocator>(tree: &Tree<A>, number: usize) -> bool
     requires { number < length tree.now.nodes }
     ensures { result ≡ is_name_in tree.now.nodes number }
 {
-    let _ = tree.len();
     let Some(parent) = tree.parent(number) else {
         return false;
     };
@@ -80,9 +82,7 @@ fn replace_value<A: Allocator + Copy>(
     ensures memory { IfErr result (λ e. e ≡ EditError.OutOfMemory) }
     ensures kept { OnErr result (NodesStay tree.old.nodes tree.new.nodes) }
     ensures document { OnErr result (ordered_tree tree.new.nodes 0 ≡ ordered_tree tree.old.nodes 0) }
-    ensures tree { IsTree tree.new.nodes }
 {
-    let _ = tree.len();
     let Some(new) = jsonc_edit::replace(alloc, tree, number, value)? else {
         return Ok(None);
     };
@@ -108,9 +108,7 @@ fn replace_name<A: Allocator + Copy>(
     ensures memory { IfErr result (λ e. e ≡ EditError.OutOfMemory) }
     ensures kept { OnErr result (NodesStay tree.old.nodes tree.new.nodes) }
     ensures document { OnErr result (ordered_tree tree.new.nodes 0 ≡ ordered_tree tree.old.nodes 0) }
-    ensures tree { IsTree tree.new.nodes }
 {
-    let _ = tree.len();
     let Some(raw) = jsonc_edit::replace_name(alloc, tree, number, value)? else {
         return Ok(None);
     };
@@ -148,9 +146,7 @@ fn replace_node<A: Allocator + Copy>(
     ensures child { OnErr result (¬ (parent_at tree.old.nodes number ≡ None)) }
     ensures kept { OnErr result (NodesStay tree.old.nodes tree.new.nodes) }
     ensures document { OnErr result (ordered_tree tree.new.nodes 0 ≡ ordered_tree tree.old.nodes 0) }
-    ensures tree { IsTree tree.new.nodes }
 {
-    let _ = tree.len();
     let Some(_) = tree.parent(number) else {
         return Ok(None);
     };
@@ -160,8 +156,49 @@ fn replace_node<A: Allocator + Copy>(
     replace_value(alloc, tree, number, value)
 }
 
-/// What a value may stand in the place of: a literal, an array or an object; and the name of a property.
-pub trait ReplaceWith: IsNode {
+// Lets a node give way to a value.
+fn give_way<A: Allocator + Copy, N: IsNode>(
+    doc: &mut CstRootNode<A>,
+    node: N,
+    value: CstInputValue<A>,
+) -> Result<Option<CstNode>, EditError>
+    requires { Holds doc.old (N.node_of node) }
+    ensures replaced { IfOk result (λ o. IfSome o (HasGivenWay doc.old doc.new (N.node_of node) (plain value))) }
+    ensures written { (p : Options)
+        → IfOk result (λ o. IfSome o (HasWritten doc.old doc.new p (N.node_of node) (plain value))) }
+    ensures marked { IfOk result
+        (λ o. IfSome o (λ m. HasMarked doc.old doc.new (N.node_of node) (plain value))) }
+    ensures around { IfOk result
+        (λ o. IfSome o (λ m. HasStayedAround doc.old doc.new (N.node_of node) (plain value))) }
+    ensures step { IfOk result (λ o. IfSome o (λ m. IsValueIn (nodes_of doc.old) (N.node_of node)
+        → IsReplacing (nodes_of doc.old) (nodes_of doc.new) (number_of (N.node_of node)) (plain value))) }
+    ensures elsewhere { IfOk result (λ o. IfSome o (λ m. KeepsElsewhere doc.old doc.new (N.node_of node))) }
+    ensures gone { IfOk result (λ o. IfSome o (λ m. HasGone doc.old doc.new (N.node_of node))) }
+    ensures none { IfOk result (λ o. IfNone o (parent_of doc.old (N.node_of node) ≡ None)) }
+    ensures untouched { IfOk result (λ o. IfNone o (IsUntouched doc.old doc.new)) }
+    ensures held { IfOk result (λ o. IfSome o (Holds doc.new)) }
+    ensures stays { StillHolds doc.old doc.new }
+    ensures memory { IfErr result (λ e. e ≡ EditError.OutOfMemory) }
+    ensures child { OnErr result (¬ (parent_of doc.old (N.node_of node) ≡ None)) }
+    ensures kept { OnErr result (StaysAsItWas doc.old doc.new) }
+    ensures document { OnErr result (tree_of doc.new ≡ tree_of doc.old) }
+{
+    replace_node(doc.alloc, &mut doc.tree, node.node().number(), &value)
+}
+
+// The same, in one word for all kinds.
+fn replace_with<A: Allocator + Copy, N: IsNode>(
+    doc: &mut CstRootNode<A>,
+    node: N,
+    value: CstInputValue<A>,
+) -> Result<Option<CstNode>, EditError>
+    requires { Holds doc.old (N.node_of node) }
+    ensures { IsReplacement doc.old doc.new (N.node_of node) (plain value) result }
+{
+    give_way(doc, node, value)
+}
+
+impl CstArray {
     /// Lets it give way to a value, and answers the node that the value is now.
     ///
     /// The document tells how the value is laid out: the indents are those at the container that the
@@ -175,51 +212,112 @@ pub trait ReplaceWith: IsNode {
     ///
     /// The node is nobody's child then. Where it had no parent before, the answer is None, and the
     /// document is as it was. A refusal leaves the document as it was too.
-    final fn replace_with<A: Allocator + Copy>(
+    pub fn replace_with<A: Allocator + Copy>(
         self,
         doc: &mut CstRootNode<A>,
         value: CstInputValue<A>,
     ) -> Result<Option<CstNode>, EditError>
-        requires { Holds doc.old (Self.node_of self) }
-        ensures replaced { IfOk result (λ o. IfSome o (HasGivenWay doc.old doc.new (Self.node_of self) (plain value))) }
-        ensures written { (p : Options)
-            → IfOk result (λ o. IfSome o (HasWritten doc.old doc.new p (Self.node_of self) (plain value))) }
-        ensures marked { IfOk result
-            (λ o. IfSome o (λ m. HasMarked doc.old doc.new (Self.node_of self) (plain value))) }
-        ensures around { IfOk result
-            (λ o. IfSome o (λ m. HasStayedAround doc.old doc.new (Self.node_of self) (plain value))) }
-        ensures step { IfOk result (λ o. IfSome o (λ m. IsValueIn (nodes_of doc.old) (Self.node_of self)
-            → IsReplacing (nodes_of doc.old) (nodes_of doc.new) (number_of (Self.node_of self)) (plain value))) }
-        ensures elsewhere { IfOk result (λ o. IfSome o (λ m. KeepsElsewhere doc.old doc.new (Self.node_of self))) }
-        ensures gone { IfOk result (λ o. IfSome o (λ m. HasGone doc.old doc.new (Self.node_of self))) }
-        ensures none { IfOk result (λ o. IfNone o (parent_of doc.old (Self.node_of self) ≡ None)) }
-        ensures untouched { IfOk result (λ o. IfNone o (IsUntouched doc.old doc.new)) }
-        ensures held { IfOk result (λ o. IfSome o (Holds doc.new)) }
-        ensures stays { StillHolds doc.old doc.new }
-        ensures memory { IfErr result (λ e. e ≡ EditError.OutOfMemory) }
-        ensures child { OnErr result (¬ (parent_of doc.old (Self.node_of self) ≡ None)) }
-        ensures kept { OnErr result (StaysAsItWas doc.old doc.new) }
-        ensures document { OnErr result (tree_of doc.new ≡ tree_of doc.old) }
-        ensures tree { NodesAreTree doc.new }
+        requires { Holds doc.old (array_node self) }
+        ensures { IsReplacement doc.old doc.new (array_node self) (plain value) result }
     {
-        let replaced = replace_node(doc.alloc, &mut doc.tree, self.node().number(), &value);
-        doc.nodes_are_tree();
-        replaced
+        replace_with(doc, self, value)
     }
 }
 
-impl ReplaceWith for CstArray {}
+impl CstObject {
+    /// Lets it give way to a value, and answers the node that the value is now, as [`CstArray::replace_with`] says.
+    pub fn replace_with<A: Allocator + Copy>(
+        self,
+        doc: &mut CstRootNode<A>,
+        value: CstInputValue<A>,
+    ) -> Result<Option<CstNode>, EditError>
+        requires { Holds doc.old (object_node self) }
+        ensures { IsReplacement doc.old doc.new (object_node self) (plain value) result }
+    {
+        replace_with(doc, self, value)
+    }
+}
 
-impl ReplaceWith for CstObject {}
+impl CstBooleanLit {
+    /// Lets it give way to a value, and answers the node that the value is now, as [`CstArray::replace_with`] says.
+    pub fn replace_with<A: Allocator + Copy>(
+        self,
+        doc: &mut CstRootNode<A>,
+        value: CstInputValue<A>,
+    ) -> Result<Option<CstNode>, EditError>
+        requires { Holds doc.old (boolean_lit_node self) }
+        ensures { IsReplacement doc.old doc.new (boolean_lit_node self) (plain value) result }
+    {
+        replace_with(doc, self, value)
+    }
+}
 
-impl ReplaceWith for CstBooleanLit {}
+impl CstNullKeyword {
+    /// Lets it give way to a value, and answers the node that the value is now, as [`CstArray::replace_with`] says.
+    pub fn replace_with<A: Allocator + Copy>(
+        self,
+        doc: &mut CstRootNode<A>,
+        value: CstInputValue<A>,
+    ) -> Result<Option<CstNode>, EditError>
+        requires { Holds doc.old (null_keyword_node self) }
+        ensures { IsReplacement doc.old doc.new (null_keyword_node self) (plain value) result }
+    {
+        replace_with(doc, self, value)
+    }
+}
 
-impl ReplaceWith for CstNullKeyword {}
+impl CstNumberLit {
+    /// Lets it give way to a value, and answers the node that the value is now, as [`CstArray::replace_with`] says.
+    pub fn replace_with<A: Allocator + Copy>(
+        self,
+        doc: &mut CstRootNode<A>,
+        value: CstInputValue<A>,
+    ) -> Result<Option<CstNode>, EditError>
+        requires { Holds doc.old (number_lit_node self) }
+        ensures { IsReplacement doc.old doc.new (number_lit_node self) (plain value) result }
+    {
+        replace_with(doc, self, value)
+    }
+}
 
-impl ReplaceWith for CstNumberLit {}
+impl CstStringLit {
+    /// Lets it give way to a value, and answers the node that the value is now, as [`CstArray::replace_with`] says.
+    pub fn replace_with<A: Allocator + Copy>(
+        self,
+        doc: &mut CstRootNode<A>,
+        value: CstInputValue<A>,
+    ) -> Result<Option<CstNode>, EditError>
+        requires { Holds doc.old (string_lit_node self) }
+        ensures { IsReplacement doc.old doc.new (string_lit_node self) (plain value) result }
+    {
+        replace_with(doc, self, value)
+    }
+}
 
-impl ReplaceWith for CstStringLit {}
+impl CstWordLit {
+    /// Lets it give way to a value, and answers the node that the value is now, as [`CstArray::replace_with`] says.
+    pub fn replace_with<A: Allocator + Copy>(
+        self,
+        doc: &mut CstRootNode<A>,
+        value: CstInputValue<A>,
+    ) -> Result<Option<CstNode>, EditError>
+        requires { Holds doc.old (word_lit_node self) }
+        ensures { IsReplacement doc.old doc.new (word_lit_node self) (plain value) result }
+    {
+        replace_with(doc, self, value)
+    }
+}
 
-impl ReplaceWith for CstWordLit {}
-
-impl ReplaceWith for ObjectPropName {}
+impl ObjectPropName {
+    /// Lets it give way to a value, and answers the node that the value is now, as [`CstArray::replace_with`] says.
+    pub fn replace_with<A: Allocator + Copy>(
+        self,
+        doc: &mut CstRootNode<A>,
+        value: CstInputValue<A>,
+    ) -> Result<Option<CstNode>, EditError>
+        requires { Holds doc.old (name_node self) }
+        ensures { IsReplacement doc.old doc.new (name_node self) (plain value) result }
+    {
+        replace_with(doc, self, value)
+    }
+}

@@ -5,16 +5,15 @@ ghost use Rattle.jsonc_text.specs.Options.{Options};
 ghost use Rattle.jsonc_layout.specs.input.Views.{plain};
 ghost use Rattle.jsonc_tree.specs.Content.{Content};
 ghost use Rattle.jsonc_tree.specs.OrderedTree.{ordered_tree};
-ghost use Rattle.jsonc_tree.specs.Tree.{content_at, parent_at, IsTree};
+ghost use Rattle.jsonc_tree.specs.Tree.{content_at, parent_at};
 ghost use Rattle.jsonc_layout.specs.nodes.Properties.{value_at};
 ghost use Rattle.jsonc_edit.specs.set.Kinds.{is_array, is_object, LacksKind};
 ghost use Rattle.jsonc_edit.specs.set.Laws.{IsBareDocument};
-ghost use Rattle.jsonc_insert.specs.declared.named.shape.Over.{Over};
-ghost use Rattle.jsonc_insert.specs.declared.named.shape.Shape.{Shape};
+ghost use Rattle.jsonc_text.specs.declared.edit.Over.{Over};
+ghost use Rattle.jsonc_text.specs.declared.edit.Shape.{Shape};
 ghost use Rattle.jsonc_cst.specs.Document.{nodes_of, parent_of, tree_of, Holds};
-ghost use Rattle.jsonc_cst.specs.Nodes.{array_node, number_of, object_node, IsNodeOf};
+ghost use Rattle.jsonc_cst.specs.Nodes.{array_node, number_of, object_node, object_prop_node, IsNodeOf};
 ghost use Rattle.jsonc_cst.specs.Readings.{value_under};
-ghost use Rattle.jsonc_cst.specs.Tree.{NodesAreTree};
 ghost use Rattle.jsonc_cst.specs.typed.Around.{IsLaidProperty};
 ghost use Rattle.jsonc_cst.specs.typed.Edits.{HasGone, IsNobodys, IsUntouched, KeepsElsewhere, StaysElsewhere};
 ghost use Rattle.jsonc_cst.specs.typed.Edits.{NodesStay, StaysAsItWas, StillHolds, StillNodes};
@@ -34,6 +33,7 @@ use crate::cst::{
     CstArray, CstNode, CstObject, CstObjectProp, CstRootNode, EditError, IsNode, node_at,
 };
 use crate::typed::removing::clear;
+use jsonc_edit::Shape;
 use jsonc_layout::input::CstInputValue;
 use jsonc_tree::Tree;
 use std::alloc::Allocator;
@@ -79,9 +79,7 @@ fn set_root<A: Allocator + Copy>(
     ensures memory { IfErr result (λ e. e ≡ EditError.OutOfMemory) }
     ensures kept { OnErr result (NodesStay tree.old.nodes tree.new.nodes) }
     ensures document { OnErr result (ordered_tree tree.new.nodes 0 ≡ ordered_tree tree.old.nodes 0) }
-    ensures tree { IsTree tree.new.nodes }
 {
-    let _ = tree.len();
     let number = jsonc_edit::set::set_root(alloc, tree, value)?;
     Ok(node_at(tree, number))
 }
@@ -103,10 +101,8 @@ fn object_or_create<A: Allocator + Copy>(
     ensures wanted { OnErr result (value_at tree.old.nodes 0 ≡ None) }
     ensures kept { OnErr result (NodesStay tree.old.nodes tree.new.nodes) }
     ensures document { OnErr result (ordered_tree tree.new.nodes 0 ≡ ordered_tree tree.old.nodes 0) }
-    ensures tree { IsTree tree.new.nodes }
 {
-    let _ = tree.len();
-    let Some(number) = jsonc_edit::set::object_value_or_create(alloc, tree)? else {
+    let Some(number) = jsonc_edit::set::root_value_or_create(alloc, tree, Shape::Object)? else {
         return Ok(None);
     };
     Ok(Some(object_at(tree, number)))
@@ -129,10 +125,8 @@ fn array_or_create<A: Allocator + Copy>(
     ensures wanted { OnErr result (value_at tree.old.nodes 0 ≡ None) }
     ensures kept { OnErr result (NodesStay tree.old.nodes tree.new.nodes) }
     ensures document { OnErr result (ordered_tree tree.new.nodes 0 ≡ ordered_tree tree.old.nodes 0) }
-    ensures tree { IsTree tree.new.nodes }
 {
-    let _ = tree.len();
-    let Some(number) = jsonc_edit::set::array_value_or_create(alloc, tree)? else {
+    let Some(number) = jsonc_edit::set::root_value_or_create(alloc, tree, Shape::Array)? else {
         return Ok(None);
     };
     Ok(Some(array_at(tree, number)))
@@ -152,10 +146,8 @@ fn object_or_set<A: Allocator + Copy>(alloc: A, tree: &mut Tree<A>) -> Result<Cs
     ensures wanted { OnErr result (LacksKind is_object tree.old.nodes (value_at tree.old.nodes 0)) }
     ensures kept { OnErr result (NodesStay tree.old.nodes tree.new.nodes) }
     ensures document { OnErr result (ordered_tree tree.new.nodes 0 ≡ ordered_tree tree.old.nodes 0) }
-    ensures tree { IsTree tree.new.nodes }
 {
-    let _ = tree.len();
-    let number = jsonc_edit::set::object_value_or_set(alloc, tree)?;
+    let number = jsonc_edit::set::root_value_or_set(alloc, tree, Shape::Object)?;
     Ok(object_at(tree, number))
 }
 
@@ -173,10 +165,8 @@ fn array_or_set<A: Allocator + Copy>(alloc: A, tree: &mut Tree<A>) -> Result<Cst
     ensures wanted { OnErr result (LacksKind is_array tree.old.nodes (value_at tree.old.nodes 0)) }
     ensures kept { OnErr result (NodesStay tree.old.nodes tree.new.nodes) }
     ensures document { OnErr result (ordered_tree tree.new.nodes 0 ≡ ordered_tree tree.old.nodes 0) }
-    ensures tree { IsTree tree.new.nodes }
 {
-    let _ = tree.len();
-    let number = jsonc_edit::set::array_value_or_set(alloc, tree)?;
+    let number = jsonc_edit::set::root_value_or_set(alloc, tree, Shape::Array)?;
     Ok(array_at(tree, number))
 }
 
@@ -209,9 +199,7 @@ fn replace_property<A: Allocator + Copy>(
     ensures child { OnErr result (¬ (parent_at tree.old.nodes number ≡ None)) }
     ensures kept { OnErr result (NodesStay tree.old.nodes tree.new.nodes) }
     ensures document { OnErr result (ordered_tree tree.new.nodes 0 ≡ ordered_tree tree.old.nodes 0) }
-    ensures tree { IsTree tree.new.nodes }
 {
-    let _ = tree.len();
     let Some(_) = tree.parent(number) else {
         return Ok(None);
     };
@@ -221,48 +209,16 @@ fn replace_property<A: Allocator + Copy>(
     Ok(Some(node_at(tree, new)))
 }
 
-/// The calls that set a document's value.
-pub trait SetRoot {
-    /// The values that it takes: [`CstInputValue`] in the memory of the document.
-    type Value;
-
+impl<A: Allocator + Copy> CstRootNode<A> {
     /// Sets the document's value, and answers the node that it is now.
     ///
-    /// Where a value stands, it gives way to the new one, as by [`crate::typed::ReplaceWith`]. Where none does,
+    /// Where a value stands, it gives way to the new one, as by `replace_with` of a value. Where none does,
     /// the new value is laid out as the document tells and comes before the newline that the document
     /// ends with, if it does, and else behind all. Where a comment stands directly before that place, a
     /// newline comes between them, and where nothing stands behind it, a newline comes behind the value.
     /// If the document is sound, it is sound again, and its value is the new one: one step, the edit that
     /// sets the document's value. A refusal leaves the document as it was.
-    fn set_value(&mut self, value: Self::Value) -> Result<CstNode, EditError>;
-
-    /// Takes all out of the document, which has no value then, and no comments, and is sound: one step, if
-    /// the document was sound. No memory is wanted.
-    fn clear_children(&mut self);
-
-    /// The document's value, if it is an object. Where there is none an empty object is set; where the
-    /// value is another the answer is None, and nothing changes. Of a sound document it is one step. A
-    /// refusal leaves the document as it was.
-    fn object_value_or_create(&mut self) -> Result<Option<CstObject>, EditError>;
-
-    /// The document's value, if it is an object. Where it is another, or there is none, an empty object
-    /// is set. Of a sound document it is one step. A refusal leaves the document as it was.
-    fn object_value_or_set(&mut self) -> Result<CstObject, EditError>;
-
-    /// The document's value, if it is an array. Where there is none an empty array is set; where the
-    /// value is another the answer is None, and nothing changes. Of a sound document it is one step. A
-    /// refusal leaves the document as it was.
-    fn array_value_or_create(&mut self) -> Result<Option<CstArray>, EditError>;
-
-    /// The document's value, if it is an array. Where it is another, or there is none, an empty array is
-    /// set. Of a sound document it is one step. A refusal leaves the document as it was.
-    fn array_value_or_set(&mut self) -> Result<CstArray, EditError>;
-}
-
-impl<A: Allocator + Copy> SetRoot for CstRootNode<A> {
-    type Value = CstInputValue<A>;
-
-    fn set_value(&mut self, value: CstInputValue<A>) -> Result<CstNode, EditError>
+    pub fn set_value(&mut self, value: CstInputValue<A>) -> Result<CstNode, EditError>
         ensures set { IfOk result (RootBecomes (nodes_of self.old) (nodes_of self.new) (plain value)) }
         ensures written { (p : Options)
             → IfOk result (RootIsWritten (nodes_of self.old) (nodes_of self.new) p (plain value)) }
@@ -277,25 +233,25 @@ impl<A: Allocator + Copy> SetRoot for CstRootNode<A> {
         ensures memory { IfErr result (λ e. e ≡ EditError.OutOfMemory) }
         ensures kept { OnErr result (StaysAsItWas self.old self.new) }
         ensures document { OnErr result (tree_of self.new ≡ tree_of self.old) }
-        ensures tree { NodesAreTree self.new }
     {
-        let set = set_root(self.alloc, &mut self.tree, &value);
-        self.nodes_are_tree();
-        set
+        set_root(self.alloc, &mut self.tree, &value)
     }
 
-    fn clear_children(&mut self)
+    /// Takes all out of the document, which has no value then, and no comments, and is sound: one step, if
+    /// the document was sound. No memory is wanted.
+    pub fn clear_children(&mut self)
         ensures cleared { IsCleared (nodes_of self.old) (nodes_of self.new) }
         ensures written { (o : Options) → IsBareDocument o (tree_of self.new) }
         ensures step { IsClearing (nodes_of self.old) (nodes_of self.new) }
         ensures stays { StillHolds self.old self.new }
-        ensures tree { NodesAreTree self.new }
     {
         clear(&mut self.tree);
-        self.nodes_are_tree();
     }
 
-    fn object_value_or_create(&mut self) -> Result<Option<CstObject>, EditError>
+    /// The document's value, if it is an object. Where there is none an empty object is set; where the
+    /// value is another the answer is None, and nothing changes. Of a sound document it is one step. A
+    /// refusal leaves the document as it was.
+    pub fn object_value_or_create(&mut self) -> Result<Option<CstObject>, EditError>
         ensures value { IfOk result (FindsOrCreatesObject (nodes_of self.old) (nodes_of self.new)) }
         ensures written { (p : Options) → OnOk result (FirstObjectWritten (nodes_of self.old) (nodes_of self.new) p) }
         ensures marked { (p : Options) → OnOk result (MarksStay (nodes_of self.old) (nodes_of self.new) p) }
@@ -308,14 +264,13 @@ impl<A: Allocator + Copy> SetRoot for CstRootNode<A> {
         ensures wanted { OnErr result (value_at (nodes_of self.old) 0 ≡ None) }
         ensures kept { OnErr result (StaysAsItWas self.old self.new) }
         ensures document { OnErr result (tree_of self.new ≡ tree_of self.old) }
-        ensures tree { NodesAreTree self.new }
     {
-        let found = object_or_create(self.alloc, &mut self.tree);
-        self.nodes_are_tree();
-        found
+        object_or_create(self.alloc, &mut self.tree)
     }
 
-    fn object_value_or_set(&mut self) -> Result<CstObject, EditError>
+    /// The document's value, if it is an object. Where it is another, or there is none, an empty object
+    /// is set. Of a sound document it is one step. A refusal leaves the document as it was.
+    pub fn object_value_or_set(&mut self) -> Result<CstObject, EditError>
         ensures value { IfOk result (FindsOrSetsObject (nodes_of self.old) (nodes_of self.new)) }
         ensures written { (p : Options) → IfOk result (EmptyObjectWritten (nodes_of self.old) (nodes_of self.new) p) }
         ensures marked { (p : Options) → OnOk result (EmptyObjectMarked (nodes_of self.old) (nodes_of self.new) p) }
@@ -328,14 +283,14 @@ impl<A: Allocator + Copy> SetRoot for CstRootNode<A> {
         ensures wanted { OnErr result (LacksKind is_object (nodes_of self.old) (value_at (nodes_of self.old) 0)) }
         ensures kept { OnErr result (StaysAsItWas self.old self.new) }
         ensures document { OnErr result (tree_of self.new ≡ tree_of self.old) }
-        ensures tree { NodesAreTree self.new }
     {
-        let found = object_or_set(self.alloc, &mut self.tree);
-        self.nodes_are_tree();
-        found
+        object_or_set(self.alloc, &mut self.tree)
     }
 
-    fn array_value_or_create(&mut self) -> Result<Option<CstArray>, EditError>
+    /// The document's value, if it is an array. Where there is none an empty array is set; where the
+    /// value is another the answer is None, and nothing changes. Of a sound document it is one step. A
+    /// refusal leaves the document as it was.
+    pub fn array_value_or_create(&mut self) -> Result<Option<CstArray>, EditError>
         ensures value { IfOk result (FindsOrCreatesArray (nodes_of self.old) (nodes_of self.new)) }
         ensures written { (p : Options) → OnOk result (FirstArrayWritten (nodes_of self.old) (nodes_of self.new) p) }
         ensures marked { (p : Options) → OnOk result (MarksStay (nodes_of self.old) (nodes_of self.new) p) }
@@ -348,14 +303,13 @@ impl<A: Allocator + Copy> SetRoot for CstRootNode<A> {
         ensures wanted { OnErr result (value_at (nodes_of self.old) 0 ≡ None) }
         ensures kept { OnErr result (StaysAsItWas self.old self.new) }
         ensures document { OnErr result (tree_of self.new ≡ tree_of self.old) }
-        ensures tree { NodesAreTree self.new }
     {
-        let found = array_or_create(self.alloc, &mut self.tree);
-        self.nodes_are_tree();
-        found
+        array_or_create(self.alloc, &mut self.tree)
     }
 
-    fn array_value_or_set(&mut self) -> Result<CstArray, EditError>
+    /// The document's value, if it is an array. Where it is another, or there is none, an empty array is
+    /// set. Of a sound document it is one step. A refusal leaves the document as it was.
+    pub fn array_value_or_set(&mut self) -> Result<CstArray, EditError>
         ensures value { IfOk result (FindsOrSetsArray (nodes_of self.old) (nodes_of self.new)) }
         ensures written { (p : Options) → IfOk result (EmptyArrayWritten (nodes_of self.old) (nodes_of self.new) p) }
         ensures marked { (p : Options) → OnOk result (EmptyArrayMarked (nodes_of self.old) (nodes_of self.new) p) }
@@ -368,63 +322,48 @@ impl<A: Allocator + Copy> SetRoot for CstRootNode<A> {
         ensures wanted { OnErr result (LacksKind is_array (nodes_of self.old) (value_at (nodes_of self.old) 0)) }
         ensures kept { OnErr result (StaysAsItWas self.old self.new) }
         ensures document { OnErr result (tree_of self.new ≡ tree_of self.old) }
-        ensures tree { NodesAreTree self.new }
     {
-        let found = array_or_set(self.alloc, &mut self.tree);
-        self.nodes_are_tree();
-        found
+        array_or_set(self.alloc, &mut self.tree)
     }
 }
 
-/// A property, which may give way to one of another name and value.
-pub trait ReplaceProperty: IsNode {
+impl CstObjectProp {
     /// Lets it give way to a new property of a name and a value, and answers that.
     ///
-    /// The document tells how it is laid out, as for [`crate::typed::ReplaceWith`]. Where the value is a literal
+    /// The document tells how it is laid out, as for `replace_with` of a value. Where the value is a literal
     /// without quotes that would come to stand directly before another, a space comes between them. If the
     /// document is sound, it is sound again, and its value is the old one but for that entry: if the property
     /// stands in it, the call is one step, the edit that replaces the property at its path. The old
     /// property is nobody's child then. Where it had no parent before, the answer is None, and the
     /// document is as it was. A refusal leaves the document as it was too.
-    fn replace_with<A: Allocator + Copy>(
+    pub fn replace_with<A: Allocator + Copy>(
         self,
         doc: &mut CstRootNode<A>,
         name: &str,
         value: CstInputValue<A>,
     ) -> Result<Option<CstNode>, EditError>
-        requires { Holds doc.old (Self.node_of self) }
+        requires { Holds doc.old (object_prop_node self) }
         ensures replaced { IfOk result
-            (λ o. IfSome o (HasBecomeProperty doc.old doc.new (Self.node_of self) (chars name.now) (plain value))) }
+            (λ o. IfSome o (HasBecomeProperty doc.old doc.new (object_prop_node self) (chars name.now) (plain value))) }
         ensures written { (p : Options)
             → IfOk result (λ o. IfSome o
-            (HasWrittenProperty doc.old doc.new p (Self.node_of self) (chars name.now) (plain value))) }
+            (HasWrittenProperty doc.old doc.new p (object_prop_node self) (chars name.now) (plain value))) }
         ensures laid { IfOk result
-            (λ o. IfSome o (IsLaidAsProperty doc.old doc.new (Self.node_of self) (chars name.now) (plain value))) }
+            (λ o. IfSome o (IsLaidAsProperty doc.old doc.new (object_prop_node self) (chars name.now) (plain value))) }
         ensures step { IfOk result (λ o. IfSome o (λ m. IsReplacingProperty (nodes_of doc.old) (nodes_of doc.new)
-            (number_of (Self.node_of self)) (chars name.now) (plain value))) }
-        ensures elsewhere { IfOk result (λ o. IfSome o (λ m. KeepsElsewhere doc.old doc.new (Self.node_of self))) }
-        ensures gone { IfOk result (λ o. IfSome o (λ m. HasGone doc.old doc.new (Self.node_of self))) }
-        ensures none { IfOk result (λ o. IfNone o (parent_of doc.old (Self.node_of self) ≡ None)) }
+            (number_of (object_prop_node self)) (chars name.now) (plain value))) }
+        ensures elsewhere { IfOk result (λ o. IfSome o (λ m. KeepsElsewhere doc.old doc.new (object_prop_node self))) }
+        ensures gone { IfOk result (λ o. IfSome o (λ m. HasGone doc.old doc.new (object_prop_node self))) }
+        ensures none { IfOk result (λ o. IfNone o (parent_of doc.old (object_prop_node self) ≡ None)) }
         ensures untouched { IfOk result (λ o. IfNone o (IsUntouched doc.old doc.new)) }
         ensures held { IfOk result (λ o. IfSome o (Holds doc.new)) }
         ensures stays { StillHolds doc.old doc.new }
         ensures memory { IfErr result (λ e. e ≡ EditError.OutOfMemory) }
-        ensures child { OnErr result (¬ (parent_of doc.old (Self.node_of self) ≡ None)) }
+        ensures child { OnErr result (¬ (parent_of doc.old (object_prop_node self) ≡ None)) }
         ensures kept { OnErr result (StaysAsItWas doc.old doc.new) }
         ensures document { OnErr result (tree_of doc.new ≡ tree_of doc.old) }
-        ensures tree { NodesAreTree doc.new };
-}
-
-impl ReplaceProperty for CstObjectProp {
-    fn replace_with<A: Allocator + Copy>(
-        self,
-        doc: &mut CstRootNode<A>,
-        name: &str,
-        value: CstInputValue<A>,
-    ) -> Result<Option<CstNode>, EditError> {
+    {
         let number = self.node().number();
-        let replaced = replace_property(doc.alloc, &mut doc.tree, number, name, &value);
-        doc.nodes_are_tree();
-        replaced
+        replace_property(doc.alloc, &mut doc.tree, number, name, &value)
     }
 }

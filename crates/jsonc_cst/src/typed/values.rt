@@ -5,16 +5,15 @@ ghost use Rattle.jsonc_text.specs.Options.{Options};
 ghost use Rattle.jsonc_layout.specs.input.Views.{plain};
 ghost use Rattle.jsonc_tree.specs.Content.{Content};
 ghost use Rattle.jsonc_tree.specs.OrderedTree.{ordered_tree};
-ghost use Rattle.jsonc_tree.specs.Tree.{content_at, IsTree};
+ghost use Rattle.jsonc_tree.specs.Tree.{content_at};
 ghost use Rattle.jsonc_edit.specs.set.Booleans.{is_boolean, BooleanSet, WantsSpaceFor};
 ghost use Rattle.jsonc_edit.specs.set.Kinds.{is_array, is_object};
 ghost use Rattle.jsonc_layout.specs.nodes.Properties.{lacks_name_at};
 ghost use Rattle.jsonc_edit.specs.set.PropertyValues.{IsUnset};
-ghost use Rattle.jsonc_insert.specs.declared.named.shape.Shape.{Shape};
+ghost use Rattle.jsonc_text.specs.declared.edit.Shape.{Shape};
 ghost use Rattle.jsonc_cst.specs.Document.{nodes_of, tree_of, Holds};
 ghost use Rattle.jsonc_cst.specs.Nodes.{array_node, boolean_lit_node, number_of, object_node};
 ghost use Rattle.jsonc_cst.specs.Nodes.{object_prop_node, IsNodeOf};
-ghost use Rattle.jsonc_cst.specs.Tree.{NodesAreTree};
 ghost use Rattle.jsonc_cst.specs.typed.Edits.{KeepsElsewhere, StaysElsewhere, StillHolds, StillNodes};
 ghost use Rattle.jsonc_cst.specs.typed.Edits.{NodesStay, StaysAsItWas};
 ghost use Rattle.jsonc_cst.specs.typed.Removing.{IsKeptForMemory, WantsMemoryAlone};
@@ -31,6 +30,7 @@ use crate::cst::{
     node_at,
 };
 use crate::typed::setting::{array_at, object_at};
+use jsonc_edit::Shape;
 use jsonc_layout::input::CstInputValue;
 use jsonc_tree::Tree;
 use std::alloc::Allocator;
@@ -77,9 +77,7 @@ fn set_property_value<A: Allocator + Copy>(
     ensures memory { IfErr result (λ e. e ≡ EditError.OutOfMemory) }
     ensures kept { OnErr result (NodesStay tree.old.nodes tree.new.nodes) }
     ensures document { OnErr result (ordered_tree tree.new.nodes 0 ≡ ordered_tree tree.old.nodes 0) }
-    ensures tree { IsTree tree.new.nodes }
 {
-    let _ = tree.len();
     let number = jsonc_edit::set::set_property_value(alloc, tree, property, value)?;
     Ok(node_at(tree, number))
 }
@@ -106,10 +104,8 @@ fn property_object_or_set<A: Allocator + Copy>(
     ensures memory { (o : Options) → IfErr result (WantsMemoryAlone o tree.old.nodes property) }
     ensures kept { OnErr result (NodesStay tree.old.nodes tree.new.nodes) }
     ensures document { OnErr result (ordered_tree tree.new.nodes 0 ≡ ordered_tree tree.old.nodes 0) }
-    ensures tree { IsTree tree.new.nodes }
 {
-    let _ = tree.len();
-    let number = jsonc_edit::set::property_object_or_set(alloc, tree, property)?;
+    let number = jsonc_edit::set::property_value_or_set(alloc, tree, property, Shape::Object)?;
     Ok(object_at(tree, number))
 }
 
@@ -135,10 +131,8 @@ fn property_array_or_set<A: Allocator + Copy>(
     ensures memory { (o : Options) → IfErr result (WantsMemoryAlone o tree.old.nodes property) }
     ensures kept { OnErr result (NodesStay tree.old.nodes tree.new.nodes) }
     ensures document { OnErr result (ordered_tree tree.new.nodes 0 ≡ ordered_tree tree.old.nodes 0) }
-    ensures tree { IsTree tree.new.nodes }
 {
-    let _ = tree.len();
-    let number = jsonc_edit::set::property_array_or_set(alloc, tree, property)?;
+    let number = jsonc_edit::set::property_value_or_set(alloc, tree, property, Shape::Array)?;
     Ok(array_at(tree, number))
 }
 
@@ -160,139 +154,111 @@ fn set_boolean<A: Allocator + Copy>(
     ensures wanted { OnErr result (WantsSpaceFor tree.old.nodes boolean.number value) }
     ensures kept { OnErr result (NodesStay tree.old.nodes tree.new.nodes) }
     ensures document { OnErr result (ordered_tree tree.new.nodes 0 ≡ ordered_tree tree.old.nodes 0) }
-    ensures tree { IsTree tree.new.nodes }
 {
-    let _ = tree.len();
     let number = boolean_number(tree, boolean);
     jsonc_edit::set::set_boolean(alloc, tree, number, value)
 }
 
-/// A property, whose value may be set.
-pub trait SetProperty: IsNode {
+impl CstObjectProp {
     /// Sets its value, and answers the new value's node.
     ///
-    /// The old value gives way to the new one, as by [`crate::typed::ReplaceWith`], and is nobody's child then. If
+    /// The old value gives way to the new one, as by `replace_with` of a value, and is nobody's child then. If
     /// the document is sound, it is sound again, and its value is the old one but for that entry: if the
     /// property stands in it, the call is one step, the edit that sets the value at its path. Where
     /// there was no value, which is so only after edits of single leaves, the new one is laid out as the
     /// document tells and comes behind all that the property holds. A refusal leaves the document as it
     /// was.
-    fn set_value<A: Allocator + Copy>(
+    pub fn set_value<A: Allocator + Copy>(
         self,
         doc: &mut CstRootNode<A>,
         value: CstInputValue<A>,
     ) -> Result<CstNode, EditError>
-        requires { Holds doc.old (Self.node_of self) }
-        ensures set { IfOk result (NowHolds doc.old doc.new (Self.node_of self) (plain value)) }
+        requires { Holds doc.old (object_prop_node self) }
+        ensures set { IfOk result (NowHolds doc.old doc.new (object_prop_node self) (plain value)) }
         ensures written { (p : Options)
-            → IfOk result (HasWrittenValue doc.old doc.new p (Self.node_of self) (plain value)) }
-        ensures marked { OnOk result (HasMarkedValue doc.old doc.new (Self.node_of self) (plain value)) }
-        ensures around { OnOk result (HasStayedAroundValue doc.old doc.new (Self.node_of self) (plain value)) }
-        ensures step { OnOk result (IsSettingValue (nodes_of doc.old) (nodes_of doc.new) (number_of (Self.node_of self))
+            → IfOk result (HasWrittenValue doc.old doc.new p (object_prop_node self) (plain value)) }
+        ensures marked { OnOk result (HasMarkedValue doc.old doc.new (object_prop_node self) (plain value)) }
+        ensures around { OnOk result (HasStayedAroundValue doc.old doc.new (object_prop_node self) (plain value)) }
+        ensures step { OnOk result (IsSettingValue (nodes_of doc.old) (nodes_of doc.new) (number_of (object_prop_node self))
             (plain value)) }
-        ensures elsewhere { OnOk result (KeepsElsewhere doc.old doc.new (Self.node_of self)) }
-        ensures child { IfOk result (IsChildOf doc.new (Self.node_of self)) }
+        ensures elsewhere { OnOk result (KeepsElsewhere doc.old doc.new (object_prop_node self)) }
+        ensures child { IfOk result (IsChildOf doc.new (object_prop_node self)) }
         ensures held { IfOk result (Holds doc.new) }
         ensures stays { StillHolds doc.old doc.new }
         ensures memory { IfErr result (λ e. e ≡ EditError.OutOfMemory) }
         ensures kept { OnErr result (StaysAsItWas doc.old doc.new) }
         ensures document { OnErr result (tree_of doc.new ≡ tree_of doc.old) }
-        ensures tree { NodesAreTree doc.new };
+    {
+        let number = property_number(&doc.tree, self);
+        set_property_value(doc.alloc, &mut doc.tree, number, &value)
+    }
 
     /// Its value, if it is an object. Where it is another, or there is none, an empty object is set, as by
-    /// [`SetProperty::set_value`]. Of a property that stands in a sound document it is one step.
+    /// [`CstObjectProp::set_value`]. Of a property that stands in a sound document it is one step.
     ///
     /// Where the property has no name or no colon, which is so only after edits of single leaves, the
     /// answer is `MissingName`, and never for a property of a sound document. A refusal leaves the
     /// document as it was.
-    fn object_value_or_set<A: Allocator + Copy>(
+    pub fn object_value_or_set<A: Allocator + Copy>(
         self,
         doc: &mut CstRootNode<A>,
     ) -> Result<CstObject, EditError>
-        requires { Holds doc.old (Self.node_of self) }
-        ensures value { IfOk result (NowHoldsObject doc.old doc.new (Self.node_of self)) }
-        ensures written { (p : Options) → IfOk result (HasWrittenObject doc.old doc.new p (Self.node_of self)) }
-        ensures marked { OnOk result (HasMarkedObject doc.old doc.new (Self.node_of self)) }
-        ensures step { OnOk result (IsEnsuringValue (nodes_of doc.old) (nodes_of doc.new) (number_of (Self.node_of self))
+        requires { Holds doc.old (object_prop_node self) }
+        ensures value { IfOk result (NowHoldsObject doc.old doc.new (object_prop_node self)) }
+        ensures written { (p : Options) → IfOk result (HasWrittenObject doc.old doc.new p (object_prop_node self)) }
+        ensures marked { OnOk result (HasMarkedObject doc.old doc.new (object_prop_node self)) }
+        ensures step { OnOk result (IsEnsuringValue (nodes_of doc.old) (nodes_of doc.new) (number_of (object_prop_node self))
             Shape.Object) }
-        ensures elsewhere { OnOk result (KeepsElsewhere doc.old doc.new (Self.node_of self)) }
-        ensures named { OnOk result (lacks_name_at (nodes_of doc.old) (number_of (Self.node_of self)) ≡ false) }
-        ensures child { IfOk result (λ x. IsChildOf doc.new (Self.node_of self) (object_node x)) }
+        ensures elsewhere { OnOk result (KeepsElsewhere doc.old doc.new (object_prop_node self)) }
+        ensures named { OnOk result (lacks_name_at (nodes_of doc.old) (number_of (object_prop_node self)) ≡ false) }
+        ensures child { IfOk result (λ x. IsChildOf doc.new (object_prop_node self) (object_node x)) }
         ensures held { IfOk result (λ x. Holds doc.new (object_node x)) }
         ensures stays { StillHolds doc.old doc.new }
-        ensures told { IfErr result (IsUnset is_object (nodes_of doc.old) (number_of (Self.node_of self))) }
-        ensures missing { IfErr result (λ e. lacks_name_at (nodes_of doc.old) (number_of (Self.node_of self)) ≡ true
+        ensures told { IfErr result (IsUnset is_object (nodes_of doc.old) (number_of (object_prop_node self))) }
+        ensures missing { IfErr result (λ e. lacks_name_at (nodes_of doc.old) (number_of (object_prop_node self)) ≡ true
             → e ≡ EditError.MissingName) }
-        ensures memory { (o : Options) → IfErr result (IsKeptForMemory doc.old o (Self.node_of self)) }
+        ensures memory { (o : Options) → IfErr result (IsKeptForMemory doc.old o (object_prop_node self)) }
         ensures kept { OnErr result (StaysAsItWas doc.old doc.new) }
         ensures document { OnErr result (tree_of doc.new ≡ tree_of doc.old) }
-        ensures tree { NodesAreTree doc.new };
+    {
+        let number = property_number(&doc.tree, self);
+        property_object_or_set(doc.alloc, &mut doc.tree, number)
+    }
 
     /// Its value, if it is an array. Where it is another, or there is none, an empty array is set, as by
-    /// [`SetProperty::set_value`]. Of a property that stands in a sound document it is one step.
+    /// [`CstObjectProp::set_value`]. Of a property that stands in a sound document it is one step.
     ///
     /// Where the property has no name or no colon, which is so only after edits of single leaves, the
     /// answer is `MissingName`, and never for a property of a sound document. A refusal leaves the
     /// document as it was.
-    fn array_value_or_set<A: Allocator + Copy>(
+    pub fn array_value_or_set<A: Allocator + Copy>(
         self,
         doc: &mut CstRootNode<A>,
     ) -> Result<CstArray, EditError>
-        requires { Holds doc.old (Self.node_of self) }
-        ensures value { IfOk result (NowHoldsArray doc.old doc.new (Self.node_of self)) }
-        ensures written { (p : Options) → IfOk result (HasWrittenArray doc.old doc.new p (Self.node_of self)) }
-        ensures marked { OnOk result (HasMarkedArray doc.old doc.new (Self.node_of self)) }
-        ensures step { OnOk result (IsEnsuringValue (nodes_of doc.old) (nodes_of doc.new) (number_of (Self.node_of self))
+        requires { Holds doc.old (object_prop_node self) }
+        ensures value { IfOk result (NowHoldsArray doc.old doc.new (object_prop_node self)) }
+        ensures written { (p : Options) → IfOk result (HasWrittenArray doc.old doc.new p (object_prop_node self)) }
+        ensures marked { OnOk result (HasMarkedArray doc.old doc.new (object_prop_node self)) }
+        ensures step { OnOk result (IsEnsuringValue (nodes_of doc.old) (nodes_of doc.new) (number_of (object_prop_node self))
             Shape.Array) }
-        ensures elsewhere { OnOk result (KeepsElsewhere doc.old doc.new (Self.node_of self)) }
-        ensures named { OnOk result (lacks_name_at (nodes_of doc.old) (number_of (Self.node_of self)) ≡ false) }
-        ensures child { IfOk result (λ x. IsChildOf doc.new (Self.node_of self) (array_node x)) }
+        ensures elsewhere { OnOk result (KeepsElsewhere doc.old doc.new (object_prop_node self)) }
+        ensures named { OnOk result (lacks_name_at (nodes_of doc.old) (number_of (object_prop_node self)) ≡ false) }
+        ensures child { IfOk result (λ x. IsChildOf doc.new (object_prop_node self) (array_node x)) }
         ensures held { IfOk result (λ x. Holds doc.new (array_node x)) }
         ensures stays { StillHolds doc.old doc.new }
-        ensures told { IfErr result (IsUnset is_array (nodes_of doc.old) (number_of (Self.node_of self))) }
-        ensures missing { IfErr result (λ e. lacks_name_at (nodes_of doc.old) (number_of (Self.node_of self)) ≡ true
+        ensures told { IfErr result (IsUnset is_array (nodes_of doc.old) (number_of (object_prop_node self))) }
+        ensures missing { IfErr result (λ e. lacks_name_at (nodes_of doc.old) (number_of (object_prop_node self)) ≡ true
             → e ≡ EditError.MissingName) }
-        ensures memory { (o : Options) → IfErr result (IsKeptForMemory doc.old o (Self.node_of self)) }
+        ensures memory { (o : Options) → IfErr result (IsKeptForMemory doc.old o (object_prop_node self)) }
         ensures kept { OnErr result (StaysAsItWas doc.old doc.new) }
         ensures document { OnErr result (tree_of doc.new ≡ tree_of doc.old) }
-        ensures tree { NodesAreTree doc.new };
-}
-
-impl SetProperty for CstObjectProp {
-    fn set_value<A: Allocator + Copy>(
-        self,
-        doc: &mut CstRootNode<A>,
-        value: CstInputValue<A>,
-    ) -> Result<CstNode, EditError> {
+    {
         let number = property_number(&doc.tree, self);
-        let set = set_property_value(doc.alloc, &mut doc.tree, number, &value);
-        doc.nodes_are_tree();
-        set
-    }
-
-    fn object_value_or_set<A: Allocator + Copy>(
-        self,
-        doc: &mut CstRootNode<A>,
-    ) -> Result<CstObject, EditError> {
-        let number = property_number(&doc.tree, self);
-        let found = property_object_or_set(doc.alloc, &mut doc.tree, number);
-        doc.nodes_are_tree();
-        found
-    }
-
-    fn array_value_or_set<A: Allocator + Copy>(
-        self,
-        doc: &mut CstRootNode<A>,
-    ) -> Result<CstArray, EditError> {
-        let number = property_number(&doc.tree, self);
-        let found = property_array_or_set(doc.alloc, &mut doc.tree, number);
-        doc.nodes_are_tree();
-        found
+        property_array_or_set(doc.alloc, &mut doc.tree, number)
     }
 }
 
-/// A truth value, which may become the other.
-pub trait SetBoolean: IsNode {
+impl CstBooleanLit {
     /// Sets which truth value it is, in its place.
     ///
     /// Where `false` would come to stand directly behind a hexadecimal number, whose digits would read on
@@ -300,33 +266,23 @@ pub trait SetBoolean: IsNode {
     /// wanted, and a refusal leaves the document as it was. If the document is sound, and the node a value
     /// in it, the document is sound again, and its value is the old one with this truth value at the
     /// node's path: one step, the edit that sets it there.
-    fn set_value<A: Allocator + Copy>(
+    pub fn set_value<A: Allocator + Copy>(
         self,
         doc: &mut CstRootNode<A>,
         value: bool,
     ) -> Result<(), EditError>
-        requires { Holds doc.old (Self.node_of self) }
-        ensures set { OnOk result (HasSetBoolean doc.old doc.new (Self.node_of self) value) }
-        ensures written { (p : Options) → OnOk result (HasWrittenBoolean doc.old doc.new p (Self.node_of self) value) }
+        requires { Holds doc.old (boolean_lit_node self) }
+        ensures set { OnOk result (HasSetBoolean doc.old doc.new (boolean_lit_node self) value) }
+        ensures written { (p : Options) → OnOk result (HasWrittenBoolean doc.old doc.new p (boolean_lit_node self) value) }
         ensures step { OnOk result (IsSettingBoolean (nodes_of doc.old) (nodes_of doc.new)
-            (number_of (Self.node_of self)) value) }
-        ensures elsewhere { OnOk result (KeepsElsewhere doc.old doc.new (Self.node_of self)) }
+            (number_of (boolean_lit_node self)) value) }
+        ensures elsewhere { OnOk result (KeepsElsewhere doc.old doc.new (boolean_lit_node self)) }
         ensures stays { StillHolds doc.old doc.new }
         ensures memory { IfErr result (λ e. e ≡ EditError.OutOfMemory) }
-        ensures wanted { OnErr result (WantsSpaceFor (nodes_of doc.old) (number_of (Self.node_of self)) value) }
+        ensures wanted { OnErr result (WantsSpaceFor (nodes_of doc.old) (number_of (boolean_lit_node self)) value) }
         ensures kept { OnErr result (StaysAsItWas doc.old doc.new) }
         ensures document { OnErr result (tree_of doc.new ≡ tree_of doc.old) }
-        ensures tree { NodesAreTree doc.new };
-}
-
-impl SetBoolean for CstBooleanLit {
-    fn set_value<A: Allocator + Copy>(
-        self,
-        doc: &mut CstRootNode<A>,
-        value: bool,
-    ) -> Result<(), EditError> {
-        let set = set_boolean(doc.alloc, &mut doc.tree, self, value);
-        doc.nodes_are_tree();
-        set
+    {
+        set_boolean(doc.alloc, &mut doc.tree, self, value)
     }
 }

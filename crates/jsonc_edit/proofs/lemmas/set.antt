@@ -13,3 +13,4 @@ pub mod WrittenBoolean
 pub mod PropertyValue
 pub mod ComingLast
 pub mod PropertyKinds
+pub mod Shaped

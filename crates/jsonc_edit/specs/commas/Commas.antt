@@ -8,8 +8,8 @@ use Rattle.jsonc_tree.specs.Siblings.{TakesOut}
 use Rattle.jsonc_tree.specs.Tree.{Node, children_at, place_at, IsTree}
 use Rattle.jsonc_layout.specs.nodes.Kinds.{is_element_at, is_newline_at}
 use Rattle.jsonc_layout.specs.lines.Siblings.{trailing_comma_at}
-use Rattle.jsonc_edit.specs.declared.modes.TrailingCommaMode.{TrailingCommaMode}
-use Rattle.jsonc_edit.specs.declared.modes.TrailingCommaMode.TheVariants.{Never, IfMultiline}
+use Rattle.jsonc_text.specs.declared.edit.TrailingCommaMode.{TrailingCommaMode}
+use Rattle.jsonc_text.specs.declared.edit.TrailingCommaMode.TheVariants.{Never, IfMultiline}
 
 -- the last child that is neither trivia nor a token
 abbrev pub last_element : List Node → ℕ → Option ℕ

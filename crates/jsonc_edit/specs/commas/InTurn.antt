@@ -6,7 +6,7 @@ use Rattle.jsonc_tree.specs.Order.{in_order, rest_at, upward}
 use Rattle.jsonc_layout.specs.nodes.Kinds.{is_property}
 use Rattle.jsonc_layout.specs.nodes.Properties.{value_at}
 use Rattle.jsonc_layout.specs.lines.Kinds.{holds_values}
-use Rattle.jsonc_edit.specs.declared.modes.TrailingCommaMode.{TrailingCommaMode}
+use Rattle.jsonc_text.specs.declared.edit.TrailingCommaMode.{TrailingCommaMode}
 use Rattle.jsonc_edit.specs.commas.Commas.{comma_wanted_behind, CommaIsSet, WantsComma}
 
 -- the node is an array or an object

@@ -4,10 +4,9 @@ use Rattle.std.specs.List.{flat_map, onto_first, prefix_len, suffix_len}
 use Rattle.jsonc_tree.specs.Content.{newline, whitespace}
 use Rattle.jsonc_tree.specs.Tree.{Node, children_at, content_at}
 use Rattle.jsonc_tree.specs.declared.node.CstNewlineKind.{CstNewlineKind}
-use Rattle.jsonc_layout.specs.nodes.Kinds.{is_whitespace_at}
+use Rattle.jsonc_layout.specs.nodes.Kinds.{is_comma_at, is_whitespace_at}
 use Rattle.jsonc_layout.specs.lines.Breadth.{newline_kind_at}
 use Rattle.jsonc_layout.specs.lines.Indents.{indents_at}
-use Rattle.jsonc_layout.specs.lines.Kinds.{is_comma}
 use Rattle.jsonc_edit.specs.multiline.Slots.{Slot, stays, comes}
 
 -- how lines end, the indent of what stands in the container, and that of its last bracket
@@ -19,9 +18,6 @@ pub record Lines : Type 0 where
 -- as the document tells for a container
 abbrev pub lines_for : List Node → ℕ → Lines
 lines_for ns c = record { newline = newline_kind_at ns c; inner = (indents_at ns c).current ++ (indents_at ns c).single; outer = (indents_at ns c).current }
-
-abbrev pub is_comma_at : List Node → ℕ → Bool
-is_comma_at ns n = is_comma (content_at ns n)
 
 -- the parts of a row, each through its comma, and what is behind the last comma
 abbrev pub parts : List Node → List ℕ → List (List ℕ)

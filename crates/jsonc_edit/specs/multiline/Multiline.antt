@@ -5,8 +5,8 @@ use Rattle.jsonc_tree.specs.Changes.{CanJoin, Splices}
 use Rattle.jsonc_tree.specs.Tree.{Node, children_at, IsTree}
 use Rattle.jsonc_layout.specs.nodes.Kinds.{is_newline_at}
 use Rattle.jsonc_edit.specs.Put.{Prepared}
-use Rattle.jsonc_edit.specs.declared.error.EditError.{EditError}
-use Rattle.jsonc_edit.specs.declared.error.EditError.TheVariants.{OutOfMemory, MissingBrackets, MissingName, NoSuchPlace}
+use Rattle.jsonc_text.specs.declared.edit.EditError.{EditError}
+use Rattle.jsonc_text.specs.declared.edit.EditError.TheVariants.{OutOfMemory, MissingBrackets, MissingName, NoSuchPlace}
 use Rattle.jsonc_edit.specs.remove.Removed.{has_brackets}
 use Rattle.jsonc_edit.specs.multiline.Slots.{Slot, AreFilled}
 use Rattle.jsonc_edit.specs.multiline.Lines.{lines_for, spread_row}

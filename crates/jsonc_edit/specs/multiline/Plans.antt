@@ -3,9 +3,9 @@ use Rattle.std.specs.Prelude.{◌≡◌, ◌<◌, ◌≤◌, ◌+◌, ◌-◌, �
 use Rattle.jsonc_tree.specs.Building.{Keeps}
 use Rattle.jsonc_tree.specs.Changes.{EachOnce}
 use Rattle.jsonc_tree.specs.Tree.{Node, children_at, parent_at, place_at, IsTree}
-use Rattle.jsonc_layout.specs.nodes.Kinds.{is_whitespace_at}
+use Rattle.jsonc_layout.specs.nodes.Kinds.{is_whitespace_at, is_comma_at}
 use Rattle.jsonc_edit.specs.multiline.Slots.{Slot, stays, AreFilled}
-use Rattle.jsonc_edit.specs.multiline.Lines.{Lines, is_comma_at, new_line, spread_row}
+use Rattle.jsonc_edit.specs.multiline.Lines.{Lines, new_line, spread_row}
 
 -- a child of c between its first and this place, or a node made since
 abbrev pub IsFrom : List Node → List Node → ℕ → ℕ → ℕ → Type 0

@@ -20,7 +20,7 @@ use Rattle.jsonc_edit.specs.Comments.{WantsSpace}
 use Rattle.jsonc_edit.specs.Paths.{IsAt, IsElementOf}
 use Rattle.jsonc_edit.specs.Spaced.{SpacesPut}
 use Rattle.jsonc_edit.specs.SeamRemovals.{EntryLeavesWithSeams}
-use Rattle.jsonc_edit.specs.declared.error.EditError.TheVariants.{OutOfMemory}
+use Rattle.jsonc_text.specs.declared.edit.EditError.TheVariants.{OutOfMemory}
 use Rattle.jsonc_edit.specs.remove.Removed.{IsKeptFor, TakesElement}
 
 -- spaces have come into the document, and then the element of this number has left the container at the path, which has closed up if it may; they stand at

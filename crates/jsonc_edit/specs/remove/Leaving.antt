@@ -3,9 +3,8 @@ use Rattle.std.specs.Prelude.{ℕ, Bool, true, false, not, ◌&&◌, ◌||◌, �
 use Rattle.std.specs.List.{find}
 use Rattle.jsonc_tree.specs.Tree.{Node, content_at}
 use Rattle.jsonc_tree.specs.Siblings.{siblings_after, siblings_before}
-use Rattle.jsonc_layout.specs.nodes.Kinds.{is_beside_at, is_newline_at, is_trivia_at, is_whitespace_at}
+use Rattle.jsonc_layout.specs.nodes.Kinds.{is_beside_at, is_comma_at, is_newline_at, is_trivia_at, is_whitespace_at}
 use Rattle.jsonc_layout.specs.nodes.Comments.{after_beside_at}
-use Rattle.jsonc_layout.specs.lines.Kinds.{is_comma}
 use Rattle.jsonc_layout.specs.lines.Siblings.{trailing_comma_at}
 
 -- past these whitespace leaves and comments, nearest first: the farthest of them, or n
@@ -42,9 +41,6 @@ newline_there ns (Some m) = is_newline_at ns m
 
 abbrev pub ends_line_at : List Node → ℕ → Bool
 ends_line_at ns n = newline_there ns (after_beside_at ns n)
-
-abbrev pub is_comma_at : List Node → ℕ → Bool
-is_comma_at ns m = is_comma (content_at ns m)
 
 -- the nearest comma before n
 abbrev pub comma_before : List Node → ℕ → Option ℕ

@@ -4,19 +4,15 @@ use Rattle.jsonc_tree.specs.Content.{Content, root, array, object, token}
 use Rattle.jsonc_tree.specs.Changes.{Splices}
 use Rattle.jsonc_tree.specs.Siblings.{first}
 use Rattle.jsonc_tree.specs.Tree.{Node, content_at, children_at, parent_at, place_at}
-use Rattle.jsonc_layout.specs.nodes.Kinds.{is_property}
+use Rattle.jsonc_layout.specs.nodes.Kinds.{is_property, is_token}
 use Rattle.jsonc_layout.specs.lines.Kinds.{holds_values}
 use Rattle.jsonc_edit.specs.Due.{due_between, listed, seen_before}
 use Rattle.jsonc_edit.specs.Put.{AreDue, AreSpaced, Prepared}
-use Rattle.jsonc_edit.specs.declared.error.EditError.{EditError}
-use Rattle.jsonc_edit.specs.declared.error.EditError.TheVariants.{OutOfMemory, MissingBrackets, MissingName, NoSuchPlace}
+use Rattle.jsonc_text.specs.declared.edit.EditError.{EditError}
+use Rattle.jsonc_text.specs.declared.edit.EditError.TheVariants.{OutOfMemory, MissingBrackets, MissingName, NoSuchPlace}
 use Rattle.jsonc_edit.specs.remove.Leaving.{comes_to, comma_gone, first_gone, last_gone}
 
 -- the first and the last child of a container are tokens, and two
-abbrev pub is_token : Content → Bool
-is_token (token c) = true
-is_token content = false
-
 abbrev pub is_token_at : List Node → Option ℕ → Bool
 is_token_at ns None = false
 is_token_at ns (Some m) = is_token (content_at ns m)

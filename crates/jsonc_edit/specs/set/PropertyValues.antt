@@ -10,8 +10,8 @@ use Rattle.jsonc_edit.specs.Reading.{layout_for}
 use Rattle.jsonc_edit.specs.Changes.{top_at}
 use Rattle.jsonc_edit.specs.Due.{due_around}
 use Rattle.jsonc_edit.specs.Put.{AreSpaced, Prepared}
-use Rattle.jsonc_edit.specs.declared.error.EditError.{EditError}
-use Rattle.jsonc_edit.specs.declared.error.EditError.TheVariants.{OutOfMemory, MissingName}
+use Rattle.jsonc_text.specs.declared.edit.EditError.{EditError}
+use Rattle.jsonc_text.specs.declared.edit.EditError.TheVariants.{OutOfMemory, MissingName}
 use Rattle.jsonc_edit.specs.set.Kinds.{KeptOrReplaced, LacksKind}
 
 -- A value has come as the last child of the property p, as the node m: it was made ready, laid out as the old nodes tell, with the spaces that it needs; it

@@ -2,7 +2,7 @@
 ghost use Rattle.std.specs.Prelude.{◌≡◌, [], ◌∷◌, List, None, Some, codes, ℕ};
 ghost use Rattle.jsonc_text.specs.Options.{Options};
 ghost use Rattle.jsonc_tree.specs.Tree.{Node};
-ghost use Rattle.jsonc_edit.specs.declared.modes.TrailingCommaMode.{TrailingCommaMode};
+ghost use Rattle.jsonc_text.specs.declared.edit.TrailingCommaMode.{TrailingCommaMode};
 ghost use Rattle.jsonc_tree.specs.Order.{printed_at};
 ghost use Rattle.jsonc_edit.specs.commas.Commas.{comma_gone, comma_wanted_behind};
 ghost use Rattle.jsonc_edit.specs.commas.InTurn.{holders};

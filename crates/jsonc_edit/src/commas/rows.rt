@@ -1,9 +1,7 @@
 //! The trailing comma of one array or object.
 
 ghost use Rattle.std.specs.Prelude.{◌≡◌, ◌<◌, IfSome, IsTrue, OnErr, OnOk, Some, length};
-ghost use Rattle.jsonc_tree.specs.Stored.{content_of};
-ghost use Rattle.jsonc_tree.specs.Tree.{content_at, is_container_at, parent_at, IsTree};
-ghost use Rattle.jsonc_layout.specs.lines.Kinds.{holds_values};
+ghost use Rattle.jsonc_tree.specs.Tree.{content_at, is_container_at, parent_at};
 ghost use Rattle.jsonc_layout.specs.nodes.Siblings.{IsThere};
 ghost use Rattle.jsonc_edit.specs.commas.Commas.{comma_gone, comma_wanted_behind, has_newline};
 ghost use Rattle.jsonc_edit.specs.commas.Commas.{if_without_comma, last_element};
@@ -16,13 +14,6 @@ use jsonc_layout::nodes::{children_from, is_element, is_newline};
 use jsonc_tree::{Kind, Tree};
 use std::alloc::{AllocError, Allocator};
 
-// Whether a node is an array or an object.
-pub(crate) fn holds_values<A: Allocator>(kind: &Kind<A>) -> bool
-    ensures { result ≡ holds_values (content_of kind.now) }
-{
-    matches!(kind, Kind::Array(_) | Kind::Object(_))
-}
-
 // The last element of a container.
 fn last_element<A: Allocator>(tree: &Tree<A>, container: usize) -> Option<usize>
     requires { container < length tree.now.nodes }
@@ -30,7 +21,6 @@ fn last_element<A: Allocator>(tree: &Tree<A>, container: usize) -> Option<usize>
     ensures child { IfSome result (λ n. parent_at tree.now.nodes n ≡ Some container) }
     ensures there { IsThere tree.now.nodes result }
 {
-    let _ = tree.len();
     tree.children_reversed(container)
         .find(|child| is_element(tree, *child))
 }
@@ -71,9 +61,7 @@ fn comma_wanted_behind<A: Allocator>(tree: &Tree<A>, container: usize) -> Option
 fn take_out<A: Allocator>(tree: &mut Tree<A>, container: usize, child: usize)
     requires { parent_at tree.old.nodes child ≡ Some container }
     ensures taken { TakesOut tree.old.nodes tree.new.nodes container child }
-    ensures tree { IsTree tree.new.nodes }
 {
-    let _ = tree.len();
     // A place is below the count of the children, so one more than it is a number too.
     let _ = tree.child_count(container);
     let place = tree.child_index(child);
@@ -84,9 +72,7 @@ fn take_out<A: Allocator>(tree: &mut Tree<A>, container: usize, child: usize)
 fn take_comma<A: Allocator>(tree: &mut Tree<A>, container: usize)
     requires { container < length tree.old.nodes }
     ensures taken { LosesComma tree.old.nodes tree.new.nodes container }
-    ensures tree { IsTree tree.new.nodes }
 {
-    let _ = tree.len();
     if let Some(comma) = comma_gone(tree, container) {
         take_out(tree, container, comma);
     }
@@ -101,9 +87,7 @@ fn put_comma<A: Allocator>(
     requires { parent_at tree.old.nodes node ≡ Some container }
     ensures put { OnOk result (CommaComesBehind tree.old.nodes tree.new.nodes container node) }
     ensures kept { OnErr result (tree.new.nodes ≡ tree.old.nodes) }
-    ensures tree { IsTree tree.new.nodes }
 {
-    let _ = tree.len();
     let comma = tree.add(Kind::token(','))?;
     let behind = tree.next_sibling(node);
     tree.insert_between(container, Some(node), behind, comma);
@@ -116,9 +100,7 @@ fn give_comma<A: Allocator>(tree: &mut Tree<A>, container: usize) -> Result<(), 
     ensures given { OnOk result (GainsComma tree.old.nodes tree.new.nodes container) }
     ensures kept { OnErr result (tree.new.nodes ≡ tree.old.nodes) }
     ensures wanted { OnErr result (WantsComma tree.old.nodes container) }
-    ensures tree { IsTree tree.new.nodes }
 {
-    let _ = tree.len();
     if let Some(node) = comma_wanted_behind(tree, container) {
         put_comma(tree, container, node)?;
     }
@@ -136,9 +118,7 @@ pub(crate) fn set_comma<A: Allocator>(
     ensures kept { OnErr result (tree.new.nodes ≡ tree.old.nodes) }
     ensures wanted { OnErr result (mode ≡ TrailingCommaMode.IfMultiline) }
     ensures missing { OnErr result (WantsComma tree.old.nodes container) }
-    ensures tree { IsTree tree.new.nodes }
 {
-    let _ = tree.len();
     match mode {
         TrailingCommaMode::Never => {
             take_comma(tree, container);

@@ -1,15 +1,16 @@
 //! The trailing commas of all that stands below a node.
 
 ghost use Rattle.std.specs.Prelude.{◌≡◌, ◌<◌, ◌∷◌, false, IfErr, IfSome, IsTrue, OnErr, OnOk, Some, length};
-ghost use Rattle.jsonc_tree.specs.Tree.{IsOver, IsTree};
+ghost use Rattle.jsonc_tree.specs.Tree.{IsOver};
 ghost use Rattle.jsonc_layout.specs.nodes.Siblings.{IsThere};
 ghost use Rattle.jsonc_edit.specs.commas.InTurn.{holders, is_entered, is_met, is_reached, to_come};
 ghost use Rattle.jsonc_edit.specs.commas.InTurn.{AreSetInPart, AreSetInTurn, CommaIsDue, IsOpen};
 ghost use Rattle.jsonc_edit.specs.commas.Laws.{AreAsSaid, StaysApart};
 ghost use Rattle.jsonc_tree.specs.Order.{following, rest_at};
 
-use crate::commas::rows::{holds_values, set_comma};
+use crate::commas::rows::set_comma;
 use crate::{EditError, TrailingCommaMode};
+use jsonc_layout::lines::holds_values;
 use jsonc_layout::nodes::{is_property_kind, value_of};
 use jsonc_tree::Tree;
 use std::alloc::Allocator;
@@ -19,7 +20,6 @@ fn is_entered<A: Allocator>(tree: &Tree<A>, node: usize) -> bool
     requires { node < length tree.now.nodes }
     ensures { result ≡ is_entered tree.now.nodes node }
 {
-    let _ = tree.len();
     let Some(parent) = tree.parent(node) else {
         return true;
     };
@@ -39,7 +39,6 @@ fn is_reached<A: Allocator>(tree: &Tree<A>, end: usize, node: usize) -> bool
     requires inside { IsOpen tree.now.nodes end node }
     ensures { result ≡ is_reached tree.now.nodes end node }
 {
-    let _ = tree.len();
     if node == end {
         return true;
     }
@@ -69,7 +68,6 @@ fn next_past<A: Allocator>(tree: &Tree<A>, end: usize, node: usize) -> Option<us
     ensures over { IfSome result (IsOver tree.now.nodes end) }
     ensures inside { IfSome result (IsOpen tree.now.nodes end) }
 {
-    let _ = tree.len();
     let mut at = node;
     while at != end {
         let Some(parent) = tree.parent(at) else {
@@ -93,7 +91,6 @@ fn next_inside<A: Allocator>(tree: &Tree<A>, end: usize, node: usize) -> Option<
     ensures over { IfSome result (IsOver tree.now.nodes end) }
     ensures inside { IfSome result (IsOpen tree.now.nodes end) }
 {
-    let _ = tree.len();
     if let Some(first) = tree.first_child(node) {
         return Some(first);
     }
@@ -113,7 +110,6 @@ fn next_from<A: Allocator>(tree: &Tree<A>, end: usize, node: usize) -> Option<us
     ensures over { IfSome result (IsOver tree.now.nodes end) }
     ensures inside { IfSome result (IsOpen tree.now.nodes end) }
 {
-    let _ = tree.len();
     if is_reached(tree, end, node) {
         return next_inside(tree, end, node);
     }
@@ -176,9 +172,7 @@ pub fn set_trailing_commas<A: Allocator>(
     ensures due { OnErr result (CommaIsDue tree.old.nodes container) }
     ensures memory { IfErr result (λ e. e ≡ EditError.OutOfMemory) }
     ensures part { OnErr result (AreSetInPart mode tree.old.nodes (holders tree.old.nodes container) tree.new.nodes) }
-    ensures tree { IsTree tree.new.nodes }
 {
-    let _ = tree.len();
     let mut next = holder_from(tree, container, Some(container));
     while let Some(node) = next {
         set_comma(tree, node, mode)?;

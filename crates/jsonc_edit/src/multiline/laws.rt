@@ -3,7 +3,7 @@ ghost use Rattle.std.specs.Prelude.{◌≡◌, [], ◌∷◌, List, ℕ, codes};
 ghost use Rattle.jsonc_text.specs.Options.{Options};
 ghost use Rattle.jsonc_tree.specs.OrderedTree.{OrderedTree};
 ghost use Rattle.jsonc_tree.specs.Tree.{Node};
-ghost use Rattle.jsonc_edit.specs.declared.error.EditError.TheVariants.{MissingBrackets};
+ghost use Rattle.jsonc_text.specs.declared.edit.EditError.TheVariants.{MissingBrackets};
 ghost use Rattle.jsonc_edit.specs.multiline.Laws.{HasItsBrackets, HasLineEnd, KeepsDocument, KeepsLeavesOutside, KeepsNodesInside};
 ghost use Rattle.jsonc_edit.specs.multiline.Laws.{SpreadAt, SpreadsAt, StaysSpread};
 ghost use Rattle.jsonc_edit.specs.multiline.Lines.{lines_for};

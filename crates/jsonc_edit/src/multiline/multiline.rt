@@ -3,7 +3,7 @@
 ghost use Rattle.std.specs.Prelude.{◌≡◌, ◌<◌, IfErr, IsTrue, OnErr, OnOk, length};
 ghost use Rattle.jsonc_tree.specs.Building.{Keeps};
 ghost use Rattle.jsonc_tree.specs.OrderedTree.{ordered_tree};
-ghost use Rattle.jsonc_tree.specs.Tree.{content_at, IsTree};
+ghost use Rattle.jsonc_tree.specs.Tree.{content_at};
 ghost use Rattle.jsonc_layout.specs.lines.Kinds.{holds_values};
 ghost use Rattle.jsonc_edit.specs.multiline.Multiline.{has_line_end, IsUnspread, MadeMultiline};
 
@@ -40,9 +40,7 @@ pub fn ensure_multiline<A: Allocator + Copy>(
     ensures told { IfErr result (IsUnspread tree.old.nodes container) }
     ensures kept { OnErr result (Keeps (length tree.old.nodes) tree.old.nodes tree.new.nodes) }
     ensures document { OnErr result (ordered_tree tree.new.nodes 0 ≡ ordered_tree tree.old.nodes 0) }
-    ensures tree { IsTree tree.new.nodes }
 {
-    let _ = tree.len();
     if !has_brackets(tree, container) {
         return Err(EditError::MissingBrackets);
     }

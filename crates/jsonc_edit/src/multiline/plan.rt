@@ -4,7 +4,6 @@ ghost use Rattle.std.specs.Prelude.{◌≡◌, ◌==◌, ◌<◌, ◌≤◌, ◌
 ghost use Rattle.jsonc_tree.specs.Content.{is_container};
 ghost use Rattle.jsonc_tree.specs.Stored.{content_of};
 ghost use Rattle.jsonc_edit.specs.Put.{Prepared};
-ghost use Rattle.jsonc_layout.specs.lines.Kinds.{is_comma};
 ghost use Rattle.jsonc_edit.specs.remove.Removed.{has_brackets};
 ghost use Rattle.jsonc_edit.specs.multiline.Lines.{last_line, new_line, without_back};
 ghost use Rattle.jsonc_edit.specs.multiline.LineViews.{lines_of};
@@ -12,8 +11,7 @@ ghost use Rattle.jsonc_edit.specs.multiline.Plans.{begins_after, Gains, PlansLin
 ghost use Rattle.jsonc_edit.specs.multiline.Slots.{comes};
 
 use crate::multiline::lines::Lines;
-use jsonc_layout::lines::is_comma;
-use jsonc_layout::nodes::{children, is_whitespace};
+use jsonc_layout::nodes::{children, is_comma, is_whitespace};
 use jsonc_tree::{Kind, Tree};
 use std::alloc::{AllocError, Allocator};
 
@@ -35,7 +33,6 @@ fn push_leaf<A: Allocator + Copy>(
         (Gains tree.old.nodes row.old.items tree.new.nodes row.new.items (comes (content_of kind) ∷ [])) }
     ensures prepared { Prepared tree.old.nodes tree.new.nodes }
 {
-    let _ = tree.len();
     let leaf = tree.add(kind)?;
     row.push(leaf)?;
     Ok(())
@@ -92,9 +89,8 @@ fn push_child<A: Allocator + Copy>(
     ensures begins { IfOk result (λ b. b ≡ begins_after tree.old.nodes begins child) }
     ensures prepared { Prepared tree.old.nodes tree.new.nodes }
 {
-    let _ = tree.len();
     let blank = is_whitespace(tree, child);
-    let comma = is_comma(tree.kind(child));
+    let comma = is_comma(tree, child);
     if begins {
         if blank {
             return Ok(true);
@@ -134,7 +130,6 @@ pub fn plan_lines<A: Allocator + Copy>(
         (λ row. PlansLines tree.old.nodes tree.new.nodes container (lines_of lines.now) row.items) }
     ensures prepared { Prepared tree.old.nodes tree.new.nodes }
 {
-    let _ = tree.len();
     let children = children(alloc, tree, container)?;
     let inside = &children[1..children.len() - 1];
     let end = blanks_from(tree, inside);

@@ -24,7 +24,6 @@ fn has_two<A: Allocator>(tree: &Tree<A>, container: usize) -> bool
     requires { container < length tree.now.nodes }
     ensures { result ≡ has_two (children_at tree.now.nodes container) }
 {
-    let _ = tree.len();
     match tree.first_child(container) {
         Some(first) => tree.next_sibling(first).is_some(),
         None => false,
@@ -36,7 +35,6 @@ pub fn has_brackets<A: Allocator>(tree: &Tree<A>, container: usize) -> bool
     requires { container < length tree.now.nodes }
     ensures { result ≡ has_brackets tree.now.nodes container }
 {
-    let _ = tree.len();
     has_two(tree, container)
         && is_token(tree, tree.first_child(container))
         && is_token(tree, tree.last_child(container))

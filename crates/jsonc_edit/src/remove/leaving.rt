@@ -7,9 +7,10 @@ ghost use Rattle.jsonc_layout.specs.lines.Siblings.{trailing_comma_at};
 ghost use Rattle.jsonc_edit.specs.remove.Leaving.{begins_other, comma_before, comma_gone, ends_line_at};
 ghost use Rattle.jsonc_edit.specs.remove.Leaving.{first_gone, last_gone, last_past, line_end_at, trails};
 
-use crate::remove::kinds::{after_beside, is_beside};
-use jsonc_layout::lines::{is_comma, trailing_comma};
-use jsonc_layout::nodes::{is_newline, is_trivia, is_whitespace, previous_siblings};
+use jsonc_layout::lines::trailing_comma;
+use jsonc_layout::nodes::{
+    after_beside, is_beside, is_comma, is_newline, is_trivia, is_whitespace, previous_siblings,
+};
 use jsonc_tree::Tree;
 use std::alloc::Allocator;
 
@@ -34,7 +35,6 @@ fn indents_other<A: Allocator>(tree: &Tree<A>, blank: usize) -> bool
     requires { blank < length tree.now.nodes }
     ensures { result ≡ begins_other tree.now.nodes (siblings_after tree.now.nodes blank) }
 {
-    let _ = tree.len();
     match tree.next_sibling(blank) {
         Some(next) => !is_trivia(tree, next),
         None => false,
@@ -57,7 +57,6 @@ fn line_end<A: Allocator>(tree: &Tree<A>, node: usize) -> usize
     ensures end { result ≡ line_end_at tree.now.nodes node }
     ensures there { result < length tree.now.nodes }
 {
-    let _ = tree.len();
     let mut last = node;
     while let Some(next) = tree.next_sibling(last) {
         if is_newline(tree, next) {
@@ -88,7 +87,6 @@ fn comma_behind<A: Allocator>(tree: &Tree<A>, node: usize) -> Option<usize>
     ensures comma { result ≡ trailing_comma_at tree.now.nodes node }
     ensures there { IsThere tree.now.nodes result }
 {
-    let _ = tree.len();
     trailing_comma(tree, node)
 }
 
@@ -98,7 +96,7 @@ fn comma_before<A: Allocator>(tree: &Tree<A>, node: usize) -> Option<usize>
     ensures comma { result ≡ comma_before tree.now.nodes node }
     ensures there { IsThere tree.now.nodes result }
 {
-    previous_siblings(tree, node).find(|sibling| is_comma(tree.kind(*sibling)))
+    previous_siblings(tree, node).find(|sibling| is_comma(tree, *sibling))
 }
 
 // The last that leaves with a node that has this comma behind it, or none.

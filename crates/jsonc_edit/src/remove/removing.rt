@@ -4,7 +4,7 @@ ghost use Rattle.std.specs.Prelude.{◌≡◌, ◌<◌, ◌≤◌, ◌+◌, [], 
 ghost use Rattle.jsonc_tree.specs.Building.{Keeps};
 ghost use Rattle.jsonc_tree.specs.Changes.{Splices};
 ghost use Rattle.jsonc_tree.specs.OrderedTree.{ordered_tree};
-ghost use Rattle.jsonc_tree.specs.Tree.{children_at, content_at, is_container_at, parent_at, place_at, IsTree};
+ghost use Rattle.jsonc_tree.specs.Tree.{children_at, content_at, is_container_at, parent_at, place_at};
 ghost use Rattle.jsonc_layout.specs.nodes.Kinds.{is_property};
 ghost use Rattle.jsonc_layout.specs.nodes.Siblings.{IsThere};
 ghost use Rattle.jsonc_layout.specs.lines.Kinds.{holds_values};
@@ -103,9 +103,7 @@ fn take_stretch<A: Allocator>(tree: &mut Tree<A>, container: usize, first: usize
     requires order { place_at tree.old.nodes first ≤ place_at tree.old.nodes last }
     ensures taken { Splices tree.old.nodes tree.new.nodes container (place_at tree.old.nodes first)
         (place_at tree.old.nodes last + 1) [] }
-    ensures tree { IsTree tree.new.nodes }
 {
-    let _ = tree.len();
     // A place is below the count of the children, so one more than it is a number too.
     let _ = tree.child_count(container);
     let from = tree.child_index(first);
@@ -117,9 +115,7 @@ fn take_stretch<A: Allocator>(tree: &mut Tree<A>, container: usize, first: usize
 fn take_child<A: Allocator>(tree: &mut Tree<A>, container: usize, child: Option<usize>)
     requires { IfSome child (λ n. parent_at tree.old.nodes n ≡ Some container) }
     ensures taken { LosesChild tree.old.nodes tree.new.nodes container child }
-    ensures tree { IsTree tree.new.nodes }
 {
-    let _ = tree.len();
     if let Some(child) = child {
         take_stretch(tree, container, child, child);
     }
@@ -180,7 +176,6 @@ fn is_hollow<A: Allocator>(tree: &Tree<A>, container: usize) -> bool
     requires { container < length tree.now.nodes }
     ensures { result ≡ is_hollow tree.now.nodes container }
 {
-    let _ = tree.len();
     match tree.kind(container) {
         Kind::Array(_) | Kind::Object(_) => is_blank_between(tree, container),
         Kind::Root(_) => comes_to(tree, container, 0, None),
@@ -196,9 +191,7 @@ fn empty<A: Allocator>(tree: &mut Tree<A>, container: usize)
         → 2 ≤ length (children_at tree.old.nodes container) }
     ensures emptied { Splices tree.old.nodes tree.new.nodes container
         (hollow_from tree.old.nodes container) (hollow_to tree.old.nodes container) [] }
-    ensures tree { IsTree tree.new.nodes }
 {
-    let _ = tree.len();
     let count = tree.child_count(container);
     if holds_values(tree.kind(container)) {
         tree.splice(container, 1, count - 1, &[]);
@@ -212,9 +205,7 @@ fn close_up<A: Allocator>(tree: &mut Tree<A>, container: usize)
     requires there { container < length tree.old.nodes }
     requires container { IsTrue (is_container_at tree.old.nodes container) }
     ensures closed { IsClosedUp tree.old.nodes tree.new.nodes container }
-    ensures tree { IsTree tree.new.nodes }
 {
-    let _ = tree.len();
     if is_hollow(tree, container) {
         empty(tree, container);
     }
@@ -242,9 +233,7 @@ pub fn remove<A: Allocator + Copy>(
     ensures told { IfErr result (IsKeptFor tree.old.nodes node) }
     ensures kept { OnErr result (Keeps (length tree.old.nodes) tree.old.nodes tree.new.nodes) }
     ensures document { OnErr result (ordered_tree tree.new.nodes 0 ≡ ordered_tree tree.old.nodes 0) }
-    ensures tree { IsTree tree.new.nodes }
 {
-    let _ = tree.len();
     let Some(container) = tree.parent(node) else {
         return Ok(());
     };

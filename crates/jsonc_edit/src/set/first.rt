@@ -4,10 +4,8 @@ ghost use Rattle.std.specs.Prelude.{◌≡◌, ◌≤◌, ◌++◌, ◌∷◌, I
 ghost use Rattle.jsonc_tree.specs.Building.{Keeps};
 ghost use Rattle.jsonc_tree.specs.Changes.{CanJoin, Splices};
 ghost use Rattle.jsonc_tree.specs.OrderedTree.{ordered_tree};
-ghost use Rattle.jsonc_tree.specs.Stored.{content_of};
-ghost use Rattle.jsonc_tree.specs.Tree.{children_at, room_at, IsTree};
+ghost use Rattle.jsonc_tree.specs.Tree.{children_at, room_at};
 ghost use Rattle.jsonc_layout.specs.input.Views.{plain};
-ghost use Rattle.jsonc_layout.specs.nodes.Kinds.{is_comment};
 ghost use Rattle.jsonc_edit.specs.Due.{listed};
 ghost use Rattle.jsonc_edit.specs.Put.{Prepared};
 ghost use Rattle.jsonc_edit.specs.set.RootSet.{follows_comment, FirstValue, KeepsNodes, LineEndMade};
@@ -15,25 +13,19 @@ ghost use Rattle.jsonc_edit.specs.set.RootSet.{follows_comment, FirstValue, Keep
 use crate::{EditError, layout_for, newline_from};
 use jsonc_layout::from_input::lay_out;
 use jsonc_layout::input::CstInputValue;
+use jsonc_layout::nodes::is_comment;
 use jsonc_tree::{CstNewlineKind, Kind, Tree};
 use std::alloc::{AllocError, Allocator};
-
-fn is_comment<A: Allocator>(kind: &Kind<A>) -> bool
-    ensures { result ≡ is_comment (content_of kind.now) }
-{
-    matches!(kind, Kind::Comment(_) | Kind::CommentPart(_))
-}
 
 // Whether a comment stands directly before a place of the root's row.
 fn follows_comment<A: Allocator>(tree: &Tree<A>, place: usize) -> bool
     requires { place ≤ length (children_at tree.now.nodes 0) }
     ensures { result ≡ follows_comment tree.now.nodes (children_at tree.now.nodes 0) place }
 {
-    let _ = tree.len();
     if place == 0 {
         return false;
     }
-    is_comment(tree.kind(tree.child_at(0, place - 1)))
+    is_comment(tree, tree.child_at(0, place - 1))
 }
 
 // Makes a newline leaf, nobody's child yet, where one is wanted.
@@ -45,7 +37,6 @@ fn make_line_end<A: Allocator>(
     ensures made { IfOk result (LineEndMade tree.old.nodes tree.new.nodes wanted kind) }
     ensures prepared { Prepared tree.old.nodes tree.new.nodes }
 {
-    let _ = tree.len();
     if !wanted {
         return Ok(None);
     }
@@ -65,9 +56,7 @@ fn put_first<A: Allocator>(
     requires room { 3 ≤ room_at tree.old.nodes 0 }
     requires join { CanJoin tree.old.nodes 0 place place (listed before ++ value ∷ listed behind) }
     ensures put { Splices tree.old.nodes tree.new.nodes 0 place place (listed before ++ value ∷ listed behind) }
-    ensures tree { IsTree tree.new.nodes }
 {
-    let _ = tree.len();
     match (before, behind) {
         (None, None) => tree.splice(0, place, place, &[value]),
         (Some(first), None) => tree.splice(0, place, place, &[first, value]),
@@ -87,9 +76,7 @@ pub(crate) fn set_first<A: Allocator + Copy>(
     ensures memory { IfErr result (λ e. e ≡ EditError.OutOfMemory) }
     ensures kept { OnErr result (Keeps (length tree.old.nodes) tree.old.nodes tree.new.nodes) }
     ensures document { OnErr result (ordered_tree tree.new.nodes 0 ≡ ordered_tree tree.old.nodes 0) }
-    ensures tree { IsTree tree.new.nodes }
 {
-    let _ = tree.len();
     let layout = layout_for(alloc, tree, 0, 0)?;
     let count = tree.child_count(0);
     let place = newline_from(tree, 0, count);

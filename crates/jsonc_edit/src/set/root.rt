@@ -5,7 +5,7 @@ ghost use Rattle.jsonc_text.specs.Options.{Options};
 ghost use Rattle.jsonc_tree.specs.Building.{Keeps};
 ghost use Rattle.jsonc_tree.specs.Changes.{Splices};
 ghost use Rattle.jsonc_tree.specs.OrderedTree.{ordered_tree};
-ghost use Rattle.jsonc_tree.specs.Tree.{children_at, parent_at, IsTree};
+ghost use Rattle.jsonc_tree.specs.Tree.{children_at, parent_at};
 ghost use Rattle.jsonc_layout.specs.input.Views.{plain};
 ghost use Rattle.jsonc_layout.specs.nodes.Properties.{value_at};
 ghost use Rattle.jsonc_edit.specs.Reading.{IsReplaced};
@@ -33,9 +33,7 @@ pub(crate) fn replace_child<A: Allocator + Copy>(
     ensures memory { IfErr result (λ e. e ≡ EditError.OutOfMemory) }
     ensures kept { OnErr result (Keeps (length tree.old.nodes) tree.old.nodes tree.new.nodes) }
     ensures document { OnErr result (ordered_tree tree.new.nodes 0 ≡ ordered_tree tree.old.nodes 0) }
-    ensures tree { IsTree tree.new.nodes }
 {
-    let _ = tree.len();
     let Some(new) = replace(alloc, tree, node, value)? else {
         unreachable!()
     };
@@ -68,9 +66,7 @@ pub fn set_root<A: Allocator + Copy>(
     ensures memory { IfErr result (λ e. e ≡ EditError.OutOfMemory) }
     ensures kept { OnErr result (Keeps (length tree.old.nodes) tree.old.nodes tree.new.nodes) }
     ensures document { OnErr result (ordered_tree tree.new.nodes 0 ≡ ordered_tree tree.old.nodes 0) }
-    ensures tree { IsTree tree.new.nodes }
 {
-    let _ = tree.len();
     match value_of(tree, 0) {
         Some(node) => replace_child(alloc, tree, node, value),
         None => set_first(alloc, tree, value),
@@ -81,9 +77,7 @@ pub fn set_root<A: Allocator + Copy>(
 pub fn clear_root<A: Allocator>(tree: &mut Tree<A>)
     ensures cleared { children_at tree.new.nodes 0 ≡ [] }
     ensures taken { Splices tree.old.nodes tree.new.nodes 0 0 (length (children_at tree.old.nodes 0)) [] }
-    ensures tree { IsTree tree.new.nodes }
 {
-    let _ = tree.len();
     let count = tree.child_count(0);
     tree.splice(0, 0, count, &[]);
 }

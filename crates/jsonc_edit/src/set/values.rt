@@ -2,21 +2,20 @@
 
 ghost use Rattle.std.specs.Prelude.{◌≡◌, ◌<◌, IfErr, IfNone, IfOk, IfSome, OnErr, OnOk, Some, false, length, true};
 ghost use Rattle.jsonc_text.specs.Options.{Options};
-ghost use Rattle.jsonc_text.specs.Plain.{array, object, no_items, no_members};
 ghost use Rattle.jsonc_tree.specs.Building.{Keeps};
 ghost use Rattle.jsonc_tree.specs.Content.{Content};
 ghost use Rattle.jsonc_tree.specs.OrderedTree.{ordered_tree};
-ghost use Rattle.jsonc_tree.specs.Tree.{content_at, IsTree};
+ghost use Rattle.jsonc_tree.specs.Tree.{content_at};
 ghost use Rattle.jsonc_layout.specs.input.Views.{plain};
 ghost use Rattle.jsonc_layout.specs.nodes.Properties.{lacks_name_at, value_at};
 ghost use Rattle.jsonc_edit.specs.Reading.{IsReplaced};
 ghost use Rattle.jsonc_edit.specs.Written.{Writes};
-ghost use Rattle.jsonc_edit.specs.set.Kinds.{is_array, is_object};
 ghost use Rattle.jsonc_edit.specs.set.PropertyValues.{HeldOrSet, IsUnset, LastValue};
+ghost use Rattle.jsonc_edit.specs.set.Shapes.{empty_of, is_of};
 
-use crate::set::kinds::{empty_array, empty_object, is_array, is_object};
 use crate::set::root::replace_child;
-use crate::{EditError, due_last, due_past, layout_for, put_spaces, spaces_for};
+use crate::set::shapes::{empty_value, has_shape};
+use crate::{EditError, Shape, due_last, due_past, layout_for, put_spaces, spaces_for};
 use jsonc_layout::from_input::lay_out;
 use jsonc_layout::input::CstInputValue;
 use jsonc_layout::nodes::{lacks_name, value_of};
@@ -36,9 +35,7 @@ fn put_last<A: Allocator + Copy>(
     ensures memory { IfErr result (λ e. e ≡ EditError.OutOfMemory) }
     ensures kept { OnErr result (Keeps (length tree.old.nodes) tree.old.nodes tree.new.nodes) }
     ensures document { OnErr result (ordered_tree tree.new.nodes 0 ≡ ordered_tree tree.old.nodes 0) }
-    ensures tree { IsTree tree.new.nodes }
 {
-    let _ = tree.len();
     let layout = layout_for(alloc, tree, property, property)?;
     let new = lay_out(alloc, tree, value, &layout)?;
     let before = due_last(tree, property, new);
@@ -78,77 +75,42 @@ pub fn set_property_value<A: Allocator + Copy>(
     ensures memory { IfErr result (λ e. e ≡ EditError.OutOfMemory) }
     ensures kept { OnErr result (Keeps (length tree.old.nodes) tree.old.nodes tree.new.nodes) }
     ensures document { OnErr result (ordered_tree tree.new.nodes 0 ≡ ordered_tree tree.old.nodes 0) }
-    ensures tree { IsTree tree.new.nodes }
 {
-    let _ = tree.len();
     match value_of(tree, property) {
         Some(node) => replace_child(alloc, tree, node, value),
         None => put_last(alloc, tree, property, value),
     }
 }
 
-/// The value of a property, if it is an object. Where it is another, or there is none, an empty object
-/// is set, as by [`set_property_value`]; where the property has no name, or no colon behind it,
-/// the answer is `MissingName`, and nothing changes.
-pub fn property_object_or_set<A: Allocator + Copy>(
+/// The value of a property, if it has a shape. Where it is another, or there is none, an empty one is
+/// set, as by [`set_property_value`]; where the property has no name, or no colon behind it, the
+/// answer is `MissingName`, and nothing changes.
+pub fn property_value_or_set<A: Allocator + Copy>(
     alloc: A,
     tree: &mut Tree<A>,
     property: usize,
+    shape: Shape,
 ) -> Result<usize, EditError>
     requires there { property < length tree.old.nodes }
     requires property { content_at tree.old.nodes property ≡ Content.property }
     ensures value { IfOk result
-        (HeldOrSet is_object (object no_members) tree.old.nodes tree.new.nodes property
+        (HeldOrSet (is_of shape) (empty_of shape) tree.old.nodes tree.new.nodes property
         (value_at tree.old.nodes property)) }
+    ensures shape { IfOk result (λ m. is_of shape (content_at tree.new.nodes m) ≡ true) }
     ensures named { OnOk result (lacks_name_at tree.old.nodes property ≡ false) }
-    ensures told { IfErr result (IsUnset is_object tree.old.nodes property) }
+    ensures told { IfErr result (IsUnset (is_of shape) tree.old.nodes property) }
     ensures missing { IfErr result (λ e. lacks_name_at tree.old.nodes property ≡ true → e ≡ EditError.MissingName) }
     ensures kept { OnErr result (Keeps (length tree.old.nodes) tree.old.nodes tree.new.nodes) }
     ensures document { OnErr result (ordered_tree tree.new.nodes 0 ≡ ordered_tree tree.old.nodes 0) }
-    ensures tree { IsTree tree.new.nodes }
 {
-    let _ = tree.len();
     if lacks_name(tree, property) {
         return Err(EditError::MissingName);
     }
     let Some(node) = value_of(tree, property) else {
-        return set_property_value(alloc, tree, property, &empty_object(alloc));
+        return set_property_value(alloc, tree, property, &empty_value(alloc, shape));
     };
-    if is_object(tree.kind(node)) {
+    if has_shape(tree.kind(node), shape) {
         return Ok(node);
     }
-    set_property_value(alloc, tree, property, &empty_object(alloc))
-}
-
-/// The value of a property, if it is an array. Where it is another, or there is none, an empty array
-/// is set, as by [`set_property_value`]; where the property has no name, or no colon behind it,
-/// the answer is `MissingName`, and nothing changes.
-pub fn property_array_or_set<A: Allocator + Copy>(
-    alloc: A,
-    tree: &mut Tree<A>,
-    property: usize,
-) -> Result<usize, EditError>
-    requires there { property < length tree.old.nodes }
-    requires property { content_at tree.old.nodes property ≡ Content.property }
-    ensures value { IfOk result
-        (HeldOrSet is_array (array no_items) tree.old.nodes tree.new.nodes property
-        (value_at tree.old.nodes property)) }
-    ensures named { OnOk result (lacks_name_at tree.old.nodes property ≡ false) }
-    ensures told { IfErr result (IsUnset is_array tree.old.nodes property) }
-    ensures missing { IfErr result (λ e. lacks_name_at tree.old.nodes property ≡ true → e ≡ EditError.MissingName) }
-    ensures kept { OnErr result (Keeps (length tree.old.nodes) tree.old.nodes tree.new.nodes) }
-    ensures document { OnErr result (ordered_tree tree.new.nodes 0 ≡ ordered_tree tree.old.nodes 0) }
-    ensures tree { IsTree tree.new.nodes }
-{
-    let _ = tree.len();
-    if lacks_name(tree, property) {
-        return Err(EditError::MissingName);
-    }
-    let Some(node) = value_of(tree, property) else {
-        return set_property_value(alloc, tree, property, &empty_array(alloc));
-    };
-    if is_array(tree.kind(node)) {
-        return Ok(node);
-    }
-    set_property_value(alloc, tree, property, &empty_array(alloc))
+    set_property_value(alloc, tree, property, &empty_value(alloc, shape))
 }

@@ -2,9 +2,9 @@
 use Rattle.std.specs.Prelude.{◌≢◌, ℕ, suc, List, Some}
 use Rattle.jsonc_text.specs.Plain.{Plain, object, Members, no_members, member}
 use Rattle.jsonc_sound.specs.Changes.{Changed}
-use Rattle.jsonc_insert.specs.declared.named.shape.Over.{Over}
-use Rattle.jsonc_insert.specs.declared.named.shape.Shape.{Shape}
-use Rattle.jsonc_insert.specs.named.Shapes.{empty_of, EnsuredValue}
+use Rattle.jsonc_text.specs.declared.edit.Over.{Over}
+use Rattle.jsonc_text.specs.declared.edit.Shape.{Shape}
+use Rattle.jsonc_edit.specs.set.Shapes.{empty_of, EnsuredValue}
 
 -- none has this name
 pub data LacksMember (name : List ℕ) : Members → Type 0 where

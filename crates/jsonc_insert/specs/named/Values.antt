@@ -9,8 +9,8 @@ use Rattle.jsonc_sound.specs.ChangeLaws.{DiffersIn}
 use Rattle.jsonc_sound.specs.TreeChanges.{leaves_of, DocumentChanged}
 use Rattle.jsonc_edit.specs.Spaced.{SpacesPut}
 use Rattle.jsonc_edit.specs.SeamPlaces.{GivesWayWithSeams}
-use Rattle.jsonc_insert.specs.declared.named.shape.Shape.{Shape}
-use Rattle.jsonc_insert.specs.named.Shapes.{is_of, empty_of}
+use Rattle.jsonc_text.specs.declared.edit.Shape.{Shape}
+use Rattle.jsonc_edit.specs.set.Shapes.{is_of, empty_of}
 
 -- of the object at the path the value of the property at this place has given way to another, and nothing else has
 pub record ReplacesHeld (path : List ℕ) (i : ℕ) (was now x y : Plain) : Type 0 where

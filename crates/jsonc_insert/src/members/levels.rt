@@ -52,7 +52,6 @@ fn levels_inside<A: Allocator>(
     ensures there { IfOk result (λ v. All (λ m. m < length tree.now.nodes) v.items) }
 {
     let mut levels = Vec::new(alloc);
-    let _ = tree.len();
     let mut next = Some(object);
     while let Some(at) = next {
         if at == 0 {
@@ -101,7 +100,6 @@ fn document_indent<A: Allocator + Copy>(
     requires { object < length tree.now.nodes }
     ensures { IfOk result (λ o. text_in o ≡ document_indent tree.now.nodes object row.now) }
 {
-    let _ = tree.len();
     if !is_in_document(tree, object) {
         return Ok(None);
     }

@@ -26,7 +26,6 @@ pub(crate) fn make<A: Allocator + Copy>(
         plan (chars name.now) (plain value.now) m.element m.comma.items m.before.items m.behind.items) }
     ensures prepared { Prepared tree.old.nodes tree.new.nodes }
 {
-    let _ = tree.len();
     let comma = make_comma(alloc, tree, plan.comma.is_some())?;
     let before = make_before(alloc, tree, layout, plan)?;
     let element = lay_out_property(alloc, tree, name, value, layout)?;

@@ -4,7 +4,7 @@ ghost use Rattle.std.specs.Prelude.{◌≡◌, ◌<◌, All, IfErr, IfOk, OnErr,
 ghost use Rattle.jsonc_tree.specs.Building.{Keeps};
 ghost use Rattle.jsonc_tree.specs.Content.{Content};
 ghost use Rattle.jsonc_tree.specs.OrderedTree.{ordered_tree};
-ghost use Rattle.jsonc_tree.specs.Tree.{children_at, content_at, IsTree};
+ghost use Rattle.jsonc_tree.specs.Tree.{children_at, content_at};
 ghost use Rattle.jsonc_layout.specs.input.Views.{plain};
 ghost use Rattle.jsonc_layout.specs.from_input.Layout.{layout_of};
 ghost use Rattle.jsonc_edit.specs.Put.{Prepared};
@@ -88,7 +88,6 @@ fn make_row<A: Allocator + Copy>(
         (chars name.now) (plain value.now) r.property r.row.items) }
     ensures prepared { Prepared tree.old.nodes tree.new.nodes }
 {
-    let _ = tree.len();
     let told = read(alloc, tree, object, row, index)?;
     let outer = told.outer.as_str();
     let made = make(alloc, tree, name, value, &told.layout, outer, told.plan)?;
@@ -142,9 +141,7 @@ pub fn insert_property<A: Allocator + Copy>(
     ensures told { IfErr result (λ e. e ≡ refusal tree.old.nodes object) }
     ensures kept { OnErr result (Keeps (length tree.old.nodes) tree.old.nodes tree.new.nodes) }
     ensures document { OnErr result (ordered_tree tree.new.nodes 0 ≡ ordered_tree tree.old.nodes 0) }
-    ensures tree { IsTree tree.new.nodes }
 {
-    let _ = tree.len();
     if !has_brackets(tree, object) {
         return Err(EditError::MissingBrackets);
     }

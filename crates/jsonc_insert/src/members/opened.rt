@@ -41,7 +41,6 @@ pub(crate) fn opened<A: Allocator + Copy>(
     ensures opened { IfOk result (λ v. IsOpened tree.old.nodes tree.new.nodes object v.items) }
     ensures prepared { Prepared tree.old.nodes tree.new.nodes }
 {
-    let _ = tree.len();
     let row = children(alloc, tree, object)?;
     if has_newline(tree, &row) {
         return Ok(row);

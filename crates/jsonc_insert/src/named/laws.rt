@@ -2,9 +2,9 @@
 ghost use Rattle.std.specs.Prelude.{List, Option, ℕ};
 ghost use Rattle.jsonc_text.specs.Options.{Options};
 ghost use Rattle.jsonc_tree.specs.Tree.{Node};
-ghost use Rattle.jsonc_edit.specs.declared.error.EditError.{EditError};
-ghost use Rattle.jsonc_insert.specs.declared.named.shape.Over.{Over};
-ghost use Rattle.jsonc_insert.specs.declared.named.shape.Shape.{Shape};
+ghost use Rattle.jsonc_text.specs.declared.edit.EditError.{EditError};
+ghost use Rattle.jsonc_text.specs.declared.edit.Over.{Over};
+ghost use Rattle.jsonc_text.specs.declared.edit.Shape.{Shape};
 ghost use Rattle.jsonc_insert.specs.named.Laws.{FindsMember, WantsMemoryAlone, WritesNamed};
 
 /// The first property of a name in an object at a path of a sound document is the first of that name in the

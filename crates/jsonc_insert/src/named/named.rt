@@ -1,54 +1,22 @@
 //! The first property of a name in an object, whose value is to be an array or object.
 
 ghost use Rattle.std.specs.Prelude.{◌≡◌, ◌<◌, IfErr, IfOk, IfSome, OnErr, OnOk, Some, chars, false, length, true};
-ghost use Rattle.jsonc_layout.specs.input.Views.{plain};
 ghost use Rattle.jsonc_tree.specs.Building.{Keeps};
 ghost use Rattle.jsonc_tree.specs.Content.{Content};
 ghost use Rattle.jsonc_tree.specs.OrderedTree.{ordered_tree};
-ghost use Rattle.jsonc_tree.specs.Stored.{content_of};
-ghost use Rattle.jsonc_tree.specs.Tree.{content_at, IsTree};
+ghost use Rattle.jsonc_tree.specs.Tree.{content_at};
 ghost use Rattle.jsonc_layout.specs.nodes.Properties.{lacks_name_at, value_at};
 ghost use Rattle.jsonc_layout.specs.nodes.Siblings.{IsThere};
 ghost use Rattle.jsonc_insert.specs.Inserted.{refusal};
-ghost use Rattle.jsonc_edit.specs.set.PropertyValues.{HeldOrSet, IsUnset};
 ghost use Rattle.jsonc_insert.specs.named.Named.{if_shaped, ComesNamed, IsUnensured, NamedEnsured};
-ghost use Rattle.jsonc_insert.specs.named.Shapes.{empty_of, is_of};
+ghost use Rattle.jsonc_edit.specs.set.Shapes.{empty_of, is_of};
 
 use crate::members::insert_property;
-use crate::named::shape::{Over, Shape};
-use jsonc_edit::EditError;
-use jsonc_edit::set::{property_array_or_set, property_object_or_set};
-use jsonc_layout::input::CstInputValue;
+use jsonc_edit::set::{empty_value, has_shape, property_value_or_set};
+use jsonc_edit::{EditError, Over, Shape};
 use jsonc_layout::nodes::{get, value_of};
-use jsonc_tree::{Kind, Tree};
+use jsonc_tree::Tree;
 use std::alloc::Allocator;
-
-// The empty value of a shape.
-fn empty_value<A: Allocator>(alloc: A, shape: Shape) -> CstInputValue<A>
-    ensures { plain result ≡ empty_of shape }
-{
-    match shape {
-        Shape::Object => {
-            let properties: Vec<(String<A>, CstInputValue<A>), A> = Vec::new(alloc);
-            CstInputValue::from(properties)
-        }
-        Shape::Array => {
-            let elements: Vec<CstInputValue<A>, A> = Vec::new(alloc);
-            CstInputValue::from(elements)
-        }
-    }
-}
-
-// Whether a node has a shape.
-fn has_shape<A: Allocator>(kind: &Kind<A>, shape: Shape) -> bool
-    ensures { result ≡ is_of shape (content_of kind.now) }
-{
-    match (shape, kind) {
-        (Shape::Object, Kind::Object(_)) => true,
-        (Shape::Array, Kind::Array(_)) => true,
-        _ => false,
-    }
-}
 
 // The value of a property, if it has a shape.
 fn shaped_value<A: Allocator>(tree: &Tree<A>, property: usize, shape: Shape) -> Option<usize>
@@ -62,32 +30,6 @@ fn shaped_value<A: Allocator>(tree: &Tree<A>, property: usize, shape: Shape) -> 
         Some(value)
     } else {
         None
-    }
-}
-
-// The value of a property, if it has a shape; another gives way to an empty one.
-fn value_or_set<A: Allocator + Copy>(
-    alloc: A,
-    tree: &mut Tree<A>,
-    property: usize,
-    shape: Shape,
-) -> Result<usize, EditError>
-    requires there { property < length tree.old.nodes }
-    requires property { content_at tree.old.nodes property ≡ Content.property }
-    ensures value { IfOk result
-        (HeldOrSet (is_of shape) (empty_of shape) tree.old.nodes tree.new.nodes property
-        (value_at tree.old.nodes property)) }
-    ensures shape { IfOk result (λ m. is_of shape (content_at tree.new.nodes m) ≡ true) }
-    ensures named { OnOk result (lacks_name_at tree.old.nodes property ≡ false) }
-    ensures told { IfErr result (IsUnset (is_of shape) tree.old.nodes property) }
-    ensures missing { IfErr result (λ e. lacks_name_at tree.old.nodes property ≡ true → e ≡ EditError.MissingName) }
-    ensures kept { OnErr result (Keeps (length tree.old.nodes) tree.old.nodes tree.new.nodes) }
-    ensures document { OnErr result (ordered_tree tree.new.nodes 0 ≡ ordered_tree tree.old.nodes 0) }
-    ensures tree { IsTree tree.new.nodes }
-{
-    match shape {
-        Shape::Object => property_object_or_set(alloc, tree, property),
-        Shape::Array => property_array_or_set(alloc, tree, property),
     }
 }
 
@@ -108,9 +50,7 @@ fn append_empty<A: Allocator + Copy>(
     ensures told { IfErr result (λ e. e ≡ refusal tree.old.nodes object) }
     ensures kept { OnErr result (Keeps (length tree.old.nodes) tree.old.nodes tree.new.nodes) }
     ensures document { OnErr result (ordered_tree tree.new.nodes 0 ≡ ordered_tree tree.old.nodes 0) }
-    ensures tree { IsTree tree.new.nodes }
 {
-    let _ = tree.len();
     // There are no more properties than children.
     let count = tree.child_count(object);
     let empty = empty_value(alloc, shape);
@@ -130,7 +70,7 @@ fn append_empty<A: Allocator + Copy>(
 ///
 /// Where no property has the name, one with an empty value comes behind the last one, as by
 /// `insert_property` of `jsonc_insert::members`. A value of another kind gives way to an empty one, and one that is
-/// missing is set so, as by `property_object_or_set` of `jsonc_edit::set`; or it stays as it is, and the answer is
+/// missing is set so, as by `property_value_or_set` of `jsonc_edit::set`; or it stays as it is, and the answer is
 /// None. A property whose value is to be set, and that lacks its colon, answers `MissingName`; an object
 /// into which a property is to come, and that lacks a bracket, `MissingBrackets`. Want of memory is told
 /// where neither is so, or of a name with a backslash, which takes memory to read. A refusal leaves the
@@ -151,9 +91,7 @@ pub fn ensure_property<A: Allocator + Copy>(
     ensures told { IfErr result (IsUnensured shape over tree.old.nodes object (chars name.now)) }
     ensures kept { OnErr result (Keeps (length tree.old.nodes) tree.old.nodes tree.new.nodes) }
     ensures document { OnErr result (ordered_tree tree.new.nodes 0 ≡ ordered_tree tree.old.nodes 0) }
-    ensures tree { IsTree tree.new.nodes }
 {
-    let _ = tree.len();
     let found = get(alloc, tree, object, name)?;
     let Some(property) = found else {
         return match append_empty(alloc, tree, object, name, shape) {
@@ -163,7 +101,7 @@ pub fn ensure_property<A: Allocator + Copy>(
     };
     match over {
         Over::Keep => Ok(shaped_value(tree, property, shape)),
-        Over::Replace => match value_or_set(alloc, tree, property, shape) {
+        Over::Replace => match property_value_or_set(alloc, tree, property, shape) {
             Ok(value) => Ok(Some(value)),
             Err(error) => Err(error),
         },

@@ -2,7 +2,6 @@
 use Rattle.std.specs.Prelude.{Bool, true, false, ℕ, List, Option, Some, None}
 use Rattle.jsonc_tree.specs.Content.{Content, array, object, whitespace}
 use Rattle.jsonc_tree.specs.Tree.{Node, content_at}
-pub use Rattle.jsonc_layout.specs.nodes.Kinds.{is_comma}
 
 -- the text of whitespace
 abbrev pub blank_of : Content → Option (List ℕ)

@@ -2,9 +2,8 @@
 use Rattle.std.specs.Prelude.{ℕ, Bool, not, List, Option, Some, None, if◌then◌else◌}
 use Rattle.std.specs.List.{find}
 use Rattle.jsonc_tree.specs.Tree.{Node, content_at}
-use Rattle.jsonc_layout.specs.nodes.Kinds.{is_trivia_at}
+use Rattle.jsonc_layout.specs.nodes.Kinds.{is_trivia_at, is_comma}
 use Rattle.jsonc_layout.specs.nodes.Siblings.{siblings_after}
-use Rattle.jsonc_layout.specs.lines.Kinds.{is_comma}
 
 abbrev pub is_no_trivia_at : List Node → ℕ → Bool
 is_no_trivia_at ns m = not (is_trivia_at ns m)

@@ -20,6 +20,11 @@ abbrev pub is_comma : Content → Bool
 is_comma (token c) = c == 0x2C
 is_comma _ = false
 
+-- a bracket, a comma, a colon or another single character
+abbrev pub is_token : Content → Bool
+is_token (token c) = true
+is_token content = false
+
 abbrev pub is_whitespace : Content → Bool
 is_whitespace (whitespace s) = true
 is_whitespace _ = false
@@ -50,6 +55,9 @@ is_element_at ns n = is_element (content_at ns n)
 
 abbrev pub is_colon_at : List Node → ℕ → Bool
 is_colon_at ns n = is_colon (content_at ns n)
+
+abbrev pub is_comma_at : List Node → ℕ → Bool
+is_comma_at ns n = is_comma (content_at ns n)
 
 abbrev pub is_whitespace_at : List Node → ℕ → Bool
 is_whitespace_at ns n = is_whitespace (content_at ns n)

@@ -3,7 +3,6 @@
 ghost use Rattle.std.specs.Prelude.{IfOk, IsTrue, OnOk};
 ghost use Rattle.jsonc_tree.specs.Content.{is_container, whitespace};
 ghost use Rattle.jsonc_tree.specs.Stored.{content_of};
-ghost use Rattle.jsonc_tree.specs.Tree.{IsTree};
 ghost use Rattle.jsonc_layout.specs.from_input.Extending.{Gains, IsUnfinished, KeepsAll, KeepsBefore, Makes};
 ghost use Rattle.jsonc_layout.specs.from_input.Given.{new_line};
 ghost use Rattle.jsonc_layout.specs.from_input.Laid.{begun, comma_if, gap_if, leaf_then, spaced};
@@ -21,7 +20,6 @@ pub(crate) fn begin_node<A: Allocator + Copy>(
     requires { IsTrue (is_container (content_of kind)) }
     ensures built { IfOk result (Makes tree.old tree.new (begun (content_of kind) (content_of first))) }
     ensures kept { KeepsAll tree.old tree.new }
-    ensures tree { IsTree tree.new.nodes }
 {
     let node = tree.add(kind)?;
     tree.push_child(node, first)?;
@@ -37,7 +35,6 @@ pub(crate) fn push_leaf<A: Allocator + Copy>(
     requires { IsUnfinished tree.old.nodes container }
     ensures added { OnOk result (Gains tree.old tree.new container (leaf_then (content_of kind))) }
     ensures kept { KeepsBefore container tree.old tree.new }
-    ensures tree { IsTree tree.new.nodes }
 {
     tree.push_child(container, kind)?;
     Ok(())
@@ -53,7 +50,6 @@ fn push_blanks<A: Allocator + Copy>(
     requires { IsUnfinished tree.old.nodes container }
     ensures added { OnOk result (Gains tree.old tree.new container (leaf_then (whitespace blanks.now))) }
     ensures kept { KeepsBefore container tree.old tree.new }
-    ensures tree { IsTree tree.new.nodes }
 {
     let blanks = String::from_str(alloc, blanks)?;
     push_leaf(tree, container, Kind::Whitespace(blanks))
@@ -69,7 +65,6 @@ pub(crate) fn push_spaced<A: Allocator + Copy>(
     requires { IsUnfinished tree.old.nodes container }
     ensures added { OnOk result (Gains tree.old tree.new container (spaced mark)) }
     ensures kept { KeepsBefore container tree.old tree.new }
-    ensures tree { IsTree tree.new.nodes }
 {
     push_leaf(tree, container, Kind::token(mark))?;
     push_blanks(alloc, tree, container, " ")
@@ -85,7 +80,6 @@ pub(crate) fn push_gap_if<A: Allocator + Copy>(
     requires { IsUnfinished tree.old.nodes container }
     ensures added { OnOk result (Gains tree.old tree.new container (gap_if wanted)) }
     ensures kept { KeepsBefore container tree.old tree.new }
-    ensures tree { IsTree tree.new.nodes }
 {
     if !wanted {
         return Ok(());
@@ -102,7 +96,6 @@ pub(crate) fn push_comma_if<A: Allocator + Copy>(
     requires { IsUnfinished tree.old.nodes container }
     ensures added { OnOk result (Gains tree.old tree.new container (comma_if wanted)) }
     ensures kept { KeepsBefore container tree.old tree.new }
-    ensures tree { IsTree tree.new.nodes }
 {
     if !wanted {
         return Ok(());
@@ -120,7 +113,6 @@ pub(crate) fn begin_line<A: Allocator + Copy>(
     requires { IsUnfinished tree.old.nodes container }
     ensures added { OnOk result (Gains tree.old tree.new container (new_line layout.now)) }
     ensures kept { KeepsBefore container tree.old tree.new }
-    ensures tree { IsTree tree.new.nodes }
 {
     push_leaf(tree, container, Kind::Newline(layout.newline))?;
     push_blanks(alloc, tree, container, layout.current.as_str())

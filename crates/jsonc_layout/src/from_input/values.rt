@@ -2,7 +2,6 @@
 
 ghost use Rattle.std.specs.Prelude.{◌≡◌, ◌||◌, IfOk, OnOk, chars, nat_lt};
 ghost use Rattle.jsonc_tree.specs.Content.{property};
-ghost use Rattle.jsonc_tree.specs.Tree.{IsTree};
 ghost use Rattle.jsonc_layout.specs.input.Views.{items_plain, plain};
 ghost use Rattle.jsonc_layout.specs.from_input.Extending.{Gains, IsUnfinished, KeepsAll, KeepsBefore, Makes};
 ghost use Rattle.jsonc_layout.specs.from_input.Given.{array_node, array_row, element_line, element_lines};
@@ -29,9 +28,7 @@ fn add_number<A: Allocator + Copy>(
 ) -> Result<usize, AllocError>
     ensures built { IfOk result (Makes tree.old tree.new (leaf (number_leaf (chars text.now)))) }
     ensures kept { KeepsAll tree.old tree.new }
-    ensures tree { IsTree tree.new.nodes }
 {
-    let _ = tree.len();
     let literal = String::from_str(alloc, text)?;
     tree.add(Kind::Number(literal))
 }
@@ -44,9 +41,7 @@ fn add_string<A: Allocator + Copy>(
 ) -> Result<usize, AllocError>
     ensures built { IfOk result (Makes tree.old tree.new (leaf (string_leaf (chars text.now)))) }
     ensures kept { KeepsAll tree.old tree.new }
-    ensures tree { IsTree tree.new.nodes }
 {
-    let _ = tree.len();
     let literal = spell(alloc, text)?;
     tree.add(Kind::String(literal))
 }
@@ -59,9 +54,7 @@ fn begin_property<A: Allocator + Copy>(
 ) -> Result<usize, AllocError>
     ensures built { IfOk result (Makes tree.old tree.new (begun property (string_leaf (chars name.now)))) }
     ensures kept { KeepsAll tree.old tree.new }
-    ensures tree { IsTree tree.new.nodes }
 {
-    let _ = tree.len();
     let literal = spell(alloc, name)?;
     begin_node(tree, Kind::Property(Ends::none()), Kind::String(literal))
 }
@@ -111,7 +104,6 @@ pub fn lay_out<A: Allocator + Copy>(
 ) -> Result<usize, AllocError>
     ensures built { IfOk result (Makes tree.old tree.new (value_node layout.now value.now)) }
     ensures kept { KeepsAll tree.old tree.new }
-    ensures tree { IsTree tree.new.nodes }
 {
     match value {
         CstInputValue::Null => tree.add(Kind::Null),
@@ -139,7 +131,6 @@ pub fn lay_out_property<A: Allocator + Copy>(
 ) -> Result<usize, AllocError>
     ensures built { IfOk result (Makes tree.old tree.new (property_node layout.now name.now value.now)) }
     ensures kept { KeepsAll tree.old tree.new }
-    ensures tree { IsTree tree.new.nodes }
 {
     let property = begin_property(alloc, tree, name)?;
     push_spaced(alloc, tree, property, ':')?;
@@ -157,7 +148,6 @@ fn lay_out_array<A: Allocator + Copy>(
 ) -> Result<usize, AllocError>
     ensures built { IfOk result (Makes tree.old tree.new (array_node layout.now elements.now)) }
     ensures kept { KeepsAll tree.old tree.new }
-    ensures tree { IsTree tree.new.nodes }
 {
     let array = begin_node(tree, Kind::Array(Ends::none()), Kind::token('['))?;
     push_elements(alloc, tree, array, elements, layout)?;
@@ -175,7 +165,6 @@ fn lay_out_object<A: Allocator + Copy>(
 ) -> Result<usize, AllocError>
     ensures built { IfOk result (Makes tree.old tree.new (object_node layout.now properties.now)) }
     ensures kept { KeepsAll tree.old tree.new }
-    ensures tree { IsTree tree.new.nodes }
 {
     let object = begin_node(tree, Kind::Object(Ends::none()), Kind::token('{'))?;
     push_properties(alloc, tree, object, properties, layout)?;
@@ -195,7 +184,6 @@ fn push_value<A: Allocator + Copy>(
     requires { IsUnfinished tree.old.nodes container }
     ensures added { OnOk result (Gains tree.old tree.new container (node_then (value_node layout.now value.now))) }
     ensures kept { KeepsBefore container tree.old tree.new }
-    ensures tree { IsTree tree.new.nodes }
 {
     let node = lay_out(alloc, tree, value, layout)?;
     tree.attach(container, node)
@@ -215,7 +203,6 @@ fn push_property<A: Allocator + Copy>(
     ensures added { OnOk result
         (Gains tree.old tree.new object (node_then (property_node layout.now name.now value.now))) }
     ensures kept { KeepsBefore object tree.old tree.new }
-    ensures tree { IsTree tree.new.nodes }
 {
     let node = lay_out_property(alloc, tree, name, value, layout)?;
     tree.attach(object, node)
@@ -233,7 +220,6 @@ fn push_elements<A: Allocator + Copy>(
     requires { IsUnfinished tree.old.nodes array }
     ensures added { OnOk result (Gains tree.old tree.new array (array_row layout.now elements.now)) }
     ensures kept { KeepsBefore array tree.old tree.new }
-    ensures tree { IsTree tree.new.nodes }
 {
     if !holds_filled(elements) {
         return push_elements_on_one_line(alloc, tree, array, elements, layout);
@@ -255,7 +241,6 @@ fn push_properties<A: Allocator + Copy>(
     requires { IsUnfinished tree.old.nodes object }
     ensures added { OnOk result (Gains tree.old tree.new object (object_row layout.now properties.now)) }
     ensures kept { KeepsBefore object tree.old tree.new }
-    ensures tree { IsTree tree.new.nodes }
 {
     if properties.is_empty() {
         return Ok(());
@@ -277,7 +262,6 @@ fn push_elements_on_one_line<A: Allocator + Copy>(
     requires { IsUnfinished tree.old.nodes array }
     ensures added { OnOk result (Gains tree.old tree.new array (element_line layout.now elements.now)) }
     ensures kept { KeepsBefore array tree.old tree.new }
-    ensures tree { IsTree tree.new.nodes }
 {
     for (place, element) in elements.iter().enumerate() {
         let others = elements.len() - place - 1;
@@ -299,7 +283,6 @@ fn push_elements_on_lines<A: Allocator + Copy>(
     requires { IsUnfinished tree.old.nodes array }
     ensures added { OnOk result (Gains tree.old tree.new array (element_lines layout.now elements.now)) }
     ensures kept { KeepsBefore array tree.old tree.new }
-    ensures tree { IsTree tree.new.nodes }
 {
     for (place, element) in elements.iter().enumerate() {
         let others = elements.len() - place - 1;
@@ -322,7 +305,6 @@ fn push_properties_on_lines<A: Allocator + Copy>(
     requires { IsUnfinished tree.old.nodes object }
     ensures added { OnOk result (Gains tree.old tree.new object (property_lines layout.now properties.now)) }
     ensures kept { KeepsBefore object tree.old tree.new }
-    ensures tree { IsTree tree.new.nodes }
 {
     for (place, property) in properties.iter().enumerate() {
         let others = properties.len() - place - 1;

@@ -35,7 +35,6 @@ pub fn last_child_element<A: Allocator>(tree: &Tree<A>, node: usize) -> Option<u
     ensures last { result ≡ last_element tree.now.nodes (children_at tree.now.nodes node) }
     ensures there { IfSome result (λ m. m < length tree.now.nodes) }
 {
-    let _ = tree.len();
     tree.children_reversed(node)
         .find(|child| is_element(tree, *child))
 }
@@ -127,7 +126,6 @@ pub fn newline_kind<A: Allocator + Copy>(
 ) -> Result<CstNewlineKind, AllocError>
     ensures kind { IfOk result (λ kind. kind ≡ newline_kind_of tree.now.nodes) }
 {
-    let _ = tree.len();
     let Some(node) = first_sought(alloc, tree, Sought::LineEnd, 0)? else {
         return Ok(CstNewlineKind::LineFeed);
     };

@@ -106,7 +106,6 @@ pub fn single_indent_text<A: Allocator>(
 ) -> Result<Option<String<A>>, AllocError>
     ensures indent { IfOk result (λ o. text_in o ≡ single_indent_of tree.now.nodes) }
 {
-    let _ = tree.len();
     let Some(value) = first_element_from(tree, 0, 0) else {
         return Ok(None);
     };

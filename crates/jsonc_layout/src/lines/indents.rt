@@ -26,7 +26,6 @@ pub fn stands_in_property<A: Allocator>(tree: &Tree<A>, node: usize) -> bool
     requires { node < length tree.now.nodes }
     ensures { result ≡ is_some_property tree.now.nodes (parent_at tree.now.nodes node) }
 {
-    let _ = tree.len();
     match tree.parent(node) {
         Some(parent) => is_property_kind(tree.kind(parent)),
         None => false,
@@ -39,7 +38,6 @@ fn beyond_properties<A: Allocator>(tree: &Tree<A>, node: usize) -> Option<usize>
     ensures above { above_properties tree.now.nodes node ≡ upward tree.now.nodes result }
     ensures there { IfSome result (λ m. m < length tree.now.nodes) }
 {
-    let _ = tree.len();
     let mut next = tree.parent(node);
     while let Some(at) = next {
         if !is_property_kind(tree.kind(at)) {
@@ -61,7 +59,6 @@ fn levels_above<A: Allocator>(
     ensures there { IfOk result (λ v. All (λ m. m < length tree.now.nodes) v.items) }
 {
     let mut levels = Vec::new(alloc);
-    let _ = tree.len();
     let mut next = beyond_properties(tree, node);
     while let Some(at) = next {
         if at == 0 {
@@ -202,7 +199,6 @@ fn document_indent<A: Allocator + Copy>(
     if root_node(tree, node).is_none() {
         return Ok(None);
     }
-    let _ = tree.len();
     let Some(value) = first_element_from(tree, 0, 0) else {
         return Ok(None);
     };

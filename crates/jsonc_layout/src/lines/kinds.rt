@@ -1,7 +1,8 @@
 //! Kinds of nodes, as a layout is told from them.
 ghost use Rattle.std.specs.Prelude.{◌≡◌, option_map};
 ghost use Rattle.jsonc_tree.specs.Stored.{content_of};
-ghost use Rattle.jsonc_layout.specs.lines.Kinds.{blank_at, blank_of, holds_values, is_comma};
+ghost use Rattle.jsonc_layout.specs.lines.Kinds.{blank_at, blank_of, holds_values};
+ghost use Rattle.jsonc_layout.specs.nodes.Kinds.{is_comma};
 
 use jsonc_tree::{Kind, Tree};
 use std::alloc::Allocator;
@@ -24,16 +25,6 @@ pub fn blank_at<A: Allocator>(tree: &Tree<A>, node: usize) -> Option<&str>
         return None;
     }
     blank_of(tree.kind(node))
-}
-
-/// Whether a node is a comma.
-pub fn is_comma<A: Allocator>(kind: &Kind<A>) -> bool
-    ensures { result ≡ is_comma (content_of kind.now) }
-{
-    match kind {
-        Kind::Token(c) => c.get() == ',',
-        _ => false,
-    }
 }
 
 /// Whether a node is an array or an object.

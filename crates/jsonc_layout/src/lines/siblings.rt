@@ -4,8 +4,9 @@ ghost use Rattle.jsonc_layout.specs.nodes.Siblings.{IsThere};
 ghost use Rattle.jsonc_layout.specs.lines.Lines.{blank_line_before};
 ghost use Rattle.jsonc_layout.specs.lines.Siblings.{after_trivia_at, trailing_comma_at};
 
-use crate::lines::kinds::is_comma;
-use crate::nodes::{is_newline, is_trivia, is_whitespace, next_siblings, previous_siblings};
+use crate::nodes::{
+    is_comma, is_newline, is_trivia, is_whitespace, next_siblings, previous_siblings,
+};
 use jsonc_tree::Tree;
 use std::alloc::Allocator;
 
@@ -26,7 +27,7 @@ pub fn trailing_comma<A: Allocator>(tree: &Tree<A>, node: usize) -> Option<usize
     let Some(next) = after_trivia(tree, node) else {
         return None;
     };
-    if is_comma(tree.kind(next)) {
+    if is_comma(tree, next) {
         return Some(next);
     }
     None

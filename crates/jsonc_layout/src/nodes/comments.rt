@@ -10,8 +10,8 @@ use crate::nodes::siblings::{next_siblings, previous_siblings};
 use jsonc_tree::Tree;
 use std::alloc::{AllocError, Allocator};
 
-// The nearest sibling after a node that is neither whitespace nor a comment.
-fn after_beside<A: Allocator>(tree: &Tree<A>, node: usize) -> Option<usize>
+/// The nearest sibling after a node that is neither whitespace nor a comment.
+pub fn after_beside<A: Allocator>(tree: &Tree<A>, node: usize) -> Option<usize>
     requires { node < length tree.now.nodes }
     ensures sibling { result ≡ after_beside_at tree.now.nodes node }
     ensures there { IsThere tree.now.nodes result }

@@ -55,7 +55,6 @@ pub fn children_from<A: Allocator>(
     ensures there { AreThere tree.now.nodes result }
     ensures countable { length result < 2 ^ 64 }
 {
-    let _ = tree.len();
     let mut children = tree.children(container);
     for _passed in 0..place {
         let Some(_) = children.next() else {
@@ -72,7 +71,6 @@ pub fn next_siblings<A: Allocator>(tree: &Tree<A>, node: usize) -> Children<'_, 
     ensures there { AreThere tree.now.nodes result }
     ensures countable { length result < 2 ^ 64 }
 {
-    let _ = tree.len();
     tree.next_siblings(node)
 }
 
@@ -83,7 +81,6 @@ pub fn previous_siblings<A: Allocator>(tree: &Tree<A>, node: usize) -> PreviousS
     ensures there { AreThere tree.now.nodes result }
     ensures countable { length result < 2 ^ 64 }
 {
-    let _ = tree.len();
     tree.previous_siblings(node)
 }
 
@@ -111,7 +108,6 @@ fn from_line_start<A: Allocator>(tree: &Tree<A>, node: usize) -> Children<'_, A>
     requires { node < length tree.now.nodes }
     ensures { result ≡ row_from_line tree.now.nodes node }
 {
-    let _ = tree.len();
     if let Some(newline) = newline_before(tree, node) {
         return tree.next_siblings(newline);
     }
@@ -127,7 +123,6 @@ pub fn line_before<A: Allocator>(tree: &Tree<A>, node: usize) -> LineBefore<'_, 
     ensures siblings { result ≡ line_before tree.now.nodes node }
     ensures there { AreThere tree.now.nodes result }
 {
-    let _ = tree.len();
     let left = count_on_line(tree, node);
     LineBefore {
         rest: from_line_start(tree, node),

@@ -36,7 +36,6 @@ pub fn children<A: Allocator, B: Allocator>(
     ensures children { IfOk result (λ v. v.items ≡ children_at tree.now.nodes node) }
     ensures there { IfOk result (λ v. AreThere tree.now.nodes v.items) }
 {
-    let _ = tree.len();
     let mut list = Vec::new(alloc);
     push_children(&mut list, tree, node)?;
     Ok(list)
@@ -52,7 +51,6 @@ pub fn elements<A: Allocator, B: Allocator>(
     ensures elements { IfOk result (λ v. v.items ≡ elements_at tree.now.nodes node) }
     ensures there { IfOk result (λ v. AreThere tree.now.nodes v.items) }
 {
-    let _ = tree.len();
     let mut list = Vec::new(alloc);
     for child in tree.children(node) {
         if is_element(tree, child) {

@@ -4,7 +4,7 @@ ghost use Rattle.std.specs.Prelude.{◌≡◌, ◌<◌, chars, false, length, If
 ghost use Rattle.jsonc_text.specs.Plain.{number};
 ghost use Rattle.jsonc_layout.specs.input.Views.{plain};
 ghost use Rattle.jsonc_tree.specs.OrderedTree.{ordered_tree};
-ghost use Rattle.jsonc_tree.specs.Tree.{content_at, is_container_at, IsTree};
+ghost use Rattle.jsonc_tree.specs.Tree.{content_at, is_container_at};
 ghost use Rattle.jsonc_layout.specs.nodes.Names.{is_string};
 ghost use Rattle.jsonc_layout.specs.to_input.Given.{holds_value};
 ghost use Rattle.jsonc_layout.specs.to_input.Taken.{ElementsTaken, IsMemberTaken, IsTaken, IsTakenAt};
@@ -75,7 +75,6 @@ fn take<A: Allocator, B: Allocator + Copy>(
     node: usize,
 ) -> Result<Option<CstInputValue<B>>, AllocError>
     requires there { node < length tree.now.nodes }
-    requires tree { IsTree tree.now.nodes }
     ensures { IfOk result (IsTakenAt tree.now.nodes node) }
 {
     match tree.kind(node) {
@@ -94,7 +93,6 @@ fn take_held<A: Allocator, B: Allocator + Copy>(
     node: usize,
 ) -> Result<Option<CstInputValue<B>>, AllocError>
     requires there { node < length tree.now.nodes }
-    requires tree { IsTree tree.now.nodes }
     requires holds { IsTrue (holds_value (content_at tree.now.nodes node)) }
     ensures { IfOk result (IsTakenAt tree.now.nodes node) }
 {
@@ -112,7 +110,6 @@ fn take_elements<A: Allocator, B: Allocator + Copy>(
     array: usize,
 ) -> Result<Vec<CstInputValue<B>, B>, AllocError>
     requires there { array < length tree.now.nodes }
-    requires tree { IsTree tree.now.nodes }
     ensures { IfOk result (λ v. ElementsTaken tree.now.nodes array v.items) }
 {
     let mut elements = Vec::new(alloc);
@@ -132,7 +129,6 @@ fn take_properties<A: Allocator, B: Allocator + Copy>(
     object: usize,
 ) -> Result<Vec<(String<B>, CstInputValue<B>), B>, AllocError>
     requires there { object < length tree.now.nodes }
-    requires tree { IsTree tree.now.nodes }
     ensures { IfOk result (λ v. MembersTaken tree.now.nodes object v.items) }
 {
     let mut properties = IndexMap::new(alloc);
@@ -180,7 +176,6 @@ fn take_property<A: Allocator, B: Allocator + Copy>(
     child: usize,
 ) -> Result<Option<(String<B>, CstInputValue<B>)>, AllocError>
     requires there { child < length tree.now.nodes }
-    requires tree { IsTree tree.now.nodes }
     ensures { IfOk result (IsMemberTaken tree.now.nodes child) }
 {
     let Kind::Property(_) = tree.kind(child) else {
@@ -210,6 +205,5 @@ pub fn to_value<A: Allocator, B: Allocator + Copy>(
     requires { node < length tree.now.nodes }
     ensures { IfOk result (IsTaken (ordered_tree tree.now.nodes node)) }
 {
-    let _ = tree.len();
     take(alloc, tree, node)
 }

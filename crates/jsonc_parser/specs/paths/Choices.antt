@@ -3,7 +3,7 @@ use Rattle.std.specs.Prelude.{◌≡◌, ◌+◌, ◌∷◌, true, ℕ, List, Op
 use Rattle.jsonc_text.specs.Edits.{Document}
 use Rattle.jsonc_text.specs.Plain.{Plain}
 use Rattle.jsonc_sound.specs.Documents.{Shows}
-use Rattle.jsonc_insert.specs.declared.named.shape.Over.{Over}
+use Rattle.jsonc_text.specs.declared.edit.Over.{Over}
 use Rattle.jsonc_run.specs.declared.edit.Edit.{Edit}
 use Rattle.jsonc_run.specs.Edits.{append_property, is_whole, operation_of, unsorted}
 use Rattle.jsonc_cst.specs.declared.cst.CstRootNode.{CstRootNode}

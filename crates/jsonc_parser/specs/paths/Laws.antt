@@ -1,8 +1,8 @@
 -- Laws of settings: what is put, and what leaves, seen at a path of names.
 use Rattle.std.specs.Prelude.{◌≡◌, ◌↔◌, ◌⊎◌, ℕ, List, Option}
 use Rattle.jsonc_text.specs.Plain.{Plain}
-use Rattle.jsonc_insert.specs.declared.named.shape.Over.{Over}
-use Rattle.jsonc_insert.specs.declared.named.shape.Over.TheVariants.{Keep}
+use Rattle.jsonc_text.specs.declared.edit.Over.{Over}
+use Rattle.jsonc_text.specs.declared.edit.Over.TheVariants.{Keep}
 use Rattle.jsonc_parser.specs.paths.Settings.{At, Put, Dropped, Differ, StandsInTheWay}
 
 -- no two values stand at the names

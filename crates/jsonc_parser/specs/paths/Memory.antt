@@ -7,7 +7,7 @@ use Rattle.jsonc_tree.specs.OrderedTree.{ordered_tree}
 use Rattle.jsonc_tree.specs.Tree.{Node}
 use Rattle.jsonc_layout.specs.nodes.Names.{HoldsEscapedName}
 use Rattle.jsonc_sound.specs.Documents.{Shows}
-use Rattle.jsonc_insert.specs.declared.named.shape.Over.{Over}
+use Rattle.jsonc_text.specs.declared.edit.Over.{Over}
 use Rattle.jsonc_parser.specs.paths.Laws.{MustStay}
 use Rattle.jsonc_parser.specs.paths.Settings.{At, StandsInTheWay}
 use Rattle.jsonc_parser.specs.paths.Standing.{NamesNode}

@@ -1,8 +1,8 @@
 -- Settings: values at a path of names. Each name leads from an object to the value of its first property of that name; a document has one value or none.
 use Rattle.std.specs.Prelude.{◌≡◌, ◌≢◌, ℕ, List, [], ◌∷◌, Option, Some, None}
 use Rattle.jsonc_text.specs.Plain.{Plain, object, Members, no_members, member}
-use Rattle.jsonc_insert.specs.declared.named.shape.Over.{Over}
-use Rattle.jsonc_insert.specs.declared.named.shape.Over.TheVariants.{Replace}
+use Rattle.jsonc_text.specs.declared.edit.Over.{Over}
+use Rattle.jsonc_text.specs.declared.edit.Over.TheVariants.{Replace}
 
 -- the first property of this name has this value
 pub data FirstIs (name : List ℕ) (v : Plain) : Members → Type 0 where

@@ -1,9 +1,7 @@
 //! Lists of edits.
 
 ghost use Rattle.std.specs.Prelude.{◌≡◌, IfErr, OnErr, OnOk};
-ghost use Rattle.jsonc_tree.specs.Tree.{IsTree};
 ghost use Rattle.jsonc_cst.specs.Document.{nodes_of};
-ghost use Rattle.jsonc_cst.specs.Tree.{NodesAreTree};
 ghost use Rattle.jsonc_run.specs.Edits.{operation_of, rearrange, IsMade, Sorting};
 ghost use Rattle.jsonc_run.specs.Refusals.{IsLeft, IsToldBy};
 ghost use Rattle.jsonc_parser.specs.Lists.{HaveBeenMade, HaveStopped, IsMadeSo, IsSorting, MayBeAsked};
@@ -30,16 +28,12 @@ fn sort_at<A: Allocator + Copy, D: IsDocument<A>, C: Fn(&D, CstNode, CstNode) ->
         → IfErr result (IsToldBy (nodes_of doc.old) (rearrange path.now s.headers s.order)) }
     ensures left { (s : Sorting)
         → OnErr result (IsLeft (nodes_of doc.old) (rearrange path.now s.headers s.order) (nodes_of doc.new)) }
-    ensures tree { IsTree (nodes_of doc.new) }
 {
-    let _ = doc.tree.len();
-    let Some(number) = find_container(&doc.tree, path) else {
+    let Some(number) = find_container(doc.tree(), path) else {
         return Err(EditError::NoSuchPlace);
     };
-    let container = node_at(&doc.tree, number);
-    let sorted = sort_container(doc, container, pin, groups, compare);
-    let _ = doc.tree.len();
-    sorted
+    let container = node_at(doc.tree(), number);
+    sort_container(doc, container, pin, groups, compare)
 }
 
 // Makes an edit.
@@ -53,12 +47,10 @@ fn make<A: Allocator + Copy, D: IsDocument<A>, C: Fn(&D, CstNode, CstNode) -> Or
     ensures told { (s : Sorting) → IfErr result (IsToldBy (nodes_of doc.old) (operation_of s edit.now)) }
     ensures left { (s : Sorting)
         → OnErr result (IsLeft (nodes_of doc.old) (operation_of s edit.now) (nodes_of doc.new)) }
-    ensures tree { IsTree (nodes_of doc.new) }
 {
-    let _ = doc.tree.len();
     match edit {
         Edit::Sort(path, pin, groups) => sort_at(doc, path, *pin, *groups, compare),
-        _ => jsonc_run::make(doc.alloc, &mut doc.tree, edit),
+        _ => doc.make(edit),
     }
 }
 
@@ -73,7 +65,6 @@ fn make_all<A: Allocator + Copy, D: IsDocument<A>, C: Fn(&D, CstNode, CstNode) -
     ensures stopped { IfErr result
         (λ e. HaveStopped C.Fn compare.now D.same doc.old edits.now e.0 e.1 doc.new) }
 {
-    let _ = doc.tree.len();
     for (count, edit) in edits.iter().enumerate() {
         if let Err(stop) = make(doc, edit, compare) {
             return Err((count, stop));
@@ -111,9 +102,6 @@ pub fn run<A: Allocator + Copy, D: IsDocument<A>, C: Fn(&D, CstNode, CstNode) ->
     ensures made { OnOk result (HaveBeenMade C.Fn compare.now D.same doc.old edits.items doc.new) }
     ensures stopped { IfErr result
         (λ e. HaveStopped C.Fn compare.now D.same doc.old edits.items e.0 e.1 doc.new) }
-    ensures tree { NodesAreTree doc.new }
 {
-    let done = make_all(doc, &edits, compare);
-    doc.nodes_are_tree();
-    done
+    make_all(doc, &edits, compare)
 }

@@ -7,7 +7,7 @@ ghost use Rattle.jsonc_cst.specs.Nodes.{number_of};
 ghost use Rattle.jsonc_parser.specs.paths.Found.{names_of, FindsInsideWhatShown, FindsWhatShown, ReadsWhatShown};
 ghost use Rattle.jsonc_parser.specs.paths.Memory.{WantsForSomething, WantsToLookUp};
 
-use jsonc_cst::cst::{CstInputValue, CstNode, CstRootNode, EditError, Readings};
+use jsonc_cst::cst::{CstInputValue, CstNode, CstRootNode, EditError, IsNode};
 use std::alloc::Allocator;
 
 // The value of the first property of a name, in an object.
@@ -22,7 +22,6 @@ fn find_inside<A: Allocator + Copy>(
     ensures memory { IfErr result (λ e. e ≡ EditError.OutOfMemory) }
     ensures escaped { OnErr result (HoldsEscapedName (nodes_of doc.now) (number_of node)) }
 {
-    doc.nodes_are_tree();
     let Some(object) = node.as_object() else {
         return Ok(None);
     };
@@ -46,7 +45,6 @@ pub fn find_at<A: Allocator + Copy>(
     ensures memory { IfErr result (λ e. e ≡ EditError.OutOfMemory) }
     ensures wanted { OnErr result (WantsToLookUp (nodes_of doc.now) (names_of names.now)) }
 {
-    doc.nodes_are_tree();
     let Some(value) = doc.value() else {
         return Ok(None);
     };
@@ -73,7 +71,6 @@ pub fn read_at<A: Allocator + Copy>(
     ensures memory { IfErr result (λ e. e ≡ EditError.OutOfMemory) }
     ensures wanted { OnErr result (WantsForSomething (nodes_of doc.now) (names_of names.now)) }
 {
-    doc.nodes_are_tree();
     match find_at(doc, names) {
         Ok(Some(node)) => node.to_value(doc),
         Ok(None) => Ok(None),

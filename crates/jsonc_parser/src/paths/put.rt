@@ -2,11 +2,9 @@
 
 ghost use Rattle.std.specs.Prelude.{◌≡◌, ◌<◌, ◌∷◌, [], length, true, IfErr, IfOk, OnErr, OnOk};
 ghost use Rattle.jsonc_layout.specs.input.Views.{chars_of, plain};
-ghost use Rattle.jsonc_tree.specs.Tree.{IsTree};
 ghost use Rattle.jsonc_run.specs.Edits.{is_whole, operation_of, unsorted, IsMade};
 ghost use Rattle.jsonc_run.specs.Refusals.{IsToldBy};
 ghost use Rattle.jsonc_cst.specs.Document.{nodes_of, tree_of};
-ghost use Rattle.jsonc_cst.specs.Tree.{NodesAreTree};
 ghost use Rattle.jsonc_parser.specs.paths.Calls.{DropsWhatShown, PutsWhatShown, WantsMemory};
 ghost use Rattle.jsonc_parser.specs.paths.Choices.{Chooses, IsAppending};
 ghost use Rattle.jsonc_parser.specs.paths.Found.{names_of};
@@ -16,7 +14,7 @@ ghost use Rattle.jsonc_parser.specs.paths.Settings.{nest};
 use crate::paths::find::find_at;
 use crate::paths::reached::{Reached, is_in_the_way, reach};
 use jsonc_cst::cst::{CstInputValue, CstRootNode, EditError};
-use jsonc_run::{Edit, Over, make};
+use jsonc_run::{Edit, Over};
 use std::alloc::Allocator;
 
 // A name, as text of its own.
@@ -103,7 +101,7 @@ fn choose<A: Allocator + Copy>(
     ensures chosen { IfOk result (Chooses doc.now (plain value) over (names_of names.now)) }
     ensures memory { IfErr result (λ e. e ≡ EditError.OutOfMemory) }
 {
-    let alloc = doc.alloc;
+    let alloc = *doc.allocator();
     match reach(doc, names) {
         Ok(Reached::Nothing) => match nested(alloc, names, value) {
             Ok(value) => Ok(Some(Edit::SetRoot(value))),
@@ -150,10 +148,8 @@ fn make_one<A: Allocator + Copy>(doc: &mut CstRootNode<A>, edit: Edit<A>) -> Res
     ensures made { OnOk result (IsMade (nodes_of doc.old) (operation_of unsorted edit) (nodes_of doc.new)) }
     ensures told { IfErr result (IsToldBy (nodes_of doc.old) (operation_of unsorted edit)) }
     ensures document { OnErr result (tree_of doc.new ≡ tree_of doc.old) }
-    ensures tree { IsTree (nodes_of doc.new) }
 {
-    doc.nodes_are_tree();
-    make(doc.alloc, &mut doc.tree, &edit)
+    doc.make(&edit)
 }
 
 /// Puts a value at a path of names, by one edit or none. With no names it becomes the document's value.
@@ -176,9 +172,7 @@ pub fn set_at<A: Allocator + Copy>(
     ensures told { IfErr result (WantsMemory (nodes_of doc.old)) }
     ensures wanted { OnErr result (WantsToPut over (nodes_of doc.old) (names_of names.now)) }
     ensures document { OnErr result (tree_of doc.new ≡ tree_of doc.old) }
-    ensures tree { NodesAreTree doc.new }
 {
-    doc.nodes_are_tree();
     // What is to stay is seen before memory is wanted for the edit.
     let stays = match must_stay(doc, names, over) {
         Ok(stays) => stays,
@@ -192,9 +186,7 @@ pub fn set_at<A: Allocator + Copy>(
         Ok(None) => return Ok(false),
         Err(error) => return Err(error),
     };
-    let made = make_one(doc, edit);
-    doc.nodes_are_tree();
-    match made {
+    match make_one(doc, edit) {
         Ok(()) => Ok(true),
         Err(error) => Err(error),
     }
@@ -215,9 +207,7 @@ pub fn remove_at<A: Allocator + Copy>(
     ensures told { IfErr result (WantsMemory (nodes_of doc.old)) }
     ensures wanted { OnErr result (WantsForSomething (nodes_of doc.old) (names_of names.now)) }
     ensures document { OnErr result (tree_of doc.new ≡ tree_of doc.old) }
-    ensures tree { NodesAreTree doc.new }
 {
-    doc.nodes_are_tree();
     // Whether something stands there is seen before memory is wanted for the edit.
     match find_at(doc, names) {
         Ok(Some(_)) => {}
@@ -231,9 +221,7 @@ pub fn remove_at<A: Allocator + Copy>(
         Ok(Reached::Another(_, _)) => return Ok(false),
         Err(error) => return Err(error),
     };
-    let made = make_one(doc, Edit::Remove(path));
-    doc.nodes_are_tree();
-    match made {
+    match make_one(doc, Edit::Remove(path)) {
         Ok(()) => Ok(true),
         Err(error) => Err(error),
     }

@@ -47,7 +47,6 @@ fn step_from<A: Allocator + Copy>(
     ensures memory { IfErr result (λ e. e ≡ EditError.OutOfMemory) }
     ensures escaped { OnErr result (HoldsEscapedName (nodes_of doc.now) (number_of node)) }
 {
-    doc.nodes_are_tree();
     let Some(object) = node.as_object() else {
         return Ok(Step::Another);
     };
@@ -72,11 +71,10 @@ pub fn reach<A: Allocator + Copy>(
     ensures within { IfOk result (CountsWithin (length names.now)) }
     ensures memory { IfErr result (λ e. e ≡ EditError.OutOfMemory) }
 {
-    doc.nodes_are_tree();
     let Some(value) = doc.value() else {
         return Ok(Reached::Nothing);
     };
-    let mut path = Vec::new(doc.alloc);
+    let mut path = Vec::new(*doc.allocator());
     let mut node = value;
     for (count, name) in names.iter().enumerate() {
         match step_from(doc, node, name) {
@@ -105,7 +103,6 @@ pub fn is_in_the_way<A: Allocator + Copy>(
     ensures memory { IfErr result (λ e. e ≡ EditError.OutOfMemory) }
     ensures wanted { OnErr result (WantsToLookUp (nodes_of doc.now) (names_of names.now)) }
 {
-    doc.nodes_are_tree();
     let Some(value) = doc.value() else {
         return Ok(false);
     };

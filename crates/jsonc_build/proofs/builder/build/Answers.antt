@@ -15,7 +15,7 @@ pub returns-clause-laid : goal.returns-clause-laid
 returns-clause-laid g c =
     let made = c.in_ok-tree.ensures in
     let built = c.in_ok-build_root.ensures in
-    (built.0, grown_root c.in_ok-tree.tree.nodes c.build_root.new.tree.nodes built.0 made.one made.bare c.len.ensures.tree built.1, built.2)
+    (built.0, grown_root c.in_ok-tree.tree.nodes c.build_root.new.tree.nodes built.0 made.one made.bare c.build_root.new.tree.tree built.1, built.2)
 
 pub returns-clause-printed : goal.returns-clause-printed
 returns-clause-printed g c =

@@ -1,5 +1,8 @@
 -- Values of properties by name: what is answered, what is written, and which nodes stay.
-use Rattle.std.proofs.Common.{◌≡◌, ℕ, ◌<◌, true, List, length, Option, Some, None, refl, sym, ap, ◌∙◌}
+use Rattle.std.proofs.Common.{◌≡◌, ℕ, ◌<◌, true, List, length, Option, Some, None, refl, sym, ap, subst, ◌∙◌}
+use Rattle.std.proofs.lemmas.List.{get_or_default}
+use Rattle.std.proofs.lemmas.List.Elements.{All-head, All-tail}
+use Rattle.std.specs.List.{All}
 use Rattle.jsonc_text.specs.Options.{Options}
 use Rattle.jsonc_tree.specs.Content as content
 use Rattle.jsonc_tree.specs.Content.{Content, property}
@@ -8,13 +11,13 @@ use Rattle.jsonc_tree.specs.Tree.{Node, content_at, IsTree}
 use Rattle.jsonc_tree.proofs.Order.{parent_there}
 use Rattle.jsonc_layout.specs.nodes.Names.{FirstInObject}
 use Rattle.jsonc_layout.specs.nodes.Properties.{value_at}
-use Rattle.jsonc_edit.specs.declared.error.EditError.{EditError}
-use Rattle.jsonc_insert.specs.declared.named.shape.Over.{Over}
-use Rattle.jsonc_insert.specs.declared.named.shape.Over.TheVariants as over
-use Rattle.jsonc_insert.specs.declared.named.shape.Shape.{Shape}
-use Rattle.jsonc_insert.specs.declared.named.shape.Shape.TheVariants.{Object, Array}
+use Rattle.jsonc_text.specs.declared.edit.EditError.{EditError}
+use Rattle.jsonc_text.specs.declared.edit.Over.{Over}
+use Rattle.jsonc_text.specs.declared.edit.Over.TheVariants as over
+use Rattle.jsonc_text.specs.declared.edit.Shape.{Shape}
+use Rattle.jsonc_text.specs.declared.edit.Shape.TheVariants.{Object, Array}
 use Rattle.jsonc_insert.specs.named.Named.{EnsuredFor, IsUnensured, NamedEnsured}
-use Rattle.jsonc_insert.specs.named.Shapes.{is_of, empty_of}
+use Rattle.jsonc_edit.specs.set.Shapes.{is_of, empty_of}
 use Rattle.jsonc_insert.proofs.lemmas.named.Writing.{wants_memory, writes_named}
 use Rattle.jsonc_cst.specs.typed.Edits.{StaysElsewhere}
 use Rattle.jsonc_cst.specs.typed.Removing.{WantsMemoryAlone}

@@ -1,5 +1,5 @@
 -- What comes into an object, or what is ensured in it, is one step, of the edit that the call is.
-use Rattle.std.proofs.Common.{◌≡◌, ℕ, List, length, Option, Result, Ok, Err, OnOk, IfOk, ap}
+use Rattle.std.proofs.Common.{◌≡◌, ℕ, List, length, Option, ap}
 use Rattle.jsonc_text.specs.Plain.{Plain}
 use Rattle.jsonc_tree.specs.Content as content
 use Rattle.jsonc_tree.specs.Tree.{Node, content_at, IsTree}
@@ -7,8 +7,8 @@ use Rattle.jsonc_layout.specs.nodes.Siblings.{elements_at}
 use Rattle.jsonc_layout.specs.from_input.Texts.{IsCharacters, IsOfTexts}
 use Rattle.jsonc_edit.specs.Paths.{IsAt}
 use Rattle.jsonc_insert.specs.members.Inserted.{PropertyPut}
-use Rattle.jsonc_insert.specs.declared.named.shape.Over.{Over}
-use Rattle.jsonc_insert.specs.declared.named.shape.Shape.{Shape}
+use Rattle.jsonc_text.specs.declared.edit.Over.{Over}
+use Rattle.jsonc_text.specs.declared.edit.Shape.{Shape}
 use Rattle.jsonc_insert.specs.named.Named.{NamedEnsured}
 use Rattle.jsonc_layout.specs.lines.Kinds.{holds_values}
 use Rattle.jsonc_run.specs.Edits.{insert_property, append_property, ensure_property}

@@ -5,7 +5,6 @@ use Rattle.std.specs.Cmp.{IsStrictWeakOrder}
 use Rattle.std.specs.Ordering.{is_lt}
 use Rattle.std.specs.declared.cmp.Ordering.{Ordering}
 use Rattle.std.specs.declared.result.Result.{Result}
-use Rattle.std.specs.declared.result.Result.TheVariants.{Ok}
 use Rattle.std.proofs.lemmas.Bool.{cases_lt}
 use Rattle.std.proofs.lemmas.List.{get_or_past}
 use Rattle.std.proofs.lemmas.List.Elements.{All-filter}
@@ -18,7 +17,7 @@ use Rattle.jsonc_layout.specs.nodes.Kinds.{is_element_at, is_property}
 use Rattle.jsonc_layout.specs.nodes.Siblings.{elements_at, AreThere}
 use Rattle.jsonc_layout.proofs.lemmas.nodes.There.{children_there}
 use Rattle.jsonc_edit.specs.Changes.{top_at}
-use Rattle.jsonc_edit.specs.declared.error.EditError.{EditError}
+use Rattle.jsonc_text.specs.declared.edit.EditError.{EditError}
 use Rattle.jsonc_sort.specs.ordering.Keys.{AreKeys, IsKeyOf}
 use Rattle.jsonc_sort.specs.ordering.Order.{comes_before, node_in, option_before, start_in, IsOrderedBy}
 use Rattle.jsonc_sort.specs.Sorting.{Headers}

@@ -6,8 +6,8 @@ use Rattle.jsonc_sort.specs.ordering.Keys.{AreKeys, IsFirstRefused, IsKeyOf, Why
 use Rattle.jsonc_sort.specs.ordering.Order.{comes_before, node_in, IsOrderedBy}
 use Rattle.jsonc_sort.specs.declared.ordering.keys.KeysError.{KeysError}
 use Rattle.jsonc_sort.specs.declared.ordering.keys.KeysError.TheVariants.{OutOfMemory, Refused}
-use Rattle.jsonc_edit.specs.declared.error.EditError.{EditError}
-use Rattle.jsonc_edit.specs.declared.error.EditError.TheVariants as error
+use Rattle.jsonc_text.specs.declared.edit.EditError.{EditError}
+use Rattle.jsonc_text.specs.declared.edit.EditError.TheVariants as error
 use Rattle.jsonc_cst.specs.sorting.Asking.{IsUnkeyed, LacksKeys}
 
 module _ {F D N K E : Type 0} (g : Shared F (Bor D × (N × Unit {0})) (Result K E)) (key : F) (doc : D) (nodes : List (Option N)) where

@@ -4,7 +4,7 @@ use Rattle.std.specs.declared.cmp.Ordering.{Ordering}
 use denote.Ref.{Bor}
 use denote.Param.Members.{Shared}
 use Rattle.jsonc_tree.specs.Tree.{IsTree}
-use Rattle.jsonc_edit.specs.declared.error.EditError.{EditError}
+use Rattle.jsonc_text.specs.declared.edit.EditError.{EditError}
 use Rattle.jsonc_sort.specs.Rearranged.{headers_of}
 use Rattle.jsonc_cst.specs.declared.cst.CstRootNode.{CstRootNode}
 use Rattle.jsonc_cst.specs.declared.cst.node.CstArray.{CstArray}

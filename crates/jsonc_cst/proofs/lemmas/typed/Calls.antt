@@ -6,11 +6,11 @@ use Rattle.jsonc_tree.specs.Content.{Content}
 use Rattle.jsonc_tree.specs.Tree.{Node, parent_at, IsTree}
 use Rattle.jsonc_edit.specs.Comments.{TakesOut}
 use Rattle.jsonc_edit.specs.set.Kinds.{is_array, is_object}
-use Rattle.jsonc_edit.specs.declared.modes.TrailingCommaMode.{TrailingCommaMode}
+use Rattle.jsonc_text.specs.declared.edit.TrailingCommaMode.{TrailingCommaMode}
 use Rattle.jsonc_edit.specs.remove.Removed.{TakesElement}
-use Rattle.jsonc_insert.specs.declared.named.shape.Over.{Over}
-use Rattle.jsonc_insert.specs.declared.named.shape.Shape.{Shape}
-use Rattle.jsonc_insert.specs.declared.named.shape.Shape.TheVariants.{Array, Object}
+use Rattle.jsonc_text.specs.declared.edit.Over.{Over}
+use Rattle.jsonc_text.specs.declared.edit.Shape.{Shape}
+use Rattle.jsonc_text.specs.declared.edit.Shape.TheVariants.{Array, Object}
 use Rattle.jsonc_insert.specs.named.Named.{NamedEnsured}
 use Rattle.jsonc_sort.specs.Sorting.{Headers}
 use Rattle.jsonc_run.specs.Parents.{all_stay, boolean_set, children_leave, comes_on_lines, comment_leaves, commas_set, element_comes, element_leaves, gives_way, gives_way_raw, leaf_leaves, leaf_set, property_comes, property_gives_way, some_commas_set, sorted, IsCallOf}
@@ -27,7 +27,7 @@ use Rattle.jsonc_cst.specs.Nodes.{container_of, number_of, object_prop_node}
 use Rattle.jsonc_cst.specs.objects.Members.{HasNamedComeIn}
 use Rattle.jsonc_cst.specs.objects.Named.{HasEnsuredArray, HasEnsuredObject}
 use Rattle.jsonc_cst.specs.sorting.Sorted.{IsPlaced}
-use Rattle.jsonc_cst.specs.typed.Calls.{number_taken, IsCallIf, IsRootCallIf, LoneRemovalIsCall, RemovalIsCall}
+use Rattle.jsonc_cst.specs.typed.AsCalls.{number_taken, IsCallIf, IsRootCallIf, LoneRemovalIsCall, RemovalIsCall}
 use Rattle.jsonc_cst.specs.typed.Commas.{HasSetCommas, HasSetCommasInPart}
 use Rattle.jsonc_cst.specs.typed.Edits.{is_name_in, HasGivenWay, IsReplacedAs, IsUntouched, StaysAsItWas}
 use Rattle.jsonc_cst.specs.typed.Inserting.{HasComeIn}

@@ -1,5 +1,5 @@
 -- What is made of a sound document where an element leaves it.
-use Rattle.std.proofs.Common.{◌≡◌, ℕ, ◌<◌, List, ◌∷◌, Result, Ok, Err, OnOk, ◌∙◌}
+use Rattle.std.proofs.Common.{ℕ, List, Result, Ok, Err, OnOk}
 use Rattle.jsonc_text.specs.Options.{Options}
 use Rattle.jsonc_tree.specs.OrderedTree.{ordered_tree}
 use Rattle.jsonc_tree.specs.Tree.{Node, IsTree}

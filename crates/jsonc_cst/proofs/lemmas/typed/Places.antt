@@ -1,5 +1,5 @@
 -- Each node of a sound document that an edit is made of has its place: by what the node is.
-use Rattle.std.proofs.Common.{IsTrue, ◌≡◌, ◌≢◌, ℕ, ◌<◌, Bool, true, false, not, cond, List, [], ◌∷◌, length, filter, slice_get, Option, Some, None, inl, inr, refl, sym, ap, subst, ◌∙◌, rules}
+use Rattle.std.proofs.Common.{IsTrue, ◌≡◌, ◌≢◌, ℕ, Bool, true, false, not, cond, List, [], ◌∷◌, filter, slice_get, Option, Some, None, inl, inr, refl, sym, ap, subst, ◌∙◌, rules}
 use Rattle.std.proofs.lemmas.Bool.{cases_Bool, false≢true}
 use Rattle.std.specs.List.{find}
 use Rattle.jsonc_text.specs.Options.{Options}
@@ -10,7 +10,7 @@ use Rattle.jsonc_tree.specs.Tree.{Node, content_at, parent_at, children_at, IsTr
 use Rattle.jsonc_tree.specs.Values.{is_passed_over}
 use Rattle.jsonc_tree.proofs.Order.{parent_there}
 use Rattle.jsonc_sound.specs.Shape.{IsLiteralBefore}
-use Rattle.jsonc_layout.specs.nodes.Kinds.{is_comment, is_comment_at, is_element_at, is_property}
+use Rattle.jsonc_layout.specs.nodes.Kinds.{is_comment, is_element_at, is_property}
 use Rattle.jsonc_layout.specs.lines.Kinds.{holds_values}
 use Rattle.jsonc_layout.specs.nodes.Properties.{is_name, is_name_at, name_at}
 use Rattle.jsonc_sound.specs.Alone as alone
@@ -28,7 +28,6 @@ use Rattle.jsonc_cst.specs.Nodes.{typed}
 use Rattle.jsonc_cst.specs.typed.Edits.{is_found, is_name_in, is_name_under}
 use Rattle.jsonc_cst.specs.typed.Removing.{removal_of}
 use Rattle.jsonc_cst.specs.typed.Steps.{IsHolder, IsValueIn, IsWholeOrAt}
-use Rattle.jsonc_cst.specs.declared.typed.removing.Removal.{Removal}
 use Rattle.jsonc_cst.specs.declared.typed.removing.Removal.TheVariants.{Clearing, OfComment, OfElement, OfLeaf}
 use Rattle.jsonc_cst.proofs.lemmas.typed.Whole.{name_kind}
 

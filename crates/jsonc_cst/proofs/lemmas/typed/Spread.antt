@@ -7,8 +7,8 @@ use Rattle.jsonc_tree.specs.Content.{Content}
 use Rattle.jsonc_tree.specs.OrderedTree.{ordered_tree}
 use Rattle.jsonc_tree.specs.Tree.{Node, content_at, IsTree}
 use Rattle.jsonc_layout.specs.lines.Kinds.{holds_values}
-use Rattle.jsonc_edit.specs.declared.error.EditError.{EditError}
-use Rattle.jsonc_edit.specs.declared.error.EditError.TheVariants.{OutOfMemory, MissingBrackets, MissingName, NoSuchPlace}
+use Rattle.jsonc_text.specs.declared.edit.EditError.{EditError}
+use Rattle.jsonc_text.specs.declared.edit.EditError.TheVariants.{OutOfMemory, MissingBrackets, MissingName, NoSuchPlace}
 use Rattle.jsonc_edit.proofs.lemmas.commas.Holders.{holder_path}
 use Rattle.jsonc_edit.specs.multiline.Multiline.{has_line_end, IsUnspread, MadeMultiline}
 use Rattle.jsonc_edit.proofs.lemmas.multiline.Documents.{spread_at}

@@ -1,11 +1,11 @@
 -- What a call makes of the nodes is one step, of the edit that it is.
-use Rattle.std.proofs.Common.{◌≡◌, ◌⊎◌, inl, inr, ℕ, Bool, true, false, List, [], length, Option, Some, None, Result, Ok, Err, OnErr, OnOk, IfOk, IfSome, refl, sym, ap, subst, ◌∙◌, IsTrue}
+use Rattle.std.proofs.Common.{◌≡◌, ◌⊎◌, inl, inr, ℕ, Bool, true, false, List, [], length, Option, Some, None, Result, Ok, Err, OnErr, OnOk, IfOk, IfSome, refl, sym, ap, subst, IsTrue}
 use Rattle.jsonc_text.specs.Options.{Options}
 use Rattle.jsonc_text.specs.Plain.{Plain}
 use Rattle.jsonc_tree.specs.Content as content
 use Rattle.jsonc_tree.specs.Content.{Content}
 use Rattle.jsonc_tree.specs.OrderedTree.{ordered_tree}
-use Rattle.jsonc_tree.specs.Tree.{Node, content_at, parent_at, IsTree, IsOver}
+use Rattle.jsonc_tree.specs.Tree.{Node, content_at, IsTree, IsOver}
 use Rattle.jsonc_layout.specs.nodes.Kinds.{is_comment_at}
 use Rattle.jsonc_layout.specs.nodes.Properties.{lacks_name_at, value_at}
 use Rattle.jsonc_layout.specs.nodes.Siblings.{elements_at}
@@ -13,7 +13,6 @@ use Rattle.jsonc_layout.specs.lines.Kinds.{holds_values}
 use Rattle.jsonc_sound.specs.SoundTrees.{SoundTree}
 use Rattle.jsonc_sound.specs.TreeChanges.{DocumentChanged}
 use Rattle.jsonc_layout.specs.from_input.Texts.{IsCharacters, IsOfTexts}
-use Rattle.jsonc_edit.specs.commas.Laws.{IsInSound}
 use Rattle.jsonc_edit.proofs.lemmas.commas.Within.{stays_outside, stays_outside_in_part}
 use Rattle.jsonc_edit.proofs.lemmas.commas.Documents.{keeps_document, keeps_in_part}
 use Rattle.jsonc_edit.proofs.lemmas.commas.Holders.{holder_path}
@@ -21,7 +20,7 @@ use Rattle.jsonc_edit.specs.Changes.{top_at}
 use Rattle.jsonc_edit.specs.Comments.{CommentTaken, TakesOut}
 use Rattle.jsonc_edit.specs.Paths.{IsAt}
 use Rattle.jsonc_edit.specs.Reading.{IsReplaced}
-use Rattle.jsonc_edit.specs.declared.modes.TrailingCommaMode.{TrailingCommaMode}
+use Rattle.jsonc_text.specs.declared.edit.TrailingCommaMode.{TrailingCommaMode}
 use Rattle.jsonc_insert.specs.Inserted.{ElementPut}
 use Rattle.jsonc_edit.specs.multiline.Multiline.{MadeMultiline}
 use Rattle.jsonc_edit.specs.remove.Removed.{TakesElement}
@@ -29,15 +28,14 @@ use Rattle.jsonc_edit.specs.set.Booleans.{is_boolean, BooleanSet}
 use Rattle.jsonc_edit.specs.set.Giving.{IsPropertyReplaced}
 use Rattle.jsonc_edit.specs.set.Kinds.{FoundOrCreated, FoundOrSet}
 use Rattle.jsonc_edit.specs.set.PropertyValues.{HeldOrSet}
-use Rattle.jsonc_insert.specs.declared.named.shape.Over.{Over}
-use Rattle.jsonc_insert.specs.declared.named.shape.Over.TheVariants as over
-use Rattle.jsonc_insert.specs.declared.named.shape.Shape.{Shape}
+use Rattle.jsonc_text.specs.declared.edit.Over.TheVariants as over
+use Rattle.jsonc_text.specs.declared.edit.Shape.{Shape}
 use Rattle.jsonc_insert.specs.named.Places.{IsPropertyAt}
-use Rattle.jsonc_insert.specs.named.Shapes.{is_of, empty_of}
-use Rattle.jsonc_run.specs.Edits.{replace, remove, remove_comment, set_root, clear_root, replace_property, ensure_root, set_value, ensure_value, set_boolean, ensure_multiline, insert_element, append_element, set_commas, set_some_commas, PropertyValueSet, RootSet}
+use Rattle.jsonc_edit.specs.set.Shapes.{is_of, empty_of}
+use Rattle.jsonc_run.specs.Edits.{replace, remove, remove_comment, set_root, clear_root, replace_property, ensure_root, set_value, ensure_value, set_boolean, ensure_multiline, insert_element, append_element, PropertyValueSet, RootSet}
 use Rattle.jsonc_run.specs.Places.{IsEntryAt}
 use Rattle.jsonc_run.specs.Steps.{IsChangedAt}
-use Rattle.jsonc_run.specs.promise.Steps.{IsCommentAt, IsStep, IsStepOf}
+use Rattle.jsonc_run.specs.promise.Steps.{IsCommentAt}
 use Rattle.jsonc_run.proofs.lemmas.promise.CommaSteps.{commas_lead, some_commas_lead}
 use Rattle.jsonc_run.proofs.lemmas.promise.Stepping.{made_leads, made_step}
 use Rattle.jsonc_cst.specs.declared.cst.node.CstNode.{CstNode}
@@ -49,8 +47,7 @@ use Rattle.jsonc_cst.specs.typed.Removing.{removal_of, IsCleared}
 use Rattle.jsonc_cst.specs.typed.Setting.{ValueBecomes}
 use Rattle.jsonc_cst.specs.typed.Steps.{IsHolder, IsReplacing, IsReplacingProperty, IsRemoving, IsSettingBoolean, IsSettingRoot, IsSettingValue, IsEnsuringRoot, IsEnsuringValue, IsSpreading, IsInserting, IsAppending, IsSettingCommas, IsSettingSomeCommas, IsClearing, IsValueIn, IsWholeOrAt}
 use Rattle.jsonc_cst.specs.typed.Values.{HeldBecomes}
-use Rattle.jsonc_cst.specs.declared.typed.removing.Removal.{Removal}
-use Rattle.jsonc_cst.specs.declared.typed.removing.Removal.TheVariants.{Clearing, OfComment, OfElement, OfLeaf}
+use Rattle.jsonc_cst.specs.declared.typed.removing.Removal.TheVariants.{OfComment, OfElement}
 use Rattle.jsonc_cst.proofs.lemmas.typed.Places.{comment_kind, comment_number, entry_path, holder_at, holder_place, property_path, value_path, value_unnamed}
 
 -- a truth value is a value, and so is an array or object

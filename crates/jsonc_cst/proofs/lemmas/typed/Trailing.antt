@@ -2,7 +2,7 @@
 use Rattle.std.proofs.Common.{◌≡◌, ◌⊎◌, inl, inr, ℕ, ◌≤◌, suc, List, [], ◌∷◌, length, arith}
 use Rattle.jsonc_text.specs.Options.{Options}
 use Rattle.jsonc_tree.specs.Tree.{Node, IsTree}
-use Rattle.jsonc_edit.specs.declared.modes.TrailingCommaMode.{TrailingCommaMode}
+use Rattle.jsonc_text.specs.declared.edit.TrailingCommaMode.{TrailingCommaMode}
 use Rattle.jsonc_edit.specs.commas.InTurn.{AreSetInTurn}
 use Rattle.jsonc_edit.proofs.lemmas.commas.Documents.{keeps_document, keeps_in_part, sets_all, sets_once}
 use Rattle.jsonc_edit.proofs.lemmas.commas.InOrder.{KeepsContainers}

@@ -12,7 +12,7 @@ use Rattle.jsonc_tree.specs.Values.{is_passed_over}
 use Rattle.jsonc_tree.proofs.Order.{parent_there}
 use Rattle.jsonc_tree.proofs.OrderedTrees.{Shows-unique}
 use Rattle.jsonc_sound.specs.Shape.{IsLiteralBefore, IsNameBefore, Trivia, nothing, trivia, token_then, printed_text, ValueShaped, PropertyShaped, DocumentShaped}
-use Rattle.jsonc_layout.specs.nodes.Kinds.{is_colon, is_colon_at, is_element, is_element_at}
+use Rattle.jsonc_layout.specs.nodes.Kinds.{is_colon, is_colon_at, is_element, is_element_at, is_token}
 use Rattle.jsonc_layout.specs.nodes.Properties.{is_name, is_name_at, behind_first, lacks_name_at}
 use Rattle.jsonc_layout.specs.lines.Kinds.{holds_values}
 use Rattle.jsonc_sound.specs.Alone as alone
@@ -23,11 +23,11 @@ use Rattle.jsonc_sound.specs.TreeChanges.{IsElement}
 use Rattle.jsonc_sound.proofs.Apart.{value_alone}
 use Rattle.jsonc_edit.specs.Changes.{row_below}
 use Rattle.jsonc_edit.specs.Paths.{IsElementOf}
-use Rattle.jsonc_edit.specs.declared.error.EditError.{EditError}
-use Rattle.jsonc_edit.specs.declared.error.EditError.TheVariants.{OutOfMemory, MissingBrackets, MissingName, NoSuchPlace}
+use Rattle.jsonc_text.specs.declared.edit.EditError.{EditError}
+use Rattle.jsonc_text.specs.declared.edit.EditError.TheVariants.{OutOfMemory, MissingBrackets, MissingName, NoSuchPlace}
 use Rattle.jsonc_edit.proofs.Entries.{Entry, this, behind_passed, behind_element, Passed, IsAnyValue, IsAnyProperty, not_both, passed_leaf, no_entry, entry_property, entry_value, entry_document}
 use Rattle.jsonc_edit.proofs.Walk.{Shows-row_below, document_is}
-use Rattle.jsonc_edit.specs.remove.Removed.{has_brackets, has_two, is_token_at, is_token, IsKeptFor}
+use Rattle.jsonc_edit.specs.remove.Removed.{has_brackets, has_two, is_token_at, IsKeptFor}
 use Rattle.jsonc_edit.proofs.lemmas.remove.Containers.{Held, brackets, first_shown}
 use Rattle.jsonc_edit.specs.set.PropertyValues.{IsUnset}
 use Rattle.jsonc_cst.specs.typed.Removing.{WantsMemoryAlone}

@@ -2,4 +2,4 @@ use Rattle.jsonc_tree.proofs.Order.{parent_there}
 use Rattle.jsonc_edit.proofs.comments.first_removed.Goals as goal
 
 pub child_at-requires-clause-there : goal.child_at-requires-clause-there
-child_at-requires-clause-there g c = (parent_there c.args.tree.now.nodes c.len.ensures.tree c.args.comment c.args.container c.requires).1
+child_at-requires-clause-there g c = (parent_there c.args.tree.now.nodes c.args.tree.now.tree c.args.comment c.args.container c.requires).1

@@ -7,4 +7,4 @@ use Rattle.jsonc_edit.proofs.due.children_backwards.Goals as goal
 pub returns-clause-there : goal.returns-clause-there
 returns-clause-there g c =
     let ns = c.args.tree.now.nodes in
-    subst (AreThere ns) (sym c.children_reversed.ensures.children) (All-reverse (λ m. m < length ns) (children_at ns c.args.container) (children_there ns c.len.ensures.tree c.args.container))
+    subst (AreThere ns) (sym c.children_reversed.ensures.children) (All-reverse (λ m. m < length ns) (children_at ns c.args.container) (children_there ns c.args.tree.now.tree c.args.container))

@@ -6,8 +6,8 @@ use Rattle.std.proofs.lemmas.List.Elements.{All-cons, All-nil, All-weaker}
 use Rattle.jsonc_tree.specs.Siblings.{siblings_after}
 use Rattle.jsonc_tree.specs.Tree.{Node, children_at, IsOver, IsTree}
 use Rattle.jsonc_layout.specs.lines.Siblings.{if_comma, is_no_trivia_at, trailing_comma_at}
-use Rattle.jsonc_edit.specs.declared.modes.TrailingCommaMode.{TrailingCommaMode}
-use Rattle.jsonc_edit.specs.declared.modes.TrailingCommaMode.TheVariants.{Never, IfMultiline}
+use Rattle.jsonc_text.specs.declared.edit.TrailingCommaMode.{TrailingCommaMode}
+use Rattle.jsonc_text.specs.declared.edit.TrailingCommaMode.TheVariants.{Never, IfMultiline}
 use Rattle.jsonc_edit.specs.commas.Commas.{comma_gone, comma_wanted_behind, CommaIsSet, GainsIt, LosesIt, WantsComma}
 use Rattle.jsonc_edit.specs.commas.InTurn.{holders, wants_comma, AreSetInPart, AreSetInTurn, CommaIsDue}
 use Rattle.jsonc_edit.specs.commas.Laws.{HasSeveral, IsSet, SetsAllButSeveral}

@@ -10,8 +10,8 @@ use Rattle.jsonc_tree.proofs.Moves.{CanJoin-none}
 use Rattle.jsonc_tree.proofs.Order.{parent_there}
 use Rattle.jsonc_tree.proofs.Over.{either_over}
 use Rattle.jsonc_edit.specs.Changes.{top_at, Respliced}
-use Rattle.jsonc_edit.specs.declared.modes.TrailingCommaMode.{TrailingCommaMode}
-use Rattle.jsonc_edit.specs.declared.modes.TrailingCommaMode.TheVariants.{Never, IfMultiline}
+use Rattle.jsonc_text.specs.declared.edit.TrailingCommaMode.{TrailingCommaMode}
+use Rattle.jsonc_text.specs.declared.edit.TrailingCommaMode.TheVariants.{Never, IfMultiline}
 use Rattle.jsonc_edit.proofs.Kept.{tree_stays}
 use Rattle.jsonc_edit.proofs.Splices.{respliced_others}
 use Rattle.jsonc_edit.specs.commas.Commas.{a_comma, comma_gone, comma_wanted_behind, CommaIsSet, GainsIt, LosesIt}

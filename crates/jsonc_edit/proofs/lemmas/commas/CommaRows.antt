@@ -7,7 +7,7 @@ use Rattle.jsonc_tree.specs.Content.{Content, token}
 use Rattle.jsonc_tree.specs.OrderedTree.{OrderedTree, none, more, leaves, followed_by}
 use Rattle.jsonc_tree.specs.Values as values
 use Rattle.jsonc_tree.specs.Values.{is_passed_over, HasNoValue}
-use Rattle.jsonc_layout.specs.lines.Kinds.{is_comma}
+use Rattle.jsonc_layout.specs.nodes.Kinds.{is_comma}
 use Rattle.jsonc_sound.specs.Lines.{ends_loosely, is_line_comment, LinesEndLoosely}
 use Rattle.jsonc_sound.specs.Shape.{IsTrivia, token_then}
 use Rattle.jsonc_sound.specs.Adjacent.{first_char, last_printed}

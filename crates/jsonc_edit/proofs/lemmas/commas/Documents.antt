@@ -15,8 +15,8 @@ use Rattle.jsonc_sound.specs.Shape.{printed_text}
 use Rattle.jsonc_sound.proofs.ShapeValues.{document_printed}
 use Rattle.jsonc_sound.specs.Marks.{marks}
 use Rattle.jsonc_sound.specs.SoundTrees.{SoundTree}
-use Rattle.jsonc_edit.specs.declared.modes.TrailingCommaMode.{TrailingCommaMode}
-use Rattle.jsonc_edit.specs.declared.modes.TrailingCommaMode.TheVariants.{Never, IfMultiline}
+use Rattle.jsonc_text.specs.declared.edit.TrailingCommaMode.{TrailingCommaMode}
+use Rattle.jsonc_text.specs.declared.edit.TrailingCommaMode.TheVariants.{Never, IfMultiline}
 use Rattle.jsonc_edit.proofs.FittingNodes.{over_there}
 use Rattle.jsonc_edit.proofs.OneValue.{document_once}
 use Rattle.jsonc_edit.specs.commas.Commas.{comma_gone, comma_wanted_behind, CommaIsSet, GainsIt, LosesIt}

@@ -28,7 +28,7 @@ use Rattle.jsonc_edit.proofs.lemmas.commas.Kept.{ready_children}
 use Rattle.jsonc_edit.proofs.lemmas.commas.OwnRow.{came_now, gap_is, take_past}
 use Rattle.jsonc_edit.proofs.lemmas.commas.Splits.{drop_past, no_elements, split_parent, standing, standing_then, WantedComma}
 use Rattle.jsonc_edit.proofs.lemmas.commas.WithoutCommas.{behind_bracket, comma_between, document_only}
-use Rattle.jsonc_edit.specs.declared.modes.TrailingCommaMode.TheVariants.{IfMultiline}
+use Rattle.jsonc_text.specs.declared.edit.TrailingCommaMode.TheVariants.{IfMultiline}
 use Rattle.jsonc_edit.proofs.lemmas.commas.Steps.{all_front, all_rest, first_same, inside, marks_comma, opens_row, path, same_marks, same_top, under_bracket, Inside, Step}
 
 -- a comma comes

@@ -7,7 +7,7 @@ use Rattle.jsonc_tree.specs.Order.{following, in_order}
 use Rattle.jsonc_tree.specs.Tree.{Node, children_at, content_at, is_container_at, IsOver, IsTree}
 use Rattle.jsonc_tree.proofs.Order.{following_end, in_order_is}
 use Rattle.jsonc_layout.specs.lines.Kinds.{holds_values}
-use Rattle.jsonc_edit.specs.declared.modes.TrailingCommaMode.{TrailingCommaMode}
+use Rattle.jsonc_text.specs.declared.edit.TrailingCommaMode.{TrailingCommaMode}
 use Rattle.jsonc_edit.specs.commas.Commas.{CommaIsSet, WantsComma}
 use Rattle.jsonc_edit.specs.commas.InTurn.{holders, holds_at, is_met, to_come, AreSetInPart, AreSetInTurn}
 use Rattle.jsonc_edit.proofs.lemmas.commas.InOrder.{over_same}

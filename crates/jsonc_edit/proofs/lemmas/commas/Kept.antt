@@ -8,10 +8,10 @@ use Rattle.std.proofs.lemmas.List.Elements.{filter-append}
 use Rattle.jsonc_tree.specs.Content.{Content, is_container}
 use Rattle.jsonc_tree.specs.Siblings.{siblings_after, TakesOut}
 use Rattle.jsonc_tree.specs.Tree.{Node, nowhere, content_at, parent_at, children_at, place_at, is_container_at, is_in, node_at, IsTree}
-use Rattle.jsonc_layout.specs.lines.Kinds.{is_comma}
+use Rattle.jsonc_layout.specs.nodes.Kinds.{is_comma}
 use Rattle.jsonc_layout.specs.lines.Siblings.{if_comma, is_no_trivia_at, trailing_comma_at}
-use Rattle.jsonc_edit.specs.declared.modes.TrailingCommaMode.{TrailingCommaMode}
-use Rattle.jsonc_edit.specs.declared.modes.TrailingCommaMode.TheVariants.{Never, IfMultiline}
+use Rattle.jsonc_text.specs.declared.edit.TrailingCommaMode.{TrailingCommaMode}
+use Rattle.jsonc_text.specs.declared.edit.TrailingCommaMode.TheVariants.{Never, IfMultiline}
 use Rattle.jsonc_edit.specs.commas.Commas.{comma_gone, comma_wanted_behind, last_element, CommaComesBehind, CommaIsSet, GainsIt, LosesIt}
 use Rattle.jsonc_edit.proofs.lemmas.commas.Children.{gone_child, some_like}
 use Rattle.jsonc_edit.proofs.lemmas.commas.InOrder.{KeepsContainers}

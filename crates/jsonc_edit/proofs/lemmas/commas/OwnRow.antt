@@ -6,8 +6,7 @@ use Rattle.std.proofs.lemmas.List.{take_at}
 use Rattle.std.proofs.lemmas.List.Elements.{All-from_get_or}
 use Rattle.jsonc_tree.specs.Siblings.{TakesOut}
 use Rattle.jsonc_tree.specs.Tree.{Node, content_at, children_at, place_at, IsTree}
-use Rattle.jsonc_layout.specs.nodes.Kinds.{is_element, is_element_at, is_trivia}
-use Rattle.jsonc_layout.specs.lines.Kinds.{is_comma}
+use Rattle.jsonc_layout.specs.nodes.Kinds.{is_element, is_element_at, is_trivia, is_comma}
 use Rattle.jsonc_layout.specs.lines.Siblings.{if_comma, is_no_trivia_at, trailing_comma_at}
 use Rattle.jsonc_edit.specs.commas.Commas.{a_comma, comma_gone, comma_wanted_behind, has_newline, if_without_comma, last_element, CommaComesBehind}
 use Rattle.jsonc_edit.proofs.lemmas.commas.CommaRows.{comma_first}

@@ -10,7 +10,7 @@ use Rattle.jsonc_layout.specs.nodes.Kinds.{is_property}
 use Rattle.jsonc_layout.specs.nodes.Properties.{value_at}
 use Rattle.jsonc_layout.proofs.lemmas.nodes.Held.{IsAlike, held_alike, held_in, same_kind, value_is_held}
 use Rattle.jsonc_layout.specs.lines.Kinds.{holds_values}
-use Rattle.jsonc_edit.specs.declared.modes.TrailingCommaMode.{TrailingCommaMode}
+use Rattle.jsonc_text.specs.declared.edit.TrailingCommaMode.{TrailingCommaMode}
 use Rattle.jsonc_edit.specs.commas.Commas.{CommaIsSet}
 use Rattle.jsonc_edit.specs.commas.InTurn.{are_entered, holders, holds_at, is_entered, is_entered_under, is_it, is_met, is_reached, to_come}
 use Rattle.jsonc_edit.proofs.lemmas.commas.InOrder.{container_there, found_in_order, has_child, holds_same, no_holder, rest_same, KeepsContainers}

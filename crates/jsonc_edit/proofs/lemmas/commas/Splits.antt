@@ -11,8 +11,7 @@ use Rattle.jsonc_tree.specs.Siblings.{siblings_after}
 use Rattle.jsonc_tree.specs.Tree.{Node, content_at, children_at, parent_at, place_at, IsTree}
 use Rattle.jsonc_tree.specs.Values as values
 use Rattle.jsonc_tree.specs.Values.{is_passed_over, HasNoValue}
-use Rattle.jsonc_layout.specs.nodes.Kinds.{is_element_at, is_trivia}
-use Rattle.jsonc_layout.specs.lines.Kinds.{is_comma}
+use Rattle.jsonc_layout.specs.nodes.Kinds.{is_element_at, is_trivia, is_comma}
 use Rattle.jsonc_layout.specs.lines.Siblings.{if_comma, is_no_trivia_at, trailing_comma_at}
 use Rattle.jsonc_edit.specs.Changes.{row_below}
 use Rattle.jsonc_edit.specs.commas.Commas.{comma_gone, comma_wanted_behind, has_newline, if_without_comma, last_element}

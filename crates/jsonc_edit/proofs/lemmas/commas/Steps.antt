@@ -7,8 +7,7 @@ use Rattle.jsonc_tree.specs.Content.{Content, is_container, token}
 use Rattle.jsonc_tree.specs.OrderedTree.{OrderedTree, Top, none, more, followed_by, leaves, ordered_tree}
 use Rattle.jsonc_tree.specs.Tree.{Node, content_at, children_at, IsTree, IsOver}
 use Rattle.jsonc_tree.proofs.OrderedTrees.{leaves-followed_by}
-use Rattle.jsonc_layout.specs.nodes.Kinds.{is_element, is_element_at}
-use Rattle.jsonc_layout.specs.lines.Kinds.{is_comma}
+use Rattle.jsonc_layout.specs.nodes.Kinds.{is_element, is_element_at, is_comma}
 use Rattle.jsonc_sound.specs.Shape.{IsTrivia, token_then}
 use Rattle.jsonc_sound.specs.Marks.{marks, marks_of}
 use Rattle.jsonc_sound.specs.MarkChanges.{marks_under}
@@ -22,7 +21,7 @@ use Rattle.jsonc_edit.specs.Paths.{IsAt}
 use Rattle.jsonc_edit.proofs.FittingNodes.{over_there}
 use Rattle.jsonc_edit.specs.commas.InTurn.{holds_at}
 use Rattle.jsonc_edit.specs.commas.Laws.{OnlyCommas}
-use Rattle.jsonc_edit.specs.declared.modes.TrailingCommaMode.{TrailingCommaMode}
+use Rattle.jsonc_text.specs.declared.edit.TrailingCommaMode.{TrailingCommaMode}
 use Rattle.jsonc_edit.proofs.lemmas.commas.CommaRows.{comma_first, Closing, bracket, behind}
 use Rattle.jsonc_edit.proofs.lemmas.commas.Holders.{held, holder_path, row_stands, value_at_path, Held}
 use Rattle.jsonc_edit.proofs.lemmas.commas.Splits.{standing}

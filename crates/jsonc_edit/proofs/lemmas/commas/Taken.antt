@@ -25,7 +25,7 @@ use Rattle.jsonc_edit.proofs.lemmas.commas.Holders.{bare_leaf, row_stands, shows
 use Rattle.jsonc_edit.proofs.lemmas.commas.OwnRow.{lost_now}
 use Rattle.jsonc_edit.proofs.lemmas.commas.Splits.{drop_past, no_elements, none_back, split_place, split_there, standing, standing_then, GoneComma}
 use Rattle.jsonc_edit.proofs.lemmas.commas.WithoutCommas.{behind_bracket, comma_between, document_only}
-use Rattle.jsonc_edit.specs.declared.modes.TrailingCommaMode.TheVariants.{Never}
+use Rattle.jsonc_text.specs.declared.edit.TrailingCommaMode.TheVariants.{Never}
 use Rattle.jsonc_edit.proofs.lemmas.commas.Steps.{all_front, all_rest, closing_lacks, comma_leaf, first_same, inside, marks_comma, opens_row, path, same_marks, same_top, the_comma, under_bracket, Inside, Step}
 
 -- the comma leaves

@@ -5,13 +5,12 @@ use Rattle.std.specs.Option.{option_and_then}
 use Rattle.jsonc_tree.specs.Order.{with_parent}
 use Rattle.jsonc_tree.specs.Siblings.{siblings_after}
 use Rattle.jsonc_tree.specs.Tree.{Node, content_at, children_at, parent_at, place_among, place_at, place_under, IsTree}
-use Rattle.jsonc_layout.specs.nodes.Kinds.{is_element, is_element_at, is_newline, is_newline_at, is_trivia}
+use Rattle.jsonc_layout.specs.nodes.Kinds.{is_element, is_element_at, is_newline, is_newline_at, is_trivia, is_comma}
 use Rattle.jsonc_layout.specs.nodes.Siblings.{IsThere}
 use Rattle.jsonc_layout.proofs.lemmas.nodes.There.{after_there, children_there, find_there, All-reverse}
-use Rattle.jsonc_layout.specs.lines.Kinds.{is_comma}
 use Rattle.jsonc_layout.specs.lines.Siblings.{if_comma, is_no_trivia_at, trailing_comma_at}
-use Rattle.jsonc_edit.specs.declared.modes.TrailingCommaMode.{TrailingCommaMode}
-use Rattle.jsonc_edit.specs.declared.modes.TrailingCommaMode.TheVariants.{Never, IfMultiline}
+use Rattle.jsonc_text.specs.declared.edit.TrailingCommaMode.{TrailingCommaMode}
+use Rattle.jsonc_text.specs.declared.edit.TrailingCommaMode.TheVariants.{Never, IfMultiline}
 use Rattle.jsonc_edit.specs.commas.Commas.{comma_gone, comma_wanted_behind, has_newline, if_without_comma, last_element, CommaIsSet, GainsIt, LosesIt}
 use Rattle.jsonc_edit.specs.commas.Laws.{IsSet}
 use Rattle.jsonc_edit.proofs.lemmas.commas.Children.{last_child, IsChild}

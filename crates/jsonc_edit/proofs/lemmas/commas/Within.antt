@@ -13,8 +13,8 @@ use Rattle.jsonc_layout.specs.lines.Kinds.{holds_values}
 use Rattle.jsonc_sound.specs.TreeChanges.{IsElement, DocumentChanged}
 use Rattle.jsonc_edit.specs.Changes.{top_at, Respliced}
 use Rattle.jsonc_edit.specs.Paths.{IsAt}
-use Rattle.jsonc_edit.specs.declared.modes.TrailingCommaMode.{TrailingCommaMode}
-use Rattle.jsonc_edit.specs.declared.modes.TrailingCommaMode.TheVariants.{Never, IfMultiline}
+use Rattle.jsonc_text.specs.declared.edit.TrailingCommaMode.{TrailingCommaMode}
+use Rattle.jsonc_text.specs.declared.edit.TrailingCommaMode.TheVariants.{Never, IfMultiline}
 use Rattle.jsonc_edit.proofs.AtStill.{at_over}
 use Rattle.jsonc_edit.proofs.FittingNodes.{over_there}
 use Rattle.jsonc_edit.proofs.Kept.{at_kept, top_stays, tree_stays}

@@ -9,8 +9,8 @@ use Rattle.jsonc_tree.specs.Content.{newline}
 use Rattle.jsonc_tree.specs.Siblings.{first}
 use Rattle.jsonc_tree.specs.Tree.{Node, content_at, children_at}
 use Rattle.jsonc_tree.specs.declared.node.CstNewlineKind.{CstNewlineKind}
-use Rattle.jsonc_layout.specs.nodes.Kinds.{is_newline, is_newline_at}
-use Rattle.jsonc_edit.specs.remove.Removed.{has_two, is_token, is_token_at}
+use Rattle.jsonc_layout.specs.nodes.Kinds.{is_newline, is_newline_at, is_token}
+use Rattle.jsonc_edit.specs.remove.Removed.{has_two, is_token_at}
 use Rattle.jsonc_edit.specs.multiline.Laws.{HasLineEnd, StaysSpread, HasItsBrackets}
 use Rattle.jsonc_edit.specs.multiline.Lines.{Lines, between, indent_if_any, lines_for, on_line, on_lines, parts, without_back, without_front}
 use Rattle.jsonc_edit.specs.multiline.Multiline.{has_line_end, TakesRow}

@@ -8,11 +8,11 @@ use Rattle.jsonc_tree.specs.Content.{Content, is_container, newline}
 use Rattle.jsonc_tree.specs.OrderedTree.{OrderedTree, none, more, grown, plant}
 use Rattle.jsonc_tree.specs.Tree.{Node, content_at, children_at, IsTree}
 use Rattle.jsonc_tree.specs.declared.node.CstNewlineKind.{CstNewlineKind}
-use Rattle.jsonc_layout.specs.nodes.Kinds.{is_newline, is_newline_at, is_whitespace, is_whitespace_at}
+use Rattle.jsonc_layout.specs.nodes.Kinds.{is_newline, is_newline_at, is_whitespace, is_whitespace_at, is_comma_at}
 use Rattle.jsonc_edit.specs.Changes.{row_below}
 use Rattle.jsonc_edit.specs.Writing.{IsIndent}
 use Rattle.jsonc_edit.specs.multiline.Slots.{Slot, stays, comes, top_in, row_in}
-use Rattle.jsonc_edit.specs.multiline.Lines.{Lines, is_comma_at, last_line, indent_if_any, on_line, on_lines, parts, without_back, without_front}
+use Rattle.jsonc_edit.specs.multiline.Lines.{Lines, last_line, indent_if_any, on_line, on_lines, parts, without_back, without_front}
 use Rattle.jsonc_edit.specs.multiline.Plans.{child_slots, begins_behind}
 use Rattle.jsonc_edit.specs.multiline.Reflows.{starts_line, has_newline, Reflows, ended, kept, gone, line, line_end}
 use Rattle.jsonc_edit.proofs.lemmas.multiline.Weaving.{woven, both_woven}

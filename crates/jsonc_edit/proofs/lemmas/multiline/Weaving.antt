@@ -5,10 +5,9 @@ use Rattle.std.proofs.lemmas.List.Sums.{suffix_len_is}
 use Rattle.std.proofs.lemmas.Bool.{cases_Bool}
 use Rattle.jsonc_tree.specs.Content.{Content}
 use Rattle.jsonc_tree.specs.Tree.{Node, content_at}
-use Rattle.jsonc_layout.specs.nodes.Kinds.{is_whitespace, is_whitespace_at}
-use Rattle.jsonc_layout.specs.lines.Kinds.{is_comma}
+use Rattle.jsonc_layout.specs.nodes.Kinds.{is_whitespace, is_whitespace_at, is_comma_at, is_comma}
 use Rattle.jsonc_edit.specs.multiline.Slots.{Slot, stays}
-use Rattle.jsonc_edit.specs.multiline.Lines.{Lines, is_comma_at, parts, without_front, new_line, on_line}
+use Rattle.jsonc_edit.specs.multiline.Lines.{Lines, parts, without_front, new_line, on_line}
 use Rattle.jsonc_edit.specs.multiline.Plans.{child_slots, begins_behind}
 
 -- how long a row is without the whitespace at its end

@@ -9,13 +9,12 @@ use Rattle.jsonc_tree.specs.Tree.{Node, content_at, parent_at, children_at, plac
 use Rattle.jsonc_tree.proofs.Builder.{Keeps-same, Keeps-then, Keeps-fewer, Keeps-room}
 use Rattle.jsonc_tree.proofs.Order.{not_over_parent, parent_there}
 use Rattle.jsonc_tree.proofs.Splicing.{in_at}
-use Rattle.jsonc_layout.specs.nodes.Kinds.{is_whitespace, is_whitespace_at}
-use Rattle.jsonc_layout.specs.lines.Kinds.{is_comma}
+use Rattle.jsonc_layout.specs.nodes.Kinds.{is_whitespace, is_whitespace_at, is_comma_at, is_comma}
 use Rattle.jsonc_sound.proofs.RowParts.{first_and}
 use Rattle.jsonc_edit.proofs.Kept.{over_no_old}
 use Rattle.jsonc_edit.specs.remove.Removed.{has_brackets, has_two}
 use Rattle.jsonc_edit.specs.multiline.Slots.{Slot}
-use Rattle.jsonc_edit.specs.multiline.Lines.{Lines, between, is_comma_at, last_line, lines_for, on_line, on_lines, parts, without_back, without_front}
+use Rattle.jsonc_edit.specs.multiline.Lines.{Lines, between, last_line, lines_for, on_line, on_lines, parts, without_back, without_front}
 use Rattle.jsonc_edit.specs.multiline.Multiline.{has_line_end, TakesRow, MadeMultiline}
 use Rattle.jsonc_edit.specs.multiline.Plans.{IsFrom, Planned, PlannedRow, Gains, GainsChild, child_slots, begins_behind}
 use Rattle.jsonc_edit.proofs.lemmas.multiline.Planning.{planned_later, planned_none}

@@ -3,8 +3,7 @@ use Rattle.std.proofs.Common.{◌≡◌, ℕ, suc, ◌+◌, Bool, true, false, n
 use Rattle.jsonc_tree.specs.Content.{Content, whitespace}
 use Rattle.jsonc_tree.specs.OrderedTree.{OrderedTree, Shows, shows_none, shows_more}
 use Rattle.jsonc_tree.specs.Tree.{Node, content_at}
-use Rattle.jsonc_layout.specs.nodes.Kinds.{is_beside, is_element, is_trivia}
-use Rattle.jsonc_layout.specs.lines.Kinds.{is_comma}
+use Rattle.jsonc_layout.specs.nodes.Kinds.{is_beside, is_element, is_trivia, is_comma}
 use Rattle.jsonc_sound.specs.TriviaChanges.{AreTrivia}
 use Rattle.jsonc_sound.specs.Leaving.{AreBeside, ends_apart, has_no_comma, comma_comes, element_count}
 

@@ -7,13 +7,12 @@ use Rattle.std.specs.Option.{option_or}
 use Rattle.jsonc_tree.specs.Content.{Content, token}
 use Rattle.jsonc_tree.specs.Siblings.{first, siblings_after, siblings_before}
 use Rattle.jsonc_tree.specs.Tree.{Node, content_at, parent_at, children_at, place_at, IsTree}
-use Rattle.jsonc_layout.specs.nodes.Kinds.{is_beside, is_element, is_trivia}
-use Rattle.jsonc_layout.specs.lines.Kinds.{is_comma}
+use Rattle.jsonc_layout.specs.nodes.Kinds.{is_beside, is_element, is_trivia, is_comma_at, is_comma}
 use Rattle.jsonc_layout.specs.lines.Siblings.{is_no_trivia_at, if_comma, trailing_comma_at}
 use Rattle.jsonc_sound.specs.TriviaChanges.{AreTrivia}
 use Rattle.jsonc_sound.specs.Leaving.{AreBeside, IsRestOfLine, LeavesBehind, comma_alone, comma_and_line}
 use Rattle.jsonc_sound.proofs.RowParts.{line_trivia, rest_trivia}
-use Rattle.jsonc_edit.specs.remove.Leaving.{comma_before, comma_gone, comma_unless, ends_line_at, first_gone, is_comma_at, last_gone, last_past, line_end_at, newline_there}
+use Rattle.jsonc_edit.specs.remove.Leaving.{comma_before, comma_gone, comma_unless, ends_line_at, first_gone, last_gone, last_past, line_end_at, newline_there}
 use Rattle.jsonc_layout.specs.nodes.Comments.{first_not_beside}
 use Rattle.jsonc_edit.proofs.lemmas.remove.Contents.{apart, no_commas, comma_first, apart_behind, apart_rest, first_past, no_commas_rest}
 use Rattle.jsonc_edit.proofs.lemmas.remove.Places.{row_split, before_in, after_in, final, final_last, final_behind, up_to_final}

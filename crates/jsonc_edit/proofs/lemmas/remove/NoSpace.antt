@@ -12,8 +12,8 @@ use Rattle.jsonc_tree.specs.Siblings.{siblings_before}
 use Rattle.jsonc_tree.specs.Tree.{Node, children_at, content_at, is_container_at, parent_at, place_at, IsOver, IsTree}
 use Rattle.jsonc_tree.specs.Values.{is_passed_over}
 use Rattle.jsonc_tree.proofs.Order.{over_step, parent_there}
-use Rattle.jsonc_layout.specs.nodes.Kinds.{is_element_at, is_property}
-use Rattle.jsonc_layout.specs.lines.Kinds.{holds_values, is_comma}
+use Rattle.jsonc_layout.specs.nodes.Kinds.{is_element_at, is_property, is_comma, is_comma_at}
+use Rattle.jsonc_layout.specs.lines.Kinds.{holds_values}
 use Rattle.jsonc_sound.specs.Alone.{PropertyAlone, RootAlone}
 use Rattle.jsonc_sound.specs.Leaving.{AreBeside, IsRestOfLine}
 use Rattle.jsonc_sound.specs.Rows.{RowKind, of_values, of_properties, closing, opening}
@@ -25,7 +25,7 @@ use Rattle.jsonc_edit.specs.Changes.{row_below}
 use Rattle.jsonc_edit.specs.Due.{begins_bare, due_between, ends_bare, nearest, prints, prints_at, prints_within, seen_before, seen_behind}
 use Rattle.jsonc_edit.specs.Paths.{IsAt, as_root, as_value, as_property, as_name, between}
 use Rattle.jsonc_edit.specs.Put.{AreDue}
-use Rattle.jsonc_edit.specs.remove.Leaving.{comma_gone, first_gone, is_comma_at, last_gone}
+use Rattle.jsonc_edit.specs.remove.Leaving.{comma_gone, first_gone, last_gone}
 use Rattle.jsonc_edit.specs.remove.Laws.{ElementWantsNone}
 use Rattle.jsonc_edit.specs.remove.Removed.{comma_in, due_at_comma, due_at_stretch, due_before_gap, due_behind_gap, is_next}
 use Rattle.jsonc_edit.proofs.Printing.{unkept_prints}

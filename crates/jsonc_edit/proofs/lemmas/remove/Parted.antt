@@ -9,8 +9,7 @@ use Rattle.jsonc_text.specs.Options.{Options}
 use Rattle.jsonc_tree.specs.Content.{Content, property, token}
 use Rattle.jsonc_tree.specs.OrderedTree.{OrderedTree, none, more, Shows, shows_none, shows_more}
 use Rattle.jsonc_tree.specs.Tree.{Node, children_at, content_at}
-use Rattle.jsonc_layout.specs.nodes.Kinds.{is_element, is_element_at, is_trivia}
-use Rattle.jsonc_layout.specs.lines.Kinds.{is_comma}
+use Rattle.jsonc_layout.specs.nodes.Kinds.{is_element, is_element_at, is_trivia, is_comma}
 use Rattle.jsonc_sound.specs.Alone as alone
 use Rattle.jsonc_sound.specs.Alone.{may_stand, PartAlone, PropertyAlone, RootAlone, RowAlone, ValueAlone}
 use Rattle.jsonc_sound.specs.Rows.{Last, RowKind, nothing_yet, an_element, a_comma}

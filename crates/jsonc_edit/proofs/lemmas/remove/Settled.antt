@@ -11,12 +11,12 @@ use Rattle.jsonc_text.specs.Text.{starts}
 use Rattle.jsonc_tree.specs.Content.{Content, token}
 use Rattle.jsonc_tree.specs.Tree.{Node, content_at, children_at, IsTree}
 use Rattle.jsonc_layout.proofs.lemmas.nodes.There.{All-reverse}
-use Rattle.jsonc_layout.specs.lines.Kinds.{holds_values, is_comma}
+use Rattle.jsonc_layout.specs.lines.Kinds.{holds_values}
+use Rattle.jsonc_layout.specs.nodes.Kinds.{is_comma, is_comma_at}
 use Rattle.jsonc_sound.proofs.Texts.{comma_first as comma_char}
 use Rattle.jsonc_sound.specs.Leaving.{AreBeside, IsRestOfLine, LeavesBehind}
 use Rattle.jsonc_edit.specs.Due.{is_other, prints, prints_at, nearest, begins_bare, ends_bare, seen_before, due_between, listed}
 use Rattle.jsonc_edit.specs.Put.{AreSpaced}
-use Rattle.jsonc_edit.specs.remove.Leaving.{is_comma_at}
 use Rattle.jsonc_edit.specs.remove.Removed.{is_next}
 use Rattle.jsonc_edit.proofs.lemmas.remove.Contents.{apart, no_commas, comma_first, Gains, apart_behind_gains, commas_gains, first_gains}
 use Rattle.jsonc_edit.proofs.lemmas.remove.Places.{Come, none_come, one_come, Quiet, OneSpace, one_space, before_in}

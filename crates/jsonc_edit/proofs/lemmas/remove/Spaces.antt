@@ -5,7 +5,8 @@ use Rattle.std.specs.List.{All}
 use Rattle.std.specs.Option.{option_and_then}
 use Rattle.jsonc_tree.specs.Content.{Content, array, object}
 use Rattle.jsonc_tree.specs.Tree.{Node, content_at, children_at, IsTree}
-use Rattle.jsonc_layout.specs.lines.Kinds.{holds_values, is_comma}
+use Rattle.jsonc_layout.specs.lines.Kinds.{holds_values}
+use Rattle.jsonc_layout.specs.nodes.Kinds.{is_comma}
 use Rattle.jsonc_sound.specs.Leaving.{AreBeside, IsRestOfLine, LeavesBehind}
 use Rattle.jsonc_sound.specs.Adjacent.{or_else}
 use Rattle.jsonc_edit.specs.Due.{prints, prints_at, nearest, begins_bare, ends_bare, seen_before, seen_behind, behind_holder, behind_property, due_between, prints_within}

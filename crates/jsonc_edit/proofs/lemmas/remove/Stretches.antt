@@ -4,14 +4,13 @@ use Rattle.std.proofs.lemmas.List.{append_assoc, map-append, reverse-append}
 use Rattle.std.specs.List.{find}
 use Rattle.jsonc_tree.specs.Content.{Content}
 use Rattle.jsonc_tree.specs.Tree.{Node, content_at}
-use Rattle.jsonc_layout.specs.nodes.Kinds.{is_beside, is_beside_at, is_newline, is_newline_at, is_trivia, is_trivia_at, is_whitespace_at}
-use Rattle.jsonc_layout.specs.lines.Kinds.{is_comma}
+use Rattle.jsonc_layout.specs.nodes.Kinds.{is_beside, is_beside_at, is_newline, is_newline_at, is_trivia, is_trivia_at, is_whitespace_at, is_comma_at, is_comma}
 use Rattle.jsonc_layout.specs.lines.Siblings.{is_no_trivia_at, if_comma}
 use Rattle.jsonc_sound.specs.TriviaChanges.{AreTrivia}
 use Rattle.jsonc_sound.specs.Leaving.{AreBeside, IsRestOfLine, without_end, with_end}
 use Rattle.jsonc_sound.proofs.RowParts.{beside_trivia, newline_trivia}
 use Rattle.jsonc_layout.specs.nodes.Comments.{first_not_beside}
-use Rattle.jsonc_edit.specs.remove.Leaving.{begins_other, is_comma_at, line_end, newline_there, outermost}
+use Rattle.jsonc_edit.specs.remove.Leaving.{begins_other, line_end, newline_there, outermost}
 use Rattle.jsonc_edit.proofs.lemmas.remove.Contents.{apart, no_commas, comma_first, apart_last, beside_append}
 
 beside_line : (c : Content) (ls : List Content) → IsTrue (is_beside c) → IsRestOfLine ls → IsRestOfLine (c ∷ ls)

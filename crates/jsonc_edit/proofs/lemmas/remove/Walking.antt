@@ -7,10 +7,9 @@ use Rattle.jsonc_tree.specs.Siblings.{first, siblings_after}
 use Rattle.jsonc_tree.specs.Tree.{Node, content_at, parent_at, children_at, place_at, IsTree}
 use Rattle.jsonc_tree.proofs.Gaps.{at_named, at_placed, at_there}
 use Rattle.jsonc_tree.proofs.Sideways.{first_drop}
-use Rattle.jsonc_layout.specs.nodes.Kinds.{is_beside_at, is_newline_at}
+use Rattle.jsonc_layout.specs.nodes.Kinds.{is_beside_at, is_newline_at, is_comma}
 use Rattle.jsonc_layout.specs.nodes.Siblings.{IsThere, AreThere}
 use Rattle.jsonc_layout.proofs.lemmas.nodes.There.{after_there, find_there}
-use Rattle.jsonc_layout.specs.lines.Kinds.{is_comma}
 use Rattle.jsonc_layout.specs.lines.Siblings.{is_no_trivia_at, if_comma, after_trivia_at, trailing_comma_at}
 use Rattle.jsonc_edit.specs.remove.Leaving.{line_end, line_end_at, outermost, trails}
 

@@ -6,7 +6,7 @@ use Rattle.jsonc_edit.specs.Replacing.{GivesWayRaw}
 use Rattle.jsonc_edit.proofs.replacing.replace_name.Goals as goal
 
 pub layout_for-requires-clause-container : goal.layout_for-requires-clause-container
-layout_for-requires-clause-container g c = (parent_there c.args.tree.now.nodes c.len.ensures.tree c.args.node c.in-Some.container (sym c.parent.ensures ∙ c.in-Some.is)).1
+layout_for-requires-clause-container g c = (parent_there c.args.tree.now.nodes c.args.tree.now.tree c.args.node c.in-Some.container (sym c.parent.ensures ∙ c.in-Some.is)).1
 
 pub layout_for-requires-clause-node : goal.layout_for-requires-clause-node
 layout_for-requires-clause-node g c = layout_for-requires-clause-container g c

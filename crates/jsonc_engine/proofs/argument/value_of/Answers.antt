@@ -21,10 +21,10 @@ pub returns-then-is_none-clause-refused : goal.returns-then-is_none-clause-refus
 returns-then-is_none-clause-refused g c =
     let all : parse_options c.default.result ≡ all_on = search rules in
     let reads : printed_of c.in-Ok.document ≡ c.args.json.now = search rules in
-    no_value_there c.args.json.now (parse_options c.default.result) all c.in-Ok.document reads c.len.ensures.tree c.in-Ok.ensures.shaped c.in-Ok.ensures.lines c.value.result c.value.ensures.value c.if-is_none.ensures
+    no_value_there c.args.json.now (parse_options c.default.result) all c.in-Ok.document reads c.in-Ok.document.tree.tree c.in-Ok.ensures.shaped c.in-Ok.ensures.lines c.value.result c.value.ensures.value c.if-is_none.ensures
 
 pub returns-clause-refused : goal.returns-clause-refused
 returns-clause-refused g c =
     let all : parse_options c.default.result ≡ all_on = search rules in
     let reads : printed_of c.in-Ok.document ≡ c.args.json.now = search rules in
-    value_wanted c.args.json.now (parse_options c.default.result) all c.in-Ok.document reads c.len.ensures.tree c.in-Ok.ensures.shaped c.in-Ok.ensures.lines c.value.result c.value.ensures.value c.if-is_none.ensures c.in-Err-to_value.error c.in-Err-to_value.ensures.memory
+    value_wanted c.args.json.now (parse_options c.default.result) all c.in-Ok.document reads c.in-Ok.document.tree.tree c.in-Ok.ensures.shaped c.in-Ok.ensures.lines c.value.result c.value.ensures.value c.if-is_none.ensures c.in-Err-to_value.error c.in-Err-to_value.ensures.memory

@@ -10,14 +10,14 @@ use Rattle.jsonc_engine.proofs.edit.remove_property.Goals as goal
 
 pub returns-in_default-clause-told : goal.returns-in_default-clause-told
 returns-in_default-clause-told g c = λ o sound.
-    no_object o (nodes_of c.args.document.now) c.len.ensures.tree sound (sym c.object_value.ensures.value ∙ c.in_default.is)
+    no_object o (nodes_of c.args.document.now) c.args.document.now.tree.tree sound (sym c.object_value.ensures.value ∙ c.in_default.is)
 
 pub returns-in_err-property-clause-told : goal.returns-in_err-property-clause-told
 returns-in_err-property-clause-told g c = λ o sound.
     let bytes = printed_of c.args.document.now in
     err_by (EndsOnObject o bytes) (Edit c.in_err-property.field-0.0) c.from_residual.result c.from_residual.ensures.1
     (memory_on_object o bytes c.in_err-property.field-0.0 c.in_err-property.ensures.memory
-    (has_object o (nodes_of c.args.document.now) c.len.ensures.tree sound c.in-Some.object (sym c.object_value.ensures.value ∙ c.in-Some.is)))
+    (has_object o (nodes_of c.args.document.now) c.args.document.now.tree.tree sound c.in-Some.object (sym c.object_value.ensures.value ∙ c.in-Some.is)))
 
 pub returns-in-Err-clause-told : goal.returns-in-Err-clause-told
 returns-in-Err-clause-told g c = λ o sound.
@@ -25,11 +25,11 @@ returns-in-Err-clause-told g c = λ o sound.
     let read = sym c.object_value.ensures.value ∙ c.in-Some.is in
     let first = first_found c.args.document.now c.in-Some.object (chars c.args.name.now) c.in_ok-property.field-0 c.in-Some-2.property c.in_ok-property.ensures.found c.in-Some-2.is in
     memory_on_object o (printed_of c.args.document.now) c.in-Err.error
-    (wants_memory o old (nodes_of c.remove.new.doc) c.len.ensures.tree (chars c.args.name.now) c.in-Some.object read c.in-Some-2.property.number first c.in-Err.error sound (c.in-Err.ensures.memory o))
-    (has_object o old c.len.ensures.tree sound c.in-Some.object read)
+    (wants_memory o old (nodes_of c.remove.new.doc) c.args.document.now.tree.tree (chars c.args.name.now) c.in-Some.object read c.in-Some-2.property.number first c.in-Err.error sound (c.in-Err.ensures.memory o))
+    (has_object o old c.args.document.now.tree.tree sound c.in-Some.object read)
 
 pub returns-in-Ok-clause-removed : goal.returns-in-Ok-clause-removed
 returns-in-Ok-clause-removed g c = λ o sound.
     let first = first_found c.args.document.now c.in-Some.object (chars c.args.name.now) c.in_ok-property.field-0 c.in-Some-2.property c.in_ok-property.ensures.found c.in-Some-2.is in
-    one_loses o (nodes_of c.args.document.now) (nodes_of c.remove.new.doc) c.len.ensures.tree (chars c.args.name.now) c.in-Some.object
+    one_loses o (nodes_of c.args.document.now) (nodes_of c.remove.new.doc) c.args.document.now.tree.tree (chars c.args.name.now) c.in-Some.object
     (sym c.object_value.ensures.value ∙ c.in-Some.is) c.in-Some-2.property.number first c.in-Ok.ensures.removed (c.in-Ok.ensures.written o sound)

@@ -10,13 +10,13 @@ use Rattle.jsonc_engine.proofs.edit.set_property.Goals as goal
 
 pub returns-in-Ok-None-clause-told : goal.returns-in-Ok-None-clause-told
 returns-in-Ok-None-clause-told g c = λ o sound.
-    no_object o (nodes_of c.args.document.now) (nodes_of c.object_value_or_create.new.self) c.len.ensures.tree sound c.in-Ok-None.field-0 c.in-Ok-None.field-0-is c.in-Ok-None.ensures.value
+    no_object o (nodes_of c.args.document.now) (nodes_of c.object_value_or_create.new.self) c.args.document.now.tree.tree sound c.in-Ok-None.field-0 c.in-Ok-None.field-0-is c.in-Ok-None.ensures.value
 
 pub returns-in-Ok-set_value-clause-set : goal.returns-in-Ok-set_value-clause-set
 returns-in-Ok-set_value-clause-set g c = λ o sound.
     let document = c.object_value_or_create.new.self in
     let named = first_found document c.in-Ok-Some.object (chars c.args.name.now) c.in-Ok.found c.in-Some.property c.in-Ok.ensures.found c.in-Some.is in
-    sets_property o (nodes_of c.args.document.now) (nodes_of document) c.len-2.ensures.tree c.in-Ok-Some.object
+    sets_property o (nodes_of c.args.document.now) (nodes_of document) c.object_value_or_create.new.self.tree.tree c.in-Ok-Some.object
     (object_stands (nodes_of c.object_value_or_create.new.self) c.in-Ok-Some.field-0 c.in-Ok-Some.object c.in-Ok-Some.field-0-is c.in-Ok-Some.ensures.stands) (c.in-Ok-Some.ensures.written o) sound (nodes_of c.set_value.new.doc)
     (chars c.args.name.now) (plain c.args.value)
     (said_of c.in-Ok-Some.field-0 c.in-Ok-Some.object (λ (f : Option CstObject). FindsOrCreatesObject (nodes_of c.args.document.now) (nodes_of document) f) c.in-Ok-Some.field-0-is c.in-Ok-Some.ensures.value)
@@ -26,7 +26,7 @@ pub returns-in-Ok-append-clause-set : goal.returns-in-Ok-append-clause-set
 returns-in-Ok-append-clause-set g c = λ o sound.
     let document = c.object_value_or_create.new.self in
     let named = none_found document c.in-Ok-Some.object (chars c.args.name.now) c.in-Ok.found c.in-Ok.ensures.found c.in-None.is in
-    appends_property o (nodes_of c.args.document.now) (nodes_of document) c.len-2.ensures.tree c.in-Ok-Some.object
+    appends_property o (nodes_of c.args.document.now) (nodes_of document) c.object_value_or_create.new.self.tree.tree c.in-Ok-Some.object
     (object_stands (nodes_of c.object_value_or_create.new.self) c.in-Ok-Some.field-0 c.in-Ok-Some.object c.in-Ok-Some.field-0-is c.in-Ok-Some.ensures.stands) (c.in-Ok-Some.ensures.written o) sound (nodes_of c.append.new.doc)
     (chars c.args.name.now) (plain c.args.value)
     (said_of c.in-Ok-Some.field-0 c.in-Ok-Some.object (λ (f : Option CstObject). FindsOrCreatesObject (nodes_of c.args.document.now) (nodes_of document) f) c.in-Ok-Some.field-0-is c.in-Ok-Some.ensures.value)
@@ -34,25 +34,25 @@ returns-in-Ok-append-clause-set g c = λ o sound.
 
 pub returns-in-Err-append-clause-told : goal.returns-in-Err-append-clause-told
 returns-in-Err-append-clause-told g c = λ o sound.
-    append_memory o (nodes_of c.args.document.now) (nodes_of c.object_value_or_create.new.self) c.len-2.ensures.tree c.in-Ok-Some.object
-    (object_stands (nodes_of c.object_value_or_create.new.self) c.in-Ok-Some.field-0 c.in-Ok-Some.object c.in-Ok-Some.field-0-is c.in-Ok-Some.ensures.stands) (c.in-Ok-Some.ensures.written o) sound c.len.ensures.tree
+    append_memory o (nodes_of c.args.document.now) (nodes_of c.object_value_or_create.new.self) c.object_value_or_create.new.self.tree.tree c.in-Ok-Some.object
+    (object_stands (nodes_of c.object_value_or_create.new.self) c.in-Ok-Some.field-0 c.in-Ok-Some.object c.in-Ok-Some.field-0-is c.in-Ok-Some.ensures.stands) (c.in-Ok-Some.ensures.written o) sound c.args.document.now.tree.tree
     (said_of c.in-Ok-Some.field-0 c.in-Ok-Some.object (λ (f : Option CstObject). FindsOrCreatesObject (nodes_of c.args.document.now) (nodes_of c.object_value_or_create.new.self) f) c.in-Ok-Some.field-0-is c.in-Ok-Some.ensures.value)
     c.in-Err-append.error (c.in-Err-append.ensures.memory o)
 
 pub returns-in-Err-set_value-clause-told : goal.returns-in-Err-set_value-clause-told
 returns-in-Err-set_value-clause-told g c = λ o sound.
-    object_memory o (nodes_of c.args.document.now) (nodes_of c.object_value_or_create.new.self) c.len-2.ensures.tree c.in-Ok-Some.object
-    (object_stands (nodes_of c.object_value_or_create.new.self) c.in-Ok-Some.field-0 c.in-Ok-Some.object c.in-Ok-Some.field-0-is c.in-Ok-Some.ensures.stands) (c.in-Ok-Some.ensures.written o) sound c.len.ensures.tree
+    object_memory o (nodes_of c.args.document.now) (nodes_of c.object_value_or_create.new.self) c.object_value_or_create.new.self.tree.tree c.in-Ok-Some.object
+    (object_stands (nodes_of c.object_value_or_create.new.self) c.in-Ok-Some.field-0 c.in-Ok-Some.object c.in-Ok-Some.field-0-is c.in-Ok-Some.ensures.stands) (c.in-Ok-Some.ensures.written o) sound c.args.document.now.tree.tree
     (said_of c.in-Ok-Some.field-0 c.in-Ok-Some.object (λ (f : Option CstObject). FindsOrCreatesObject (nodes_of c.args.document.now) (nodes_of c.object_value_or_create.new.self) f) c.in-Ok-Some.field-0-is c.in-Ok-Some.ensures.value)
     c.in-Err-set_value.error c.in-Err-set_value.ensures.memory
 
 pub returns-in-Err-get-clause-told : goal.returns-in-Err-get-clause-told
 returns-in-Err-get-clause-told g c = λ o sound.
-    object_memory o (nodes_of c.args.document.now) (nodes_of c.object_value_or_create.new.self) c.len-2.ensures.tree c.in-Ok-Some.object
-    (object_stands (nodes_of c.object_value_or_create.new.self) c.in-Ok-Some.field-0 c.in-Ok-Some.object c.in-Ok-Some.field-0-is c.in-Ok-Some.ensures.stands) (c.in-Ok-Some.ensures.written o) sound c.len.ensures.tree
+    object_memory o (nodes_of c.args.document.now) (nodes_of c.object_value_or_create.new.self) c.object_value_or_create.new.self.tree.tree c.in-Ok-Some.object
+    (object_stands (nodes_of c.object_value_or_create.new.self) c.in-Ok-Some.field-0 c.in-Ok-Some.object c.in-Ok-Some.field-0-is c.in-Ok-Some.ensures.stands) (c.in-Ok-Some.ensures.written o) sound c.args.document.now.tree.tree
     (said_of c.in-Ok-Some.field-0 c.in-Ok-Some.object (λ (f : Option CstObject). FindsOrCreatesObject (nodes_of c.args.document.now) (nodes_of c.object_value_or_create.new.self) f) c.in-Ok-Some.field-0-is c.in-Ok-Some.ensures.value)
     c.in-Err-get.error c.in-Err-get.ensures.memory
 
 pub returns-in-Err-clause-told : goal.returns-in-Err-clause-told
 returns-in-Err-clause-told g c = λ o sound.
-    object_wanted o (nodes_of c.args.document.now) c.len.ensures.tree sound c.in-Err.ensures.wanted c.in-Err.error c.in-Err.ensures.memory
+    object_wanted o (nodes_of c.args.document.now) c.args.document.now.tree.tree sound c.in-Err.ensures.wanted c.in-Err.error c.in-Err.ensures.memory

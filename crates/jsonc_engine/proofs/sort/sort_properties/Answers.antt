@@ -8,14 +8,14 @@ use Rattle.jsonc_engine.proofs.sort.sort_properties.Goals as goal
 
 pub returns-in_default-clause-told : goal.returns-in_default-clause-told
 returns-in_default-clause-told g c = λ o sound.
-    no_object o (nodes_of c.args.document.now) c.len.ensures.tree sound (sym c.object_value.ensures.value ∙ c.in_default.is)
+    no_object o (nodes_of c.args.document.now) c.args.document.now.tree.tree sound (sym c.object_value.ensures.value ∙ c.in_default.is)
 
 pub returns-in-Ok-clause-sorted : goal.returns-in-Ok-clause-sorted
 returns-in-Ok-clause-sorted g c = λ o.
-    sorts_by_name _ _ c.args.document.now c.by.new.doc c.in-Some.object o c.sort_properties.result.object c.sort_properties.result.groups c.len.ensures.tree (sym c.object_value.ensures.value ∙ c.in-Some.is)
+    sorts_by_name _ _ c.args.document.now c.by.new.doc c.in-Some.object o c.sort_properties.result.object c.sort_properties.result.groups c.args.document.now.tree.tree (sym c.object_value.ensures.value ∙ c.in-Some.is)
     c.sort_properties.ensures.object c.sort_properties.ensures.groups c.in-Ok.ensures.sorted (λ d p q r at hp hq post. search rules)
 
 pub returns-in-Err-clause-told : goal.returns-in-Err-clause-told
 returns-in-Err-clause-told g c = λ o sound.
     memory_on_object o (printed_of c.args.document.now) c.in-Err.error c.in-Err.ensures.memory
-    (has_object o (nodes_of c.args.document.now) c.len.ensures.tree sound c.in-Some.object (sym c.object_value.ensures.value ∙ c.in-Some.is))
+    (has_object o (nodes_of c.args.document.now) c.args.document.now.tree.tree sound c.in-Some.object (sym c.object_value.ensures.value ∙ c.in-Some.is))

@@ -14,7 +14,7 @@ layout_in-requires-clause-there g c =
     let ns = c.args.tree.now.nodes in
     let row = children_at ns c.args.container in
     let is : c.in_ok-kept.kept.items ≡ trimmed ns row = c.in_ok-kept.ensures ∙ ap (trimmed ns) (c.deref.ensures.value ∙ c.in_ok-row.ensures.children) in
-    subst (λ (l : List ℕ). All (λ m. m < length ns) l) (sym (c.deref-2.ensures.value ∙ is)) (trimmed_all (λ m. m < length ns) ns row (children_there ns c.len.ensures.tree c.args.container))
+    subst (λ (l : List ℕ). All (λ m. m < length ns) l) (sym (c.deref-2.ensures.value ∙ is)) (trimmed_all (λ m. m < length ns) ns row (children_there ns c.args.tree.now.tree c.args.container))
 
 pub planned-plan-requires : goal.planned-plan-requires
 planned-plan-requires g c =

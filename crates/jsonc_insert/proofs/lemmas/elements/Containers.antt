@@ -20,14 +20,15 @@ use Rattle.jsonc_edit.proofs.Kept.{at_kept, top_stays, tree_stays}
 use Rattle.jsonc_edit.proofs.Splices.{respliced_over, respliced_row}
 use Rattle.jsonc_tree.specs.Changes.{CanJoin, Splices}
 use Rattle.jsonc_edit.specs.Paths.{IsAt}
-use Rattle.jsonc_edit.specs.declared.error.EditError.TheVariants.{OutOfMemory, MissingBrackets}
+use Rattle.jsonc_text.specs.declared.edit.EditError.TheVariants.{OutOfMemory, MissingBrackets}
 use Rattle.jsonc_edit.proofs.FittingNodes.{over_there}
 use Rattle.jsonc_edit.proofs.Walk.{ChangedIn, Shows-row_below, changed_over}
 use Rattle.jsonc_edit.proofs.lemmas.remove.Containers.{Brackets, brackets, held_at}
 use Rattle.jsonc_edit.specs.multiline.Laws.{bracketed}
 use Rattle.jsonc_edit.proofs.lemmas.multiline.Documents.{over_at}
 use Rattle.jsonc_edit.proofs.lemmas.multiline.OnLines.{standing}
-use Rattle.jsonc_insert.specs.Planned.{has_brackets, is_token}
+use Rattle.jsonc_insert.specs.Planned.{has_brackets}
+use Rattle.jsonc_layout.specs.nodes.Kinds.{is_token}
 use Rattle.jsonc_insert.specs.elements.Laws.{HasItsBrackets, WantsMemoryAlone}
 use Rattle.jsonc_insert.proofs.lemmas.elements.Documents.{row_in_document}
 use Rattle.jsonc_insert.proofs.lemmas.elements.Rows.{IsRow}

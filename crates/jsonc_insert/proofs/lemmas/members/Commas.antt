@@ -8,10 +8,10 @@ use Rattle.jsonc_tree.specs.Content.{Content}
 use Rattle.jsonc_tree.specs.Order.{with_parent}
 use Rattle.jsonc_tree.specs.OrderedTree.{OrderedTree, none, more, ordered_tree, Shows, shows_none, shows_more}
 use Rattle.jsonc_tree.specs.Tree.{Node, children_at, content_at, place_at, IsTree}
-use Rattle.jsonc_layout.specs.nodes.Kinds.{is_element, is_element_at, is_trivia}
+use Rattle.jsonc_layout.specs.nodes.Kinds.{is_element, is_element_at, is_trivia, is_comma}
 use Rattle.jsonc_layout.specs.nodes.Siblings.{siblings_after}
 use Rattle.jsonc_layout.specs.lines.Breadth.{last_element}
-use Rattle.jsonc_layout.specs.lines.Kinds.{holds_values, is_comma}
+use Rattle.jsonc_layout.specs.lines.Kinds.{holds_values}
 use Rattle.jsonc_layout.specs.lines.Siblings.{is_no_trivia_at, after_trivia_at, if_comma, trailing_comma_at}
 use Rattle.jsonc_sound.specs.Shape.{IsTrivia}
 use Rattle.jsonc_sound.specs.Alone as alone

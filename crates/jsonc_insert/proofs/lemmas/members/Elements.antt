@@ -9,13 +9,13 @@ use Rattle.jsonc_tree.specs.Building.{Keeps}
 use Rattle.jsonc_tree.specs.Content as content
 use Rattle.jsonc_tree.specs.Content.{Content}
 use Rattle.jsonc_tree.specs.Tree.{Node, content_at, children_at, IsTree}
-use Rattle.jsonc_layout.specs.nodes.Kinds.{is_element, is_element_at, is_whitespace, is_whitespace_at}
+use Rattle.jsonc_layout.specs.nodes.Kinds.{is_element, is_element_at, is_whitespace, is_whitespace_at, is_token, is_comma_at}
 use Rattle.jsonc_edit.specs.multiline.Slots.{Slot, stays, comes, AreFilled, no_more, stayed, came}
-use Rattle.jsonc_edit.specs.multiline.Lines.{Lines, between, indent_if_any, is_comma_at, last_line, lines_for, on_lines, spread_row, without_back}
+use Rattle.jsonc_edit.specs.multiline.Lines.{Lines, between, indent_if_any, last_line, lines_for, on_lines, spread_row, without_back}
 use Rattle.jsonc_edit.specs.multiline.Multiline.{has_line_end}
 use Rattle.jsonc_edit.specs.multiline.Plans.{begins_behind, child_slots}
 use Rattle.jsonc_edit.proofs.lemmas.multiline.Weaving.{both_woven, woven}
-use Rattle.jsonc_insert.specs.Planned.{elements, has_brackets, is_token}
+use Rattle.jsonc_insert.specs.Planned.{elements, has_brackets}
 use Rattle.jsonc_insert.proofs.Standing.{token_no_element}
 use Rattle.jsonc_insert.proofs.Trimming.{front_token, has_two}
 use Rattle.jsonc_insert.specs.members.Opened.{enclosed, opened, IsOpened}

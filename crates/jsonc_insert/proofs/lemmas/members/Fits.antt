@@ -18,7 +18,7 @@ use Rattle.jsonc_tree.specs.Content.{Content, is_container, newline, text_of, wh
 use Rattle.jsonc_tree.specs.Order.{text_at, with_parent, line_up, upward}
 use Rattle.jsonc_tree.specs.OrderedTree.{OrderedTree, ordered_tree}
 use Rattle.jsonc_tree.specs.Tree.{Node, children_at, content_at, is_container_at, parent_at, place_at, IsTree, IsOver}
-use Rattle.jsonc_layout.specs.nodes.Kinds.{is_element, is_element_at, is_newline_at, is_trivia_at, is_whitespace, is_whitespace_at}
+use Rattle.jsonc_layout.specs.nodes.Kinds.{is_element, is_element_at, is_newline_at, is_trivia_at, is_whitespace, is_whitespace_at, is_comma_at}
 use Rattle.jsonc_layout.specs.nodes.Properties.{element_from}
 use Rattle.jsonc_layout.specs.nodes.Siblings.{is_no_newline_at, line_before, row_of, siblings_before}
 use Rattle.jsonc_layout.specs.lines.Breadth.{breadth_first, has_whitespace, ends_with_comma, is_in_document, is_spaced, last_element, levels}
@@ -35,7 +35,7 @@ use Rattle.jsonc_edit.proofs.FittingFinds.{found_one, passes}
 use Rattle.jsonc_edit.proofs.FittingIndents.{indents_fit}
 use Rattle.jsonc_edit.proofs.FittingNodes.{FollowsFromShape, children_over, holds_of_each, over_there}
 use Rattle.jsonc_edit.proofs.Kept.{at_kept, filter_same, tree_stays}
-use Rattle.jsonc_edit.specs.multiline.Lines.{Lines, between, indent_if_any, is_comma_at, last_line, lines_for, on_lines, spread_row, without_back}
+use Rattle.jsonc_edit.specs.multiline.Lines.{Lines, between, indent_if_any, last_line, lines_for, on_lines, spread_row, without_back}
 use Rattle.jsonc_edit.specs.multiline.Multiline.{has_line_end}
 use Rattle.jsonc_edit.specs.multiline.Plans.{begins_behind, child_slots}
 use Rattle.jsonc_edit.specs.multiline.Slots.{Slot, stays, comes, AreFilled, no_more, stayed, came}

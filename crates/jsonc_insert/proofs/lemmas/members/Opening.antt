@@ -17,7 +17,8 @@ use Rattle.jsonc_edit.specs.multiline.Slots.{Slot, stays, AreFilled, no_more, st
 use Rattle.jsonc_edit.specs.multiline.Lines.{lines_for, spread_row}
 use Rattle.jsonc_edit.specs.multiline.Multiline.{has_line_end}
 use Rattle.jsonc_edit.specs.multiline.Plans.{IsFrom, PlannedRow}
-use Rattle.jsonc_insert.specs.Planned.{has_brackets, is_token}
+use Rattle.jsonc_insert.specs.Planned.{has_brackets}
+use Rattle.jsonc_layout.specs.nodes.Kinds.{is_token}
 use Rattle.jsonc_insert.proofs.Once.{apart_by, once_append}
 use Rattle.jsonc_insert.proofs.Trimming.{front_token, has_two}
 use Rattle.jsonc_insert.specs.members.Opened.{enclosed, opened, IsOfRow, IsOpened}
@@ -48,7 +49,7 @@ back_token ns row e = by (nat_lt (length row) 2) (is_token (content_at ns (slice
     by false false h = absurd (false≢true h)
 
 -- the same of a container by its number
-same_token : (c : Content) → is_token c ≡ removed.is_token c
+same_token : (c : Content) → is_token c ≡ is_token c
 same_token (content.token c) = refl
 same_token content.root = refl
 same_token content.array = refl
@@ -68,7 +69,7 @@ two_is [] h = absurd (omega (arith, h))
 two_is (x ∷ []) h = absurd (omega (arith, h))
 two_is (x ∷ y ∷ rest) h = refl
 
-first_is : (ns : List Node) (ys : List ℕ) → 0 < length ys → removed.is_token_at ns (first ys) ≡ removed.is_token (content_at ns (slice_index ys 0))
+first_is : (ns : List Node) (ys : List ℕ) → 0 < length ys → removed.is_token_at ns (first ys) ≡ is_token (content_at ns (slice_index ys 0))
 first_is ns [] h = absurd (omega (arith, h))
 first_is ns (y ∷ ys) h = refl
 
@@ -79,7 +80,7 @@ brackets_there ns c e =
     let back : slice_index (reverse row) 0 ≡ slice_index row (length row - 1) = get_or-reverse row 0 0 (omega (arith, two)) ∙ ap (slice_index row) (omega arith) in
     both_true (removed.has_two row) _ (two_is row two)
     (both_true (removed.is_token_at ns (first row)) (removed.is_token_at ns (first (reverse row))) (first_is ns row (omega (arith, two)) ∙ sym (same_token (content_at ns (slice_index row 0))) ∙ front_token ns row e)
-    (first_is ns (reverse row) (omega (arith, two, length-reverse row)) ∙ ap (λ n. removed.is_token (content_at ns n)) back ∙ sym (same_token (content_at ns (slice_index row (length row - 1)))) ∙ back_token ns row e))
+    (first_is ns (reverse row) (omega (arith, two, length-reverse row)) ∙ ap (λ n. is_token (content_at ns n)) back ∙ sym (same_token (content_at ns (slice_index row (length row - 1)))) ∙ back_token ns row e))
 
 -- a row that stays
 pub filled_as : (old now : List Node) (xs : List ℕ) → AreFilled old now (map stays xs) xs

@@ -17,7 +17,7 @@ use Rattle.jsonc_tree.specs.Content.{Content, is_container, token}
 use Rattle.jsonc_tree.specs.OrderedTree.{OrderedTree, Top, none, more, followed_by, ordered_tree, Shows, shows_none, shows_more}
 use Rattle.jsonc_tree.specs.Tree.{Node, children_at, content_at, IsTree, IsOver}
 use Rattle.jsonc_tree.proofs.OrderedTrees.{Shows-unique}
-use Rattle.jsonc_layout.specs.nodes.Kinds.{is_newline, is_newline_at}
+use Rattle.jsonc_layout.specs.nodes.Kinds.{is_newline, is_newline_at, is_token}
 use Rattle.jsonc_layout.specs.lines.Indents.{indents_at}
 use Rattle.jsonc_layout.specs.lines.Kinds.{holds_values}
 use Rattle.jsonc_sound.specs.Leaves.{is_inner_blank}
@@ -27,7 +27,7 @@ use Rattle.jsonc_sound.specs.SoundTrees.{SoundTree}
 use Rattle.jsonc_edit.specs.Changes.{row_below, top_at}
 use Rattle.jsonc_edit.specs.Paths.{IsAt}
 use Rattle.jsonc_edit.specs.Writing.{IsIndent}
-use Rattle.jsonc_edit.specs.declared.error.EditError.TheVariants.{OutOfMemory, MissingBrackets}
+use Rattle.jsonc_text.specs.declared.edit.EditError.TheVariants.{OutOfMemory, MissingBrackets}
 use Rattle.jsonc_edit.proofs.FittingIndents.{indents_fit}
 use Rattle.jsonc_edit.proofs.FittingNodes.{over_there}
 use Rattle.jsonc_edit.proofs.Walk.{Shows-row_below}
@@ -39,7 +39,7 @@ use Rattle.jsonc_edit.specs.multiline.Reflows.{has_newline, Reflows, SpreadsOut,
 use Rattle.jsonc_edit.specs.multiline.Slots.{Slot, stays, comes, AreFilled, no_more, stayed, came, row_in}
 use Rattle.jsonc_edit.proofs.lemmas.multiline.Documents.{filled_shown, over_at}
 use Rattle.jsonc_edit.proofs.lemmas.multiline.OnLines.{AllFit, bare_below, on_lines_fit, row_newline, row_reflows, standing, standing_newline}
-use Rattle.jsonc_insert.specs.Planned.{has_brackets, is_token}
+use Rattle.jsonc_insert.specs.Planned.{has_brackets}
 use Rattle.jsonc_insert.specs.members.Laws.{IsSpreadFirst, SpreadsFirst, WantsMemoryAlone}
 use Rattle.jsonc_insert.specs.members.Opened.{enclosed, IsOpened}
 use Rattle.jsonc_insert.proofs.lemmas.members.Elements.{staying, staying_all}

@@ -15,7 +15,6 @@ use Rattle.jsonc_layout.proofs.lemmas.nodes.Held.{held_in, value_is_held}
 use Rattle.jsonc_layout.specs.from_input.Laid.{laid, laid_property}
 use Rattle.jsonc_layout.specs.from_input.Layout.{Layout}
 use Rattle.jsonc_edit.specs.Changes.{row_below, top_at}
-use Rattle.jsonc_edit.specs.Put.{AreSpaced}
 use Rattle.jsonc_edit.proofs.FittingFinds.{passes, fails}
 use Rattle.jsonc_edit.proofs.Uniqueness.{element_parent}
 use Rattle.jsonc_edit.proofs.Walk.{Shows-row_below}
@@ -25,17 +24,11 @@ use Rattle.jsonc_insert.specs.members.Told.{layout_inside}
 use Rattle.jsonc_insert.proofs.lemmas.members.Changing.{is_property}
 use Rattle.jsonc_insert.proofs.lemmas.members.Numbering.{takes_number}
 use Rattle.jsonc_insert.proofs.lemmas.members.Past.{past_the_end}
-use Rattle.jsonc_edit.specs.set.Kinds.{KeptOrReplaced}
-use Rattle.jsonc_edit.specs.set.PropertyValues.{HeldOrSet}
-use Rattle.jsonc_insert.specs.declared.named.shape.Shape.{Shape}
-use Rattle.jsonc_insert.specs.declared.named.shape.Shape.TheVariants.{Object, Array}
-use Rattle.jsonc_insert.specs.named.Shapes.{is_of, empty_of}
+use Rattle.jsonc_text.specs.declared.edit.Shape.{Shape}
+use Rattle.jsonc_text.specs.declared.edit.Shape.TheVariants.{Object, Array}
+use Rattle.jsonc_edit.specs.set.Shapes.{is_of, empty_of}
+use Rattle.jsonc_edit.proofs.lemmas.set.Shaped.{empty_laid}
 use Rattle.jsonc_insert.proofs.lemmas.named.PropertyValues.{first_shown}
-
--- the node of an empty value is of the shape
-empty_laid : (layout : Layout) (shape : Shape) → (is_element (laid layout (empty_of shape)).content ≡ true) × (is_of shape (laid layout (empty_of shape)).content ≡ true)
-empty_laid layout Object = (refl, refl)
-empty_laid layout Array = (refl, refl)
 
 module _ (ns : List Node) where
   begins : (test : ℕ → Bool) (n : ℕ) (rest : List ℕ) → test n ≡ true → behind_first test (n ∷ rest) ≡ rest
@@ -118,22 +111,3 @@ module _ (old new : List Node) (c i : ℕ) (name : List ℕ) (shape : Shape) (p 
   put_last at =
       past_the_end old new c i (length (elements_at old c)) name (empty_of shape) p tree there brackets
       (subst (λ k. length (elements_at old c) ≤ k) (sym at) (fewer old c)) (omega arith) e
-
--- each node stays what it is where spaces come
-contents_spaced : (xs : List ℕ) (old new : List Node) → AreSpaced old xs new → (k : ℕ) → content_at new k ≡ content_at old k
-contents_spaced [] old new e k = ap (λ ns. content_at ns k) e
-contents_spaced (x ∷ xs) old new (now, leaf, r, rest) k = contents_spaced xs now new rest k ∙ r.put.content k
-
--- a value that was found, or has been set, is of the shape
-module _ (shape : Shape) (old new : List Node) (p : ℕ) where
-  kept_shaped : (n m : ℕ) (b : Bool) → is_of shape (content_at old n) ≡ b → KeptOrReplaced b (empty_of shape) old new n m → is_of shape (content_at new m) ≡ true
-  kept_shaped n m true is (here, same) = ap (λ k. is_of shape (content_at new k)) here ∙ ap (λ ns. is_of shape (content_at ns n)) same ∙ is
-  kept_shaped n m false is r = ap (is_of shape) (r.2.place.replaces.spliced.content m ∙ ap (λ (t : Top). t.content) r.2.place.is) ∙ (empty_laid _ shape).1
-
-  pub held_shaped : (o : Option ℕ) (m : ℕ) → HeldOrSet (is_of shape) (empty_of shape) old new p o m → is_of shape (content_at new m) ≡ true
-  held_shaped None m l = ap (is_of shape) (contents_spaced _ l.held new l.spaces m ∙ l.put.content m ∙ ap (λ (t : Top). t.content) l.is) ∙ (empty_laid _ shape).1
-  held_shaped (Some n) m r = kept_shaped n m (is_of shape (content_at old n)) refl r
-
-  pub result_shaped : {E : Type 0} (o : Option ℕ) (r : Result ℕ E) → IfOk r (HeldOrSet (is_of shape) (empty_of shape) old new p o) → IfOk r (λ m. is_of shape (content_at new m) ≡ true)
-  result_shaped o (Ok m) h = held_shaped o m h
-  result_shaped o (Err e) h = tt

@@ -3,16 +3,16 @@ use Rattle.std.proofs.Common.{◌≡◌, ℕ, Bool, true, false, cond, List, Opt
 use Rattle.jsonc_tree.specs.Tree.{Node, children_at}
 use Rattle.jsonc_layout.specs.nodes.Names.{FirstInObject, HoldsEscapedName}
 use Rattle.jsonc_layout.specs.nodes.Properties.{lacks_name_at}
-use Rattle.jsonc_edit.specs.declared.error.EditError.{EditError}
-use Rattle.jsonc_edit.specs.declared.error.EditError.TheVariants.{OutOfMemory, MissingBrackets, MissingName, NoSuchPlace}
+use Rattle.jsonc_text.specs.declared.edit.EditError.{EditError}
+use Rattle.jsonc_text.specs.declared.edit.EditError.TheVariants.{OutOfMemory, MissingBrackets, MissingName, NoSuchPlace}
 use Rattle.jsonc_insert.specs.Inserted.{refusal}
 use Rattle.jsonc_insert.specs.Planned.{has_brackets}
 use Rattle.jsonc_edit.specs.set.PropertyValues.{IsUnset}
-use Rattle.jsonc_insert.specs.declared.named.shape.Over.{Over}
-use Rattle.jsonc_insert.specs.declared.named.shape.Over.TheVariants as over
-use Rattle.jsonc_insert.specs.declared.named.shape.Shape.{Shape}
+use Rattle.jsonc_text.specs.declared.edit.Over.{Over}
+use Rattle.jsonc_text.specs.declared.edit.Over.TheVariants as over
+use Rattle.jsonc_text.specs.declared.edit.Shape.{Shape}
 use Rattle.jsonc_insert.specs.named.Named.{to_come, to_read, to_set, IsUnensured}
-use Rattle.jsonc_insert.specs.named.Shapes.{is_of}
+use Rattle.jsonc_edit.specs.set.Shapes.{is_of}
 
 no_name : {X : Type 0} → OutOfMemory ≡ MissingName → X
 no_name e = absurd (let wrong : OutOfMemory ≡ MissingName = e in cc)

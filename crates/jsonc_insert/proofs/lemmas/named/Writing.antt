@@ -31,8 +31,8 @@ use Rattle.jsonc_sound.specs.SoundTrees.{SoundTree}
 use Rattle.jsonc_sound.specs.Written.{property_written}
 use Rattle.jsonc_edit.specs.Changes.{row_below}
 use Rattle.jsonc_edit.specs.Paths.{IsAt}
-use Rattle.jsonc_edit.specs.declared.error.EditError.{EditError}
-use Rattle.jsonc_edit.specs.declared.error.EditError.TheVariants.{OutOfMemory, MissingBrackets, MissingName, NoSuchPlace}
+use Rattle.jsonc_text.specs.declared.edit.EditError.{EditError}
+use Rattle.jsonc_text.specs.declared.edit.EditError.TheVariants.{OutOfMemory, MissingBrackets, MissingName, NoSuchPlace}
 use Rattle.jsonc_edit.proofs.Elements.{taken, left}
 use Rattle.jsonc_edit.proofs.FittingNodes.{over_there}
 use Rattle.jsonc_edit.proofs.Uniqueness.{element_parent}
@@ -46,14 +46,14 @@ use Rattle.jsonc_insert.proofs.lemmas.members.Past.{past_the_end}
 use Rattle.jsonc_insert.proofs.lemmas.members.Spreading.{wants_memory_alone}
 use Rattle.jsonc_insert.proofs.lemmas.properties.Coming.{properties_come_at}
 use Rattle.jsonc_edit.proofs.lemmas.set.PropertyRows.{counted_elements, over_at, prints_value, some_value_of}
-use Rattle.jsonc_insert.specs.declared.named.shape.Over.{Over}
-use Rattle.jsonc_insert.specs.declared.named.shape.Over.TheVariants as over
-use Rattle.jsonc_insert.specs.declared.named.shape.Shape.{Shape}
+use Rattle.jsonc_text.specs.declared.edit.Over.{Over}
+use Rattle.jsonc_text.specs.declared.edit.Over.TheVariants as over
+use Rattle.jsonc_text.specs.declared.edit.Shape.{Shape}
 use Rattle.jsonc_insert.specs.named.Laws.{FindsMember, FoundAmong, IsNamedWritten, StaysAround, all_stays, value_given, property_come, ChangesMarks, none_leave, some_leave, name_comes, WantsMemoryAlone, WritesNamed}
 use Rattle.jsonc_insert.specs.named.Members.{LacksMember, no_more, other_name, IsFirstMember, first_is, first_later, MemberEnsured, comes_last, this_member, later_member}
 use Rattle.jsonc_insert.specs.named.Named.{ComesNamed, EnsuredFor, IsUnensured, PropertyValueIs}
 use Rattle.jsonc_insert.specs.named.Places.{IsPropertyOf, a_property}
-use Rattle.jsonc_insert.specs.named.Shapes.{has_shape, empty_of, EnsuredValue, has_it, may_stay}
+use Rattle.jsonc_edit.specs.set.Shapes.{has_shape, empty_of, EnsuredValue, has_it, may_stay}
 use Rattle.jsonc_insert.specs.named.Values as giving
 use Rattle.jsonc_insert.specs.named.Values.{ValueEnsured}
 use Rattle.jsonc_insert.proofs.lemmas.named.Names.{Among, IsWhole, members_found}

@@ -8,10 +8,10 @@ use Rattle.jsonc_tree.specs.OrderedTree.{OrderedTree, ordered_tree}
 use Rattle.jsonc_tree.specs.Tree.{Node, IsTree}
 use Rattle.jsonc_sound.specs.Documents.{document_of, Shows}
 use Rattle.jsonc_edit.specs.Writing.{IsOfNumbers}
-use Rattle.jsonc_edit.specs.declared.error.EditError.{EditError}
-use Rattle.jsonc_edit.specs.declared.error.EditError.TheVariants.{OutOfMemory, MissingBrackets, MissingName, NoSuchPlace}
+use Rattle.jsonc_text.specs.declared.edit.EditError.{EditError}
+use Rattle.jsonc_text.specs.declared.edit.EditError.TheVariants.{OutOfMemory, MissingBrackets, MissingName, NoSuchPlace}
 use Rattle.jsonc_edit.proofs.OneValue.{document_once}
-use Rattle.jsonc_insert.specs.declared.named.shape.Over.{Over}
+use Rattle.jsonc_text.specs.declared.edit.Over.{Over}
 use Rattle.jsonc_run.specs.Edits.{Operation, IsMade, first_made, none_made}
 use Rattle.jsonc_run.specs.Named.{comment_count, IsNamed}
 use Rattle.jsonc_run.specs.Refusals.{IsToldBy}

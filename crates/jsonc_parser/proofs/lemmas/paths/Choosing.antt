@@ -10,8 +10,8 @@ use Rattle.jsonc_text.specs.Plain.{Plain, Members}
 use Rattle.jsonc_layout.specs.input.Views.{chars_of, plain}
 use Rattle.jsonc_layout.specs.declared.input.value.CstInputValue.{CstInputValue}
 use Rattle.jsonc_sound.specs.Documents.{Shows}
-use Rattle.jsonc_insert.specs.declared.named.shape.Over.{Over}
-use Rattle.jsonc_insert.specs.declared.named.shape.Over.TheVariants.{Keep, Replace}
+use Rattle.jsonc_text.specs.declared.edit.Over.{Over}
+use Rattle.jsonc_text.specs.declared.edit.Over.TheVariants.{Keep, Replace}
 use Rattle.jsonc_insert.specs.named.Members.{LacksMember}
 use Rattle.jsonc_run.specs.declared.edit.Edit.{Edit}
 use Rattle.jsonc_run.specs.declared.edit.Edit.TheVariants as edits

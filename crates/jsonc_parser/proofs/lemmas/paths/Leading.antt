@@ -2,7 +2,7 @@
 use Rattle.std.proofs.Common.{ℕ, suc, min, ◌≡◌, ◌≤◌, ◌<◌, sym, ap, subst, refl, List, [], ◌∷◌, ◌++◌, Option, Some, None, arith}
 use Rattle.jsonc_text.specs.Plain.{Plain, Items, Members, no_members, member}
 use Rattle.jsonc_text.specs.Plain as plain
-use Rattle.jsonc_insert.specs.declared.named.shape.Over.{Over}
+use Rattle.jsonc_text.specs.declared.edit.Over.{Over}
 use Rattle.jsonc_parser.specs.paths.Operations.{MemberChanged, this_member, later_member, Changed, itself, in_array, in_object, MemberRemoved, LosesEntry, loses_item, loses_member, MemberComes, member_count, LacksMember, no_more, other_name, Operation, append_property, remove, replace, set_root, set_value, IsChanged, by_value, by_entry, by_all, by_root, by_setting, by_appending_member, StandsAt, IsNamed}
 use Rattle.jsonc_sound.specs.Values as removed
 use Rattle.jsonc_insert.specs.elements.Members as inserted

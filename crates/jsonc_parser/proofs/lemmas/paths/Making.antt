@@ -9,11 +9,11 @@ use Rattle.jsonc_layout.specs.input.Views.{chars_of}
 use Rattle.jsonc_tree.specs.OrderedTree.{ordered_tree}
 use Rattle.jsonc_tree.specs.Tree.{Node, IsTree}
 use Rattle.jsonc_sound.specs.Documents.{Shows}
-use Rattle.jsonc_edit.specs.declared.error.EditError.{EditError}
-use Rattle.jsonc_insert.specs.declared.named.shape.Over.{Over}
+use Rattle.jsonc_text.specs.declared.edit.EditError.{EditError}
+use Rattle.jsonc_text.specs.declared.edit.Over.{Over}
 use Rattle.jsonc_run.specs.declared.edit.Edit.{Edit}
 use Rattle.jsonc_run.specs.declared.edit.Edit.TheVariants.{Remove, Sort, SetTrailingCommas}
-use Rattle.jsonc_edit.specs.declared.modes.TrailingCommaMode.{TrailingCommaMode}
+use Rattle.jsonc_text.specs.declared.edit.TrailingCommaMode.{TrailingCommaMode}
 use Rattle.jsonc_run.specs.Edits.{Operation, is_sort, is_whole, operation_of, set_commas, unsorted, IsMade}
 use Rattle.jsonc_run.specs.Refusals.{IsLeft, as_it_was, set_in_part, IsToldBy}
 use Rattle.jsonc_run.proofs.Steps.{of_characters}

@@ -5,7 +5,7 @@ use Rattle.std.specs.Str.{bytes_eq}
 use Rattle.std.proofs.lemmas.Slice.Eq.{bytes_eq-Decides}
 use Rattle.jsonc_text.specs.Plain.{Plain, Members, no_members, member}
 use Rattle.jsonc_text.specs.Plain as plain
-use Rattle.jsonc_insert.specs.declared.named.shape.Over.{Over}
+use Rattle.jsonc_text.specs.declared.edit.Over.{Over}
 use Rattle.jsonc_parser.specs.paths.Settings.{FirstBecomes, this_becomes, later_becomes, FirstLeaves, this_leaves, later_leaves, ComesLast, comes_alone, comes_behind, nest, IsNoObject, Put, is_there, changes_inside, comes_last, comes_first, gives_way, Dropped, value_leaves, entry_leaves, leaves_inside}
 
 -- the first value of a name becomes another, or a new one comes last

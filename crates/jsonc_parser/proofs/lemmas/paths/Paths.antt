@@ -2,8 +2,8 @@
 use Rattle.std.proofs.Common.{ℕ, ◌≡◌, ◌≢◌, ◌⊎◌, ◌∙◌, sym, subst, refl, List, [], ◌∷◌, Option, Some, None, inl, inr}
 use Rattle.jsonc_text.specs.Plain.{Plain, Members, no_members, member}
 use Rattle.jsonc_text.specs.Plain as plain
-use Rattle.jsonc_insert.specs.declared.named.shape.Over.{Over}
-use Rattle.jsonc_insert.specs.declared.named.shape.Over.TheVariants.{Keep, Replace}
+use Rattle.jsonc_text.specs.declared.edit.Over.{Over}
+use Rattle.jsonc_text.specs.declared.edit.Over.TheVariants.{Keep, Replace}
 use Rattle.jsonc_parser.specs.paths.Laws.{MustStay, PutsOrMustStay}
 use Rattle.jsonc_parser.specs.paths.Settings.{FirstIs, this_one, FirstBecomes, ComesLast, At, itself, in_object, nest, IsNoObject, StandsInTheWay, this_stands, inner_stands, Put, is_there, changes_inside, comes_last, comes_first, gives_way, Dropped, value_leaves, entry_leaves, leaves_inside, Differ, differ_here, differ_later}
 use Rattle.jsonc_parser.proofs.lemmas.paths.Members.{same_or_not, first_of_more, first_of_none, first_once, first_or_last, first_not_last, first_becomes, first_stays, first_leaves, first_was, first_is_now, leaver_was, last_is_now, others_stay, others_left, others_before}

@@ -2,8 +2,8 @@
 use Rattle.std.proofs.Common.{ℕ, suc, ◌≡◌, ◌⊎◌, sym, subst, refl, List, [], ◌∷◌, ◌++◌, Option, Some, None, inl, inr}
 use Rattle.jsonc_text.specs.Plain.{Plain, Members, no_members, member}
 use Rattle.jsonc_text.specs.Plain as plain
-use Rattle.jsonc_insert.specs.declared.named.shape.Over.{Over}
-use Rattle.jsonc_insert.specs.declared.named.shape.Over.TheVariants.{Keep, Replace}
+use Rattle.jsonc_text.specs.declared.edit.Over.{Over}
+use Rattle.jsonc_text.specs.declared.edit.Over.TheVariants.{Keep, Replace}
 use Rattle.jsonc_parser.specs.paths.Operations.{Operation, LacksMember, no_more, other_name, append_property, replace, set_root, set_value}
 use Rattle.jsonc_parser.specs.paths.Settings.{FirstIs, this_one, later_one, nest, IsNoObject, StandsInTheWay, this_stands, inner_stands}
 use Rattle.jsonc_parser.specs.paths.Positions.{FirstAt, this_at, later_at, Leads, leads_nowhere, leads_on, sets_root, sets_first, sets_value, appends, replaces, IsPutBy, IsPutByOne, Reaches, to_value, to_missing, to_another}

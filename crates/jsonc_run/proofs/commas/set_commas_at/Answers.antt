@@ -19,7 +19,7 @@ returns-clause-made g c =
 
 pub returns-clause-told : goal.returns-clause-told
 returns-clause-told g c =
-    commas_told c.args.tree.now.nodes c.args.path.now c.args.mode c.in-Some.container ((c.find_container.ensures.found c.in-Some.container).0 c.in-Some.is) c.set_trailing_commas.result c.set_trailing_commas.new.tree.nodes c.len.ensures.tree c.set_trailing_commas.ensures.memory c.set_trailing_commas.ensures.wanted c.set_trailing_commas.ensures.part
+    commas_told c.args.tree.now.nodes c.args.path.now c.args.mode c.in-Some.container ((c.find_container.ensures.found c.in-Some.container).0 c.in-Some.is) c.set_trailing_commas.result c.set_trailing_commas.new.tree.nodes c.args.tree.now.tree c.set_trailing_commas.ensures.memory c.set_trailing_commas.ensures.wanted c.set_trailing_commas.ensures.part
 
 pub returns-clause-left : goal.returns-clause-left
 returns-clause-left g c =

@@ -11,8 +11,8 @@ use Rattle.jsonc_tree.specs.OrderedTree.{OrderedTree, ordered_tree}
 use Rattle.jsonc_tree.specs.Tree.{Node, IsTree}
 use Rattle.jsonc_sound.specs.Documents.{Shows}
 use Rattle.jsonc_sound.specs.Marks as trees
-use Rattle.jsonc_edit.specs.declared.error.EditError.{EditError}
-use Rattle.jsonc_edit.specs.declared.error.EditError.TheVariants.{NoSuchPlace}
+use Rattle.jsonc_text.specs.declared.edit.EditError.{EditError}
+use Rattle.jsonc_text.specs.declared.edit.EditError.TheVariants.{NoSuchPlace}
 use Rattle.jsonc_run.specs.declared.edit.Edit.{Edit}
 use Rattle.jsonc_run.specs.declared.edit.Edit.TheVariants.{Replace, Remove, RemoveComment, SetRoot, ClearRoot, ReplaceProperty, EnsureRoot, SetValue, EnsureValue, SetBoolean, EnsureMultiline, InsertElement, AppendElement, InsertProperty, AppendProperty, EnsureProperty, SetTrailingCommas, Sort}
 use Rattle.jsonc_run.specs.Edits.{Operation, Sorting, operation_of, set_some_commas, unsorted, AreMade, first_made, none_made}

@@ -11,7 +11,7 @@ use Rattle.jsonc_sound.specs.Shape.{printed_text}
 use Rattle.jsonc_sound.specs.Documents.{document_of, Shows}
 use Rattle.jsonc_sound.specs.SoundTrees.{SoundTree}
 use Rattle.jsonc_edit.proofs.OneValue.{document_once}
-use Rattle.jsonc_edit.specs.declared.modes.TrailingCommaMode.{TrailingCommaMode}
+use Rattle.jsonc_text.specs.declared.edit.TrailingCommaMode.{TrailingCommaMode}
 use Rattle.jsonc_edit.specs.commas.Laws.{allowing, SaysTheSame}
 use Rattle.jsonc_run.specs.Edits.{Operation, set_commas, set_some_commas}
 use Rattle.jsonc_run.specs.Steps.{IsChangedAt}

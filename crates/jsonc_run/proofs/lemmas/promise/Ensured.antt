@@ -10,12 +10,12 @@ use Rattle.jsonc_sound.specs.Changes as tree_changes
 use Rattle.jsonc_sound.specs.Marks as tree_marks
 use Rattle.jsonc_sound.specs.SoundTrees.{SoundTree}
 use Rattle.jsonc_edit.proofs.OneValue.{document_once}
-use Rattle.jsonc_insert.specs.declared.named.shape.Over.{Over}
-use Rattle.jsonc_insert.specs.declared.named.shape.Over.TheVariants as over
-use Rattle.jsonc_insert.specs.declared.named.shape.Shape.{Shape}
-use Rattle.jsonc_insert.specs.declared.named.shape.Shape.TheVariants.{Object, Array}
-use Rattle.jsonc_insert.specs.named.Shapes as shapes
-use Rattle.jsonc_insert.specs.named.Shapes.{has_shape, empty_of, EnsuredValue, has_it, may_stay, must_give_way}
+use Rattle.jsonc_text.specs.declared.edit.Over.{Over}
+use Rattle.jsonc_text.specs.declared.edit.Over.TheVariants as over
+use Rattle.jsonc_text.specs.declared.edit.Shape.{Shape}
+use Rattle.jsonc_text.specs.declared.edit.Shape.TheVariants.{Object, Array}
+use Rattle.jsonc_edit.specs.set.Shapes as shapes
+use Rattle.jsonc_edit.specs.set.Shapes.{has_shape, empty_of, EnsuredValue, has_it, may_stay, must_give_way}
 use Rattle.jsonc_insert.specs.named.Values.{ReplacesHeld, ValueGivesWay, ValueEnsured, all_stays, empty_given}
 use Rattle.jsonc_insert.proofs.lemmas.named.Values.{same_shape}
 use Rattle.jsonc_run.specs.Edits.{ensure_value}

@@ -17,8 +17,8 @@ use Rattle.jsonc_sound.proofs.Apart.{document_alone}
 use Rattle.jsonc_sound.proofs.Pieces.{Pieces, document_pieces}
 use Rattle.jsonc_sound.proofs.Texts.{AllUtf8}
 use Rattle.jsonc_edit.specs.commas.Laws.{allowing, LosesCommas, OnlyCommas}
-use Rattle.jsonc_edit.specs.declared.modes.TrailingCommaMode.{TrailingCommaMode}
-use Rattle.jsonc_edit.specs.declared.modes.TrailingCommaMode.TheVariants.{Never, IfMultiline}
+use Rattle.jsonc_text.specs.declared.edit.TrailingCommaMode.{TrailingCommaMode}
+use Rattle.jsonc_text.specs.declared.edit.TrailingCommaMode.TheVariants.{Never, IfMultiline}
 use Rattle.jsonc_edit.specs.multiline.Laws.{bracketed, SpreadAt}
 use Rattle.jsonc_edit.specs.multiline.Reflows as reflows
 use Rattle.jsonc_edit.specs.multiline.Reflows.{Reflows, SpreadsOut}

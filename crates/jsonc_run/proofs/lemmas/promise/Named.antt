@@ -16,12 +16,12 @@ use Rattle.jsonc_insert.proofs.lemmas.elements.Named.{inserts_member}
 use Rattle.jsonc_sound.specs.Changes as changes
 use Rattle.jsonc_sound.specs.Changes.{ItemChanged, MemberChanged}
 use Rattle.jsonc_edit.proofs.OneValue.{document_once}
-use Rattle.jsonc_insert.specs.declared.named.shape.Over.{Over}
-use Rattle.jsonc_insert.specs.declared.named.shape.Over.TheVariants as over
-use Rattle.jsonc_insert.specs.declared.named.shape.Shape.{Shape}
+use Rattle.jsonc_text.specs.declared.edit.Over.{Over}
+use Rattle.jsonc_text.specs.declared.edit.Over.TheVariants as over
+use Rattle.jsonc_text.specs.declared.edit.Shape.{Shape}
 use Rattle.jsonc_insert.specs.named.Laws.{StaysAround, all_stays, value_given, property_come}
 use Rattle.jsonc_insert.specs.named.Members.{MemberEnsured, comes_last, this_member, later_member}
-use Rattle.jsonc_insert.specs.named.Shapes.{has_shape, empty_of, EnsuredValue}
+use Rattle.jsonc_edit.specs.set.Shapes.{has_shape, empty_of, EnsuredValue}
 use Rattle.jsonc_insert.proofs.lemmas.named.PathValues.{value_once}
 use Rattle.jsonc_insert.proofs.lemmas.named.Values.{empty_writable, same_shape}
 use Rattle.jsonc_run.specs.Edits.{ensure_property}

@@ -27,10 +27,10 @@ use Rattle.jsonc_sound.proofs.FirstValue.{has_first}
 use Rattle.jsonc_sound.proofs.Texts.{AllUtf8}
 use Rattle.jsonc_sound.proofs.TriviaLeaves.{front_leaves}
 use Rattle.jsonc_edit.proofs.OneValue.{document_once}
-use Rattle.jsonc_insert.specs.declared.named.shape.Over.{Over}
-use Rattle.jsonc_insert.specs.declared.named.shape.Over.TheVariants as over
-use Rattle.jsonc_insert.specs.declared.named.shape.Shape.{Shape}
-use Rattle.jsonc_insert.specs.named.Shapes.{empty_of, EnsuredValue, comes_first, has_it, may_stay, must_give_way}
+use Rattle.jsonc_text.specs.declared.edit.Over.{Over}
+use Rattle.jsonc_text.specs.declared.edit.Over.TheVariants as over
+use Rattle.jsonc_text.specs.declared.edit.Shape.{Shape}
+use Rattle.jsonc_edit.specs.set.Shapes.{empty_of, EnsuredValue, comes_first, has_it, may_stay, must_give_way}
 use Rattle.jsonc_run.specs.Edits.{clear_root, ensure_root}
 use Rattle.jsonc_run.specs.Written.{IsChanged, by_clearing, by_ensuring, RootValueSet, given_way, has_come, RootValueEnsured, all_kept, empty_come, empty_given}
 use Rattle.jsonc_edit.specs.SeamPlaces.{RowHolds, this_element, past_other, itself, DocumentHolds, in_root}

@@ -6,12 +6,12 @@ use Rattle.jsonc_run.proofs.making.make.Goals as goal
 
 pub returns-clause-memory_or_place : goal.returns-clause-memory_or_place
 returns-clause-memory_or_place g c = λ o sound.
-    answer_refused o c.args.tree.now.nodes c.len.ensures.tree sound (operation_of unsorted c.args.edit.now) c.make_by_kind.result c.make_by_kind.ensures.told
+    answer_refused o c.args.tree.now.nodes c.args.tree.now.tree sound (operation_of unsorted c.args.edit.now) c.make_by_kind.result c.make_by_kind.ensures.told
 
 pub returns-clause-named : goal.returns-clause-named
 returns-clause-named g c = λ o sound.
-    answer_unnamed c.args.tree.now.nodes o c.len.ensures.tree sound (operation_of unsorted c.args.edit.now) c.make_by_kind.result c.make_by_kind.ensures.told
+    answer_unnamed c.args.tree.now.nodes o c.args.tree.now.tree sound (operation_of unsorted c.args.edit.now) c.make_by_kind.result c.make_by_kind.ensures.told
 
 pub returns-clause-steps : goal.returns-clause-steps
 returns-clause-steps g c = λ o.
-    answer_steps o c.args.tree.now.nodes c.make_by_kind.new.tree.nodes (operation_of unsorted c.args.edit.now) c.len.ensures.tree c.make_by_kind.ensures.tree c.make_by_kind.result c.make_by_kind.ensures.made
+    answer_steps o c.args.tree.now.nodes c.make_by_kind.new.tree.nodes (operation_of unsorted c.args.edit.now) c.args.tree.now.tree c.make_by_kind.new.tree.tree c.make_by_kind.result c.make_by_kind.ensures.made

@@ -18,7 +18,7 @@ returns-in-Ok-Some-clause-made g c =
 
 pub returns-in-Ok-None-clause-told : goal.returns-in-Ok-None-clause-told
 returns-in-Ok-None-clause-told g c =
-    absurd (not_alone c.args.tree.now.nodes c.len.ensures.tree c.args.path.now c.in-Some.node ((c.find.ensures.found c.in-Some.node).0 c.in-Some.is) (none_is c.in-Ok-None.field-0 (parent_at c.args.tree.now.nodes c.in-Some.node ≡ None) c.in-Ok-None.field-0-is c.in-Ok-None.ensures.none))
+    absurd (not_alone c.args.tree.now.nodes c.args.tree.now.tree c.args.path.now c.in-Some.node ((c.find.ensures.found c.in-Some.node).0 c.in-Some.is) (none_is c.in-Ok-None.field-0 (parent_at c.args.tree.now.nodes c.in-Some.node ≡ None) c.in-Ok-None.field-0-is c.in-Ok-None.ensures.none))
 
 pub returns-in-Err-clause-told : goal.returns-in-Err-clause-told
 returns-in-Err-clause-told g c =

@@ -1,7 +1,7 @@
 use Rattle.std.proofs.Common.{rules, ◌≡◌, None, IfErr, chars}
 use Rattle.jsonc_layout.specs.input.Views.{plain}
 use Rattle.jsonc_tree.specs.Tree.{parent_at}
-use Rattle.jsonc_edit.specs.declared.error.EditError.TheVariants.{OutOfMemory}
+use Rattle.jsonc_text.specs.declared.edit.EditError.TheVariants.{OutOfMemory}
 use Rattle.jsonc_edit.specs.set.Giving.{IsPropertyReplaced}
 use Rattle.jsonc_run.specs.Edits.{replace_property}
 use Rattle.jsonc_insert.specs.named.Places.{IsPropertyAt}
@@ -19,7 +19,7 @@ returns-clause-made g c =
 
 pub unreachable-requires : goal.unreachable-requires
 unreachable-requires g c =
-    property_not_alone c.args.tree.now.nodes c.len.ensures.tree c.args.path.now c.in-Some.property ((c.find_property.ensures.found c.in-Some.property).0 c.in-Some.is)
+    property_not_alone c.args.tree.now.nodes c.args.tree.now.tree c.args.path.now c.in-Some.property ((c.find_property.ensures.found c.in-Some.property).0 c.in-Some.is)
     (none_is c.in_ok-replace_property.field-0 (parent_at c.args.tree.now.nodes c.in-Some.property ≡ None) c.in_default-2.is c.in_ok-replace_property.ensures.none)
 
 pub returns-in_err-replace_property-clause-told : goal.returns-in_err-replace_property-clause-told

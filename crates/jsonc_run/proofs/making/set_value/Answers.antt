@@ -1,7 +1,7 @@
 use Rattle.std.proofs.Common.{rules, ◌≡◌, IfErr}
 use Rattle.jsonc_layout.specs.input.Views.{plain}
 use Rattle.jsonc_layout.specs.nodes.Properties.{value_at}
-use Rattle.jsonc_edit.specs.declared.error.EditError.TheVariants.{OutOfMemory}
+use Rattle.jsonc_text.specs.declared.edit.EditError.TheVariants.{OutOfMemory}
 use Rattle.jsonc_run.specs.Edits.{set_root}
 use Rattle.jsonc_run.specs.Refusals.{IsToldBy}
 use Rattle.jsonc_run.proofs.Made.{root_set, told_of_memory}

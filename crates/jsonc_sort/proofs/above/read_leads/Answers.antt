@@ -9,6 +9,6 @@ returns-then-not-has_brackets g c = record { leads = told_nothing c.args.tree.no
 
 pub returns : goal.returns
 returns g c = record {
-  leads = told_inside c.args.tree.now.nodes c.args.container (take (c.len-2.result - 1 - 1) (drop 1 c.deref.result.now)) c.in_ok-told.told.items (sym c.has_brackets.ensures ∙ c.if-not-has_brackets.false)
-      (between_read (children_at c.args.tree.now.nodes c.args.container) c.deref.result.now c.len-2.result (c.deref.ensures.value ∙ c.in_ok-children.ensures.children) (c.len-2.ensures ∙ c.in_ok-children.children.ok.0 ∙ ap length c.in_ok-children.ensures.children)) c.in_ok-told.ensures;
+  leads = told_inside c.args.tree.now.nodes c.args.container (take (c.len.result - 1 - 1) (drop 1 c.deref.result.now)) c.in_ok-told.told.items (sym c.has_brackets.ensures ∙ c.if-not-has_brackets.false)
+      (between_read (children_at c.args.tree.now.nodes c.args.container) c.deref.result.now c.len.result (c.deref.ensures.value ∙ c.in_ok-children.ensures.children) (c.len.ensures ∙ c.in_ok-children.children.ok.0 ∙ ap length c.in_ok-children.ensures.children)) c.in_ok-told.ensures;
 }

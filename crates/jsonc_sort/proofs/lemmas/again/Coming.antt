@@ -12,14 +12,14 @@ use Rattle.jsonc_tree.specs.Siblings.{first}
 use Rattle.jsonc_tree.specs.Tree.{Node, content_at, parent_at, children_at, IsTree, IsOver}
 use Rattle.jsonc_tree.specs.declared.node.CstNewlineKind.{CstNewlineKind}
 use Rattle.jsonc_tree.proofs.Order.{not_over_parent}
-use Rattle.jsonc_layout.specs.nodes.Kinds.{is_element, is_element_at}
+use Rattle.jsonc_layout.specs.nodes.Kinds.{is_element, is_element_at, is_token}
 use Rattle.jsonc_layout.specs.nodes.Siblings.{elements_at}
 use Rattle.jsonc_layout.specs.lines.Breadth.{newline_kind_at}
 use Rattle.jsonc_edit.specs.Changes.{top_at}
 use Rattle.jsonc_edit.proofs.Kept.{top_stays}
 use Rattle.jsonc_edit.proofs.Splices.{spliced_in}
 use Rattle.jsonc_edit.proofs.Walk.{top_kept}
-use Rattle.jsonc_edit.specs.remove.Removed.{has_brackets, has_two, is_token, is_token_at}
+use Rattle.jsonc_edit.specs.remove.Removed.{has_brackets, has_two, is_token_at}
 use Rattle.jsonc_edit.specs.multiline.Lines.{between}
 use Rattle.jsonc_edit.specs.multiline.Multiline.{TakesRow}
 use Rattle.jsonc_edit.specs.multiline.Slots.{AreFilled, no_more, stayed, came}

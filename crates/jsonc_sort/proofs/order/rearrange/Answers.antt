@@ -8,20 +8,20 @@ use Rattle.jsonc_sort.proofs.order.rearrange.Goals as goal
 
 pub splice-requires-clause-join : goal.splice-requires-clause-join
 splice-requires-clause-join g c =
-    row_ready c.args.tree.now.nodes c.sorted_row.new.tree.nodes c.reserve.new.self.nodes c.args.container _ c.in_ok-row.row.items c.len.ensures.tree c.requires.there c.in_ok-row.ensures.planned c.reserve.ensures.kept c.reserve.ensures.tree c.child_count-count.result c.child_count-count.ensures
+    row_ready c.args.tree.now.nodes c.sorted_row.new.tree.nodes c.reserve.new.self.nodes c.args.container _ c.in_ok-row.row.items c.args.tree.now.tree c.requires.there c.in_ok-row.ensures.planned c.reserve.ensures.kept c.reserve.new.self.tree c.child_count-count.result c.child_count-count.ensures
     c.deref.result.now c.deref.ensures.value
 
 pub returns-in_err-row-clause-document : goal.returns-in_err-row-clause-document
 returns-in_err-row-clause-document g c =
     where_refused c.from_residual.result
-    (tree_stays c.args.tree.now.nodes c.sorted_row.new.tree.nodes c.len.ensures.tree c.sorted_row.ensures.prepared.keeps c.sorted_row.ensures.prepared.tree)
+    (tree_stays c.args.tree.now.nodes c.sorted_row.new.tree.nodes c.args.tree.now.tree c.sorted_row.ensures.prepared.keeps c.sorted_row.ensures.prepared.tree)
 
 pub returns-in_err-reserve-clause-document : goal.returns-in_err-reserve-clause-document
 returns-in_err-reserve-clause-document g c =
     where_refused c.from_residual-in_err-reserve.result
-    (tree_stays c.args.tree.now.nodes c.reserve.new.self.nodes c.len.ensures.tree (kept_through c.args.tree.now.nodes c.sorted_row.new.tree.nodes c.reserve.new.self.nodes c.sorted_row.ensures.prepared.keeps c.reserve.ensures.kept) c.reserve.ensures.tree)
+    (tree_stays c.args.tree.now.nodes c.reserve.new.self.nodes c.args.tree.now.tree (kept_through c.args.tree.now.nodes c.sorted_row.new.tree.nodes c.reserve.new.self.nodes c.sorted_row.ensures.prepared.keeps c.reserve.ensures.kept) c.reserve.new.self.tree)
 
 pub returns-clause-made : goal.returns-clause-made
 returns-clause-made g c =
-    all_moves c.args.tree.now.nodes c.sorted_row.new.tree.nodes c.reserve.new.self.nodes c.splice.new.self.nodes c.args.container (headers_of c.args.pinned.now c.args.groups) c.args.order.now c.in_ok-row.row.items c.len.ensures.tree c.requires.there c.in_ok-row.ensures.planned c.reserve.ensures.kept c.reserve.ensures.tree
-    c.splice.ensures.tree c.child_count-count.result c.child_count-count.ensures c.deref.result.now c.deref.ensures.value c.splice.ensures.splices (sym c.moves.ensures ∙ c.if-not-moves.false)
+    all_moves c.args.tree.now.nodes c.sorted_row.new.tree.nodes c.reserve.new.self.nodes c.splice.new.self.nodes c.args.container (headers_of c.args.pinned.now c.args.groups) c.args.order.now c.in_ok-row.row.items c.args.tree.now.tree c.requires.there c.in_ok-row.ensures.planned c.reserve.ensures.kept c.reserve.new.self.tree
+    c.splice.new.self.tree c.child_count-count.result c.child_count-count.ensures c.deref.result.now c.deref.ensures.value c.splice.ensures.splices (sym c.moves.ensures ∙ c.if-not-moves.false)

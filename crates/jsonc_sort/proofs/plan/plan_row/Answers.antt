@@ -17,7 +17,7 @@ number_at-number-requires-clause-place g c = omega (arith, order_long (length c.
 pub loop-place-init : goal.loop-place-init
 loop-place-init g c =
     started c.args.tree.now.nodes c.args.newline c.args.row.now c.args.entries.now c.args.order.now c.requires.there c.requires.read (order_long (length c.args.entries.now) c.args.order.now c.requires.order) c.ends_with_comma-commas.result c.put_stretch.new.tree.nodes
-    (record { newline = c.args.newline; nodes = c.new.result; goes_on = true }) c.put_stretch.new.plan (length c.args.entries.now) c.len.ensures.tree refl refl c.new.ensures.items
+    (record { newline = c.args.newline; nodes = c.new.result; goes_on = true }) c.put_stretch.new.plan (length c.args.entries.now) c.args.tree.now.tree refl refl c.new.ensures.items
     (subst (λ l. Gains c.args.tree.now.nodes (record { newline = c.args.newline; nodes = c.new.result; goes_on = true }) c.put_stretch.new.tree.nodes c.put_stretch.new.plan (all_stay l)) (take_rest c.args.row.now c.end_after.result ∙ ap (λ k. drop k c.args.row.now) c.end_after.ensures.end) c.in_ok-put_stretch.ensures.gains) c.put_stretch.ensures.prepared refl
 
 pub loop-place-preserved : goal.loop-place-preserved

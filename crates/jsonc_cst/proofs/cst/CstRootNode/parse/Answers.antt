@@ -10,6 +10,7 @@ use Rattle.jsonc_build.specs.Given.{located_in}
 use Rattle.jsonc_ast.specs.to_ast.Refusals.{IsWithin}
 use Rattle.jsonc_cst.proofs.Lent.{located_there, within_there}
 use Rattle.jsonc_cst.proofs.Shown.{shows_parsed}
+use Rattle.jsonc_cst.proofs.Tree.{nodes_are_tree}
 use Rattle.jsonc_cst.proofs.cst.CstRootNode.parse.Goals as goal
 
 pub build-requires : goal.build-requires
@@ -47,3 +48,6 @@ returns-clause-document g c =
     let here : IsLocatedDocument o c.args.text.now (located_in c.as_ref.result) = located_there o c.args.text.now c.as_ref.result c.in_ok-parsed.parsed.value c.as_ref.ensures.value c.in_ok-parsed.ensures.located in
     let w : Option Plain = option_map value_at (located_in c.as_ref.result) in
     shows_parsed o c.args.text.now w c.in-Ok.ensures.printed (c.in-Ok.ensures.shaped o here) c.in-Ok.ensures.lines (c.in-Ok.ensures.value o here)
+
+pub returns-clause-tree : goal.returns-clause-tree
+returns-clause-tree g c = nodes_are_tree _

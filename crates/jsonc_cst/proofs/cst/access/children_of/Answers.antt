@@ -1,4 +1,4 @@
-use Rattle.std.proofs.Common.{◌≡◌, ◌<◌, ◌++◌, ◌∷◌, ◌∙◌, ℕ, List, [], length, map, ap, subst, sym}
+use Rattle.std.proofs.Common.{◌<◌, ◌++◌, ◌∷◌, ◌∙◌, [], length, map, ap, subst, sym}
 use Rattle.std.specs.List.{All}
 use Rattle.std.proofs.lemmas.List.{append-nil, append_assoc}
 use Rattle.std.proofs.lemmas.List.Elements.{All-head, All-tail, All-same}
@@ -13,7 +13,7 @@ loop-child-init g c =
     let all = c.into_iter-child-iterator.ensures.into_iter_gives ∙ c.children-child-items.ensures.children in
     record {
       so_far = ap (λ l. l ++ map (typed_at ns) c.into_iter-child-iterator.result) c.new-children.ensures.items ∙ ap (map (typed_at ns)) all;
-      there = All-same (λ m. m < length ns) c.into_iter-child-iterator.result (children_at ns c.args.number) all (children_there ns c.len-count.ensures.tree c.args.number);
+      there = All-same (λ m. m < length ns) c.into_iter-child-iterator.result (children_at ns c.args.number) all (children_there ns c.args.tree.now.tree c.args.number);
     }
 
 pub node_at-requires : goal.node_at-requires
@@ -41,4 +41,4 @@ returns-clause-children g c =
 pub returns-clause-held : goal.returns-clause-held
 returns-clause-held g c =
     let ns = c.args.tree.now.nodes in
-    subst (All (IsNodeOf ns)) (sym (returns-clause-children g c)) (children_held ns c.len-count.ensures.tree c.args.number)
+    subst (All (IsNodeOf ns)) (sym (returns-clause-children g c)) (children_held ns c.args.tree.now.tree c.args.number)

@@ -37,6 +37,6 @@ returns-clause-step g c =
     let name = chars c.args.name.now in
     let v = plain c.args.value.now in
     ok_with c.insert_at.result
-    (λ x put. appended_step old new c.len.ensures.tree c.insert_at.ensures.tree c.args.object name (scalars-chars c.args.name.now c.utf8.name) c.requires.object x.number v (of_texts _ c.args.value.now) put)
+    (λ x put. appended_step old new c.args.tree.now.tree c.insert_at.new.tree.tree c.args.object name (scalars-chars c.args.name.now c.utf8.name) c.requires.object x.number v (of_texts _ c.args.value.now) put)
     (subst (λ (k : ℕ). IfOk c.insert_at.result (NamedComesInAt old new c.args.object k name v))
     (ap (λ k. min k (length (elements_at old c.args.object))) c.child_count-count.ensures ∙ behind_all old c.args.object) c.insert_at.ensures.put)

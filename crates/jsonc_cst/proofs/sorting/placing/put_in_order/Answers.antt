@@ -5,9 +5,9 @@ use Rattle.jsonc_cst.proofs.sorting.placing.put_in_order.Goals as goal
 
 pub returns-clause-placed : goal.returns-clause-placed
 returns-clause-placed g c =
-    is_placed c.args.tree.now.nodes c.rearrange.new.tree.nodes c.args.container (headers_of c.args.pinned.now c.args.groups) c.args.order.now c.len.ensures.tree c.in-Ok.ensures.tree c.requires.holds c.requires.order c.in-Ok.ensures.made
+    is_placed c.args.tree.now.nodes c.rearrange.new.tree.nodes c.args.container (headers_of c.args.pinned.now c.args.groups) c.args.order.now c.args.tree.now.tree c.rearrange.new.tree.tree c.requires.holds c.requires.order c.in-Ok.ensures.made
 
 pub returns-clause-stays : goal.returns-clause-stays
 returns-clause-stays g c =
     nodes_stay c.args.tree.now.nodes c.rearrange.new.tree.nodes
-    (rearranged_stays c.args.tree.now.nodes c.rearrange.new.tree.nodes c.args.container (headers_of c.args.pinned.now c.args.groups) c.args.order.now c.len.ensures.tree c.in-Ok.ensures.tree c.requires.holds c.requires.order c.in-Ok.ensures.made)
+    (rearranged_stays c.args.tree.now.nodes c.rearrange.new.tree.nodes c.args.container (headers_of c.args.pinned.now c.args.groups) c.args.order.now c.args.tree.now.tree c.rearrange.new.tree.tree c.requires.holds c.requires.order c.in-Ok.ensures.made)

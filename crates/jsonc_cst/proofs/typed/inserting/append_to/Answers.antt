@@ -34,6 +34,6 @@ returns-clause-step g c =
     let old = c.args.tree.now.nodes in
     let new = c.insert_at.new.tree.nodes in
     let v = plain c.args.value.now in
-    ok_with c.insert_at.result (λ x put. appended_step old new c.len.ensures.tree c.insert_at.ensures.tree c.args.array (number_of x) v (of_texts _ c.args.value.now) put c.requires.array)
+    ok_with c.insert_at.result (λ x put. appended_step old new c.args.tree.now.tree c.insert_at.new.tree.tree c.args.array (number_of x) v (of_texts _ c.args.value.now) put c.requires.array)
     (subst (λ (k : ℕ). IfOk c.insert_at.result (ComesInAt old new c.args.array k v))
     (ap (λ k. min k (length (elements_at old c.args.array))) c.child_count-count.ensures ∙ behind_all old c.args.array) c.insert_at.ensures.put)

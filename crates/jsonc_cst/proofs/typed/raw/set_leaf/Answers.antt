@@ -18,5 +18,5 @@ returns-clause-elsewhere g c =
     let old = c.args.doc.now.tree.nodes in
     let new = c.set_leaf.new.self.nodes in
     let n = number_of c.args.node in
-    leaf_elsewhere old c.len.ensures.tree new n (content_of c.args.kind) c.set_leaf.ensures.tree
+    leaf_elsewhere old c.args.doc.now.tree.tree new n (content_of c.args.kind) c.set_leaf.new.self.tree
     (subst (λ k. LeafBecomes old new k (content_of c.args.kind)) c.number.ensures c.set_leaf.ensures.becomes)

@@ -10,7 +10,7 @@ returns-clause-stays g c =
     nodes_stay old new (stay_spliced old new _ _ _ _ c.clear_root.ensures.taken)
 
 pub returns-clause-written : goal.returns-clause-written
-returns-clause-written g c = λ o. leaves_bare o c.clear_root.new.tree.nodes c.clear_root.ensures.tree c.clear_root.ensures.cleared
+returns-clause-written g c = λ o. leaves_bare o c.clear_root.new.tree.nodes c.clear_root.new.tree.tree c.clear_root.ensures.cleared
 
 pub returns-clause-step : goal.returns-clause-step
-returns-clause-step g c = cleared_step c.args.tree.now.nodes c.clear_root.new.tree.nodes c.len.ensures.tree c.clear_root.ensures.tree c.clear_root.ensures.taken
+returns-clause-step g c = cleared_step c.args.tree.now.nodes c.clear_root.new.tree.nodes c.args.tree.now.tree c.clear_root.new.tree.tree c.clear_root.ensures.taken

@@ -16,11 +16,11 @@ returns-clause-elsewhere g c =
     let old = c.args.tree.now.nodes in
     let new = c.take_alone.new.tree.nodes in
     let said : parent_at old c.args.number ≡ Some c.in-Some.container = search rules in
-    alone_elsewhere old c.len.ensures.tree new c.args.number c.in-Some.container _ _ _ said c.take_alone.ensures.tree c.take_alone.ensures.taken
+    alone_elsewhere old c.args.tree.now.tree new c.args.number c.in-Some.container _ _ _ said c.take_alone.new.tree.tree c.take_alone.ensures.taken
 
 pub returns-clause-gone : goal.returns-clause-gone
 returns-clause-gone g c =
     let old = c.args.tree.now.nodes in
     let new = c.take_alone.new.tree.nodes in
     let said : parent_at old c.args.number ≡ Some c.in-Some.container = search rules in
-    left_nobodys old new c.len.ensures.tree c.take_alone.ensures.tree c.args.number c.in-Some.container said (place_at old c.args.number) (omega arith) c.take_alone.ensures.taken
+    left_nobodys old new c.args.tree.now.tree c.take_alone.new.tree.tree c.args.number c.in-Some.container said (place_at old c.args.number) (omega arith) c.take_alone.ensures.taken

@@ -30,12 +30,12 @@ pub returns-clause-elsewhere : goal.returns-clause-elsewhere
 returns-clause-elsewhere g c =
     let old = c.args.tree.now.nodes in
     let new = c.replace_name.new.tree.nodes in
-    raw_elsewhere old c.len.ensures.tree new c.args.number c.in-Some.raw (plain c.args.value.now) c.replace_name.ensures.tree
+    raw_elsewhere old c.args.tree.now.tree new c.args.number c.in-Some.raw (plain c.args.value.now) c.replace_name.new.tree.tree
     (of_some (IsReplacedRaw old new c.args.number (plain c.args.value.now)) c.in_ok-raw.field-0 c.in-Some.raw c.in-Some.is c.in_ok-raw.ensures.replaced)
 
 pub returns-clause-gone : goal.returns-clause-gone
 returns-clause-gone g c =
     let old = c.args.tree.now.nodes in
     let new = c.replace_name.new.tree.nodes in
-    raw_nobodys old new c.args.number c.in-Some.raw c.len.ensures.tree c.replace_name.ensures.tree (plain c.args.value.now)
+    raw_nobodys old new c.args.number c.in-Some.raw c.args.tree.now.tree c.replace_name.new.tree.tree (plain c.args.value.now)
     (of_some (IsReplacedRaw old new c.args.number (plain c.args.value.now)) c.in_ok-raw.field-0 c.in-Some.raw c.in-Some.is c.in_ok-raw.ensures.replaced)

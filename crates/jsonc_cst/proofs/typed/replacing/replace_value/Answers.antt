@@ -42,33 +42,33 @@ pub returns-clause-marked : goal.returns-clause-marked
 returns-clause-marked g c =
     let old = c.args.tree.now.nodes in
     let new = c.replace.new.tree.nodes in
-    replaced_marked old new (plain c.args.value.now) c.len.ensures.tree c.args.number c.in-Some.new
+    replaced_marked old new (plain c.args.value.now) c.args.tree.now.tree c.args.number c.in-Some.new
     (of_some (IsReplaced old new c.args.number (plain c.args.value.now)) c.in_ok-new.field-0 c.in-Some.new c.in-Some.is c.in_ok-new.ensures.replaced)
 
 pub returns-clause-around : goal.returns-clause-around
 returns-clause-around g c =
     let old = c.args.tree.now.nodes in
     let new = c.replace.new.tree.nodes in
-    replaced_around old new (plain c.args.value.now) c.len.ensures.tree c.args.number c.in-Some.new
+    replaced_around old new (plain c.args.value.now) c.args.tree.now.tree c.args.number c.in-Some.new
     (of_some (IsReplaced old new c.args.number (plain c.args.value.now)) c.in_ok-new.field-0 c.in-Some.new c.in-Some.is c.in_ok-new.ensures.replaced)
 
 pub returns-clause-elsewhere : goal.returns-clause-elsewhere
 returns-clause-elsewhere g c =
     let old = c.args.tree.now.nodes in
     let new = c.replace.new.tree.nodes in
-    replaced_elsewhere old c.len.ensures.tree new c.args.number c.in-Some.new (plain c.args.value.now) c.replace.ensures.tree
+    replaced_elsewhere old c.args.tree.now.tree new c.args.number c.in-Some.new (plain c.args.value.now) c.replace.new.tree.tree
     (of_some (IsReplaced old new c.args.number (plain c.args.value.now)) c.in_ok-new.field-0 c.in-Some.new c.in-Some.is c.in_ok-new.ensures.replaced)
 
 pub returns-clause-gone : goal.returns-clause-gone
 returns-clause-gone g c =
     let old = c.args.tree.now.nodes in
     let new = c.replace.new.tree.nodes in
-    replaced_nobodys old new c.args.number c.in-Some.new c.len.ensures.tree c.replace.ensures.tree (plain c.args.value.now)
+    replaced_nobodys old new c.args.number c.in-Some.new c.args.tree.now.tree c.replace.new.tree.tree (plain c.args.value.now)
     (of_some (IsReplaced old new c.args.number (plain c.args.value.now)) c.in_ok-new.field-0 c.in-Some.new c.in-Some.is c.in_ok-new.ensures.replaced)
 
 pub returns-clause-step : goal.returns-clause-step
 returns-clause-step g c =
     let old = c.args.tree.now.nodes in
     let new = c.replace.new.tree.nodes in
-    replaced_step old new c.len.ensures.tree c.replace.ensures.tree c.args.number c.in-Some.new (plain c.args.value.now) (of_texts _ c.args.value.now)
+    replaced_step old new c.args.tree.now.tree c.replace.new.tree.tree c.args.number c.in-Some.new (plain c.args.value.now) (of_texts _ c.args.value.now)
     (of_some (IsReplaced old new c.args.number (plain c.args.value.now)) c.in_ok-new.field-0 c.in-Some.new c.in-Some.is c.in_ok-new.ensures.replaced)

@@ -10,49 +10,49 @@ use Rattle.jsonc_cst.proofs.lemmas.typed.Roots.{set_is, set_or_kept, array_is}
 use Rattle.jsonc_cst.specs.typed.Setting.{EmptyWritten}
 use Rattle.jsonc_cst.proofs.lemmas.typed.Around.{set_around}
 use Rattle.jsonc_cst.proofs.lemmas.typed.Marked.{empty_array_writable, set_marked, set_written}
-use Rattle.jsonc_insert.specs.declared.named.shape.Shape.TheVariants.{Array}
+use Rattle.jsonc_text.specs.declared.edit.Shape.TheVariants.{Array}
 use Rattle.jsonc_cst.proofs.lemmas.typed.Steps.{set_step}
 use Rattle.jsonc_cst.proofs.typed.setting.array_or_set.Goals as goal
 
 pub array_at-requires : goal.array_at-requires
 array_at-requires g c =
     let old = c.args.tree.now.nodes in
-    let new = c.array_value_or_set.new.tree.nodes in
+    let new = c.root_value_or_set.new.tree.nodes in
     set_is is_array (array no_items) Content.array (λ l. refl) array_is old new (value_at old 0) c.in_ok-number.number c.in_ok-number.ensures.value
 
 pub returns-clause-stays : goal.returns-clause-stays
 returns-clause-stays g c =
     let old = c.args.tree.now.nodes in
-    let new = c.array_value_or_set.new.tree.nodes in
-    nodes_stay old new (set_or_kept is_array (array no_items) old new (value_at old 0) c.array_value_or_set.result c.array_value_or_set.ensures.value c.array_value_or_set.ensures.kept)
+    let new = c.root_value_or_set.new.tree.nodes in
+    nodes_stay old new (set_or_kept is_array (array no_items) old new (value_at old 0) c.root_value_or_set.result c.root_value_or_set.ensures.value c.root_value_or_set.ensures.kept)
 
 pub returns-clause-stands : goal.returns-clause-stands
 returns-clause-stands g c =
     let old = c.args.tree.now.nodes in
-    let new = c.array_value_or_set.new.tree.nodes in
+    let new = c.root_value_or_set.new.tree.nodes in
     stands_as new c.in_ok-number.number (array_node c.array_at.result)
-    (set_found is_array (array no_items) old new c.len.ensures.tree c.array_value_or_set.ensures.tree (value_at old 0) c.in_ok-number.number refl c.in_ok-number.ensures.value)
+    (set_found is_array (array no_items) old new c.args.tree.now.tree c.root_value_or_set.new.tree.tree (value_at old 0) c.in_ok-number.number refl c.in_ok-number.ensures.value)
     c.array_at.ensures.number c.array_at.ensures.held
 
 pub returns-clause-written : goal.returns-clause-written
 returns-clause-written g c = λ p.
     let old = c.args.tree.now.nodes in
-    let new = c.array_value_or_set.new.tree.nodes in
+    let new = c.root_value_or_set.new.tree.nodes in
     subst (λ m. EmptyWritten old new is_array p (array no_items) (value_at old 0) m) (sym c.array_at.ensures.number)
-    (set_written p is_array (array no_items) (empty_array_writable p) refl old new c.len.ensures.tree (value_at old 0) c.in_ok-number.number refl c.in_ok-number.ensures.value)
+    (set_written p is_array (array no_items) (empty_array_writable p) refl old new c.args.tree.now.tree (value_at old 0) c.in_ok-number.number refl c.in_ok-number.ensures.value)
 
 pub returns-clause-marked : goal.returns-clause-marked
 returns-clause-marked g c = λ p.
     let old = c.args.tree.now.nodes in
-    let new = c.array_value_or_set.new.tree.nodes in
-    set_marked p is_array (array no_items) (empty_array_writable p) refl old new c.len.ensures.tree (value_at old 0) c.in_ok-number.number refl c.in_ok-number.ensures.value
+    let new = c.root_value_or_set.new.tree.nodes in
+    set_marked p is_array (array no_items) (empty_array_writable p) refl old new c.args.tree.now.tree (value_at old 0) c.in_ok-number.number refl c.in_ok-number.ensures.value
 
 pub returns-clause-around : goal.returns-clause-around
 returns-clause-around g c = λ p.
     let old = c.args.tree.now.nodes in
-    let new = c.array_value_or_set.new.tree.nodes in
-    set_around old new (array no_items) c.len.ensures.tree is_array p (value_at old 0) c.in_ok-number.number refl c.in_ok-number.ensures.value
+    let new = c.root_value_or_set.new.tree.nodes in
+    set_around old new (array no_items) c.args.tree.now.tree is_array p (value_at old 0) c.in_ok-number.number refl c.in_ok-number.ensures.value
 
 pub returns-clause-step : goal.returns-clause-step
 returns-clause-step g c =
-    set_step c.args.tree.now.nodes c.array_value_or_set.new.tree.nodes c.len.ensures.tree c.array_value_or_set.ensures.tree Array c.in_ok-number.number c.in_ok-number.ensures.value
+    set_step c.args.tree.now.nodes c.root_value_or_set.new.tree.nodes c.args.tree.now.tree c.root_value_or_set.new.tree.tree Array c.in_ok-number.number c.in_ok-number.ensures.value

@@ -30,7 +30,7 @@ pub returns-clause-written : goal.returns-clause-written
 returns-clause-written g c = λ p.
     let old = c.args.tree.now.nodes in
     let new = c.replace_property.new.tree.nodes in
-    property_is_written p old new c.args.number (chars c.args.name.now) (plain c.args.value.now) c.node_at.result c.len.ensures.tree
+    property_is_written p old new c.args.number (chars c.args.name.now) (plain c.args.value.now) c.node_at.result c.args.tree.now.tree
     (as_typed (IsPropertyReplaced old new c.args.number (chars c.args.name.now) (plain c.args.value.now)) new c.in-Some-2.new c.node_at.result c.node_at.ensures.node
     (of_some (IsPropertyReplaced old new c.args.number (chars c.args.name.now) (plain c.args.value.now)) c.in_ok-new.field-0 c.in-Some-2.new c.in-Some-2.is c.in_ok-new.ensures.replaced))
 
@@ -53,20 +53,20 @@ pub returns-clause-elsewhere : goal.returns-clause-elsewhere
 returns-clause-elsewhere g c =
     let old = c.args.tree.now.nodes in
     let new = c.replace_property.new.tree.nodes in
-    property_elsewhere old c.len.ensures.tree new c.args.number c.in-Some-2.new (chars c.args.name.now) (plain c.args.value.now) c.replace_property.ensures.tree
+    property_elsewhere old c.args.tree.now.tree new c.args.number c.in-Some-2.new (chars c.args.name.now) (plain c.args.value.now) c.replace_property.new.tree.tree
     (of_some (IsPropertyReplaced old new c.args.number (chars c.args.name.now) (plain c.args.value.now)) c.in_ok-new.field-0 c.in-Some-2.new c.in-Some-2.is c.in_ok-new.ensures.replaced)
 
 pub returns-clause-gone : goal.returns-clause-gone
 returns-clause-gone g c =
     let old = c.args.tree.now.nodes in
     let new = c.replace_property.new.tree.nodes in
-    property_nobodys old new c.args.number c.in-Some-2.new c.len.ensures.tree c.replace_property.ensures.tree (chars c.args.name.now) (plain c.args.value.now)
+    property_nobodys old new c.args.number c.in-Some-2.new c.args.tree.now.tree c.replace_property.new.tree.tree (chars c.args.name.now) (plain c.args.value.now)
     (of_some (IsPropertyReplaced old new c.args.number (chars c.args.name.now) (plain c.args.value.now)) c.in_ok-new.field-0 c.in-Some-2.new c.in-Some-2.is c.in_ok-new.ensures.replaced)
 
 pub returns-clause-step : goal.returns-clause-step
 returns-clause-step g c =
     let old = c.args.tree.now.nodes in
     let new = c.replace_property.new.tree.nodes in
-    property_replaced_step old new c.len.ensures.tree c.replace_property.ensures.tree c.args.number c.in-Some-2.new (chars c.args.name.now) (plain c.args.value.now)
+    property_replaced_step old new c.args.tree.now.tree c.replace_property.new.tree.tree c.args.number c.in-Some-2.new (chars c.args.name.now) (plain c.args.value.now)
     (scalars-chars c.args.name.now c.utf8.name) (of_texts _ c.args.value.now)
     (of_some (IsPropertyReplaced old new c.args.number (chars c.args.name.now) (plain c.args.value.now)) c.in_ok-new.field-0 c.in-Some-2.new c.in-Some-2.is c.in_ok-new.ensures.replaced)

@@ -35,7 +35,7 @@ returns-clause-written g c = λ p.
     let new = c.set_root.new.tree.nodes in
     let v = plain c.args.value.now in
     as_typed (ValueIsWritten p old new v (value_at old 0)) new c.in_ok-number.number c.node_at.result c.node_at.ensures.node
-    (is_written p old new v (value_at old 0) c.in_ok-number.number c.len.ensures.tree refl (c.in_ok-number.ensures.written p) c.in_ok-number.ensures.first)
+    (is_written p old new v (value_at old 0) c.in_ok-number.number c.args.tree.now.tree refl (c.in_ok-number.ensures.written p) c.in_ok-number.ensures.first)
 
 pub returns-clause-stays : goal.returns-clause-stays
 returns-clause-stays g c =
@@ -50,7 +50,7 @@ returns-clause-stands g c =
     let new = c.set_root.new.tree.nodes in
     let v = plain c.args.value.now in
     stands_as new c.in_ok-number.number c.node_at.result
-    (value_found old new v (value_at old 0) c.in_ok-number.number c.len.ensures.tree c.set_root.ensures.tree refl
+    (value_found old new v (value_at old 0) c.in_ok-number.number c.args.tree.now.tree c.set_root.new.tree.tree refl
     (becomes old new v (value_at old 0) c.in_ok-number.number c.in_ok-number.ensures.replaced c.in_ok-number.ensures.first))
     (ap number_of c.node_at.ensures.node ∙ number_of-typed (content_at new c.in_ok-number.number) c.in_ok-number.number) c.node_at.ensures.held
 
@@ -58,18 +58,18 @@ pub returns-clause-marked : goal.returns-clause-marked
 returns-clause-marked g c = λ p.
     let old = c.args.tree.now.nodes in
     let new = c.set_root.new.tree.nodes in
-    root_marked old new (plain c.args.value.now) c.len.ensures.tree p (value_at old 0) c.in_ok-number.number refl c.in_ok-number.ensures.replaced c.in_ok-number.ensures.first
+    root_marked old new (plain c.args.value.now) c.args.tree.now.tree p (value_at old 0) c.in_ok-number.number refl c.in_ok-number.ensures.replaced c.in_ok-number.ensures.first
 
 pub returns-clause-around : goal.returns-clause-around
 returns-clause-around g c = λ p.
     let old = c.args.tree.now.nodes in
     let new = c.set_root.new.tree.nodes in
-    root_around old new (plain c.args.value.now) c.len.ensures.tree p (value_at old 0) c.in_ok-number.number refl c.in_ok-number.ensures.replaced c.in_ok-number.ensures.first
+    root_around old new (plain c.args.value.now) c.args.tree.now.tree p (value_at old 0) c.in_ok-number.number refl c.in_ok-number.ensures.replaced c.in_ok-number.ensures.first
 
 pub returns-clause-step : goal.returns-clause-step
 returns-clause-step g c =
     let old = c.args.tree.now.nodes in
     let new = c.set_root.new.tree.nodes in
     let v = plain c.args.value.now in
-    root_step old new c.len.ensures.tree c.set_root.ensures.tree v c.in_ok-number.number (of_texts _ c.args.value.now)
+    root_step old new c.args.tree.now.tree c.set_root.new.tree.tree v c.in_ok-number.number (of_texts _ c.args.value.now)
     (becomes old new v (value_at old 0) c.in_ok-number.number c.in_ok-number.ensures.replaced c.in_ok-number.ensures.first)

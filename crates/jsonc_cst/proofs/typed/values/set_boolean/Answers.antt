@@ -13,7 +13,7 @@ returns-clause-written g c = λ o.
     let new = c.set_boolean.new.tree.nodes in
     let number = c.boolean_number-number in
     subst (λ n. OnOk c.set_boolean.result (BooleanIsWritten old new o n c.args.value)) number.ensures.number
-    (boolean_is_written old new number.result c.args.value number.ensures.there number.ensures.boolean o c.len.ensures.tree c.set_boolean.result c.set_boolean.ensures.set)
+    (boolean_is_written old new number.result c.args.value number.ensures.there number.ensures.boolean o c.args.tree.now.tree c.set_boolean.result c.set_boolean.ensures.set)
 
 pub returns-clause-stays : goal.returns-clause-stays
 returns-clause-stays g c =
@@ -28,7 +28,7 @@ returns-clause-elsewhere g c =
     let new = c.set_boolean.new.tree.nodes in
     let number = c.boolean_number-number in
     subst (λ n. OnOk c.set_boolean.result (StaysElsewhere old new n)) number.ensures.number
-    (if_boolean old new c.len.ensures.tree c.set_boolean.ensures.tree number.result c.args.value number.ensures.there c.set_boolean.result c.set_boolean.ensures.set)
+    (if_boolean old new c.args.tree.now.tree c.set_boolean.new.tree.tree number.result c.args.value number.ensures.there c.set_boolean.result c.set_boolean.ensures.set)
 
 pub returns-clause-step : goal.returns-clause-step
 returns-clause-step g c =
@@ -36,4 +36,4 @@ returns-clause-step g c =
     let new = c.set_boolean.new.tree.nodes in
     let number = c.boolean_number-number in
     subst (λ n. OnOk c.set_boolean.result (IsSettingBoolean old new n c.args.value)) number.ensures.number
-    (ok_then c.set_boolean.result (λ set. boolean_step old new c.len.ensures.tree c.set_boolean.ensures.tree number.result c.args.value set number.ensures.boolean) c.set_boolean.ensures.set)
+    (ok_then c.set_boolean.result (λ set. boolean_step old new c.args.tree.now.tree c.set_boolean.new.tree.tree number.result c.args.value set number.ensures.boolean) c.set_boolean.ensures.set)

@@ -54,20 +54,20 @@ returns-clause-child g c =
     let p = c.args.property in
     let v = plain c.args.value.now in
     as_typed (λ m. parent_at new m ≡ Some p) new c.in_ok-number.number c.node_at.result c.node_at.ensures.node
-    (held_is_child old new p v c.len.ensures.tree c.requires.property (value_at old p) c.in_ok-number.number refl
+    (held_is_child old new p v c.args.tree.now.tree c.requires.property (value_at old p) c.in_ok-number.number refl
     (held_becomes old new p v (value_at old p) c.in_ok-number.number c.in_ok-number.ensures.replaced c.in_ok-number.ensures.last))
 
 pub returns-clause-marked : goal.returns-clause-marked
 returns-clause-marked g c =
     let old = c.args.tree.now.nodes in
     let new = c.set_property_value.new.tree.nodes in
-    held_marked old new (plain c.args.value.now) c.len.ensures.tree (value_at old c.args.property) c.in_ok-number.number c.in_ok-number.ensures.replaced
+    held_marked old new (plain c.args.value.now) c.args.tree.now.tree (value_at old c.args.property) c.in_ok-number.number c.in_ok-number.ensures.replaced
 
 pub returns-clause-around : goal.returns-clause-around
 returns-clause-around g c =
     let old = c.args.tree.now.nodes in
     let new = c.set_property_value.new.tree.nodes in
-    held_around old new (plain c.args.value.now) c.len.ensures.tree (value_at old c.args.property) c.in_ok-number.number c.in_ok-number.ensures.replaced
+    held_around old new (plain c.args.value.now) c.args.tree.now.tree (value_at old c.args.property) c.in_ok-number.number c.in_ok-number.ensures.replaced
 
 pub returns-clause-elsewhere : goal.returns-clause-elsewhere
 returns-clause-elsewhere g c =
@@ -75,7 +75,7 @@ returns-clause-elsewhere g c =
     let new = c.set_property_value.new.tree.nodes in
     let p = c.args.property in
     let v = plain c.args.value.now in
-    held_elsewhere old new c.len.ensures.tree c.set_property_value.ensures.tree p c.requires.there c.requires.property v (value_at old p) c.in_ok-number.number refl
+    held_elsewhere old new c.args.tree.now.tree c.set_property_value.new.tree.tree p c.requires.there c.requires.property v (value_at old p) c.in_ok-number.number refl
     (held_becomes old new p v (value_at old p) c.in_ok-number.number c.in_ok-number.ensures.replaced c.in_ok-number.ensures.last)
 
 pub returns-clause-step : goal.returns-clause-step
@@ -84,5 +84,5 @@ returns-clause-step g c =
     let new = c.set_property_value.new.tree.nodes in
     let p = c.args.property in
     let v = plain c.args.value.now in
-    held_step old new c.len.ensures.tree c.set_property_value.ensures.tree p v c.in_ok-number.number (of_texts _ c.args.value.now)
+    held_step old new c.args.tree.now.tree c.set_property_value.new.tree.tree p v c.in_ok-number.number (of_texts _ c.args.value.now)
     (held_becomes old new p v (value_at old p) c.in_ok-number.number c.in_ok-number.ensures.replaced c.in_ok-number.ensures.last) c.requires.property

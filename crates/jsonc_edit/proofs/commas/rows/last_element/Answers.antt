@@ -13,7 +13,7 @@ returns-clause-last g c =
 pub returns-clause-child : goal.returns-clause-child
 returns-clause-child g c =
     let ns = c.args.tree.now.nodes in
-    subst (λ o. IfSome o (IsChild ns c.args.container)) (sym (returns-clause-last g c)) (last_child ns c.len.ensures.tree c.args.container)
+    subst (λ o. IfSome o (IsChild ns c.args.container)) (sym (returns-clause-last g c)) (last_child ns c.args.tree.now.tree c.args.container)
 
 pub returns-clause-there : goal.returns-clause-there
-returns-clause-there g c = last_there c.args.tree.now.nodes c.len.ensures.tree c.args.container c.find.result (returns-clause-child g c)
+returns-clause-there g c = last_there c.args.tree.now.nodes c.args.tree.now.tree c.args.container c.find.result (returns-clause-child g c)

@@ -11,7 +11,7 @@ insert_between-requires-clause-can g c =
     let old = c.args.tree.now.nodes in
     let ns = c.add.new.self.nodes in
     let added : Adds old ns a_comma = subst (Adds old ns) (ap content_of c.token.ensures) c.in_ok-comma.ensures.added in
-    subst (CanAppend ns c.args.container) (sym c.in_ok-comma.ensures.number) (may_come old ns a_comma c.len.ensures.tree c.add.ensures.tree added c.args.container c.args.node c.requires)
+    subst (CanAppend ns c.args.container) (sym c.in_ok-comma.ensures.number) (may_come old ns a_comma c.args.tree.now.tree c.add.new.self.tree added c.args.container c.args.node c.requires)
 
 pub insert_between-requires-clause-gap : goal.insert_between-requires-clause-gap
 insert_between-requires-clause-gap g c =
@@ -19,8 +19,8 @@ insert_between-requires-clause-gap g c =
     let ns = c.add.new.self.nodes in
     let added : Adds old ns a_comma = subst (Adds old ns) (ap content_of c.token.ensures) c.in_ok-comma.ensures.added in (
       suc (place_at ns c.args.node),
-      gap_behind ns c.add.ensures.tree c.args.container c.args.node c.next_sibling-behind.result
-          (child_yet old ns a_comma c.len.ensures.tree c.add.ensures.tree added c.args.container c.args.node c.requires)
+      gap_behind ns c.add.new.self.tree c.args.container c.args.node c.next_sibling-behind.result
+          (child_yet old ns a_comma c.args.tree.now.tree c.add.new.self.tree added c.args.container c.args.node c.requires)
           c.next_sibling-behind.ensures,
     )
 
@@ -29,10 +29,10 @@ returns-clause-put g c =
     let old = c.args.tree.now.nodes in
     let ns = c.add.new.self.nodes in
     let added : Adds old ns a_comma = subst (Adds old ns) (ap content_of c.token.ensures) c.in_ok-comma.ensures.added in
-    let gap = gap_behind ns c.add.ensures.tree c.args.container c.args.node c.next_sibling-behind.result (child_yet old ns a_comma c.len.ensures.tree c.add.ensures.tree added c.args.container c.args.node c.requires) c.next_sibling-behind.ensures in
+    let gap = gap_behind ns c.add.new.self.tree c.args.container c.args.node c.next_sibling-behind.result (child_yet old ns a_comma c.args.tree.now.tree c.add.new.self.tree added c.args.container c.args.node c.requires) c.next_sibling-behind.ensures in
     record {
       ready = ns;
       added = added;
-      tree = c.add.ensures.tree;
+      tree = c.add.new.self.tree;
       put = subst (λ m. Splices ns c.insert_between.new.self.nodes c.args.container (suc (place_at ns c.args.node)) (suc (place_at ns c.args.node)) (m ∷ [])) c.in_ok-comma.ensures.number (c.insert_between.ensures.fills (suc (place_at ns c.args.node)) gap);
     }

@@ -7,16 +7,16 @@ next_inside-requires-clause-reached g c = sym c.is_reached.ensures ∙ c.if-is_r
 
 pub returns-then-is_reached-clause-come : goal.returns-then-is_reached-clause-come
 returns-then-is_reached-clause-come g c =
-    gone_by c.args.tree.now.nodes c.len.ensures.tree c.args.end c.args.node c.next_inside.result c.requires.passed c.next_inside.ensures.rest
+    gone_by c.args.tree.now.nodes c.args.tree.now.tree c.args.end c.args.node c.next_inside.result c.requires.passed c.next_inside.ensures.rest
 
 pub returns-then-is_reached-clause-less : goal.returns-then-is_reached-clause-less
 returns-then-is_reached-clause-less g c =
-    less_inside c.args.tree.now.nodes c.len.ensures.tree c.args.end c.args.node c.next_inside.result c.next_inside.ensures.rest
+    less_inside c.args.tree.now.nodes c.args.tree.now.tree c.args.end c.args.node c.next_inside.result c.next_inside.ensures.rest
 
 pub returns-clause-come : goal.returns-clause-come
 returns-clause-come g c =
-    passed_by c.args.tree.now.nodes c.len.ensures.tree c.args.end c.args.node c.next_past.result c.requires.over (sym c.is_reached.ensures ∙ c.if-is_reached.false) c.next_past.ensures.next
+    passed_by c.args.tree.now.nodes c.args.tree.now.tree c.args.end c.args.node c.next_past.result c.requires.over (sym c.is_reached.ensures ∙ c.if-is_reached.false) c.next_past.ensures.next
 
 pub returns-clause-less : goal.returns-clause-less
 returns-clause-less g c =
-    less_past c.args.tree.now.nodes c.len.ensures.tree c.args.end c.args.node c.next_past.result c.requires.there c.next_past.ensures.next
+    less_past c.args.tree.now.nodes c.args.tree.now.tree c.args.end c.args.node c.next_past.result c.requires.there c.next_past.ensures.next

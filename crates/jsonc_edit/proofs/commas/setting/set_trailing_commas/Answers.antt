@@ -13,11 +13,11 @@ pub loop-next-init : goal.loop-next-init
 loop-next-init g c =
     let n = c.holder_from-next.ensures in
     record {
-      tree = c.len.ensures.tree;
+      tree = c.args.tree.now.tree;
       there = n.there;
       over = n.over;
       met = n.met;
-      set = none_set c.args.mode c.args.tree.now.nodes c.args.container c.holder_from-next.result (all_to_come c.args.tree.now.nodes c.len.ensures.tree c.args.container c.requires ∙ n.come);
+      set = none_set c.args.mode c.args.tree.now.nodes c.args.container c.holder_from-next.result (all_to_come c.args.tree.now.nodes c.args.tree.now.tree c.args.container c.requires ∙ n.come);
     }
 
 pub returns-in_err-set_comma-clause-part : goal.returns-in_err-set_comma-clause-part
@@ -29,37 +29,37 @@ pub returns-in_err-set_comma-clause-due : goal.returns-in_err-set_comma-clause-d
 returns-in_err-set_comma-clause-due g c =
     let kept = c.in_err-set_comma.ensures in
     where_refused c.from_residual.result
-    (due_where_refused c.args.mode c.args.tree.now.nodes c.set_comma.new.tree.nodes c.args.container c.len.ensures.tree kept.wanted
+    (due_where_refused c.args.mode c.args.tree.now.nodes c.set_comma.new.tree.nodes c.args.container c.args.tree.now.tree kept.wanted
     (refused_here c.args.mode c.args.tree.now.nodes c.loop-next.tree.nodes c.args.container c.loop-next.next c.loop-next.invariant c.in-Some.node c.in-Some.is c.set_comma.new.tree.nodes kept.kept kept.missing))
 
 pub returns-in_err-set_comma-clause-apart : goal.returns-in_err-set_comma-clause-apart
 returns-in_err-set_comma-clause-apart g c =
     let kept = c.in_err-set_comma.ensures in
-    leaves_others_in_part c.args.mode c.args.tree.now.nodes c.args.container c.set_comma.new.tree.nodes c.len.ensures.tree c.requires
+    leaves_others_in_part c.args.mode c.args.tree.now.nodes c.args.container c.set_comma.new.tree.nodes c.args.tree.now.tree c.requires
     (refused_here c.args.mode c.args.tree.now.nodes c.loop-next.tree.nodes c.args.container c.loop-next.next c.loop-next.invariant c.in-Some.node c.in-Some.is c.set_comma.new.tree.nodes kept.kept kept.missing)
 
 pub next_holder-next-requires-clause-over : goal.next_holder-next-requires-clause-over
 next_holder-next-requires-clause-over g c =
-    over_still c.args.mode c.args.tree.now.nodes c.loop-next.tree.nodes c.args.container c.loop-next.next c.loop-next.invariant c.in-Some.node c.in-Some.is c.set_comma.new.tree.nodes c.set_comma.ensures.tree c.in_ok-set_comma.ensures.set
+    over_still c.args.mode c.args.tree.now.nodes c.loop-next.tree.nodes c.args.container c.loop-next.next c.loop-next.invariant c.in-Some.node c.in-Some.is c.set_comma.new.tree.nodes c.set_comma.new.tree.tree c.in_ok-set_comma.ensures.set
 
 pub next_holder-next-requires-clause-met : goal.next_holder-next-requires-clause-met
 next_holder-next-requires-clause-met g c =
-    met_still c.args.mode c.args.tree.now.nodes c.loop-next.tree.nodes c.args.container c.loop-next.next c.loop-next.invariant c.in-Some.node c.in-Some.is c.set_comma.new.tree.nodes c.set_comma.ensures.tree c.in_ok-set_comma.ensures.set
+    met_still c.args.mode c.args.tree.now.nodes c.loop-next.tree.nodes c.args.container c.loop-next.next c.loop-next.invariant c.in-Some.node c.in-Some.is c.set_comma.new.tree.nodes c.set_comma.new.tree.tree c.in_ok-set_comma.ensures.set
 
 pub loop-next-smaller : goal.loop-next-smaller
 loop-next-smaller g c =
-    fewer c.args.mode c.args.tree.now.nodes c.loop-next.tree.nodes c.args.container c.loop-next.next c.loop-next.invariant c.in-Some.node c.in-Some.is c.set_comma.new.tree.nodes c.set_comma.ensures.tree c.in_ok-set_comma.ensures.set
+    fewer c.args.mode c.args.tree.now.nodes c.loop-next.tree.nodes c.args.container c.loop-next.next c.loop-next.invariant c.in-Some.node c.in-Some.is c.set_comma.new.tree.nodes c.set_comma.new.tree.tree c.in_ok-set_comma.ensures.set
     c.next_holder-next.result c.next_holder-next.ensures.come
 
 pub loop-next-preserved : goal.loop-next-preserved
 loop-next-preserved g c =
     let n = c.next_holder-next.ensures in
     record {
-      tree = c.set_comma.ensures.tree;
+      tree = c.set_comma.new.tree.tree;
       there = n.there;
       over = n.over;
       met = n.met;
-      set = goes_on c.args.mode c.args.tree.now.nodes c.loop-next.tree.nodes c.args.container c.loop-next.next c.loop-next.invariant c.in-Some.node c.in-Some.is c.set_comma.new.tree.nodes c.set_comma.ensures.tree c.in_ok-set_comma.ensures.set
+      set = goes_on c.args.mode c.args.tree.now.nodes c.loop-next.tree.nodes c.args.container c.loop-next.next c.loop-next.invariant c.in-Some.node c.in-Some.is c.set_comma.new.tree.nodes c.set_comma.new.tree.tree c.in_ok-set_comma.ensures.set
           c.next_holder-next.result n.come;
     }
 
@@ -69,7 +69,7 @@ returns-clause-set g c =
     all_set c.args.mode c.args.tree.now.nodes now c.args.container c.loop-next.next c.loop-next.invariant.set (ap (to_come now c.args.container) c.in_default.is)
 
 pub returns-clause-said : goal.returns-clause-said
-returns-clause-said g c = sets_anyway c.args.mode c.args.tree.now.nodes c.args.container c.loop-next.tree.nodes c.len.ensures.tree c.requires (returns-clause-set g c)
+returns-clause-said g c = sets_anyway c.args.mode c.args.tree.now.nodes c.args.container c.loop-next.tree.nodes c.args.tree.now.tree c.requires (returns-clause-set g c)
 
 pub returns-clause-apart : goal.returns-clause-apart
-returns-clause-apart g c = leaves_others c.args.mode c.args.tree.now.nodes c.args.container c.loop-next.tree.nodes c.len.ensures.tree c.requires (returns-clause-set g c)
+returns-clause-apart g c = leaves_others c.args.mode c.args.tree.now.nodes c.args.container c.loop-next.tree.nodes c.args.tree.now.tree c.requires (returns-clause-set g c)

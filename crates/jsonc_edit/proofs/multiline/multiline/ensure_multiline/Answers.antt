@@ -10,23 +10,23 @@ use Rattle.jsonc_edit.proofs.multiline.multiline.ensure_multiline.Goals as goal
 
 pub splice-requires-clause-join : goal.splice-requires-clause-join
 splice-requires-clause-join g c =
-    row_ready c.args.tree.now.nodes c.plan_lines.new.tree.nodes c.reserve.new.self.nodes c.args.container _ c.in_ok-row.row.items c.len.ensures.tree c.requires.there c.in_ok-row.ensures.planned c.reserve.ensures.kept c.reserve.ensures.tree c.child_count-count.result c.child_count-count.ensures
+    row_ready c.args.tree.now.nodes c.plan_lines.new.tree.nodes c.reserve.new.self.nodes c.args.container _ c.in_ok-row.row.items c.args.tree.now.tree c.requires.there c.in_ok-row.ensures.planned c.reserve.ensures.kept c.reserve.new.self.tree c.child_count-count.result c.child_count-count.ensures
     c.deref.result.now c.deref.ensures.value
 
 pub returns-in_err-row-clause-document : goal.returns-in_err-row-clause-document
 returns-in_err-row-clause-document g c =
     where_refused c.from_residual-in_err-row.result
-    (tree_stays c.args.tree.now.nodes c.plan_lines.new.tree.nodes c.len.ensures.tree c.plan_lines.ensures.prepared.keeps c.plan_lines.ensures.prepared.tree)
+    (tree_stays c.args.tree.now.nodes c.plan_lines.new.tree.nodes c.args.tree.now.tree c.plan_lines.ensures.prepared.keeps c.plan_lines.ensures.prepared.tree)
 
 pub returns-in_err-reserve-clause-document : goal.returns-in_err-reserve-clause-document
 returns-in_err-reserve-clause-document g c =
     where_refused c.from_residual-in_err-reserve.result
-    (tree_stays c.args.tree.now.nodes c.reserve.new.self.nodes c.len.ensures.tree (kept_through c.args.tree.now.nodes c.plan_lines.new.tree.nodes c.reserve.new.self.nodes c.plan_lines.ensures.prepared.keeps c.reserve.ensures.kept) c.reserve.ensures.tree)
+    (tree_stays c.args.tree.now.nodes c.reserve.new.self.nodes c.args.tree.now.tree (kept_through c.args.tree.now.nodes c.plan_lines.new.tree.nodes c.reserve.new.self.nodes c.plan_lines.ensures.prepared.keeps c.reserve.ensures.kept) c.reserve.new.self.tree)
 
 pub returns-clause-made : goal.returns-clause-made
 returns-clause-made g c =
-    made_multiline c.args.tree.now.nodes c.plan_lines.new.tree.nodes c.reserve.new.self.nodes c.args.container _ c.in_ok-row.row.items c.len.ensures.tree c.requires.there c.in_ok-row.ensures.planned c.reserve.ensures.kept c.reserve.ensures.tree c.child_count-count.result c.child_count-count.ensures
-    c.splice.new.self.nodes c.splice.ensures.tree c.deref.result.now c.deref.ensures.value c.splice.ensures.splices (ap (λ l. on_lines l c.args.tree.now.nodes (between (children_at c.args.tree.now.nodes c.args.container))) c.in_ok-lines.ensures) (sym c.has_brackets.ensures ∙ c.if-not-has_brackets.false) (sym c.has_line_end.ensures ∙ c.if-has_line_end.false)
+    made_multiline c.args.tree.now.nodes c.plan_lines.new.tree.nodes c.reserve.new.self.nodes c.args.container _ c.in_ok-row.row.items c.args.tree.now.tree c.requires.there c.in_ok-row.ensures.planned c.reserve.ensures.kept c.reserve.new.self.tree c.child_count-count.result c.child_count-count.ensures
+    c.splice.new.self.nodes c.splice.new.self.tree c.deref.result.now c.deref.ensures.value c.splice.ensures.splices (ap (λ l. on_lines l c.args.tree.now.nodes (between (children_at c.args.tree.now.nodes c.args.container))) c.in_ok-lines.ensures) (sym c.has_brackets.ensures ∙ c.if-not-has_brackets.false) (sym c.has_line_end.ensures ∙ c.if-has_line_end.false)
 
 contains : (w : Content) → IsTrue (holds_values w) → is_container w ≡ true
 contains w holds = grind arith

@@ -13,9 +13,9 @@ push_child-requires g c = item_there c.args.tree.now.nodes c.loop-child.tree.nod
 pub loop-child-init : goal.loop-child-init
 loop-child-init g c =
     subst (SoFar c.args.tree.now.nodes c.args.tree.now.nodes c.args.container (lines_of c.args.lines.now) _ 0 true) (sym c.new-row.ensures.items)
-    (so_far_none c.args.tree.now.nodes c.args.container (lines_of c.args.lines.now) _ c.len.ensures.tree c.requires.there (two_there c.args.tree.now.nodes c.args.container c.requires.brackets)
-    (items_are c.args.tree.now.nodes (children_at c.args.tree.now.nodes c.args.container) c.deref.result.now c.len-2.result c.blanks_from-end.result (c.deref.ensures.value ∙ c.in_ok-children.ensures.children)
-    (c.len-2.ensures ∙ c.in_ok-children.children.ok.0 ∙ ap length c.in_ok-children.ensures.children) c.blanks_from-end.ensures.from))
+    (so_far_none c.args.tree.now.nodes c.args.container (lines_of c.args.lines.now) _ c.args.tree.now.tree c.requires.there (two_there c.args.tree.now.nodes c.args.container c.requires.brackets)
+    (items_are c.args.tree.now.nodes (children_at c.args.tree.now.nodes c.args.container) c.deref.result.now c.len.result c.blanks_from-end.result (c.deref.ensures.value ∙ c.in_ok-children.ensures.children)
+    (c.len.ensures ∙ c.in_ok-children.children.ok.0 ∙ ap length c.in_ok-children.ensures.children) c.blanks_from-end.ensures.from))
 
 pub loop-child-preserved : goal.loop-child-preserved
 loop-child-preserved g c =

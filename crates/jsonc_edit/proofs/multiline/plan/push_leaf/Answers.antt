@@ -9,4 +9,4 @@ pub returns-clause-gains : goal.returns-clause-gains
 returns-clause-gains g c old container place slots tree p =
     subst (λ r. Planned old c.add.new.self.nodes container place (slots ++ comes (content_of c.args.kind) ∷ []) r)
     (sym (c.in_ok-push.ensures.items ∙ ap (λ n. c.args.row.now.items ++ n ∷ []) c.in_ok-leaf.ensures.number))
-    (planned_leaf old c.args.tree.now.nodes container place slots c.args.row.now.items p tree c.add.new.self.nodes (content_of c.args.kind) c.add.ensures.tree c.in_ok-leaf.ensures.added)
+    (planned_leaf old c.args.tree.now.nodes container place slots c.args.row.now.items p tree c.add.new.self.nodes (content_of c.args.kind) c.add.new.self.tree c.in_ok-leaf.ensures.added)

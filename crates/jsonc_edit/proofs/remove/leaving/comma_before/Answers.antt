@@ -2,7 +2,7 @@ use Rattle.std.proofs.Common.{rules}
 use Rattle.jsonc_layout.specs.nodes.Siblings.{siblings_before}
 use Rattle.jsonc_layout.proofs.lemmas.nodes.Rows.{find_in}
 use Rattle.jsonc_layout.proofs.lemmas.nodes.There.{found_there}
-use Rattle.jsonc_edit.specs.remove.Leaving.{is_comma_at}
+use Rattle.jsonc_layout.specs.nodes.Kinds.{is_comma_at}
 use Rattle.jsonc_edit.proofs.remove.leaving.comma_before.Goals as goal
 
 pub returns-clause-comma : goal.returns-clause-comma

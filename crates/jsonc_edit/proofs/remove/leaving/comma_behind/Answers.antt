@@ -4,4 +4,4 @@ use Rattle.jsonc_edit.proofs.lemmas.remove.Walking.{trailing_there}
 use Rattle.jsonc_edit.proofs.remove.leaving.comma_behind.Goals as goal
 
 pub returns-clause-there : goal.returns-clause-there
-returns-clause-there g c = subst (IsThere c.args.tree.now.nodes) (sym c.trailing_comma.ensures.comma) (trailing_there c.args.tree.now.nodes c.len.ensures.tree c.args.node)
+returns-clause-there g c = subst (IsThere c.args.tree.now.nodes) (sym c.trailing_comma.ensures.comma) (trailing_there c.args.tree.now.nodes c.args.tree.now.tree c.args.node)

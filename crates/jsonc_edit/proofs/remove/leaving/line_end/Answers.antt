@@ -3,29 +3,29 @@ use Rattle.jsonc_edit.proofs.lemmas.remove.Walking.{after_fewer, line_goes_on, l
 use Rattle.jsonc_edit.proofs.remove.leaving.line_end.Goals as goal
 
 pub trails_line-requires : goal.trails_line-requires
-trails_line-requires g c = next_there c.args.tree.now.nodes c.len.ensures.tree c.loop-next.last c.in-Some.next (sym c.next_sibling.ensures ∙ c.in-Some.is)
+trails_line-requires g c = next_there c.args.tree.now.nodes c.args.tree.now.tree c.loop-next.last c.in-Some.next (sym c.next_sibling.ensures ∙ c.in-Some.is)
 
 pub returns-then-is_newline-clause-end : goal.returns-then-is_newline-clause-end
 returns-then-is_newline-clause-end g c =
-    sym (c.loop-next.invariant.same ∙ line_newline c.args.tree.now.nodes c.len.ensures.tree c.loop-next.last c.in-Some.next (sym c.next_sibling.ensures ∙ c.in-Some.is) (sym c.is_newline.ensures.newline ∙ c.if-is_newline.true))
+    sym (c.loop-next.invariant.same ∙ line_newline c.args.tree.now.nodes c.args.tree.now.tree c.loop-next.last c.in-Some.next (sym c.next_sibling.ensures ∙ c.in-Some.is) (sym c.is_newline.ensures.newline ∙ c.if-is_newline.true))
 
 pub returns-then-not-trails_line-clause-end : goal.returns-then-not-trails_line-clause-end
 returns-then-not-trails_line-clause-end g c =
     sym
     (c.loop-next.invariant.same
-    ∙ line_stops c.args.tree.now.nodes c.len.ensures.tree c.loop-next.last c.in-Some.next (sym c.next_sibling.ensures ∙ c.in-Some.is) (sym c.is_newline.ensures.newline ∙ c.if-is_newline.false) (sym c.trails_line.ensures ∙ c.if-not-trails_line.true))
+    ∙ line_stops c.args.tree.now.nodes c.args.tree.now.tree c.loop-next.last c.in-Some.next (sym c.next_sibling.ensures ∙ c.in-Some.is) (sym c.is_newline.ensures.newline ∙ c.if-is_newline.false) (sym c.trails_line.ensures ∙ c.if-not-trails_line.true))
 
 pub loop-next-smaller : goal.loop-next-smaller
-loop-next-smaller g c = after_fewer c.args.tree.now.nodes c.len.ensures.tree c.loop-next.last c.in-Some.next (sym c.next_sibling.ensures ∙ c.in-Some.is)
+loop-next-smaller g c = after_fewer c.args.tree.now.nodes c.args.tree.now.tree c.loop-next.last c.in-Some.next (sym c.next_sibling.ensures ∙ c.in-Some.is)
 
 pub loop-next-preserved : goal.loop-next-preserved
 loop-next-preserved g c = record {
   same =
       c.loop-next.invariant.same
-      ∙ line_goes_on c.args.tree.now.nodes c.len.ensures.tree c.loop-next.last c.in-Some.next (sym c.next_sibling.ensures ∙ c.in-Some.is) (sym c.is_newline.ensures.newline ∙ c.if-is_newline.false)
+      ∙ line_goes_on c.args.tree.now.nodes c.args.tree.now.tree c.loop-next.last c.in-Some.next (sym c.next_sibling.ensures ∙ c.in-Some.is) (sym c.is_newline.ensures.newline ∙ c.if-is_newline.false)
       (sym c.trails_line.ensures ∙ c.if-not-trails_line.false);
-  there = next_there c.args.tree.now.nodes c.len.ensures.tree c.loop-next.last c.in-Some.next (sym c.next_sibling.ensures ∙ c.in-Some.is);
+  there = next_there c.args.tree.now.nodes c.args.tree.now.tree c.loop-next.last c.in-Some.next (sym c.next_sibling.ensures ∙ c.in-Some.is);
 }
 
 pub returns-clause-end : goal.returns-clause-end
-returns-clause-end g c = sym (c.loop-next.invariant.same ∙ line_over c.args.tree.now.nodes c.len.ensures.tree c.loop-next.last (sym c.next_sibling.ensures ∙ c.in_default.is))
+returns-clause-end g c = sym (c.loop-next.invariant.same ∙ line_over c.args.tree.now.nodes c.args.tree.now.tree c.loop-next.last (sym c.next_sibling.ensures ∙ c.in_default.is))

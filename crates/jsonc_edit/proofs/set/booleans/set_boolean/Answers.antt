@@ -8,7 +8,7 @@ use Rattle.jsonc_edit.proofs.set.booleans.set_boolean.Goals as goal
 
 pub returns-in_err-spaces-clause-document : goal.returns-in_err-spaces-clause-document
 returns-in_err-spaces-clause-document g c =
-    where_refused c.from_residual.result (tree_stays c.args.tree.now.nodes c.make_spaces.new.tree.nodes c.len.ensures.tree c.make_spaces.ensures.prepared.keeps c.make_spaces.ensures.prepared.tree)
+    where_refused c.from_residual.result (tree_stays c.args.tree.now.nodes c.make_spaces.new.tree.nodes c.args.tree.now.tree c.make_spaces.ensures.prepared.keeps c.make_spaces.ensures.prepared.tree)
 
 pub put_spaces-requires-clause-children : goal.put_spaces-requires-clause-children
 put_spaces-requires-clause-children g c =

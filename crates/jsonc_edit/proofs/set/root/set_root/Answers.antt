@@ -8,7 +8,7 @@ use Rattle.jsonc_edit.proofs.set.root.set_root.Goals as goal
 
 pub replace_child-requires : goal.replace_child-requires
 replace_child-requires g c =
-    has_parent (parent_at c.args.tree.now.nodes c.in-Some.node) 0 (root_child c.args.tree.now.nodes c.len.ensures.tree c.in-Some.node (sym c.value_of.ensures.value ∙ c.in-Some.is))
+    has_parent (parent_at c.args.tree.now.nodes c.in-Some.node) 0 (root_child c.args.tree.now.nodes c.args.tree.now.tree c.in-Some.node (sym c.value_of.ensures.value ∙ c.in-Some.is))
 
 pub returns-in-Some-clause-written : goal.returns-in-Some-clause-written
 returns-in-Some-clause-written g c = λ p.

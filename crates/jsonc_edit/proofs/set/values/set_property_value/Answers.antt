@@ -10,7 +10,7 @@ use Rattle.jsonc_edit.proofs.set.values.set_property_value.Goals as goal
 pub replace_child-requires : goal.replace_child-requires
 replace_child-requires g c =
     has_parent (parent_at c.args.tree.now.nodes c.in-Some.node) c.args.property
-    (held_child c.args.tree.now.nodes c.len.ensures.tree c.args.property c.in-Some.node c.requires.property (sym c.value_of.ensures.value ∙ c.in-Some.is))
+    (held_child c.args.tree.now.nodes c.args.tree.now.tree c.args.property c.in-Some.node c.requires.property (sym c.value_of.ensures.value ∙ c.in-Some.is))
 
 pub returns-in-Some-clause-written : goal.returns-in-Some-clause-written
 returns-in-Some-clause-written g c = λ p.

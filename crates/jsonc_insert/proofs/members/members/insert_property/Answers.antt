@@ -10,17 +10,17 @@ use Rattle.jsonc_insert.proofs.members.members.insert_property.Goals as goal
 
 pub returns-in_err-before-clause-document : goal.returns-in_err-before-clause-document
 returns-in_err-before-clause-document g c =
-    where_refused c.from_residual.result (tree_stays c.args.tree.now.nodes c.row_before.new.tree.nodes c.len.ensures.tree c.row_before.ensures.prepared.keeps c.row_before.ensures.prepared.tree)
+    where_refused c.from_residual.result (tree_stays c.args.tree.now.nodes c.row_before.new.tree.nodes c.args.tree.now.tree c.row_before.ensures.prepared.keeps c.row_before.ensures.prepared.tree)
 
 pub make_row-requires-clause-there : goal.make_row-requires-clause-there
 make_row-requires-clause-there g c =
     let lined = c.row_before.new.tree.nodes in
-    subst (All (λ m. m < length lined)) (sym c.deref.ensures.value) (before_there c.args.tree.now.nodes lined c.len.ensures.tree c.args.object c.in_ok-before.before.items c.in_ok-before.ensures.is)
+    subst (All (λ m. m < length lined)) (sym c.deref.ensures.value) (before_there c.args.tree.now.nodes lined c.args.tree.now.tree c.args.object c.in_ok-before.before.items c.in_ok-before.ensures.is)
 
 pub make_row-requires-clause-brackets : goal.make_row-requires-clause-brackets
 make_row-requires-clause-brackets g c =
     let lined = c.row_before.new.tree.nodes in
-    ap (has_brackets lined) c.deref.ensures.value ∙ before_brackets c.args.tree.now.nodes lined c.len.ensures.tree c.args.object c.in_ok-before.before.items c.in_ok-before.ensures.is
+    ap (has_brackets lined) c.deref.ensures.value ∙ before_brackets c.args.tree.now.nodes lined c.args.tree.now.tree c.args.object c.in_ok-before.before.items c.in_ok-before.ensures.is
 
 pub returns-in_err-made-clause-kept : goal.returns-in_err-made-clause-kept
 returns-in_err-made-clause-kept g c =
@@ -31,7 +31,7 @@ returns-in_err-made-clause-document g c =
     let old = c.args.tree.now.nodes in
     let made = c.make_row.new.tree.nodes in
     where_refused c.from_residual-in_err-made.result
-    (tree_stays old made c.len.ensures.tree (kept_twice old c.row_before.new.tree.nodes made c.row_before.ensures.prepared c.make_row.ensures.prepared) c.make_row.ensures.prepared.tree)
+    (tree_stays old made c.args.tree.now.tree (kept_twice old c.row_before.new.tree.nodes made c.row_before.ensures.prepared c.make_row.ensures.prepared) c.make_row.ensures.prepared.tree)
 
 pub returns-in_err-reserve-clause-kept : goal.returns-in_err-reserve-clause-kept
 returns-in_err-reserve-clause-kept g c =
@@ -43,8 +43,8 @@ returns-in_err-reserve-clause-document g c =
     let old = c.args.tree.now.nodes in
     let ready = c.reserve.new.self.nodes in
     where_refused c.from_residual-in_err-reserve.result
-    (tree_stays old ready c.len.ensures.tree (kept_with_room old c.row_before.new.tree.nodes c.make_row.new.tree.nodes ready c.row_before.ensures.prepared c.make_row.ensures.prepared c.reserve.ensures.kept)
-    c.reserve.ensures.tree)
+    (tree_stays old ready c.args.tree.now.tree (kept_with_room old c.row_before.new.tree.nodes c.make_row.new.tree.nodes ready c.row_before.ensures.prepared c.make_row.ensures.prepared c.reserve.ensures.kept)
+    c.reserve.new.self.tree)
 
 pub splice-requires-clause-container : goal.splice-requires-clause-container
 splice-requires-clause-container g c =
@@ -53,22 +53,22 @@ splice-requires-clause-container g c =
 
 pub splice-requires-clause-within : goal.splice-requires-clause-within
 splice-requires-clause-within g c =
-    within c.args.tree.now.nodes c.row_before.new.tree.nodes c.make_row.new.tree.nodes c.reserve.new.self.nodes c.len.ensures.tree c.args.object c.requires.there c.in_ok-before.before.items c.in_ok-before.ensures.is c.make_row.ensures.prepared c.reserve.ensures.kept c.reserve.ensures.tree
+    within c.args.tree.now.nodes c.row_before.new.tree.nodes c.make_row.new.tree.nodes c.reserve.new.self.nodes c.args.tree.now.tree c.args.object c.requires.there c.in_ok-before.before.items c.in_ok-before.ensures.is c.make_row.ensures.prepared c.reserve.ensures.kept c.reserve.new.self.tree
     c.args.index (chars c.args.name.now) (plain c.args.value.now) c.in_ok-made.made.property c.in_ok-made.made.row.items
     (subst (λ l. RowMade c.row_before.new.tree.nodes c.make_row.new.tree.nodes c.args.object l c.args.index (chars c.args.name.now) (plain c.args.value.now) c.in_ok-made.made.property c.in_ok-made.made.row.items) c.deref.ensures.value c.in_ok-made.ensures.made)
     c.child_count-count.result c.child_count-count.ensures c.deref-2.result.now c.deref-2.ensures.value
 
 pub splice-requires-clause-join : goal.splice-requires-clause-join
 splice-requires-clause-join g c =
-    can_join c.args.tree.now.nodes c.row_before.new.tree.nodes c.make_row.new.tree.nodes c.reserve.new.self.nodes c.len.ensures.tree c.args.object c.requires.there c.in_ok-before.before.items c.in_ok-before.ensures.is c.make_row.ensures.prepared c.reserve.ensures.kept c.reserve.ensures.tree
+    can_join c.args.tree.now.nodes c.row_before.new.tree.nodes c.make_row.new.tree.nodes c.reserve.new.self.nodes c.args.tree.now.tree c.args.object c.requires.there c.in_ok-before.before.items c.in_ok-before.ensures.is c.make_row.ensures.prepared c.reserve.ensures.kept c.reserve.new.self.tree
     c.args.index (chars c.args.name.now) (plain c.args.value.now) c.in_ok-made.made.property c.in_ok-made.made.row.items
     (subst (λ l. RowMade c.row_before.new.tree.nodes c.make_row.new.tree.nodes c.args.object l c.args.index (chars c.args.name.now) (plain c.args.value.now) c.in_ok-made.made.property c.in_ok-made.made.row.items) c.deref.ensures.value c.in_ok-made.ensures.made)
     c.child_count-count.result c.child_count-count.ensures c.deref-2.result.now c.deref-2.ensures.value
 
 pub returns-clause-put : goal.returns-clause-put
 returns-clause-put g c =
-    put_so c.args.tree.now.nodes c.row_before.new.tree.nodes c.make_row.new.tree.nodes c.reserve.new.self.nodes c.len.ensures.tree c.args.object c.requires.there c.in_ok-before.before.items c.in_ok-before.ensures.is c.make_row.ensures.prepared c.reserve.ensures.kept c.reserve.ensures.tree
+    put_so c.args.tree.now.nodes c.row_before.new.tree.nodes c.make_row.new.tree.nodes c.reserve.new.self.nodes c.args.tree.now.tree c.args.object c.requires.there c.in_ok-before.before.items c.in_ok-before.ensures.is c.make_row.ensures.prepared c.reserve.ensures.kept c.reserve.new.self.tree
     c.args.index (chars c.args.name.now) (plain c.args.value.now) c.in_ok-made.made.property c.in_ok-made.made.row.items
     (subst (λ l. RowMade c.row_before.new.tree.nodes c.make_row.new.tree.nodes c.args.object l c.args.index (chars c.args.name.now) (plain c.args.value.now) c.in_ok-made.made.property c.in_ok-made.made.row.items) c.deref.ensures.value c.in_ok-made.ensures.made)
     c.child_count-count.result c.child_count-count.ensures c.deref-2.result.now c.deref-2.ensures.value
-    c.splice.new.self.nodes c.splice.ensures.tree c.splice.ensures.splices
+    c.splice.new.self.nodes c.splice.new.self.tree c.splice.ensures.splices

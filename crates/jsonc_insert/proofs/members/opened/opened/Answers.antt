@@ -10,7 +10,7 @@ pub returns-then-has_newline-clause-opened : goal.returns-then-has_newline-claus
 returns-then-has_newline-clause-opened g c =
     let old = c.args.tree.now.nodes in
     let is = c.in_ok-row.ensures.children in
-    stays_open old c.len.ensures.tree c.args.object c.in_ok-row.row.items is c.requires.brackets (sym (c.has_newline.ensures ∙ ap (list_any (is_newline_at old)) (c.deref.ensures.value ∙ is)) ∙ c.if-has_newline.true)
+    stays_open old c.args.tree.now.tree c.args.object c.in_ok-row.row.items is c.requires.brackets (sym (c.has_newline.ensures ∙ ap (list_any (is_newline_at old)) (c.deref.ensures.value ∙ is)) ∙ c.if-has_newline.true)
 
 pub plan_lines-requires-clause-brackets : goal.plan_lines-requires-clause-brackets
 plan_lines-requires-clause-brackets g c = brackets_there c.args.tree.now.nodes c.args.object c.requires.brackets
@@ -24,5 +24,5 @@ returns-clause-opened g c =
     let none = sym (c.has_newline.ensures ∙ ap (list_any (is_newline_at old)) (c.deref.ensures.value ∙ is)) ∙ c.if-has_newline.false in
     where_ok _ _ c.enclosed.result
     (λ v h.
-    opens_lines old c.len.ensures.tree object lined (spread_row (lines_of c.in_ok-lines.lines) old object) c.in_ok-inside.inside.items c.requires.brackets c.in_ok-inside.ensures.planned (ap (λ l. spread_row l old object) c.in_ok-lines.ensures) none c.plan_lines.ensures.prepared _
-    (enclosed_as old c.len.ensures.tree object c.deref-2.result.now c.deref-3.result.now c.in_ok-inside.inside.items _ (c.deref-2.ensures.value ∙ is) c.deref-3.ensures.value h)) c.enclosed.ensures
+    opens_lines old c.args.tree.now.tree object lined (spread_row (lines_of c.in_ok-lines.lines) old object) c.in_ok-inside.inside.items c.requires.brackets c.in_ok-inside.ensures.planned (ap (λ l. spread_row l old object) c.in_ok-lines.ensures) none c.plan_lines.ensures.prepared _
+    (enclosed_as old c.args.tree.now.tree object c.deref-2.result.now c.deref-3.result.now c.in_ok-inside.inside.items _ (c.deref-2.ensures.value ∙ is) c.deref-3.ensures.value h)) c.enclosed.ensures

@@ -17,13 +17,13 @@ use Rattle.jsonc_layout.proofs.from_input.values.+lay_out.Goals as goal
 pub lay_out-returns-in-Null-clause-built : goal.lay_out-returns-in-Null-clause-built
 lay_out-returns-in-Null-clause-built g t c =
     built_as _ _ (layout_of c.args.layout.now) c.add.result (sym (ap plain c.in-Null.is ∙ plain-Null g.row.A.Denot))
-    (leaf_built _ _ content.null content.null c.add.result refl c.add.ensures.tree c.add.ensures.number c.add.ensures.added)
+    (leaf_built _ _ content.null content.null c.add.result refl c.add.new.self.tree c.add.ensures.number c.add.ensures.added)
 
 pub lay_out-returns-in-Bool-clause-built : goal.lay_out-returns-in-Bool-clause-built
 lay_out-returns-in-Bool-clause-built g t c =
     let b = c.in-Bool.value in
     built_as _ _ (layout_of c.args.layout.now) c.add-in-Bool.result (sym (ap plain c.in-Bool.is ∙ plain-Bool g.row.A.Denot b))
-    (leaf_built _ _ (content.boolean b) (content.boolean b) c.add-in-Bool.result refl c.add-in-Bool.ensures.tree c.add-in-Bool.ensures.number c.add-in-Bool.ensures.added)
+    (leaf_built _ _ (content.boolean b) (content.boolean b) c.add-in-Bool.result refl c.add-in-Bool.new.self.tree c.add-in-Bool.ensures.number c.add-in-Bool.ensures.added)
 
 pub lay_out-returns-in-Array-clause-built : goal.lay_out-returns-in-Array-clause-built
 lay_out-returns-in-Array-clause-built g t c =
@@ -174,14 +174,14 @@ push_property-attach-requires g t c =
 pub push_property-returns-clause-added : goal.push_property-returns-clause-added
 push_property-returns-clause-added g t c =
     let unfinished : IsUnfinished c.args.tree.now.nodes c.args.object = assumption c.requires in
-    on_ok c.attach.result (λ appends. extends_appends unfinished c.in_ok-node.ensures.built appends c.attach.ensures.tree) c.attach.ensures.appends
+    on_ok c.attach.result (λ appends. extends_appends unfinished c.in_ok-node.ensures.built appends c.attach.new.self.tree) c.attach.ensures.appends
 
 pub push_value-attach-requires : goal.push_value-attach-requires
 push_value-attach-requires g t c = can_append c.requires c.in_ok-node.ensures.built
 
 pub push_value-returns-clause-added : goal.push_value-returns-clause-added
 push_value-returns-clause-added g t c =
-    on_ok c.attach.result (λ appends. extends_appends c.requires c.in_ok-node.ensures.built appends c.attach.ensures.tree) c.attach.ensures.appends
+    on_ok c.attach.result (λ appends. extends_appends c.requires c.in_ok-node.ensures.built appends c.attach.new.self.tree) c.attach.ensures.appends
 
 pub lay_out_object-returns-in_err-push_properties-clause-kept : goal.lay_out_object-returns-in_err-push_properties-clause-kept
 lay_out_object-returns-in_err-push_properties-clause-kept g t c = keeps_old c.in_ok-object.ensures.built c.in_err-push_properties.ensures.kept

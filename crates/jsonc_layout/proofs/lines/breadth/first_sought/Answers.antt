@@ -36,7 +36,7 @@ loop-depth-preserved g c =
     let below : c.in_ok-level.level.items ≡ flat_map (children_at ns) level = c.in_ok-level.ensures.below ∙ ap (flat_map (children_at ns)) c.deref-in-loop-depth.ensures.value in
     let none : find p level ≡ None = ap (find p) (sym c.deref.ensures.value) ∙ sym c.in_default.ensures.first in
     record {
-      there = subst (λ (xs : List ℕ). All (λ m. m < length ns) xs) (sym below) (all_below ns c.len-depth-end.ensures.tree level);
+      there = subst (λ (xs : List ℕ). All (λ m. m < length ns) xs) (sym below) (all_below ns c.args.tree.now.tree level);
       same = c.loop-depth.invariant.same ∙ found_below p ns (length ns) c.loop-depth._depth level (omega arith) none
           ∙ ap (λ xs. find p (levels (length ns - (c.loop-depth._depth + 1)) ns xs)) (sym below);
     }

@@ -14,4 +14,4 @@ pub returns-clause-there : goal.returns-clause-there
 returns-clause-there g c =
     let ns = c.args.tree.now.nodes in
     let row = children_at ns c.args.node in
-    found_there ns (is_element_at ns) c.find.result (reverse row) (reverse row) (returns-clause-last g c) refl (All-reverse (λ m. m < length ns) row (children_there ns c.len.ensures.tree c.args.node))
+    found_there ns (is_element_at ns) c.find.result (reverse row) (reverse row) (returns-clause-last g c) refl (All-reverse (λ m. m < length ns) row (children_there ns c.args.tree.now.tree c.args.node))

@@ -10,7 +10,7 @@ pub loop-next-init : goal.loop-next-init
 loop-next-init g c =
     let ns = c.args.tree.now.nodes in
     record {
-      there = parent_within ns c.len.ensures.tree c.args.node (length ns) c.parent-next.result c.parent-next.ensures refl;
+      there = parent_within ns c.args.tree.now.tree c.args.node (length ns) c.parent-next.result c.parent-next.ensures refl;
       same = ap (λ o. beyond_properties ns (upward ns o)) (sym c.parent-next.ensures);
     }
 
@@ -18,19 +18,19 @@ pub returns-then-not-is_property_kind-clause-above : goal.returns-then-not-is_pr
 returns-then-not-is_property_kind-clause-above g c =
     let ns = c.args.tree.now.nodes in
     let other = ap is_property (sym c.kind.ensures) ∙ sym c.is_property_kind.ensures ∙ c.if-not-is_property_kind.true in
-    c.loop-next.invariant.same ∙ beyond_here ns c.len.ensures.tree c.loop-next.next c.in-Some.at c.in-Some.is c.loop-next.invariant.there other
+    c.loop-next.invariant.same ∙ beyond_here ns c.args.tree.now.tree c.loop-next.next c.in-Some.at c.in-Some.is c.loop-next.invariant.there other
 
 pub loop-next-smaller : goal.loop-next-smaller
-loop-next-smaller g c = climb_smaller c.args.tree.now.nodes c.len.ensures.tree c.loop-next.next c.in-Some.at c.parent-next-in-Some.result c.in-Some.is c.parent-next-in-Some.ensures
+loop-next-smaller g c = climb_smaller c.args.tree.now.nodes c.args.tree.now.tree c.loop-next.next c.in-Some.at c.parent-next-in-Some.result c.in-Some.is c.parent-next-in-Some.ensures
 
 pub loop-next-preserved : goal.loop-next-preserved
 loop-next-preserved g c =
     let ns = c.args.tree.now.nodes in
     let over = ap is_property (sym c.kind.ensures) ∙ sym c.is_property_kind.ensures ∙ c.if-not-is_property_kind.false in
     record {
-      there = parent_within ns c.len.ensures.tree c.in-Some.at (length ns) c.parent-next-in-Some.result c.parent-next-in-Some.ensures refl;
-      same = c.loop-next.invariant.same ∙ beyond_on ns c.len.ensures.tree c.loop-next.next c.in-Some.at c.parent-next-in-Some.result c.in-Some.is c.loop-next.invariant.there c.parent-next-in-Some.ensures over;
+      there = parent_within ns c.args.tree.now.tree c.in-Some.at (length ns) c.parent-next-in-Some.result c.parent-next-in-Some.ensures refl;
+      same = c.loop-next.invariant.same ∙ beyond_on ns c.args.tree.now.tree c.loop-next.next c.in-Some.at c.parent-next-in-Some.result c.in-Some.is c.loop-next.invariant.there c.parent-next-in-Some.ensures over;
     }
 
 pub returns-clause-above : goal.returns-clause-above
-returns-clause-above g c = c.loop-next.invariant.same ∙ beyond_none c.args.tree.now.nodes c.len.ensures.tree c.loop-next.next c.in_default.is
+returns-clause-above g c = c.loop-next.invariant.same ∙ beyond_none c.args.tree.now.nodes c.args.tree.now.tree c.loop-next.next c.in_default.is

@@ -3,4 +3,4 @@ use Rattle.jsonc_tree.proofs.Order.{parent_there}
 use Rattle.jsonc_layout.proofs.lines.indents.stands_in_property.Goals as goal
 
 pub kind-requires : goal.kind-requires
-kind-requires g c = (parent_there c.args.tree.now.nodes c.len.ensures.tree c.args.node c.in-Some.parent (sym c.in-Some.ensures)).1
+kind-requires g c = (parent_there c.args.tree.now.nodes c.args.tree.now.tree c.args.node c.in-Some.parent (sym c.in-Some.ensures)).1

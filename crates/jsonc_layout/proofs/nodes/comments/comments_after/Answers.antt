@@ -1,4 +1,4 @@
-use Rattle.std.proofs.Common.{rules, subst}
+use Rattle.std.proofs.Common.{rules, ap, subst, ◌∙◌}
 use Rattle.std.proofs.lemmas.Iterator.{items_from_collect}
 use Rattle.std.proofs.lemmas.Iterator.Consumers.{YieldsList-from_filter, YieldsList-at}
 use Rattle.std.proofs.lemmas.Iterator.Search.{YieldsList-from_take_while}
@@ -14,7 +14,7 @@ returns-clause-comments g c =
     let ns = c.args.tree.now.nodes in
     let row = siblings_after ns c.args.node in
     items_from_collect _ c.collect.ensures.ran
-    (YieldsList-at (search rules)
+    (YieldsList-at (ap (λ t. record c.filter.result { iter = t }) (c.filter.ensures.source ∙ ap (λ s. record c.take_while.result { iter = s }) c.take_while.ensures.source))
     (YieldsList-from_filter _ (is_comment_at ns)
     (YieldsList-from_take_while _ (is_beside_at ns) (row_yields row c.next_siblings.ensures.siblings) c.take_while.ensures.closure c.take_while.ensures.done (λ x b q k. search rules))
     c.filter.ensures.closure (λ x b q k. search rules)))

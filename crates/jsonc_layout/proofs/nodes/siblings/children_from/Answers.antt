@@ -20,4 +20,4 @@ pub returns-clause-there : goal.returns-clause-there
 returns-clause-there g c =
     let ns = c.args.tree.now.nodes in
     let row = children_at ns c.args.container in
-    subst (AreThere ns) (sym (c.loop-passed.invariant)) (All-drop (λ m. m < length ns) c.loop-passed._passed row (children_there ns c.len.ensures.tree c.args.container))
+    subst (AreThere ns) (sym (c.loop-passed.invariant)) (All-drop (λ m. m < length ns) c.loop-passed._passed row (children_there ns c.args.tree.now.tree c.args.container))

@@ -8,7 +8,7 @@ pub returns-clause-siblings : goal.returns-clause-siblings
 returns-clause-siblings g c =
     ap (λ k. take k c.from_line_start.result) c.count_on_line-left.ensures
     ∙ ap (λ (l : List ℕ). take (length (line_before c.args.tree.now.nodes c.args.node)) l) c.from_line_start.ensures
-    ∙ line_is c.args.tree.now.nodes c.len.ensures.tree c.args.node
+    ∙ line_is c.args.tree.now.nodes c.args.tree.now.tree c.args.node
 
 pub returns-clause-there : goal.returns-clause-there
-returns-clause-there g c = subst (AreThere c.args.tree.now.nodes) (sym (returns-clause-siblings g c)) (line_there c.args.tree.now.nodes c.len.ensures.tree c.args.node)
+returns-clause-there g c = subst (AreThere c.args.tree.now.nodes) (sym (returns-clause-siblings g c)) (line_there c.args.tree.now.nodes c.args.tree.now.tree c.args.node)

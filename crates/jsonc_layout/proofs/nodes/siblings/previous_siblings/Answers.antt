@@ -4,4 +4,4 @@ use Rattle.jsonc_layout.proofs.lemmas.nodes.There.{before_there}
 use Rattle.jsonc_layout.proofs.nodes.siblings.previous_siblings.Goals as goal
 
 pub returns-clause-there : goal.returns-clause-there
-returns-clause-there g c = subst (AreThere c.args.tree.now.nodes) (sym c.previous_siblings.ensures.siblings) (before_there c.args.tree.now.nodes c.len.ensures.tree c.args.node)
+returns-clause-there g c = subst (AreThere c.args.tree.now.nodes) (sym c.previous_siblings.ensures.siblings) (before_there c.args.tree.now.nodes c.args.tree.now.tree c.args.node)

@@ -12,4 +12,4 @@ returns-clause-there g c =
     let ns = c.args.tree.now.nodes in
     let all : c.loop-child.list.items ≡ elements_at ns c.args.node = grind (arith, common_steps) in
     subst (AreThere ns) (sym all)
-    (All-filter (is_element_at ns) (λ m. m < length ns) (children_at ns c.args.node) (children_there ns c.len.ensures.tree c.args.node))
+    (All-filter (is_element_at ns) (λ m. m < length ns) (children_at ns c.args.node) (children_there ns c.args.tree.now.tree c.args.node))

@@ -28,9 +28,9 @@ take_elements-take-requires g t c κs within =
     let ns = c.args.tree.now.nodes in
     let so_far = c.loop-child.invariant in
     let step = given_at so_far.0 (children_at ns c.args.array) c.loop-child.child-iterator c.in-Some.child c.next.new.self so_far.1 c.in-Some.ensures.steps in
-    let there : c.in-Some.child < length ns = omega (arith, step.1, c.requires.tree.there c.args.array so_far.0 step.0) in
-    let smaller = child_smaller ns c.requires.tree c.args.array so_far.0 c.in-Some.child c.requires.there step.0 step.1 in
-    (omega (arith, c.decreases, smaller), (within.0, (within.1, (there, c.requires.tree))))
+    let there : c.in-Some.child < length ns = omega (arith, step.1, c.args.tree.now.tree.there c.args.array so_far.0 step.0) in
+    let smaller = child_smaller ns c.args.tree.now.tree c.args.array so_far.0 c.in-Some.child c.requires.there step.0 step.1 in
+    (omega (arith, c.decreases, smaller), (within.0, (within.1, there)))
 
 pub take_elements-loop-child-preserved : goal.take_elements-loop-child-preserved
 take_elements-loop-child-preserved g t c =
@@ -59,8 +59,8 @@ take_elements-returns g t c =
 pub take_held-take-requires : goal.take_held-take-requires
 take_held-take-requires g t c κs within =
     let ns = c.args.tree.now.nodes in
-    let smaller = value_smaller ns c.requires.tree c.args.node c.in-Some.value c.requires.there (sym c.in-Some.ensures.value) in
-    (omega (arith, c.decreases, smaller), (within.0, (within.1, (c.in-Some.ensures.there, c.requires.tree))))
+    let smaller = value_smaller ns c.args.tree.now.tree c.args.node c.in-Some.value c.requires.there (sym c.in-Some.ensures.value) in
+    (omega (arith, c.decreases, smaller), (within.0, (within.1, c.in-Some.ensures.there)))
 
 pub take_held-returns-in-Some : goal.take_held-returns-in-Some
 take_held-returns-in-Some g t c = held_taken c.args.tree.now.nodes c.args.node c.in-Some.value _ (sym c.in-Some.ensures.value) c.take.ensures
@@ -76,9 +76,9 @@ take_properties-take_property-requires g t c κs within =
     let ns = c.args.tree.now.nodes in
     let so_far = c.loop-child.invariant in
     let step = given_at so_far.0 (children_at ns c.args.object) c.loop-child.child-iterator c.in-Some.child c.next.new.self so_far.1 c.in-Some.ensures.steps in
-    let there : c.in-Some.child < length ns = omega (arith, step.1, c.requires.tree.there c.args.object so_far.0 step.0) in
-    let smaller = child_smaller ns c.requires.tree c.args.object so_far.0 c.in-Some.child c.requires.there step.0 step.1 in
-    (omega (arith, c.decreases, smaller), (within.0, (within.1, (there, c.requires.tree))))
+    let there : c.in-Some.child < length ns = omega (arith, step.1, c.args.tree.now.tree.there c.args.object so_far.0 step.0) in
+    let smaller = child_smaller ns c.args.tree.now.tree c.args.object so_far.0 c.in-Some.child c.requires.there step.0 step.1 in
+    (omega (arith, c.decreases, smaller), (within.0, (within.1, there)))
 
 pub take_properties-loop-child-preserved : goal.take_properties-loop-child-preserved
 take_properties-loop-child-preserved g t c =

@@ -1,3 +1,4 @@
+use Rattle.jsonc_cst.specs.Document.{nodes_of}
 use Rattle.jsonc_parser.proofs.Lists.{left_alike, no_sort, plainly_made, sort_left, sort_made, sort_told, told_alike}
 use Rattle.jsonc_parser.proofs.cst.lists.make.Goals as goal
 
@@ -10,11 +11,11 @@ returns-in-Sort-clause-made g c =
 
 pub returns-in-Sort-clause-told : goal.returns-in-Sort-clause-told
 returns-in-Sort-clause-told g c = λ s.
-    sort_told c.args.edit.now c.in-Sort.path c.in-Sort.pin c.in-Sort.groups c.in-Sort.is c.deref.result.now c.deref.ensures.value c.args.doc.now.tree.nodes s c.sort_at.result (c.sort_at.ensures.told s)
+    sort_told c.args.edit.now c.in-Sort.path c.in-Sort.pin c.in-Sort.groups c.in-Sort.is c.deref.result.now c.deref.ensures.value (nodes_of c.args.doc.now) s c.sort_at.result (c.sort_at.ensures.told s)
 
 pub returns-in-Sort-clause-left : goal.returns-in-Sort-clause-left
 returns-in-Sort-clause-left g c = λ s.
-    sort_left c.args.edit.now c.in-Sort.path c.in-Sort.pin c.in-Sort.groups c.in-Sort.is c.deref.result.now c.deref.ensures.value c.args.doc.now.tree.nodes c.sort_at.new.doc.tree.nodes s c.sort_at.result (c.sort_at.ensures.left s)
+    sort_left c.args.edit.now c.in-Sort.path c.in-Sort.pin c.in-Sort.groups c.in-Sort.is c.deref.result.now c.deref.ensures.value (nodes_of c.args.doc.now) (nodes_of c.sort_at.new.doc) s c.sort_at.result (c.sort_at.ensures.left s)
 
 pub returns-in_default-clause-made : goal.returns-in_default-clause-made
 returns-in_default-clause-made g c =
@@ -22,8 +23,8 @@ returns-in_default-clause-made g c =
 
 pub returns-in_default-clause-told : goal.returns-in_default-clause-told
 returns-in_default-clause-told g c = λ s.
-    told_alike c.args.doc.now.tree.nodes s c.args.edit.now c.make.result (no_sort c.args.edit.now c.in_default.not-Sort) c.make.ensures.told
+    told_alike (nodes_of c.args.doc.now) s c.args.edit.now c.make.result (no_sort c.args.edit.now c.in_default.not-Sort) c.make.ensures.told
 
 pub returns-in_default-clause-left : goal.returns-in_default-clause-left
 returns-in_default-clause-left g c = λ s.
-    left_alike c.args.doc.now.tree.nodes _ s c.args.edit.now c.make.result (no_sort c.args.edit.now c.in_default.not-Sort) c.make.ensures.left
+    left_alike (nodes_of c.args.doc.now) _ s c.args.edit.now c.make.result (no_sort c.args.edit.now c.in_default.not-Sort) c.make.ensures.left

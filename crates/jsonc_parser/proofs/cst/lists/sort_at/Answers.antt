@@ -13,21 +13,21 @@ returns-in_default-clause-told g c = λ s.
 pub returns-in_default-clause-left : goal.returns-in_default-clause-left
 returns-in_default-clause-left g c = λ s. as_it_was (Keeps-same (length c.args.doc.now.tree.nodes) c.args.doc.now.tree.nodes) refl
 
-pub sort_container-sorted-requires-clause-holds : goal.sort_container-sorted-requires-clause-holds
-sort_container-sorted-requires-clause-holds g c =
+pub sort_container-requires-clause-holds : goal.sort_container-requires-clause-holds
+sort_container-requires-clause-holds g c =
     holds_them c.args.doc.now c.args.path.now c.in-Some.number ((c.find_container.ensures.found c.in-Some.number).0 c.in-Some.is) c.node_at-container.result c.node_at-container.ensures.node
 
-pub sort_container-sorted-requires-clause-asked : goal.sort_container-sorted-requires-clause-asked
-sort_container-sorted-requires-clause-asked g c = λ d x y e hx hy. c.requires.callable c.args.doc.now d x y e hx hy
+pub sort_container-requires-clause-asked : goal.sort_container-requires-clause-asked
+sort_container-requires-clause-asked g c = λ d x y e hx hy. c.requires.callable c.args.doc.now d x y e hx hy
 
 pub returns-clause-made : goal.returns-clause-made
 returns-clause-made g c =
-    sort_made c.args.doc.now c.args.path.now c.in-Some.number ((c.find_container.ensures.found c.in-Some.number).0 c.in-Some.is) c.node_at-container.result c.node_at-container.ensures.node g.C.Fn c.args.compare.now g.D.IsDocument.same c.sort_container-sorted.new.doc c.args.pin c.args.groups c.sort_container-sorted.result c.sort_container-sorted.ensures.sorted
+    sort_made c.args.doc.now c.args.path.now c.in-Some.number ((c.find_container.ensures.found c.in-Some.number).0 c.in-Some.is) c.node_at-container.result c.node_at-container.ensures.node g.C.Fn c.args.compare.now g.D.IsDocument.same c.sort_container.new.doc c.args.pin c.args.groups c.sort_container.result c.sort_container.ensures.sorted
 
 pub returns-clause-told : goal.returns-clause-told
 returns-clause-told g c = λ s.
-    sort_told c.args.doc.now c.args.path.now c.in-Some.number ((c.find_container.ensures.found c.in-Some.number).0 c.in-Some.is) c.node_at-container.result c.node_at-container.ensures.node s c.sort_container-sorted.result c.sort_container-sorted.ensures.memory
+    sort_told c.args.doc.now c.args.path.now c.in-Some.number ((c.find_container.ensures.found c.in-Some.number).0 c.in-Some.is) c.node_at-container.result c.node_at-container.ensures.node s c.sort_container.result c.sort_container.ensures.memory
 
 pub returns-clause-left : goal.returns-clause-left
 returns-clause-left g c = λ s.
-    sort_left c.args.doc.now.tree.nodes c.args.path.now s c.sort_container-sorted.new.doc.tree.nodes c.sort_container-sorted.result c.sort_container-sorted.ensures.kept c.sort_container-sorted.ensures.document
+    sort_left c.args.doc.now.tree.nodes c.args.path.now s c.sort_container.new.doc.tree.nodes c.sort_container.result c.sort_container.ensures.kept c.sort_container.ensures.document

@@ -7,10 +7,10 @@ use Rattle.jsonc_parser.proofs.lemmas.paths.Wanting.{passes}
 use Rattle.jsonc_parser.proofs.paths.find.find_at.Goals as goal
 
 pub returns-in_default-clause-found : goal.returns-in_default-clause-found
-returns-in_default-clause-found g c = no_value_found c.args.doc.now c.nodes_are_tree.ensures.stored (sym c.in_default.is ∙ c.value.ensures.value) (names_of c.args.names.now)
+returns-in_default-clause-found g c = no_value_found c.args.doc.now c.args.doc.now.tree.tree (sym c.in_default.is ∙ c.value.ensures.value) (names_of c.args.names.now)
 
 pub loop-name-init : goal.loop-name-init
-loop-name-init g c = (value_found c.args.doc.now c.nodes_are_tree.ensures.stored c.in-Some.value (sym c.in-Some.is ∙ c.value.ensures.value), c.in-Some.ensures.held)
+loop-name-init g c = (value_found c.args.doc.now c.args.doc.now.tree.tree c.in-Some.value (sym c.in-Some.is ∙ c.value.ensures.value), c.in-Some.ensures.held)
 
 pub find_inside-requires : goal.find_inside-requires
 find_inside-requires g c = c.loop-name.invariant.1
@@ -22,7 +22,7 @@ loop-name-preserved g c =
     let k = c.loop-name.name-index in
     let name = chars_of (get_or names k c.name-item.result) in
     let found = subst (FindsInsideWhatShown doc c.loop-name.node (chars c.deref.result.now)) c.in-Ok-Some.field-0-is c.in-Ok-Some.ensures.found in
-    let step = one_along doc c.nodes_are_tree.ensures.stored c.loop-name.node c.in-Ok-Some.inner (names_of (take k names)) name c.loop-name.invariant.0
+    let step = one_along doc c.args.doc.now.tree.tree c.loop-name.node c.in-Ok-Some.inner (names_of (take k names)) name c.loop-name.invariant.0
     (subst (λ s. FindsInsideWhatShown doc c.loop-name.node s (Some c.in-Ok-Some.inner)) (ap chars c.deref.ensures ∙ ap chars_of c.name-item.is) found) in
     (subst (λ l. NamesWhatShown doc l c.in-Ok-Some.inner) (sym (one_more names k c.name-item.result c.loop-name-test.true)) step, subst (λ o. IfSome o (Holds doc)) c.in-Ok-Some.field-0-is c.in-Ok-Some.ensures.held)
 
@@ -32,12 +32,12 @@ returns-in-Ok-None-clause-found g c =
     let names = c.args.names.now in
     let k = c.loop-name.name-index in
     let found = subst (FindsInsideWhatShown doc c.loop-name.node (chars c.deref.result.now)) c.in-Ok-None.field-0-is c.in-Ok-None.ensures.found in
-    none_along doc c.nodes_are_tree.ensures.stored c.loop-name.node (names_of (take k names)) (names_of (drop (k + 1) names)) (names_of names) (chars_of (get_or names k c.name-item.result))
+    none_along doc c.args.doc.now.tree.tree c.loop-name.node (names_of (take k names)) (names_of (drop (k + 1) names)) (names_of names) (chars_of (get_or names k c.name-item.result))
     (split_at names k c.name-item.result c.loop-name-test.true) c.loop-name.invariant.0
     (subst (λ s. FindsInsideWhatShown doc c.loop-name.node s None) (ap chars c.deref.ensures ∙ ap chars_of c.name-item.is) found)
 
 pub returns-clause-found : goal.returns-clause-found
-returns-clause-found g c = all_along c.args.doc.now c.nodes_are_tree.ensures.stored c.loop-name.node c.args.names.now c.loop-name.name-index (omega (arith, c.loop-name-test.false)) c.loop-name.invariant.0
+returns-clause-found g c = all_along c.args.doc.now c.args.doc.now.tree.tree c.loop-name.node c.args.names.now c.loop-name.name-index (omega (arith, c.loop-name-test.false)) c.loop-name.invariant.0
 
 pub returns-clause-held : goal.returns-clause-held
 returns-clause-held g c = c.loop-name.invariant.1

@@ -7,7 +7,7 @@ use Rattle.jsonc_parser.proofs.paths.find.read_at.Goals as goal
 
 pub returns-in-Ok-Some-clause-read : goal.returns-in-Ok-Some-clause-read
 returns-in-Ok-Some-clause-read g c =
-    read_result c.args.doc.now c.in-Ok-Some.node (names_of c.args.names.now) c.to_value.result c.nodes_are_tree.ensures.stored c.to_value.ensures.value
+    read_result c.args.doc.now c.in-Ok-Some.node (names_of c.args.names.now) c.to_value.result c.args.doc.now.tree.tree c.to_value.ensures.value
     (subst (FindsWhatShown c.args.doc.now (names_of c.args.names.now)) c.in-Ok-Some.field-0-is c.in-Ok-Some.ensures.found)
 
 pub returns-in-Ok-Some-clause-wanted : goal.returns-in-Ok-Some-clause-wanted

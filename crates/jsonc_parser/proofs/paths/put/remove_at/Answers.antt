@@ -17,10 +17,10 @@ returns-in-Ok-Another-clause-dropped g c = λ d shown.
 
 pub returns-in-Ok-clause-dropped : goal.returns-in-Ok-clause-dropped
 returns-in-Ok-clause-dropped g c =
-    drop_made c.args.doc.now c.make_one-made.new.doc c.nodes_are_tree.ensures.stored (names_of c.args.names.now) c.in-Ok-Value.path
-    (subst (ReachesWhatShown c.args.doc.now (names_of c.args.names.now)) c.in-Ok-Value.field-0-is c.in-Ok-Value.ensures.reached) c.make_one-made.ensures.tree c.in-Ok.ensures.made
+    drop_made c.args.doc.now c.make_one.new.doc c.args.doc.now.tree.tree (names_of c.args.names.now) c.in-Ok-Value.path
+    (subst (ReachesWhatShown c.args.doc.now (names_of c.args.names.now)) c.in-Ok-Value.field-0-is c.in-Ok-Value.ensures.reached) c.make_one.new.doc.tree.tree c.in-Ok.ensures.made
 
-pub returns-in-Err-made-clause-told : goal.returns-in-Err-made-clause-told
-returns-in-Err-made-clause-told g c =
-    drop_refused c.args.doc.now c.make_one-made.new.doc c.nodes_are_tree.ensures.stored (names_of c.args.names.now) c.in-Ok-Value.path
-    (subst (ReachesWhatShown c.args.doc.now (names_of c.args.names.now)) c.in-Ok-Value.field-0-is c.in-Ok-Value.ensures.reached) c.in-Err-made.error c.in-Err-made.ensures.told
+pub returns-in-Err-make_one-clause-told : goal.returns-in-Err-make_one-clause-told
+returns-in-Err-make_one-clause-told g c =
+    drop_refused c.args.doc.now c.make_one.new.doc c.args.doc.now.tree.tree (names_of c.args.names.now) c.in-Ok-Value.path
+    (subst (ReachesWhatShown c.args.doc.now (names_of c.args.names.now)) c.in-Ok-Value.field-0-is c.in-Ok-Value.ensures.reached) c.in-Err-make_one.error c.in-Err-make_one.ensures.told

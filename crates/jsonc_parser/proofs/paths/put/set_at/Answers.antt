@@ -5,12 +5,12 @@ use Rattle.jsonc_parser.specs.paths.Found.{names_of}
 use Rattle.jsonc_parser.proofs.lemmas.paths.Making.{put_made, put_refused}
 use Rattle.jsonc_parser.proofs.paths.put.set_at.Goals as goal
 
-pub returns-in-Ok-made-clause-put : goal.returns-in-Ok-made-clause-put
-returns-in-Ok-made-clause-put g c =
-    put_made c.args.doc.now c.make_one-made.new.doc c.nodes_are_tree.ensures.stored (plain c.args.value) c.args.over (names_of c.args.names.now) c.in-Ok-Some.edit
-    (subst (Chooses c.args.doc.now (plain c.args.value) c.args.over (names_of c.args.names.now)) c.in-Ok-Some.field-0-is c.in-Ok-Some.ensures.chosen) c.make_one-made.ensures.tree c.in-Ok-made.ensures.made
+pub returns-in-Ok-make_one-clause-put : goal.returns-in-Ok-make_one-clause-put
+returns-in-Ok-make_one-clause-put g c =
+    put_made c.args.doc.now c.make_one.new.doc c.args.doc.now.tree.tree (plain c.args.value) c.args.over (names_of c.args.names.now) c.in-Ok-Some.edit
+    (subst (Chooses c.args.doc.now (plain c.args.value) c.args.over (names_of c.args.names.now)) c.in-Ok-Some.field-0-is c.in-Ok-Some.ensures.chosen) c.make_one.new.doc.tree.tree c.in-Ok-make_one.ensures.made
 
-pub returns-in-Err-made-clause-told : goal.returns-in-Err-made-clause-told
-returns-in-Err-made-clause-told g c =
-    put_refused c.args.doc.now c.make_one-made.new.doc c.nodes_are_tree.ensures.stored (plain c.args.value) c.args.over (names_of c.args.names.now) c.in-Ok-Some.edit
-    (subst (Chooses c.args.doc.now (plain c.args.value) c.args.over (names_of c.args.names.now)) c.in-Ok-Some.field-0-is c.in-Ok-Some.ensures.chosen) c.in-Err-made.error c.in-Err-made.ensures.told
+pub returns-in-Err-make_one-clause-told : goal.returns-in-Err-make_one-clause-told
+returns-in-Err-make_one-clause-told g c =
+    put_refused c.args.doc.now c.make_one.new.doc c.args.doc.now.tree.tree (plain c.args.value) c.args.over (names_of c.args.names.now) c.in-Ok-Some.edit
+    (subst (Chooses c.args.doc.now (plain c.args.value) c.args.over (names_of c.args.names.now)) c.in-Ok-Some.field-0-is c.in-Ok-Some.ensures.chosen) c.in-Err-make_one.error c.in-Err-make_one.ensures.told

@@ -7,10 +7,10 @@ use Rattle.jsonc_parser.proofs.lemmas.paths.Wanting.{leads_further, passes, way_
 use Rattle.jsonc_parser.proofs.paths.reached.is_in_the_way.Goals as goal
 
 pub returns-in_default-clause-stands : goal.returns-in_default-clause-stands
-returns-in_default-clause-stands g c = way_without_value c.args.doc.now c.nodes_are_tree.ensures.stored (sym c.in_default.is ∙ c.value.ensures.value) (names_of c.args.names.now)
+returns-in_default-clause-stands g c = way_without_value c.args.doc.now c.args.doc.now.tree.tree (sym c.in_default.is ∙ c.value.ensures.value) (names_of c.args.names.now)
 
 pub loop-name-init : goal.loop-name-init
-loop-name-init g c = (value_found c.args.doc.now c.nodes_are_tree.ensures.stored c.in-Some.value (sym c.in-Some.is ∙ c.value.ensures.value), c.in-Some.ensures.held)
+loop-name-init g c = (value_found c.args.doc.now c.args.doc.now.tree.tree c.in-Some.value (sym c.in-Some.is ∙ c.value.ensures.value), c.in-Some.ensures.held)
 
 pub step_from-requires : goal.step_from-requires
 step_from-requires g c = c.loop-name.invariant.1

@@ -5,11 +5,11 @@ use Rattle.jsonc_parser.proofs.lemmas.paths.Routes.{leads_begin, leads_more, rea
 use Rattle.jsonc_parser.proofs.paths.reached.reach.Goals as goal
 
 pub returns-in_default-clause-reached : goal.returns-in_default-clause-reached
-returns-in_default-clause-reached g c = reached_nothing c.args.doc.now c.nodes_are_tree.ensures.stored (sym c.in_default.is ∙ c.value.ensures.value)
+returns-in_default-clause-reached g c = reached_nothing c.args.doc.now c.args.doc.now.tree.tree (sym c.in_default.is ∙ c.value.ensures.value)
 
 pub loop-count-init : goal.loop-count-init
 loop-count-init g c =
-    (leads_begin c.args.doc.now c.in-Some.value c.new-path.result.items c.new-path.ensures.items c.nodes_are_tree.ensures.stored (sym c.in-Some.is ∙ c.value.ensures.value), c.in-Some.ensures.held)
+    (leads_begin c.args.doc.now c.in-Some.value c.new-path.result.items c.new-path.ensures.items c.args.doc.now.tree.tree (sym c.in-Some.is ∙ c.value.ensures.value), c.in-Some.ensures.held)
 
 pub step_from-requires : goal.step_from-requires
 step_from-requires g c = c.loop-count.invariant.1

@@ -7,25 +7,25 @@ use Rattle.jsonc_parser.proofs.paths.reached.step_from.Goals as goal
 
 pub returns-in_default-clause-step : goal.returns-in_default-clause-step
 returns-in_default-clause-step g c =
-    steps_to_another c.args.doc.now c.nodes_are_tree.ensures.stored c.args.node (chars c.args.name.now) c.requires (λ x e. c.in_default.not-Some x ((c.as_object.ensures x).1 e))
+    steps_to_another c.args.doc.now c.args.doc.now.tree.tree c.args.node (chars c.args.name.now) c.requires (λ x e. c.in_default.not-Some x ((c.as_object.ensures x).1 e))
 
 pub get-requires : goal.get-requires
 get-requires g c = subst (Holds c.args.doc.now) ((c.as_object.ensures c.in-Some.object).0 c.in-Some.is) c.requires
 
 pub returns-in-Ok-None-clause-step : goal.returns-in-Ok-None-clause-step
 returns-in-Ok-None-clause-step g c =
-    steps_to_missing c.args.doc.now c.nodes_are_tree.ensures.stored c.args.node c.in-Some.object (chars c.args.name.now) c.requires ((c.as_object.ensures c.in-Some.object).0 c.in-Some.is)
+    steps_to_missing c.args.doc.now c.args.doc.now.tree.tree c.args.node c.in-Some.object (chars c.args.name.now) c.requires ((c.as_object.ensures c.in-Some.object).0 c.in-Some.is)
     (subst (IsFirstNamed c.args.doc.now c.in-Some.object (chars c.args.name.now)) c.in-Ok-None.field-0-is c.in-Ok-None.ensures.found)
 
 pub returns-in-Some-value-clause-step : goal.returns-in-Some-value-clause-step
 returns-in-Some-value-clause-step g c =
-    steps_on c.args.doc.now c.nodes_are_tree.ensures.stored c.args.node c.in-Some.object (chars c.args.name.now) c.requires ((c.as_object.ensures c.in-Some.object).0 c.in-Some.is) c.in-Ok-Some.property
+    steps_on c.args.doc.now c.args.doc.now.tree.tree c.args.node c.in-Some.object (chars c.args.name.now) c.requires ((c.as_object.ensures c.in-Some.object).0 c.in-Some.is) c.in-Ok-Some.property
     (subst (IsFirstNamed c.args.doc.now c.in-Some.object (chars c.args.name.now)) c.in-Ok-Some.field-0-is c.in-Ok-Some.ensures.found)
     c.property_index-index.result c.property_index-index.ensures c.in-Some-value.value (sym c.in-Some-value.is ∙ c.value.ensures.value)
 
 pub returns-in-None-clause-step : goal.returns-in-None-clause-step
 returns-in-None-clause-step g c =
-    steps_nowhere c.args.doc.now c.nodes_are_tree.ensures.stored c.args.node c.in-Some.object (chars c.args.name.now) c.requires ((c.as_object.ensures c.in-Some.object).0 c.in-Some.is) c.in-Ok-Some.property
+    steps_nowhere c.args.doc.now c.args.doc.now.tree.tree c.args.node c.in-Some.object (chars c.args.name.now) c.requires ((c.as_object.ensures c.in-Some.object).0 c.in-Some.is) c.in-Ok-Some.property
     (subst (IsFirstNamed c.args.doc.now c.in-Some.object (chars c.args.name.now)) c.in-Ok-Some.field-0-is c.in-Ok-Some.ensures.found)
     (sym c.in-None.is ∙ c.value.ensures.value)
 

@@ -6,4 +6,4 @@ use Rattle.jsonc_tree.proofs.tree.Tree.ancestors.Goals as goal
 
 pub invariant_of-result : goal.invariant_of-result
 invariant_of-result g c =
-    (c.self.invariant, parent_within (nodes_of c.self.inside.nodes.items) c.self.invariant.tree c.args.node (vec_len c.self.inside.nodes) c.parent_in.result c.parent_in.ensures (length_shown c.self.inside.nodes.items ∙ sym c.self.inside.nodes.ok.0))
+    (c.self.inside.stored, parent_within (nodes_of c.self.inside.nodes.items) c.self.inside.stored.tree c.args.node (vec_len c.self.inside.nodes) c.parent_in.result c.parent_in.ensures (length_shown c.self.inside.nodes.items ∙ sym c.self.inside.nodes.ok.0))

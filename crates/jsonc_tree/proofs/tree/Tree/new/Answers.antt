@@ -4,7 +4,4 @@ use Rattle.jsonc_tree.proofs.Unmoved.{alone_stored}
 use Rattle.jsonc_tree.proofs.tree.Tree.new.Goals as goal
 
 pub invariant_of-result : goal.invariant_of-result
-invariant_of-result g c = rw (c.in_ok-push.ensures.items, c.new-nodes.ensures.items, c.bare_node.ensures) (alone_stored root refl)
-
-pub returns-clause-tree : goal.returns-clause-tree
-returns-clause-tree g c = (invariant_of-result g c).tree
+invariant_of-result g c = (rw (c.in_ok-push.ensures.items, c.new-nodes.ensures.items, c.bare_node.ensures) (alone_stored root refl), tt)

@@ -7,12 +7,12 @@ use Rattle.jsonc_tree.proofs.Agreeing.{length_shown}
 use Rattle.jsonc_tree.proofs.tree.Tree.next_siblings.Goals as goal
 
 pub invariant_of-result : goal.invariant_of-result
-invariant_of-result g c = (c.self.invariant, (after_node c.self.inside.nodes.items c.self.invariant c.args.node c.next_of.result c.next_of.ensures).1)
+invariant_of-result g c = (c.self.inside.stored, (after_node c.self.inside.nodes.items c.self.inside.stored c.args.node c.next_of.result c.next_of.ensures).1)
 
 pub returns-clause-siblings : goal.returns-clause-siblings
-returns-clause-siblings g c = (after_node c.self.inside.nodes.items c.self.invariant c.args.node c.next_of.result c.next_of.ensures).0 ∙ ap (λ (t : tree.Tree). siblings_after t.nodes c.args.node) c.self.view_is
+returns-clause-siblings g c = (after_node c.self.inside.nodes.items c.self.inside.stored c.args.node c.next_of.result c.next_of.ensures).0 ∙ ap (λ (t : tree.Tree). siblings_after t.nodes c.args.node) c.self.view_is
 
 pub returns-clause-countable : goal.returns-clause-countable
 returns-clause-countable g c =
     let items = c.self.inside.nodes.items in
-    omega (arith, ap length (after_node items c.self.invariant c.args.node c.next_of.result c.next_of.ensures).0, after_short (nodes_of items) c.self.invariant.tree c.args.node, length_shown items, c.self.inside.nodes.ok)
+    omega (arith, ap length (after_node items c.self.inside.stored c.args.node c.next_of.result c.next_of.ensures).0, after_short (nodes_of items) c.self.inside.stored.tree c.args.node, length_shown items, c.self.inside.nodes.ok)

@@ -11,11 +11,11 @@ use Rattle.jsonc_tree.proofs.tree.Tree.pieces.Goals as goal
 pub invariant_of-result : goal.invariant_of-result
 invariant_of-result g c =
     let items = c.self.inside.nodes.items in
-    (c.self.invariant, omega (arith, c.self.invariant.tree.first, length_shown items, c.self.inside.nodes.ok), itself)
+    (c.self.inside.stored, omega (arith, c.self.inside.stored.tree.first, length_shown items, c.self.inside.nodes.ok), itself)
 
 pub returns-clause-pieces : goal.returns-clause-pieces
 returns-clause-pieces g c =
-    pieces_whole (nodes_of c.self.inside.nodes.items) c.self.invariant.tree
+    pieces_whole (nodes_of c.self.inside.nodes.items) c.self.inside.stored.tree
     ∙ ap (λ (t : tree.Tree). pieces (ordered_tree t.nodes 0)) c.self.view_is
 
 pub returns-clause-joined : goal.returns-clause-joined

@@ -7,7 +7,7 @@ use Rattle.jsonc_cst.proofs.cst.navigation.IsNode.ancestors.Goals as goal
 pub invariant_of-result : goal.invariant_of-result
 invariant_of-result g c =
     let ns = c.args.doc.now.tree.nodes in
-    ap (list_all (is_container_at ns)) c.ancestors.ensures ∙ above_containers ns c.nodes_are_tree.ensures.stored _
+    ap (list_all (is_container_at ns)) c.ancestors.ensures ∙ above_containers ns c.args.doc.now.tree.tree _
 
 pub returns-clause-held : goal.returns-clause-held
 returns-clause-held g c =

@@ -6,4 +6,4 @@ use Rattle.jsonc_cst.proofs.cst.navigation.IsNode.root_node.Goals as goal
 pub returns-clause-held : goal.returns-clause-held
 returns-clause-held g c =
     let ns = c.args.doc.now.tree.nodes in
-    root_held ns c.nodes_are_tree.ensures.stored (upward ns (parent_at ns c.number.result)) c.in-Some.number c.in-Some.ensures.root
+    root_held ns c.args.doc.now.tree.tree (upward ns (parent_at ns c.number.result)) c.in-Some.number c.in-Some.ensures.root

@@ -20,4 +20,4 @@ returns-clause-sorted g c =
 
 pub returns-clause-again : goal.returns-clause-again
 returns-clause-again g c =
-    elements_in_order c.args.compare (g.D.IsDocument.same) c.args.doc.now c.sort_by.new.doc c.args.self.groups c.sort_by.result g.C.Fn c.args.self.array (λ n xs ps. g.H.HeaderRule.pins c.args.self.rule c.args.doc.now n xs ps) c.nodes_are_tree.ensures.stored c.requires.held (returns-clause-sorted g c)
+    elements_in_order c.args.compare (g.D.IsDocument.same) c.args.doc.now c.sort_by.new.doc c.args.self.groups c.sort_by.result g.C.Fn c.args.self.array (λ n xs ps. g.H.HeaderRule.pins c.args.self.rule c.args.doc.now n xs ps) c.args.doc.now.tree.tree c.requires.held (returns-clause-sorted g c)

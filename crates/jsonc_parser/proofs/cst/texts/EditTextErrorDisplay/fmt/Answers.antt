@@ -1,7 +1,7 @@
 use Rattle.std.proofs.Common.{◌≡◌, ◌∙◌, ◌++◌, ℕ, List, ap, codes, refl, subst, sym}
 use Rattle.std.proofs.Output.{has_written_styled_append}
 use Rattle.std.specs.Fmt.{HasWrittenStyled}
-use Rattle.jsonc_edit.specs.Errors.{edit_error_text}
+use Rattle.jsonc_text.specs.EditErrors.{edit_error_text}
 use Rattle.jsonc_parser.specs.Errors.{edit_text_error_text}
 use Rattle.jsonc_parser.proofs.cst.texts.EditTextErrorDisplay.fmt.Goals as goal
 

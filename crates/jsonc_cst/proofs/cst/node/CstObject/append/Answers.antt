@@ -1,0 +1,21 @@
+use Rattle.std.proofs.Common.{ℕ, length, OnOk, chars, subst}
+use Rattle.jsonc_layout.specs.input.Views.{plain}
+use Rattle.jsonc_layout.specs.nodes.Siblings.{elements_at}
+use Rattle.jsonc_cst.specs.typed.Edits.{StaysElsewhere}
+use Rattle.jsonc_cst.specs.objects.Members.{PutsNamedAtItsPath, IsAppendingNamed}
+use Rattle.jsonc_cst.proofs.cst.node.CstObject.append.Goals as goal
+
+pub returns-clause-written : goal.returns-clause-written
+returns-clause-written g c = λ o.
+    let old = c.args.doc.now.tree.nodes in
+    subst (λ (n : ℕ). OnOk c.append_to.result (PutsNamedAtItsPath o old c.append_to.new.tree.nodes n (length (elements_at old n)) (chars c.args.name.now) (plain c.args.value))) c.object_number-number.ensures.number (c.append_to.ensures.written o)
+
+pub returns-clause-elsewhere : goal.returns-clause-elsewhere
+returns-clause-elsewhere g c =
+    let old = c.args.doc.now.tree.nodes in
+    subst (λ (n : ℕ). OnOk c.append_to.result (StaysElsewhere old c.append_to.new.tree.nodes n)) c.object_number-number.ensures.number c.append_to.ensures.elsewhere
+
+pub returns-clause-step : goal.returns-clause-step
+returns-clause-step g c =
+    let old = c.args.doc.now.tree.nodes in
+    subst (λ (n : ℕ). OnOk c.append_to.result (IsAppendingNamed old c.append_to.new.tree.nodes n (chars c.args.name.now) (plain c.args.value))) c.object_number-number.ensures.number c.append_to.ensures.step

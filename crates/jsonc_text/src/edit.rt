@@ -1,0 +1,80 @@
+//! What edits are told, and why one was not made.
+
+ghost use Rattle.std.specs.Prelude.{◌≡◌, Some};
+ghost use Rattle.jsonc_text.specs.EditErrors.{edit_error_text};
+ghost use Rattle.jsonc_text.specs.declared.edit.EditError.TheVariants.{OutOfMemory};
+
+use std::alloc::AllocError;
+use std::error::Error;
+use std::fmt;
+
+/// Why a document was not changed, or did not answer.
+#[derive(Clone, Copy, Debug, PartialEq, Eq, Drop)]
+pub enum EditError {
+    /// There was not enough memory.
+    OutOfMemory,
+    /// A container has lost a bracket.
+    MissingBrackets,
+    /// A property has lost its name.
+    MissingName,
+    /// There is no such place.
+    NoSuchPlace,
+}
+
+impl fmt::Display for EditError {
+    ghost output = { λ e. Some (edit_error_text e) };
+
+    ghost styled_output = { λ e _. Some (edit_error_text e) };
+
+    fn fmt<W: fmt::Write>(&self, f: &mut fmt::Formatter<W>) -> fmt::Result {
+        match self {
+            EditError::OutOfMemory => f.write_str("Out of memory"),
+            EditError::MissingBrackets => f.write_str("Missing brackets"),
+            EditError::MissingName => f.write_str("Missing name"),
+            EditError::NoSuchPlace => f.write_str("No such place"),
+        }
+    }
+}
+
+impl Error for EditError {}
+
+impl From<AllocError> for EditError {
+    ghost from_gives = { λ _ e. e ≡ OutOfMemory };
+
+    fn from(_error: AllocError) -> EditError {
+        EditError::OutOfMemory
+    }
+}
+
+/// Whether commas stand after last elements and properties. By default never.
+#[derive(Clone, Copy, Debug, PartialEq, Eq)]
+pub enum TrailingCommaMode {
+    /// They never do.
+    Never,
+    /// They do in arrays and objects on several lines.
+    IfMultiline,
+}
+
+impl Default for TrailingCommaMode {
+    fn default() -> Self
+        ensures { result ≡ TrailingCommaMode.Never }
+    {
+        TrailingCommaMode::Never
+    }
+}
+
+/// The kind of an array or object that is to be there.
+#[derive(Clone, Copy, Debug, PartialEq, Eq)]
+pub enum Shape {
+    Object,
+    Array,
+}
+
+/// What becomes of a value of another kind than the one that is to be there.
+#[derive(Clone, Copy, Debug, PartialEq, Eq)]
+pub enum Over {
+    /// It stays.
+    Keep,
+    /// It gives way.
+    Replace,
+}
