@@ -8,7 +8,8 @@ use Rattle.jsonc_tree.specs.Tree.{Node, children_at, parent_at, is_in, place_at}
 use Rattle.jsonc_tree.proofs.Splicing.{in_at, in_where}
 use Rattle.jsonc_insert.specs.Inserted.{plan_of, with_comma}
 use Rattle.jsonc_insert.specs.Laws.{LosesBlanksAlone}
-use Rattle.jsonc_insert.specs.Trimmed.{first_gone, is_blank_at, last_gone, trimmed, with_at, without}
+use Rattle.jsonc_insert.specs.Trimmed.{first_gone, last_gone, trimmed, with_at, without}
+use Rattle.jsonc_layout.specs.nodes.Kinds.{is_blank_at}
 use Rattle.jsonc_insert.specs.declared.trim.Stretch.{Stretch}
 use Rattle.jsonc_insert.proofs.Numbering.{whole}
 use Rattle.jsonc_insert.proofs.Trimming.{back_blank, first_within, front_blank, has_two, last_high, last_low, shorter_at}

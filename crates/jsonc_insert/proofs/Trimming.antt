@@ -11,9 +11,9 @@ use Rattle.jsonc_tree.specs.Changes.{EachOnce}
 use Rattle.jsonc_tree.specs.Content as content
 use Rattle.jsonc_tree.specs.Content.{Content}
 use Rattle.jsonc_tree.specs.Tree.{Node, content_at}
-use Rattle.jsonc_layout.specs.nodes.Kinds.{is_element, is_element_at, is_newline, is_whitespace, is_whitespace_at, is_token}
+use Rattle.jsonc_layout.specs.nodes.Kinds.{is_element, is_element_at, is_newline, is_whitespace, is_whitespace_at, is_token, is_blank_at}
 use Rattle.jsonc_insert.specs.Planned.{elements, has_brackets}
-use Rattle.jsonc_insert.specs.Trimmed.{before_last_line, behind_first_line, blanks, first_gone, inside, is_blank_at, last_blanks, last_gone, last_gone_from, last_spaces, nothing_at, spaces, trimmed, without}
+use Rattle.jsonc_insert.specs.Trimmed.{before_last_line, behind_first_line, blanks, first_gone, inside, last_blanks, last_gone, last_gone_from, last_spaces, nothing_at, spaces, trimmed, without}
 use Rattle.jsonc_insert.specs.declared.trim.Stretch.{Stretch}
 use Rattle.jsonc_insert.proofs.Once.{once_without}
 

@@ -6,7 +6,7 @@ use Rattle.jsonc_layout.specs.nodes.Siblings.{elements_at}
 use Rattle.jsonc_edit.specs.Paths.{IsElementOf}
 use Rattle.jsonc_insert.specs.Planned.{has_brackets}
 use Rattle.jsonc_insert.specs.Inserted.{ElementPut}
-use Rattle.jsonc_insert.specs.Trimmed.{is_blank_at}
+use Rattle.jsonc_layout.specs.nodes.Kinds.{is_blank_at}
 
 -- the new node is the element of this number, or the last where there were fewer
 abbrev pub TakesItsNumber : List Node → List Node → ℕ → ℕ → Plain → ℕ → Type 0

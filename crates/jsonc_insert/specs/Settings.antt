@@ -3,12 +3,12 @@ use Rattle.std.specs.Prelude.{ℕ, ◌++◌, ◌==◌, Bool, true, false, not, �
 use Rattle.std.specs.Option.{option_or}
 use Rattle.std.specs.List.{find, list_any, list_all}
 use Rattle.jsonc_text.specs.Plain.{Plain, member}
-use Rattle.jsonc_tree.specs.Tree.{Node, children_at, is_in, parent_at}
+use Rattle.jsonc_tree.specs.Tree.{Node, children_at}
 use Rattle.jsonc_tree.specs.declared.node.CstNewlineKind.{CstNewlineKind}
 use Rattle.jsonc_tree.specs.declared.node.CstNewlineKind.TheVariants.{LineFeed}
 use Rattle.jsonc_layout.specs.nodes.Kinds.{is_newline_at, is_trivia_at, is_whitespace_at}
 use Rattle.jsonc_layout.specs.nodes.Properties.{element_from}
-use Rattle.jsonc_layout.specs.lines.Breadth.{ends_with_comma, is_in_document, is_spaced, last_element, levels, line_end_at}
+use Rattle.jsonc_layout.specs.lines.Breadth.{ends_with_comma, first_sought, is_in_document, last_element, line_end_at}
 use Rattle.jsonc_layout.specs.lines.Indents.{IndentTexts, indents_at}
 use Rattle.jsonc_layout.specs.lines.Lines.{blanks, indent_at}
 use Rattle.jsonc_layout.specs.lines.Siblings.{trailing_comma_at}
@@ -16,32 +16,11 @@ use Rattle.jsonc_layout.specs.from_input.Laid.{holds_filled}
 use Rattle.jsonc_layout.specs.from_input.Layout.{Layout}
 use Rattle.jsonc_insert.specs.Trimmed.{trimmed}
 use Rattle.jsonc_insert.specs.Planned.{elements}
-use Rattle.jsonc_insert.specs.declared.walk.Sought.{Sought}
-use Rattle.jsonc_insert.specs.declared.walk.Sought.TheVariants.{LineEnd, SpacedElements}
-
--- a line's end that stays where the container's row becomes this
-abbrev pub is_child : Option ℕ → ℕ → Bool
-is_child None c = false
-is_child (Some p) c = p == c
-
-abbrev pub stays_in : List Node → ℕ → List ℕ → ℕ → Bool
-stays_in ns c row n = not (is_child (parent_at ns n) c) || is_in n row
-
-abbrev pub ends_line_still : List Node → ℕ → List ℕ → ℕ → Bool
-ends_line_still ns c row n = is_newline_at ns n && stays_in ns c row n
-
--- what a walk beside this row looks for: such a line's end, or an array or object with whitespace and an element
-abbrev pub is_sought : List Node → ℕ → List ℕ → Sought → ℕ → Bool
-is_sought ns c row LineEnd n = ends_line_still ns c row n
-is_sought ns c row SpacedElements n = is_spaced ns n
-
--- the first such node, level after level from these nodes down
-abbrev pub first_sought : List Node → ℕ → List ℕ → Sought → List ℕ → Option ℕ
-first_sought ns c row sought start = find (is_sought ns c row sought) (levels (length ns) ns start)
+use Rattle.jsonc_layout.specs.declared.lines.breadth.Sought.TheVariants.{LineEnd, SpacedElements}
 
 -- how lines end beside it: as the first that stays, breadth first, or by LF; and by LF in what stands apart from the document
 abbrev pub newline_kind_with : List Node → ℕ → List ℕ → CstNewlineKind
-newline_kind_with ns c row = if is_in_document ns c then line_end_at ns (first_sought ns c row LineEnd (0 ∷ [])) else LineFeed
+newline_kind_with ns c row = if is_in_document ns c then line_end_at ns (first_sought ns (Some c) row LineEnd (0 ∷ [])) else LineFeed
 
 -- a row with whitespace and an element
 abbrev pub is_spaced_row : List Node → List ℕ → Bool
@@ -53,7 +32,7 @@ has_last_comma ns found = is_some (option_and_then (trailing_comma_at ns) found)
 
 abbrev pub uses_commas_in : List Node → ℕ → List ℕ → Bool
 uses_commas_in ns c row =
-    if is_spaced_row ns row then has_last_comma ns (last_element ns row) else ends_with_comma ns (first_sought ns c row SpacedElements row)
+    if is_spaced_row ns row then has_last_comma ns (last_element ns row) else ends_with_comma ns (first_sought ns (Some c) row SpacedElements row)
 
 -- the indent that a line of a row begins with, told as for a node: its whitespace, if there is any and nothing but trivia stands on it
 abbrev pub begins_blank : List Node → List ℕ → Bool

@@ -2,12 +2,8 @@
 use Rattle.std.specs.Prelude.{ℕ, ◌+◌, ◌-◌, Bool, ◌||◌, List, ◌++◌, length, take, drop, reverse, slice_range, nat_lt, if◌then◌else◌}
 use Rattle.std.specs.List.{take_while}
 use Rattle.jsonc_tree.specs.Tree.{Node}
-use Rattle.jsonc_layout.specs.nodes.Kinds.{is_newline_at, is_whitespace_at}
+use Rattle.jsonc_layout.specs.nodes.Kinds.{is_blank_at, is_whitespace_at}
 use Rattle.jsonc_insert.specs.declared.trim.Stretch.{Stretch}
-
--- whitespace or a line's end
-abbrev pub is_blank_at : List Node → ℕ → Bool
-is_blank_at ns n = is_whitespace_at ns n || is_newline_at ns n
 
 -- how many nodes at the front of a row are blank, and how many are whitespace
 abbrev pub blanks : List Node → List ℕ → ℕ

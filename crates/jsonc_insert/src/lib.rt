@@ -28,10 +28,9 @@ mod plan;
 pub mod properties;
 mod settings;
 mod trim;
-mod walk;
 
 pub use insert::{insert_element, with_made};
-pub use lines::{first_indent, has_newline, indent_of_line};
+pub use lines::{first_indent, indent_of_line};
 pub use made::{Made, make_before, make_behind, make_comma};
 pub use plan::{Gap, Plan, has_brackets, nth_element, place_in, planned};
 pub use settings::{indents_of, newline_kind_with, one_deeper, outer_indent, uses_commas_in};

@@ -1,8 +1,8 @@
 //! The lines of a row, and the indents that they begin with.
 
 ghost use Rattle.std.specs.Prelude.{◌≡◌, ◌≤◌, ◌<◌, ◌+◌, [], IfOk, length, slice_index, string_bytes, if◌then◌else◌};
-ghost use Rattle.std.specs.List.{list_all, list_any};
-ghost use Rattle.jsonc_layout.specs.nodes.Kinds.{is_newline_at, is_trivia_at, is_whitespace_at};
+ghost use Rattle.std.specs.List.{list_all};
+ghost use Rattle.jsonc_layout.specs.nodes.Kinds.{is_newline_at, is_trivia_at};
 ghost use Rattle.jsonc_layout.specs.lines.IndentViews.{text_in};
 ghost use Rattle.jsonc_layout.specs.lines.Kinds.{blank_at};
 ghost use Rattle.jsonc_layout.specs.lines.Lines.{blanks};
@@ -46,20 +46,6 @@ fn begins_blank<A: Allocator>(tree: &Tree<A>, row: &[usize]) -> bool
         Some(node) => is_whitespace(tree, *node),
         None => false,
     }
-}
-
-/// Whether a line ends in a row.
-pub fn has_newline<A: Allocator>(tree: &Tree<A>, row: &[usize]) -> bool
-    ensures { result ≡ list_any (is_newline_at tree.now.nodes) row.now }
-{
-    row.iter().any(|node| is_newline(tree, *node))
-}
-
-/// Whether whitespace stands in a row.
-pub(crate) fn has_whitespace<A: Allocator>(tree: &Tree<A>, row: &[usize]) -> bool
-    ensures { result ≡ list_any (is_whitespace_at tree.now.nodes) row.now }
-{
-    row.iter().any(|node| is_whitespace(tree, *node))
 }
 
 /// The indent that a line begins with.

@@ -1,17 +1,14 @@
 //! Where an element is put into a row, and what is written beside it.
 
 ghost use Rattle.std.specs.Prelude.{◌≡◌, ◌≤◌, ◌<◌, length, slice_get, true};
-ghost use Rattle.std.specs.List.{list_all};
 ghost use Rattle.jsonc_tree.specs.Tree.{children_at};
-ghost use Rattle.jsonc_layout.specs.nodes.Kinds.{is_beside_at};
-ghost use Rattle.jsonc_layout.specs.lines.Breadth.{last_element};
 ghost use Rattle.jsonc_insert.specs.Planned.{before_next, behind_comma, comma_comes, comma_wanted, element_before};
-ghost use Rattle.jsonc_insert.specs.Planned.{elements, has_brackets, has_comma, line, line_ends};
+ghost use Rattle.jsonc_insert.specs.Planned.{elements, has_brackets, has_comma, line_ends};
 ghost use Rattle.jsonc_insert.specs.Planned.{line_if, line_unless, parting, past_comments, place_in, plan_alone, plan_behind};
 ghost use Rattle.jsonc_insert.specs.Planned.{plan_first, planned, through_comments, trivia};
 
-use crate::trim::{last_blanks, last_spaces};
-use jsonc_layout::nodes::{is_beside, is_comma, is_element, is_newline, is_token, is_trivia};
+use jsonc_layout::nodes::{is_comma, is_element, is_newline, is_token, is_trivia};
+use jsonc_layout::rows::{all_beside, last_blanks, last_element, last_spaces, line_length};
 use jsonc_tree::Tree;
 use std::alloc::Allocator;
 
@@ -97,16 +94,6 @@ pub fn nth_element<A: Allocator>(tree: &Tree<A>, row: &[usize], index: usize) ->
         .nth(index)
 }
 
-// The last element of a row.
-pub(crate) fn last_element<A: Allocator>(tree: &Tree<A>, row: &[usize]) -> Option<usize>
-    ensures element { result ≡ last_element tree.now.nodes row.now }
-{
-    row.iter()
-        .rev()
-        .copied()
-        .find(|node| is_element(tree, *node))
-}
-
 // The element behind which another comes that is to have this number.
 fn element_before<A: Allocator>(tree: &Tree<A>, row: &[usize], index: usize) -> Option<usize>
     ensures { result ≡ element_before tree.now.nodes row.now index }
@@ -173,24 +160,6 @@ fn comma_wanted<A: Allocator>(tree: &Tree<A>, row: &[usize], place: usize) -> Op
         return None;
     }
     Some(place)
-}
-
-// How many nodes stand on the line that a row begins with.
-fn line_length<A: Allocator>(tree: &Tree<A>, after: &[usize]) -> usize
-    ensures count { result ≡ length (line tree.now.nodes after.now) }
-    ensures within { result ≤ length after.now }
-{
-    after
-        .iter()
-        .take_while(|node| !is_newline(tree, **node))
-        .count()
-}
-
-// Whether nothing but whitespace and comments stands in a row.
-fn all_beside<A: Allocator>(tree: &Tree<A>, row: &[usize]) -> bool
-    ensures { result ≡ list_all (is_beside_at tree.now.nodes) row.now }
-{
-    row.iter().all(|node| is_beside(tree, *node))
 }
 
 // How many nodes it is through the last comment of a line of nothing but whitespace and comments.

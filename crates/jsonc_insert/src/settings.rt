@@ -11,15 +11,16 @@ ghost use Rattle.jsonc_layout.specs.from_input.Layout.{layout_of};
 ghost use Rattle.jsonc_insert.specs.Settings.{indents_at_first, indents_of, is_document_value, is_spaced_row, is_spread, has_last_comma};
 ghost use Rattle.jsonc_insert.specs.Settings.{layout_in, newline_kind_with, on_several_lines, one_deeper, told_by_row, uses_commas_in};
 
-use crate::lines::{has_newline, has_whitespace, single_in};
-use crate::plan::{last_element, nth_element};
-use crate::walk::{Sought, first_sought};
+use crate::lines::single_in;
+use crate::plan::nth_element;
 use jsonc_layout::from_input::{Layout, holds_filled, is_filled};
 use jsonc_layout::input::CstInputValue;
 use jsonc_layout::lines::{
-    Indents, indent_text, indents_at, is_in_document, last_child_element, trailing_comma,
+    Indents, Sought, first_sought, indent_text, indents_at, is_in_document, last_child_element,
+    trailing_comma,
 };
 use jsonc_layout::nodes::first_element_from;
+use jsonc_layout::rows::{has_newline, has_whitespace, last_element};
 use jsonc_tree::{CstNewlineKind, Kind, Tree};
 use std::alloc::{AllocError, Allocator};
 
@@ -58,7 +59,7 @@ pub fn newline_kind_with<A: Allocator + Copy>(
     if !is_in_document(tree, container) {
         return Ok(CstNewlineKind::LineFeed);
     }
-    let Some(node) = first_sought(alloc, tree, container, row, Sought::LineEnd, &[0])? else {
+    let Some(node) = first_sought(alloc, tree, Some(container), row, Sought::LineEnd, &[0])? else {
         return Ok(CstNewlineKind::LineFeed);
     };
     match tree.kind(node) {
@@ -98,7 +99,14 @@ pub fn uses_commas_in<A: Allocator + Copy>(
     if is_spaced_row(tree, row) {
         return Ok(ends_with_comma(tree, last_element(tree, row)));
     }
-    let found = first_sought(alloc, tree, container, row, Sought::SpacedElements, row)?;
+    let found = first_sought(
+        alloc,
+        tree,
+        Some(container),
+        row,
+        Sought::SpacedElements,
+        row,
+    )?;
     let Some(spaced) = found else {
         return Ok(false);
     };

@@ -1,10 +1,9 @@
 //! Blank lines directly inside brackets: which they are, and a row without them.
 
 ghost use Rattle.std.specs.Prelude.{◌≡◌, ◌≤◌, ◌<◌, ◌+◌, ◌^◌, IfOk, length};
-ghost use Rattle.jsonc_insert.specs.Trimmed.{before_last_line, behind_first_line, blanks, first_gone, is_blank_at, last_blanks};
-ghost use Rattle.jsonc_insert.specs.Trimmed.{last_gone, last_spaces, spaces, trimmed, with_at, without};
+ghost use Rattle.jsonc_insert.specs.Trimmed.{before_last_line, behind_first_line, first_gone, last_gone, trimmed, with_at, without};
 
-use jsonc_layout::nodes::{is_newline, is_whitespace};
+use jsonc_layout::rows::{blanks, last_blanks, last_spaces, spaces};
 use jsonc_tree::Tree;
 use std::alloc::{AllocError, Allocator};
 
@@ -13,52 +12,6 @@ use std::alloc::{AllocError, Allocator};
 pub(crate) struct Stretch {
     pub(crate) from: usize,
     pub(crate) to: usize,
-}
-
-fn is_blank<A: Allocator>(tree: &Tree<A>, node: usize) -> bool
-    ensures { result ≡ is_blank_at tree.now.nodes node }
-{
-    is_whitespace(tree, node) || is_newline(tree, node)
-}
-
-// How many nodes at the front of a row are whitespace or newlines.
-fn blanks<A: Allocator>(tree: &Tree<A>, row: &[usize]) -> usize
-    ensures count { result ≡ blanks tree.now.nodes row.now }
-    ensures within { result ≤ length row.now }
-{
-    row.iter().take_while(|node| is_blank(tree, **node)).count()
-}
-
-// The same at its end.
-pub(crate) fn last_blanks<A: Allocator>(tree: &Tree<A>, row: &[usize]) -> usize
-    ensures count { result ≡ last_blanks tree.now.nodes row.now }
-    ensures within { result ≤ length row.now }
-{
-    row.iter()
-        .rev()
-        .take_while(|node| is_blank(tree, **node))
-        .count()
-}
-
-// How many nodes at the front of a row are whitespace.
-fn spaces<A: Allocator>(tree: &Tree<A>, row: &[usize]) -> usize
-    ensures count { result ≡ spaces tree.now.nodes row.now }
-    ensures within { result ≤ length row.now }
-{
-    row.iter()
-        .take_while(|node| is_whitespace(tree, **node))
-        .count()
-}
-
-// The same at its end.
-pub(crate) fn last_spaces<A: Allocator>(tree: &Tree<A>, row: &[usize]) -> usize
-    ensures count { result ≡ last_spaces tree.now.nodes row.now }
-    ensures within { result ≤ length row.now }
-{
-    row.iter()
-        .rev()
-        .take_while(|node| is_whitespace(tree, **node))
-        .count()
 }
 
 // Of blanks at a place the nodes behind the first line's end, through the last one.

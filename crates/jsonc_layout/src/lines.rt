@@ -11,12 +11,10 @@ mod kinds;
 mod siblings;
 
 pub use breadth::{
-    is_in_document, is_spaced, last_child_element, level_below, newline_kind, newline_kind_at,
+    Sought, first_sought, is_in_document, last_child_element, newline_kind, newline_kind_at,
     uses_trailing_commas,
 };
 pub use indent::{indent_text, single_indent_text};
-pub use indents::{
-    Indents, held_after, held_text, indents_at, levels_in, more_of, stands_in_property,
-};
+pub use indents::{Indents, indents_at, levels_from, levels_in, told_by};
 pub use kinds::{blank_at, holds_values};
 pub use siblings::{has_blank_line_before, trailing_comma};

@@ -8,11 +8,12 @@ ghost use Rattle.jsonc_sort.specs.Above.{above, all_comments_above, comments_abo
 ghost use Rattle.jsonc_sort.specs.Leads.{comments, is_comment_at};
 ghost use Rattle.jsonc_sort.specs.Parts.{is_newline_at};
 
-use crate::leads::{before_newline, comments, has_blank_line};
-use crate::parts::{has_newline, up_to_spaces};
+use crate::leads::{comments, has_blank_line};
+use crate::parts::up_to_spaces;
 use crate::places::entries;
 use jsonc_edit::multiline::has_brackets;
 use jsonc_layout::nodes::{children, is_comment};
+use jsonc_layout::rows::{has_newline, line_length};
 use jsonc_tree::Tree;
 use std::alloc::{AllocError, Allocator};
 
@@ -30,7 +31,7 @@ fn comments_behind<A: Allocator>(tree: &Tree<A>, lead: &[usize]) -> usize
     requires { IsTrue (list_any (is_newline_at (content_at tree.now.nodes)) lead.now) }
     ensures { result ≡ comments (content_at tree.now.nodes) (above (content_at tree.now.nodes) lead.now) }
 {
-    let first = before_newline(tree, lead) + 1;
+    let first = line_length(tree, lead) + 1;
     let rest = &lead[first..];
     comments(tree, &rest[..up_to_spaces(tree, rest)])
 }
@@ -112,7 +113,7 @@ fn push_above<A: Allocator>(
     if !has_newline(tree, lead) {
         return Ok(());
     }
-    let first = before_newline(tree, lead) + 1;
+    let first = line_length(tree, lead) + 1;
     let rest = &lead[first..];
     push_comments(tree, found, &rest[..up_to_spaces(tree, rest)])?;
     Ok(())

@@ -1,16 +1,17 @@
 //! What stands before an element: what of it stays in its place, and what goes where the element goes.
 
 ghost use Rattle.std.specs.Prelude.{◌≡◌, ◌≤◌, IsTrue, length, max, take};
-ghost use Rattle.std.specs.List.{list_any, position_or_len, suffix_len, take_while};
+ghost use Rattle.std.specs.List.{list_any, suffix_len};
 ghost use Rattle.jsonc_tree.specs.Tree.{content_at};
 ghost use Rattle.jsonc_sort.specs.Leads.{before_comment, blank_lines, comments, has_blank_line};
-ghost use Rattle.jsonc_sort.specs.Leads.{header_by, header_length, header_of, is_blank_at, lead_parts};
-ghost use Rattle.jsonc_sort.specs.Leads.{parts_of_lines, spaces, through_last_line};
+ghost use Rattle.jsonc_sort.specs.Leads.{header_by, header_length, header_of, lead_parts};
+ghost use Rattle.jsonc_sort.specs.Leads.{parts_of_lines, through_last_line};
 ghost use Rattle.jsonc_sort.specs.Parts.{is_newline_at, is_no_newline_at};
 ghost use Rattle.jsonc_sort.specs.Places.{ended_behind, lead_of, left_behind};
 
-use crate::parts::{has_newline, up_to_spaces};
+use crate::parts::up_to_spaces;
 use jsonc_layout::nodes::{is_comment, is_newline, is_whitespace};
+use jsonc_layout::rows::{blanks, has_newline, line_length, spaces};
 use jsonc_tree::Tree;
 use std::alloc::Allocator;
 
@@ -45,32 +46,12 @@ pub(crate) fn has_blank_line<A: Allocator>(tree: &Tree<A>, row: &[usize]) -> boo
     false
 }
 
-// How many nodes at the front are whitespace or ends of lines.
-fn blanks<A: Allocator>(tree: &Tree<A>, row: &[usize]) -> usize
-    ensures count { result ≡ length (take_while (is_blank_at (content_at tree.now.nodes)) row.now) }
-    ensures within { result ≤ length row.now }
-{
-    row.iter()
-        .take_while(|node| is_whitespace(tree, **node) || is_newline(tree, **node))
-        .count()
-}
-
 /// How many nodes at the front are lines of blanks alone, each with its end.
 pub(crate) fn blank_lines<A: Allocator>(tree: &Tree<A>, row: &[usize]) -> usize
     ensures count { result ≡ blank_lines (content_at tree.now.nodes) row.now }
     ensures within { result ≤ length row.now }
 {
     up_to_spaces(tree, &row[..blanks(tree, row)])
-}
-
-// How many nodes at the front are whitespace.
-fn spaces<A: Allocator>(tree: &Tree<A>, row: &[usize]) -> usize
-    ensures count { result ≡ spaces (content_at tree.now.nodes) row.now }
-    ensures within { result ≤ length row.now }
-{
-    row.iter()
-        .take_while(|node| is_whitespace(tree, **node))
-        .count()
 }
 
 /// How many comments there are.
@@ -175,16 +156,6 @@ fn header_length<A: Allocator>(
     header_by(tree, pinned, row)
 }
 
-/// How many nodes stand before the first end of a line, or all.
-pub(crate) fn before_newline<A: Allocator>(tree: &Tree<A>, row: &[usize]) -> usize
-    ensures count { result ≡ position_or_len (is_newline_at (content_at tree.now.nodes)) row.now }
-    ensures within { result ≤ length row.now }
-{
-    row.iter()
-        .take_while(|node| !is_newline(tree, **node))
-        .count()
-}
-
 // A lead in which a line ends: what is through its end stays, and a header behind that, and the
 // whitespace before the element.
 fn parts_of_lines<A: Allocator>(
@@ -198,7 +169,7 @@ fn parts_of_lines<A: Allocator>(
     ensures order { result.travels ≤ result.indent }
     ensures within { result.indent ≤ length lead.now }
 {
-    let first = before_newline(tree, lead) + 1;
+    let first = line_length(tree, lead) + 1;
     let rest = &lead[first..];
     let indent = up_to_spaces(tree, rest);
     let header = header_length(tree, begins, pinned, &rest[..indent]);

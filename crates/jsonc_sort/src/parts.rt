@@ -1,13 +1,12 @@
 //! What belongs to an element behind it.
 
 ghost use Rattle.std.specs.Prelude.{◌≡◌, ◌≤◌, length};
-ghost use Rattle.std.specs.List.{list_all, list_any, suffix_len};
 ghost use Rattle.jsonc_tree.specs.Tree.{content_at};
-ghost use Rattle.jsonc_sort.specs.Parts.{comments_on_line, has_comma, is_beside_at, is_newline_at, is_own_line};
-ghost use Rattle.jsonc_sort.specs.Parts.{is_whitespace_at, line, tail_length, through_comma, up_to_spaces};
+ghost use Rattle.jsonc_sort.specs.Parts.{comments_on_line, is_own_line, tail_length, through_comma, up_to_spaces};
 ghost use Rattle.jsonc_sort.specs.Places.{before_blank, before_comma, IsComma};
 
-use jsonc_layout::nodes::{is_beside, is_comma, is_newline, is_whitespace};
+use jsonc_layout::nodes::{is_comma, is_whitespace};
+use jsonc_layout::rows::{all_beside, has_newline, last_spaces, line_length};
 use jsonc_tree::Tree;
 use std::alloc::Allocator;
 
@@ -16,20 +15,6 @@ use std::alloc::Allocator;
 pub(crate) struct Comma {
     pub(crate) from: usize,
     pub(crate) to: usize,
-}
-
-/// Whether a line ends among nodes.
-pub(crate) fn has_newline<A: Allocator>(tree: &Tree<A>, row: &[usize]) -> bool
-    ensures { result ≡ list_any (is_newline_at (content_at tree.now.nodes)) row.now }
-{
-    row.iter().any(|node| is_newline(tree, *node))
-}
-
-// Whether all are whitespace and comments.
-fn all_beside<A: Allocator>(tree: &Tree<A>, row: &[usize]) -> bool
-    ensures { result ≡ list_all (is_beside_at (content_at tree.now.nodes)) row.now }
-{
-    row.iter().all(|node| is_beside(tree, *node))
 }
 
 // How many nodes stand before the first comma, or all.
@@ -78,27 +63,6 @@ pub(crate) fn comma_in<A: Allocator>(tree: &Tree<A>, tail: &[usize]) -> Comma
         from: before_blank(tree, tail, place),
         to: place + 1,
     }
-}
-
-// How many nodes stand on the line that these begin with.
-fn line_length<A: Allocator>(tree: &Tree<A>, row: &[usize]) -> usize
-    ensures count { result ≡ length (line (content_at tree.now.nodes) row.now) }
-    ensures within { result ≤ length row.now }
-{
-    row.iter()
-        .take_while(|node| !is_newline(tree, **node))
-        .count()
-}
-
-// How many nodes at the end are whitespace.
-fn last_spaces<A: Allocator>(tree: &Tree<A>, row: &[usize]) -> usize
-    ensures count { result ≡ suffix_len (is_whitespace_at (content_at tree.now.nodes)) row.now }
-    ensures within { result ≤ length row.now }
-{
-    row.iter()
-        .rev()
-        .take_while(|node| is_whitespace(tree, **node))
-        .count()
 }
 
 /// How many nodes it is up to the whitespace that these end with.

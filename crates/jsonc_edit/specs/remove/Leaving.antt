@@ -3,7 +3,7 @@ use Rattle.std.specs.Prelude.{ℕ, Bool, true, false, not, ◌&&◌, ◌||◌, �
 use Rattle.std.specs.List.{find}
 use Rattle.jsonc_tree.specs.Tree.{Node, content_at}
 use Rattle.jsonc_tree.specs.Siblings.{siblings_after, siblings_before}
-use Rattle.jsonc_layout.specs.nodes.Kinds.{is_beside_at, is_comma_at, is_newline_at, is_trivia_at, is_whitespace_at}
+use Rattle.jsonc_layout.specs.nodes.Kinds.{is_beside_at, is_blank_at, is_comma_at, is_newline_at, is_trivia_at, is_whitespace_at}
 use Rattle.jsonc_layout.specs.nodes.Comments.{after_beside_at}
 use Rattle.jsonc_layout.specs.lines.Siblings.{trailing_comma_at}
 
@@ -64,9 +64,6 @@ abbrev pub comma_gone : List Node → ℕ → Option ℕ
 comma_gone ns n = comma_unless (trailing_comma_at ns n) (comma_before ns n)
 
 -- past blanks the row comes to this node, which may be a blank itself
-abbrev pub is_blank_at : List Node → ℕ → Bool
-is_blank_at ns m = is_whitespace_at ns m || is_newline_at ns m
-
 abbrev pub comes_to : List Node → Option ℕ → List ℕ → Bool
 comes_to ns None [] = true
 comes_to ns (Some last) [] = false

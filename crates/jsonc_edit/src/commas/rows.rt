@@ -1,29 +1,16 @@
 //! The trailing comma of one array or object.
 
-ghost use Rattle.std.specs.Prelude.{◌≡◌, ◌<◌, IfSome, IsTrue, OnErr, OnOk, Some, length};
-ghost use Rattle.jsonc_tree.specs.Tree.{content_at, is_container_at, parent_at};
-ghost use Rattle.jsonc_layout.specs.nodes.Siblings.{IsThere};
+ghost use Rattle.std.specs.Prelude.{◌≡◌, ◌<◌, OnErr, OnOk, Some, length};
+ghost use Rattle.jsonc_tree.specs.Tree.{parent_at};
 ghost use Rattle.jsonc_edit.specs.commas.Commas.{comma_gone, comma_wanted_behind, has_newline};
-ghost use Rattle.jsonc_edit.specs.commas.Commas.{if_without_comma, last_element};
 ghost use Rattle.jsonc_edit.specs.commas.Commas.{CommaComesBehind, CommaIsSet, GainsComma, LosesComma, WantsComma};
 ghost use Rattle.jsonc_tree.specs.Siblings.{TakesOut};
 
 use crate::TrailingCommaMode;
-use jsonc_layout::lines::trailing_comma;
-use jsonc_layout::nodes::{children_from, is_element, is_newline};
+use jsonc_layout::lines::{last_child_element, trailing_comma};
+use jsonc_layout::nodes::{children_from, is_newline};
 use jsonc_tree::{Kind, Tree};
 use std::alloc::{AllocError, Allocator};
-
-// The last element of a container.
-fn last_element<A: Allocator>(tree: &Tree<A>, container: usize) -> Option<usize>
-    requires { container < length tree.now.nodes }
-    ensures last { result ≡ last_element tree.now.nodes container }
-    ensures child { IfSome result (λ n. parent_at tree.now.nodes n ≡ Some container) }
-    ensures there { IsThere tree.now.nodes result }
-{
-    tree.children_reversed(container)
-        .find(|child| is_element(tree, *child))
-}
 
 // Whether a line ends between a container's children.
 fn has_newline<A: Allocator>(tree: &Tree<A>, container: usize) -> bool
@@ -38,7 +25,7 @@ fn comma_gone<A: Allocator>(tree: &Tree<A>, container: usize) -> Option<usize>
     requires { container < length tree.now.nodes }
     ensures { result ≡ comma_gone tree.now.nodes container }
 {
-    trailing_comma(tree, last_element(tree, container)?)
+    trailing_comma(tree, last_child_element(tree, container)?)
 }
 
 // The node behind which a comma is to come: the last element of a container on several lines, if it
@@ -50,7 +37,7 @@ fn comma_wanted_behind<A: Allocator>(tree: &Tree<A>, container: usize) -> Option
     if !has_newline(tree, container) {
         return None;
     }
-    let node = last_element(tree, container)?;
+    let node = last_child_element(tree, container)?;
     match trailing_comma(tree, node) {
         Some(_) => None,
         None => Some(node),

@@ -9,7 +9,7 @@ ghost use Rattle.jsonc_layout.specs.nodes.Kinds.{is_property};
 ghost use Rattle.jsonc_layout.specs.nodes.Siblings.{IsThere};
 ghost use Rattle.jsonc_layout.specs.lines.Kinds.{holds_values};
 ghost use Rattle.jsonc_edit.specs.Due.{seen_before};
-ghost use Rattle.jsonc_edit.specs.remove.Leaving.{comes_to, is_blank_at};
+ghost use Rattle.jsonc_edit.specs.remove.Leaving.{comes_to};
 ghost use Rattle.jsonc_edit.specs.remove.Removed.{blank_between, comma_in, due_at_comma, due_at_stretch};
 ghost use Rattle.jsonc_edit.specs.remove.Removed.{hollow_from, hollow_to, is_hollow, is_next, is_node};
 ghost use Rattle.jsonc_edit.specs.remove.Removed.{IsClosedUp, IsKeptFor, LosesChild, TakesElement};
@@ -18,7 +18,7 @@ use crate::remove::brackets::has_brackets;
 use crate::remove::leaving::{comma_gone, first_gone, last_gone};
 use crate::{EditError, due_between, make_spaces, put_spaces, seen_before};
 use jsonc_layout::lines::holds_values;
-use jsonc_layout::nodes::{children_from, is_newline, is_whitespace};
+use jsonc_layout::nodes::{children_from, is_blank};
 use jsonc_tree::{Kind, Tree};
 use std::alloc::Allocator;
 
@@ -119,14 +119,6 @@ fn take_child<A: Allocator>(tree: &mut Tree<A>, container: usize, child: Option<
     if let Some(child) = child {
         take_stretch(tree, container, child, child);
     }
-}
-
-// Whether a node is whitespace or a newline.
-fn is_blank<A: Allocator>(tree: &Tree<A>, node: usize) -> bool
-    requires { node < length tree.now.nodes }
-    ensures { result ≡ is_blank_at tree.now.nodes node }
-{
-    is_whitespace(tree, node) || is_newline(tree, node)
 }
 
 // Whether it is this node.

@@ -17,7 +17,7 @@ use Rattle.jsonc_insert.specs.Inserted.{refusal}
 use Rattle.jsonc_insert.specs.Laws.{KeepsNodesBut}
 use Rattle.jsonc_insert.specs.Planned.{has_brackets}
 use Rattle.jsonc_insert.specs.Settings.{indents_of}
-use Rattle.jsonc_insert.specs.Trimmed.{is_blank_at}
+use Rattle.jsonc_layout.specs.nodes.Kinds.{is_blank_at}
 use Rattle.jsonc_edit.specs.multiline.Laws.{bracketed}
 use Rattle.jsonc_edit.specs.multiline.Reflows.{SpreadsOut}
 use Rattle.jsonc_insert.specs.members.Inserted.{PropertyPut}

@@ -1,17 +1,12 @@
 //! The indents of what stands in an object that is to have a row.
 
-ghost use Rattle.std.specs.Prelude.{◌≡◌, ◌≤◌, ◌<◌, All, IfOk, Some, length};
-ghost use Rattle.std.specs.Prelude.{option_map, string_bytes};
-ghost use Rattle.jsonc_layout.specs.lines.Indents.{held_after, levels_in, more_of};
+ghost use Rattle.std.specs.Prelude.{◌≡◌, ◌≤◌, ◌<◌, IfOk, length, string_bytes};
 ghost use Rattle.jsonc_layout.specs.lines.IndentViews.{text_in, texts_of};
 ghost use Rattle.jsonc_insert.specs.members.Told.{document_indent, indent_in, indents_beside, last_line, levels_inside};
-ghost use Rattle.jsonc_insert.specs.members.Told.{single_inside, told_inside};
+ghost use Rattle.jsonc_insert.specs.members.Told.{single_inside};
 
 use crate::{first_indent, indent_of_line, place_in};
-use jsonc_layout::lines::{
-    Indents, held_after, held_text, indent_text, is_in_document, levels_in, more_of,
-    stands_in_property,
-};
+use jsonc_layout::lines::{Indents, is_in_document, levels_from, levels_in, told_by};
 use jsonc_layout::nodes::{children, first_element_from, is_newline};
 use jsonc_tree::Tree;
 use std::alloc::{AllocError, Allocator};
@@ -39,55 +34,6 @@ fn indent_in<A: Allocator + Copy>(
     let place = place_in(row, node);
     let count = last_line(tree, &row[0..place]);
     indent_of_line(alloc, tree, &row[place - count..place])
-}
-
-// The levels of indent above what stands in an object, nearest first.
-fn levels_inside<A: Allocator>(
-    alloc: A,
-    tree: &Tree<A>,
-    object: usize,
-) -> Result<Vec<usize, A>, AllocError>
-    requires { object < length tree.now.nodes }
-    ensures levels { IfOk result (λ v. v.items ≡ levels_inside tree.now.nodes object) }
-    ensures there { IfOk result (λ v. All (λ m. m < length tree.now.nodes) v.items) }
-{
-    let mut levels = Vec::new(alloc);
-    let mut next = Some(object);
-    while let Some(at) = next {
-        if at == 0 {
-            return Ok(levels);
-        }
-        next = tree.parent(at);
-        if stands_in_property(tree, at) {
-            continue;
-        }
-        levels.push(at)?;
-    }
-    Ok(levels)
-}
-
-// The indents that two lines next to one another tell, of a node of the row and the levels above it.
-fn told_inside<A: Allocator + Copy>(
-    alloc: A,
-    tree: &Tree<A>,
-    object: usize,
-    row: &[usize],
-    node: usize,
-) -> Result<Option<Indents<A>>, AllocError>
-    requires { object < length tree.now.nodes }
-    ensures { IfOk result (λ o. option_map texts_of o ≡ told_inside tree.now.nodes object row.now node) }
-{
-    let levels = levels_inside(alloc, tree, object)?;
-    let mut held = indent_in(alloc, tree, row, node)?;
-    for place in 0..levels.len() {
-        let outer = indent_text(alloc, tree, levels[place])?;
-        if let Some(single) = more_of(&held, &outer) {
-            let told = levels_in(alloc, held_text(&held), place, single)?;
-            return Ok(Some(told));
-        }
-        held = held_after(held, outer);
-    }
-    Ok(None)
 }
 
 // The first indent in the document's value, where an object that is to have a row stands in the document.
@@ -150,10 +96,11 @@ pub(crate) fn indents_beside<A: Allocator + Copy>(
     requires there { object < length tree.now.nodes }
     ensures indents { IfOk result (λ i. texts_of i ≡ indents_beside tree.now.nodes object row.now node) }
 {
-    if let Some(told) = told_inside(alloc, tree, object, row, node)? {
+    let levels = levels_from(alloc, tree, Some(object))?;
+    let own = indent_in(alloc, tree, row, node)?;
+    if let Some(told) = told_by(alloc, tree, own, &levels)? {
         return Ok(told);
     }
-    let levels = levels_inside(alloc, tree, object)?;
     let single = single_inside(alloc, tree, object, row, node, levels.len())?;
     levels_in(alloc, "", levels.len(), single.as_str())
 }

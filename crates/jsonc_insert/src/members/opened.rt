@@ -6,9 +6,9 @@ ghost use Rattle.jsonc_edit.specs.Put.{Prepared};
 ghost use Rattle.jsonc_insert.specs.Planned.{has_brackets};
 ghost use Rattle.jsonc_insert.specs.members.Opened.{IsOpened};
 
-use crate::has_newline;
 use jsonc_edit::multiline::{lines_for, plan_lines};
 use jsonc_layout::nodes::children;
+use jsonc_layout::rows::has_newline;
 use jsonc_tree::Tree;
 use std::alloc::{AllocError, Allocator};
 

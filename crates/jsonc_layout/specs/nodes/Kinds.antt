@@ -1,5 +1,5 @@
 -- The kinds of nodes that stand in a row, as readings tell them apart.
-use Rattle.std.specs.Prelude.{ℕ, Bool, true, false, List, ◌==◌, not}
+use Rattle.std.specs.Prelude.{ℕ, Bool, true, false, List, ◌==◌, ◌||◌, not}
 use Rattle.jsonc_tree.specs.Content.{Content, property, token, whitespace, newline, comment}
 use Rattle.jsonc_tree.specs.Tree.{Node, content_at}
 use Rattle.jsonc_tree.specs.Values.{is_passed_over}
@@ -64,6 +64,10 @@ is_whitespace_at ns n = is_whitespace (content_at ns n)
 
 abbrev pub is_newline_at : List Node → ℕ → Bool
 is_newline_at ns n = is_newline (content_at ns n)
+
+-- whitespace or the end of a line
+abbrev pub is_blank_at : List Node → ℕ → Bool
+is_blank_at ns n = is_whitespace_at ns n || is_newline_at ns n
 
 abbrev pub is_comment_at : List Node → ℕ → Bool
 is_comment_at ns n = is_comment (content_at ns n)

@@ -1,10 +1,10 @@
 //! What a walk over the levels of a document tells of its layout.
 ghost use Rattle.std.specs.Prelude.{◌≡◌, ◌<◌, All, IfOk, IfSome, length};
 ghost use Rattle.std.specs.List.{find};
-ghost use Rattle.jsonc_tree.specs.Tree.{children_at};
-ghost use Rattle.jsonc_layout.specs.lines.Breadth.{first_sought, has_whitespace, is_sought, is_spaced};
+ghost use Rattle.jsonc_tree.specs.Tree.{children_at, is_in};
+ghost use Rattle.jsonc_layout.specs.lines.Breadth.{first_sought, has_whitespace, is_child, is_sought, is_spaced};
 ghost use Rattle.jsonc_layout.specs.lines.Breadth.{is_in_document, last_element, level_below, newline_kind_at, newline_kind_of};
-ghost use Rattle.jsonc_layout.specs.lines.Breadth.{uses_trailing_commas_at};
+ghost use Rattle.jsonc_layout.specs.lines.Breadth.{stays_in, uses_trailing_commas_at};
 
 use crate::lines::kinds::holds_values;
 use crate::lines::siblings::trailing_comma;
@@ -14,9 +14,9 @@ use crate::nodes::{
 use jsonc_tree::{CstNewlineKind, Kind, Tree};
 use std::alloc::{AllocError, Allocator};
 
-// What a walk looks for: the end of a line, or an array or object with whitespace and an element.
+/// What a walk looks for: the end of a line that stays, or an array or object with whitespace and an element.
 #[derive(Clone, Copy)]
-pub(crate) enum Sought {
+pub enum Sought {
     LineEnd,
     SpacedElements,
 }
@@ -39,8 +39,8 @@ pub fn last_child_element<A: Allocator>(tree: &Tree<A>, node: usize) -> Option<u
         .find(|child| is_element(tree, *child))
 }
 
-/// Whether a node is an array or object with whitespace and an element.
-pub fn is_spaced<A: Allocator>(tree: &Tree<A>, node: usize) -> bool
+// Whether a node is an array or object with whitespace and an element.
+fn is_spaced<A: Allocator>(tree: &Tree<A>, node: usize) -> bool
     requires { node < length tree.now.nodes }
     ensures { result ≡ is_spaced tree.now.nodes node }
 {
@@ -53,33 +53,78 @@ pub fn is_spaced<A: Allocator>(tree: &Tree<A>, node: usize) -> bool
     last_child_element(tree, node).is_some()
 }
 
-// Whether a node is what is looked for.
-fn is_sought<A: Allocator>(tree: &Tree<A>, sought: Sought, node: usize) -> bool
+// Whether a number stands in a row.
+fn is_in(row: &[usize], node: usize) -> bool
+    ensures { result ≡ is_in node row.now }
+{
+    row.iter().any(|other| node == *other)
+}
+
+// Whether a container is this parent.
+fn is_child(parent: Option<usize>, container: usize) -> bool
+    ensures { result ≡ is_child parent container }
+{
+    match parent {
+        Some(parent) => parent == container,
+        None => false,
+    }
+}
+
+// Whether a node stays where the row of a container, if there is one, becomes this.
+fn stays_in<A: Allocator>(
+    tree: &Tree<A>,
+    changed: Option<usize>,
+    row: &[usize],
+    node: usize,
+) -> bool
     requires { node < length tree.now.nodes }
-    ensures { result ≡ is_sought tree.now.nodes sought node }
+    ensures { result ≡ stays_in tree.now.nodes changed row.now node }
+{
+    match changed {
+        Some(container) => !is_child(tree.parent(node), container) || is_in(row, node),
+        None => true,
+    }
+}
+
+// Whether a node is what is looked for.
+fn is_sought<A: Allocator>(
+    tree: &Tree<A>,
+    changed: Option<usize>,
+    row: &[usize],
+    sought: Sought,
+    node: usize,
+) -> bool
+    requires { node < length tree.now.nodes }
+    ensures { result ≡ is_sought tree.now.nodes changed row.now sought node }
 {
     match sought {
-        Sought::LineEnd => is_newline(tree, node),
+        Sought::LineEnd => is_newline(tree, node) && stays_in(tree, changed, row, node),
         Sought::SpacedElements => is_spaced(tree, node),
     }
 }
 
 // The first of these nodes that is what is looked for.
-fn first_in<A: Allocator>(tree: &Tree<A>, sought: Sought, level: &[usize]) -> Option<usize>
+fn first_in<A: Allocator>(
+    tree: &Tree<A>,
+    changed: Option<usize>,
+    row: &[usize],
+    sought: Sought,
+    level: &[usize],
+) -> Option<usize>
     requires there { All (λ m. m < length tree.now.nodes) level.now }
-    ensures first { result ≡ find (is_sought tree.now.nodes sought) level.now }
+    ensures first { result ≡ find (is_sought tree.now.nodes changed row.now sought) level.now }
     ensures there { IfSome result (λ m. m < length tree.now.nodes) }
 {
     for node in level {
-        if is_sought(tree, sought, *node) {
+        if is_sought(tree, changed, row, sought, *node) {
             return Some(*node);
         }
     }
     None
 }
 
-/// The children of these nodes, in order.
-pub fn level_below<A: Allocator>(
+// The children of these nodes, in order.
+fn level_below<A: Allocator>(
     alloc: A,
     tree: &Tree<A>,
     level: &[usize],
@@ -94,24 +139,26 @@ pub fn level_below<A: Allocator>(
     Ok(below)
 }
 
-// The first node that is what is looked for, level after level from a node down.
-fn first_sought<A: Allocator + Copy>(
+/// The first node that is what is looked for, level after level from these nodes down, where the children of a
+/// container, if one is named, are to become a row.
+pub fn first_sought<A: Allocator + Copy>(
     alloc: A,
     tree: &Tree<A>,
+    changed: Option<usize>,
+    row: &[usize],
     sought: Sought,
-    start: usize,
+    start: &[usize],
 ) -> Result<Option<usize>, AllocError>
-    requires { start < length tree.now.nodes }
-    ensures first { IfOk result (λ o. o ≡ first_sought tree.now.nodes sought start) }
+    requires { All (λ m. m < length tree.now.nodes) start.now }
+    ensures first { IfOk result (λ o. o ≡ first_sought tree.now.nodes changed row.now sought start.now) }
     ensures there { IfOk result (λ o. IfSome o (λ m. m < length tree.now.nodes)) }
 {
-    let mut level = Vec::new(alloc);
-    level.push(start)?;
+    let mut level = Vec::from_slice(alloc, start)?;
     for _depth in 0..tree.len() {
         if level.is_empty() {
             return Ok(None);
         }
-        if let Some(node) = first_in(tree, sought, &level) {
+        if let Some(node) = first_in(tree, changed, row, sought, &level) {
             return Ok(Some(node));
         }
         level = level_below(alloc, tree, &level)?;
@@ -126,7 +173,7 @@ pub fn newline_kind<A: Allocator + Copy>(
 ) -> Result<CstNewlineKind, AllocError>
     ensures kind { IfOk result (λ kind. kind ≡ newline_kind_of tree.now.nodes) }
 {
-    let Some(node) = first_sought(alloc, tree, Sought::LineEnd, 0)? else {
+    let Some(node) = first_sought(alloc, tree, None, &[], Sought::LineEnd, &[0])? else {
         return Ok(CstNewlineKind::LineFeed);
     };
     match tree.kind(node) {
@@ -174,7 +221,8 @@ pub fn uses_trailing_commas<A: Allocator + Copy>(
     requires there { node < length tree.now.nodes }
     ensures uses { IfOk result (λ uses. uses ≡ uses_trailing_commas_at tree.now.nodes node) }
 {
-    let Some(container) = first_sought(alloc, tree, Sought::SpacedElements, node)? else {
+    let Some(container) = first_sought(alloc, tree, None, &[], Sought::SpacedElements, &[node])?
+    else {
         return Ok(false);
     };
     let Some(last) = last_child_element(tree, container) else {

@@ -1,13 +1,15 @@
 //! The indents for what is put in beside a node.
 ghost use Rattle.std.specs.Prelude.{◌≡◌, ◌<◌, ◌++◌, [], All, IfOk, IfSome, length};
-ghost use Rattle.std.specs.Prelude.{option_map, string_bytes, unwrap_or};
+ghost use Rattle.std.specs.Prelude.{map, option_map, string_bytes, unwrap_or};
 ghost use Rattle.jsonc_tree.specs.Order.{upward};
 ghost use Rattle.jsonc_tree.specs.Tree.{parent_at};
 ghost use Rattle.jsonc_layout.specs.lines.Indents.{above_properties, document_indent, first_indent_in};
 ghost use Rattle.jsonc_layout.specs.lines.Indents.{held_after, indents_at};
-ghost use Rattle.jsonc_layout.specs.lines.Indents.{is_some_property, levels_above, levels_in, more_of};
-ghost use Rattle.jsonc_layout.specs.lines.Indents.{repeated, single_at, told_at, without_front};
+ghost use Rattle.jsonc_layout.specs.lines.Indents.{is_some_property, levels_above, levels_among, levels_in, more_of};
+ghost use Rattle.jsonc_layout.specs.lines.Indents.{repeated, single_at, told_by, without_front};
 ghost use Rattle.jsonc_layout.specs.lines.IndentViews.{text_in, texts_of};
+ghost use Rattle.jsonc_layout.specs.lines.Lines.{indent_at};
+ghost use Rattle.jsonc_layout.specs.nodes.Siblings.{IsThere};
 
 use crate::lines::indent::indent_text;
 use crate::nodes::{children_from, first_element_from, is_property_kind, root_node};
@@ -21,8 +23,8 @@ pub struct Indents<A: Allocator> {
     pub single: String<A>,
 }
 
-/// Whether a node is the child of an object property.
-pub fn stands_in_property<A: Allocator>(tree: &Tree<A>, node: usize) -> bool
+// Whether a node is the child of an object property.
+fn stands_in_property<A: Allocator>(tree: &Tree<A>, node: usize) -> bool
     requires { node < length tree.now.nodes }
     ensures { result ≡ is_some_property tree.now.nodes (parent_at tree.now.nodes node) }
 {
@@ -48,18 +50,18 @@ fn beyond_properties<A: Allocator>(tree: &Tree<A>, node: usize) -> Option<usize>
     None
 }
 
-// The nodes above a node that are levels of indent, nearest first.
-fn levels_above<A: Allocator>(
+/// Of a node and those above it the levels of indent, nearest first.
+pub fn levels_from<A: Allocator>(
     alloc: A,
     tree: &Tree<A>,
-    node: usize,
+    start: Option<usize>,
 ) -> Result<Vec<usize, A>, AllocError>
-    requires { node < length tree.now.nodes }
-    ensures levels { IfOk result (λ v. v.items ≡ levels_above tree.now.nodes node) }
+    requires { IsThere tree.now.nodes start }
+    ensures levels { IfOk result (λ v. v.items ≡ levels_among tree.now.nodes (upward tree.now.nodes start)) }
     ensures there { IfOk result (λ v. All (λ m. m < length tree.now.nodes) v.items) }
 {
     let mut levels = Vec::new(alloc);
-    let mut next = beyond_properties(tree, node);
+    let mut next = start;
     while let Some(at) = next {
         if at == 0 {
             return Ok(levels);
@@ -73,6 +75,19 @@ fn levels_above<A: Allocator>(
     Ok(levels)
 }
 
+// The nodes above a node that are levels of indent, nearest first.
+fn levels_above<A: Allocator>(
+    alloc: A,
+    tree: &Tree<A>,
+    node: usize,
+) -> Result<Vec<usize, A>, AllocError>
+    requires { node < length tree.now.nodes }
+    ensures levels { IfOk result (λ v. v.items ≡ levels_above tree.now.nodes node) }
+    ensures there { IfOk result (λ v. All (λ m. m < length tree.now.nodes) v.items) }
+{
+    levels_from(alloc, tree, beyond_properties(tree, node))
+}
+
 // The text without another at its front, if it begins with that.
 fn without_front<'a>(outer: &str, inner: &'a str) -> Option<&'a str>
     ensures { option_map (λ s. s.now) result ≡ without_front outer.now inner.now }
@@ -80,8 +95,8 @@ fn without_front<'a>(outer: &str, inner: &'a str) -> Option<&'a str>
     inner.strip_prefix(outer)
 }
 
-/// What the inner indent has more than the outer one, if both are there and it begins with that.
-pub fn more_of<'a, A: Allocator>(
+// What the inner indent has more than the outer one, if both are there and it begins with that.
+fn more_of<'a, A: Allocator>(
     inner: &'a Option<String<A>>,
     outer: &Option<String<A>>,
 ) -> Option<&'a str>
@@ -93,11 +108,8 @@ pub fn more_of<'a, A: Allocator>(
     }
 }
 
-/// What the next indent outward is held against: this one, where none was held.
-pub fn held_after<A: Allocator>(
-    held: Option<String<A>>,
-    outer: Option<String<A>>,
-) -> Option<String<A>>
+// What the next indent outward is held against: this one, where none was held.
+fn held_after<A: Allocator>(held: Option<String<A>>, outer: Option<String<A>>) -> Option<String<A>>
     ensures { text_in result ≡ held_after (text_in held) (text_in outer) }
 {
     match held {
@@ -106,8 +118,8 @@ pub fn held_after<A: Allocator>(
     }
 }
 
-/// The text that is held, or none.
-pub fn held_text<A: Allocator>(held: &Option<String<A>>) -> &str
+// The text that is held, or none.
+fn held_text<A: Allocator>(held: &Option<String<A>>) -> &str
     ensures { result.now ≡ unwrap_or (text_in held.now) [] }
 {
     match held {
@@ -146,18 +158,18 @@ pub fn levels_in<A: Allocator + Copy>(
     Ok(Indents { current, single })
 }
 
-// The indents that two lines next to one another tell, of the node and the levels above it.
-fn told_by<A: Allocator + Copy>(
+/// The indents that two lines next to one another tell: the one with this indent, and those of the levels above it.
+pub fn told_by<A: Allocator + Copy>(
     alloc: A,
     tree: &Tree<A>,
-    node: usize,
+    own: Option<String<A>>,
     levels: &[usize],
 ) -> Result<Option<Indents<A>>, AllocError>
-    requires node { node < length tree.now.nodes }
-    requires there { All (λ m. m < length tree.now.nodes) levels.now }
-    ensures { IfOk result (λ o. option_map texts_of o ≡ told_at tree.now.nodes node levels.now) }
+    requires { All (λ m. m < length tree.now.nodes) levels.now }
+    ensures { IfOk result (λ o. option_map texts_of o
+        ≡ told_by 0 (text_in own) (map (indent_at tree.now.nodes) levels.now)) }
 {
-    let mut held = indent_text(alloc, tree, node)?;
+    let mut held = own;
     for place in 0..levels.len() {
         let outer = indent_text(alloc, tree, levels[place])?;
         if let Some(single) = more_of(&held, &outer) {
@@ -243,7 +255,8 @@ pub fn indents_at<A: Allocator + Copy>(
     ensures indents { IfOk result (λ i. texts_of i ≡ indents_at tree.now.nodes node) }
 {
     let levels = levels_above(alloc, tree, node)?;
-    if let Some(told) = told_by(alloc, tree, node, &levels)? {
+    let own = indent_text(alloc, tree, node)?;
+    if let Some(told) = told_by(alloc, tree, own, &levels)? {
         return Ok(told);
     }
     let single = single_at(alloc, tree, node, levels.len())?;

@@ -6,7 +6,7 @@ ghost use Rattle.std.specs.Prelude.{◌≡◌};
 ghost use Rattle.jsonc_tree.specs.Stored.{content_of};
 ghost use Rattle.jsonc_tree.specs.Tree.{content_at};
 ghost use Rattle.jsonc_layout.specs.nodes.Kinds.{is_property, is_token};
-ghost use Rattle.jsonc_layout.specs.nodes.Kinds.{is_beside_at, is_colon_at, is_comma_at, is_comment_at, is_element_at};
+ghost use Rattle.jsonc_layout.specs.nodes.Kinds.{is_beside_at, is_blank_at, is_colon_at, is_comma_at, is_comment_at, is_element_at};
 ghost use Rattle.jsonc_layout.specs.nodes.Kinds.{is_newline_at, is_trivia_at, is_whitespace_at};
 ghost use Rattle.jsonc_layout.specs.nodes.Properties.{is_name_at};
 
@@ -116,6 +116,13 @@ pub fn is_whitespace<A: Allocator>(tree: &Tree<A>, node: usize) -> bool
         Kind::WhitespacePart(_) | Kind::Whitespace(_) => true,
         _ => false,
     }
+}
+
+/// Whether a node is whitespace or a newline.
+pub fn is_blank<A: Allocator>(tree: &Tree<A>, node: usize) -> bool
+    ensures blank { result ≡ is_blank_at tree.now.nodes node }
+{
+    is_whitespace(tree, node) || is_newline(tree, node)
 }
 
 /// Whether a node is whitespace, a newline or a comment.

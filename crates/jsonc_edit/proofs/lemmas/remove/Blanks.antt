@@ -1,7 +1,8 @@
 -- Rows in which blanks alone stand.
 use Rattle.std.proofs.Common.{◌≡◌, ℕ, Bool, true, false, ◌&&◌, ◌||◌, List, ◌∷◌, Option, Some, None, ap, ◌∙◌}
 use Rattle.jsonc_tree.specs.Tree.{Node}
-use Rattle.jsonc_edit.specs.remove.Leaving.{comes_to, is_blank_at}
+use Rattle.jsonc_edit.specs.remove.Leaving.{comes_to}
+use Rattle.jsonc_layout.specs.nodes.Kinds.{is_blank_at}
 use Rattle.jsonc_edit.specs.remove.Removed.{is_node}
 
 module _ (ns : List Node) where

@@ -13,7 +13,7 @@ use Rattle.jsonc_tree.specs.Tree.{Node, content_at, parent_at, children_at, plac
 use Rattle.jsonc_tree.proofs.Order.{not_over_parent, parent_there}
 use Rattle.jsonc_tree.proofs.OrderedTrees.{Shows-unique}
 use Rattle.jsonc_tree.proofs.Rows.{Shows-append, Shows-part, followed_by-none}
-use Rattle.jsonc_layout.specs.nodes.Kinds.{is_trivia, is_element_at, is_property}
+use Rattle.jsonc_layout.specs.nodes.Kinds.{is_trivia, is_element_at, is_property, is_blank_at}
 use Rattle.jsonc_layout.proofs.lemmas.nodes.There.{All-reverse}
 use Rattle.jsonc_sound.specs.Shape.{DocumentShaped, IsTrivia}
 use Rattle.jsonc_layout.specs.lines.Kinds.{holds_values}
@@ -38,7 +38,7 @@ use Rattle.jsonc_edit.proofs.Kept.{top_stays, tree_stays}
 use Rattle.jsonc_edit.proofs.Uniqueness.{element_parent}
 use Rattle.jsonc_edit.proofs.Walk.{Shows-row_below, apart_kept, document_is}
 use Rattle.jsonc_edit.specs.remove.Laws.{ValueTaken}
-use Rattle.jsonc_edit.specs.remove.Leaving.{comes_to, comma_gone, first_gone, is_blank_at, last_gone, last_past, line_end_at}
+use Rattle.jsonc_edit.specs.remove.Leaving.{comes_to, comma_gone, first_gone, last_gone, last_past, line_end_at}
 use Rattle.jsonc_edit.specs.remove.Removed.{comma_in, due_at_comma, due_at_stretch, is_hollow, is_hollow_as, hollow_from, hollow_to, IsTakenFrom, LosesChild, TakesElement}
 use Rattle.jsonc_edit.proofs.lemmas.remove.Contents.{apart, apart_shown}
 use Rattle.jsonc_edit.proofs.lemmas.remove.Places.{row_split, before_in, after_in, place_in}

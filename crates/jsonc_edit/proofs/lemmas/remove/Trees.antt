@@ -13,7 +13,7 @@ use Rattle.jsonc_tree.specs.Tree.{Node, content_at, parent_at, children_at, IsTr
 use Rattle.jsonc_tree.proofs.Order.{not_over_parent}
 use Rattle.jsonc_tree.proofs.OrderedTrees.{Shows-unique}
 use Rattle.jsonc_tree.proofs.Rows.{Shows-part}
-use Rattle.jsonc_layout.specs.nodes.Kinds.{is_trivia, is_whitespace, is_newline, is_beside}
+use Rattle.jsonc_layout.specs.nodes.Kinds.{is_trivia, is_whitespace, is_newline, is_beside, is_blank_at}
 use Rattle.jsonc_sound.specs.Shape.{token_then}
 use Rattle.jsonc_layout.specs.lines.Kinds.{holds_values}
 use Rattle.jsonc_sound.specs.Rows.{RowKind, opening, closing}
@@ -23,7 +23,7 @@ use Rattle.jsonc_sound.specs.Leaving.{AreBeside, ClosesUp, closes_up}
 use Rattle.jsonc_edit.specs.Due.{nearest, prints_at, begins_bare, ends_bare}
 use Rattle.jsonc_edit.specs.Changes.{row_below}
 use Rattle.jsonc_edit.proofs.Walk.{Shows-row_below, apart_kept}
-use Rattle.jsonc_edit.specs.remove.Leaving.{comes_to, is_blank_at}
+use Rattle.jsonc_edit.specs.remove.Leaving.{comes_to}
 use Rattle.jsonc_edit.specs.remove.Removed.{comes_to_last, is_hollow_as, hollow_from, hollow_to, IsClosedUp}
 use Rattle.jsonc_edit.proofs.lemmas.remove.Places.{Quiet}
 use Rattle.jsonc_edit.proofs.lemmas.remove.Stretches.{contents}

@@ -10,9 +10,9 @@ use Rattle.std.proofs.lemmas.List.Sums.{prefix_len_passes, prefix_len_stops}
 use Rattle.jsonc_tree.specs.Content.{newline}
 use Rattle.jsonc_tree.specs.OrderedTree.{OrderedTree, none, more, followed_by}
 use Rattle.jsonc_tree.specs.Tree.{Node, content_at, IsTree}
-use Rattle.jsonc_layout.specs.nodes.Kinds.{is_newline_at, is_whitespace_at}
+use Rattle.jsonc_layout.specs.nodes.Kinds.{is_newline_at, is_whitespace_at, is_blank_at}
 use Rattle.jsonc_sound.specs.TriviaChanges.{leaves_then}
-use Rattle.jsonc_insert.specs.Trimmed.{blanks, first_gone, inside, is_blank_at, last_blanks, last_gone, last_gone_from, last_spaces, spaces, trimmed, without}
+use Rattle.jsonc_insert.specs.Trimmed.{blanks, first_gone, inside, last_blanks, last_gone, last_gone_from, last_spaces, spaces, trimmed, without}
 use Rattle.jsonc_insert.proofs.Trimming.{back_blank, blanks_within, first_high, first_within, front_blank, last_behind, last_high, last_low, shorter_at}
 use Rattle.jsonc_edit.proofs.lemmas.multiline.OnLines.{standing}
 use Rattle.jsonc_insert.specs.elements.Coming.{FirstLinesLeave, none_first, leave_first, LastLinesLeave, none_last, leave_last, BlankLinesLeave}

@@ -14,7 +14,7 @@ use Rattle.jsonc_tree.specs.Changes.{EachOnce}
 use Rattle.jsonc_tree.specs.Content.{Content, token}
 use Rattle.jsonc_tree.specs.OrderedTree.{OrderedTree, none, more, followed_by}
 use Rattle.jsonc_tree.specs.Tree.{Node, content_at, IsTree}
-use Rattle.jsonc_layout.specs.nodes.Kinds.{is_beside, is_beside_at, is_element, is_element_at, is_newline, is_trivia, is_whitespace, is_comma_at, is_comma}
+use Rattle.jsonc_layout.specs.nodes.Kinds.{is_beside, is_beside_at, is_element, is_element_at, is_newline, is_trivia, is_whitespace, is_comma_at, is_comma, is_blank_at}
 use Rattle.jsonc_layout.specs.nodes.Siblings.{is_no_newline_at}
 use Rattle.jsonc_layout.specs.lines.Breadth.{last_element}
 use Rattle.jsonc_sound.specs.Alone.{StretchAlone}
@@ -24,7 +24,7 @@ use Rattle.jsonc_sound.specs.Rows.{RowKind, of_values, of_properties, opening, c
 use Rattle.jsonc_sound.proofs.SeamStretches.{last_is, parted_stretch}
 use Rattle.jsonc_edit.specs.Changes.{row_below}
 use Rattle.jsonc_insert.specs.Planned.{behind_comma, begins_with_comma, comma_comes, comma_wanted, element_before, elements, has_brackets, has_comma, is_other, line, line_if, parting, past_comments, place_in, plan_alone, plan_behind, plan_by, plan_first, planned, trivia}
-use Rattle.jsonc_insert.specs.Trimmed.{is_blank_at, last_blanks, last_spaces}
+use Rattle.jsonc_insert.specs.Trimmed.{last_blanks, last_spaces}
 use Rattle.jsonc_insert.specs.declared.plan.Gap.TheVariants.{Nothing}
 use Rattle.jsonc_insert.specs.declared.plan.Plan.{Plan}
 use Rattle.jsonc_insert.proofs.Counting.{found_last, planned_count}

@@ -8,7 +8,7 @@ use Rattle.jsonc_tree.specs.Content.{Content, is_container, newline, token}
 use Rattle.jsonc_tree.specs.OrderedTree.{OrderedTree, none, more, followed_by}
 use Rattle.jsonc_tree.specs.Tree.{Node, content_at, IsTree}
 use Rattle.jsonc_tree.specs.declared.node.CstNewlineKind.{CstNewlineKind}
-use Rattle.jsonc_layout.specs.nodes.Kinds.{is_beside, is_beside_at, is_element, is_newline, is_trivia, is_trivia_at, is_whitespace, is_comma_at, is_comma}
+use Rattle.jsonc_layout.specs.nodes.Kinds.{is_beside, is_beside_at, is_element, is_newline, is_trivia, is_trivia_at, is_whitespace, is_comma_at, is_comma, is_blank_at}
 use Rattle.jsonc_sound.specs.Shape.{token_then}
 use Rattle.jsonc_sound.specs.Leaving as leaving
 use Rattle.jsonc_sound.specs.Leaving.{AreBeside, element_count}
@@ -16,7 +16,6 @@ use Rattle.jsonc_sound.specs.MarkChanges.{AreBlanks}
 use Rattle.jsonc_sound.specs.TriviaChanges.{leaves_then}
 use Rattle.jsonc_edit.specs.Changes.{row_below}
 use Rattle.jsonc_insert.specs.Planned.{begins_with_comma, comma_comes, elements}
-use Rattle.jsonc_insert.specs.Trimmed.{is_blank_at}
 use Rattle.jsonc_edit.proofs.lemmas.multiline.OnLines.{bare_below, standing}
 use Rattle.jsonc_insert.proofs.lemmas.elements.Stretches.{comma_past}
 

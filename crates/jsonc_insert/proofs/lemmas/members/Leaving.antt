@@ -9,7 +9,7 @@ use Rattle.jsonc_tree.specs.Content.{Content}
 use Rattle.jsonc_tree.specs.Tree.{Node, children_at, parent_at, is_in, place_at, IsTree}
 use Rattle.jsonc_tree.proofs.Order.{parent_there}
 use Rattle.jsonc_tree.proofs.Splicing.{in_at}
-use Rattle.jsonc_layout.specs.nodes.Kinds.{is_newline, is_newline_at, is_whitespace, is_whitespace_at, is_comma_at}
+use Rattle.jsonc_layout.specs.nodes.Kinds.{is_newline, is_newline_at, is_whitespace, is_whitespace_at, is_comma_at, is_blank_at}
 use Rattle.jsonc_edit.specs.multiline.Slots.{Slot, stays, AreFilled, no_more, stayed, came}
 use Rattle.jsonc_edit.specs.multiline.Lines.{Lines, between, lines_for, on_lines, spread_row, without_back}
 use Rattle.jsonc_edit.specs.multiline.Multiline.{has_line_end}
@@ -17,7 +17,7 @@ use Rattle.jsonc_edit.specs.multiline.Plans.{begins_behind, child_slots}
 use Rattle.jsonc_edit.proofs.lemmas.multiline.Weaving.{woven}
 use Rattle.jsonc_insert.specs.Inserted.{with_comma}
 use Rattle.jsonc_insert.specs.Planned.{has_brackets}
-use Rattle.jsonc_insert.specs.Trimmed.{is_blank_at, trimmed, with_at}
+use Rattle.jsonc_insert.specs.Trimmed.{trimmed, with_at}
 use Rattle.jsonc_insert.proofs.Leaving.{in_with_at, kept_or_blank}
 use Rattle.jsonc_insert.proofs.Trimming.{has_two}
 use Rattle.jsonc_insert.specs.members.Inserted.{plan_inside}

@@ -13,5 +13,5 @@ slice_bounds-rest-start g c = omega (arith, newline_there (content_at c.args.tre
 
 pub returns : goal.returns
 returns g c =
-    above_counted (content_at c.args.tree.now.nodes) c.args.lead.now _ (c.before_newline-first.result + 1) c.up_to_spaces.result c.comments.result c.requires (ap (λ k. k + 1) c.before_newline-first.ensures.count) (take_rest c.args.lead.now (c.before_newline-first.result + 1)) c.up_to_spaces.ensures.count
+    above_counted (content_at c.args.tree.now.nodes) c.args.lead.now _ (c.line_length-first.result + 1) c.up_to_spaces.result c.comments.result c.requires (ap (λ k. k + 1) c.line_length-first.ensures.place) (take_rest c.args.lead.now (c.line_length-first.result + 1)) c.up_to_spaces.ensures.count
     c.comments.ensures

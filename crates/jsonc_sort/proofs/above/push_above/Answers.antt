@@ -21,4 +21,4 @@ returns g c =
     let at = content_at c.args.tree.now.nodes in
     c.in_ok-push_comments.ensures
     ∙ ap (λ l. c.args.found.now.items ++ filter (is_comment_at at) l)
-    (above_is at c.args.lead.now _ (c.before_newline-first.result + 1) c.up_to_spaces.result (sym c.has_newline.ensures ∙ c.if-not-has_newline.false) (ap (λ k. k + 1) c.before_newline-first.ensures.count) (take_rest c.args.lead.now (c.before_newline-first.result + 1)) c.up_to_spaces.ensures.count)
+    (above_is at c.args.lead.now _ (c.line_length-first.result + 1) c.up_to_spaces.result (sym c.has_newline.ensures ∙ c.if-not-has_newline.false) (ap (λ k. k + 1) c.line_length-first.ensures.place) (take_rest c.args.lead.now (c.line_length-first.result + 1)) c.up_to_spaces.ensures.count)

@@ -16,11 +16,11 @@ pub returns-clause-parts : goal.returns-clause-parts
 returns-clause-parts g c =
     let at = content_at c.args.tree.now.nodes in
     let lead : List ℕ = c.args.lead.now in
-    let first : ℕ = c.before_newline-first.result + 1 in
+    let first : ℕ = c.line_length-first.result + 1 in
     let upto : ℕ = c.up_to_spaces-indent.result in
     let header : ℕ = c.header_length-header.result in
     let rest : take (length lead - first) (drop first lead) ≡ drop first lead = take_rest lead first in
-    lines_are at lead _ c.args.begins c.args.pinned first upto header (ap (λ k. k + 1) c.before_newline-first.ensures.count) (omega (arith, newline_there at lead c.requires, c.before_newline-first.ensures.count))
+    lines_are at lead _ c.args.begins c.args.pinned first upto header (ap (λ k. k + 1) c.line_length-first.ensures.place) (omega (arith, newline_there at lead c.requires, c.line_length-first.ensures.place))
     (c.up_to_spaces-indent.ensures.count ∙ ap (up_to_spaces at) rest)
     (c.header_length-header.ensures.header ∙ ap (λ l. header_length at c.args.begins c.args.pinned (take upto l)) rest)
     (subst (λ (l : List ℕ). header ≤ length (take upto l)) rest c.header_length-header.ensures.within) refl refl
@@ -28,6 +28,6 @@ returns-clause-parts g c =
 pub returns-clause-within : goal.returns-clause-within
 returns-clause-within g c =
     let lead : List ℕ = c.args.lead.now in
-    let first : ℕ = c.before_newline-first.result + 1 in
+    let first : ℕ = c.line_length-first.result + 1 in
     let short : c.up_to_spaces-indent.result ≤ length (drop first lead) = subst (λ (l : List ℕ). c.up_to_spaces-indent.result ≤ length l) (take_rest lead first) c.up_to_spaces-indent.ensures.within in
-    omega (arith, short, length-drop first lead, newline_there (content_at c.args.tree.now.nodes) lead c.requires, c.before_newline-first.ensures.count)
+    omega (arith, short, length-drop first lead, newline_there (content_at c.args.tree.now.nodes) lead c.requires, c.line_length-first.ensures.place)

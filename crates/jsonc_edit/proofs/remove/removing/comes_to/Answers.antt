@@ -14,13 +14,13 @@ returns-then-not-is_blank g c =
     sym
     (c.loop-child.invariant.same
     ∙ comes_stops c.args.tree.now.nodes c.in-Some.child c.loop-child.child-iterator c.next.new.self c.in-Some.ensures.steps c.args.last (sym c.is_node.ensures ∙ c.if-is_node.false)
-    (sym c.is_blank.ensures ∙ c.if-not-is_blank.true))
+    (sym c.is_blank.ensures.blank ∙ c.if-not-is_blank.true))
 
 pub loop-child-preserved : goal.loop-child-preserved
 loop-child-preserved g c = record {
   same =
       c.loop-child.invariant.same
       ∙ comes_on c.args.tree.now.nodes c.in-Some.child c.loop-child.child-iterator c.next.new.self c.in-Some.ensures.steps c.args.last (sym c.is_node.ensures ∙ c.if-is_node.false)
-      (sym c.is_blank.ensures ∙ c.if-not-is_blank.false);
+      (sym c.is_blank.ensures.blank ∙ c.if-not-is_blank.false);
   rest = rest_there c.args.tree.now.nodes c.loop-child.child-iterator c.in-Some.child c.next.new.self c.in-Some.ensures.steps c.loop-child.invariant.rest;
 }

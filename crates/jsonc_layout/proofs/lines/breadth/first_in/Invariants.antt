@@ -4,4 +4,6 @@ use Rattle.jsonc_layout.specs.lines.Breadth.{is_sought}
 use Rattle.jsonc_layout.proofs.lines.breadth.first_in.Given as goal
 
 abbrev pub invariant-loop-node : goal.invariant-loop-node
-invariant-loop-node g l = find (is_sought l.tree.nodes l.sought) l.level ≡ find (is_sought l.tree.nodes l.sought) (drop l.node-index l.level)
+invariant-loop-node g l =
+    let p = is_sought l.tree.nodes l.changed l.row l.sought in
+    find p l.level ≡ find p (drop l.node-index l.level)

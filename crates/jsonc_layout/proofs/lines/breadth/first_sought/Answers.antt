@@ -12,8 +12,8 @@ returns-then-is_empty-clause-first g c =
     let ns = c.args.tree.now.nodes in
     let empty : c.loop-depth.level.items ≡ [] = nil_from_length c.loop-depth.level.items (omega (arith, c.loop-depth.level.ok.0, eqb-true (vec_len c.loop-depth.level) 0 (sym c.is_empty.ensures ∙ c.if-is_empty.true))) in
     sym (c.loop-depth.invariant.same
-    ∙ ap (λ level. find (is_sought ns c.args.sought) (levels (length ns - c.loop-depth._depth) ns level)) empty
-    ∙ ap (find (is_sought ns c.args.sought)) (levels_none (length ns - c.loop-depth._depth) ns))
+    ∙ ap (λ level. find (is_sought ns c.args.changed c.args.row.now c.args.sought) (levels (length ns - c.loop-depth._depth) ns level)) empty
+    ∙ ap (find (is_sought ns c.args.changed c.args.row.now c.args.sought)) (levels_none (length ns - c.loop-depth._depth) ns))
 
 pub first_in-requires : goal.first_in-requires
 first_in-requires g c = record { there = subst (λ (level : List ℕ). All (λ m. m < length c.args.tree.now.nodes) level) (sym c.deref.ensures.value) c.loop-depth.invariant.there }
@@ -21,7 +21,7 @@ first_in-requires g c = record { there = subst (λ (level : List ℕ). All (λ m
 pub returns-in-Some-clause-first : goal.returns-in-Some-clause-first
 returns-in-Some-clause-first g c =
     let ns = c.args.tree.now.nodes in
-    let p = is_sought ns c.args.sought in
+    let p = is_sought ns c.args.changed c.args.row.now c.args.sought in
     let here : find p c.loop-depth.level.items ≡ Some c.in-Some.node = ap (find p) (sym c.deref.ensures.value) ∙ sym c.in-Some.ensures.first in
     sym (c.loop-depth.invariant.same ∙ found_here p ns (length ns) c.loop-depth._depth c.loop-depth.level.items (omega arith) c.in-Some.node here)
 
@@ -31,9 +31,9 @@ level_below-requires g c = record { there = subst (λ (level : List ℕ). All (�
 pub loop-depth-preserved : goal.loop-depth-preserved
 loop-depth-preserved g c =
     let ns = c.args.tree.now.nodes in
-    let p = is_sought ns c.args.sought in
+    let p = is_sought ns c.args.changed c.args.row.now c.args.sought in
     let level : List ℕ = c.loop-depth.level.items in
-    let below : c.in_ok-level.level.items ≡ flat_map (children_at ns) level = c.in_ok-level.ensures.below ∙ ap (flat_map (children_at ns)) c.deref-in-loop-depth.ensures.value in
+    let below : c.in_ok-level-2.level.items ≡ flat_map (children_at ns) level = c.in_ok-level-2.ensures.below ∙ ap (flat_map (children_at ns)) c.deref-in-loop-depth.ensures.value in
     let none : find p level ≡ None = ap (find p) (sym c.deref.ensures.value) ∙ sym c.in_default.ensures.first in
     record {
       there = subst (λ (xs : List ℕ). All (λ m. m < length ns) xs) (sym below) (all_below ns c.args.tree.now.tree level);
@@ -42,4 +42,4 @@ loop-depth-preserved g c =
     }
 
 pub returns-clause-first : goal.returns-clause-first
-returns-clause-first g c = sym (c.loop-depth.invariant.same ∙ found_nowhere (is_sought c.args.tree.now.nodes c.args.sought) c.args.tree.now.nodes (length c.args.tree.now.nodes) c.loop-depth._depth c.loop-depth.level.items (omega arith))
+returns-clause-first g c = sym (c.loop-depth.invariant.same ∙ found_nowhere (is_sought c.args.tree.now.nodes c.args.changed c.args.row.now c.args.sought) c.args.tree.now.nodes (length c.args.tree.now.nodes) c.loop-depth._depth c.loop-depth.level.items (omega arith))

@@ -6,4 +6,4 @@ use Rattle.jsonc_layout.proofs.lines.indents.told_by.Given as goal
 abbrev pub invariant-loop-place : goal.invariant-loop-place
 invariant-loop-place g l =
     let ns = l.tree.nodes in
-    told_by 0 (indent_at ns l.node) (map (indent_at ns) l.levels) ≡ told_by l.place (option_map string_bytes l.held) (map (indent_at ns) (drop l.place l.levels))
+    told_by 0 (option_map string_bytes l.fn.own) (map (indent_at ns) l.levels) ≡ told_by l.place (option_map string_bytes l.held) (map (indent_at ns) (drop l.place l.levels))

@@ -2,8 +2,7 @@ use Rattle.std.proofs.Common.{◌≡◌, ◌<◌, ◌++◌, All, IfSome, length}
 use Rattle.jsonc_tree.specs.Order.{upward}
 use Rattle.jsonc_tree.proofs.Order.{levels, one_more}
 use Rattle.jsonc_layout.specs.lines.Indents.{levels_among}
-use Rattle.jsonc_insert.specs.members.Told.{levels_inside}
-use Rattle.jsonc_insert.proofs.members.levels.levels_inside.Given as goal
+use Rattle.jsonc_layout.proofs.lines.indents.levels_from.Given as goal
 
 abbrev pub invariant-loop-next : goal.invariant-loop-next
 invariant-loop-next g l =
@@ -11,7 +10,7 @@ invariant-loop-next g l =
     record {
       there : IfSome l.next (λ m. m < length ns);
       all : All (λ m. m < length ns) l.levels.items;
-      same : levels_inside ns l.object ≡ l.levels.items ++ levels_among ns (upward ns l.next);
+      same : levels_among ns (upward ns l.fn.start) ≡ l.levels.items ++ levels_among ns (upward ns l.next);
     }
 
 abbrev pub decreases-loop-next : goal.decreases-loop-next

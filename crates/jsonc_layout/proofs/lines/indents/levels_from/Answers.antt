@@ -5,7 +5,7 @@ use Rattle.jsonc_tree.specs.Order.{upward}
 use Rattle.jsonc_tree.proofs.Order.{parent_within}
 use Rattle.jsonc_layout.specs.lines.Indents.{levels_among}
 use Rattle.jsonc_layout.proofs.lemmas.lines.Climbing.{among_here, among_over, among_root, climb_smaller, climbed, there_at}
-use Rattle.jsonc_insert.proofs.members.levels.levels_inside.Goals as goal
+use Rattle.jsonc_layout.proofs.lines.indents.levels_from.Goals as goal
 
 pub returns-then-at-eq0-clause-levels : goal.returns-then-at-eq0-clause-levels
 returns-then-at-eq0-clause-levels g c =

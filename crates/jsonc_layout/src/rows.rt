@@ -1,0 +1,95 @@
+//! Rows: nodes by their numbers, in order, as a container has them or is to have them.
+
+ghost use Rattle.std.specs.Prelude.{◌≡◌, ◌≤◌, length, reverse};
+ghost use Rattle.std.specs.List.{list_all, list_any, position_or_len, prefix_len, suffix_len, take_while};
+ghost use Rattle.jsonc_layout.specs.lines.Breadth.{last_element};
+ghost use Rattle.jsonc_layout.specs.nodes.Kinds.{is_beside_at, is_blank_at, is_newline_at, is_whitespace_at};
+ghost use Rattle.jsonc_layout.specs.nodes.Siblings.{is_no_newline_at};
+
+use crate::nodes::{is_beside, is_blank, is_element, is_newline, is_whitespace};
+use jsonc_tree::Tree;
+use std::alloc::Allocator;
+
+/// Whether a line ends in a row.
+pub fn has_newline<A: Allocator>(tree: &Tree<A>, row: &[usize]) -> bool
+    ensures { result ≡ list_any (is_newline_at tree.now.nodes) row.now }
+{
+    row.iter().any(|node| is_newline(tree, *node))
+}
+
+/// Whether whitespace stands in a row.
+pub fn has_whitespace<A: Allocator>(tree: &Tree<A>, row: &[usize]) -> bool
+    ensures { result ≡ list_any (is_whitespace_at tree.now.nodes) row.now }
+{
+    row.iter().any(|node| is_whitespace(tree, *node))
+}
+
+/// Whether nothing but whitespace and comments stands in a row.
+pub fn all_beside<A: Allocator>(tree: &Tree<A>, row: &[usize]) -> bool
+    ensures { result ≡ list_all (is_beside_at tree.now.nodes) row.now }
+{
+    row.iter().all(|node| is_beside(tree, *node))
+}
+
+/// The last element of a row.
+pub fn last_element<A: Allocator>(tree: &Tree<A>, row: &[usize]) -> Option<usize>
+    ensures element { result ≡ last_element tree.now.nodes row.now }
+{
+    row.iter()
+        .rev()
+        .copied()
+        .find(|node| is_element(tree, *node))
+}
+
+/// How many nodes stand on the line that a row begins with.
+pub fn line_length<A: Allocator>(tree: &Tree<A>, row: &[usize]) -> usize
+    ensures count { result ≡ length (take_while (is_no_newline_at tree.now.nodes) row.now) }
+    ensures place { result ≡ position_or_len (is_newline_at tree.now.nodes) row.now }
+    ensures within { result ≤ length row.now }
+{
+    row.iter()
+        .take_while(|node| !is_newline(tree, **node))
+        .count()
+}
+
+/// How many nodes at the front of a row are whitespace or ends of lines.
+pub fn blanks<A: Allocator>(tree: &Tree<A>, row: &[usize]) -> usize
+    ensures count { result ≡ length (take_while (is_blank_at tree.now.nodes) row.now) }
+    ensures within { result ≤ length row.now }
+{
+    row.iter().take_while(|node| is_blank(tree, **node)).count()
+}
+
+/// The same at its end.
+pub fn last_blanks<A: Allocator>(tree: &Tree<A>, row: &[usize]) -> usize
+    ensures count { result ≡ length (take_while (is_blank_at tree.now.nodes) (reverse row.now)) }
+    ensures within { result ≤ length row.now }
+{
+    row.iter()
+        .rev()
+        .take_while(|node| is_blank(tree, **node))
+        .count()
+}
+
+/// How many nodes at the front of a row are whitespace.
+pub fn spaces<A: Allocator>(tree: &Tree<A>, row: &[usize]) -> usize
+    ensures count { result ≡ length (take_while (is_whitespace_at tree.now.nodes) row.now) }
+    ensures prefix { result ≡ prefix_len (is_whitespace_at tree.now.nodes) row.now }
+    ensures within { result ≤ length row.now }
+{
+    row.iter()
+        .take_while(|node| is_whitespace(tree, **node))
+        .count()
+}
+
+/// The same at its end.
+pub fn last_spaces<A: Allocator>(tree: &Tree<A>, row: &[usize]) -> usize
+    ensures count { result ≡ length (take_while (is_whitespace_at tree.now.nodes) (reverse row.now)) }
+    ensures suffix { result ≡ suffix_len (is_whitespace_at tree.now.nodes) row.now }
+    ensures within { result ≤ length row.now }
+{
+    row.iter()
+        .rev()
+        .take_while(|node| is_whitespace(tree, **node))
+        .count()
+}
