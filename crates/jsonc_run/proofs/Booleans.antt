@@ -1,5 +1,5 @@
 -- What becomes of a document where the truth value at a path is set.
-use Rattle.std.proofs.Common.{◌≡◌, ℕ, Bool, true, List, Option, Some, OnOk, OnErr, IfErr, Result, Ok, Err, refl, sym, ap, subst, ◌∙◌}
+use Rattle.std.proofs.Common.{◌≡◌, ℕ, Bool, List, Some, OnOk, OnErr, IfErr, Result, Ok, Err, refl, sym, ap, subst, ◌∙◌}
 use Rattle.jsonc_text.specs.Options.{Options}
 use Rattle.jsonc_text.specs.Plain.{Plain}
 use Rattle.jsonc_text.specs.Grammar.{IsDocument}
@@ -13,11 +13,10 @@ use Rattle.jsonc_sound.specs.Booleans.{boolean_leaf}
 use Rattle.jsonc_sound.specs.Changes.{Changed}
 use Rattle.jsonc_sound.specs.SoundTrees.{SoundTree}
 use Rattle.jsonc_sound.proofs.LeavesAround.{document_differs}
-use Rattle.jsonc_edit.specs.Paths.{FindsExactly, IsAt}
 use Rattle.jsonc_edit.specs.Reading.{layout_for}
 use Rattle.jsonc_text.specs.declared.edit.EditError.{EditError}
 use Rattle.jsonc_text.specs.declared.edit.EditError.TheVariants.{OutOfMemory}
-use Rattle.jsonc_edit.specs.set.Booleans.{is_boolean, BooleanSet, WantsSpaceFor}
+use Rattle.jsonc_edit.specs.set.Booleans.{BooleanSet, WantsSpaceFor}
 use Rattle.jsonc_edit.proofs.lemmas.set.BooleanSetting.{boolean_of}
 use Rattle.jsonc_edit.proofs.lemmas.set.WrittenBoolean.{boolean_gives_way}
 use Rattle.jsonc_run.specs.Edits.{set_boolean, IsMade}
@@ -25,13 +24,6 @@ use Rattle.jsonc_run.specs.Places.{IsBooleanAt}
 use Rattle.jsonc_run.specs.Refusals.{IsToldBy}
 use Rattle.jsonc_insert.specs.named.Values.{ValueGivesWay}
 use Rattle.jsonc_insert.proofs.lemmas.named.PathValues.{value_of_text, value_at_path, value_once}
-
--- what is found at a path, if it is a truth value
-pub boolean_found : (ns : List Node) (path : List ℕ) (at found : Option ℕ) → FindsExactly at (IsAt ns path) → FindsExactly found (λ n. (at ≡ Some n) × (is_boolean (content_at ns n) ≡ true)) → FindsExactly found (IsBooleanAt ns path)
-boolean_found ns path at found standing finds = λ n. (
-  λ e. let it = (finds n).0 e in ((standing n).0 it.0, it.1),
-  λ h. (finds n).1 ((standing n).1 h.0, h.1),
-)
 
 -- what is answered where one is set
 module _ (ns : List Node) (path : List ℕ) (n : ℕ) (b : Bool) (at : IsBooleanAt ns path n) where

@@ -87,3 +87,10 @@ module _ (ns : List Node) (path front : List ℕ) (i : ℕ) (parts : path ≡ fr
 
   pub no_property_found : FindsExactly None (IsAt ns front) → FindsExactly None (IsPropertyAt ns path)
   no_property_found at = behind_none ns front (λ d n. IsPropertyOf ns d i n) (IsPropertyAt ns path) property_goes (λ n h. property_there path n parts h) at
+
+-- what a path leads to, if it is such a node
+pub standing_there : (ns : List Node) (path : List ℕ) (P : ℕ → Type 0) (at found : Option ℕ) → FindsExactly at (IsAt ns path) → FindsExactly found (λ n. (at ≡ Some n) × P n) → FindsExactly found (λ n. IsAt ns path n × P n)
+standing_there ns path P at found standing finds = λ n. (
+  λ e. let it = (finds n).0 e in ((standing n).0 it.0, it.1),
+  λ h. (finds n).1 ((standing n).1 h.0, h.1),
+)

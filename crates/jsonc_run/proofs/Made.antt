@@ -1,6 +1,9 @@
 -- Edits that were made: one more of them, and where none can be.
-use Rattle.std.proofs.Common.{◌≡◌, ℕ, List, Option, [], ◌∷◌, Some, None, IfSome, IfNone, IfErr, OnOk, Result, Ok, Err, sym, subst, ◌∙◌}
+use Rattle.std.proofs.Common.{◌≡◌, ℕ, List, Option, Some, None, IfSome, IfNone, IfErr, OnOk, OnErr, Result, Ok, Err, length, refl, sym, subst, ◌∙◌}
+use Rattle.jsonc_tree.specs.Building.{Keeps}
+use Rattle.jsonc_tree.specs.OrderedTree.{ordered_tree}
 use Rattle.jsonc_tree.specs.Tree.{Node, IsTree, parent_at}
+use Rattle.jsonc_tree.proofs.Builder.{Keeps-same}
 use Rattle.jsonc_edit.specs.Paths.{FindsExactly, IsAt, LeadsTo, StepsTo, itself, step}
 use Rattle.jsonc_edit.proofs.Uniqueness.{element_parent}
 use Rattle.jsonc_text.specs.declared.edit.EditError.{EditError}
@@ -11,8 +14,8 @@ use Rattle.jsonc_edit.specs.set.RootSet.{FirstValue}
 use Rattle.jsonc_text.specs.Plain.{Plain}
 use Rattle.jsonc_insert.specs.named.Places.{IsPropertyAt, a_property}
 use Rattle.jsonc_run.specs.Places.{IsEntryAt}
-use Rattle.jsonc_run.specs.Edits.{remove, IsMade, RootSet}
-use Rattle.jsonc_run.specs.Refusals.{IsToldBy}
+use Rattle.jsonc_run.specs.Edits.{Operation, remove, IsMade, RootSet}
+use Rattle.jsonc_run.specs.Refusals.{as_it_was, HasItsPlace, IsAnswer, IsToldBy, MayWantMemory}
 
 -- what a path leads to has a parent
 module _ (ns : List Node) (tree : IsTree ns) where
@@ -51,10 +54,23 @@ some_is r P m e h = subst (λ (q : Option ℕ). IfSome q P) e h
 pub none_is : (r : Option ℕ) (P : Type 0) → r ≡ None → IfNone r P → P
 none_is r P e h = subst (λ (q : Option ℕ). IfNone q P) e h
 
+-- what is answered where an edit has no place, and where it is made whole or not at all
+pub nowhere : (ns : List Node) (e : Operation) → ((HasItsPlace ns e) → ⊥) → IsAnswer ns ns e (Err NoSuchPlace)
+nowhere ns e none = record { made = tt; told = none; left = as_it_was (Keeps-same (length ns) ns) refl }
+
+pub answers : (old new : List Node) (e : Operation) (r : Result (Unit {0}) EditError) → OnOk r (IsMade old e new) → IfErr r (IsToldBy old e)
+    → OnErr r (Keeps (length old) old new) → OnErr r (ordered_tree new 0 ≡ ordered_tree old 0) → IsAnswer old new e r
+answers old new e (Ok x) made told kept same = record { made = made; told = tt; left = tt }
+answers old new e (Err x) made told kept same = record { made = tt; told = told; left = as_it_was kept same }
+
 -- where memory alone is told of, what holds of want of it holds of what is told
 pub told_of_memory : {T : Type 0} (P : EditError → Type 0) (r : Result T EditError) → IfErr r (λ e. e ≡ OutOfMemory) → P OutOfMemory → IfErr r P
 told_of_memory P (Ok x) memory wanted = tt
 told_of_memory P (Err e) memory wanted = subst P (sym memory) wanted
+
+pub told_as_wanted : {T : Type 0} (ns : List Node) (e : Operation) (r : Result T EditError) → IfErr r (λ x. x ≡ OutOfMemory) → OnErr r (MayWantMemory ns e) → IfErr r (IsToldBy ns e)
+told_as_wanted ns e (Ok x) memory wanted = tt
+told_as_wanted ns e (Err x) memory wanted = subst (IsToldBy ns e) (sym memory) wanted
 
 -- what is answered where an entry is taken out
 module _ (ns : List Node) (path : List ℕ) (n : ℕ) (at : IsEntryAt ns path n) where

@@ -1,6 +1,5 @@
 -- What edits that were made in order make of the marks of a document.
-use Rattle.std.proofs.Common.{ℕ, ◌≡◌, suc, get_or, length, List, [], ◌∷◌, sym, refl, ap, subst, ◌∙◌, arith, chars, Result, Ok, Err, OnOk}
-use Rattle.std.specs.List.{All}
+use Rattle.std.proofs.Common.{ℕ, ◌≡◌, length, List, [], sym, refl, ap, subst, ◌∙◌, arith, chars}
 use Rattle.jsonc_text.specs.Options.{Options}
 use Rattle.jsonc_text.specs.Plain.{Plain}
 use Rattle.jsonc_tree.specs.OrderedTree.{OrderedTree, none, leaves, ordered_tree, Top}
@@ -15,8 +14,6 @@ use Rattle.jsonc_sound.specs.Marks.{Mark, comments_of, marks, trimmed}
 use Rattle.jsonc_sound.specs.Written.{property_written, written}
 use Rattle.jsonc_sound.proofs.GivingWay.{one_mark_leaves}
 use Rattle.jsonc_sound.proofs.Laid.{laid_as_written, laid_as_written_named}
-use Rattle.jsonc_sound.proofs.OneList.{marks_unique}
-use Rattle.jsonc_sound.proofs.Printed.{prints_its_marks}
 use Rattle.jsonc_sound.specs.Coming.{ValueComes}
 use Rattle.jsonc_sound.specs.EntryLaws.{root_with}
 use Rattle.jsonc_sound.proofs.FirstValue.{marks_with_first}
@@ -32,15 +29,14 @@ use Rattle.jsonc_text.specs.declared.edit.Over.TheVariants as over
 use Rattle.jsonc_text.specs.declared.edit.Shape.{Shape}
 use Rattle.jsonc_text.specs.declared.edit.Shape.TheVariants.{Object, Array}
 use Rattle.jsonc_edit.specs.set.Shapes.{empty_of}
-use Rattle.jsonc_run.specs.Edits.{Operation, replace, remove, remove_comment, set_root, clear_root, replace_property, ensure_root, set_value, ensure_value, set_boolean, ensure_multiline, insert_element, append_element, insert_property, append_property, ensure_property, set_commas, set_some_commas, rearrange, AreMade, none_made, first_made, IsMade}
-use Rattle.jsonc_run.specs.Written.{MayBeMade, EntryLeft, entry_left, value_left, RootValueSet, given_way, has_come, RootValueEnsured, all_kept, empty_come, empty_given, PropertyGivenWay, property_given, options_after, options_behind}
+use Rattle.jsonc_run.specs.Edits.{Operation, replace, remove, remove_comment, set_root, clear_root, replace_property, ensure_root, set_value, ensure_value, set_boolean, ensure_multiline, insert_element, append_element, insert_property, append_property, ensure_property, set_commas, set_some_commas, rearrange, IsMade}
+use Rattle.jsonc_run.specs.Written.{MayBeMade, EntryLeft, entry_left, value_left, RootValueSet, given_way, has_come, RootValueEnsured, all_kept, empty_come, empty_given, PropertyGivenWay, property_given}
 use Rattle.jsonc_run.specs.Marked.{IsMarked}
 use Rattle.jsonc_insert.proofs.lemmas.elements.Named.{inserts_member}
 use Rattle.jsonc_insert.proofs.lemmas.elements.Written.{inserts_element}
 use Rattle.jsonc_run.proofs.Inserted.{gained_marks}
 use Rattle.jsonc_insert.proofs.lemmas.named.Values.{empty_writable, ensured_marks, marks_given, value_marked}
 use Rattle.jsonc_insert.proofs.lemmas.named.Writing.{around_marks}
-use Rattle.jsonc_run.proofs.Wider.{may_behind}
 use Rattle.jsonc_run.proofs.Sorts.{commas_say, some_commas_say, sorted_says}
 use Rattle.jsonc_run.specs.Steps.{MadeIn}
 use Rattle.jsonc_run.proofs.Written.{made_in}

@@ -1,17 +1,15 @@
 -- Properties that come into objects at paths.
-use Rattle.std.proofs.Common.{◌≡◌, ℕ, ◌≤◌, ◌<◌, ◌+◌, true, List, length, Option, Some, refl, sym, ap, subst, arith}
+use Rattle.std.proofs.Common.{◌≡◌, ℕ, ◌≤◌, ◌<◌, ◌+◌, true, List, length, Some, refl, sym, ap, subst, arith}
 use Rattle.jsonc_text.specs.Options.{Options}
 use Rattle.jsonc_text.specs.Plain.{Plain, object}
 use Rattle.jsonc_text.proofs.UniqueValues.{document_unique}
-use Rattle.jsonc_tree.specs.Content as content
 use Rattle.jsonc_tree.specs.OrderedTree.{OrderedTree, ordered_tree}
-use Rattle.jsonc_tree.specs.Tree.{Node, children_at, content_at, IsTree}
+use Rattle.jsonc_tree.specs.Tree.{Node, children_at, IsTree}
 use Rattle.jsonc_sound.specs.Shape.{printed_text}
 use Rattle.jsonc_layout.specs.nodes.Siblings.{elements_at}
 use Rattle.jsonc_layout.specs.from_input.Texts.{IsCharacters}
 use Rattle.jsonc_sound.specs.Changes.{Changed}
 use Rattle.jsonc_sound.specs.SoundTrees.{SoundTree}
-use Rattle.jsonc_edit.specs.Paths.{FindsExactly, IsAt}
 use Rattle.jsonc_edit.specs.Writing.{IsWritable}
 use Rattle.jsonc_text.specs.declared.edit.EditError.{EditError}
 use Rattle.jsonc_text.specs.declared.edit.EditError.TheVariants.{OutOfMemory, MissingBrackets, MissingName, NoSuchPlace}
@@ -34,13 +32,6 @@ use Rattle.jsonc_run.specs.Refusals.{IsToldBy}
 use Rattle.jsonc_insert.proofs.lemmas.named.Unensured.{no_other}
 use Rattle.jsonc_run.proofs.Inserted.{fewer}
 use Rattle.jsonc_insert.proofs.lemmas.named.PathValues.{value_once}
-
--- the object at a path is what stands there, if it is one
-pub object_found : (ns : List Node) (path : List ℕ) (at found : Option ℕ) → FindsExactly at (IsAt ns path) → FindsExactly found (λ n. (at ≡ Some n) × (content_at ns n ≡ content.object)) → FindsExactly found (IsObjectAt ns path)
-object_found ns path at found standing finds = λ n. (
-  λ e. let it = (finds n).0 e in ((standing n).0 it.0, it.1),
-  λ h. (finds n).1 ((standing n).1 h.0, h.1),
-)
 
 -- it is one of the nodes
 pub object_there : (ns : List Node) → IsTree ns → (path : List ℕ) (n : ℕ) → IsObjectAt ns path n → n < length ns

@@ -1,5 +1,5 @@
 -- One chain of sound documents.
-use Rattle.std.proofs.Common.{Result, Ok, Err, OnOk, ℕ, suc, get_or, ◌≡◌, List, [], ◌∷◌, Option, refl, sym, ap, subst, ◌∙◌, arith}
+use Rattle.std.proofs.Common.{Result, Ok, Err, OnOk, suc, get_or, ◌≡◌, List, [], ◌∷◌, Option, subst, arith}
 use Rattle.std.specs.List.{All}
 use Rattle.jsonc_text.specs.Options.{Options}
 use Rattle.jsonc_text.specs.Plain.{Plain}
@@ -8,7 +8,6 @@ use Rattle.jsonc_tree.specs.OrderedTree.{OrderedTree, ordered_tree}
 use Rattle.jsonc_tree.specs.Tree.{Node, IsTree}
 use Rattle.jsonc_sound.specs.Shape.{printed_text}
 use Rattle.jsonc_sound.proofs.ShapeValues.{document_printed}
-use Rattle.jsonc_sound.specs.Marks.{marks}
 use Rattle.jsonc_sound.specs.SoundTrees.{SoundTree}
 use Rattle.jsonc_sound.proofs.Printed.{prints_its_marks}
 use Rattle.jsonc_layout.specs.input.Views.{chars_of}
@@ -19,8 +18,7 @@ use Rattle.std.proofs.lemmas.Str.{scalars-chars, IsUtf8-string_bytes}
 use Rattle.std.specs.declared.string.String.{String}
 use Rattle.jsonc_run.specs.declared.edit.Edit.{Edit}
 use Rattle.jsonc_run.specs.declared.edit.Edit.TheVariants.{Replace, Remove, RemoveComment, SetRoot, ClearRoot, ReplaceProperty, EnsureRoot, SetValue, EnsureValue, SetBoolean, EnsureMultiline, InsertElement, AppendElement, InsertProperty, AppendProperty, EnsureProperty, SetTrailingCommas, Sort}
-use Rattle.jsonc_run.specs.Edits.{Sorting, operation_of, unsorted, Operation, replace, remove, remove_comment, set_root, clear_root, replace_property, ensure_root, set_value, ensure_value, set_boolean, ensure_multiline, insert_element, append_element, insert_property, append_property, ensure_property, set_commas, set_some_commas, rearrange, AreMade, none_made, first_made, IsMade}
-use Rattle.jsonc_run.specs.Named.{comment_count, IsNamed}
+use Rattle.jsonc_run.specs.Edits.{Sorting, operation_of, Operation, replace, remove, remove_comment, set_root, clear_root, replace_property, ensure_root, set_value, ensure_value, set_boolean, ensure_multiline, insert_element, append_element, insert_property, append_property, ensure_property, set_commas, set_some_commas, rearrange, AreMade, none_made, first_made, IsMade}
 use Rattle.jsonc_run.specs.Refusals.{HasItsPlace}
 use Rattle.jsonc_run.specs.Steps.{Fits, NumbersFit, IsOfCharacters, Says, Step, Steps, no_step, one_step, MakesSteps}
 use Rattle.jsonc_run.specs.Written.{IsChanged, MayBeMade, options_behind}

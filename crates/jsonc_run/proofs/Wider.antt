@@ -1,5 +1,5 @@
 -- Options behind edits allow what those before allow, so what may be written may be written then.
-use Rattle.std.proofs.Common.{◌≡◌, ℕ, List, [], Option, Some, None, sym}
+use Rattle.std.proofs.Common.{ℕ, List, [], Option, Some, None, sym}
 use Rattle.std.proofs.lemmas.List.{append-nil}
 use Rattle.jsonc_text.specs.Lexemes.{LexemeKind}
 use Rattle.jsonc_text.specs.Numbers.{NumberLit}

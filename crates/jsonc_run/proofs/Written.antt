@@ -1,10 +1,8 @@
 -- What edits that were made in order make of a document.
-use Rattle.std.proofs.Common.{Result, Ok, Err, OnOk, get_or, ◌≡◌, ℕ, length, Bool, suc, List, [], ◌∷◌, ◌++◌, Option, Some, None, IsTrue, sym, refl, ap, subst, ◌∙◌, arith}
-use Rattle.std.specs.List.{All}
+use Rattle.std.proofs.Common.{◌≡◌, ℕ, length, Bool, List, [], ◌∷◌, ◌++◌, Option, Some, None, IsTrue, sym, refl, ap, subst, ◌∙◌, arith}
 use Rattle.jsonc_text.specs.Options.{Options}
 use Rattle.jsonc_text.specs.Plain.{Plain}
 use Rattle.jsonc_text.specs.Grammar.{IsDocument}
-use Rattle.jsonc_text.proofs.UniqueValues.{document_unique}
 use Rattle.jsonc_tree.specs.OrderedTree.{OrderedTree, ordered_tree}
 use Rattle.jsonc_tree.specs.Tree.{Node, content_at, children_at, IsTree}
 use Rattle.jsonc_sound.specs.Shape.{printed_text}
@@ -34,14 +32,14 @@ use Rattle.jsonc_edit.proofs.lemmas.set.WrittenBoolean.{writes_boolean}
 use Rattle.jsonc_edit.proofs.lemmas.set.WrittenProperty.{writes_property}
 use Rattle.jsonc_insert.specs.named.Places.{IsPropertyAt, a_property}
 use Rattle.jsonc_run.specs.Places.{IsEntryAt, the_value, an_entry, IsEntryOf, in_array, in_object, IsBooleanAt}
-use Rattle.jsonc_run.specs.Edits.{Operation, replace, remove, remove_comment, set_root, clear_root, replace_property, ensure_root, set_value, ensure_value, set_boolean, ensure_multiline, insert_element, append_element, insert_property, append_property, ensure_property, set_commas, set_some_commas, rearrange, AreMade, none_made, first_made, RootSet, IsMade}
+use Rattle.jsonc_run.specs.Edits.{Operation, replace, remove, remove_comment, set_root, clear_root, replace_property, ensure_root, set_value, ensure_value, set_boolean, ensure_multiline, insert_element, append_element, insert_property, append_property, ensure_property, set_commas, set_some_commas, rearrange, RootSet, IsMade}
 use Rattle.jsonc_run.specs.Written.{MayBeMade, IsChanged, by_value, by_entry, by_all, by_comment, by_root, by_clearing, by_property, by_ensuring, by_setting, by_ensuring_held, by_boolean, by_lines, by_inserting, by_appending, by_inserting_member, by_appending_member, by_ensuring_named, by_commas, by_some_commas, by_sorting}
 use Rattle.jsonc_text.specs.declared.edit.Over.{Over}
 use Rattle.jsonc_text.specs.declared.edit.Over.TheVariants as over
 use Rattle.jsonc_text.specs.declared.edit.Shape.{Shape}
 use Rattle.jsonc_edit.specs.set.Shapes.{empty_of}
 use Rattle.jsonc_edit.specs.set.Shapes.{comes_first, has_it, may_stay, must_give_way}
-use Rattle.jsonc_run.specs.Written.{EntryLeft, entry_left, value_left, options_after, options_behind}
+use Rattle.jsonc_run.specs.Written.{EntryLeft, entry_left, value_left, options_behind}
 use Rattle.jsonc_insert.proofs.lemmas.named.Values.{empty_writable, same_shape}
 use Rattle.jsonc_run.proofs.Ensured.{held, Ensured, created, stayed, other_stayed, replaced, ensured, value_ensured}
 use Rattle.jsonc_insert.proofs.Past.{past_the_end}
@@ -62,7 +60,6 @@ use Rattle.jsonc_insert.proofs.lemmas.named.Values.{replaces_held, stays_ensured
 use Rattle.jsonc_run.proofs.ValueMade.{set_replaced}
 use Rattle.jsonc_run.proofs.Sorts.{commas_say, commas_within, some_commas_say, some_commas_within, sorted_at, sorted_outside, sorted_says}
 use Rattle.jsonc_run.specs.Steps.{MadeIn}
-use Rattle.jsonc_run.proofs.Wider.{may_behind}
 use Rattle.jsonc_insert.proofs.lemmas.named.Values.{value_gives_way}
 use Rattle.jsonc_run.proofs.Roots.{value_stands, root_value_set, whole_changed, emptied, no_leaves}
 

@@ -1,13 +1,7 @@
 -- What edits that were made in order make of the marks of a document: its literals and comments, as they are written.
 use Rattle.std.specs.Prelude.{◌≡◌, ℕ, Bool, List, [], ◌∷◌, count_by, length}
-use Rattle.std.specs.List.{All}
-use Rattle.jsonc_text.specs.Options.{Options}
 use Rattle.jsonc_text.specs.Plain.{boolean}
-use Rattle.jsonc_tree.specs.Tree.{Node}
-use Rattle.jsonc_tree.specs.OrderedTree.{ordered_tree}
-use Rattle.jsonc_sound.specs.Shape.{printed_text}
 use Rattle.jsonc_tree.specs.OrderedTree.{Top}
-use Rattle.jsonc_sound.specs.SoundTrees.{SoundTree}
 use Rattle.jsonc_sound.specs.MarkChanges.{MarksDifferIn}
 use Rattle.jsonc_sound.specs.Marks as marks
 use Rattle.jsonc_sound.specs.Marks.{Mark, AreMarks, comments_of}
@@ -16,7 +10,6 @@ use Rattle.jsonc_sound.specs.EntryLaws.{LosesMarks}
 use Rattle.jsonc_text.specs.declared.edit.Over.TheVariants.{Keep, Replace}
 use Rattle.jsonc_insert.specs.named.Laws.{ChangesMarks}
 use Rattle.jsonc_run.specs.Edits.{Operation, replace, remove, remove_comment, set_root, clear_root, replace_property, ensure_root, set_value, ensure_value, set_boolean, ensure_multiline, insert_element, append_element, insert_property, append_property, ensure_property, set_commas, set_some_commas, rearrange}
-use Rattle.jsonc_run.specs.Written.{MayBeMade, options_after}
 
 -- One stretch of the marks has given way to the literals that are written for the new value, or for the new name and value of a property; in a document
 -- that had no value these have come. Or those of an entry have left, with comments beside it; or one comment has left, the one of that number. All others

@@ -1,6 +1,5 @@
 -- Where an edit has its place, said of the document's value and of its comments, with no number of a node.
 use Rattle.std.specs.Prelude.{◌≡◌, ◌↔◌, ◌⊎◌, ◌<◌, ℕ, Bool, List, [], ◌∷◌, ◌++◌, length, Option, Some}
-use Rattle.std.specs.List.{All}
 use Rattle.jsonc_text.specs.Options.{Options}
 use Rattle.jsonc_text.specs.Plain.{Plain, boolean, array, object, Items, Members}
 use Rattle.jsonc_tree.specs.OrderedTree.{OrderedTree, ordered_tree}
@@ -14,7 +13,6 @@ use Rattle.jsonc_text.specs.declared.edit.EditError.TheVariants.{NoSuchPlace}
 use Rattle.jsonc_insert.specs.elements.Members.{member_count}
 use Rattle.jsonc_run.specs.Edits.{Operation, replace, remove, remove_comment, set_root, clear_root, replace_property, ensure_root, set_value, ensure_value, set_boolean, ensure_multiline, insert_element, append_element, insert_property, append_property, ensure_property, set_commas, set_some_commas, rearrange}
 use Rattle.jsonc_run.specs.Refusals.{HasItsPlace}
-use Rattle.jsonc_run.specs.Written.{MayBeMade, options_after}
 
 -- the document has a value, and at the path in it stands v: there v may give way to itself
 abbrev pub StandsAt : Plain → List ℕ → Option Plain → Type 0

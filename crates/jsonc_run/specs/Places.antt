@@ -1,11 +1,20 @@
 -- What the path of an edit leads to.
 use Rattle.std.specs.Prelude.{◌≡◌, ℕ, true, List, [], ◌∷◌, ◌++◌, IsTrue}
-use Rattle.jsonc_tree.specs.Content.{array, object}
+use Rattle.jsonc_tree.specs.Content.{Content, array, object, property}
 use Rattle.jsonc_tree.specs.Tree.{Node, content_at}
 use Rattle.jsonc_edit.specs.Paths.{IsAt, IsElementOf}
 use Rattle.jsonc_insert.specs.named.Places.{IsPropertyOf}
 use Rattle.jsonc_layout.specs.lines.Kinds.{holds_values}
 use Rattle.jsonc_edit.specs.set.Booleans.{is_boolean}
+use Rattle.jsonc_run.specs.declared.places.Needed.{Needed}
+
+-- the kind of node that an edit needs
+abbrev pub IsNeeded : Needed → Content → Type 0
+IsNeeded Needed.Array content = content ≡ array
+IsNeeded Needed.Object content = content ≡ object
+IsNeeded Needed.Container content = IsTrue (holds_values content)
+IsNeeded Needed.Property content = content ≡ property
+IsNeeded Needed.Boolean content = is_boolean content ≡ true
 
 -- the truth value that a path leads to
 abbrev pub IsBooleanAt : List Node → List ℕ → ℕ → Type 0

@@ -1,5 +1,5 @@
 -- Why an edit is not made, and what a list of edits has made until then.
-use Rattle.std.specs.Prelude.{◌≡◌, ℕ, true, false, List, Some, None, length}
+use Rattle.std.specs.Prelude.{◌≡◌, ℕ, true, false, List, Some, None, length, Result, IfErr, OnErr, OnOk}
 use Rattle.std.specs.List.{Contains}
 use Rattle.jsonc_tree.specs.Building.{Keeps}
 use Rattle.jsonc_tree.specs.OrderedTree.{ordered_tree}
@@ -25,7 +25,7 @@ use Rattle.jsonc_insert.specs.named.Named.{IsUnensured}
 use Rattle.jsonc_edit.specs.set.Shapes.{is_of}
 use Rattle.jsonc_insert.specs.named.Places.{IsPropertyAt}
 use Rattle.jsonc_run.specs.Places.{IsArrayAt, IsBooleanAt, IsContainerAt, IsEntryAt, IsObjectAt}
-use Rattle.jsonc_run.specs.Edits.{Operation, replace, remove, remove_comment, set_root, clear_root, replace_property, ensure_root, set_value, ensure_value, set_boolean, ensure_multiline, insert_element, append_element, insert_property, append_property, ensure_property, set_commas, set_some_commas, rearrange}
+use Rattle.jsonc_run.specs.Edits.{Operation, replace, remove, remove_comment, set_root, clear_root, replace_property, ensure_root, set_value, ensure_value, set_boolean, ensure_multiline, insert_element, append_element, insert_property, append_property, ensure_property, set_commas, set_some_commas, rearrange, IsMade}
 
 -- a node stands where the edit is to be made, an entry, a property, a truth value, an array or object, an array, an object, or there is
 -- the comment; edits of the root always have their place
@@ -118,3 +118,9 @@ pub data IsLeft (old : List Node) : Operation → List Node → Type 0 where
   as_it_was : {e : Operation} {new : List Node} → Keeps (length old) old new → ordered_tree new 0 ≡ ordered_tree old 0 → IsLeft old e new
   set_in_part : {path : List ℕ} {mode : TrailingCommaMode} {new : List Node} (n : ℕ) → IsContainerAt old path n → AreSetInPart mode old (holders old n) new
       → IsLeft old (set_commas path mode) new
+
+-- What is answered: the edit was made, or the error tells why it was not, and what it leaves.
+pub record IsAnswer (old new : List Node) (e : Operation) (r : Result (Unit {0}) EditError) : Type 0 where
+  pub made : OnOk r (IsMade old e new)
+  pub told : IfErr r (IsToldBy old e)
+  pub left : OnErr r (IsLeft old e new)

@@ -25,7 +25,7 @@ use Rattle.jsonc_insert.specs.named.Laws as named
 use Rattle.jsonc_insert.specs.named.Values.{ValueEnsured, ValueGivesWay}
 use Rattle.jsonc_sort.specs.Paths.{KeepsOutside, SortedAt}
 use Rattle.jsonc_run.specs.declared.edit.Edit.{Edit}
-use Rattle.jsonc_run.specs.Edits.{operation_of, unsorted, Operation, replace, remove, remove_comment, set_root, clear_root, replace_property, ensure_root, set_value, ensure_value, set_boolean, ensure_multiline, insert_element, append_element, insert_property, append_property, ensure_property, set_commas, set_some_commas, rearrange, AreMade}
+use Rattle.jsonc_run.specs.Edits.{operation_of, unsorted, Operation, replace, remove, remove_comment, set_root, clear_root, replace_property, ensure_root, set_value, ensure_value, set_boolean, ensure_multiline, insert_element, append_element, insert_property, append_property, ensure_property, set_commas, set_some_commas, rearrange}
 use Rattle.jsonc_run.specs.Marked.{IsMarked}
 use Rattle.jsonc_run.specs.Named.{comment_count, IsNamed}
 use Rattle.jsonc_run.specs.Written.{options_behind, EntryLeft, IsChanged, PropertyGivenWay, RootValueEnsured, RootValueSet}

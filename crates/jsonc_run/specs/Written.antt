@@ -1,22 +1,14 @@
 -- What edits that were made in order make of a document: of its value, its leaves and its text.
 use Rattle.std.specs.Prelude.{◌≡◌, ◌≤◌, ℕ, Bool, true, false, List, [], ◌∷◌, ◌++◌, Option, Some, None}
-use Rattle.std.specs.List.{All}
 use Rattle.jsonc_text.specs.Options.{Options}
 use Rattle.jsonc_text.specs.Plain.{Plain, boolean}
-use Rattle.jsonc_text.specs.Grammar.{IsDocument}
-use Rattle.jsonc_tree.specs.Tree.{Node}
-use Rattle.jsonc_tree.specs.OrderedTree.{OrderedTree, none, leaves, ordered_tree, Top}
-use Rattle.jsonc_sound.specs.Shape.{printed_text}
-use Rattle.jsonc_sound.specs.Booleans.{boolean_leaf}
+use Rattle.jsonc_tree.specs.OrderedTree.{OrderedTree, leaves, Top}
 use Rattle.jsonc_sound.specs.Changes.{Changed}
 use Rattle.jsonc_sound.specs.ChangeLaws.{DiffersIn}
 use Rattle.jsonc_sound.specs.TreeChanges.{leaves_of, property_of}
 use Rattle.jsonc_layout.specs.from_input.Layout.{Layout}
-use Rattle.jsonc_sound.specs.SoundTrees.{SoundTree}
-use Rattle.jsonc_edit.specs.commas.Laws.{allowing, OnlyCommas}
-use Rattle.jsonc_edit.specs.Comments.{comments_ahead, LosesComment}
+use Rattle.jsonc_edit.specs.commas.Laws.{allowing}
 use Rattle.jsonc_edit.specs.SeamEntries.{PropertyGivesWayWithSeam}
-use Rattle.jsonc_edit.specs.SeamLaws.{LosesWithSeam}
 use Rattle.jsonc_layout.specs.from_input.Laid.{laid, laid_property}
 use Rattle.jsonc_layout.specs.from_input.Texts.{IsCharacters}
 use Rattle.jsonc_edit.specs.Spaced.{SpacesPut}
@@ -24,24 +16,19 @@ use Rattle.jsonc_edit.specs.Writing.{IsWritable}
 use Rattle.jsonc_sound.specs.Coming.{ValueComes}
 use Rattle.jsonc_sound.specs.EntryLaws.{LosesEntry, root_with}
 use Rattle.jsonc_sound.specs.Properties.{PropertyChanged, ReplacesMember}
-use Rattle.jsonc_edit.specs.multiline.Laws.{SpreadAt}
-use Rattle.jsonc_insert.specs.elements.Laws.{item_count, ElementComesAt, GainsItem}
-use Rattle.jsonc_insert.specs.elements.Members.{member_count, GainsMember, PropertyComesAt}
-use Rattle.jsonc_insert.specs.named.Laws as named
+use Rattle.jsonc_insert.specs.elements.Laws.{item_count, GainsItem}
+use Rattle.jsonc_insert.specs.elements.Members.{member_count, GainsMember}
 use Rattle.jsonc_insert.specs.named.Members.{EnsuresMember}
 use Rattle.jsonc_edit.specs.set.Shapes.{EnsuredValue}
-use Rattle.jsonc_insert.specs.named.Values.{ReplacesHeld, ValueEnsured, ValueGivesWay}
+use Rattle.jsonc_insert.specs.named.Values.{ReplacesHeld, ValueGivesWay}
 use Rattle.jsonc_edit.specs.remove.Laws.{EntryTaken, ValueTaken}
 use Rattle.jsonc_edit.specs.set.Giving.{is_bare_value}
 use Rattle.jsonc_text.specs.declared.edit.Over.{Over}
 use Rattle.jsonc_text.specs.declared.edit.Over.TheVariants as over
 use Rattle.jsonc_text.specs.declared.edit.Shape.{Shape}
-use Rattle.jsonc_text.specs.declared.edit.EditError.{EditError}
 use Rattle.jsonc_text.specs.declared.edit.TrailingCommaMode.{TrailingCommaMode}
 use Rattle.jsonc_sort.specs.Laws.{SortsEntries}
-use Rattle.jsonc_sort.specs.Paths.{KeepsOutside, SortedAt}
 use Rattle.jsonc_sort.specs.Sorting.{Headers}
-use Rattle.jsonc_run.specs.Refusals.{WantsMemoryOrPlace}
 use Rattle.jsonc_edit.specs.set.Shapes.{is_of, empty_of}
 use Rattle.jsonc_run.specs.Edits.{Operation, replace, remove, remove_comment, set_root, clear_root, replace_property, ensure_root, set_value, ensure_value, set_boolean, ensure_multiline, insert_element, append_element, insert_property, append_property, ensure_property, set_commas, set_some_commas, rearrange}
 

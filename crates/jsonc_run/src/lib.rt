@@ -17,21 +17,14 @@
 //! [`promise`] leads from edits that were made in nodes to one chain of texts.
 #![tactic(auto)]
 
-mod commas;
-mod comments;
+mod at;
 mod edit;
-mod entries;
-mod inserting;
 pub mod laws;
-mod lines;
 mod making;
-mod members;
+mod places;
 pub mod promise;
-mod values;
 
-pub use comments::find_comment;
 pub use edit::Edit;
-pub use entries::{find_entry, find_property};
 pub use jsonc_edit::{Over, Shape};
-pub use lines::find_container;
 pub use making::make;
+pub use places::{find_comment, find_container, find_entry, find_property};

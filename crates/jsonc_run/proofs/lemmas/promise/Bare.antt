@@ -4,10 +4,9 @@ use Rattle.std.specs.Int.{is_in_range}
 use Rattle.std.specs.List.{flat_map}
 use Rattle.std.proofs.lemmas.List.{append_assoc}
 use Rattle.std.proofs.lemmas.Str.{chars-nil, chars-append, chars-IsAscii}
-use Rattle.jsonc_text.specs.Options.{Options, all_on}
+use Rattle.jsonc_text.specs.Options.{Options}
 use Rattle.jsonc_text.specs.Text.{next, starts, Many, stop, step, AllOf, all_of, is_digit, is_hex_digit, is_ascii_letter}
 use Rattle.jsonc_text.specs.Words.{Keyword, keyword_text, begins_word, is_in_word}
-use Rattle.jsonc_text.specs.Words as words
 use Rattle.jsonc_text.specs.Numbers.{Sign, Whole, Fraction, Exponent, Unsigned, Number, is_x, is_e, is_sign}
 use Rattle.jsonc_text.specs.Lexemes.{LexemeKind, Lexeme}
 use Rattle.jsonc_text.specs.Grammar.{may_name}

@@ -1,9 +1,8 @@
 -- Trailing commas that are set, of the document or of an array or object in it, as a step.
-use Rattle.std.proofs.Common.{◌≡◌, ◌⊎◌, ◌∙◌, sym, ap, subst, refl, ℕ, List, [], ◌∷◌, Option}
+use Rattle.std.proofs.Common.{◌≡◌, ◌⊎◌, ◌∙◌, sym, ap, subst, refl, ℕ, List, [], ◌∷◌}
 use Rattle.jsonc_text.specs.Edits as texts
 use Rattle.jsonc_text.specs.Edits.{Document, Makes, Run}
 use Rattle.jsonc_text.specs.Options.{Options}
-use Rattle.jsonc_text.specs.Plain.{Plain}
 use Rattle.jsonc_text.proofs.UniqueValues.{document_unique}
 use Rattle.jsonc_tree.specs.OrderedTree.{OrderedTree, ordered_tree}
 use Rattle.jsonc_tree.specs.Tree.{Node}
@@ -13,7 +12,7 @@ use Rattle.jsonc_sound.specs.SoundTrees.{SoundTree}
 use Rattle.jsonc_edit.proofs.OneValue.{document_once}
 use Rattle.jsonc_text.specs.declared.edit.TrailingCommaMode.{TrailingCommaMode}
 use Rattle.jsonc_edit.specs.commas.Laws.{allowing, SaysTheSame}
-use Rattle.jsonc_run.specs.Edits.{Operation, set_commas, set_some_commas}
+use Rattle.jsonc_run.specs.Edits.{set_commas, set_some_commas}
 use Rattle.jsonc_run.specs.Steps.{IsChangedAt}
 use Rattle.jsonc_run.proofs.Steps.{says}
 use Rattle.jsonc_run.specs.promise.Steps.{IsStepOf}

@@ -1,11 +1,10 @@
 -- One edit of a node of a sound document: the place of the node, and the step that the edit is.
-use Rattle.std.proofs.Common.{◌≡◌, inl, inr, ℕ, zero, suc, ◌<◌, Bool, true, false, not, cond, List, [], ◌∷◌, ◌++◌, length, filter, slice_get, slice_index, Option, Some, None, IsTrue, append-nil, refl, sym, ap, subst, ◌∙◌, arith}
-use Rattle.std.proofs.lemmas.Bool.{cases_Bool, false≢true}
+use Rattle.std.proofs.Common.{◌≡◌, ℕ, zero, suc, ◌<◌, true, false, cond, List, [], ◌∷◌, ◌++◌, length, filter, slice_get, slice_index, Some, None, IsTrue, append-nil, refl, sym, ap, subst, ◌∙◌, arith}
+use Rattle.std.proofs.lemmas.Bool.{false≢true}
 use Rattle.std.proofs.lemmas.List.{append_assoc}
 use Rattle.std.proofs.lemmas.List.Concat.{flat_map-append}
 use Rattle.std.proofs.lemmas.List.Elements.{All-nil, All-cons, filter-append}
 use Rattle.std.specs.List.{All, flat_map}
-use Rattle.jsonc_text.specs.Edits.{Document}
 use Rattle.jsonc_text.specs.Options.{Options}
 use Rattle.jsonc_tree.specs.Content as content
 use Rattle.jsonc_tree.specs.Content.{Content}
@@ -15,17 +14,14 @@ use Rattle.jsonc_tree.specs.Tree.{Node, content_at, parent_at, children_at, plac
 use Rattle.jsonc_tree.specs.Values.{is_passed_over}
 use Rattle.jsonc_tree.proofs.Order.{in_order_is, parent_there}
 use Rattle.jsonc_layout.specs.nodes.Kinds.{is_comment_at}
-use Rattle.jsonc_sound.specs.Documents.{Shows}
 use Rattle.jsonc_sound.specs.SoundTrees.{SoundTree}
-use Rattle.jsonc_edit.specs.Comments.{comment_at}
 use Rattle.jsonc_edit.specs.Paths.{IsAt, IsElementOf, LeadsTo, StepsTo, itself, step, as_root, as_value, as_property, as_name, between}
 use Rattle.jsonc_edit.proofs.Standing.{all_stand, at_further}
 use Rattle.jsonc_edit.proofs.Uniqueness.{element_parent}
 use Rattle.jsonc_insert.specs.named.Places.{IsPropertyAt, a_property}
-use Rattle.jsonc_run.specs.Edits.{Operation, AreMade, none_made, first_made, IsMade}
+use Rattle.jsonc_run.specs.Edits.{Operation, none_made, first_made, IsMade}
 use Rattle.jsonc_run.specs.Places.{IsEntryAt, the_value, an_entry, IsEntryOf}
 use Rattle.jsonc_run.specs.Steps.{IsOfCharacters, NumbersFit}
-use Rattle.jsonc_run.specs.promise.Steps as steps
 use Rattle.jsonc_run.specs.promise.Steps.{IsCommentAt, IsNoPart, IsStep, IsStepOf}
 use Rattle.jsonc_run.proofs.lemmas.promise.Leads.{edits_lead}
 

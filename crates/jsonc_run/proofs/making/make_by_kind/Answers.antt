@@ -1,10 +1,37 @@
-use Rattle.jsonc_run.specs.Edits.{operation_of, unsorted}
-use Rattle.jsonc_run.proofs.CommasSet.{is_made_whole, left_as_it_was}
+use Rattle.std.proofs.Common.{◌≡◌, List, ℕ, true, false, chars, sym, subst}
+use Rattle.jsonc_layout.specs.input.Views.{chars_of, plain}
+use Rattle.jsonc_run.specs.Edits.{is_sort, operation_of, unsorted, append_property, ensure_property, insert_property, set_value}
+use Rattle.jsonc_run.specs.Refusals.{IsAnswer}
 use Rattle.jsonc_run.proofs.making.make_by_kind.Goals as goal
 
-pub make_whole-requires : goal.make_whole-requires
-make_whole-requires g c = record { whole = is_made_whole c.args.edit.now c.requires.unsorted c.in_default.not-SetTrailingCommas }
+pub returns-in-SetValue : goal.returns-in-SetValue
+returns-in-SetValue g c =
+    let Made : List ℕ → Type 0 = λ path. IsAnswer c.args.tree.now.nodes c.set_value_at.new.tree.nodes (set_value path (plain c.in-SetValue.value)) c.set_value_at.result in
+    let given : Made c.in-SetValue.path.items = subst Made c.deref-in-SetValue.ensures.value c.set_value_at.ensures in
+    subst (λ e. IsAnswer c.args.tree.now.nodes c.set_value_at.new.tree.nodes (operation_of unsorted e) c.set_value_at.result) (sym c.in-SetValue.is) given
 
-pub returns-in_default-clause-left : goal.returns-in_default-clause-left
-returns-in_default-clause-left g c =
-    left_as_it_was c.args.tree.now.nodes (operation_of unsorted c.args.edit.now) c.make_whole.new.tree.nodes c.make_whole.result c.make_whole.ensures.kept c.make_whole.ensures.document
+pub returns-in-InsertProperty : goal.returns-in-InsertProperty
+returns-in-InsertProperty g c =
+    let Made : List ℕ → List ℕ → Type 0 = λ path name. IsAnswer c.args.tree.now.nodes c.insert_property_at.new.tree.nodes (insert_property path c.in-InsertProperty.index name (plain c.in-InsertProperty.value)) c.insert_property_at.result in
+    let at : Made c.in-InsertProperty.path.items (chars c.deref-in-InsertProperty-2.result.now) = subst (λ (path : List ℕ). Made path (chars c.deref-in-InsertProperty-2.result.now)) c.deref-in-InsertProperty.ensures.value c.insert_property_at.ensures in
+    let given : Made c.in-InsertProperty.path.items (chars_of c.in-InsertProperty.name) = subst (λ (s : List ℕ). Made c.in-InsertProperty.path.items (chars s)) c.deref-in-InsertProperty-2.ensures at in
+    subst (λ e. IsAnswer c.args.tree.now.nodes c.insert_property_at.new.tree.nodes (operation_of unsorted e) c.insert_property_at.result) (sym c.in-InsertProperty.is) given
+
+pub returns-in-AppendProperty : goal.returns-in-AppendProperty
+returns-in-AppendProperty g c =
+    let Made : List ℕ → List ℕ → Type 0 = λ path name. IsAnswer c.args.tree.now.nodes c.append_property_at.new.tree.nodes (append_property path name (plain c.in-AppendProperty.value)) c.append_property_at.result in
+    let at : Made c.in-AppendProperty.path.items (chars c.deref-in-AppendProperty-2.result.now) = subst (λ (path : List ℕ). Made path (chars c.deref-in-AppendProperty-2.result.now)) c.deref-in-AppendProperty.ensures.value c.append_property_at.ensures in
+    let given : Made c.in-AppendProperty.path.items (chars_of c.in-AppendProperty.name) = subst (λ (s : List ℕ). Made c.in-AppendProperty.path.items (chars s)) c.deref-in-AppendProperty-2.ensures at in
+    subst (λ e. IsAnswer c.args.tree.now.nodes c.append_property_at.new.tree.nodes (operation_of unsorted e) c.append_property_at.result) (sym c.in-AppendProperty.is) given
+
+pub returns-in-EnsureProperty : goal.returns-in-EnsureProperty
+returns-in-EnsureProperty g c =
+    let Made : List ℕ → List ℕ → Type 0 = λ path name. IsAnswer c.args.tree.now.nodes c.ensure_property_at.new.tree.nodes (ensure_property path name c.in-EnsureProperty.shape c.in-EnsureProperty.over) c.ensure_property_at.result in
+    let at : Made c.in-EnsureProperty.path.items (chars c.deref-in-EnsureProperty-2.result.now) = subst (λ (path : List ℕ). Made path (chars c.deref-in-EnsureProperty-2.result.now)) c.deref-in-EnsureProperty.ensures.value c.ensure_property_at.ensures in
+    let given : Made c.in-EnsureProperty.path.items (chars_of c.in-EnsureProperty.name) = subst (λ (s : List ℕ). Made c.in-EnsureProperty.path.items (chars s)) c.deref-in-EnsureProperty-2.ensures at in
+    subst (λ e. IsAnswer c.args.tree.now.nodes c.ensure_property_at.new.tree.nodes (operation_of unsorted e) c.ensure_property_at.result) (sym c.in-EnsureProperty.is) given
+
+pub unreachable-requires : goal.unreachable-requires
+unreachable-requires g c =
+    let wrong : true ≡ false = subst (λ e. is_sort e ≡ false) c.in-Sort.is c.requires.unsorted in
+    cc

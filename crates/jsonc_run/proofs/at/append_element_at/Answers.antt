@@ -1,0 +1,37 @@
+use Rattle.std.proofs.Common.{ℕ, subst}
+use Rattle.jsonc_insert.specs.Inserted.{ElementPut}
+use Rattle.jsonc_layout.specs.input.Views.{plain}
+use Rattle.jsonc_run.specs.Places.{IsArrayAt}
+use Rattle.jsonc_run.proofs.Inserted.{comes_last, told_behind}
+use Rattle.jsonc_run.proofs.Made.{no_place, nowhere}
+use Rattle.jsonc_run.specs.Edits.{append_element}
+use Rattle.jsonc_run.specs.Refusals.{as_it_was}
+use Rattle.jsonc_run.proofs.at.append_element_at.Goals as goal
+
+pub returns-in_default : goal.returns-in_default
+returns-in_default g c =
+    nowhere c.args.tree.now.nodes (append_element c.args.path.now (plain c.args.value.now))
+    (no_place c.find_needed.result (IsArrayAt c.args.tree.now.nodes c.args.path.now) c.find_needed.ensures.found c.in_default.not-Some)
+
+pub insert_element-requires-clause-array : goal.insert_element-requires-clause-array
+insert_element-requires-clause-array g c = ((c.find_needed.ensures.found c.in-Some.array).0 c.in-Some.is).1
+
+pub returns-in-Ok : goal.returns-in-Ok
+returns-in-Ok g c = record {
+  made = (
+    c.in-Some.array,
+    c.in-Ok.field-0,
+    (c.find_needed.ensures.found c.in-Some.array).0 c.in-Some.is,
+    comes_last c.args.tree.now.nodes c.insert_element.new.tree.nodes c.in-Some.array (plain c.args.value.now) c.in-Ok.field-0 c.in-Ok.ensures.brackets
+        (subst (λ (k : ℕ). ElementPut c.args.tree.now.nodes c.insert_element.new.tree.nodes c.in-Some.array k (plain c.args.value.now) c.in-Ok.field-0) c.child_count-count.ensures c.in-Ok.ensures.put),
+  );
+  told = tt;
+  left = tt;
+}
+
+pub returns-in-Err : goal.returns-in-Err
+returns-in-Err g c = record {
+  made = tt;
+  told = told_behind c.args.tree.now.nodes c.args.path.now c.in-Some.array (plain c.args.value.now) ((c.find_needed.ensures.found c.in-Some.array).0 c.in-Some.is) c.in-Err.error c.in-Err.ensures.told;
+  left = as_it_was c.in-Err.ensures.kept c.in-Err.ensures.document;
+}

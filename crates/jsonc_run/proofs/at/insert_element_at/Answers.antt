@@ -1,0 +1,29 @@
+use Rattle.jsonc_layout.specs.input.Views.{plain}
+use Rattle.jsonc_run.specs.Places.{IsArrayAt}
+use Rattle.jsonc_run.proofs.Inserted.{told_in}
+use Rattle.jsonc_run.proofs.Made.{no_place, nowhere}
+use Rattle.jsonc_run.specs.Edits.{insert_element}
+use Rattle.jsonc_run.specs.Refusals.{as_it_was}
+use Rattle.jsonc_run.proofs.at.insert_element_at.Goals as goal
+
+pub returns-in_default : goal.returns-in_default
+returns-in_default g c =
+    nowhere c.args.tree.now.nodes (insert_element c.args.path.now c.args.index (plain c.args.value.now))
+    (no_place c.find_needed.result (IsArrayAt c.args.tree.now.nodes c.args.path.now) c.find_needed.ensures.found c.in_default.not-Some)
+
+pub insert_element-requires-clause-array : goal.insert_element-requires-clause-array
+insert_element-requires-clause-array g c = ((c.find_needed.ensures.found c.in-Some.array).0 c.in-Some.is).1
+
+pub returns-in-Ok : goal.returns-in-Ok
+returns-in-Ok g c = record {
+  made = (c.in-Some.array, c.in-Ok.field-0, (c.find_needed.ensures.found c.in-Some.array).0 c.in-Some.is, c.in-Ok.ensures.put);
+  told = tt;
+  left = tt;
+}
+
+pub returns-in-Err : goal.returns-in-Err
+returns-in-Err g c = record {
+  made = tt;
+  told = told_in c.args.tree.now.nodes c.args.path.now c.in-Some.array (plain c.args.value.now) ((c.find_needed.ensures.found c.in-Some.array).0 c.in-Some.is) c.args.index c.in-Err.error c.in-Err.ensures.told;
+  left = as_it_was c.in-Err.ensures.kept c.in-Err.ensures.document;
+}
