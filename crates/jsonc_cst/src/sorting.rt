@@ -13,9 +13,9 @@ mod headers;
 mod placing;
 mod properties;
 mod rows;
+mod sort;
 mod sorting;
 
 pub use containers::sort_container;
-pub use elements::ElementSort;
 pub use headers::{BlankLineHeaders, HeaderRule, HeadersBy, NoHeaders};
-pub use properties::PropertySort;
+pub use sort::{ElementSort, PropertySort, Sort};

@@ -1,24 +1,17 @@
 //! Properties that come into objects.
 
-ghost use Rattle.std.specs.Prelude.{◌≡◌, ◌<◌, IfErr, IfOk, OnErr, OnOk, chars, length, min, true};
+ghost use Rattle.std.specs.Prelude.{◌≡◌, ◌<◌, IfErr, IfOk, OnErr, OnOk, chars, length, min};
 ghost use Rattle.jsonc_text.specs.Options.{Options};
 ghost use Rattle.jsonc_layout.specs.input.Views.{plain};
 ghost use Rattle.jsonc_tree.specs.Content.{Content};
-ghost use Rattle.jsonc_tree.specs.OrderedTree.{ordered_tree};
-ghost use Rattle.jsonc_tree.specs.Tree.{children_at, content_at};
-ghost use Rattle.jsonc_layout.specs.nodes.Siblings.{elements_at};
-ghost use Rattle.jsonc_insert.specs.Inserted.{refusal};
-ghost use Rattle.jsonc_insert.specs.Planned.{has_brackets};
-ghost use Rattle.jsonc_insert.specs.Laws.{KeepsNodesBut};
+ghost use Rattle.jsonc_tree.specs.Tree.{content_at};
 ghost use Rattle.jsonc_cst.specs.Document.{nodes_of, tree_of, Holds};
 ghost use Rattle.jsonc_cst.specs.Nodes.{number_of, object_node, object_prop_node, IsNodeOf};
-ghost use Rattle.jsonc_cst.specs.typed.Edits.{KeepsElsewhere, StaysElsewhere, StillHolds, StillNodes};
-ghost use Rattle.jsonc_cst.specs.typed.Edits.{NodesStay, StaysAsItWas};
+ghost use Rattle.jsonc_cst.specs.typed.Edits.{KeepsElsewhere, StaysAsItWas, StillHolds};
 ghost use Rattle.jsonc_cst.specs.typed.Inserting.{element_count, IsShutFor, KeepsOthers};
-ghost use Rattle.jsonc_cst.specs.typed.Removing.{IsKeptForMemory, WantsMemoryAlone};
+ghost use Rattle.jsonc_cst.specs.typed.Removing.{IsKeptForMemory};
 ghost use Rattle.jsonc_cst.specs.objects.Members.{HasNamedComeIn, IsAppendingNamed, IsInsertingNamed};
 ghost use Rattle.jsonc_cst.specs.objects.Members.{IsItsProperty, IsNamedAtItsPath};
-ghost use Rattle.jsonc_cst.specs.objects.Members.{NamedComesInAt, PropertyStandsAt, PutsNamedAtItsPath};
 
 use crate::cst::{
     CstContainerNode, CstNode, CstObject, CstObjectProp, CstRootNode, EditError, IsNode, node_at,
@@ -27,16 +20,6 @@ use jsonc_insert::members::insert_property;
 use jsonc_layout::input::CstInputValue;
 use jsonc_tree::Tree;
 use std::alloc::Allocator;
-
-// The number of an object that the tree holds.
-pub(crate) fn object_number<A: Allocator>(tree: &Tree<A>, object: CstObject) -> usize
-    requires { IsNodeOf tree.now.nodes (object_node object) }
-    ensures number { result ≡ object.number }
-    ensures there { result < length tree.now.nodes }
-    ensures object { content_at tree.now.nodes result ≡ Content.object }
-{
-    object.node().number()
-}
 
 // The property of a number.
 fn property_at<A: Allocator>(tree: &Tree<A>, number: usize) -> CstObjectProp
@@ -49,77 +32,6 @@ fn property_at<A: Allocator>(tree: &Tree<A>, number: usize) -> CstObjectProp
         CstNode::Container(CstContainerNode::ObjectProp(property)) => property,
         _ => unreachable!(),
     }
-}
-
-// Puts a property into an object, as its property of this number or the last, and answers it.
-fn insert_at<A: Allocator + Copy>(
-    alloc: A,
-    tree: &mut Tree<A>,
-    object: usize,
-    index: usize,
-    name: &str,
-    value: &CstInputValue<A>,
-) -> Result<CstObjectProp, EditError>
-    requires there { object < length tree.old.nodes }
-    requires object { content_at tree.old.nodes object ≡ Content.object }
-    ensures put { IfOk result
-        (NamedComesInAt tree.old.nodes tree.new.nodes object
-        (min index (length (elements_at tree.old.nodes object))) (chars name.now) (plain value.now)) }
-    ensures property { IfOk result (PropertyStandsAt tree.old.nodes tree.new.nodes object index) }
-    ensures written { (o : Options)
-        → OnOk result
-        (PutsNamedAtItsPath o tree.old.nodes tree.new.nodes object
-        (min index (length (elements_at tree.old.nodes object))) (chars name.now) (plain value.now)) }
-    ensures step { OnOk result
-        (IsInsertingNamed tree.old.nodes tree.new.nodes object index (chars name.now) (plain value.now)) }
-    ensures others { OnOk result (KeepsNodesBut tree.old.nodes tree.new.nodes object) }
-    ensures elsewhere { OnOk result (StaysElsewhere tree.old.nodes tree.new.nodes object) }
-    ensures brackets { OnOk result (has_brackets tree.old.nodes (children_at tree.old.nodes object) ≡ true) }
-    ensures told { IfErr result (λ e. e ≡ refusal tree.old.nodes object) }
-    ensures memory { (o : Options) → IfErr result (WantsMemoryAlone o tree.old.nodes object) }
-    ensures held { IfOk result (λ p. IsNodeOf tree.new.nodes (object_prop_node p)) }
-    ensures stays { StillNodes tree.old.nodes tree.new.nodes }
-    ensures kept { OnErr result (NodesStay tree.old.nodes tree.new.nodes) }
-    ensures document { OnErr result (ordered_tree tree.new.nodes 0 ≡ ordered_tree tree.old.nodes 0) }
-{
-    match insert_property(alloc, tree, object, index, name, value) {
-        Ok(property) => Ok(property_at(tree, property)),
-        Err(error) => Err(error),
-    }
-}
-
-// Puts a property behind the last one of an object, and answers it.
-fn append_to<A: Allocator + Copy>(
-    alloc: A,
-    tree: &mut Tree<A>,
-    object: usize,
-    name: &str,
-    value: &CstInputValue<A>,
-) -> Result<CstObjectProp, EditError>
-    requires there { object < length tree.old.nodes }
-    requires object { content_at tree.old.nodes object ≡ Content.object }
-    ensures put { IfOk result
-        (NamedComesInAt tree.old.nodes tree.new.nodes object (length (elements_at tree.old.nodes object))
-        (chars name.now) (plain value.now)) }
-    ensures property { IfOk result
-        (PropertyStandsAt tree.old.nodes tree.new.nodes object (length (elements_at tree.old.nodes object))) }
-    ensures written { (o : Options)
-        → OnOk result
-        (PutsNamedAtItsPath o tree.old.nodes tree.new.nodes object (length (elements_at tree.old.nodes object))
-        (chars name.now) (plain value.now)) }
-    ensures step { OnOk result (IsAppendingNamed tree.old.nodes tree.new.nodes object (chars name.now) (plain value.now)) }
-    ensures others { OnOk result (KeepsNodesBut tree.old.nodes tree.new.nodes object) }
-    ensures elsewhere { OnOk result (StaysElsewhere tree.old.nodes tree.new.nodes object) }
-    ensures told { IfErr result (λ e. e ≡ refusal tree.old.nodes object) }
-    ensures memory { (o : Options) → IfErr result (WantsMemoryAlone o tree.old.nodes object) }
-    ensures held { IfOk result (λ p. IsNodeOf tree.new.nodes (object_prop_node p)) }
-    ensures stays { StillNodes tree.old.nodes tree.new.nodes }
-    ensures kept { OnErr result (NodesStay tree.old.nodes tree.new.nodes) }
-    ensures document { OnErr result (ordered_tree tree.new.nodes 0 ≡ ordered_tree tree.old.nodes 0) }
-{
-    // There are no more properties than children.
-    let count = tree.child_count(object);
-    insert_at(alloc, tree, object, count, name, value)
 }
 
 impl CstObject {
@@ -154,8 +66,9 @@ impl CstObject {
         ensures kept { OnErr result (StaysAsItWas doc.old doc.new) }
         ensures document { OnErr result (tree_of doc.new ≡ tree_of doc.old) }
     {
-        let number = object_number(&doc.tree, self);
-        append_to(doc.alloc, &mut doc.tree, number, name, &value)
+        // There are no more properties than children.
+        let count = doc.tree.child_count(self.node().number());
+        self.insert(doc, count, name, value)
     }
 
     /// Puts a property of this name and value before its property of this number, counted from 0, or behind
@@ -196,7 +109,10 @@ impl CstObject {
         ensures kept { OnErr result (StaysAsItWas doc.old doc.new) }
         ensures document { OnErr result (tree_of doc.new ≡ tree_of doc.old) }
     {
-        let number = object_number(&doc.tree, self);
-        insert_at(doc.alloc, &mut doc.tree, number, index, name, &value)
+        let number = self.node().number();
+        match insert_property(doc.alloc, &mut doc.tree, number, index, name, &value) {
+            Ok(property) => Ok(property_at(&doc.tree, property)),
+            Err(error) => Err(error),
+        }
     }
 }

@@ -7,7 +7,7 @@ ghost use Rattle.jsonc_cst.specs.declared.cst.CstRootNode.{CstRootNode};
 ghost use Rattle.jsonc_cst.specs.declared.cst.node.CstNode.{CstNode};
 ghost use Rattle.jsonc_cst.specs.Document.{nodes_of, Holds};
 ghost use Rattle.jsonc_cst.specs.Nodes.{typed_at};
-ghost use Rattle.jsonc_cst.specs.sorting.Pins.{blank_line_pin, comment_if, comments_of, leads_of};
+ghost use Rattle.jsonc_cst.specs.sorting.Pins.{blank_line_pin, comment_if, comments_of, leads_of, pins_where};
 ghost use Rattle.jsonc_cst.specs.sorting.Pins.{ArePins, HoldsComment, IsPin, MayPin};
 
 use crate::cst::{CstComment, CstLeafNode, CstNode, CstRootNode, EditError, IsNode, node_at};
@@ -143,7 +143,7 @@ fn pins_by<A: Allocator + Copy, D: IsDocument<A>, N: IsNode, F: Fn(&D, N, &[CstC
 }
 
 // How many comments blank lines pin above each element.
-pub(crate) fn blank_line_pins<A: Allocator + Copy>(
+fn blank_line_pins<A: Allocator + Copy>(
     alloc: A,
     leads: &[LeadRead],
 ) -> Result<Vec<Option<usize>, A>, AllocError>
@@ -163,6 +163,26 @@ fn blank_line_pin(lead: LeadRead) -> Option<usize>
         return Some(lead.comments);
     }
     Some(0)
+}
+
+// How many comments blank lines pin above each element, where they are to.
+pub(crate) fn pins_where<A: Allocator + Copy>(
+    doc: &CstRootNode<A>,
+    container: CstNode,
+    pin: bool,
+) -> Result<Vec<Option<usize>, A>, EditError>
+    requires { Holds doc.now container }
+    ensures pins { IfOk result (λ v. v.items ≡ pins_where doc.now container pin) }
+    ensures memory { IfErr result (λ e. e ≡ EditError.OutOfMemory) }
+{
+    if !pin {
+        return Ok(Vec::new(doc.alloc));
+    }
+    let leads = leads_of(doc, container)?;
+    let Ok(pins) = blank_line_pins(doc.alloc, &leads) else {
+        return Err(EditError::OutOfMemory);
+    };
+    Ok(pins)
 }
 
 /// A rule that says of the comments above each element how many are a header: these stay where they are,
@@ -224,11 +244,7 @@ impl<A: Allocator + Copy, D: IsDocument<A>, N: IsNode> HeaderRule<A, D, N> for B
         container: CstNode,
         _nodes: &[Option<N>],
     ) -> Result<Vec<Option<usize>, A>, EditError> {
-        let leads = leads_of(doc, container)?;
-        let Ok(pins) = blank_line_pins(doc.alloc, &leads) else {
-            return Err(EditError::OutOfMemory);
-        };
-        Ok(pins)
+        pins_where(doc, container, true)
     }
 }
 

@@ -1,6 +1,6 @@
 //! Sorts of the properties of an object.
 
-ghost use Rattle.std.specs.Prelude.{◌≡◌, IfErr, OnErr, OnOk, false, true};
+ghost use Rattle.std.specs.Prelude.{◌≡◌, IfErr, OnErr, OnOk, false};
 ghost use Rattle.jsonc_cst.specs.Document.{tree_of, Holds};
 ghost use Rattle.jsonc_cst.specs.Nodes.{object_node, object_prop_node};
 ghost use Rattle.jsonc_cst.specs.typed.Edits.{StaysAsItWas, StillHolds};
@@ -10,79 +10,29 @@ ghost use Rattle.jsonc_cst.specs.sorting.Rows.{properties_asked};
 ghost use Rattle.jsonc_cst.specs.sorting.Sorted.{PropertiesSorted};
 
 use crate::cst::{CstObject, CstObjectProp, CstRootNode, EditError, IsNode};
-use crate::sorting::headers::{BlankLineHeaders, HeaderRule, HeadersBy, NoHeaders};
+use crate::sorting::headers::{HeaderRule, NoHeaders};
 use crate::sorting::rows::properties_asked;
+use crate::sorting::sort::{PropertySort, Sort};
 use crate::sorting::sorting::{sort_by, sort_by_key};
 use crate::typed::IsDocument;
 use std::alloc::Allocator;
 use std::cmp::Ordering;
 
-/// A sort of an object's properties, which sorts nothing until [`PropertySort::by`] or
-/// [`PropertySort::by_key`] is called.
-#[derive(Drop)]
-pub struct PropertySort<H> {
-    /// The object.
-    pub object: CstObject,
-    /// Which comments above properties are pinned.
-    pub rule: H,
-    /// Whether blank lines part the properties.
-    pub groups: bool,
-}
-
 impl CstObject {
     /// A sort of its properties: all comments above a property go with it, and blank lines part nothing.
     pub fn sort_properties(self) -> PropertySort<NoHeaders>
-        ensures object { result.object ≡ self }
+        ensures container { result.container ≡ self }
         ensures groups { result.groups ≡ false }
     {
-        PropertySort {
-            object: self,
+        Sort {
+            container: self,
             rule: NoHeaders,
             groups: false,
         }
     }
 }
 
-impl<H: Drop> PropertySort<H> {
-    /// Pins all comments above each property before which a blank line stands: they are a header of what
-    /// follows, and stay where they are.
-    pub fn pin_comment_headers(self) -> PropertySort<BlankLineHeaders>
-        ensures object { result.object ≡ self.object }
-        ensures groups { result.groups ≡ self.groups }
-    {
-        PropertySort {
-            object: self.object,
-            rule: BlankLineHeaders,
-            groups: self.groups,
-        }
-    }
-
-    /// Pins so many of the comments above each property, from the first on, as a rule answers. It is asked
-    /// with the document as it stands before, where comments stand above a property.
-    pub fn pin_comment_headers_with<F>(self, rule: F) -> PropertySort<HeadersBy<F>>
-        ensures object { result.object ≡ self.object }
-        ensures rule { result.rule.rule ≡ rule }
-        ensures groups { result.groups ≡ self.groups }
-    {
-        PropertySort {
-            object: self.object,
-            rule: HeadersBy { rule },
-            groups: self.groups,
-        }
-    }
-
-    /// Sorts each stretch of properties between blank lines by itself, so that none crosses a blank line.
-    pub fn within_groups(self) -> PropertySort<H>
-        ensures object { result.object ≡ self.object }
-        ensures rule { result.rule ≡ self.rule }
-        ensures groups { result.groups ≡ true }
-    {
-        PropertySort {
-            groups: true,
-            ..self
-        }
-    }
-
+impl<H: Drop> Sort<CstObject, H> {
     /// Sorts by a comparison, which is asked of two properties and the document as it stands before.
     ///
     /// Properties that compare equal stay in their order. What belongs to a property goes with it: its comma,
@@ -99,24 +49,24 @@ impl<H: Drop> PropertySort<H> {
     >(self, doc: &mut CstRootNode<A>, compare: C) -> Result<(), EditError>
     where
         H: HeaderRule<A, D, CstObjectProp>,
-        requires held { Holds doc.old (object_node self.object) }
+        requires held { Holds doc.old (object_node self.container) }
         requires pinned { H.may_ask self.rule doc.old }
         requires asked { MayBeCompared C.Fn compare (D.same doc.old) (λ p. Holds doc.old (object_prop_node p)) }
         ensures sorted { OnOk result
-            (PropertiesSorted doc.old doc.new self.object (H.pins self.rule doc.old) self.groups
+            (PropertiesSorted doc.old doc.new self.container (H.pins self.rule doc.old) self.groups
             (IsInItsOrder C.Fn compare (D.same doc.old) (λ p. Holds doc.old (object_prop_node p)))) }
         ensures again { self.groups ≡ false
-            → OnOk result (PropertiesStayInOrder compare D.same doc.old doc.new C.Fn self.object) }
+            → OnOk result (PropertiesStayInOrder compare D.same doc.old doc.new C.Fn self.container) }
         ensures memory { IfErr result (λ e. e ≡ EditError.OutOfMemory) }
         ensures stays { StillHolds doc.old doc.new }
         ensures kept { OnErr result (StaysAsItWas doc.old doc.new) }
         ensures document { OnErr result (tree_of doc.new ≡ tree_of doc.old) }
     {
-        let nodes = properties_asked(doc, self.object)?;
-        let pins = self.rule.pins(doc, self.object.node(), &nodes)?;
+        let nodes = properties_asked(doc, self.container)?;
+        let pins = self.rule.pins(doc, self.container.node(), &nodes)?;
         sort_by(
             doc,
-            self.object.node(),
+            self.container.node(),
             &nodes,
             &pins,
             self.groups,
@@ -137,22 +87,22 @@ impl<H: Drop> PropertySort<H> {
     >(self, doc: &mut CstRootNode<A>, key: F) -> Result<(), EditError>
     where
         H: HeaderRule<A, D, CstObjectProp>,
-        requires held { Holds doc.old (object_node self.object) }
+        requires held { Holds doc.old (object_node self.container) }
         requires pinned { H.may_ask self.rule doc.old }
         requires asked { MayBeKeyed F.Fn key (D.same doc.old) (λ p. Holds doc.old (object_prop_node p)) }
         ensures sorted { OnOk result
-            (PropertiesSorted doc.old doc.new self.object (H.pins self.rule doc.old) self.groups
+            (PropertiesSorted doc.old doc.new self.container (H.pins self.rule doc.old) self.groups
             (IsInKeyOrder F.Fn key (D.same doc.old) K.cmp)) }
         ensures again { self.groups ≡ false
-            → OnOk result (PropertiesStayInKeyOrder key D.same K.cmp doc.old doc.new F.Fn self.object) }
+            → OnOk result (PropertiesStayInKeyOrder key D.same K.cmp doc.old doc.new F.Fn self.container) }
         ensures refused { IfErr result
-            (IsUnkeyed F.Fn key (D.same doc.old) (properties_asked doc.old (object_node self.object))) }
+            (IsUnkeyed F.Fn key (D.same doc.old) (properties_asked doc.old (object_node self.container))) }
         ensures stays { StillHolds doc.old doc.new }
         ensures kept { OnErr result (StaysAsItWas doc.old doc.new) }
         ensures document { OnErr result (tree_of doc.new ≡ tree_of doc.old) }
     {
-        let nodes = properties_asked(doc, self.object)?;
-        let pins = self.rule.pins(doc, self.object.node(), &nodes)?;
-        sort_by_key(doc, self.object.node(), &nodes, &pins, self.groups, &key)
+        let nodes = properties_asked(doc, self.container)?;
+        let pins = self.rule.pins(doc, self.container.node(), &nodes)?;
+        sort_by_key(doc, self.container.node(), &nodes, &pins, self.groups, &key)
     }
 }

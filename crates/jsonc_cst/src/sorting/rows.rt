@@ -3,18 +3,18 @@
 ghost use Rattle.std.specs.Prelude.{◌≡◌, ◌<◌, IfErr, IfOk, IfSome, length, map};
 ghost use Rattle.std.specs.List.{All};
 ghost use Rattle.jsonc_layout.specs.nodes.Siblings.{elements_at};
-ghost use Rattle.jsonc_sort.specs.Above.{leads_read};
 ghost use Rattle.jsonc_sort.specs.ordering.Groups.{group_starts};
 ghost use Rattle.jsonc_cst.specs.Document.{nodes_of, Holds};
-ghost use Rattle.jsonc_cst.specs.Nodes.{array_node, number_of, object_node, object_prop_node};
+ghost use Rattle.jsonc_cst.specs.Nodes.{number_of, object_node, object_prop_node};
 ghost use Rattle.jsonc_cst.specs.sorting.Rows.{elements_asked, is_parted, properties_asked, property_if, starts_of};
 
 use crate::cst::{
-    CstArray, CstContainerNode, CstNode, CstObject, CstObjectProp, CstRootNode, EditError,
-    HasChildren, IsNode,
+    CstContainerNode, CstNode, CstObject, CstObjectProp, CstRootNode, EditError, HasChildren,
+    IsNode,
 };
+use crate::sorting::headers::leads_of;
+use jsonc_sort::LeadRead;
 use jsonc_sort::ordering::group_starts;
-use jsonc_sort::{LeadRead, read_leads};
 use std::alloc::{AllocError, Allocator};
 
 // Before which elements a blank line stands.
@@ -48,28 +48,26 @@ pub(crate) fn starts_of<A: Allocator + Copy>(
     if !groups {
         return Ok(Vec::new(doc.alloc));
     }
-    let Ok(leads) = read_leads(doc.alloc, &doc.tree, container.number()) else {
-        return Err(EditError::OutOfMemory);
-    };
+    let leads = leads_of(doc, container)?;
     let Ok(starts) = parted_starts(doc.alloc, &leads) else {
         return Err(EditError::OutOfMemory);
     };
     Ok(starts)
 }
 
-// The elements of an array, as its sort asks of them.
-pub(crate) fn elements_asked<A: Allocator + Copy>(
+// The elements or properties of a container, as a sort of nodes asks of them.
+pub(crate) fn elements_asked<A: Allocator + Copy, C: IsNode>(
     doc: &CstRootNode<A>,
-    array: CstArray,
+    container: C,
 ) -> Result<Vec<Option<CstNode>, A>, EditError>
-    requires { Holds doc.now (array_node array) }
-    ensures nodes { IfOk result (λ v. v.items ≡ elements_asked doc.now (array_node array)) }
+    requires { Holds doc.now (C.node_of container) }
+    ensures nodes { IfOk result (λ v. v.items ≡ elements_asked doc.now (C.node_of container)) }
     ensures held { IfOk result (λ v. All (λ o. IfSome o (Holds doc.now)) v.items) }
     ensures count { IfOk result
-        (λ v. length v.items ≡ length (elements_at (nodes_of doc.now) (number_of (array_node array)))) }
+        (λ v. length v.items ≡ length (elements_at (nodes_of doc.now) (number_of (C.node_of container)))) }
     ensures memory { IfErr result (λ e. e ≡ EditError.OutOfMemory) }
 {
-    let elements = array.elements(doc)?;
+    let elements = container.node().children_exclude_trivia_and_tokens(doc)?;
     let Ok(nodes) = elements.iter().map(|node| Some(*node)).collect(doc.alloc) else {
         return Err(EditError::OutOfMemory);
     };

@@ -1,49 +1,19 @@
 //! Trailing commas that are set, or taken away.
 
-ghost use Rattle.std.specs.Prelude.{◌≡◌, ◌<◌, IfErr, OnErr, OnOk, length};
+ghost use Rattle.std.specs.Prelude.{◌≡◌, IfErr, OnErr, OnOk};
 ghost use Rattle.jsonc_text.specs.Options.{Options};
 ghost use Rattle.jsonc_cst.specs.Document.{nodes_of, Holds};
-ghost use Rattle.jsonc_cst.specs.Nodes.{array_node, number_of, object_node, root_node, typed_at};
+ghost use Rattle.jsonc_cst.specs.Nodes.{array_node, number_of, object_node, root_node};
 ghost use Rattle.jsonc_cst.specs.Tree.{NodesAreTree};
 ghost use Rattle.jsonc_edit.specs.commas.InTurn.{CommaIsDue};
 ghost use Rattle.jsonc_cst.specs.typed.Commas.{CommasSaid, CommasSet, CommasSetInPart, CommasStand, CommasStay, CommasWritten};
 ghost use Rattle.jsonc_cst.specs.typed.Commas.{HasCommasAsSaid, HasCommasAsSet, HasCommasThatStay};
 ghost use Rattle.jsonc_cst.specs.typed.Commas.{HasSetCommas, HasSetCommasInPart, HasWrittenCommas};
 ghost use Rattle.jsonc_cst.specs.typed.Steps.{IsHolder, IsSettingCommas, IsSettingSomeCommas};
-ghost use Rattle.jsonc_cst.specs.typed.Edits.{KeepsElsewhere, StaysElsewhere, StillHolds, StillNodes};
+ghost use Rattle.jsonc_cst.specs.typed.Edits.{KeepsElsewhere, StillHolds};
 
 use crate::cst::{CstArray, CstObject, CstRoot, CstRootNode, EditError, IsNode, TrailingCommaMode};
-use jsonc_tree::Tree;
 use std::alloc::Allocator;
-
-// Sets the trailing comma of a node, and of each array and object below it.
-fn set_commas<A: Allocator>(
-    tree: &mut Tree<A>,
-    number: usize,
-    mode: TrailingCommaMode,
-) -> Result<(), EditError>
-    requires { number < length tree.old.nodes }
-    ensures set { OnOk result (CommasSet tree.old.nodes tree.new.nodes mode number) }
-    ensures said { OnOk result (CommasSaid tree.old.nodes tree.new.nodes mode number) }
-    ensures part { OnErr result (CommasSetInPart tree.old.nodes tree.new.nodes mode number) }
-    ensures written { (o : Options) → CommasWritten tree.old.nodes tree.new.nodes mode o number }
-    ensures stand { (o : Options) → OnOk result (CommasStand tree.old.nodes tree.new.nodes mode o number) }
-    ensures once { (o : Options) → OnOk result (CommasStay tree.old.nodes tree.new.nodes mode o number) }
-    ensures step { OnOk result (IsHolder (typed_at tree.old.nodes number)
-        → IsSettingCommas tree.old.nodes tree.new.nodes mode number) }
-    ensures begun { OnErr result (IsHolder (typed_at tree.old.nodes number)
-        → IsSettingSomeCommas tree.old.nodes tree.new.nodes mode number) }
-    ensures elsewhere { StaysElsewhere tree.old.nodes tree.new.nodes number }
-    ensures wanted { OnErr result (mode ≡ TrailingCommaMode.IfMultiline) }
-    ensures due { OnErr result (CommaIsDue tree.old.nodes number) }
-    ensures memory { IfErr result (λ e. e ≡ EditError.OutOfMemory) }
-    ensures stays { StillNodes tree.old.nodes tree.new.nodes }
-{
-    match jsonc_edit::commas::set_trailing_commas(tree, number, mode) {
-        Ok(()) => Ok(()),
-        Err(error) => Err(error),
-    }
-}
 
 // Sets the trailing commas of a node, and of all arrays and objects below it, by a mode.
 fn set_commas_of<A: Allocator, N: IsNode>(
@@ -68,7 +38,11 @@ fn set_commas_of<A: Allocator, N: IsNode>(
     ensures memory { IfErr result (λ e. e ≡ EditError.OutOfMemory) }
     ensures stays { StillHolds doc.old doc.new }
 {
-    set_commas(&mut doc.tree, node.node().number(), mode)
+    let number = node.node().number();
+    match jsonc_edit::commas::set_trailing_commas(&mut doc.tree, number, mode) {
+        Ok(()) => Ok(()),
+        Err(error) => Err(error),
+    }
 }
 
 impl<A: Allocator> CstRootNode<A> {
@@ -88,8 +62,8 @@ impl<A: Allocator> CstRootNode<A> {
         ensures memory { IfErr result (λ e. e ≡ EditError.OutOfMemory) }
         ensures stays { StillHolds self.old self.new }
     {
-        let set = set_commas(&mut self.tree, 0, mode);
-        set
+        let root = self.root();
+        set_commas_of(self, root, mode)
     }
 }
 

@@ -1,41 +1,17 @@
 //! Arrays and objects that are put on several lines.
 
-ghost use Rattle.std.specs.Prelude.{◌≡◌, ◌<◌, IfErr, IsTrue, OnErr, OnOk, length};
+ghost use Rattle.std.specs.Prelude.{◌≡◌, IfErr, OnErr, OnOk};
 ghost use Rattle.jsonc_text.specs.Options.{Options};
-ghost use Rattle.jsonc_tree.specs.OrderedTree.{ordered_tree};
-ghost use Rattle.jsonc_tree.specs.Tree.{content_at};
-ghost use Rattle.jsonc_layout.specs.lines.Kinds.{holds_values};
-ghost use Rattle.jsonc_edit.specs.multiline.Multiline.{has_line_end, IsUnspread, MadeMultiline};
 ghost use Rattle.jsonc_cst.specs.Document.{nodes_of, tree_of, Holds};
 ghost use Rattle.jsonc_cst.specs.Nodes.{array_node, number_of, object_node};
 ghost use Rattle.jsonc_cst.specs.Tree.{NodesAreTree};
-ghost use Rattle.jsonc_cst.specs.typed.Edits.{KeepsElsewhere, StaysElsewhere, StillHolds, StillNodes};
-ghost use Rattle.jsonc_cst.specs.typed.Edits.{NodesStay, StaysAsItWas};
-ghost use Rattle.jsonc_cst.specs.typed.Lines.{HasSpreadOut, IsOnLines, LinesWritten, SpreadsAtItsPath, StaysUnspread};
-ghost use Rattle.jsonc_cst.specs.typed.Removing.{IsKeptForMemory, WantsMemoryAlone};
+ghost use Rattle.jsonc_cst.specs.typed.Edits.{KeepsElsewhere, StaysAsItWas, StillHolds};
+ghost use Rattle.jsonc_cst.specs.typed.Lines.{HasSpreadOut, IsOnLines, LinesWritten, StaysUnspread};
+ghost use Rattle.jsonc_cst.specs.typed.Removing.{IsKeptForMemory};
 ghost use Rattle.jsonc_cst.specs.typed.Steps.{IsSpreading};
 
 use crate::cst::{CstArray, CstObject, CstRootNode, EditError, IsNode};
-use jsonc_tree::Tree;
 use std::alloc::Allocator;
-
-// Puts an array or object on several lines.
-fn spread<A: Allocator + Copy>(alloc: A, tree: &mut Tree<A>, number: usize) -> Result<(), EditError>
-    requires there { number < length tree.old.nodes }
-    requires holds { IsTrue (holds_values (content_at tree.old.nodes number)) }
-    ensures made { OnOk result (MadeMultiline tree.old.nodes tree.new.nodes number) }
-    ensures written { (o : Options) → OnOk result (SpreadsAtItsPath o tree.old.nodes tree.new.nodes number) }
-    ensures step { OnOk result (IsSpreading tree.old.nodes tree.new.nodes number) }
-    ensures lines { OnOk result (IsTrue (has_line_end tree.new.nodes number)) }
-    ensures elsewhere { OnOk result (StaysElsewhere tree.old.nodes tree.new.nodes number) }
-    ensures told { IfErr result (IsUnspread tree.old.nodes number) }
-    ensures memory { (o : Options) → IfErr result (WantsMemoryAlone o tree.old.nodes number) }
-    ensures stays { StillNodes tree.old.nodes tree.new.nodes }
-    ensures kept { OnErr result (NodesStay tree.old.nodes tree.new.nodes) }
-    ensures document { OnErr result (ordered_tree tree.new.nodes 0 ≡ ordered_tree tree.old.nodes 0) }
-{
-    jsonc_edit::multiline::ensure_multiline(alloc, tree, number)
-}
 
 impl CstArray {
     /// Puts it on several lines, where no line ends among its children yet: each part of what stands between
@@ -62,8 +38,8 @@ impl CstArray {
         ensures kept { OnErr result (StaysAsItWas doc.old doc.new) }
         ensures document { OnErr result (tree_of doc.new ≡ tree_of doc.old) }
     {
-        let number = self.node().number();
-        spread(doc.alloc, &mut doc.tree, number)
+        let array = self.node().number();
+        jsonc_edit::multiline::ensure_multiline(doc.alloc, &mut doc.tree, array)
     }
 }
 
@@ -92,7 +68,7 @@ impl CstObject {
         ensures kept { OnErr result (StaysAsItWas doc.old doc.new) }
         ensures document { OnErr result (tree_of doc.new ≡ tree_of doc.old) }
     {
-        let number = self.node().number();
-        spread(doc.alloc, &mut doc.tree, number)
+        let object = self.node().number();
+        jsonc_edit::multiline::ensure_multiline(doc.alloc, &mut doc.tree, object)
     }
 }

@@ -1,11 +1,10 @@
 //! A document's value is set, and a property gives way to another.
 
-ghost use Rattle.std.specs.Prelude.{◌≡◌, ◌<◌, IfErr, IfNone, IfOk, IfSome, None, OnErr, OnOk, Some, chars, length};
+ghost use Rattle.std.specs.Prelude.{◌≡◌, IfErr, IfNone, IfOk, IfSome, None, OnErr, OnOk, Some, chars};
 ghost use Rattle.jsonc_text.specs.Options.{Options};
 ghost use Rattle.jsonc_layout.specs.input.Views.{plain};
 ghost use Rattle.jsonc_tree.specs.Content.{Content};
-ghost use Rattle.jsonc_tree.specs.OrderedTree.{ordered_tree};
-ghost use Rattle.jsonc_tree.specs.Tree.{content_at, parent_at};
+ghost use Rattle.jsonc_tree.specs.Tree.{content_at};
 ghost use Rattle.jsonc_layout.specs.nodes.Properties.{value_at};
 ghost use Rattle.jsonc_edit.specs.set.Kinds.{is_array, is_object, LacksKind};
 ghost use Rattle.jsonc_edit.specs.set.Laws.{IsBareDocument};
@@ -14,9 +13,7 @@ ghost use Rattle.jsonc_text.specs.declared.edit.Shape.{Shape};
 ghost use Rattle.jsonc_cst.specs.Document.{nodes_of, parent_of, tree_of, Holds};
 ghost use Rattle.jsonc_cst.specs.Nodes.{array_node, number_of, object_node, object_prop_node, IsNodeOf};
 ghost use Rattle.jsonc_cst.specs.Readings.{value_under};
-ghost use Rattle.jsonc_cst.specs.typed.Around.{IsLaidProperty};
-ghost use Rattle.jsonc_cst.specs.typed.Edits.{HasGone, IsNobodys, IsUntouched, KeepsElsewhere, StaysElsewhere};
-ghost use Rattle.jsonc_cst.specs.typed.Edits.{NodesStay, StaysAsItWas, StillHolds, StillNodes};
+ghost use Rattle.jsonc_cst.specs.typed.Edits.{HasGone, IsUntouched, KeepsElsewhere, StaysAsItWas, StillHolds};
 ghost use Rattle.jsonc_cst.specs.typed.Marked.{MarksStay};
 ghost use Rattle.jsonc_cst.specs.typed.Removing.{IsCleared};
 ghost use Rattle.jsonc_cst.specs.typed.Setting.{EmptyArrayAround, EmptyArrayMarked, EmptyArrayWritten};
@@ -24,16 +21,15 @@ ghost use Rattle.jsonc_cst.specs.typed.Setting.{EmptyObjectAround, EmptyObjectMa
 ghost use Rattle.jsonc_cst.specs.typed.Setting.{FirstArrayAround, FirstObjectAround};
 ghost use Rattle.jsonc_cst.specs.typed.Setting.{FindsOrCreatesArray, FindsOrCreatesObject, FindsOrSetsArray};
 ghost use Rattle.jsonc_cst.specs.typed.Setting.{FindsOrSetsObject, FirstArrayWritten, FirstObjectWritten};
-ghost use Rattle.jsonc_cst.specs.typed.Setting.{HasBecomeProperty, HasWrittenProperty, IsLaidAsProperty, IsRootValue};
-ghost use Rattle.jsonc_cst.specs.typed.Setting.{PropertyBecomes, PropertyIsWritten, RootBecomes, RootIsMarked};
-ghost use Rattle.jsonc_cst.specs.typed.Setting.{RootIsWritten, RootStaysAround};
+ghost use Rattle.jsonc_cst.specs.typed.Setting.{HasBecomeProperty, HasWrittenProperty, IsLaidAsProperty};
+ghost use Rattle.jsonc_cst.specs.typed.Setting.{RootBecomes, RootIsMarked, RootIsWritten, RootStaysAround};
 ghost use Rattle.jsonc_cst.specs.typed.Steps.{IsClearing, IsEnsuringRoot, IsReplacingProperty, IsSettingRoot};
 
 use crate::cst::{
     CstArray, CstNode, CstObject, CstObjectProp, CstRootNode, EditError, IsNode, node_at,
 };
-use crate::typed::removing::clear;
 use jsonc_edit::Shape;
+use jsonc_edit::set::{root_value_or_create, root_value_or_set};
 use jsonc_layout::input::CstInputValue;
 use jsonc_tree::Tree;
 use std::alloc::Allocator;
@@ -62,153 +58,6 @@ pub fn array_at<A: Allocator>(tree: &Tree<A>, number: usize) -> CstArray
     array
 }
 
-// Sets the document's value, and answers its node.
-fn set_root<A: Allocator + Copy>(
-    alloc: A,
-    tree: &mut Tree<A>,
-    value: &CstInputValue<A>,
-) -> Result<CstNode, EditError>
-    ensures set { IfOk result (RootBecomes tree.old.nodes tree.new.nodes (plain value.now)) }
-    ensures written { (p : Options) → IfOk result (RootIsWritten tree.old.nodes tree.new.nodes p (plain value.now)) }
-    ensures marked { (p : Options) → OnOk result (RootIsMarked tree.old.nodes tree.new.nodes p (plain value.now)) }
-    ensures around { (p : Options) → OnOk result (RootStaysAround tree.old.nodes tree.new.nodes p (plain value.now)) }
-    ensures step { OnOk result (IsSettingRoot tree.old.nodes tree.new.nodes (plain value.now)) }
-    ensures stands { IfOk result (IsRootValue tree.new.nodes) }
-    ensures held { IfOk result (IsNodeOf tree.new.nodes) }
-    ensures stays { StillNodes tree.old.nodes tree.new.nodes }
-    ensures memory { IfErr result (λ e. e ≡ EditError.OutOfMemory) }
-    ensures kept { OnErr result (NodesStay tree.old.nodes tree.new.nodes) }
-    ensures document { OnErr result (ordered_tree tree.new.nodes 0 ≡ ordered_tree tree.old.nodes 0) }
-{
-    let number = jsonc_edit::set::set_root(alloc, tree, value)?;
-    Ok(node_at(tree, number))
-}
-
-// The document's object, or an empty one that is set where there is no value.
-fn object_or_create<A: Allocator + Copy>(
-    alloc: A,
-    tree: &mut Tree<A>,
-) -> Result<Option<CstObject>, EditError>
-    ensures value { IfOk result (FindsOrCreatesObject tree.old.nodes tree.new.nodes) }
-    ensures written { (p : Options) → OnOk result (FirstObjectWritten tree.old.nodes tree.new.nodes p) }
-    ensures marked { (p : Options) → OnOk result (MarksStay tree.old.nodes tree.new.nodes p) }
-    ensures around { (p : Options) → OnOk result (FirstObjectAround tree.old.nodes tree.new.nodes p) }
-    ensures step { OnOk result (IsEnsuringRoot tree.old.nodes tree.new.nodes Shape.Object Over.Keep) }
-    ensures stands { IfOk result (λ o. IfSome o (λ x. IsRootValue tree.new.nodes (object_node x))) }
-    ensures held { IfOk result (λ o. IfSome o (λ x. IsNodeOf tree.new.nodes (object_node x))) }
-    ensures stays { StillNodes tree.old.nodes tree.new.nodes }
-    ensures memory { IfErr result (λ e. e ≡ EditError.OutOfMemory) }
-    ensures wanted { OnErr result (value_at tree.old.nodes 0 ≡ None) }
-    ensures kept { OnErr result (NodesStay tree.old.nodes tree.new.nodes) }
-    ensures document { OnErr result (ordered_tree tree.new.nodes 0 ≡ ordered_tree tree.old.nodes 0) }
-{
-    let Some(number) = jsonc_edit::set::root_value_or_create(alloc, tree, Shape::Object)? else {
-        return Ok(None);
-    };
-    Ok(Some(object_at(tree, number)))
-}
-
-// The document's array, or an empty one that is set where there is no value.
-fn array_or_create<A: Allocator + Copy>(
-    alloc: A,
-    tree: &mut Tree<A>,
-) -> Result<Option<CstArray>, EditError>
-    ensures value { IfOk result (FindsOrCreatesArray tree.old.nodes tree.new.nodes) }
-    ensures written { (p : Options) → OnOk result (FirstArrayWritten tree.old.nodes tree.new.nodes p) }
-    ensures marked { (p : Options) → OnOk result (MarksStay tree.old.nodes tree.new.nodes p) }
-    ensures around { (p : Options) → OnOk result (FirstArrayAround tree.old.nodes tree.new.nodes p) }
-    ensures step { OnOk result (IsEnsuringRoot tree.old.nodes tree.new.nodes Shape.Array Over.Keep) }
-    ensures stands { IfOk result (λ o. IfSome o (λ x. IsRootValue tree.new.nodes (array_node x))) }
-    ensures held { IfOk result (λ o. IfSome o (λ x. IsNodeOf tree.new.nodes (array_node x))) }
-    ensures stays { StillNodes tree.old.nodes tree.new.nodes }
-    ensures memory { IfErr result (λ e. e ≡ EditError.OutOfMemory) }
-    ensures wanted { OnErr result (value_at tree.old.nodes 0 ≡ None) }
-    ensures kept { OnErr result (NodesStay tree.old.nodes tree.new.nodes) }
-    ensures document { OnErr result (ordered_tree tree.new.nodes 0 ≡ ordered_tree tree.old.nodes 0) }
-{
-    let Some(number) = jsonc_edit::set::root_value_or_create(alloc, tree, Shape::Array)? else {
-        return Ok(None);
-    };
-    Ok(Some(array_at(tree, number)))
-}
-
-// The document's object, or an empty one that is set where its value is none.
-fn object_or_set<A: Allocator + Copy>(alloc: A, tree: &mut Tree<A>) -> Result<CstObject, EditError>
-    ensures value { IfOk result (FindsOrSetsObject tree.old.nodes tree.new.nodes) }
-    ensures written { (p : Options) → IfOk result (EmptyObjectWritten tree.old.nodes tree.new.nodes p) }
-    ensures marked { (p : Options) → OnOk result (EmptyObjectMarked tree.old.nodes tree.new.nodes p) }
-    ensures around { (p : Options) → OnOk result (EmptyObjectAround tree.old.nodes tree.new.nodes p) }
-    ensures step { OnOk result (IsEnsuringRoot tree.old.nodes tree.new.nodes Shape.Object Over.Replace) }
-    ensures stands { IfOk result (λ x. IsRootValue tree.new.nodes (object_node x)) }
-    ensures held { IfOk result (λ x. IsNodeOf tree.new.nodes (object_node x)) }
-    ensures stays { StillNodes tree.old.nodes tree.new.nodes }
-    ensures memory { IfErr result (λ e. e ≡ EditError.OutOfMemory) }
-    ensures wanted { OnErr result (LacksKind is_object tree.old.nodes (value_at tree.old.nodes 0)) }
-    ensures kept { OnErr result (NodesStay tree.old.nodes tree.new.nodes) }
-    ensures document { OnErr result (ordered_tree tree.new.nodes 0 ≡ ordered_tree tree.old.nodes 0) }
-{
-    let number = jsonc_edit::set::root_value_or_set(alloc, tree, Shape::Object)?;
-    Ok(object_at(tree, number))
-}
-
-// The document's array, or an empty one that is set where its value is none.
-fn array_or_set<A: Allocator + Copy>(alloc: A, tree: &mut Tree<A>) -> Result<CstArray, EditError>
-    ensures value { IfOk result (FindsOrSetsArray tree.old.nodes tree.new.nodes) }
-    ensures written { (p : Options) → IfOk result (EmptyArrayWritten tree.old.nodes tree.new.nodes p) }
-    ensures marked { (p : Options) → OnOk result (EmptyArrayMarked tree.old.nodes tree.new.nodes p) }
-    ensures around { (p : Options) → OnOk result (EmptyArrayAround tree.old.nodes tree.new.nodes p) }
-    ensures step { OnOk result (IsEnsuringRoot tree.old.nodes tree.new.nodes Shape.Array Over.Replace) }
-    ensures stands { IfOk result (λ x. IsRootValue tree.new.nodes (array_node x)) }
-    ensures held { IfOk result (λ x. IsNodeOf tree.new.nodes (array_node x)) }
-    ensures stays { StillNodes tree.old.nodes tree.new.nodes }
-    ensures memory { IfErr result (λ e. e ≡ EditError.OutOfMemory) }
-    ensures wanted { OnErr result (LacksKind is_array tree.old.nodes (value_at tree.old.nodes 0)) }
-    ensures kept { OnErr result (NodesStay tree.old.nodes tree.new.nodes) }
-    ensures document { OnErr result (ordered_tree tree.new.nodes 0 ≡ ordered_tree tree.old.nodes 0) }
-{
-    let number = jsonc_edit::set::root_value_or_set(alloc, tree, Shape::Array)?;
-    Ok(array_at(tree, number))
-}
-
-// Lets a property give way to another, and answers the node that this is.
-fn replace_property<A: Allocator + Copy>(
-    alloc: A,
-    tree: &mut Tree<A>,
-    number: usize,
-    name: &str,
-    value: &CstInputValue<A>,
-) -> Result<Option<CstNode>, EditError>
-    requires { number < length tree.old.nodes }
-    ensures replaced { IfOk result
-        (λ o. IfSome o (PropertyBecomes tree.old.nodes tree.new.nodes number (chars name.now) (plain value.now))) }
-    ensures written { (p : Options)
-        → IfOk result (λ o. IfSome o
-        (PropertyIsWritten tree.old.nodes tree.new.nodes p number (chars name.now) (plain value.now))) }
-    ensures laid { IfOk result
-        (λ o. IfSome o (λ m. IsLaidProperty tree.old.nodes tree.new.nodes number (chars name.now) (plain value.now)
-        (number_of m))) }
-    ensures step { IfOk result (λ o. IfSome o (λ m. content_at tree.old.nodes number ≡ Content.property
-        → IsReplacingProperty tree.old.nodes tree.new.nodes number (chars name.now) (plain value.now))) }
-    ensures elsewhere { IfOk result (λ o. IfSome o (λ m. StaysElsewhere tree.old.nodes tree.new.nodes number)) }
-    ensures gone { IfOk result (λ o. IfSome o (λ m. IsNobodys tree.new.nodes number)) }
-    ensures none { IfOk result (λ o. IfNone o (parent_at tree.old.nodes number ≡ None)) }
-    ensures untouched { IfOk result (λ o. IfNone o (tree.new.nodes ≡ tree.old.nodes)) }
-    ensures held { IfOk result (λ o. IfSome o (IsNodeOf tree.new.nodes)) }
-    ensures stays { StillNodes tree.old.nodes tree.new.nodes }
-    ensures memory { IfErr result (λ e. e ≡ EditError.OutOfMemory) }
-    ensures child { OnErr result (¬ (parent_at tree.old.nodes number ≡ None)) }
-    ensures kept { OnErr result (NodesStay tree.old.nodes tree.new.nodes) }
-    ensures document { OnErr result (ordered_tree tree.new.nodes 0 ≡ ordered_tree tree.old.nodes 0) }
-{
-    let Some(_) = tree.parent(number) else {
-        return Ok(None);
-    };
-    let Some(new) = jsonc_edit::set::replace_property(alloc, tree, number, name, value)? else {
-        return Ok(None);
-    };
-    Ok(Some(node_at(tree, new)))
-}
-
 impl<A: Allocator + Copy> CstRootNode<A> {
     /// Sets the document's value, and answers the node that it is now.
     ///
@@ -234,7 +83,8 @@ impl<A: Allocator + Copy> CstRootNode<A> {
         ensures kept { OnErr result (StaysAsItWas self.old self.new) }
         ensures document { OnErr result (tree_of self.new ≡ tree_of self.old) }
     {
-        set_root(self.alloc, &mut self.tree, &value)
+        let number = jsonc_edit::set::set_root(self.alloc, &mut self.tree, &value)?;
+        Ok(node_at(&self.tree, number))
     }
 
     /// Takes all out of the document, which has no value then, and no comments, and is sound: one step, if
@@ -245,7 +95,7 @@ impl<A: Allocator + Copy> CstRootNode<A> {
         ensures step { IsClearing (nodes_of self.old) (nodes_of self.new) }
         ensures stays { StillHolds self.old self.new }
     {
-        clear(&mut self.tree);
+        jsonc_edit::set::clear_root(&mut self.tree);
     }
 
     /// The document's value, if it is an object. Where there is none an empty object is set; where the
@@ -265,7 +115,10 @@ impl<A: Allocator + Copy> CstRootNode<A> {
         ensures kept { OnErr result (StaysAsItWas self.old self.new) }
         ensures document { OnErr result (tree_of self.new ≡ tree_of self.old) }
     {
-        object_or_create(self.alloc, &mut self.tree)
+        let Some(number) = root_value_or_create(self.alloc, &mut self.tree, Shape::Object)? else {
+            return Ok(None);
+        };
+        Ok(Some(object_at(&self.tree, number)))
     }
 
     /// The document's value, if it is an object. Where it is another, or there is none, an empty object
@@ -284,7 +137,8 @@ impl<A: Allocator + Copy> CstRootNode<A> {
         ensures kept { OnErr result (StaysAsItWas self.old self.new) }
         ensures document { OnErr result (tree_of self.new ≡ tree_of self.old) }
     {
-        object_or_set(self.alloc, &mut self.tree)
+        let number = root_value_or_set(self.alloc, &mut self.tree, Shape::Object)?;
+        Ok(object_at(&self.tree, number))
     }
 
     /// The document's value, if it is an array. Where there is none an empty array is set; where the
@@ -304,7 +158,10 @@ impl<A: Allocator + Copy> CstRootNode<A> {
         ensures kept { OnErr result (StaysAsItWas self.old self.new) }
         ensures document { OnErr result (tree_of self.new ≡ tree_of self.old) }
     {
-        array_or_create(self.alloc, &mut self.tree)
+        let Some(number) = root_value_or_create(self.alloc, &mut self.tree, Shape::Array)? else {
+            return Ok(None);
+        };
+        Ok(Some(array_at(&self.tree, number)))
     }
 
     /// The document's value, if it is an array. Where it is another, or there is none, an empty array is
@@ -323,7 +180,8 @@ impl<A: Allocator + Copy> CstRootNode<A> {
         ensures kept { OnErr result (StaysAsItWas self.old self.new) }
         ensures document { OnErr result (tree_of self.new ≡ tree_of self.old) }
     {
-        array_or_set(self.alloc, &mut self.tree)
+        let number = root_value_or_set(self.alloc, &mut self.tree, Shape::Array)?;
+        Ok(array_at(&self.tree, number))
     }
 }
 
@@ -363,7 +221,14 @@ impl CstObjectProp {
         ensures kept { OnErr result (StaysAsItWas doc.old doc.new) }
         ensures document { OnErr result (tree_of doc.new ≡ tree_of doc.old) }
     {
+        let Some(_) = self.parent(doc) else {
+            return Ok(None);
+        };
         let number = self.node().number();
-        replace_property(doc.alloc, &mut doc.tree, number, name, &value)
+        match jsonc_edit::set::replace_property(doc.alloc, &mut doc.tree, number, name, &value) {
+            Ok(Some(new)) => Ok(Some(node_at(&doc.tree, new))),
+            Ok(None) => Ok(None),
+            Err(error) => Err(error),
+        }
     }
 }

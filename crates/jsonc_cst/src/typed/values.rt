@@ -1,29 +1,21 @@
 //! A property's value is set, and a truth value.
 
-ghost use Rattle.std.specs.Prelude.{◌≡◌, ◌<◌, IfErr, IfOk, OnErr, OnOk, false, length, true};
+ghost use Rattle.std.specs.Prelude.{◌≡◌, IfErr, IfOk, OnErr, OnOk, false, true};
 ghost use Rattle.jsonc_text.specs.Options.{Options};
 ghost use Rattle.jsonc_layout.specs.input.Views.{plain};
-ghost use Rattle.jsonc_tree.specs.Content.{Content};
-ghost use Rattle.jsonc_tree.specs.OrderedTree.{ordered_tree};
-ghost use Rattle.jsonc_tree.specs.Tree.{content_at};
-ghost use Rattle.jsonc_edit.specs.set.Booleans.{is_boolean, BooleanSet, WantsSpaceFor};
+ghost use Rattle.jsonc_edit.specs.set.Booleans.{WantsSpaceFor};
 ghost use Rattle.jsonc_edit.specs.set.Kinds.{is_array, is_object};
 ghost use Rattle.jsonc_layout.specs.nodes.Properties.{lacks_name_at};
 ghost use Rattle.jsonc_edit.specs.set.PropertyValues.{IsUnset};
 ghost use Rattle.jsonc_text.specs.declared.edit.Shape.{Shape};
 ghost use Rattle.jsonc_cst.specs.Document.{nodes_of, tree_of, Holds};
-ghost use Rattle.jsonc_cst.specs.Nodes.{array_node, boolean_lit_node, number_of, object_node};
-ghost use Rattle.jsonc_cst.specs.Nodes.{object_prop_node, IsNodeOf};
-ghost use Rattle.jsonc_cst.specs.typed.Edits.{KeepsElsewhere, StaysElsewhere, StillHolds, StillNodes};
-ghost use Rattle.jsonc_cst.specs.typed.Edits.{NodesStay, StaysAsItWas};
-ghost use Rattle.jsonc_cst.specs.typed.Removing.{IsKeptForMemory, WantsMemoryAlone};
+ghost use Rattle.jsonc_cst.specs.Nodes.{array_node, boolean_lit_node, number_of, object_node, object_prop_node};
+ghost use Rattle.jsonc_cst.specs.typed.Edits.{KeepsElsewhere, StaysAsItWas, StillHolds};
+ghost use Rattle.jsonc_cst.specs.typed.Removing.{IsKeptForMemory};
 ghost use Rattle.jsonc_cst.specs.typed.Steps.{IsEnsuringValue, IsSettingBoolean, IsSettingValue};
-ghost use Rattle.jsonc_cst.specs.typed.Values.{BooleanIsWritten, FindsOrSetsHeldArray, FindsOrSetsHeldObject};
 ghost use Rattle.jsonc_cst.specs.typed.Values.{HasMarkedArray, HasMarkedObject, HasMarkedValue, HasSetBoolean};
 ghost use Rattle.jsonc_cst.specs.typed.Values.{HasWrittenArray, HasWrittenBoolean, HasWrittenObject, HasWrittenValue};
-ghost use Rattle.jsonc_cst.specs.typed.Values.{HeldArrayIsMarked, HeldArrayIsWritten, HeldIsMarked, HeldIsWritten};
-ghost use Rattle.jsonc_cst.specs.typed.Values.{HasStayedAroundValue, HeldObjectIsMarked, HeldObjectIsWritten, HeldStaysAround};
-ghost use Rattle.jsonc_cst.specs.typed.Values.{IsChildOf, IsUnder, NowHolds, NowHoldsArray, NowHoldsObject, PropertyHolds};
+ghost use Rattle.jsonc_cst.specs.typed.Values.{HasStayedAroundValue, IsChildOf, NowHolds, NowHoldsArray, NowHoldsObject};
 
 use crate::cst::{
     CstArray, CstBooleanLit, CstNode, CstObject, CstObjectProp, CstRootNode, EditError, IsNode,
@@ -31,133 +23,9 @@ use crate::cst::{
 };
 use crate::typed::setting::{array_at, object_at};
 use jsonc_edit::Shape;
+use jsonc_edit::set::property_value_or_set;
 use jsonc_layout::input::CstInputValue;
-use jsonc_tree::Tree;
 use std::alloc::Allocator;
-
-// The number of a property that the tree holds.
-fn property_number<A: Allocator>(tree: &Tree<A>, property: CstObjectProp) -> usize
-    requires { IsNodeOf tree.now.nodes (object_prop_node property) }
-    ensures number { result ≡ property.number }
-    ensures there { result < length tree.now.nodes }
-    ensures property { content_at tree.now.nodes result ≡ Content.property }
-{
-    property.node().number()
-}
-
-// The number of a truth value that the tree holds.
-fn boolean_number<A: Allocator>(tree: &Tree<A>, boolean: CstBooleanLit) -> usize
-    requires { IsNodeOf tree.now.nodes (boolean_lit_node boolean) }
-    ensures number { result ≡ boolean.number }
-    ensures there { result < length tree.now.nodes }
-    ensures boolean { is_boolean (content_at tree.now.nodes result) ≡ true }
-{
-    boolean.node().number()
-}
-
-// Sets the value of a property, and answers its node.
-fn set_property_value<A: Allocator + Copy>(
-    alloc: A,
-    tree: &mut Tree<A>,
-    property: usize,
-    value: &CstInputValue<A>,
-) -> Result<CstNode, EditError>
-    requires there { property < length tree.old.nodes }
-    requires property { content_at tree.old.nodes property ≡ Content.property }
-    ensures set { IfOk result (PropertyHolds tree.old.nodes tree.new.nodes property (plain value.now)) }
-    ensures written { (p : Options)
-        → IfOk result (HeldIsWritten tree.old.nodes tree.new.nodes p property (plain value.now)) }
-    ensures marked { OnOk result (HeldIsMarked tree.old.nodes tree.new.nodes property (plain value.now)) }
-    ensures around { OnOk result (HeldStaysAround tree.old.nodes tree.new.nodes property (plain value.now)) }
-    ensures step { OnOk result (IsSettingValue tree.old.nodes tree.new.nodes property (plain value.now)) }
-    ensures elsewhere { OnOk result (StaysElsewhere tree.old.nodes tree.new.nodes property) }
-    ensures child { IfOk result (IsUnder tree.new.nodes property) }
-    ensures held { IfOk result (IsNodeOf tree.new.nodes) }
-    ensures stays { StillNodes tree.old.nodes tree.new.nodes }
-    ensures memory { IfErr result (λ e. e ≡ EditError.OutOfMemory) }
-    ensures kept { OnErr result (NodesStay tree.old.nodes tree.new.nodes) }
-    ensures document { OnErr result (ordered_tree tree.new.nodes 0 ≡ ordered_tree tree.old.nodes 0) }
-{
-    let number = jsonc_edit::set::set_property_value(alloc, tree, property, value)?;
-    Ok(node_at(tree, number))
-}
-
-// The object that a property holds, or an empty one that is set where it holds none.
-fn property_object_or_set<A: Allocator + Copy>(
-    alloc: A,
-    tree: &mut Tree<A>,
-    property: usize,
-) -> Result<CstObject, EditError>
-    requires there { property < length tree.old.nodes }
-    requires property { content_at tree.old.nodes property ≡ Content.property }
-    ensures value { IfOk result (FindsOrSetsHeldObject tree.old.nodes tree.new.nodes property) }
-    ensures written { (p : Options) → IfOk result (HeldObjectIsWritten tree.old.nodes tree.new.nodes p property) }
-    ensures marked { OnOk result (HeldObjectIsMarked tree.old.nodes tree.new.nodes property) }
-    ensures step { OnOk result (IsEnsuringValue tree.old.nodes tree.new.nodes property Shape.Object) }
-    ensures elsewhere { OnOk result (StaysElsewhere tree.old.nodes tree.new.nodes property) }
-    ensures named { OnOk result (lacks_name_at tree.old.nodes property ≡ false) }
-    ensures child { IfOk result (λ x. IsUnder tree.new.nodes property (object_node x)) }
-    ensures held { IfOk result (λ x. IsNodeOf tree.new.nodes (object_node x)) }
-    ensures stays { StillNodes tree.old.nodes tree.new.nodes }
-    ensures told { IfErr result (IsUnset is_object tree.old.nodes property) }
-    ensures missing { IfErr result (λ e. lacks_name_at tree.old.nodes property ≡ true → e ≡ EditError.MissingName) }
-    ensures memory { (o : Options) → IfErr result (WantsMemoryAlone o tree.old.nodes property) }
-    ensures kept { OnErr result (NodesStay tree.old.nodes tree.new.nodes) }
-    ensures document { OnErr result (ordered_tree tree.new.nodes 0 ≡ ordered_tree tree.old.nodes 0) }
-{
-    let number = jsonc_edit::set::property_value_or_set(alloc, tree, property, Shape::Object)?;
-    Ok(object_at(tree, number))
-}
-
-// The array that a property holds, or an empty one that is set where it holds none.
-fn property_array_or_set<A: Allocator + Copy>(
-    alloc: A,
-    tree: &mut Tree<A>,
-    property: usize,
-) -> Result<CstArray, EditError>
-    requires there { property < length tree.old.nodes }
-    requires property { content_at tree.old.nodes property ≡ Content.property }
-    ensures value { IfOk result (FindsOrSetsHeldArray tree.old.nodes tree.new.nodes property) }
-    ensures written { (p : Options) → IfOk result (HeldArrayIsWritten tree.old.nodes tree.new.nodes p property) }
-    ensures marked { OnOk result (HeldArrayIsMarked tree.old.nodes tree.new.nodes property) }
-    ensures step { OnOk result (IsEnsuringValue tree.old.nodes tree.new.nodes property Shape.Array) }
-    ensures elsewhere { OnOk result (StaysElsewhere tree.old.nodes tree.new.nodes property) }
-    ensures named { OnOk result (lacks_name_at tree.old.nodes property ≡ false) }
-    ensures child { IfOk result (λ x. IsUnder tree.new.nodes property (array_node x)) }
-    ensures held { IfOk result (λ x. IsNodeOf tree.new.nodes (array_node x)) }
-    ensures stays { StillNodes tree.old.nodes tree.new.nodes }
-    ensures told { IfErr result (IsUnset is_array tree.old.nodes property) }
-    ensures missing { IfErr result (λ e. lacks_name_at tree.old.nodes property ≡ true → e ≡ EditError.MissingName) }
-    ensures memory { (o : Options) → IfErr result (WantsMemoryAlone o tree.old.nodes property) }
-    ensures kept { OnErr result (NodesStay tree.old.nodes tree.new.nodes) }
-    ensures document { OnErr result (ordered_tree tree.new.nodes 0 ≡ ordered_tree tree.old.nodes 0) }
-{
-    let number = jsonc_edit::set::property_value_or_set(alloc, tree, property, Shape::Array)?;
-    Ok(array_at(tree, number))
-}
-
-// Lets a truth value become this one, in its place.
-fn set_boolean<A: Allocator + Copy>(
-    alloc: A,
-    tree: &mut Tree<A>,
-    boolean: CstBooleanLit,
-    value: bool,
-) -> Result<(), EditError>
-    requires { IsNodeOf tree.old.nodes (boolean_lit_node boolean) }
-    ensures set { OnOk result (BooleanSet tree.old.nodes tree.new.nodes boolean.number value) }
-    ensures written { (p : Options)
-        → OnOk result (BooleanIsWritten tree.old.nodes tree.new.nodes p boolean.number value) }
-    ensures step { OnOk result (IsSettingBoolean tree.old.nodes tree.new.nodes boolean.number value) }
-    ensures elsewhere { OnOk result (StaysElsewhere tree.old.nodes tree.new.nodes boolean.number) }
-    ensures stays { StillNodes tree.old.nodes tree.new.nodes }
-    ensures memory { IfErr result (λ e. e ≡ EditError.OutOfMemory) }
-    ensures wanted { OnErr result (WantsSpaceFor tree.old.nodes boolean.number value) }
-    ensures kept { OnErr result (NodesStay tree.old.nodes tree.new.nodes) }
-    ensures document { OnErr result (ordered_tree tree.new.nodes 0 ≡ ordered_tree tree.old.nodes 0) }
-{
-    let number = boolean_number(tree, boolean);
-    jsonc_edit::set::set_boolean(alloc, tree, number, value)
-}
 
 impl CstObjectProp {
     /// Sets its value, and answers the new value's node.
@@ -189,8 +57,9 @@ impl CstObjectProp {
         ensures kept { OnErr result (StaysAsItWas doc.old doc.new) }
         ensures document { OnErr result (tree_of doc.new ≡ tree_of doc.old) }
     {
-        let number = property_number(&doc.tree, self);
-        set_property_value(doc.alloc, &mut doc.tree, number, &value)
+        let number = self.node().number();
+        let new = jsonc_edit::set::set_property_value(doc.alloc, &mut doc.tree, number, &value)?;
+        Ok(node_at(&doc.tree, new))
     }
 
     /// Its value, if it is an object. Where it is another, or there is none, an empty object is set, as by
@@ -221,8 +90,11 @@ impl CstObjectProp {
         ensures kept { OnErr result (StaysAsItWas doc.old doc.new) }
         ensures document { OnErr result (tree_of doc.new ≡ tree_of doc.old) }
     {
-        let number = property_number(&doc.tree, self);
-        property_object_or_set(doc.alloc, &mut doc.tree, number)
+        let number = self.node().number();
+        match property_value_or_set(doc.alloc, &mut doc.tree, number, Shape::Object) {
+            Ok(object) => Ok(object_at(&doc.tree, object)),
+            Err(error) => Err(error),
+        }
     }
 
     /// Its value, if it is an array. Where it is another, or there is none, an empty array is set, as by
@@ -253,8 +125,11 @@ impl CstObjectProp {
         ensures kept { OnErr result (StaysAsItWas doc.old doc.new) }
         ensures document { OnErr result (tree_of doc.new ≡ tree_of doc.old) }
     {
-        let number = property_number(&doc.tree, self);
-        property_array_or_set(doc.alloc, &mut doc.tree, number)
+        let number = self.node().number();
+        match property_value_or_set(doc.alloc, &mut doc.tree, number, Shape::Array) {
+            Ok(array) => Ok(array_at(&doc.tree, array)),
+            Err(error) => Err(error),
+        }
     }
 }
 
@@ -283,6 +158,7 @@ impl CstBooleanLit {
         ensures kept { OnErr result (StaysAsItWas doc.old doc.new) }
         ensures document { OnErr result (tree_of doc.new ≡ tree_of doc.old) }
     {
-        set_boolean(doc.alloc, &mut doc.tree, self, value)
+        let number = self.node().number();
+        jsonc_edit::set::set_boolean(doc.alloc, &mut doc.tree, number, value)
     }
 }

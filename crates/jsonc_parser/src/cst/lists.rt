@@ -29,10 +29,11 @@ fn sort_at<A: Allocator + Copy, D: IsDocument<A>, C: Fn(&D, CstNode, CstNode) ->
     ensures left { (s : Sorting)
         → OnErr result (IsLeft (nodes_of doc.old) (rearrange path.now s.headers s.order) (nodes_of doc.new)) }
 {
-    let Some(number) = find_container(doc.tree(), path) else {
+    let tree = doc.tree();
+    let Some(number) = find_container(tree, path) else {
         return Err(EditError::NoSuchPlace);
     };
-    let container = node_at(doc.tree(), number);
+    let container = node_at(tree, number);
     sort_container(doc, container, pin, groups, compare)
 }
 

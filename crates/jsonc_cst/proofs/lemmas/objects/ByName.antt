@@ -1,11 +1,8 @@
 -- Values of properties by name: what is answered, what is written, and which nodes stay.
-use Rattle.std.proofs.Common.{◌≡◌, ℕ, ◌<◌, true, List, length, Option, Some, None, refl, sym, ap, subst, ◌∙◌}
-use Rattle.std.proofs.lemmas.List.{get_or_default}
-use Rattle.std.proofs.lemmas.List.Elements.{All-head, All-tail}
-use Rattle.std.specs.List.{All}
+use Rattle.std.proofs.Common.{◌≡◌, ℕ, ◌<◌, List, length, Option, Some, None, refl, ap}
 use Rattle.jsonc_text.specs.Options.{Options}
 use Rattle.jsonc_tree.specs.Content as content
-use Rattle.jsonc_tree.specs.Content.{Content, property}
+use Rattle.jsonc_tree.specs.Content.{property}
 use Rattle.jsonc_tree.specs.OrderedTree.{ordered_tree}
 use Rattle.jsonc_tree.specs.Tree.{Node, content_at, IsTree}
 use Rattle.jsonc_tree.proofs.Order.{parent_there}
@@ -15,7 +12,6 @@ use Rattle.jsonc_text.specs.declared.edit.EditError.{EditError}
 use Rattle.jsonc_text.specs.declared.edit.Over.{Over}
 use Rattle.jsonc_text.specs.declared.edit.Over.TheVariants as over
 use Rattle.jsonc_text.specs.declared.edit.Shape.{Shape}
-use Rattle.jsonc_text.specs.declared.edit.Shape.TheVariants.{Object, Array}
 use Rattle.jsonc_insert.specs.named.Named.{EnsuredFor, IsUnensured, NamedEnsured}
 use Rattle.jsonc_edit.specs.set.Shapes.{is_of, empty_of}
 use Rattle.jsonc_insert.proofs.lemmas.named.Writing.{wants_memory, writes_named}
@@ -30,15 +26,6 @@ use Rattle.jsonc_cst.proofs.lemmas.typed.Elsewhere.{found_elsewhere}
 use Rattle.jsonc_cst.proofs.lemmas.typed.Held.{stay_found}
 use Rattle.jsonc_cst.proofs.lemmas.typed.Kept.{Stays, stay_same}
 use Rattle.jsonc_cst.proofs.lemmas.objects.NamedIn.{put_stays}
-
--- a node of the shape is of the kind
-pub object_kind : (w : Content) → is_of Object w ≡ true → w ≡ content.object
-object_kind content.object e = refl
-object_kind _ e = cc
-
-pub array_kind : (w : Content) → is_of Array w ≡ true → w ≡ content.array
-array_kind content.array e = refl
-array_kind _ e = cc
 
 module _ (old new : List Node) (c : ℕ) (name : List ℕ) (shape : Shape) (how : Over) (tree : IsTree old) (there : c < length old) where
   stays_for : (h : Over) (found answer : Option ℕ) → EnsuredFor shape h old new c name found answer → Stays old new
@@ -69,11 +56,3 @@ module _ (old new : List Node) (c : ℕ) (name : List ℕ) (shape : Shape) (how 
   named_for_memory o e told = λ sound over.
       let place = holder_path o old tree sound c over (ap holds_values is) in
       wants_memory o old place.0 c name shape how e tree sound place.1 is told
-
--- where another gives way there is always one
-always_some : (old new : List Node) (c : ℕ) (name : List ℕ) (shape : Shape) (found answer : Option ℕ) → EnsuredFor shape over.Replace old new c name found answer → answer ≡ None → ⊥
-always_some old new c name shape None answer (m, told, comes) none = let wrong : Some m ≡ None = sym told ∙ none in cc
-always_some old new c name shape (Some r) answer (m, told, set) none = let wrong : Some m ≡ None = sym told ∙ none in cc
-
-pub there_is_one : (old new : List Node) (c : ℕ) (name : List ℕ) (shape : Shape) (answer : Option ℕ) → answer ≡ None → NamedEnsured shape over.Replace old new c name answer → ⊥
-there_is_one old new c name shape answer none (found, first, by) = always_some old new c name shape found answer by none

@@ -1,15 +1,13 @@
 -- Properties that have come into objects: what the new node is, and which nodes stay.
-use Rattle.std.proofs.Common.{◌≡◌, ℕ, ◌<◌, ◌≤◌, ◌⊎◌, inl, inr, true, not, List, length, min, Result, Ok, Err, IfOk, refl, sym, ap, subst, ◌∙◌, arith}
+use Rattle.std.proofs.Common.{◌≡◌, ℕ, ◌<◌, ◌≤◌, ◌⊎◌, inl, inr, true, List, length, min, sym, ap, subst, ◌∙◌, arith}
 use Rattle.std.proofs.Math.Nat.{min-eq_left, min-eq_right}
 use Rattle.std.proofs.lemmas.Bool.{cases_lt}
-use Rattle.std.proofs.lemmas.List.Filters.{length-filter_both}
 use Rattle.jsonc_text.specs.Options.{Options}
 use Rattle.jsonc_text.specs.Plain.{Plain}
 use Rattle.jsonc_tree.specs.Content as content
 use Rattle.jsonc_tree.specs.OrderedTree.{ordered_tree, Top}
 use Rattle.jsonc_tree.specs.Tree.{Node, children_at, content_at, IsTree}
 use Rattle.jsonc_tree.proofs.Order.{parent_there}
-use Rattle.jsonc_layout.specs.nodes.Kinds.{is_element_at}
 use Rattle.jsonc_layout.specs.nodes.Siblings.{elements_at}
 use Rattle.jsonc_layout.specs.lines.Kinds.{holds_values}
 use Rattle.jsonc_edit.specs.Paths.{IsElementOf}
@@ -26,9 +24,8 @@ use Rattle.jsonc_insert.proofs.lemmas.members.Past.{past_the_end}
 use Rattle.jsonc_insert.proofs.lemmas.members.Spreading.{wants_memory_alone}
 use Rattle.jsonc_insert.proofs.lemmas.elements.Named.{inserts_member}
 use Rattle.jsonc_insert.proofs.lemmas.properties.Coming.{properties_come_at}
-use Rattle.jsonc_cst.specs.declared.cst.node.CstObjectProp.{CstObjectProp}
 use Rattle.jsonc_cst.specs.typed.Removing.{WantsMemoryAlone}
-use Rattle.jsonc_cst.specs.objects.Members.{PropertyStandsAt, PutsNamedAtItsPath}
+use Rattle.jsonc_cst.specs.objects.Members.{PutsNamedAtItsPath}
 use Rattle.jsonc_edit.proofs.lemmas.commas.Holders.{holder_path}
 use Rattle.jsonc_cst.proofs.lemmas.typed.Kept.{Stays, stay_both, stay_kept, stay_spliced}
 
@@ -62,10 +59,6 @@ module _ (old new : List Node) (c : ℕ) (name : List ℕ) (v : Plain) (tree : I
       let place = holder_path o old tree sound c over (ap holds_values is) in
       told ∙ (wants_memory_alone o old place.0 c tree sound place.1 is).1
 
--- a container has no more elements than children
-fewer : (ns : List Node) (c : ℕ) → length (elements_at ns c) ≤ length (children_at ns c)
-fewer ns c = omega (arith, length-filter_both (is_element_at ns) (λ n. not (is_element_at ns n)) (λ n. refl) (children_at ns c))
-
 -- the number of a last one: past the end all do the same
 module _ (old new : List Node) (c i : ℕ) (name : List ℕ) (v : Plain) (m : ℕ) (tree : IsTree old) (there : c < length old) (brackets : has_brackets old (children_at old c) ≡ true) (e : PropertyPut old new c i name v m) where
   put_by_place : (i < length (elements_at old c)) ⊎ (length (elements_at old c) ≤ i) → PropertyPut old new c (min i (length (elements_at old c))) name v m
@@ -75,14 +68,3 @@ module _ (old new : List Node) (c i : ℕ) (name : List ℕ) (v : Plain) (m : �
 
   pub put_at_place : PropertyPut old new c (min i (length (elements_at old c))) name v m
   put_at_place = put_by_place (cases_lt i (length (elements_at old c)))
-
--- as many as the children are mean the last
-pub behind_all : (ns : List Node) (c : ℕ) → min (length (children_at ns c)) (length (elements_at ns c)) ≡ length (elements_at ns c)
-behind_all ns c = min-eq_right (fewer ns c)
-
-pub appended_property : {E : Type 0} (old new : List Node) (c : ℕ) (r : Result CstObjectProp E) → IfOk r (PropertyStandsAt old new c (length (children_at old c)))
-    → IfOk r (PropertyStandsAt old new c (length (elements_at old c)))
-appended_property old new c (Ok x) at =
-    let k : ℕ = length (elements_at old c) in
-    subst (λ j. IsElementOf new c j x.number) (behind_all old c ∙ sym (min-eq_right {n = k} {m = k} (omega arith))) at
-appended_property old new c (Err e) at = tt

@@ -118,19 +118,19 @@ module _ {A : Type 0} (old new : CstRootNode A) where
   module _ (p : CstObjectProp) where
     becomes : (v : Plain) (o : Option ℕ) (m : ℕ) → IsTree (nodes_of old) → Holds old (object_prop_node p) → value_at (nodes_of old) p.number ≡ o
         → HeldBecomes (nodes_of old) (nodes_of new) p.number v o m → IsCallOf (nodes_of old) (nodes_of new) p.number
-    becomes v None m tree held e last = held_last (nodes_of old) (nodes_of new) tree p.number held.0 (held_property (nodes_of old) p p.number refl held) v m last
-    becomes v (Some n) m tree held e given = held_given (nodes_of old) (nodes_of new) tree p.number held.0 (held_property (nodes_of old) p p.number refl held) v n m e given
+    becomes v None m tree held e last = held_last (nodes_of old) (nodes_of new) tree p.number held.0 (held_property (nodes_of old) p held) v m last
+    becomes v (Some n) m tree held e given = held_given (nodes_of old) (nodes_of new) tree p.number held.0 (held_property (nodes_of old) p held) v n m e given
 
     pub value_is_call : (v : Plain) (now : CstNode) → IsCallIf old new (object_prop_node p) (NowHolds old new (object_prop_node p) v now)
     value_is_call v now = λ tree held set. becomes v (value_at (nodes_of old) p.number) (number_of now) tree held refl set
 
     pub object_held : (x : CstObject) → IsCallIf old new (object_prop_node p) (NowHoldsObject old new (object_prop_node p) x)
     object_held x = λ tree held set.
-        held_or_set (nodes_of old) (nodes_of new) tree p.number held.0 (held_property (nodes_of old) p p.number refl held) is_object (object no_members) (value_at (nodes_of old) p.number) x.number refl set
+        held_or_set (nodes_of old) (nodes_of new) tree p.number held.0 (held_property (nodes_of old) p held) is_object (object no_members) (value_at (nodes_of old) p.number) x.number refl set
 
     pub array_held : (x : CstArray) → IsCallIf old new (object_prop_node p) (NowHoldsArray old new (object_prop_node p) x)
     array_held x = λ tree held set.
-        held_or_set (nodes_of old) (nodes_of new) tree p.number held.0 (held_property (nodes_of old) p p.number refl held) is_array (array no_items) (value_at (nodes_of old) p.number) x.number refl set
+        held_or_set (nodes_of old) (nodes_of new) tree p.number held.0 (held_property (nodes_of old) p held) is_array (array no_items) (value_at (nodes_of old) p.number) x.number refl set
 
   module _ (node : CstNode) where
     pub boolean_is_call : (b : Bool) → IsCallIf old new node (HasSetBoolean old new node b)

@@ -21,12 +21,10 @@ use Rattle.jsonc_insert.specs.Laws.{KeepsNodesBut}
 use Rattle.jsonc_insert.specs.Planned.{has_brackets}
 use Rattle.jsonc_insert.proofs.Numbering.{changes_one_row, takes_number}
 use Rattle.jsonc_insert.proofs.Past.{past_the_end}
-use Rattle.jsonc_cst.specs.declared.cst.node.CstNode.{CstNode}
-use Rattle.jsonc_cst.specs.Nodes.{number_of}
 use Rattle.jsonc_insert.proofs.lemmas.elements.Comes.{elements_come_at}
 use Rattle.jsonc_insert.proofs.lemmas.elements.Containers.{wants_memory_alone}
 use Rattle.jsonc_insert.proofs.lemmas.elements.Written.{inserts_element}
-use Rattle.jsonc_cst.specs.typed.Inserting.{PutsAtItsPath, StandsAt}
+use Rattle.jsonc_cst.specs.typed.Inserting.{PutsAtItsPath}
 use Rattle.jsonc_cst.specs.typed.Removing.{WantsMemoryAlone}
 use Rattle.jsonc_cst.proofs.lemmas.typed.Kept.{Stays, stay_both, stay_kept, stay_spliced}
 
@@ -69,11 +67,12 @@ pub put_at_place : (old new : List Node) (c i : ℕ) (v : Plain) (m : ℕ) → h
 put_at_place old new c i v m brackets e = put_by_place old new c i v m brackets (cases_lt i (length (elements_at old c))) e
 
 -- as many as the children are mean the last
-pub behind_all : (ns : List Node) (c : ℕ) → min (length (children_at ns c)) (length (elements_at ns c)) ≡ length (elements_at ns c)
-behind_all ns c = min-eq_right (fewer ns c)
+pub behind_all : (ns : List Node) (c k : ℕ) → k ≡ length (children_at ns c) → min k (length (elements_at ns c)) ≡ length (elements_at ns c)
+behind_all ns c k e = min-eq_right (omega (arith, e, fewer ns c))
 
-pub appended_element : {E : Type 0} (old new : List Node) (c : ℕ) (r : Result CstNode E) → IfOk r (StandsAt old new c (length (children_at old c))) → IfOk r (StandsAt old new c (length (elements_at old c)))
-appended_element old new c (Ok x) at =
-    let k : ℕ = length (elements_at old c) in
-    subst (λ j. IsElementOf new c j (number_of x)) (behind_all old c ∙ sym (min-eq_right {n = k} {m = k} (omega arith))) at
-appended_element old new c (Err e) at = tt
+pub appended_element : {T E : Type 0} (number : T → ℕ) (old new : List Node) (c k : ℕ) → k ≡ length (children_at old c) → (r : Result T E) → IfOk r (λ x. IsElementOf new c (min k (length (elements_at old c))) (number x))
+    → IfOk r (λ x. IsElementOf new c (min (length (elements_at old c)) (length (elements_at old c))) (number x))
+appended_element number old new c k e (Ok x) at =
+    let count : ℕ = length (elements_at old c) in
+    subst (λ j. IsElementOf new c j (number x)) (behind_all old c k e ∙ sym (min-eq_right {n = count} {m = count} (omega arith))) at
+appended_element number old new c k e (Err x) at = tt

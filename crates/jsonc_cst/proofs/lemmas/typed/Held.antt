@@ -1,6 +1,5 @@
 -- The value of a property that was set or found, and a truth value that was set: every node that was there is there still.
-use Rattle.std.proofs.Common.{◌≡◌, ℕ, ◌<◌, Bool, true, false, List, length, Option, Some, None, Result, Ok, Err, OnErr, OnOk, IfNone, IfOk, IfSome, refl, ap, subst, sym, ◌∙◌, arith}
-use Rattle.std.proofs.lemmas.Bool.{false≢true}
+use Rattle.std.proofs.Common.{◌≡◌, ℕ, ◌<◌, Bool, true, false, List, length, Option, Some, None, Result, Ok, Err, OnErr, OnOk, IfNone, IfSome, refl, ap, subst, sym, ◌∙◌, arith}
 use Rattle.jsonc_text.specs.Options.{Options}
 use Rattle.jsonc_text.specs.Plain.{Plain}
 use Rattle.jsonc_tree.specs.Building.{Keeps}
@@ -24,76 +23,48 @@ use Rattle.jsonc_edit.specs.set.PropertyValues.{HeldOrSet, LastValue}
 use Rattle.jsonc_edit.proofs.lemmas.set.BooleanSetting.{boolean_of}
 use Rattle.jsonc_edit.proofs.lemmas.set.PropertyValue.{held_child}
 use Rattle.jsonc_edit.proofs.lemmas.set.WrittenBoolean.{writes_boolean}
+use Rattle.jsonc_cst.specs.declared.cst.node.CstArray.{CstArray}
 use Rattle.jsonc_cst.specs.declared.cst.node.CstBooleanLit.{CstBooleanLit}
 use Rattle.jsonc_cst.specs.declared.cst.node.CstNode.{CstNode}
-use Rattle.jsonc_cst.specs.declared.cst.node.CstNode.TheVariants.{Container, Leaf}
-use Rattle.jsonc_cst.specs.declared.cst.node.CstContainerNode.TheVariants.{ObjectProp}
-use Rattle.jsonc_cst.specs.declared.cst.node.CstLeafNode.TheVariants.{BooleanLit}
+use Rattle.jsonc_cst.specs.declared.cst.node.CstObject.{CstObject}
 use Rattle.jsonc_cst.specs.declared.cst.node.CstObjectProp.{CstObjectProp}
-use Rattle.jsonc_cst.specs.Nodes.{boolean_lit_node, object_prop_node, typed, typed_at, IsNodeOf}
+use Rattle.jsonc_cst.specs.Nodes.{array_node, boolean_lit_node, object_node, object_prop_node, typed, IsNodeOf}
 use Rattle.jsonc_cst.specs.typed.Edits.{StillNodes}
 use Rattle.jsonc_cst.specs.typed.Values.{BooleanIsWritten, HeldBecomes}
 use Rattle.jsonc_cst.proofs.lemmas.typed.Kept.{Stays, nodes_stay, of_some, replaced_there, stay_both, stay_kept, stay_replaced, stay_spaced}
 use Rattle.jsonc_cst.proofs.lemmas.typed.Leaves.{leaf_stays}
 use Rattle.jsonc_cst.proofs.lemmas.typed.Roots.{kept_is, kept_stays}
 
--- what a typed node says of what it is
-abbrev is_property_node : CstNode → Bool
-is_property_node (Container (ObjectProp x)) = true
-is_property_node node = false
+-- what is typed so is so
+array_of : (c : content.Content) (n : ℕ) (x : CstArray) → typed c n ≡ array_node x → c ≡ content.array
+array_of content.array n x e = refl
+array_of _ n x e = cc
 
-abbrev is_property : content.Content → Bool
-is_property content.property = true
-is_property what = false
+object_of : (c : content.Content) (n : ℕ) (x : CstObject) → typed c n ≡ object_node x → c ≡ content.object
+object_of content.object n x e = refl
+object_of _ n x e = cc
 
-property-typed : (what : content.Content) (n : ℕ) → is_property_node (typed what n) ≡ is_property what
-property-typed content.root n = refl
-property-typed content.object n = refl
-property-typed content.array n = refl
-property-typed content.property n = refl
-property-typed (content.string s) n = refl
-property-typed (content.word s) n = refl
-property-typed (content.number s) n = refl
-property-typed (content.boolean b) n = refl
-property-typed content.null n = refl
-property-typed (content.token c) n = refl
-property-typed (content.whitespace s) n = refl
-property-typed (content.newline k) n = refl
-property-typed (content.comment s) n = refl
+property_of : (c : content.Content) (n : ℕ) (x : CstObjectProp) → typed c n ≡ object_prop_node x → c ≡ content.property
+property_of content.property n x e = refl
+property_of _ n x e = cc
 
-property_is : (what : content.Content) → is_property what ≡ true → what ≡ content.property
-property_is content.property e = refl
-property_is what e = absurd (false≢true e)
+boolean_kind : (c : content.Content) (n : ℕ) (x : CstBooleanLit) → typed c n ≡ boolean_lit_node x → is_boolean c ≡ true
+boolean_kind (content.boolean b) n x e = refl
+boolean_kind _ n x e = cc
 
--- the node of a property is one
-pub held_property : (ns : List Node) (x : CstObjectProp) (n : ℕ) → n ≡ x.number → IsNodeOf ns (object_prop_node x) → content_at ns n ≡ content.property
-held_property ns x n e held =
-    property_is (content_at ns n)
-    (sym (property-typed (content_at ns n) n) ∙ ap is_property_node (ap (typed_at ns) e ∙ held.1))
+-- a typed node that is there is what it says
+module _ (ns : List Node) where
+  pub held_array : (x : CstArray) → IsNodeOf ns (array_node x) → content_at ns x.number ≡ content.array
+  held_array x held = array_of (content_at ns x.number) x.number x held.1
 
-abbrev is_boolean_node : CstNode → Bool
-is_boolean_node (Leaf (BooleanLit x)) = true
-is_boolean_node node = false
+  pub held_object : (x : CstObject) → IsNodeOf ns (object_node x) → content_at ns x.number ≡ content.object
+  held_object x held = object_of (content_at ns x.number) x.number x held.1
 
-boolean-typed : (what : content.Content) (n : ℕ) → is_boolean_node (typed what n) ≡ is_boolean what
-boolean-typed content.root n = refl
-boolean-typed content.object n = refl
-boolean-typed content.array n = refl
-boolean-typed content.property n = refl
-boolean-typed (content.string s) n = refl
-boolean-typed (content.word s) n = refl
-boolean-typed (content.number s) n = refl
-boolean-typed (content.boolean b) n = refl
-boolean-typed content.null n = refl
-boolean-typed (content.token c) n = refl
-boolean-typed (content.whitespace s) n = refl
-boolean-typed (content.newline k) n = refl
-boolean-typed (content.comment s) n = refl
+  pub held_property : (x : CstObjectProp) → IsNodeOf ns (object_prop_node x) → content_at ns x.number ≡ content.property
+  held_property x held = property_of (content_at ns x.number) x.number x held.1
 
--- and that of a truth value
-pub held_boolean : (ns : List Node) (x : CstBooleanLit) (n : ℕ) → n ≡ x.number → IsNodeOf ns (boolean_lit_node x) → is_boolean (content_at ns n) ≡ true
-held_boolean ns x n e held =
-    sym (boolean-typed (content_at ns n) n) ∙ ap is_boolean_node (ap (typed_at ns) e ∙ held.1)
+  pub held_boolean : (x : CstBooleanLit) → IsNodeOf ns (boolean_lit_node x) → is_boolean (content_at ns x.number) ≡ true
+  held_boolean x held = boolean_kind (content_at ns x.number) x.number x held.1
 
 -- where a node has come as the last child of a container
 stay_appended : (old new : List Node) (c m : ℕ) → Appends old new c m → Stays old new
@@ -164,11 +135,6 @@ module _ (kind : content.Content → Bool) (v : Plain) (old new : List Node) (p 
   pub stay_found : (o : Option ℕ) (m : ℕ) → HeldOrSet kind v old new p o m → Stays old new
   stay_found None m l = stay_last old new p v m l
   stay_found (Some n) m r = kept_stays kind v old new n m (kind (content_at old n)) r
-
-  -- or none was, for want of memory or of a name
-  pub found_or_kept : {E : Type 0} (o : Option ℕ) (r : Result ℕ E) → IfOk r (HeldOrSet kind v old new p o) → OnErr r (Keeps (length old) old new) → Stays old new
-  found_or_kept o (Ok m) found kept = stay_found o m found
-  found_or_kept o (Err e) found kept = stay_kept old new kept
 
   -- where another value stood, what was set for it is written
   pub found_is_written : (o : Options) → IsTree old → (found : Option ℕ) (m : ℕ) → HeldOrSet kind v old new p found m → (n : ℕ) → found ≡ Some n → kind (content_at old n) ≡ false → Writes o old new n m v

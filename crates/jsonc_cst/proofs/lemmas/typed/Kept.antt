@@ -1,5 +1,5 @@
 -- Nodes that a document still has after an edit.
-use Rattle.std.proofs.Common.{◌≡◌, not, inl, inr, ℕ, ◌<◌, ◌≤◌, List, [], ◌∷◌, length, Option, Some, None, Result, Ok, Err, OnErr, OnOk, IfOk, IfSome, refl, sym, ap, subst, ◌∙◌, arith}
+use Rattle.std.proofs.Common.{◌≡◌, not, inl, inr, ℕ, ◌<◌, ◌≤◌, List, [], ◌∷◌, length, Option, Some, None, Result, Ok, Err, OnErr, OnOk, IfSome, refl, sym, ap, subst, ◌∙◌, arith}
 use Rattle.jsonc_text.specs.Plain.{Plain}
 use Rattle.jsonc_tree.specs.Building.{Keeps}
 use Rattle.jsonc_tree.specs.Changes.{Splices}
@@ -83,12 +83,6 @@ of_some P o x e h = subst (λ z. IfSome z P) e h
 -- the new node by what it is
 pub as_typed : (P : ℕ → Type 0) (ns : List Node) (m : ℕ) (node : CstNode) → node ≡ typed_at ns m → P m → P (number_of node)
 as_typed P ns m node e h = subst P (sym (ap number_of e ∙ number_of-typed (content_at ns m) m)) h
-
--- what holds of an answer holds under a condition
-pub answer_under : {T E : Type 0} (P : Type 0) (Q : T → Type 0) (r : Result (Option T) E) → IfOk r (λ o. IfSome o Q) → IfOk r (λ o. IfSome o (λ m. P → Q m))
-answer_under P Q (Ok (Some m)) h = λ given. h
-answer_under P Q (Ok None) h = tt
-answer_under P Q (Err e) h = tt
 
 -- and where a comment is taken out
 pub stay_taken : (old new : List Node) (n : ℕ) → IsTree old → (parent_at old n ≡ None → new ≡ old) → TakesOut old new n → (o : Option ℕ) → parent_at old n ≡ o → Stays old new

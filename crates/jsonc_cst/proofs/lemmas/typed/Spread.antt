@@ -3,7 +3,6 @@ use Rattle.std.proofs.Common.{◌≡◌, ℕ, Bool, true, false, not, List, leng
 use Rattle.std.proofs.lemmas.Bool.{cases_Bool}
 use Rattle.jsonc_text.specs.Options.{Options}
 use Rattle.jsonc_tree.specs.Building.{Keeps}
-use Rattle.jsonc_tree.specs.Content.{Content}
 use Rattle.jsonc_tree.specs.OrderedTree.{ordered_tree}
 use Rattle.jsonc_tree.specs.Tree.{Node, content_at, IsTree}
 use Rattle.jsonc_layout.specs.lines.Kinds.{holds_values}
@@ -14,23 +13,9 @@ use Rattle.jsonc_edit.specs.multiline.Multiline.{has_line_end, IsUnspread, MadeM
 use Rattle.jsonc_edit.proofs.lemmas.multiline.Documents.{spread_at}
 use Rattle.jsonc_edit.proofs.lemmas.multiline.LineEnds.{has_end, has_its_brackets}
 use Rattle.jsonc_edit.proofs.lemmas.multiline.SameDocument.{keeps_document}
-use Rattle.jsonc_cst.specs.declared.cst.node.CstArray.{CstArray}
-use Rattle.jsonc_cst.specs.declared.cst.node.CstObject.{CstObject}
-use Rattle.jsonc_cst.specs.Nodes.{array_node, object_node, typed}
 use Rattle.jsonc_cst.specs.typed.Lines.{SpreadsAtItsPath}
 use Rattle.jsonc_cst.specs.typed.Removing.{WantsMemoryAlone}
 use Rattle.jsonc_cst.proofs.lemmas.typed.Kept.{Stays, stay_both, stay_kept, stay_same, stay_spliced}
-
--- an array or object holds values
-pub array_held : (c : Content) (n : ℕ) (x : CstArray) → typed c n ≡ array_node x → IsTrue (holds_values c)
-array_held Content.array n x e = refl
-array_held Content.object n x e = refl
-array_held _ n x e = cc
-
-pub object_held : (c : Content) (n : ℕ) (x : CstObject) → typed c n ≡ object_node x → IsTrue (holds_values c)
-object_held Content.array n x e = refl
-object_held Content.object n x e = refl
-object_held _ n x e = cc
 
 -- what is so is not otherwise
 contradicts : (b : Bool) → IsTrue b → IsTrue (not b) → ⊥

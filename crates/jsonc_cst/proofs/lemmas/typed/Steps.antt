@@ -1,5 +1,5 @@
 -- What a call makes of the nodes is one step, of the edit that it is.
-use Rattle.std.proofs.Common.{◌≡◌, ◌⊎◌, inl, inr, ℕ, Bool, true, false, List, [], length, Option, Some, None, Result, Ok, Err, OnErr, OnOk, IfOk, IfSome, refl, sym, ap, subst, IsTrue}
+use Rattle.std.proofs.Common.{◌≡◌, ◌⊎◌, inl, inr, ℕ, Bool, true, false, List, [], length, Option, Some, None, Result, Ok, Err, OnErr, OnOk, IfOk, refl, sym, ap, subst, IsTrue}
 use Rattle.jsonc_text.specs.Options.{Options}
 use Rattle.jsonc_text.specs.Plain.{Plain}
 use Rattle.jsonc_tree.specs.Content as content
@@ -38,17 +38,14 @@ use Rattle.jsonc_run.specs.Steps.{IsChangedAt}
 use Rattle.jsonc_run.specs.promise.Steps.{IsCommentAt}
 use Rattle.jsonc_run.proofs.lemmas.promise.CommaSteps.{commas_lead, some_commas_lead}
 use Rattle.jsonc_run.proofs.lemmas.promise.Stepping.{made_leads, made_step}
-use Rattle.jsonc_cst.specs.declared.cst.node.CstNode.{CstNode}
-use Rattle.jsonc_cst.specs.declared.cst.node.CstObjectProp.{CstObjectProp}
-use Rattle.jsonc_cst.specs.Nodes.{number_of, object_prop_node, typed, typed_at, IsNodeOf}
-use Rattle.jsonc_cst.specs.typed.Edits.{is_name_in}
+use Rattle.jsonc_cst.specs.Nodes.{typed, typed_at}
 use Rattle.jsonc_cst.specs.typed.Commas.{CommasSet, CommasSetInPart}
 use Rattle.jsonc_cst.specs.typed.Removing.{removal_of, IsCleared}
 use Rattle.jsonc_cst.specs.typed.Setting.{ValueBecomes}
 use Rattle.jsonc_cst.specs.typed.Steps.{IsHolder, IsReplacing, IsReplacingProperty, IsRemoving, IsSettingBoolean, IsSettingRoot, IsSettingValue, IsEnsuringRoot, IsEnsuringValue, IsSpreading, IsInserting, IsAppending, IsSettingCommas, IsSettingSomeCommas, IsClearing, IsValueIn, IsWholeOrAt}
 use Rattle.jsonc_cst.specs.typed.Values.{HeldBecomes}
 use Rattle.jsonc_cst.specs.declared.typed.removing.Removal.TheVariants.{OfComment, OfElement}
-use Rattle.jsonc_cst.proofs.lemmas.typed.Places.{comment_kind, comment_number, entry_path, holder_at, holder_place, property_path, value_path, value_unnamed}
+use Rattle.jsonc_cst.proofs.lemmas.typed.Places.{comment_kind, comment_number, entry_path, holder_at, holder_place, property_path, value_path}
 
 -- a truth value is a value, and so is an array or object
 boolean_value : (ns : List Node) (n : ℕ) (c : Content) → content_at ns n ≡ c → is_boolean c ≡ true → IsValueIn ns (typed_at ns n)
@@ -158,38 +155,3 @@ ok_with (Err e) f h = tt
 pub err_then : {T E : Type 0} {P Q : Type 0} (r : Result T E) → (P → Q) → OnErr r P → OnErr r Q
 err_then (Ok x) f h = tt
 err_then (Err e) f h = f h
-
-some_then : {T : Type 0} {P Q : Type 0} (o : Option T) → (P → Q) → IfSome o (λ m. P) → IfSome o (λ m. Q)
-some_then (Some x) f h = f h
-some_then None f h = tt
-
-pub answer_then : {T E : Type 0} {P Q : Type 0} (r : Result (Option T) E) → (P → Q) → IfOk r (λ o. IfSome o (λ m. P)) → IfOk r (λ o. IfSome o (λ m. Q))
-answer_then (Ok o) f h = some_then o f h
-answer_then (Err e) f h = tt
-
--- a property that is there is one
-property_of : (c : Content) (n : ℕ) (x : CstObjectProp) → typed c n ≡ object_prop_node x → c ≡ content.property
-property_of content.property n x e = refl
-property_of _ n x e = cc
-
-pub property_held : (ns : List Node) (x : CstObjectProp) → IsNodeOf ns (object_prop_node x) → content_at ns x.number ≡ content.property
-property_held ns x held = property_of (content_at ns x.number) x.number x held.1
-
--- a node that is there is what it says
-module _ (old new : List Node) (node : CstNode) (held : IsNodeOf old node) where
-  pub replaced_on : {E : Type 0} (v : Plain) (r : Result (Option CstNode) E)
-      → IfOk r (λ o. IfSome o (λ m. is_name_in old (number_of node) ≡ false → IsValueIn old (typed_at old (number_of node)) → IsReplacing old new (number_of node) v))
-      → IfOk r (λ o. IfSome o (λ m. IsValueIn old node → IsReplacing old new (number_of node) v))
-  replaced_on v r h = answer_then r (λ step is. let typed : IsValueIn old (typed_at old (number_of node)) = subst (IsValueIn old) (sym held.1) is in step (value_unnamed old (number_of node) typed) typed) h
-
-  pub removed_on : {T E : Type 0} (r : Result T E)
-      → OnOk r (removal_of (typed_at old (number_of node)) ≡ removal_of node → IsRemoving old new (removal_of node) (number_of node)) → OnOk r (IsRemoving old new (removal_of node) (number_of node))
-  removed_on r h = ok_then r (λ step. step (ap removal_of held.1)) h
-
-  pub commas_on : {T E : Type 0} (mode : TrailingCommaMode) (r : Result T E) → OnOk r (IsHolder (typed_at old (number_of node)) → IsSettingCommas old new mode (number_of node))
-      → OnOk r (IsHolder node → IsSettingCommas old new mode (number_of node))
-  commas_on mode r h = ok_then r (λ step is. step (subst IsHolder (sym held.1) is)) h
-
-  pub some_commas_on : {T E : Type 0} (mode : TrailingCommaMode) (r : Result T E) → OnErr r (IsHolder (typed_at old (number_of node)) → IsSettingSomeCommas old new mode (number_of node))
-      → OnErr r (IsHolder node → IsSettingSomeCommas old new mode (number_of node))
-  some_commas_on mode r h = err_then r (λ step is. step (subst IsHolder (sym held.1) is)) h

@@ -1,5 +1,5 @@
 -- What no node of a document of the grammar's shape lacks: an array or object its brackets, and a property its name and its colon.
-use Rattle.std.proofs.Common.{◌≡◌, ℕ, zero, suc, ◌<◌, ◌||◌, ◌&&◌, Bool, true, false, cond, not, List, [], ◌∷◌, ◌++◌, length, filter, slice_get, slice_index, Some, None, inl, inr, IsTrue, reverse, refl, sym, ap, subst, ◌∙◌, arith, Result, Ok, Err, IfErr}
+use Rattle.std.proofs.Common.{◌≡◌, ℕ, zero, suc, ◌<◌, ◌||◌, ◌&&◌, Bool, true, false, cond, not, List, [], ◌∷◌, ◌++◌, length, filter, slice_get, slice_index, Some, None, inl, inr, IsTrue, reverse, refl, sym, ap, subst, ◌∙◌, arith, Result, Ok, Err, IfErr, OnErr}
 use Rattle.std.proofs.lemmas.List.{reverse-append}
 use Rattle.std.specs.List.{list_any}
 use Rattle.std.proofs.lemmas.Bool.{cases_Bool, false≢true}
@@ -30,7 +30,9 @@ use Rattle.jsonc_edit.proofs.Walk.{Shows-row_below, document_is}
 use Rattle.jsonc_edit.specs.remove.Removed.{has_brackets, has_two, is_token_at, IsKeptFor}
 use Rattle.jsonc_edit.proofs.lemmas.remove.Containers.{Held, brackets, first_shown}
 use Rattle.jsonc_edit.specs.set.PropertyValues.{IsUnset}
-use Rattle.jsonc_cst.specs.typed.Removing.{WantsMemoryAlone}
+use Rattle.jsonc_edit.specs.Comments.{WantsSpace}
+use Rattle.jsonc_cst.specs.declared.typed.removing.Removal.TheVariants.{OfComment}
+use Rattle.jsonc_cst.specs.typed.Removing.{IsKeptBy, WantsMemoryAlone}
 
 -- nothing but a property is one
 no_property : (o : Options) (content : Content) (r : List ℕ) → content ≡ property → IsLiteralBefore o content r → ⊥
@@ -276,3 +278,7 @@ value_for_memory o ns tree kind n there is (Err e) k = λ sound over. value_unse
 pub comment_for_memory : {T : Type 0} (o : Options) (ns : List Node) (n : ℕ) (r : Result T EditError) → IfErr r (λ e. e ≡ OutOfMemory) → IfErr r (WantsMemoryAlone o ns n)
 comment_for_memory o ns n (Ok x) k = tt
 comment_for_memory o ns n (Err e) k = λ sound over. k
+
+pub comment_kept : {T : Type 0} (ns : List Node) (n : ℕ) (r : Result T EditError) → IfErr r (λ e. e ≡ OutOfMemory) → OnErr r (WantsSpace ns n) → IfErr r (IsKeptBy OfComment ns n)
+comment_kept ns n (Ok x) k space = tt
+comment_kept ns n (Err e) k space = (k, space)

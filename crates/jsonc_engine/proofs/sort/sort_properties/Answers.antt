@@ -12,8 +12,8 @@ returns-in_default-clause-told g c = λ o sound.
 
 pub returns-in-Ok-clause-sorted : goal.returns-in-Ok-clause-sorted
 returns-in-Ok-clause-sorted g c = λ o.
-    sorts_by_name _ _ c.args.document.now c.by.new.doc c.in-Some.object o c.sort_properties.result.object c.sort_properties.result.groups c.args.document.now.tree.tree (sym c.object_value.ensures.value ∙ c.in-Some.is)
-    c.sort_properties.ensures.object c.sort_properties.ensures.groups c.in-Ok.ensures.sorted (λ d p q r at hp hq post. search rules)
+    sorts_by_name _ _ c.args.document.now c.by.new.doc c.in-Some.object o c.sort_properties.result.container c.sort_properties.result.groups c.args.document.now.tree.tree (sym c.object_value.ensures.value ∙ c.in-Some.is)
+    c.sort_properties.ensures.container c.sort_properties.ensures.groups c.in-Ok.ensures.sorted (λ d p q r at hp hq post. search rules)
 
 pub returns-in-Err-clause-told : goal.returns-in-Err-clause-told
 returns-in-Err-clause-told g c = λ o sound.

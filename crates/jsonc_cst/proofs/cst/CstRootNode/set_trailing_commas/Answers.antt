@@ -1,18 +1,21 @@
-use Rattle.std.proofs.Common.{ap, subst, sym}
-use Rattle.jsonc_cst.specs.Nodes.{typed}
-use Rattle.jsonc_cst.specs.typed.Steps.{IsHolder}
 use Rattle.jsonc_cst.proofs.lemmas.typed.Steps.{err_then, ok_then}
 use Rattle.jsonc_cst.proofs.cst.CstRootNode.set_trailing_commas.Goals as goal
 
-pub set_commas-set-requires : goal.set_commas-set-requires
-set_commas-set-requires g c = c.args.self.now.tree.tree.first
-
-pub returns-clause-step : goal.returns-clause-step
-returns-clause-step g c =
-    let root = ap (λ what. typed what 0) c.args.self.now.tree.tree.root_first in
-    ok_then c.set_commas-set.result (λ step. step (subst IsHolder (sym root) tt)) c.set_commas-set.ensures.step
-
-pub returns-clause-begun : goal.returns-clause-begun
-returns-clause-begun g c =
-    let root = ap (λ what. typed what 0) c.args.self.now.tree.tree.root_first in
-    err_then c.set_commas-set.result (λ step. step (subst IsHolder (sym root) tt)) c.set_commas-set.ensures.begun
+pub returns : goal.returns
+returns g c =
+    let first = c.root-root.ensures.first in
+    let made = c.set_commas_of.ensures in
+    record {
+      set = rw first at made.set;
+      said = rw first at made.said;
+      part = rw first at made.part;
+      written = λ o. rw first at (made.written o);
+      stand = λ o. rw first at (made.stand o);
+      once = λ o. rw first at (made.once o);
+      step = ok_then c.set_commas_of.result (λ step. step tt) (rw first at made.step);
+      begun = err_then c.set_commas_of.result (λ step. step tt) (rw first at made.begun);
+      wanted = made.wanted;
+      due = rw first at made.due;
+      memory = made.memory;
+      stays = made.stays;
+    }

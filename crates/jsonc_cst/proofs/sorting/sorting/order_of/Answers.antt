@@ -1,7 +1,6 @@
 use Rattle.std.proofs.Common.{◌≡◌, ◌∙◌, sym, ap, ℕ, List, [], ◌∷◌, zero, suc, Option, Some, None, IfSome, All, subst, true≢false, is_some}
 use Rattle.std.specs.Prelude.{slice_index_or}
 use Rattle.std.proofs.lemmas.List.Elements.{All-head, All-tail}
-use Rattle.jsonc_sort.specs.ordering.Asking.{ComparesBy, IsAmong}
 use Rattle.jsonc_cst.specs.Document.{Holds}
 use Rattle.jsonc_cst.proofs.sorting.sorting.order_of.Goals as goal
 

@@ -1,81 +1,58 @@
-use Rattle.std.proofs.Common.{◌≡◌, ℕ, OnErr, OnOk, ap, subst, ◌∙◌}
-use Rattle.jsonc_cst.specs.Nodes.{number_of, typed_at}
-use Rattle.jsonc_edit.specs.commas.InTurn.{CommaIsDue}
-use Rattle.jsonc_cst.specs.typed.Commas.{CommasSaid, CommasSet, CommasSetInPart, CommasStand, CommasStay, CommasWritten}
-use Rattle.jsonc_cst.specs.typed.Edits.{StaysElsewhere}
-use Rattle.jsonc_cst.specs.typed.Steps.{IsHolder, IsSettingCommas, IsSettingSomeCommas}
-use Rattle.jsonc_cst.proofs.lemmas.typed.Steps.{commas_on, some_commas_on}
+use Rattle.std.proofs.Common.{◌≡◌, ap, subst, sym, ◌∙◌}
+use Rattle.jsonc_edit.specs.commas.InTurn.{holders}
+use Rattle.jsonc_cst.specs.Nodes.{number_of}
+use Rattle.jsonc_cst.specs.typed.Steps.{IsHolder}
+use Rattle.jsonc_cst.proofs.lemmas.typed.Kept.{nodes_stay}
+use Rattle.jsonc_cst.proofs.lemmas.typed.Trailing.{commas_stand, commas_stay, commas_written, part_written, stay_in_turn}
+use Rattle.jsonc_cst.proofs.lemmas.typed.Steps.{commas_step, some_commas_step}
 use Rattle.jsonc_cst.proofs.typed.commas.set_commas_of.Goals as goal
 
-pub returns-clause-set : goal.returns-clause-set
-returns-clause-set g c =
+pub returns-in-Ok : goal.returns-in-Ok
+returns-in-Ok g c =
     let old = c.args.doc.now.tree.nodes in
-    let new = c.set_commas.new.tree.nodes in
-    let same : c.number.result ≡ number_of (g.N.IsNode.node_of c.args.node) = c.number.ensures ∙ ap number_of c.node.ensures in
-    subst (λ (n : ℕ). OnOk c.set_commas.result (CommasSet old new c.args.mode n)) same c.set_commas.ensures.set
+    let tree = c.args.doc.now.tree.tree in
+    let new = c.set_trailing_commas.new.tree.nodes in
+    let mode = c.args.mode in
+    let n = number_of (g.N.IsNode.node_of c.args.node) in
+    let same : c.number-number.result ≡ n = c.number-number.ensures ∙ ap number_of c.node.ensures in
+    let set = rw same at c.in-Ok.ensures.set in
+    record {
+      set = set;
+      said = rw same at c.in-Ok.ensures.said;
+      part = tt;
+      written = λ o. commas_written mode old new n tree o set;
+      stand = λ o. commas_stand mode old new n tree o set;
+      once = λ o. commas_stay mode old new n tree o set;
+      step = λ is. commas_step old new tree mode n set (subst IsHolder (sym c.requires.1) is);
+      begun = tt;
+      elsewhere = rw same at c.set_trailing_commas.ensures.apart;
+      wanted = tt;
+      due = tt;
+      memory = tt;
+      stays = nodes_stay old new (stay_in_turn mode (holders old n) old new tree set);
+    }
 
-pub returns-clause-said : goal.returns-clause-said
-returns-clause-said g c =
+pub returns-in-Err : goal.returns-in-Err
+returns-in-Err g c =
     let old = c.args.doc.now.tree.nodes in
-    let new = c.set_commas.new.tree.nodes in
-    let same : c.number.result ≡ number_of (g.N.IsNode.node_of c.args.node) = c.number.ensures ∙ ap number_of c.node.ensures in
-    subst (λ (n : ℕ). OnOk c.set_commas.result (CommasSaid old new c.args.mode n)) same c.set_commas.ensures.said
-
-pub returns-clause-due : goal.returns-clause-due
-returns-clause-due g c =
-    let old = c.args.doc.now.tree.nodes in
-    let same : c.number.result ≡ number_of (g.N.IsNode.node_of c.args.node) = c.number.ensures ∙ ap number_of c.node.ensures in
-    subst (λ (n : ℕ). OnErr c.set_commas.result (CommaIsDue old n)) same c.set_commas.ensures.due
-
-pub returns-clause-part : goal.returns-clause-part
-returns-clause-part g c =
-    let old = c.args.doc.now.tree.nodes in
-    let new = c.set_commas.new.tree.nodes in
-    let same : c.number.result ≡ number_of (g.N.IsNode.node_of c.args.node) = c.number.ensures ∙ ap number_of c.node.ensures in
-    subst (λ (n : ℕ). OnErr c.set_commas.result (CommasSetInPart old new c.args.mode n)) same c.set_commas.ensures.part
-
-pub returns-clause-written : goal.returns-clause-written
-returns-clause-written g c = λ o.
-    let old = c.args.doc.now.tree.nodes in
-    let new = c.set_commas.new.tree.nodes in
-    let same : c.number.result ≡ number_of (g.N.IsNode.node_of c.args.node) = c.number.ensures ∙ ap number_of c.node.ensures in
-    subst (λ (n : ℕ). CommasWritten old new c.args.mode o n) same (c.set_commas.ensures.written o)
-
-pub returns-clause-stand : goal.returns-clause-stand
-returns-clause-stand g c = λ o.
-    let old = c.args.doc.now.tree.nodes in
-    let new = c.set_commas.new.tree.nodes in
-    let same : c.number.result ≡ number_of (g.N.IsNode.node_of c.args.node) = c.number.ensures ∙ ap number_of c.node.ensures in
-    subst (λ (n : ℕ). OnOk c.set_commas.result (CommasStand old new c.args.mode o n)) same (c.set_commas.ensures.stand o)
-
-pub returns-clause-once : goal.returns-clause-once
-returns-clause-once g c = λ o.
-    let old = c.args.doc.now.tree.nodes in
-    let new = c.set_commas.new.tree.nodes in
-    let same : c.number.result ≡ number_of (g.N.IsNode.node_of c.args.node) = c.number.ensures ∙ ap number_of c.node.ensures in
-    subst (λ (n : ℕ). OnOk c.set_commas.result (CommasStay old new c.args.mode o n)) same (c.set_commas.ensures.once o)
-
-pub returns-clause-elsewhere : goal.returns-clause-elsewhere
-returns-clause-elsewhere g c =
-    let old = c.args.doc.now.tree.nodes in
-    let new = c.set_commas.new.tree.nodes in
-    let same : c.number.result ≡ number_of (g.N.IsNode.node_of c.args.node) = c.number.ensures ∙ ap number_of c.node.ensures in
-    subst (λ (n : ℕ). StaysElsewhere old new n) same c.set_commas.ensures.elsewhere
-
-pub returns-clause-step : goal.returns-clause-step
-returns-clause-step g c =
-    let old = c.args.doc.now.tree.nodes in
-    let new = c.set_commas.new.tree.nodes in
-    let node = g.N.IsNode.node_of c.args.node in
-    let same : c.number.result ≡ number_of node = c.number.ensures ∙ ap number_of c.node.ensures in
-    commas_on old new node c.requires c.args.mode c.set_commas.result
-    (subst (λ (n : ℕ). OnOk c.set_commas.result (IsHolder (typed_at old n) → IsSettingCommas old new c.args.mode n)) same c.set_commas.ensures.step)
-
-pub returns-clause-begun : goal.returns-clause-begun
-returns-clause-begun g c =
-    let old = c.args.doc.now.tree.nodes in
-    let new = c.set_commas.new.tree.nodes in
-    let node = g.N.IsNode.node_of c.args.node in
-    let same : c.number.result ≡ number_of node = c.number.ensures ∙ ap number_of c.node.ensures in
-    some_commas_on old new node c.requires c.args.mode c.set_commas.result
-    (subst (λ (n : ℕ). OnErr c.set_commas.result (IsHolder (typed_at old n) → IsSettingSomeCommas old new c.args.mode n)) same c.set_commas.ensures.begun)
+    let tree = c.args.doc.now.tree.tree in
+    let new = c.set_trailing_commas.new.tree.nodes in
+    let mode = c.args.mode in
+    let n = number_of (g.N.IsNode.node_of c.args.node) in
+    let same : c.number-number.result ≡ n = c.number-number.ensures ∙ ap number_of c.node.ensures in
+    let part = rw same at c.in-Err.ensures.part in
+    record {
+      set = tt;
+      said = tt;
+      part = part;
+      written = λ o. part_written mode old new n tree o part;
+      stand = λ o. tt;
+      once = λ o. tt;
+      step = tt;
+      begun = λ is. some_commas_step old new tree mode n part (subst IsHolder (sym c.requires.1) is);
+      elsewhere = rw same at c.set_trailing_commas.ensures.apart;
+      wanted = c.in-Err.ensures.wanted;
+      due = rw same at c.in-Err.ensures.due;
+      memory = c.in-Err.ensures.memory;
+      stays = nodes_stay old new (stay_in_turn mode part.done old new tree part.set);
+    }

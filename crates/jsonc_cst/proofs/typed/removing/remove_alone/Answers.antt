@@ -1,26 +1,31 @@
-use Rattle.std.proofs.Common.{rules, arith, ◌≡◌, Some}
+use Rattle.std.proofs.Common.{◌≡◌, ◌+◌, [], None, Some, arith, subst, sym, ◌∙◌}
+use Rattle.jsonc_tree.specs.Changes.{Splices}
 use Rattle.jsonc_tree.specs.Tree.{parent_at, place_at}
+use Rattle.jsonc_tree.proofs.Order.{parent_there}
+use Rattle.jsonc_edit.proofs.Elements.{Some_same}
 use Rattle.jsonc_run.proofs.Elsewhere.{alone_elsewhere}
 use Rattle.jsonc_cst.proofs.lemmas.typed.Kept.{nodes_stay, stay_spliced}
 use Rattle.jsonc_cst.proofs.lemmas.typed.Nobodys.{left_nobodys}
 use Rattle.jsonc_cst.proofs.typed.removing.remove_alone.Goals as goal
 
-pub returns-clause-stays : goal.returns-clause-stays
-returns-clause-stays g c =
-    let old = c.args.tree.now.nodes in
-    let new = c.take_alone.new.tree.nodes in
-    nodes_stay old new (stay_spliced old new _ _ _ _ c.take_alone.ensures.taken)
+pub child_count-requires : goal.child_count-requires
+child_count-requires g c = (parent_there c.args.tree.now.nodes c.args.tree.now.tree c.args.number c.in-Some.container (sym c.parent.ensures ∙ c.in-Some.is)).1
 
-pub returns-clause-elsewhere : goal.returns-clause-elsewhere
-returns-clause-elsewhere g c =
+pub returns : goal.returns
+returns g c =
     let old = c.args.tree.now.nodes in
-    let new = c.take_alone.new.tree.nodes in
-    let said : parent_at old c.args.number ≡ Some c.in-Some.container = search rules in
-    alone_elsewhere old c.args.tree.now.tree new c.args.number c.in-Some.container _ _ _ said c.take_alone.new.tree.tree c.take_alone.ensures.taken
-
-pub returns-clause-gone : goal.returns-clause-gone
-returns-clause-gone g c =
-    let old = c.args.tree.now.nodes in
-    let new = c.take_alone.new.tree.nodes in
-    let said : parent_at old c.args.number ≡ Some c.in-Some.container = search rules in
-    left_nobodys old new c.args.tree.now.tree c.take_alone.new.tree.tree c.args.number c.in-Some.container said (place_at old c.args.number) (omega arith) c.take_alone.ensures.taken
+    let tree = c.args.tree.now.tree in
+    let new = c.splice.new.self.nodes in
+    let after = c.splice.new.self.tree in
+    let n = c.args.number in
+    let place = place_at old n in
+    let container = c.in-Some.container in
+    let said : parent_at old n ≡ Some container = sym c.parent.ensures ∙ c.in-Some.is in
+    let taken : Splices old new container place (place + 1) [] = rw c.child_index-place.ensures at c.splice.ensures.splices in
+    record {
+      taken = λ k parent. subst (λ j. Splices old new j place (place + 1) []) (Some_same container k (sym said ∙ parent)) taken;
+      elsewhere = alone_elsewhere old tree new n container _ _ _ said after taken;
+      gone = left_nobodys old new tree after n container said place (omega arith) taken;
+      untouched = λ alone. absurd (let wrong : Some container ≡ None = sym said ∙ alone in cc);
+      stays = nodes_stay old new (stay_spliced old new _ _ _ _ taken);
+    }

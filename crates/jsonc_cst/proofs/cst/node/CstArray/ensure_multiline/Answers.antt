@@ -1,18 +1,34 @@
-use Rattle.std.proofs.Common.{ℕ, ap, subst, ◌∙◌, OnOk}
+use Rattle.std.proofs.Common.{ap, ◌∙◌}
+use Rattle.jsonc_layout.specs.lines.Kinds.{holds_values}
 use Rattle.jsonc_cst.specs.Nodes.{number_of}
-use Rattle.jsonc_cst.specs.typed.Edits.{StaysElsewhere}
-use Rattle.jsonc_cst.specs.typed.Lines.{SpreadsAtItsPath}
-use Rattle.jsonc_cst.specs.typed.Steps.{IsSpreading}
+use Rattle.jsonc_cst.proofs.lemmas.typed.Elsewhere.{spread_elsewhere}
+use Rattle.jsonc_cst.proofs.lemmas.typed.Held.{held_array}
+use Rattle.jsonc_cst.proofs.lemmas.typed.Kept.{nodes_stay}
+use Rattle.jsonc_cst.proofs.lemmas.typed.Spread.{but_for_memory, lines_written, nodes_spread, on_lines}
+use Rattle.jsonc_cst.proofs.lemmas.typed.Steps.{ok_then, spread_step}
 use Rattle.jsonc_cst.proofs.cst.node.CstArray.ensure_multiline.Goals as goal
 
-pub returns-clause-written : goal.returns-clause-written
-returns-clause-written g c = λ o.
-    subst (λ (n : ℕ). OnOk c.spread.result (SpreadsAtItsPath o c.args.doc.now.tree.nodes c.spread.new.tree.nodes n)) (c.number-number.ensures ∙ ap number_of c.node.ensures) (c.spread.ensures.written o)
-
-pub returns-clause-elsewhere : goal.returns-clause-elsewhere
-returns-clause-elsewhere g c =
-    subst (λ (n : ℕ). OnOk c.spread.result (StaysElsewhere c.args.doc.now.tree.nodes c.spread.new.tree.nodes n)) (c.number-number.ensures ∙ ap number_of c.node.ensures) c.spread.ensures.elsewhere
-
-pub returns-clause-step : goal.returns-clause-step
-returns-clause-step g c =
-    subst (λ (n : ℕ). OnOk c.spread.result (IsSpreading c.args.doc.now.tree.nodes c.spread.new.tree.nodes n)) (c.number-number.ensures ∙ ap number_of c.node.ensures) c.spread.ensures.step
+pub returns : goal.returns
+returns g c =
+    let old = c.args.doc.now.tree.nodes in
+    let tree = c.args.doc.now.tree.tree in
+    let new = c.ensure_multiline.new.tree.nodes in
+    let after = c.ensure_multiline.new.tree.tree in
+    let n = c.args.self.number in
+    let result = c.ensure_multiline.result in
+    let same = c.number-array.ensures ∙ ap number_of c.node.ensures in
+    let made = rw same at c.ensure_multiline.ensures.made in
+    let told = rw same at c.ensure_multiline.ensures.told in
+    let holds = ap holds_values (held_array old c.args.self c.requires) in
+    record {
+      made = made;
+      written = λ o. lines_written old new n tree after holds o result made;
+      step = ok_then result (λ spread. spread_step old new tree after n spread holds) made;
+      lines = on_lines old new n tree after holds result made;
+      elsewhere = spread_elsewhere old tree new n after result made;
+      told = told;
+      memory = λ o. but_for_memory old new n tree after holds o result told;
+      stays = nodes_stay old new (nodes_spread old new n tree after holds result made c.ensure_multiline.ensures.kept);
+      kept = c.ensure_multiline.ensures.kept;
+      document = c.ensure_multiline.ensures.document;
+    }

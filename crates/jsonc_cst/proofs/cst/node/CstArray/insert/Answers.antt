@@ -1,22 +1,61 @@
-use Rattle.std.proofs.Common.{ℕ, length, min, OnOk, subst}
+use Rattle.std.proofs.Common.{ℕ, length, min, ap, ◌∙◌}
 use Rattle.jsonc_layout.specs.input.Views.{plain}
+use Rattle.jsonc_tree.specs.Tree.{content_at}
 use Rattle.jsonc_layout.specs.nodes.Siblings.{elements_at}
-use Rattle.jsonc_cst.specs.typed.Edits.{StaysElsewhere}
-use Rattle.jsonc_cst.specs.typed.Inserting.{PutsAtItsPath}
-use Rattle.jsonc_cst.specs.typed.Steps.{IsInserting}
+use Rattle.jsonc_edit.specs.Paths.{IsElementOf}
+use Rattle.jsonc_insert.specs.Inserted.{ElementPut}
+use Rattle.jsonc_cst.specs.Nodes.{number_of}
+use Rattle.jsonc_cst.proofs.lemmas.typed.ComingIn.{put_at_place, put_element, put_for_memory, put_others, put_stays, put_there, put_written}
+use Rattle.jsonc_run.proofs.Elsewhere.{row_elsewhere}
+use Rattle.jsonc_cst.proofs.lemmas.typed.Held.{held_array}
+use Rattle.jsonc_cst.proofs.lemmas.typed.Kept.{as_typed, nodes_stay}
+use Rattle.jsonc_cst.proofs.lemmas.typed.Steps.{inserted_step}
+use Rattle.jsonc_layout.proofs.lemmas.from_input.Texts.{of_texts}
 use Rattle.jsonc_cst.proofs.cst.node.CstArray.insert.Goals as goal
 
-pub returns-clause-written : goal.returns-clause-written
-returns-clause-written g c = λ o.
+pub insert_element-requires-clause-array : goal.insert_element-requires-clause-array
+insert_element-requires-clause-array g c =
     let old = c.args.doc.now.tree.nodes in
-    subst (λ (n : ℕ). OnOk c.insert_at.result (PutsAtItsPath o old c.insert_at.new.tree.nodes n (min c.args.index (length (elements_at old n))) (plain c.args.value))) c.array_number-number.ensures.number (c.insert_at.ensures.written o)
+    ap (content_at old) (c.number-number.ensures ∙ ap number_of c.node.ensures) ∙ held_array old c.args.self c.requires
 
-pub returns-clause-elsewhere : goal.returns-clause-elsewhere
-returns-clause-elsewhere g c =
-    let old = c.args.doc.now.tree.nodes in
-    subst (λ (n : ℕ). OnOk c.insert_at.result (StaysElsewhere old c.insert_at.new.tree.nodes n)) c.array_number-number.ensures.number c.insert_at.ensures.elsewhere
+pub node_at-requires : goal.node_at-requires
+node_at-requires g c =
+    let same = c.number-number.ensures ∙ ap number_of c.node.ensures in
+    put_there c.args.doc.now.tree.nodes c.insert_element.new.tree.nodes c.args.self.number c.args.index (plain c.args.value) c.in-Ok.element c.args.doc.now.tree.tree c.requires.0
+    (rw same at c.in-Ok.ensures.brackets) (rw same at c.in-Ok.ensures.put)
 
-pub returns-clause-step : goal.returns-clause-step
-returns-clause-step g c =
+pub returns-in-Ok : goal.returns-in-Ok
+returns-in-Ok g c =
     let old = c.args.doc.now.tree.nodes in
-    subst (λ (n : ℕ). OnOk c.insert_at.result (IsInserting old c.insert_at.new.tree.nodes n c.args.index (plain c.args.value))) c.array_number-number.ensures.number c.insert_at.ensures.step
+    let tree = c.args.doc.now.tree.tree in
+    let new = c.insert_element.new.tree.nodes in
+    let n = c.args.self.number in
+    let i = c.args.index in
+    let v = plain c.args.value in
+    let m = c.in-Ok.element in
+    let same = c.number-number.ensures ∙ ap number_of c.node.ensures in
+    let brackets = rw same at c.in-Ok.ensures.brackets in
+    let put = rw same at c.in-Ok.ensures.put in
+    let placed = put_at_place old new n i v m brackets put in
+    let array = held_array old c.args.self c.requires in
+    let last : ℕ = min i (length (elements_at old n)) in
+    record {
+      put = as_typed (λ (k : ℕ). ElementPut old new n last v k) new m c.node_at.result c.node_at.ensures.node placed;
+      element = as_typed (λ (k : ℕ). IsElementOf new n last k) new m c.node_at.result c.node_at.ensures.node (put_element old new n i v m tree c.requires.0 brackets put);
+      written = λ o. put_written old new n v tree array o last m placed;
+      step = inserted_step old new tree put.tree n i m v (of_texts _ c.args.value) put array;
+      others = put_others old new n i v m tree c.requires.0 brackets put;
+      elsewhere = row_elsewhere old tree put.ready new n _ _ put.row put.tree put.prepared.keeps put.put;
+      told = tt;
+      memory = λ o. tt;
+      held = c.node_at.ensures.held;
+      stays = nodes_stay old new (put_stays old new n i v m tree c.requires.0 brackets put);
+      kept = tt;
+      document = tt;
+    }
+
+pub returns-clause-memory : goal.returns-clause-memory
+returns-clause-memory g c = λ o.
+    let old = c.args.doc.now.tree.nodes in
+    put_for_memory old c.insert_element.new.tree.nodes c.args.self.number (plain c.args.value) c.args.doc.now.tree.tree (held_array old c.args.self c.requires) o c.in-Err.error
+    (rw (c.number-number.ensures ∙ ap number_of c.node.ensures) at c.in-Err.ensures.told)

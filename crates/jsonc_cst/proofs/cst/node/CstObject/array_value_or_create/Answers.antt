@@ -1,14 +1,71 @@
-use Rattle.std.proofs.Common.{ℕ, OnOk, subst, chars}
-use Rattle.jsonc_cst.specs.typed.Edits.{StaysElsewhere}
+use Rattle.std.proofs.Common.{Some, chars, ap, sym, subst, ◌∙◌}
+use Rattle.jsonc_tree.specs.Tree.{content_at}
 use Rattle.jsonc_text.specs.declared.edit.Over.TheVariants.{Keep}
 use Rattle.jsonc_text.specs.declared.edit.Shape.TheVariants.{Array}
-use Rattle.jsonc_cst.specs.objects.Named.{IsEnsuringNamed}
+use Rattle.jsonc_insert.specs.named.Named.{NamedEnsured}
+use Rattle.jsonc_cst.specs.Nodes.{number_of}
+use Rattle.jsonc_cst.proofs.lemmas.objects.ByName.{named_elsewhere, named_for_memory, named_stays, named_written}
+use Rattle.jsonc_cst.proofs.lemmas.typed.Held.{held_object}
+use Rattle.jsonc_cst.proofs.lemmas.typed.Kept.{nodes_stay}
+use Rattle.jsonc_cst.proofs.lemmas.objects.Steps.{ensured_step}
+use Rattle.std.proofs.lemmas.Str.{scalars-chars}
 use Rattle.jsonc_cst.proofs.cst.node.CstObject.array_value_or_create.Goals as goal
 
-pub returns-clause-elsewhere : goal.returns-clause-elsewhere
-returns-clause-elsewhere g c =
-    subst (λ (n : ℕ). OnOk c.ensure_array.result (StaysElsewhere c.args.doc.now.tree.nodes c.ensure_array.new.tree.nodes n)) c.object_number-number.ensures.number c.ensure_array.ensures.elsewhere
+pub ensure_property-requires-clause-object : goal.ensure_property-requires-clause-object
+ensure_property-requires-clause-object g c =
+    let old = c.args.doc.now.tree.nodes in
+    ap (content_at old) (c.number-number.ensures ∙ ap number_of c.node.ensures) ∙ held_object old c.args.self c.requires
 
-pub returns-clause-step : goal.returns-clause-step
-returns-clause-step g c =
-    subst (λ (n : ℕ). OnOk c.ensure_array.result (IsEnsuringNamed c.args.doc.now.tree.nodes c.ensure_array.new.tree.nodes n (chars c.args.name.now) Array Keep)) c.object_number-number.ensures.number c.ensure_array.ensures.step
+pub returns-in-Ok-Some : goal.returns-in-Ok-Some
+returns-in-Ok-Some g c =
+    let old = c.args.doc.now.tree.nodes in
+    let tree = c.args.doc.now.tree.tree in
+    let new = c.ensure_property.new.tree.nodes in
+    let after = c.ensure_property.new.tree.tree in
+    let n = c.args.self.number in
+    let name = chars c.args.name.now in
+    let answer = c.in-Ok-Some.field-0 in
+    let object = held_object old c.args.self c.requires in
+    let ensured = rw (c.number-number.ensures ∙ ap number_of c.node.ensures) at c.in-Ok-Some.ensures.ensured in
+    record {
+      ensured = subst (NamedEnsured Array Keep old new n name) (c.in-Ok-Some.field-0-is ∙ ap Some (sym c.array_at.ensures.number)) ensured;
+      written = λ o. named_written old new n name Array Keep tree object o answer ensured;
+      step = ensured_step old new tree after n name (scalars-chars c.args.name.now c.utf8.name) object Array Keep answer ensured;
+      elsewhere = named_elsewhere old new n name Array tree after c.requires.0 Keep answer ensured;
+      told = tt;
+      memory = λ o. tt;
+      held = c.array_at.ensures.held;
+      stays = nodes_stay old new (named_stays old new n name Array Keep tree c.requires.0 answer ensured);
+      kept = tt;
+      document = tt;
+    }
+
+pub returns-in-Ok-None : goal.returns-in-Ok-None
+returns-in-Ok-None g c =
+    let old = c.args.doc.now.tree.nodes in
+    let tree = c.args.doc.now.tree.tree in
+    let new = c.ensure_property.new.tree.nodes in
+    let after = c.ensure_property.new.tree.tree in
+    let n = c.args.self.number in
+    let name = chars c.args.name.now in
+    let answer = c.in-Ok-None.field-0 in
+    let object = held_object old c.args.self c.requires in
+    let ensured = rw (c.number-number.ensures ∙ ap number_of c.node.ensures) at c.in-Ok-None.ensures.ensured in
+    record {
+      ensured = subst (NamedEnsured Array Keep old new n name) c.in-Ok-None.field-0-is ensured;
+      written = λ o. named_written old new n name Array Keep tree object o answer ensured;
+      step = ensured_step old new tree after n name (scalars-chars c.args.name.now c.utf8.name) object Array Keep answer ensured;
+      elsewhere = named_elsewhere old new n name Array tree after c.requires.0 Keep answer ensured;
+      told = tt;
+      memory = λ o. tt;
+      held = tt;
+      stays = nodes_stay old new (named_stays old new n name Array Keep tree c.requires.0 answer ensured);
+      kept = tt;
+      document = tt;
+    }
+
+pub returns-in-Err-clause-memory : goal.returns-in-Err-clause-memory
+returns-in-Err-clause-memory g c = λ o.
+    let old = c.args.doc.now.tree.nodes in
+    named_for_memory old c.ensure_property.new.tree.nodes c.args.self.number (chars c.args.name.now) Array Keep c.args.doc.now.tree.tree (held_object old c.args.self c.requires) o c.in-Err.error
+    (rw (c.number-number.ensures ∙ ap number_of c.node.ensures) at c.in-Err.ensures.told)

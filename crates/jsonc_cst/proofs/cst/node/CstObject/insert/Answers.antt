@@ -1,21 +1,69 @@
-use Rattle.std.proofs.Common.{ℕ, length, min, OnOk, chars, subst}
+use Rattle.std.proofs.Common.{ℕ, length, min, chars, ap, sym, subst, ◌∙◌}
 use Rattle.jsonc_layout.specs.input.Views.{plain}
+use Rattle.jsonc_tree.specs.Tree.{content_at}
 use Rattle.jsonc_layout.specs.nodes.Siblings.{elements_at}
-use Rattle.jsonc_cst.specs.typed.Edits.{StaysElsewhere}
-use Rattle.jsonc_cst.specs.objects.Members.{PutsNamedAtItsPath, IsInsertingNamed}
+use Rattle.jsonc_edit.specs.Paths.{IsElementOf}
+use Rattle.jsonc_insert.specs.members.Inserted.{PropertyPut}
+use Rattle.jsonc_cst.specs.Nodes.{number_of}
+use Rattle.jsonc_run.proofs.Elsewhere.{put_elsewhere}
+use Rattle.jsonc_cst.proofs.lemmas.objects.NamedIn.{put_at_place, put_element, put_for_memory, put_others, put_property, put_stays, put_there, put_written}
+use Rattle.jsonc_cst.proofs.lemmas.typed.Held.{held_object}
+use Rattle.jsonc_cst.proofs.lemmas.typed.Kept.{nodes_stay}
+use Rattle.jsonc_cst.proofs.lemmas.objects.Steps.{inserted_step}
+use Rattle.jsonc_layout.proofs.lemmas.from_input.Texts.{of_texts}
+use Rattle.std.proofs.lemmas.Str.{scalars-chars}
 use Rattle.jsonc_cst.proofs.cst.node.CstObject.insert.Goals as goal
 
-pub returns-clause-written : goal.returns-clause-written
-returns-clause-written g c = λ o.
+pub insert_property-requires-clause-object : goal.insert_property-requires-clause-object
+insert_property-requires-clause-object g c =
     let old = c.args.doc.now.tree.nodes in
-    subst (λ (n : ℕ). OnOk c.insert_at.result (PutsNamedAtItsPath o old c.insert_at.new.tree.nodes n (min c.args.index (length (elements_at old n))) (chars c.args.name.now) (plain c.args.value))) c.object_number-number.ensures.number (c.insert_at.ensures.written o)
+    ap (content_at old) (c.number-number.ensures ∙ ap number_of c.node.ensures) ∙ held_object old c.args.self c.requires
 
-pub returns-clause-elsewhere : goal.returns-clause-elsewhere
-returns-clause-elsewhere g c =
-    let old = c.args.doc.now.tree.nodes in
-    subst (λ (n : ℕ). OnOk c.insert_at.result (StaysElsewhere old c.insert_at.new.tree.nodes n)) c.object_number-number.ensures.number c.insert_at.ensures.elsewhere
+pub property_at-requires-clause-there : goal.property_at-requires-clause-there
+property_at-requires-clause-there g c =
+    let same = c.number-number.ensures ∙ ap number_of c.node.ensures in
+    put_there c.args.doc.now.tree.nodes c.insert_property.new.tree.nodes c.args.self.number c.args.index (chars c.args.name.now) (plain c.args.value) c.in-Ok.property c.args.doc.now.tree.tree c.requires.0
+    (rw same at c.in-Ok.ensures.brackets) (rw same at c.in-Ok.ensures.put)
 
-pub returns-clause-step : goal.returns-clause-step
-returns-clause-step g c =
+pub property_at-requires-clause-property : goal.property_at-requires-clause-property
+property_at-requires-clause-property g c =
+    let same = c.number-number.ensures ∙ ap number_of c.node.ensures in
+    put_property c.args.doc.now.tree.nodes c.insert_property.new.tree.nodes c.args.self.number c.args.index (chars c.args.name.now) (plain c.args.value) c.in-Ok.property c.args.doc.now.tree.tree c.requires.0
+    (rw same at c.in-Ok.ensures.brackets) (rw same at c.in-Ok.ensures.put)
+
+pub returns-in-Ok : goal.returns-in-Ok
+returns-in-Ok g c =
     let old = c.args.doc.now.tree.nodes in
-    subst (λ (n : ℕ). OnOk c.insert_at.result (IsInsertingNamed old c.insert_at.new.tree.nodes n c.args.index (chars c.args.name.now) (plain c.args.value))) c.object_number-number.ensures.number c.insert_at.ensures.step
+    let tree = c.args.doc.now.tree.tree in
+    let new = c.insert_property.new.tree.nodes in
+    let n = c.args.self.number in
+    let i = c.args.index in
+    let name = chars c.args.name.now in
+    let v = plain c.args.value in
+    let m = c.in-Ok.property in
+    let same = c.number-number.ensures ∙ ap number_of c.node.ensures in
+    let brackets = rw same at c.in-Ok.ensures.brackets in
+    let put = rw same at c.in-Ok.ensures.put in
+    let placed = put_at_place old new n i name v m tree c.requires.0 brackets put in
+    let object = held_object old c.args.self c.requires in
+    let last : ℕ = min i (length (elements_at old n)) in
+    record {
+      put = subst (λ (k : ℕ). PropertyPut old new n last name v k) (sym c.property_at.ensures.number) placed;
+      property = subst (λ (k : ℕ). IsElementOf new n last k) (sym c.property_at.ensures.number) (put_element old new n i name v m tree c.requires.0 brackets put);
+      written = λ o. put_written old new n name v tree object o last m placed;
+      step = inserted_step old new tree c.insert_property.new.tree.tree n name (scalars-chars c.args.name.now c.utf8.name) object i m v (of_texts _ c.args.value) put;
+      others = put_others old new n i name v m tree c.requires.0 brackets put;
+      elsewhere = put_elsewhere old tree new n i name v m c.requires.0 put;
+      told = tt;
+      memory = λ o. tt;
+      held = c.property_at.ensures.held;
+      stays = nodes_stay old new (put_stays old new n i name v m tree c.requires.0 put);
+      kept = tt;
+      document = tt;
+    }
+
+pub returns-clause-memory : goal.returns-clause-memory
+returns-clause-memory g c = λ o.
+    let old = c.args.doc.now.tree.nodes in
+    put_for_memory old c.insert_property.new.tree.nodes c.args.self.number (chars c.args.name.now) (plain c.args.value) c.args.doc.now.tree.tree (held_object old c.args.self c.requires) o c.in-Err.error
+    (rw (c.number-number.ensures ∙ ap number_of c.node.ensures) at c.in-Err.ensures.told)

@@ -1,24 +1,71 @@
-use Rattle.std.proofs.Common.{OnOk, subst}
-use Rattle.jsonc_cst.specs.typed.Edits.{StaysElsewhere}
-use Rattle.jsonc_cst.specs.typed.Values.{HeldArrayIsMarked}
+use Rattle.std.proofs.Common.{◌≡◌, ℕ, Some, Err, false, refl, ap, subst, sym, ◌∙◌}
+use Rattle.jsonc_text.specs.Plain.{array, no_items}
+use Rattle.jsonc_tree.specs.Content.{Content}
+use Rattle.jsonc_tree.specs.Tree.{content_at, parent_at}
+use Rattle.jsonc_layout.specs.nodes.Properties.{value_at}
+use Rattle.jsonc_edit.specs.Written.{Writes}
+use Rattle.jsonc_edit.specs.set.Kinds.{is_array}
+use Rattle.jsonc_edit.specs.set.PropertyValues.{HeldOrSet}
+use Rattle.jsonc_cst.specs.Nodes.{number_of}
+use Rattle.jsonc_cst.proofs.lemmas.typed.Kept.{nodes_stay, stay_kept}
+use Rattle.jsonc_cst.proofs.lemmas.typed.Roots.{array_is}
+use Rattle.jsonc_cst.proofs.lemmas.typed.Held.{found_is, found_is_child, found_is_written, held_property, stay_found}
+use Rattle.jsonc_cst.proofs.lemmas.typed.Whole.{value_for_memory}
+use Rattle.jsonc_cst.proofs.lemmas.typed.Marked.{held_empty_marked}
+use Rattle.jsonc_cst.proofs.lemmas.typed.Elsewhere.{found_elsewhere}
 use Rattle.jsonc_text.specs.declared.edit.Shape.TheVariants.{Array}
-use Rattle.jsonc_cst.specs.typed.Steps.{IsEnsuringValue}
+use Rattle.jsonc_cst.proofs.lemmas.typed.Steps.{held_shape_step}
 use Rattle.jsonc_cst.proofs.cst.node.CstObjectProp.array_value_or_set.Goals as goal
 
-pub returns-clause-marked : goal.returns-clause-marked
-returns-clause-marked g c =
+pub property_value_or_set-requires-clause-property : goal.property_value_or_set-requires-clause-property
+property_value_or_set-requires-clause-property g c =
     let old = c.args.doc.now.tree.nodes in
-    let new = c.property_array_or_set.new.tree.nodes in
-    subst (λ n. OnOk c.property_array_or_set.result (HeldArrayIsMarked old new n)) c.property_number-number.ensures.number c.property_array_or_set.ensures.marked
+    ap (content_at old) (c.number-number.ensures ∙ ap number_of c.node.ensures) ∙ held_property old c.args.self c.requires
 
-pub returns-clause-elsewhere : goal.returns-clause-elsewhere
-returns-clause-elsewhere g c =
+pub array_at-requires : goal.array_at-requires
+array_at-requires g c =
     let old = c.args.doc.now.tree.nodes in
-    let new = c.property_array_or_set.new.tree.nodes in
-    subst (λ n. OnOk c.property_array_or_set.result (StaysElsewhere old new n)) c.property_number-number.ensures.number c.property_array_or_set.ensures.elsewhere
+    let p = c.number-number.result in
+    found_is is_array (array no_items) Content.array (λ l. refl) array_is old c.property_value_or_set.new.tree.nodes p (value_at old p) c.in-Ok.array c.in-Ok.ensures.value
 
-pub returns-clause-step : goal.returns-clause-step
-returns-clause-step g c =
+pub returns-in-Ok : goal.returns-in-Ok
+returns-in-Ok g c =
     let old = c.args.doc.now.tree.nodes in
-    let new = c.property_array_or_set.new.tree.nodes in
-    subst (λ n. OnOk c.property_array_or_set.result (IsEnsuringValue old new n Array)) c.property_number-number.ensures.number c.property_array_or_set.ensures.step
+    let tree = c.args.doc.now.tree.tree in
+    let new = c.property_value_or_set.new.tree.nodes in
+    let after = c.property_value_or_set.new.tree.tree in
+    let p = c.args.self.number in
+    let held = value_at old p in
+    let v = array no_items in
+    let m = c.in-Ok.array in
+    let answered = sym c.array_at.ensures.number in
+    let same = c.number-number.ensures ∙ ap number_of c.node.ensures in
+    let found = rw same at c.in-Ok.ensures.value in
+    let named = rw same at c.in-Ok.ensures.named in
+    let property = held_property old c.args.self c.requires in
+    record {
+      value = subst (λ k. HeldOrSet is_array v old new p held k) answered found;
+      written = λ o. subst (λ k. (n : ℕ) → held ≡ Some n → is_array (content_at old n) ≡ false → Writes o old new n k v) answered (found_is_written is_array v old new p o tree held m found);
+      marked = held_empty_marked old new v tree is_array p held m found;
+      step = held_shape_step old new tree after p Array m named found property;
+      elsewhere = found_elsewhere old new tree after p c.requires.0 property v is_array held m refl found;
+      named = named;
+      child = subst (λ k. parent_at new k ≡ Some p) answered (found_is_child old new p v tree property is_array held m refl found);
+      held = c.array_at.ensures.held;
+      stays = nodes_stay old new (stay_found is_array v old new p held m found);
+      told = tt;
+      missing = tt;
+      memory = λ o. tt;
+      kept = tt;
+      document = tt;
+    }
+
+pub returns-in-Err-clause-stays : goal.returns-in-Err-clause-stays
+returns-in-Err-clause-stays g c =
+    nodes_stay c.args.doc.now.tree.nodes c.property_value_or_set.new.tree.nodes (stay_kept c.args.doc.now.tree.nodes c.property_value_or_set.new.tree.nodes c.in-Err.ensures.kept)
+
+pub returns-in-Err-clause-memory : goal.returns-in-Err-clause-memory
+returns-in-Err-clause-memory g c = λ o.
+    let old = c.args.doc.now.tree.nodes in
+    value_for_memory {T = ℕ} o old c.args.doc.now.tree.tree is_array c.args.self.number c.requires.0 (held_property old c.args.self c.requires) (Err c.in-Err.error)
+    (rw (c.number-number.ensures ∙ ap number_of c.node.ensures) at c.in-Err.ensures.told)

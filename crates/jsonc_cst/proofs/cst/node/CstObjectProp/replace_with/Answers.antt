@@ -1,25 +1,48 @@
-use Rattle.std.proofs.Common.{◌≡◌, IfOk, IfSome, ap, subst, ◌∙◌, chars}
-use Rattle.jsonc_cst.specs.Nodes.{number_of}
-use Rattle.jsonc_cst.specs.typed.Edits.{StaysElsewhere}
+use Rattle.std.proofs.Common.{ap, chars, ◌∙◌}
 use Rattle.jsonc_layout.specs.input.Views.{plain}
-use Rattle.jsonc_tree.specs.Content.{property}
-use Rattle.jsonc_tree.specs.Tree.{content_at}
-use Rattle.jsonc_cst.specs.typed.Steps.{IsReplacingProperty}
-use Rattle.jsonc_cst.proofs.lemmas.typed.Steps.{answer_then, property_held}
+use Rattle.jsonc_edit.specs.set.Giving.{IsPropertyReplaced}
+use Rattle.jsonc_cst.specs.Nodes.{number_of}
+use Rattle.jsonc_cst.specs.typed.Around.{IsLaidProperty}
+use Rattle.jsonc_cst.proofs.lemmas.typed.Held.{held_property}
+use Rattle.jsonc_cst.proofs.lemmas.typed.Kept.{as_typed, nodes_stay}
+use Rattle.jsonc_cst.proofs.lemmas.typed.Roots.{property_is_written, property_there, stay_property}
+use Rattle.jsonc_cst.proofs.lemmas.typed.Around.{property_laid}
+use Rattle.jsonc_run.proofs.Elsewhere.{property_elsewhere}
+use Rattle.jsonc_cst.proofs.lemmas.typed.Nobodys.{property_nobodys}
+use Rattle.jsonc_cst.proofs.lemmas.typed.Steps.{property_replaced_step}
+use Rattle.jsonc_layout.proofs.lemmas.from_input.Texts.{of_texts}
+use Rattle.std.proofs.lemmas.Str.{scalars-chars}
 use Rattle.jsonc_cst.proofs.cst.node.CstObjectProp.replace_with.Goals as goal
 
-pub returns-clause-elsewhere : goal.returns-clause-elsewhere
-returns-clause-elsewhere g c =
-    let old = c.args.doc.now.tree.nodes in
-    let new = c.replace_property.new.tree.nodes in
-    let same : c.number-number.result ≡ c.args.self.number = c.number-number.ensures ∙ ap number_of c.node.ensures in
-    subst (λ n. IfOk c.replace_property.result (λ o. IfSome o (λ m. StaysElsewhere old new n))) same c.replace_property.ensures.elsewhere
+pub node_at-requires : goal.node_at-requires
+node_at-requires g c =
+    property_there c.args.doc.now.tree.nodes c.replace_property.new.tree.nodes c.number-number.result (chars c.args.name.now) (plain c.args.value) c.in-Ok-Some.new (rw c.in-Ok-Some.field-0-is at c.in-Ok-Some.ensures.replaced)
 
-pub returns-clause-step : goal.returns-clause-step
-returns-clause-step g c =
+pub returns-in-Ok-Some : goal.returns-in-Ok-Some
+returns-in-Ok-Some g c =
     let old = c.args.doc.now.tree.nodes in
+    let tree = c.args.doc.now.tree.tree in
     let new = c.replace_property.new.tree.nodes in
-    let result = c.replace_property.result in
-    let same : c.number-number.result ≡ c.args.self.number = c.number-number.ensures ∙ ap number_of c.node.ensures in
-    answer_then result (λ step. step (property_held old c.args.self c.requires))
-    (subst (λ n. IfOk result (λ o. IfSome o (λ m. content_at old n ≡ property → IsReplacingProperty old new n (chars c.args.name.now) (plain c.args.value)))) same c.replace_property.ensures.step)
+    let after = c.replace_property.new.tree.tree in
+    let n = c.args.self.number in
+    let name = chars c.args.name.now in
+    let v = plain c.args.value in
+    let m = c.in-Ok-Some.new in
+    let replaced = rw (c.in-Ok-Some.field-0-is, c.number-number.ensures ∙ ap number_of c.node.ensures) at c.in-Ok-Some.ensures.replaced in
+    let given = as_typed (IsPropertyReplaced old new n name v) new m c.node_at.result c.node_at.ensures.node replaced in
+    record {
+      replaced = given;
+      written = λ p. property_is_written p old new n name v c.node_at.result tree given;
+      laid = as_typed (IsLaidProperty old new n name v) new m c.node_at.result c.node_at.ensures.node (property_laid old new n m name v replaced);
+      step = property_replaced_step old new tree after n m name v (scalars-chars c.args.name.now c.utf8.name) (of_texts _ c.args.value) replaced (held_property old c.args.self c.requires);
+      elsewhere = property_elsewhere old tree new n m name v after replaced;
+      gone = property_nobodys old new n m tree after name v replaced;
+      none = tt;
+      untouched = tt;
+      held = c.node_at.ensures.held;
+      stays = nodes_stay old new (stay_property old new n name v m replaced);
+      memory = tt;
+      child = tt;
+      kept = tt;
+      document = tt;
+    }
