@@ -5,7 +5,6 @@ use crate::edited::edited;
 use crate::lookup::looked_up;
 use crate::member::looked_up_in_tree;
 use crate::program::{outcome, printed};
-use crate::reading::readings;
 use crate::scanned::tokens;
 use crate::syntax::syntax;
 use crate::value::{equal, value};
@@ -28,22 +27,20 @@ pub fn answer(alloc: Global, question: Question) -> Result<String, AllocError> {
             options,
             text,
             lookups,
+            in_tree: false,
         } => looked_up(alloc, text.as_str(), &options, lookups.as_slice()),
-        Question::TreeObject {
+        Question::Object {
             options,
             text,
             lookups,
+            in_tree: true,
         } => looked_up_in_tree(alloc, text.as_str(), &options, lookups.as_slice()),
         Question::Edit {
             options,
             text,
             edits,
-        } => edited(alloc, text.as_str(), &options, edits),
-        Question::Read {
-            options,
-            text,
-            edits,
-        } => readings(alloc, text.as_str(), &options, edits),
+            reads,
+        } => edited(alloc, text.as_str(), &options, edits, reads),
         Question::Decode { text } => decoded(alloc, text.as_str()),
         Question::Ast {
             options,

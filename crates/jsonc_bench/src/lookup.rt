@@ -2,7 +2,7 @@
 
 use crate::value::{push_boolean, push_value, push_word};
 use jsonc_cases::lookups::{Kind, Lookup};
-use jsonc_parser::{JsonArray, JsonObject, JsonValue, ParseOptions, parse_to_value};
+use jsonc_parser::{JsonObject, JsonValue, ParseOptions, parse_to_value};
 use std::alloc::{AllocError, Global};
 
 /// What is left of the object of a text, and the answer to each look-up.
@@ -87,7 +87,7 @@ fn push_found(
 ) -> Result<(), AllocError> {
     match kind {
         Kind::Any => match object.get(name) {
-            Some(value) => push_copy(alloc, out, value),
+            Some(value) => push_value(alloc, out, value.try_clone()?),
             None => out.push('-'),
         },
         Kind::String => match object.get_string(name) {
@@ -103,36 +103,12 @@ fn push_found(
             None => out.push('-'),
         },
         Kind::Object => match object.get_object(name) {
-            Some(object) => push_object_copy(alloc, out, object),
+            Some(object) => push_value(alloc, out, JsonValue::Object(object.try_clone()?)),
             None => out.push('-'),
         },
         Kind::Array => match object.get_array(name) {
-            Some(array) => push_array_copy(alloc, out, array),
+            Some(array) => push_value(alloc, out, JsonValue::Array(array.try_clone()?)),
             None => out.push('-'),
         },
     }
-}
-
-fn push_copy(
-    alloc: Global,
-    out: &mut String,
-    value: &JsonValue<'_, Global>,
-) -> Result<(), AllocError> {
-    push_value(alloc, out, value.try_clone()?)
-}
-
-fn push_object_copy(
-    alloc: Global,
-    out: &mut String,
-    object: &JsonObject<'_, Global>,
-) -> Result<(), AllocError> {
-    push_value(alloc, out, JsonValue::Object(object.try_clone()?))
-}
-
-fn push_array_copy(
-    alloc: Global,
-    out: &mut String,
-    array: &JsonArray<'_, Global>,
-) -> Result<(), AllocError> {
-    push_value(alloc, out, JsonValue::Array(array.try_clone()?))
 }

@@ -3,42 +3,27 @@
 ghost use Rattle.jsonc_cst.specs.Document.{Holds};
 ghost use Rattle.jsonc_cst.specs.Nodes.{object_prop_node, string_lit_node};
 
-use crate::edited::push_end;
 use crate::input::push_input;
-use crate::show::{push_fault, push_string_kind};
-use jsonc_cases::edits::Step;
+use crate::show::push_string_kind;
 use jsonc_cases::escape::Escaped;
 use jsonc_cases::push_children;
 use jsonc_layout::lines::indents_at;
-use jsonc_parser::ParseOptions;
 use jsonc_parser::cst::{
     CstComment, CstContainerNode, CstLeafNode, CstNewlineKind, CstNode, CstObjectProp, CstRootNode,
     CstStringLit, HasChildren, IsNode,
 };
 use std::alloc::{AllocError, Global};
 
-/// How the edits end, and the readings of the text's document after them and of its nodes in printed
-/// order; or the text's fault.
-pub fn readings(
+/// The readings of a document and of its nodes in printed order.
+pub fn push_readings(
     alloc: Global,
-    text: &str,
-    options: &ParseOptions,
-    edits: Vec<Step>,
-) -> Result<String, AllocError> {
-    let mut out = String::new(alloc);
-    let mut doc = match CstRootNode::parse(alloc, text, options) {
-        Ok(doc) => doc,
-        Err(error) => {
-            push_fault(alloc, &mut out, &error)?;
-            return Ok(out);
-        }
-    };
-    push_end(alloc, &mut out, &mut doc, edits)?;
+    out: &mut String,
+    doc: &CstRootNode<Global>,
+) -> Result<(), AllocError> {
     out.push('\t')?;
-    push_document(&mut out, &doc)?;
-    push_value(&mut out, &doc)?;
-    push_nodes(alloc, &mut out, &doc)?;
-    Ok(out)
+    push_document(out, doc)?;
+    push_value(out, doc)?;
+    push_nodes(alloc, out, doc)
 }
 
 /// How lines end, what one level of indent adds, and where the value stands.
@@ -84,8 +69,9 @@ fn push_nodes(
         }
         push_node(out, doc, node)?;
         push_indents(alloc, out, doc, node)?;
-        push_content(out, doc, node)?;
+        let before = left.len();
         push_children(&mut left, doc, node)?;
+        push_content(out, doc, node, left.len().saturating_sub(before))?;
     }
     Ok(())
 }
@@ -178,18 +164,16 @@ fn push_content(
     out: &mut String,
     doc: &CstRootNode<Global>,
     node: CstNode,
+    child_count: usize,
 ) -> Result<(), AllocError>
     requires { Holds doc.now node }
 {
-    let Ok(children) = node.children(doc) else {
-        return Err(AllocError);
-    };
     match node {
         CstNode::Container(CstContainerNode::ObjectProp(property)) => {
-            write!(out, "n={}", children.len())?;
+            write!(out, "n={child_count}")?;
             push_property(out, doc, property)
         }
-        CstNode::Container(_) => write!(out, "n={}", children.len()),
+        CstNode::Container(_) => write!(out, "n={child_count}"),
         CstNode::Leaf(CstLeafNode::StringLit(string)) => {
             push_shown(out, doc, node)?;
             push_decoded(out, doc, string)

@@ -3,23 +3,12 @@
 use crate::show::{push_fault, push_token};
 use jsonc_parser::errors::ParseError;
 use jsonc_parser::tokens::Token;
-use jsonc_parser::{ParseOptions, Scanner, ScannerOptions};
+use jsonc_parser::{ParseOptions, Scanner};
 use std::alloc::{AllocError, Global};
-
-fn scanner_options(options: &ParseOptions) -> ScannerOptions {
-    ScannerOptions {
-        allow_single_quoted_strings: options.allow_single_quoted_strings,
-        allow_hexadecimal_numbers: options.allow_hexadecimal_numbers,
-        allow_unary_plus_numbers: options.allow_unary_plus_numbers,
-        allow_bare_decimal_point_numbers: options.allow_bare_decimal_point_numbers,
-        allow_non_finite_numbers: options.allow_non_finite_numbers,
-        allow_extended_string_escapes: options.allow_extended_string_escapes,
-    }
-}
 
 /// How the scan of a text ends, and each token before that.
 pub fn tokens(alloc: Global, text: &str, options: &ParseOptions) -> Result<String, AllocError> {
-    let mut scanner = Scanner::new(alloc, text, &scanner_options(options));
+    let mut scanner = Scanner::with_options(alloc, text, options.copied());
     let mut found = String::new(alloc);
     // Each token has a byte at least.
     for _ in 0..=text.len() {

@@ -37,24 +37,16 @@ pub enum Question {
         options: ParseOptions,
         text: String,
         lookups: Vec<Lookup>,
-    },
-    /// What is looked up in the object of a text's syntax tree.
-    TreeObject {
-        options: ParseOptions,
-        text: String,
-        lookups: Vec<Lookup>,
+        /// Whether the object is that of the text's syntax tree.
+        in_tree: bool,
     },
     /// What edits make of the document of a text.
     Edit {
         options: ParseOptions,
         text: String,
         edits: Vec<Step>,
-    },
-    /// What the document of a text tells of itself and of its nodes, after these edits.
-    Read {
-        options: ParseOptions,
-        text: String,
-        edits: Vec<Step>,
+        /// Whether it then tells of itself and of its nodes.
+        reads: bool,
     },
     /// The string at the front of a text.
     Decode {
@@ -94,14 +86,10 @@ impl<'a> Case<'a> {
 impl Question {
     fn from_fields(alloc: Global, kind: &str, fields: &[&str]) -> Result<Question, CaseError> {
         match kind {
-            "scan" => scan(alloc, fields),
+            "scan" | "value" => of_text(alloc, kind, fields),
+            "jobj" | "aobj" | "edit" | "read" => of_document(alloc, kind, fields),
             "ast" => ast(alloc, fields),
-            "value" => value(alloc, fields),
             "equal" => equal(alloc, fields),
-            "jobj" => object(alloc, fields),
-            "aobj" => tree_object(alloc, fields),
-            "edit" => edit(alloc, fields),
-            "read" => read(alloc, fields),
             "decode" => decode(alloc, fields),
             "print" => print(alloc, fields),
             "jsonc" | "settings" => program(alloc, fields),
@@ -110,14 +98,46 @@ impl Question {
     }
 }
 
-fn scan(alloc: Global, fields: &[&str]) -> Result<Question, CaseError> {
+/// A question about a text alone.
+fn of_text(alloc: Global, kind: &str, fields: &[&str]) -> Result<Question, CaseError> {
     let [options, text] = fields else {
         return Err(CaseError::FieldCount);
     };
-    Ok(Question::Scan {
-        options: read_options(options)?,
-        text: unescaped_text(alloc, text)?,
+    let options = read_options(options)?;
+    let text = unescaped_text(alloc, text)?;
+    Ok(match kind {
+        "scan" => Question::Scan { options, text },
+        _ => Question::Value { options, text },
     })
+}
+
+/// A question about a text, of which look-ups or edits are made.
+fn of_document(alloc: Global, kind: &str, fields: &[&str]) -> Result<Question, CaseError> {
+    let [options, text, calls] = fields else {
+        return Err(CaseError::FieldCount);
+    };
+    let options = read_options(options)?;
+    let text = unescaped_text(alloc, text)?;
+    match kind {
+        "jobj" | "aobj" => {
+            let lookups = read_lookups(alloc, calls)?;
+            Ok(Question::Object {
+                options,
+                text,
+                lookups,
+                in_tree: kind == "aobj",
+            })
+        }
+        _ => {
+            let edits = read_edits(alloc, calls)?;
+            Ok(Question::Edit {
+                options,
+                text,
+                edits,
+                reads: kind == "read",
+            })
+        }
+    }
 }
 
 fn ast(alloc: Global, fields: &[&str]) -> Result<Question, CaseError> {
@@ -127,16 +147,6 @@ fn ast(alloc: Global, fields: &[&str]) -> Result<Question, CaseError> {
     Ok(Question::Ast {
         options: read_options(options)?,
         collect: read_collection(collect)?,
-        text: unescaped_text(alloc, text)?,
-    })
-}
-
-fn value(alloc: Global, fields: &[&str]) -> Result<Question, CaseError> {
-    let [options, text] = fields else {
-        return Err(CaseError::FieldCount);
-    };
-    Ok(Question::Value {
-        options: read_options(options)?,
         text: unescaped_text(alloc, text)?,
     })
 }
@@ -168,50 +178,6 @@ fn print(alloc: Global, fields: &[&str]) -> Result<Question, CaseError> {
     Ok(Question::Print {
         options: read_options(options)?,
         input: unescaped(alloc, input)?,
-    })
-}
-
-fn object(alloc: Global, fields: &[&str]) -> Result<Question, CaseError> {
-    let [options, text, lookups] = fields else {
-        return Err(CaseError::FieldCount);
-    };
-    Ok(Question::Object {
-        options: read_options(options)?,
-        text: unescaped_text(alloc, text)?,
-        lookups: read_lookups(alloc, lookups)?,
-    })
-}
-
-fn tree_object(alloc: Global, fields: &[&str]) -> Result<Question, CaseError> {
-    let [options, text, lookups] = fields else {
-        return Err(CaseError::FieldCount);
-    };
-    Ok(Question::TreeObject {
-        options: read_options(options)?,
-        text: unescaped_text(alloc, text)?,
-        lookups: read_lookups(alloc, lookups)?,
-    })
-}
-
-fn edit(alloc: Global, fields: &[&str]) -> Result<Question, CaseError> {
-    let [options, text, edits] = fields else {
-        return Err(CaseError::FieldCount);
-    };
-    Ok(Question::Edit {
-        options: read_options(options)?,
-        text: unescaped_text(alloc, text)?,
-        edits: read_edits(alloc, edits)?,
-    })
-}
-
-fn read(alloc: Global, fields: &[&str]) -> Result<Question, CaseError> {
-    let [options, text, edits] = fields else {
-        return Err(CaseError::FieldCount);
-    };
-    Ok(Question::Read {
-        options: read_options(options)?,
-        text: unescaped_text(alloc, text)?,
-        edits: read_edits(alloc, edits)?,
     })
 }
 

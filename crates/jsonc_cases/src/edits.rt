@@ -74,6 +74,28 @@ pub enum RawEdit {
     RemoveValue(Vec<usize>),
 }
 
+static FLAGS: [(&str, bool); 2] = [("0", false), ("1", true)];
+
+static BOOLEANS: [(&str, bool); 2] = [("F", false), ("T", true)];
+
+static SHAPES: [(&str, Shape); 2] = [("obj", Shape::Object), ("arr", Shape::Array)];
+
+/// What becomes of a value of another kind.
+static OVERS: [(&str, Over); 2] = [("keep", Over::Keep), ("replace", Over::Replace)];
+
+static MODES: [(&str, TrailingCommaMode); 2] = [
+    ("never", TrailingCommaMode::Never),
+    ("ifmultiline", TrailingCommaMode::IfMultiline),
+];
+
+static KEYS: [(&str, SortKey); 5] = [
+    ("text", SortKey::Text),
+    ("rev", SortKey::Reversed),
+    ("len", SortKey::Length),
+    ("first", SortKey::First),
+    ("same", SortKey::Same),
+];
+
 /// The edits that a field lists, as `Replace /0 [1 #2 ; RemoveComment 0`.
 pub fn read_edits(alloc: Global, field: &str) -> Result<Vec<Step>, CaseError> {
     let mut edits = Vec::new(alloc);
@@ -118,39 +140,12 @@ fn read_sort(alloc: Global, words: &[&str]) -> Result<Option<SortEdit>, CaseErro
     match words {
         ["SortX", path, key, rule, groups] => Ok(Some(SortEdit {
             by_name: *key == "text" || *key == "rev",
-            key: read_key(key)?,
+            key: chosen(key, &KEYS)?,
             rule: read_rule(rule)?,
-            groups: read_flag(groups)?,
+            groups: chosen(groups, &FLAGS)?,
             path: read_path(alloc, path)?,
         })),
         _ => Ok(None),
-    }
-}
-
-fn read_mode(word: &str) -> Result<TrailingCommaMode, CaseError> {
-    match word {
-        "never" => Ok(TrailingCommaMode::Never),
-        "ifmultiline" => Ok(TrailingCommaMode::IfMultiline),
-        _ => Err(CaseError::Edit),
-    }
-}
-
-fn read_flag(word: &str) -> Result<bool, CaseError> {
-    match word {
-        "0" => Ok(false),
-        "1" => Ok(true),
-        _ => Err(CaseError::Edit),
-    }
-}
-
-fn read_key(word: &str) -> Result<SortKey, CaseError> {
-    match word {
-        "text" => Ok(SortKey::Text),
-        "rev" => Ok(SortKey::Reversed),
-        "len" => Ok(SortKey::Length),
-        "first" => Ok(SortKey::First),
-        "same" => Ok(SortKey::Same),
-        _ => Err(CaseError::Edit),
     }
 }
 
@@ -186,7 +181,7 @@ fn read_root_edit(alloc: Global, words: &[&str]) -> Result<Edit<Global>, CaseErr
         ["SetRoot", value @ ..] => Ok(Edit::SetRoot(read_value(alloc, value)?)),
         ["ClearRoot"] => Ok(Edit::ClearRoot),
         ["EnsureRoot", shape, over] => {
-            let (shape, over) = (read_shape(shape)?, read_over(over)?);
+            let (shape, over) = (chosen(shape, &SHAPES)?, chosen(over, &OVERS)?);
             Ok(Edit::EnsureRoot(shape, over))
         }
         _ => read_setting(alloc, words),
@@ -201,11 +196,11 @@ fn read_setting(alloc: Global, words: &[&str]) -> Result<Edit<Global>, CaseError
             Ok(Edit::SetValue(path, value))
         }
         ["EnsureValue", path, shape] => {
-            let shape = read_shape(shape)?;
+            let shape = chosen(shape, &SHAPES)?;
             Ok(Edit::EnsureValue(read_path(alloc, path)?, shape))
         }
         ["SetBoolean", path, value] => {
-            let value = read_boolean(value)?;
+            let value = chosen(value, &BOOLEANS)?;
             Ok(Edit::SetBoolean(read_path(alloc, path)?, value))
         }
         _ => read_insertion(alloc, words),
@@ -225,11 +220,11 @@ fn read_insertion(alloc: Global, words: &[&str]) -> Result<Edit<Global>, CaseErr
             Ok(Edit::InsertElement(path, index, value))
         }
         ["SetTrailingCommas", path, mode] => {
-            let mode = read_mode(mode)?;
+            let mode = chosen(mode, &MODES)?;
             Ok(Edit::SetTrailingCommas(read_path(alloc, path)?, mode))
         }
         ["Sort", path, pin, groups] => {
-            let (pin, groups) = (read_flag(pin)?, read_flag(groups)?);
+            let (pin, groups) = (chosen(pin, &FLAGS)?, chosen(groups, &FLAGS)?);
             Ok(Edit::Sort(read_path(alloc, path)?, pin, groups))
         }
         _ => read_new_member(alloc, words),
@@ -249,7 +244,7 @@ fn read_new_member(alloc: Global, words: &[&str]) -> Result<Edit<Global>, CaseEr
             Ok(Edit::InsertProperty(path, index, name, value))
         }
         ["EnsureProperty", path, name, shape, over] => {
-            let (shape, over) = (read_shape(shape)?, read_over(over)?);
+            let (shape, over) = (chosen(shape, &SHAPES)?, chosen(over, &OVERS)?);
             let (path, name) = read_name_at(alloc, path, name)?;
             Ok(Edit::EnsureProperty(path, name, shape, over))
         }
@@ -284,31 +279,14 @@ fn read_property_at(
     Ok((path, name, read_value(alloc, value)?))
 }
 
-/// An array or an object.
-fn read_shape(word: &str) -> Result<Shape, CaseError> {
-    match word {
-        "obj" => Ok(Shape::Object),
-        "arr" => Ok(Shape::Array),
-        _ => Err(CaseError::Edit),
+/// What a word of these stands for.
+fn chosen<T: Copy>(word: &str, choices: &[(&str, T)]) -> Result<T, CaseError> {
+    for (name, choice) in choices {
+        if *name == word {
+            return Ok(*choice);
+        }
     }
-}
-
-/// A truth value.
-fn read_boolean(word: &str) -> Result<bool, CaseError> {
-    match word {
-        "T" => Ok(true),
-        "F" => Ok(false),
-        _ => Err(CaseError::Edit),
-    }
-}
-
-/// What becomes of a value of another kind.
-fn read_over(word: &str) -> Result<Over, CaseError> {
-    match word {
-        "keep" => Ok(Over::Keep),
-        "replace" => Ok(Over::Replace),
-        _ => Err(CaseError::Edit),
-    }
+    Err(CaseError::Edit)
 }
 
 /// The name of a property or the text of a leaf, which stands after a `'`.

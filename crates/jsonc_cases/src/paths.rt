@@ -13,17 +13,11 @@ pub fn property_at(doc: &CstRootNode<Global>, path: &[usize]) -> Result<CstObjec
     let [front @ .., place] = path else {
         return Err(Refusal::Error(EditError::NoSuchPlace));
     };
-    let mut found = doc.value();
-    for step in front {
-        found = match found {
-            Some(node) if doc.holds(node) => value_below(doc, node, *step)?,
-            _ => None,
-        };
+    let node = value_at(doc, front)?;
+    if !doc.holds(node) {
+        return Err(Refusal::Error(EditError::NoSuchPlace));
     }
-    match found {
-        Some(node) if doc.holds(node) => property_below(doc, node, *place),
-        _ => Err(Refusal::Error(EditError::NoSuchPlace)),
-    }
+    property_below(doc, node, *place)
 }
 
 /// The value that a path leads to.

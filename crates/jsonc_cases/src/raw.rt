@@ -25,15 +25,15 @@ pub fn make_raw(
             remove(doc, leaf)
         }
         RawEdit::RemoveName(path) => {
-            let name = name_at(doc, path.as_slice())?;
-            remove_node(doc, name.into())
+            let (name, _) = parts_at(doc, path.as_slice())?;
+            remove_node(doc, name.map(CstNode::from))
         }
         RawEdit::ReplaceName(path, value) => {
-            let name = name_at(doc, path.as_slice())?;
+            let (name, _) = parts_at(doc, path.as_slice())?;
             replace_name(doc, name, value)
         }
         RawEdit::RemoveValue(path) => {
-            let value = value_in(doc, path.as_slice())?;
+            let (_, value) = parts_at(doc, path.as_slice())?;
             remove_node(doc, value)
         }
     }
@@ -117,53 +117,41 @@ fn remove(doc: &mut CstRootNode<Global>, leaf: CstLeafNode) -> Result<(), Refusa
     Ok(())
 }
 
-fn remove_node(doc: &mut CstRootNode<Global>, node: CstNode) -> Result<(), Refusal> {
-    if !doc.holds(node) {
-        return Err(Refusal::Error(EditError::NoSuchPlace));
+fn remove_node(doc: &mut CstRootNode<Global>, node: Option<CstNode>) -> Result<(), Refusal> {
+    match node {
+        Some(node) if doc.holds(node) => {
+            node.remove(doc)?;
+            Ok(())
+        }
+        _ => Err(Refusal::Error(EditError::NoSuchPlace)),
     }
-    node.remove(doc)?;
-    Ok(())
 }
 
 fn replace_name(
     doc: &mut CstRootNode<Global>,
-    name: ObjectPropName,
+    name: Option<ObjectPropName>,
     value: CstInputValue<Global>,
 ) -> Result<(), Refusal> {
-    if !doc.holds(name.into()) {
-        return Err(Refusal::Error(EditError::NoSuchPlace));
-    }
     match name {
-        ObjectPropName::String(string) => {
+        Some(ObjectPropName::String(string)) if doc.holds(string.into()) => {
             string.replace_with(doc, value)?;
         }
-        ObjectPropName::Word(word) => {
+        Some(ObjectPropName::Word(word)) if doc.holds(word.into()) => {
             word.replace_with(doc, value)?;
         }
+        _ => return Err(Refusal::Error(EditError::NoSuchPlace)),
     }
     Ok(())
 }
 
-/// The name of the property at a path.
-fn name_at(doc: &CstRootNode<Global>, path: &[usize]) -> Result<ObjectPropName, Refusal> {
+/// The name and the value of the property at a path.
+fn parts_at(
+    doc: &CstRootNode<Global>,
+    path: &[usize],
+) -> Result<(Option<ObjectPropName>, Option<CstNode>), Refusal> {
     let property = property_at(doc, path)?;
     if !doc.holds(property.into()) {
         return Err(Refusal::Error(EditError::NoSuchPlace));
     }
-    match property.name(doc) {
-        Some(name) => Ok(name),
-        None => Err(Refusal::Error(EditError::NoSuchPlace)),
-    }
-}
-
-/// The value of the property at a path.
-fn value_in(doc: &CstRootNode<Global>, path: &[usize]) -> Result<CstNode, Refusal> {
-    let property = property_at(doc, path)?;
-    if !doc.holds(property.into()) {
-        return Err(Refusal::Error(EditError::NoSuchPlace));
-    }
-    match property.value(doc) {
-        Some(value) => Ok(value),
-        None => Err(Refusal::Error(EditError::NoSuchPlace)),
-    }
+    Ok((property.name(doc), property.value(doc)))
 }

@@ -4,30 +4,4 @@
 #![tactic(auto)]
 
 #[cfg(test)]
-mod calls;
-#[cfg(test)]
-mod edits;
-#[cfg(test)]
-mod inputs;
-#[cfg(test)]
-mod named_values;
-#[cfg(test)]
-mod node_edits;
-#[cfg(test)]
-mod raw_edits;
-#[cfg(test)]
-mod reading;
-#[cfg(test)]
-mod refusals;
-#[cfg(test)]
-mod root_edits;
-#[cfg(test)]
-mod trees;
-#[cfg(test)]
-mod typed;
-#[cfg(test)]
-mod typed_edits;
-#[cfg(test)]
-mod typed_lines;
-#[cfg(test)]
-mod unasked;
+mod tests;

@@ -5,24 +5,4 @@
 #![tactic(auto)]
 
 #[cfg(test)]
-mod changes;
-#[cfg(test)]
-mod commas;
-#[cfg(test)]
-mod lists;
-#[cfg(test)]
-mod nested;
-#[cfg(test)]
-mod nodes;
-#[cfg(test)]
-mod pieces;
-#[cfg(test)]
-mod reading;
-#[cfg(test)]
-mod rows;
-#[cfg(test)]
-mod settings;
-#[cfg(test)]
-mod sorts;
-#[cfg(test)]
-mod texts;
+mod tests;

@@ -5,26 +5,4 @@
 #![tactic(auto)]
 
 #[cfg(test)]
-mod calls;
-#[cfg(test)]
-mod clones;
-#[cfg(test)]
-mod kinds;
-#[cfg(test)]
-mod lines;
-#[cfg(test)]
-mod maps;
-#[cfg(test)]
-mod nodes;
-#[cfg(test)]
-mod printed;
-#[cfg(test)]
-mod refusals;
-#[cfg(test)]
-mod streams;
-#[cfg(test)]
-mod tokens;
-#[cfg(test)]
-mod tree_copies;
-#[cfg(test)]
-mod unasked;
+mod tests;

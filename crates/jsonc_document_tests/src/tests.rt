@@ -1,0 +1,15 @@
+//! The tests, and what they share.
+
+mod edits;
+mod inputs;
+mod named_values;
+mod node_edits;
+mod raw_edits;
+mod reading;
+mod refusals;
+mod root_edits;
+mod trees;
+mod typed;
+mod typed_edits;
+mod typed_lines;
+mod unasked;

@@ -1,0 +1,13 @@
+//! The tests, and what they share.
+
+mod changes;
+mod commas;
+mod lists;
+mod nested;
+mod nodes;
+mod pieces;
+mod reading;
+mod rows;
+mod settings;
+mod sorts;
+mod texts;

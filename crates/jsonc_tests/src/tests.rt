@@ -1,0 +1,14 @@
+//! The tests, and what they share.
+
+mod calls;
+mod clones;
+mod kinds;
+mod lines;
+mod maps;
+mod nodes;
+mod printed;
+mod refusals;
+mod streams;
+mod tokens;
+mod tree_copies;
+mod unasked;

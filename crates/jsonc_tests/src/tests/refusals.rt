@@ -1,0 +1,149 @@
+//! Each request for memory of a call, refused in turn.
+
+use crate::tests::calls::{CALLS, Call, outcome_of};
+use jsonc_engine::calls::{FromReader, ToWriter};
+use jsonc_engine::engine::engine;
+use jsonc_engine::fault::Fault;
+use jsonc_parser::errors::ParseErrorKind;
+use refusing::Refusing;
+use refusing::awaited::{Awaited, prints};
+use refusing::in_turn::{answers_in_turn, is_refused_in_turn};
+use std::alloc::Global;
+use std::test::Fail;
+
+#[test]
+fn each_request_is_refused_in_turn(rt: HostRuntime) -> Result<(), Fail> {
+    for (call, name) in &CALLS {
+        assert!(rt;
+            is_refused_in_turn(rt.alloc(), |heap| outcome_of(*call, heap)),
+            "{name}"
+        );
+    }
+    Ok(())
+}
+
+#[test]
+fn a_sort_that_collects_wants_memory_or_answers(rt: HostRuntime) -> Result<(), Fail> {
+    assert!(rt; answers_in_turn(rt.alloc(), |heap| outcome_of(Call::Sorted, heap)));
+    Ok(())
+}
+
+/// What is wrong, whatever memory there is, with words or with an input, and whether it is with the words.
+static CAUSES: [(&[&str], &str, &str, bool); 13] = [
+    (
+        &["get", "1"],
+        "{}",
+        "jsonc: path is not a list of strings",
+        true,
+    ),
+    (
+        &["drop", "{\"a\": 1}"],
+        "{}",
+        "jsonc: path is not a list of strings",
+        true,
+    ),
+    (
+        &["put", "/**/", "1"],
+        "{}",
+        "jsonc: path is not a list of strings",
+        true,
+    ),
+    (&["append", "/**/"], "[]", "jsonc: argument: no value", true),
+    (
+        &["set", "a", "1"],
+        "[1]",
+        "jsonc: root value is not an object",
+        false,
+    ),
+    (
+        &["append", "1"],
+        "{\"a\": 1}",
+        "jsonc: root value is not an array",
+        false,
+    ),
+    (
+        &["remove", "a"],
+        "[1]",
+        "jsonc: root value is not an object",
+        false,
+    ),
+    (
+        &["remove", "a"],
+        "// one",
+        "jsonc: root value is not an object",
+        false,
+    ),
+    (
+        &["sort"],
+        "\"a\"",
+        "jsonc: root value is not an object",
+        false,
+    ),
+    (&["get", "[]"], "// one", "jsonc: no such setting", false),
+    (&["get", "[\"a\"]"], "[1]", "jsonc: no such setting", false),
+    (
+        &["put", "[\"a\"]", "1"],
+        "[1]",
+        "jsonc: a value on the path is not an object",
+        false,
+    ),
+    (
+        &["print"],
+        "[1",
+        "jsonc: Unterminated array on line 1 column 1",
+        false,
+    ),
+];
+
+/// Whether a fault tells that a parse wanted memory.
+fn is_of_a_parse(fault: &Fault) -> bool {
+    match fault {
+        Fault::Input(error) | Fault::Path(error) | Fault::Argument(error) => {
+            *error.kind() == ParseErrorKind::OutOfMemory
+        }
+        _ => false,
+    }
+}
+
+/// Whether a run without the request of this number tells the cause, or that a parse wanted memory, or, where the
+/// words are right, that memory was wanted before the end of the input; and whether a request was refused.
+fn tells_cause(
+    alloc: Global,
+    number: u64,
+    (words, input, line, is_of_words): &(&[&str], &'static str, &str, bool),
+) -> (bool, bool) {
+    let heap = Refusing::at(alloc, number);
+    let mut source = FromReader::new(input.as_bytes());
+    let mut sink = ToWriter::new(Awaited { rest: b"" });
+    let ended = engine(&heap, words, &mut source, &mut sink);
+    let was_refused = heap.asked() > number;
+    let is_told = match &ended {
+        Ok(()) => false,
+        Err(fault) if prints(fault, line) => true,
+        Err(fault) if is_of_a_parse(fault) => was_refused,
+        Err(fault) => {
+            was_refused
+                && !is_of_words
+                && source.empty == 0
+                && prints(fault, "jsonc: Out of memory")
+        }
+    };
+    (is_told, was_refused)
+}
+
+#[test]
+fn a_cause_is_told_before_want_of_memory(rt: HostRuntime) -> Result<(), Fail> {
+    for cause in &CAUSES {
+        let mut is_whole = false;
+        for number in 0..1000u64 {
+            let (is_told, was_refused) = tells_cause(rt.alloc(), number, cause);
+            assert!(rt; is_told, "{:?} without request {number}", cause.0);
+            if !was_refused {
+                is_whole = true;
+                break;
+            }
+        }
+        assert!(rt; is_whole, "{:?}", cause.0);
+    }
+    Ok(())
+}
