@@ -1,0 +1,73 @@
+//! The texts that recipes are shown on.
+
+pub(crate) const EDITOR: &str = r#"{
+  // How the editor looks.
+  "theme": "dark",
+  "editor": {
+    "fontSize": 14, // points
+    "rulers": [80]
+  }
+}"#;
+
+pub(crate) const TWICE: &str = r#"{"editor": {"fontSize": 1, "fontSize": 2}}"#;
+
+pub(crate) const RULERS: &str = r#"{
+  "editor": {
+    "rulers": [
+      80 // mail
+    ]
+  }
+}"#;
+
+pub(crate) const TRAILING: &str = r#"{
+  "editor": {
+    "rulers": [
+      80,
+    ],
+  },
+}"#;
+
+pub(crate) const HEAD: &str = r#"{
+  // Written by hand.
+
+  // in points
+  "fontSize": 14
+}"#;
+
+pub(crate) const USES: &str = r#"{
+}"#;
+
+pub(crate) const FONT: &str = r#"{
+  "theme": "dark", // or light
+  // Size of text,
+  // in points.
+  "fontSize": 14, // was 12
+  "wrap": true
+}"#;
+
+pub(crate) const SORT: &str = r#"{
+  // How it looks.
+
+  "theme": "light", // or dark
+  // in points
+  "fontSize": 14
+}"#;
+
+pub(crate) const CARRIED: &str = r#"{
+  // How it looks.
+  "theme": "light",
+  "fontSize": 14
+}"#;
+
+pub(crate) const BESIDE: &str = r#"{
+  "c": 1, "b": 2, // both
+  "a": 3
+}"#;
+
+pub(crate) const COMMAS: &str = r#"{
+  "one": [1, 2,],
+  "more": [
+    1,
+    2
+  ]
+}"#;
