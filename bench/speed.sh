@@ -1,5 +1,5 @@
 #!/bin/bash
-# Measures this library beside the Rust crate jsonc-parser 0.34.0, and writes the figures into docs/SPEED.md.
+# Measures this library beside the Rust crate jsonc-parser 0.34.0, and writes the figures into docs/proofs/SPEED.md.
 #
 # usage: bench/speed.sh FOLDER [ROUNDS]
 #

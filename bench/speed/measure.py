@@ -1,13 +1,13 @@
 #!/usr/bin/env python3
-"""Times both programs on the same documents, turn by turn, and writes the tables of docs/SPEED.md.
+"""Times both programs on the same documents, turn by turn, and writes the table of docs/proofs/SPEED.md.
 
 usage: measure.py OURS THEIRS PEAK FOLDER [ROUNDS]
 
 The time of a call is the processor time of a process that makes it N times, less that of one that makes it
 0 times, divided by N; of each the least of the rounds. Where a call falls short of its target it is timed again,
-and what those processes took is written besides: their own time, the system's, their page faults, where valgrind is at
+and what those processes took is printed besides: their own time, the system's, their page faults, where valgrind is at
 hand the instructions and the misses of two caches, and the ratio where the C library keeps the pages that
-it has, in both programs.
+it has, in both programs. So is how our time grows from 1 MB to 10 MB.
 """
 import collections
 import datetime
@@ -20,7 +20,7 @@ import sys
 import documents
 
 HERE = os.path.dirname(os.path.abspath(__file__))
-REPORT = os.path.join(HERE, '..', '..', 'docs', 'SPEED.md')
+REPORT = os.path.join(HERE, "..", "..", "docs", "proofs", "SPEED.md")
 CALLS = ['scan', 'ast', 'tokens', 'value', 'document', 'print', 'program', 'replaced', 'siblings']
 # Those that are made of an array of numbers.
 OF_ARRAYS = ('replaced', 'siblings')
@@ -193,22 +193,6 @@ def ratio_rows(times, memory):
     return rows
 
 
-def amount(call, seconds, length):
-    """The microseconds of one replacement, and of any other call the megabytes a second."""
-    return '%.1f' % (seconds * 1e6) if call == 'replaced' else '%.0f' % (length / 1e6 / seconds)
-
-
-def speed_rows(times, memory, lengths):
-    rows = []
-    for kind, size in memory:
-        row = ['%s, %s' % (kind, size)]
-        for call in CALLS:
-            pair = times.get((kind, size, call))
-            row.append(' / '.join(amount(call, one.seconds, lengths[kind, size]) for one in pair) if pair else '–')
-        rows.append(row + [' / '.join('%.1f' % (bytes / lengths[kind, size]) for bytes in memory[kind, size])])
-    return rows
-
-
 def growth(pair):
     """How many times as long as the small text the large one takes."""
     large, small = pair
@@ -286,7 +270,8 @@ def machine():
     return '%s, %d processors' % (model, os.cpu_count())
 
 
-def figures(times, memory, lengths, short, grown, grown_most):
+def figures(times, memory):
+    """The section of docs/proofs/SPEED.md."""
     return '\n'.join([
         '## Figures',
         '',
@@ -296,10 +281,12 @@ def figures(times, memory, lengths, short, grown, grown_most):
         '',
         table(['Document'] + CALLS + ['memory'], ratio_rows(times, memory)),
         '',
-        'Megabytes a second, ours / theirs, of `replaced` the microseconds, and bytes of memory a byte of text.',
-        '',
-        table(['Document'] + CALLS + ['memory'], speed_rows(times, memory, lengths)),
-        '',
+    ])
+
+
+def reasons(memory, short, grown, grown_most):
+    """What tells why a call falls short."""
+    return '\n'.join([
         'How many times as long as 1 MB our call on 10 MB takes.',
         '',
         table(['Document'] + CALLS, growth_rows(grown, memory)),
@@ -310,7 +297,7 @@ def figures(times, memory, lengths, short, grown, grown_most):
         '',
         table(['Call', 'ratio', 'pages kept', *COUNTS], short),
         '',
-        'Of our calls that take more than 12 times as long on 10 MB as on 1 MB, how many times as much of each.',
+        'Of our calls that take more than %d times as long on 10 MB as on 1 MB, how many times as much of each.' % GROWTH,
         '',
         table(['Call', 'time', *COUNTS], grown_most),
         '',
@@ -321,8 +308,9 @@ def main(ours, theirs, preload, folder, rounds='5'):
     programs, rounds = [ours, theirs], int(rounds)
     times, memory, lengths = measured(programs, preload, folder, rounds)
     short, grown = short_rows(programs, folder, rounds, times, lengths), growths(ours, folder, rounds, times)
-    written = figures(times, memory, lengths, short, grown, grown_rows(ours, folder, grown))
+    written = figures(times, memory)
     print(written)
+    print(reasons(memory, short, grown, grown_rows(ours, folder, grown)))
     with open(REPORT) as report:
         text = report.read()
     with open(REPORT, 'w') as report:
