@@ -2,3 +2,4 @@ pub mod Lists
 pub mod Promise
 pub mod Errors
 pub mod paths
+pub mod Changes

@@ -6,12 +6,15 @@
 //! where, by [`errors::ParseError`].
 #![tactic(auto)]
 
+mod change;
 pub mod cst;
 pub mod laws;
 mod paths;
+mod places;
 pub mod settings;
 pub mod string;
 
+pub use change::{TextChange, text_change};
 pub use jsonc_ast::ast;
 pub use jsonc_ast::to_ast::collect::{
     CollectOptions, CommentCollectionStrategy, CommentMap, ParseResult,
@@ -23,3 +26,4 @@ pub use jsonc_text::options::{ParseOptions, ScannerOptions};
 pub use jsonc_text::{common, errors, tokens};
 pub use jsonc_value::to_value::parse_to_value;
 pub use jsonc_value::{JsonArray, JsonObject, JsonValue, Map, map};
+pub use places::place_of;

@@ -9,6 +9,7 @@ mod nodes;
 mod printed;
 mod refusals;
 mod streams;
+mod texts;
 mod tokens;
 mod tree_copies;
 mod unasked;

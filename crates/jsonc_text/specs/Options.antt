@@ -43,6 +43,10 @@ plain_json = record {
   missing_commas = false;
 }
 
+-- JSON with comments, as VS Code reads it: comments and trailing commas besides
+abbrev pub json_with_comments : Options
+json_with_comments = record plain_json { comments = true; trailing_commas = true }
+
 -- o without missing commas
 abbrev pub with_commas : Options → Options
 with_commas o = record o { missing_commas = false }

@@ -1,11 +1,11 @@
 //! What a text may hold beyond JSON.
 ghost use Rattle.std.specs.Prelude.{◌≡◌, true};
-ghost use Rattle.jsonc_text.specs.Options.{all_on};
+ghost use Rattle.jsonc_text.specs.Options.{all_on, json_with_comments, plain_json};
 ghost use Rattle.jsonc_text.specs.OptionsOf.{parse_options, scanner_options};
 
 use std::default::Default;
 
-/// What a scanner takes. Each flag is on by default.
+/// What a scanner reads beyond JSON. Each flag is on by default.
 #[derive(Debug, Drop)]
 pub struct ScannerOptions {
     /// Strings in single quotes.
@@ -37,7 +37,7 @@ impl Default for ScannerOptions {
     }
 }
 
-/// What a parser takes. Each flag is on by default.
+/// What a text may hold beyond JSON. Each flag is on by default.
 #[derive(Clone, Drop)]
 pub struct ParseOptions {
     /// Comments, from `//` to the end of the line and between `/*` and `*/`.
@@ -71,7 +71,38 @@ impl Default for ParseOptions {
 }
 
 impl ParseOptions {
-    /// A scanner's options, with all else on.
+    /// The options of JSON, each of them off.
+    ///
+    /// The grammar is a little wider than JSON's then: an empty text is a document, a string may hold
+    /// control characters, and a name may stand twice in an object.
+    pub fn json() -> ParseOptions
+        ensures { parse_options result ≡ plain_json }
+    {
+        ParseOptions {
+            allow_comments: false,
+            allow_loose_object_property_names: false,
+            allow_trailing_commas: false,
+            allow_missing_commas: false,
+            allow_single_quoted_strings: false,
+            allow_hexadecimal_numbers: false,
+            allow_unary_plus_numbers: false,
+            allow_bare_decimal_point_numbers: false,
+            allow_non_finite_numbers: false,
+            allow_extended_string_escapes: false,
+        }
+    }
+
+    /// The options of JSON with comments, as VS Code reads its settings: comments and trailing commas.
+    pub fn jsonc() -> ParseOptions
+        ensures { parse_options result ≡ json_with_comments }
+    {
+        let mut options = ParseOptions::json();
+        options.allow_comments = true;
+        options.allow_trailing_commas = true;
+        options
+    }
+
+    /// The options of a scanner, with all else on.
     pub fn of_scanner(options: &ScannerOptions) -> ParseOptions
         ensures { parse_options result ≡ scanner_options options.now }
     {
@@ -89,7 +120,7 @@ impl ParseOptions {
         }
     }
 
-    /// The same options again, without a request for memory.
+    /// A copy of the options. Nothing is allocated.
     pub fn copied(&self) -> ParseOptions
         ensures { result ≡ self.now }
     {

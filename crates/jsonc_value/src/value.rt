@@ -14,7 +14,7 @@ use std::alloc::{AllocError, Allocator};
 use std::borrow::CowStr;
 use std::{slice, vec};
 
-/// A value of JSON.
+/// A JSON value.
 #[cycle(json)]
 #[derive(Drop)]
 #[derive_where(PartialEq, Eq)]
@@ -64,6 +64,13 @@ impl<'a, A: Allocator> JsonObject<'a, A> {
     {
         let JsonObject(inner) = self;
         inner
+    }
+
+    /// The properties in their order, each as its name and its value.
+    pub fn iter(&self) -> map::Iter<'_, CowStr<'a, A>, JsonValue<'a, A>>
+        ensures { result ≡ properties self.now }
+    {
+        self.0.iter()
     }
 
     /// The number of properties.
@@ -137,7 +144,7 @@ impl<'a, A: Allocator> JsonObject<'a, A> {
         }
     }
 
-    /// Takes this name out, and gives its value. The properties after it close up.
+    /// Removes this name, and answers its value. The properties after it close up.
     pub fn take(&mut self, name: &str) -> Option<JsonValue<'a, A>>
         ensures value { result ≡ lookup (is_named name.now) (properties self.old) }
         ensures entries { properties self.new ≡ remove_entry (is_named name.now) (properties self.old) }
@@ -148,7 +155,7 @@ impl<'a, A: Allocator> JsonObject<'a, A> {
         }
     }
 
-    /// Takes this name out, if its value is a string, and gives that. Else nothing changes.
+    /// Removes this name if its value is a string, and answers that. Else nothing changes.
     pub fn take_string(&mut self, name: &str) -> Option<CowStr<'a, A>>
         ensures value { result ≡ option_and_then as_string (lookup (is_named name.now) (properties self.old)) }
         ensures entries { properties self.new ≡ left (is_some result) name.now (properties self.old) }
@@ -162,7 +169,8 @@ impl<'a, A: Allocator> JsonObject<'a, A> {
         }
     }
 
-    /// Takes this name out, if its value is the text of a number, and gives that. Else nothing changes.
+    /// Removes this name if its value is the text of a number, and answers that. Else nothing
+    /// changes.
     pub fn take_number(&mut self, name: &str) -> Option<&'a str>
         ensures value { result ≡ option_and_then as_number (lookup (is_named name.now) (properties self.old)) }
         ensures entries { properties self.new ≡ left (is_some result) name.now (properties self.old) }
@@ -174,7 +182,7 @@ impl<'a, A: Allocator> JsonObject<'a, A> {
         found
     }
 
-    /// Takes this name out, if its value is a truth value, and gives that. Else nothing changes.
+    /// Removes this name if its value is a truth value, and answers that. Else nothing changes.
     pub fn take_boolean(&mut self, name: &str) -> Option<bool>
         ensures value { result ≡ option_and_then as_boolean (lookup (is_named name.now) (properties self.old)) }
         ensures entries { properties self.new ≡ left (is_some result) name.now (properties self.old) }
@@ -186,7 +194,7 @@ impl<'a, A: Allocator> JsonObject<'a, A> {
         found
     }
 
-    /// Takes this name out, if its value is an object, and gives that. Else nothing changes.
+    /// Removes this name if its value is an object, and answers that. Else nothing changes.
     pub fn take_object(&mut self, name: &str) -> Option<JsonObject<'a, A>>
         ensures value { result ≡ option_and_then as_object (lookup (is_named name.now) (properties self.old)) }
         ensures entries { properties self.new ≡ left (is_some result) name.now (properties self.old) }
@@ -200,7 +208,7 @@ impl<'a, A: Allocator> JsonObject<'a, A> {
         }
     }
 
-    /// Takes this name out, if its value is an array, and gives that. Else nothing changes.
+    /// Removes this name if its value is an array, and answers that. Else nothing changes.
     pub fn take_array(&mut self, name: &str) -> Option<JsonArray<'a, A>>
         ensures value { result ≡ option_and_then as_array (lookup (is_named name.now) (properties self.old)) }
         ensures entries { properties self.new ≡ left (is_some result) name.now (properties self.old) }
@@ -233,6 +241,18 @@ impl<'a, A: Allocator> IntoIterator for JsonObject<'a, A> {
     fn into_iter(self) -> Self::IntoIter {
         let properties = self.take_inner();
         properties.into_iter()
+    }
+}
+
+impl<'b, 'a, A: Allocator> IntoIterator for &'b JsonObject<'a, A> {
+    type Item = (&'b CowStr<'a, A>, &'b JsonValue<'a, A>);
+
+    type IntoIter = map::Iter<'b, CowStr<'a, A>, JsonValue<'a, A>>;
+
+    ghost into_iter_gives = { λ o r. r ≡ properties o.now };
+
+    fn into_iter(self) -> Self::IntoIter {
+        JsonObject::iter(self)
     }
 }
 
@@ -299,5 +319,17 @@ impl<'a, A: Allocator> IntoIterator for JsonArray<'a, A> {
     fn into_iter(self) -> Self::IntoIter {
         let elements = self.take_inner();
         elements.into_iter()
+    }
+}
+
+impl<'b, 'a, A: Allocator> IntoIterator for &'b JsonArray<'a, A> {
+    type Item = &'b JsonValue<'a, A>;
+
+    type IntoIter = slice::Iter<'b, JsonValue<'a, A>>;
+
+    ghost into_iter_gives = { λ a r. iter_rest r ≡ elements a.now };
+
+    fn into_iter(self) -> Self::IntoIter {
+        self.iter()
     }
 }
